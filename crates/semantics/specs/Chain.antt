@@ -1,0 +1,21 @@
+-- Chains of simplifications, over any states S, any moves M of a state, any rule that allows a move, and any step after it.
+-- Source: SALSA.
+use Rattle.std.specs.Prelude.{◌≡◌, List, [], ◌∷◌, ◌++◌}
+use Rattle.std.specs.List.{AllByRecursion}
+
+-- the move is allowed, and no move before it is
+pub record IsFirstAllowed {M : Type 0} (Allowed : M → Type 0) (moves : List M) (move : M) : Type 0 where
+  pub before : List M
+  pub after : List M
+  pub stands : moves ≡ before ++ move ∷ after
+  pub none_before : AllByRecursion (λ m. ¬ Allowed m) before
+  pub allowed : Allowed move
+
+-- the member after a state is the step after its first allowed move
+pub data IsInChain {S M : Type 0} (moves : S → List M) (Allowed : S → M → Type 0) (step : S → M → S) (start : S) : S → Type 0 where
+  first : IsInChain moves Allowed step start start
+  next : (s : S) (move : M) → IsInChain moves Allowed step start s → IsFirstAllowed (Allowed s) (moves s) move → IsInChain moves Allowed step start (step s move)
+
+pub record IsChainEnd {S M : Type 0} (moves : S → List M) (Allowed : S → M → Type 0) (step : S → M → S) (start end : S) : Type 0 where
+  pub member : IsInChain moves Allowed step start end
+  pub none_allowed : AllByRecursion (λ m. ¬ Allowed end m) (moves end)

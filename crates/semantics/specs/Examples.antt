@@ -1,0 +1,133 @@
+-- Worked examples, computed from the definitions.
+use Rattle.std.specs.Prelude.{◌≡◌, ℕ, ◌-◌, ◌^◌, Bool, true, false, List, [], ◌∷◌, ◌++◌, map, flat_map, length, codes, Option, Some, None}
+use Rattle.semantics.specs.declared.mark.Mark.TheVariants.{Zero, One, Dash}
+use Rattle.semantics.specs.Texts.{Bytes}
+use Rattle.semantics.specs.Net.{TableValue, NetValue, table_count, literal_count}
+use Rattle.semantics.specs.Value.{value_of, outputs_of}
+use Rattle.semantics.specs.Error.{abs, rel, ham, error_of, net_error}
+use Rattle.semantics.specs.Vectors.{all_vectors}
+use Rattle.semantics.specs.Blif.{blif_text}
+use Rattle.semantics.specs.Report.{report_text, report_of, vectors_text}
+use Rattle.semantics.specs.Job.{Job, synth, check, demo, job_of}
+use Rattle.semantics.specs.ConstantChain.{constant_table, ConstantMove, constant_moves, made_constant}
+
+abbrev pub text : List (List ℕ) → Bytes
+text lines = flat_map (λ line. line ++ 10 ∷ []) lines
+
+-- the half adder: s is the exclusive or of a and b, and c the conjunction
+abbrev pub half_adder : NetValue
+half_adder = record {
+  model = codes "ha";
+  inputs = codes "a" ∷ codes "b" ∷ [];
+  tables =
+    record { name = codes "s"; pins = 0 ∷ 1 ∷ []; rows = (One ∷ Zero ∷ []) ∷ (Zero ∷ One ∷ []) ∷ []; plane = true }
+    ∷ record { name = codes "c"; pins = 0 ∷ 1 ∷ []; rows = (One ∷ One ∷ []) ∷ []; plane = true }
+    ∷ [];
+  outputs = 2 ∷ 3 ∷ [];
+}
+
+-- two inverters, the reader before the table that it reads
+abbrev pub out_of_order : NetValue
+out_of_order = record {
+  model = codes "k";
+  inputs = codes "a" ∷ [];
+  tables =
+    record { name = codes "z"; pins = 2 ∷ []; rows = (Zero ∷ []) ∷ []; plane = true }
+    ∷ record { name = codes "y"; pins = 0 ∷ []; rows = (One ∷ []) ∷ []; plane = false }
+    ∷ [];
+  outputs = 1 ∷ 2 ∷ 0 ∷ [];
+}
+
+-- no inputs, and one constant
+abbrev pub constant_one : NetValue
+constant_one = record {
+  model = codes "k";
+  inputs = [];
+  tables = constant_table (codes "y") true ∷ [];
+  outputs = 0 ∷ [];
+}
+
+pub record ValueExamples : Type 0 where
+  pub half_adder_values :
+    map (outputs_of half_adder) (all_vectors 2)
+    ≡ (false ∷ false ∷ []) ∷ (true ∷ false ∷ []) ∷ (true ∷ false ∷ []) ∷ (false ∷ true ∷ []) ∷ []
+  pub out_of_order_values : map (outputs_of out_of_order) (all_vectors 1) ≡ (false ∷ true ∷ false ∷ []) ∷ (true ∷ false ∷ true ∷ []) ∷ []
+  pub constant_values : map (outputs_of constant_one) (all_vectors 0) ≡ (true ∷ []) ∷ []
+  pub counts : (table_count half_adder ≡ 2) × (literal_count half_adder ≡ 6)
+
+abbrev pub constant_sum : NetValue
+constant_sum = made_constant half_adder (record { table = 0; value = false })
+
+pub record ErrorExamples : Type 0 where
+  pub three_and_two :
+    (error_of abs (true ∷ true ∷ []) (false ∷ true ∷ []) ≡ 1)
+    × (error_of ham (true ∷ true ∷ []) (false ∷ true ∷ []) ≡ 1)
+    × (error_of rel (true ∷ true ∷ []) (false ∷ true ∷ []) ≡ 333334)
+  pub nothing_and_three :
+    (error_of abs (false ∷ false ∷ []) (true ∷ true ∷ []) ≡ 3)
+    × (error_of ham (false ∷ false ∷ []) (true ∷ true ∷ []) ≡ 2)
+    × (error_of rel (false ∷ false ∷ []) (true ∷ true ∷ []) ≡ 3000000)
+  pub sum_is_constant : map (net_error abs half_adder constant_sum) (all_vectors 2) ≡ 0 ∷ 1 ∷ 1 ∷ 0 ∷ []
+  pub carry_too :
+    map (net_error abs half_adder (made_constant constant_sum (record { table = 1; value = false }))) (all_vectors 2)
+    ≡ 0 ∷ 1 ∷ 1 ∷ 2 ∷ []
+  pub carry_to_one :
+    map (net_error abs half_adder (made_constant constant_sum (record { table = 1; value = true }))) (all_vectors 2)
+    ≡ 2 ∷ 1 ∷ 1 ∷ 0 ∷ []
+
+abbrev pub move : ℕ → Bool → ConstantMove
+move table value = record { table = table; value = value }
+
+pub record MoveExamples : Type 0 where
+  pub of_half_adder : constant_moves half_adder ≡ move 0 false ∷ move 0 true ∷ move 1 false ∷ move 1 true ∷ []
+  pub after_the_first : constant_moves constant_sum ≡ move 1 false ∷ move 1 true ∷ []
+
+pub record TextExamples : Type 0 where
+  pub half_adder_text :
+    blif_text half_adder
+    ≡ text (codes ".model ha" ∷ codes ".inputs a b" ∷ codes ".outputs s c" ∷ codes ".names a b s" ∷ codes "10 1"
+    ∷ codes "01 1" ∷ codes ".names a b c" ∷ codes "11 1" ∷ codes ".end" ∷ [])
+  pub half_adder_length : length (blif_text half_adder) ≡ 81
+  pub constant_text :
+    blif_text constant_one
+    ≡ text (codes ".model k" ∷ codes ".inputs" ∷ codes ".outputs y" ∷ codes ".names y" ∷ codes "1" ∷ codes ".end" ∷ [])
+  pub planes :
+    blif_text out_of_order
+    ≡ text (codes ".model k" ∷ codes ".inputs a" ∷ codes ".outputs z y a" ∷ codes ".names y z" ∷ codes "0 1"
+    ∷ codes ".names a y" ∷ codes "1 0" ∷ codes ".end" ∷ [])
+  pub report :
+    report_text (report_of abs 1 1 (true ∷ false ∷ []) half_adder half_adder true)
+    ≡ text (codes "salsa 1" ∷ codes "metric abs" ∷ codes "bound 1" ∷ codes "maximum 1" ∷ codes "witness 10"
+    ∷ codes "tables 2 2" ∷ codes "literals 6 6" ∷ codes "minimal yes" ∷ [])
+  pub no_bits :
+    report_text (report_of abs 0 0 [] constant_one constant_one false)
+    ≡ text (codes "salsa 1" ∷ codes "metric abs" ∷ codes "bound 0" ∷ codes "maximum 0" ∷ codes "witness "
+    ∷ codes "tables 1 1" ∷ codes "literals 0 0" ∷ codes "minimal no" ∷ [])
+  pub vectors :
+    vectors_text (true ∷ false ∷ []) (all_vectors 2)
+    ≡ text (codes "10" ∷ codes "00" ∷ codes "10" ∷ codes "01" ∷ codes "11" ∷ [])
+  pub empty_vectors : vectors_text [] (all_vectors 0) ≡ 10 ∷ 10 ∷ []
+
+abbrev pub synth_words : List ℕ → List ℕ → List ℕ → List ℕ → List ℕ → List Bytes
+synth_words metric bound conflicts input stem = codes "synth" ∷ metric ∷ bound ∷ conflicts ∷ input ∷ stem ∷ []
+
+pub record JobExamples : Type 0 where
+  pub no_words : job_of [] ≡ None
+  pub other_word : job_of (codes "--help" ∷ []) ≡ None
+  pub leading_zero : job_of (synth_words (codes "abs") (codes "01") (codes "1") (codes "a") (codes "b")) ≡ None
+  pub large_bound : job_of (synth_words (codes "abs") (codes "19342813113834066795298816") (codes "1") (codes "a") (codes "b")) ≡ None
+  pub largest_bound :
+    job_of (synth_words (codes "abs") (codes "19342813113834066795298815") (codes "1") (codes "a") (codes "b"))
+    ≡ Some (synth abs (2 ^ 84 - 1) 1 (codes "a") (codes "b"))
+  pub no_conflicts : job_of (synth_words (codes "abs") (codes "1") (codes "0") (codes "a") (codes "b")) ≡ None
+  pub many_conflicts : job_of (synth_words (codes "abs") (codes "1") (codes "100001") (codes "a") (codes "b")) ≡ None
+  pub other_metric : job_of (synth_words (codes "max") (codes "1") (codes "1") (codes "a") (codes "b")) ≡ None
+  pub bundle_name : job_of (synth_words (codes "abs") (codes "1") (codes "1") (codes "b.cnf") (codes "b")) ≡ None
+  pub wide : job_of (codes "demo" ∷ codes "33" ∷ codes "1" ∷ codes "1" ∷ []) ≡ None
+  pub no_width : job_of (codes "demo" ∷ codes "0" ∷ codes "1" ∷ codes "1" ∷ []) ≡ None
+  pub a_demo : job_of (codes "demo" ∷ codes "32" ∷ codes "0" ∷ codes "100000" ∷ []) ≡ Some (demo 32 0 100000)
+  pub a_check : job_of (codes "check" ∷ codes "ham" ∷ codes "7" ∷ codes "a" ∷ codes "b" ∷ []) ≡ Some (check ham 7 (codes "a") (codes "b"))
+  pub a_synth : job_of (synth_words (codes "rel") (codes "10") (codes "1000") (codes "a.blif") (codes "b")) ≡ Some (synth rel 10 1000 (codes "a.blif") (codes "b"))
+  pub empty_input : job_of (synth_words (codes "abs") (codes "1") (codes "1") [] (codes "b")) ≡ None
+  pub empty_stem : job_of (synth_words (codes "abs") (codes "1") (codes "1") (codes "a") []) ≡ None
+  pub sign : job_of (synth_words (codes "abs") (codes "-1") (codes "1") (codes "a") (codes "b")) ≡ None

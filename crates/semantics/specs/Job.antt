@@ -1,0 +1,95 @@
+-- The job that the words of the command line name. Source: SALSA's table of commands.
+use Rattle.std.specs.Prelude.{◌≡◌, ℕ, ◌+◌, ◌-◌, ◌*◌, ◌^◌, Bool, true, false, not, ◌&&◌, ◌||◌, List, [], ◌∷◌, ◌++◌, codes, fold, nat_lt, nat_le, nat_eq, ◌==◌, bytes_eq, Option, Some, None, option_and_then, if◌then◌else◌}
+use Rattle.std.specs.List.{list_any, list_all}
+use Rattle.semantics.specs.Texts.{Bytes}
+use Rattle.semantics.specs.Error.{Metric, abs, rel, ham}
+
+infixl 10 ◌>>=◌
+abbrev pub ◌>>=◌ : {A B : Type 0} → Option A → (A → Option B) → Option B
+o >>= f = option_and_then f o
+
+pub data Job : Type 0 where
+  synth : Metric → (bound conflicts : ℕ) → (input stem : Bytes) → Job
+  check : Metric → (bound : ℕ) → (input stem : Bytes) → Job
+  demo : (width bound conflicts : ℕ) → Job
+
+-- Decimal numbers: `0`, or digits without a leading zero; no sign.
+abbrev pub is_digit : ℕ → Bool
+is_digit c = nat_le 48 c && nat_le c 57
+
+abbrev pub digits_number : Bytes → ℕ
+digits_number digits = fold (λ n c. 10 * n + (c - 48)) 0 digits
+
+abbrev pub is_decimal : Bytes → Bool
+is_decimal [] = false
+is_decimal (c ∷ []) = is_digit c
+is_decimal (c ∷ d ∷ cs) = not (c == 48) && list_all is_digit (c ∷ d ∷ cs)
+
+-- the number that the word is, if it is a decimal number from low to high
+abbrev pub number_from_to : ℕ → ℕ → Bytes → Option ℕ
+number_from_to low high word =
+    if is_decimal word && (nat_le low (digits_number word) && nat_le (digits_number word) high)
+    then Some (digits_number word)
+    else None
+
+abbrev pub bound_of : Bytes → Option ℕ
+bound_of = number_from_to 0 (2 ^ 84 - 1)
+
+abbrev pub conflicts_of : Bytes → Option ℕ
+conflicts_of = number_from_to 1 100000
+
+abbrev pub width_of : Bytes → Option ℕ
+width_of = number_from_to 1 32
+
+abbrev pub metric_of : Bytes → Option Metric
+metric_of word =
+    if bytes_eq word (codes "abs") then Some abs
+    else (if bytes_eq word (codes "rel") then Some rel
+    else (if bytes_eq word (codes "ham") then Some ham
+    else None))
+
+-- the five files of a bundle
+abbrev pub bundle_endings : List Bytes
+bundle_endings = codes ".blif" ∷ codes ".cnf" ∷ codes ".lrat" ∷ codes ".wit" ∷ codes ".txt" ∷ []
+
+abbrev pub is_bundle_name : Bytes → Bytes → Bool
+is_bundle_name stem name = list_any (λ ending. bytes_eq name (stem ++ ending)) bundle_endings
+
+abbrev pub is_empty_word : Bytes → Bool
+is_empty_word [] = true
+is_empty_word (c ∷ cs) = false
+
+-- IN and STEM are not empty, and IN is no file of the bundle
+abbrev pub are_file_words : Bytes → Bytes → Bool
+are_file_words input stem = not (is_empty_word input) && (not (is_empty_word stem) && not (is_bundle_name stem input))
+
+abbrev pub synth_of : List Bytes → Option Job
+synth_of (m ∷ b ∷ c ∷ input ∷ stem ∷ []) = do
+  metric ← metric_of m
+  bound ← bound_of b
+  conflicts ← conflicts_of c
+  if are_file_words input stem then Some (synth metric bound conflicts input stem) else None
+synth_of _ = None
+
+abbrev pub check_of : List Bytes → Option Job
+check_of (m ∷ b ∷ input ∷ stem ∷ []) = do
+  metric ← metric_of m
+  bound ← bound_of b
+  if are_file_words input stem then Some (check metric bound input stem) else None
+check_of _ = None
+
+abbrev pub demo_of : List Bytes → Option Job
+demo_of (w ∷ b ∷ c ∷ []) = do
+  width ← width_of w
+  bound ← bound_of b
+  conflicts ← conflicts_of c
+  Some (demo width bound conflicts)
+demo_of _ = None
+
+unfoldable pub job_of : List Bytes → Option Job
+job_of [] = None
+job_of (command ∷ words) =
+    if bytes_eq command (codes "synth") then synth_of words
+    else (if bytes_eq command (codes "check") then check_of words
+    else (if bytes_eq command (codes "demo") then demo_of words
+    else None))

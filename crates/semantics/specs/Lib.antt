@@ -1,0 +1,12 @@
+pub mod Texts
+pub mod Net
+pub mod Value
+pub mod Error
+pub mod Vectors
+pub mod Blif
+pub mod Report
+pub mod Job
+pub mod Chain
+pub mod ConstantChain
+pub mod Outside
+pub mod Examples

@@ -1,0 +1,148 @@
+-- What a set of files and a sink tell, and what each call on them may do. Source: SALSA, the outside.
+use Rattle.std.specs.Prelude.{◌≡◌, ℕ, ◌+◌, ◌-◌, ◌^◌, ◌<◌, ◌≤◌, min, Bool, true, false, IsTrue, IsSome, List, [], ◌∷◌, ◌++◌, length, take, drop, Option, Some, None, unwrap_or}
+use Rattle.std.specs.Ordering.{nat_cmp}
+use Rattle.std.specs.Cmp.Lexicographic.{slice_cmp}
+use Rattle.std.specs.FinMap.{FinMap, get, insert, contains_key}
+use Rattle.semantics.specs.Texts.{Bytes}
+
+-- the bytes of each file, by its name
+abbrev pub Held : Type 0
+Held = FinMap (slice_cmp nat_cmp) Bytes
+
+-- the bytes of a name, none where it is not held
+abbrev pub bytes_of : Held → Bytes → Bytes
+bytes_of held name = unwrap_or (get held name) []
+
+-- the file that is read, and the place of the next byte
+pub record Place : Type 0 where
+  pub name : Bytes
+  pub at : ℕ
+
+-- Where `held` is `None` it is not told, and then what is open is not spoken of either. A calm meaning says that no
+-- fault can come, a steady name that it can be opened calmly.
+pub record FilesTold : Type 0 where
+  pub held : Option Held
+  pub reading : Option Place
+  pub writing : Option Bytes
+  pub faults : ℕ
+  pub steady_read : Bytes → Bool
+  pub steady_write : Bytes → Bool
+  pub calm_read : Bool
+  pub calm_write : Bool
+
+pub record SinkTold : Type 0 where
+  pub put_bytes : Option Bytes
+  pub faults : ℕ
+
+-- a count of faults rose between two moments, or it stands at its end
+abbrev pub Rose : ℕ → ℕ → Type 0
+Rose before now = min (before + 1) (2 ^ 64 - 1) ≤ now
+
+-- P of the held files, where they are told at both moments
+abbrev pub WhereTold : FilesTold → FilesTold → (Held → Held → Type 0) → Type 0
+WhereTold old new P = (a b : Held) → old.held ≡ Some a → new.held ≡ Some b → P a b
+
+-- what every call keeps
+pub record Goes (old new : FilesTold) : Type 0 where
+  pub counts : old.faults ≤ new.faults
+  pub untold : old.held ≡ None → new.held ≡ None
+  pub steady_read : (name : Bytes) → IsTrue (old.steady_read name) → IsTrue (new.steady_read name)
+  pub steady_write : (name : Bytes) → IsTrue (old.steady_write name) → IsTrue (new.steady_write name)
+
+-- what `read` and `append` keep besides
+pub record StaysCalm (old new : FilesTold) : Type 0 where
+  pub read : IsTrue old.calm_read → IsTrue new.calm_read
+  pub write : IsTrue old.calm_write → IsTrue new.calm_write
+
+-- opening a file for reading changes no file
+pub record KeepsAtOpen (old new : FilesTold) (name : Bytes) : Type 0 where
+  pub goes : Goes old new
+  pub stays : WhereTold old new (λ a b. b ≡ a)
+  pub still_told : (a : Held) → old.held ≡ Some a → IsTrue (contains_key a name) → new.held ≡ Some a
+
+pub record Opened (old new : FilesTold) (name : Bytes) : Type 0 where
+  pub keeps : KeepsAtOpen old new name
+  pub is_held : WhereTold old new (λ a b. IsTrue (contains_key a name))
+  pub reading : WhereTold old new (λ a b. new.reading ≡ Some (record { name = name; at = 0 }))
+  pub calm : IsTrue (old.steady_read name) → IsTrue new.calm_read
+
+pub record OpenFailed (old new : FilesTold) (name : Bytes) : Type 0 where
+  pub keeps : KeepsAtOpen old new name
+  pub rose : Rose old.faults new.faults
+  pub not_steady : old.steady_read name ≡ false
+  pub closed : new.reading ≡ None
+
+-- reading changes no file, and keeps what is told
+pub record KeepsAtRead (old new : FilesTold) : Type 0 where
+  pub goes : Goes old new
+  pub calm : StaysCalm old new
+  pub stays : (a : Held) → old.held ≡ Some a → new.held ≡ Some a
+
+-- the next n bytes of the file stand at the front of the buffer; none come only at the file's end or for an empty buffer
+pub record GaveNext (content : Bytes) (place : Place) (n : ℕ) (buffer : Bytes) (reading : Option Place) : Type 0 where
+  pub bytes : take n buffer ≡ take n (drop place.at content)
+  pub moves : reading ≡ Some (record place { at = place.at + n })
+  pub inside : n ≤ length content - place.at
+  pub ends : 0 < length buffer → n ≡ 0 → length content ≤ place.at
+
+pub record Gave (old new : FilesTold) (n : ℕ) (buffer : Bytes) : Type 0 where
+  pub keeps : KeepsAtRead old new
+  pub from_file : (a : Held) (place : Place) → old.held ≡ Some a → old.reading ≡ Some place → GaveNext (bytes_of a place.name) place n buffer new.reading
+  pub nothing_open : (a : Held) → old.held ≡ Some a → old.reading ≡ None → n ≡ 0
+
+pub record ReadFailed (old new : FilesTold) : Type 0 where
+  pub keeps : KeepsAtRead old new
+  pub rose : Rose old.faults new.faults
+  pub not_calm : old.calm_read ≡ false
+  pub place : new.reading ≡ old.reading
+
+-- the file is there, is empty and is being written; all other files stay
+pub record Created (old new : FilesTold) (name : Bytes) : Type 0 where
+  pub goes : Goes old new
+  pub made : WhereTold old new (λ a b. b ≡ insert a name [])
+  pub writing : WhereTold old new (λ a b. new.writing ≡ Some name)
+  pub calm : IsTrue (old.steady_write name) → IsTrue new.calm_write
+
+pub record CreateFailed (old new : FilesTold) (name : Bytes) : Type 0 where
+  pub goes : Goes old new
+  pub rose : Rose old.faults new.faults
+  pub not_steady : old.steady_write name ≡ false
+  pub stays : WhereTold old new (λ a b. b ≡ a)
+  pub closed : new.writing ≡ None
+
+-- the files after the text was added to the file that is being written
+abbrev pub added_to : Option Bytes → Held → Bytes → Bytes → Held
+added_to None held name text = held
+added_to (Some bytes) held name text = insert held name (bytes ++ text)
+
+abbrev pub appended : Held → Option Bytes → Bytes → Held
+appended held None text = held
+appended held (Some name) text = added_to (get held name) held name text
+
+-- the text was appended, in one call or in several
+pub record Wrote (old new : FilesTold) (text : Bytes) : Type 0 where
+  pub goes : Goes old new
+  pub calm : StaysCalm old new
+  pub writing : new.writing ≡ old.writing
+  pub held : WhereTold old new (λ a b. b ≡ appended a old.writing text)
+
+-- some first part of the text was appended, and then a fault came
+pub record WriteFailed (old new : FilesTold) (text : Bytes) : Type 0 where
+  pub goes : Goes old new
+  pub rose : Rose old.faults new.faults
+  pub not_calm : old.calm_write ≡ false
+  pub held : WhereTold old new (λ a b. (n : ℕ) × (n ≤ length text) × (b ≡ appended a old.writing (take n text)))
+
+-- the same of a sink
+pub record SinkGoes (old new : SinkTold) : Type 0 where
+  pub counts : old.faults ≤ new.faults
+  pub untold : old.put_bytes ≡ None → new.put_bytes ≡ None
+
+pub record Took (old new : SinkTold) (text : Bytes) : Type 0 where
+  pub goes : SinkGoes old new
+  pub put : (a b : Bytes) → old.put_bytes ≡ Some a → new.put_bytes ≡ Some b → b ≡ a ++ text
+
+pub record TakeFailed (old new : SinkTold) (text : Bytes) : Type 0 where
+  pub goes : SinkGoes old new
+  pub rose : Rose old.faults new.faults
+  pub put : (a b : Bytes) → old.put_bytes ≡ Some a → new.put_bytes ≡ Some b → (n : ℕ) × (n ≤ length text) × (b ≡ a ++ take n text)

@@ -1,0 +1,58 @@
+-- The report and the vectors text of a bundle. Source: SALSA, the files `STEM.txt` and `STEM.wit`.
+use Rattle.std.specs.Prelude.{ℕ, Bool, true, false, List, [], ◌∷◌, map, codes, decimal}
+use Rattle.semantics.specs.Texts.{Bytes, Line, text_of, bits_word}
+use Rattle.semantics.specs.Net.{NetValue, table_count, literal_count}
+use Rattle.semantics.specs.Error.{Metric, abs, rel, ham}
+
+abbrev pub metric_word : Metric → Bytes
+metric_word abs = codes "abs"
+metric_word rel = codes "rel"
+metric_word ham = codes "ham"
+
+-- `old` counts the net as it was read, and `new` the written net
+pub record Report : Type 0 where
+  pub metric : Metric
+  pub bound : ℕ
+  pub maximum : ℕ
+  pub witness : List Bool
+  pub old_tables : ℕ
+  pub new_tables : ℕ
+  pub old_literals : ℕ
+  pub new_literals : ℕ
+  pub minimal : Bool
+
+abbrev pub report_of : Metric → ℕ → ℕ → List Bool → NetValue → NetValue → Bool → Report
+report_of metric bound maximum witness exact approx minimal = record {
+  metric = metric;
+  bound = bound;
+  maximum = maximum;
+  witness = witness;
+  old_tables = table_count exact;
+  new_tables = table_count approx;
+  old_literals = literal_count exact;
+  new_literals = literal_count approx;
+  minimal = minimal;
+}
+
+abbrev pub yes_word : Bool → Bytes
+yes_word true = codes "yes"
+yes_word false = codes "no"
+
+abbrev pub report_lines : Report → List Line
+report_lines r =
+    (codes "salsa" ∷ codes "1" ∷ [])
+    ∷ (codes "metric" ∷ metric_word r.metric ∷ [])
+    ∷ (codes "bound" ∷ decimal r.bound ∷ [])
+    ∷ (codes "maximum" ∷ decimal r.maximum ∷ [])
+    ∷ (codes "witness" ∷ bits_word r.witness ∷ [])
+    ∷ (codes "tables" ∷ decimal r.old_tables ∷ decimal r.new_tables ∷ [])
+    ∷ (codes "literals" ∷ decimal r.old_literals ∷ decimal r.new_literals ∷ [])
+    ∷ (codes "minimal" ∷ yes_word r.minimal ∷ [])
+    ∷ []
+
+unfoldable pub report_text : Report → Bytes
+report_text r = text_of (report_lines r)
+
+-- a line for each vector, the witness first
+unfoldable pub vectors_text : List Bool → List (List Bool) → Bytes
+vectors_text witness pool = text_of (map (λ x. bits_word x ∷ []) (witness ∷ pool))

@@ -1,0 +1,5 @@
+//! The definitions on which everything stands, and the laws about them. It has no code but the type `Mark`.
+#![tactic(auto)]
+
+pub mod examples;
+pub mod mark;
