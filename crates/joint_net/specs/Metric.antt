@@ -1,0 +1,8 @@
+-- The metric of the definitions that a metric of this crate stands for.
+use Rattle.joint_net.specs.declared.metric.Metric.{Metric}
+use Rattle.joint_net.specs.declared.metric.Metric.TheVariants.{Abs}
+use Rattle.semantics.specs.Error.{abs}
+use Rattle.semantics.specs.Error as error
+
+abbrev pub meaning : Metric → error.Metric
+meaning Abs = abs
