@@ -1,4 +1,4 @@
--- The chain over the moves that make a table constant. Source: SALSA.
+-- The chain over the moves that make a table constant. Source: SALSA; the order is this tool's own.
 use Rattle.std.specs.Prelude.{ℕ, zero, suc, ◌+◌, ◌<◌, Bool, true, false, List, [], ◌∷◌, ◌++◌, length, slice_set, nat_lt, if◌then◌else◌}
 use Rattle.semantics.specs.Texts.{Bytes}
 use Rattle.semantics.specs.Net.{TableValue, NetValue, table_at, table_literals}

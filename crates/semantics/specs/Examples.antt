@@ -47,16 +47,47 @@ constant_one = record {
   outputs = 0 ∷ [];
 }
 
+abbrev pub move : ℕ → Bool → ConstantMove
+move table value = record { table = table; value = value }
+
+abbrev pub constant_sum : NetValue
+constant_sum = made_constant half_adder (move 0 false)
+
+abbrev pub both_constant : NetValue
+both_constant = made_constant constant_sum (move 1 false)
+
+-- no tables, and an output that is an input
+abbrev pub wire : NetValue
+wire = record { model = codes "w"; inputs = codes "a" ∷ []; tables = []; outputs = 0 ∷ [] }
+
+-- the disjunction twice: once by its zeros, or as a copy of the later table
+abbrev pub or_twice : TableValue → NetValue
+or_twice first = record {
+  model = codes "m";
+  inputs = codes "a" ∷ codes "b" ∷ [];
+  tables =
+    first
+    ∷ record { name = codes "z"; pins = 0 ∷ 1 ∷ []; rows = (One ∷ Dash ∷ []) ∷ (Dash ∷ One ∷ []) ∷ []; plane = true }
+    ∷ [];
+  outputs = 2 ∷ 3 ∷ [];
+}
+
+abbrev pub by_zeros : TableValue
+by_zeros = record { name = codes "y"; pins = 0 ∷ 1 ∷ []; rows = (Zero ∷ Zero ∷ []) ∷ []; plane = false }
+
+abbrev pub by_copy : TableValue
+by_copy = record { name = codes "y"; pins = 3 ∷ []; rows = (One ∷ []) ∷ []; plane = true }
+
 pub record ValueExamples : Type 0 where
   pub half_adder_values :
     map (outputs_of half_adder) (all_vectors 2)
     ≡ (false ∷ false ∷ []) ∷ (true ∷ false ∷ []) ∷ (true ∷ false ∷ []) ∷ (false ∷ true ∷ []) ∷ []
   pub out_of_order_values : map (outputs_of out_of_order) (all_vectors 1) ≡ (false ∷ true ∷ false ∷ []) ∷ (true ∷ false ∷ true ∷ []) ∷ []
+  pub wire_values : map (outputs_of wire) (all_vectors 1) ≡ (false ∷ []) ∷ (true ∷ []) ∷ []
   pub constant_values : map (outputs_of constant_one) (all_vectors 0) ≡ (true ∷ []) ∷ []
   pub counts : (table_count half_adder ≡ 2) × (literal_count half_adder ≡ 6)
-
-abbrev pub constant_sum : NetValue
-constant_sum = made_constant half_adder (record { table = 0; value = false })
+  pub counts_after : (literal_count constant_sum ≡ 2) × (literal_count both_constant ≡ 0) × (table_count both_constant ≡ 2)
+  pub or_literals : (literal_count (or_twice by_zeros) ≡ 4) × (literal_count (or_twice by_copy) ≡ 3)
 
 pub record ErrorExamples : Type 0 where
   pub three_and_two :
@@ -67,16 +98,21 @@ pub record ErrorExamples : Type 0 where
     (error_of abs (false ∷ false ∷ []) (true ∷ true ∷ []) ≡ 3)
     × (error_of ham (false ∷ false ∷ []) (true ∷ true ∷ []) ≡ 2)
     × (error_of rel (false ∷ false ∷ []) (true ∷ true ∷ []) ≡ 3000000)
+  pub equal :
+    (error_of abs (true ∷ true ∷ []) (true ∷ true ∷ []) ≡ 0)
+    × (error_of ham (true ∷ true ∷ []) (true ∷ true ∷ []) ≡ 0)
+    × (error_of rel (true ∷ true ∷ []) (true ∷ true ∷ []) ≡ 0)
+  pub unchanged : map (net_error abs half_adder half_adder) (all_vectors 2) ≡ 0 ∷ 0 ∷ 0 ∷ 0 ∷ []
+  pub same_or : map (net_error abs (or_twice by_zeros) (or_twice by_copy)) (all_vectors 2) ≡ 0 ∷ 0 ∷ 0 ∷ 0 ∷ []
+  pub other_metrics :
+    (map (net_error ham half_adder both_constant) (all_vectors 2) ≡ 0 ∷ 1 ∷ 1 ∷ 1 ∷ [])
+    × (map (net_error rel half_adder both_constant) (all_vectors 2) ≡ 0 ∷ 1000000 ∷ 1000000 ∷ 1000000 ∷ [])
   pub sum_is_constant : map (net_error abs half_adder constant_sum) (all_vectors 2) ≡ 0 ∷ 1 ∷ 1 ∷ 0 ∷ []
   pub carry_too :
-    map (net_error abs half_adder (made_constant constant_sum (record { table = 1; value = false }))) (all_vectors 2)
-    ≡ 0 ∷ 1 ∷ 1 ∷ 2 ∷ []
+    map (net_error abs half_adder both_constant) (all_vectors 2) ≡ 0 ∷ 1 ∷ 1 ∷ 2 ∷ []
   pub carry_to_one :
-    map (net_error abs half_adder (made_constant constant_sum (record { table = 1; value = true }))) (all_vectors 2)
+    map (net_error abs half_adder (made_constant constant_sum (move 1 true))) (all_vectors 2)
     ≡ 2 ∷ 1 ∷ 1 ∷ 0 ∷ []
-
-abbrev pub move : ℕ → Bool → ConstantMove
-move table value = record { table = table; value = value }
 
 pub record MoveExamples : Type 0 where
   pub of_half_adder : constant_moves half_adder ≡ move 0 false ∷ move 0 true ∷ move 1 false ∷ move 1 true ∷ []
@@ -88,6 +124,18 @@ pub record TextExamples : Type 0 where
     ≡ text (codes ".model ha" ∷ codes ".inputs a b" ∷ codes ".outputs s c" ∷ codes ".names a b s" ∷ codes "10 1"
     ∷ codes "01 1" ∷ codes ".names a b c" ∷ codes "11 1" ∷ codes ".end" ∷ [])
   pub half_adder_length : length (blif_text half_adder) ≡ 81
+  pub lengths : (length (blif_text both_constant) ≡ 58) × (length (blif_text constant_sum) ≡ 67)
+  pub both_constant_text :
+    blif_text both_constant
+    ≡ text (codes ".model ha" ∷ codes ".inputs a b" ∷ codes ".outputs s c" ∷ codes ".names s" ∷ codes ".names c" ∷ codes ".end" ∷ [])
+  pub wire_text : blif_text wire ≡ text (codes ".model w" ∷ codes ".inputs a" ∷ codes ".outputs a" ∷ codes ".end" ∷ [])
+  pub both_constant_report :
+    report_text (report_of abs 3 2 (true ∷ true ∷ []) half_adder both_constant false)
+    ≡ text (codes "salsa 1" ∷ codes "metric abs" ∷ codes "bound 3" ∷ codes "maximum 2" ∷ codes "witness 11"
+    ∷ codes "tables 2 2" ∷ codes "literals 6 0" ∷ codes "minimal no" ∷ [])
+  pub both_constant_vectors :
+    vectors_text (true ∷ true ∷ []) (all_vectors 2)
+    ≡ text (codes "11" ∷ codes "00" ∷ codes "10" ∷ codes "01" ∷ codes "11" ∷ [])
   pub constant_text :
     blif_text constant_one
     ≡ text (codes ".model k" ∷ codes ".inputs" ∷ codes ".outputs y" ∷ codes ".names y" ∷ codes "1" ∷ codes ".end" ∷ [])

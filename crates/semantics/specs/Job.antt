@@ -1,4 +1,4 @@
--- The job that the words of the command line name. Source: SALSA's table of commands.
+-- The job that the words of the command line name. Source: this tool's own table of commands.
 use Rattle.std.specs.Prelude.{◌≡◌, ℕ, ◌+◌, ◌-◌, ◌*◌, ◌^◌, Bool, true, false, not, ◌&&◌, ◌||◌, List, [], ◌∷◌, ◌++◌, codes, fold, nat_lt, nat_le, nat_eq, ◌==◌, bytes_eq, Option, Some, None, option_and_then, if◌then◌else◌}
 use Rattle.std.specs.List.{list_any, list_all}
 use Rattle.semantics.specs.Texts.{Bytes}

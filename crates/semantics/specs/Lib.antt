@@ -10,3 +10,5 @@ pub mod Chain
 pub mod ConstantChain
 pub mod Outside
 pub mod Examples
+pub mod Bundle
+pub mod Synthesis

@@ -1,4 +1,4 @@
--- What a set of files and a sink tell, and what each call on them may do. Source: SALSA, the outside.
+-- What a set of files and a sink tell, and what each call on them may do. Source: this tool's own interface to the outside.
 use Rattle.std.specs.Prelude.{◌≡◌, ℕ, ◌+◌, ◌-◌, ◌^◌, ◌<◌, ◌≤◌, min, Bool, true, false, IsTrue, IsSome, List, [], ◌∷◌, ◌++◌, length, take, drop, Option, Some, None, unwrap_or}
 use Rattle.std.specs.Ordering.{nat_cmp}
 use Rattle.std.specs.Cmp.Lexicographic.{slice_cmp}
@@ -34,7 +34,7 @@ pub record SinkTold : Type 0 where
   pub put_bytes : Option Bytes
   pub faults : ℕ
 
--- a count of faults rose between two moments, or it stands at its end
+-- a count of faults rose between two moments, or it stands at its end, 2 ^ 64 - 1
 abbrev pub Rose : ℕ → ℕ → Type 0
 Rose before now = min (before + 1) (2 ^ 64 - 1) ≤ now
 
@@ -110,7 +110,8 @@ pub record CreateFailed (old new : FilesTold) (name : Bytes) : Type 0 where
   pub stays : WhereTold old new (λ a b. b ≡ a)
   pub closed : new.writing ≡ None
 
--- the files after the text was added to the file that is being written
+-- The files after the text was added to the file that is being written. A file that is written is held, since `create` makes it;
+-- without one nothing is added.
 abbrev pub added_to : Option Bytes → Held → Bytes → Bytes → Held
 added_to None held name text = held
 added_to (Some bytes) held name text = insert held name (bytes ++ text)
@@ -129,6 +130,7 @@ pub record Wrote (old new : FilesTold) (text : Bytes) : Type 0 where
 -- some first part of the text was appended, and then a fault came
 pub record WriteFailed (old new : FilesTold) (text : Bytes) : Type 0 where
   pub goes : Goes old new
+  pub calm : StaysCalm old new
   pub rose : Rose old.faults new.faults
   pub not_calm : old.calm_write ≡ false
   pub held : WhereTold old new (λ a b. (n : ℕ) × (n ≤ length text) × (b ≡ appended a old.writing (take n text)))

@@ -1,4 +1,4 @@
--- The report and the vectors text of a bundle. Source: SALSA, the files `STEM.txt` and `STEM.wit`.
+-- The report and the vectors text of a bundle. Source: this tool's own formats, `STEM.txt` and `STEM.wit`.
 use Rattle.std.specs.Prelude.{ℕ, Bool, true, false, List, [], ◌∷◌, map, codes, decimal}
 use Rattle.semantics.specs.Texts.{Bytes, Line, text_of, bits_word}
 use Rattle.semantics.specs.Net.{NetValue, table_count, literal_count}

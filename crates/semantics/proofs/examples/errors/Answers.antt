@@ -10,6 +10,10 @@ unfolding after_rounds value_of outputs_of all_vectors net_error
 returns c = record {
   three_and_two = (refl, refl, refl);
   nothing_and_three = (refl, refl, refl);
+  equal = (refl, refl, refl);
+  unchanged = refl;
+  same_or = refl;
+  other_metrics = (refl, refl);
   sum_is_constant = refl;
   carry_too = refl;
   carry_to_one = refl;

@@ -12,6 +12,11 @@ unfolding text_of blif_text report_text vectors_text all_vectors digits
 returns c = record {
   half_adder_text = refl;
   half_adder_length = refl;
+  lengths = (refl, refl);
+  both_constant_text = refl;
+  wire_text = refl;
+  both_constant_report = refl;
+  both_constant_vectors = refl;
   constant_text = refl;
   planes = refl;
   report = refl;
