@@ -12,3 +12,4 @@ pub mod Outside
 pub mod Examples
 pub mod Bundle
 pub mod Synthesis
+pub mod Laws
