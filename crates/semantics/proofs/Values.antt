@@ -1,10 +1,10 @@
 -- An acyclic list of tables gives each signal one value.
-use Rattle.std.proofs.Common.{◌≡◌, ℕ, zero, suc, ◌+◌, ◌-◌, ◌<◌, ◌≤◌, Bool, true, false, cond, not, ◌&&◌, ◌||◌, ltb, List, [], ◌∷◌, length, get_or, refl, ap, subst, sym, ◌∙◌, inl, inr, ◌⊎◌, arith}
+use Rattle.std.proofs.Common.{◌≡◌, ℕ, zero, suc, ◌+◌, ◌-◌, ◌<◌, ◌≤◌, Bool, false, cond, not, ltb, List, [], ◌∷◌, length, get_or, refl, ap, subst, sym, ◌∙◌, inl, inr, arith}
 use Rattle.std.specs.List.{AllByRecursion, list_any}
 use Rattle.std.proofs.lemmas.Bool.{lt-ltb, le-ltb, cases_lt}
 use Rattle.semantics.specs.declared.mark.Mark.{Mark}
 use Rattle.semantics.specs.Net.{TableValue, table_at, IsGroundedIn, IsAcyclic}
-use Rattle.semantics.specs.Value.{Assignment, mark_matches, row_matches, table_value, IsConsistent, round, after_rounds, value_of, HasOneValue}
+use Rattle.semantics.specs.Value.{Assignment, row_matches, table_value, IsConsistent, round, after_rounds, value_of, HasOneValue}
 
 -- a row reads only the pins
 pub row_matches-same : (marks : List Mark) (pins : List ℕ) (v w : Assignment) → AllByRecursion (λ s. v s ≡ w s) pins → row_matches marks pins v ≡ row_matches marks pins w
@@ -76,10 +76,10 @@ consistent-round : (n : ℕ) (tables : List TableValue) (x : List Bool) (v : Ass
 unfolding IsRoundOf
 consistent-round n tables x v h s within =
     elim (cases_lt s n) [
-        inl low ↦ rw (lt-ltb s n low) (h.input s low)
+      | inl low ↦ rw (lt-ltb s n low) (h.input s low)
       | inr high ↦
-        let place : s ≡ n + (s - n) = omega arith in
-        rw (le-ltb s n high) (ap v place ∙ h.table (s - n) (omega arith))
+          let place : s ≡ n + (s - n) = omega arith in
+          rw (le-ltb s n high) (ap v place ∙ h.table (s - n) (omega arith))
     ]
 
 consistent-run : (n : ℕ) (tables : List TableValue) (x : List Bool) (v : Assignment) → IsConsistent n tables x v → (k : ℕ) → IsRun n tables x k v
@@ -95,10 +95,10 @@ IsGroundedIn-input n tables (suc k) s h = inl h
 pub IsGroundedIn-signal : (n : ℕ) (tables : List TableValue) → IsAcyclic n tables → (s : ℕ) → s < n + length tables → IsGroundedIn n tables (length tables) s
 IsGroundedIn-signal n tables h s within =
     elim (cases_lt s n) [
-        inl low ↦ IsGroundedIn-input n tables (length tables) s low
+      | inl low ↦ IsGroundedIn-input n tables (length tables) s low
       | inr high ↦
-        let place : n + (s - n) ≡ s = omega arith in
-        subst (IsGroundedIn n tables (length tables)) place (h (s - n) (omega arith))
+          let place : n + (s - n) ≡ s = omega arith in
+          subst (IsGroundedIn n tables (length tables)) place (h (s - n) (omega arith))
     ]
 
 round-table : (n : ℕ) (tables : List TableValue) (x : List Bool) (v : Assignment) (i : ℕ) → round n tables x v (n + i) ≡ table_value (table_at tables i) v
@@ -113,12 +113,12 @@ value_law n tables x h = record {
   consistent = record {
     input = λ s low. rw (lt-ltb s n low) refl;
     table = λ i within.
-      let last : ℕ = length tables in
-      runs_agree n tables x last (after_rounds n tables x (suc last)) (after_rounds n tables x (suc (suc last)))
+        let last : ℕ = length tables in
+        runs_agree n tables x last (after_rounds n tables x (suc last)) (after_rounds n tables x (suc (suc last)))
         (after_rounds-run n tables x (suc last)) (one_more-run n tables x (suc last)) (n + i) (h i within)
-      ∙ round-table n tables x (value_of n tables x) i;
+        ∙ round-table n tables x (value_of n tables x) i;
   };
   only = λ v cv s within.
-    runs_agree n tables x (length tables) v (value_of n tables x) (consistent-run n tables x v cv (suc (length tables)))
+      runs_agree n tables x (length tables) v (value_of n tables x) (consistent-run n tables x v cv (suc (length tables)))
       (after_rounds-run n tables x (suc (length tables))) s (IsGroundedIn-signal n tables h s within);
 }

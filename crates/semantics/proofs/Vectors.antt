@@ -1,6 +1,5 @@
 -- Input vectors in counting order: vector j stands at place j, and each vector stands there once.
-use Rattle.std.proofs.Common.{◌≡◌, ℕ, zero, suc, ◌+◌, ◌*◌, ◌/◌, ◌%◌, ◌^◌, ◌<◌, Bool, true, false, ◌==◌, List, [], ◌∷◌, length, map, get_or, slice_get, Some, refl, ap, sym, subst, ◌∙◌, cond, arith}
-use Rattle.std.specs.List.{range_with_len}
+use Rattle.std.proofs.Common.{◌≡◌, ℕ, zero, suc, ◌+◌, ◌*◌, ◌/◌, ◌%◌, ◌^◌, ◌<◌, Bool, true, false, ◌==◌, List, [], ◌∷◌, length, slice_get, Some, refl, ap, sym, subst, ◌∙◌, arith}
 use Rattle.std.proofs.Math.Nat.{pow-succ'}
 use Rattle.std.proofs.lemmas.Option.{slice_get-get_or}
 use Rattle.std.proofs.lemmas.List.FromFn.{get_or-map-range_with_len, length-map-range_with_len}
@@ -68,4 +67,4 @@ each_vector n P h x e =
 -- each vector stands at the place of its number
 pub slice_get-number_of : (n : ℕ) (x : List Bool) → length x ≡ n → slice_get (all_vectors n) (number_of x) ≡ Some x
 slice_get-number_of n x e = each_vector n (λ y. slice_get (all_vectors n) (number_of y) ≡ Some y)
-  (λ j h. subst (λ k. slice_get (all_vectors n) k ≡ Some (bits_of n j)) (sym (number_of-bits_of n j h)) (slice_get-all_vectors n j h)) x e
+    (λ j h. subst (λ k. slice_get (all_vectors n) k ≡ Some (bits_of n j)) (sym (number_of-bits_of n j h)) (slice_get-all_vectors n j h)) x e

@@ -1,6 +1,6 @@
 -- The files that a run writes, one after another, and what is on the disk when one of them could not be written.
 -- Source: this tool's own bundles.
-use Rattle.std.specs.Prelude.{◌≡◌, ◌⊎◌, ℕ, ◌≤◌, Bool, true, false, List, [], ◌∷◌, ◌++◌, length, take}
+use Rattle.std.specs.Prelude.{◌≡◌, ◌⊎◌, ℕ, ◌≤◌, Bool, false, List, [], ◌∷◌, ◌++◌, length, take}
 use Rattle.std.specs.List.{list_all}
 use Rattle.std.specs.FinMap.{insert}
 use Rattle.semantics.specs.Texts.{Bytes}

@@ -1,6 +1,6 @@
 -- Chains of simplifications, over any states S, any moves M of a state, any rule that allows a move, and any step after it.
 -- Source: SALSA.
-use Rattle.std.specs.Prelude.{◌≡◌, List, [], ◌∷◌, ◌++◌}
+use Rattle.std.specs.Prelude.{◌≡◌, List, ◌∷◌, ◌++◌}
 use Rattle.std.specs.List.{AllByRecursion}
 
 -- the move is allowed, and no move before it is

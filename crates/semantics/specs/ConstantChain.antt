@@ -1,5 +1,5 @@
 -- The chain over the moves that make a table constant. Source: SALSA; the order is this tool's own.
-use Rattle.std.specs.Prelude.{ℕ, zero, suc, ◌+◌, ◌<◌, Bool, true, false, List, [], ◌∷◌, ◌++◌, length, slice_set, nat_lt, if◌then◌else◌}
+use Rattle.std.specs.Prelude.{ℕ, ◌+◌, Bool, true, false, List, [], ◌∷◌, ◌++◌, slice_set, nat_lt, if◌then◌else◌}
 use Rattle.semantics.specs.Texts.{Bytes}
 use Rattle.semantics.specs.Net.{TableValue, NetValue, table_at, table_literals}
 use Rattle.semantics.specs.Error.{Metric, IsWithin}
@@ -33,7 +33,7 @@ constant_moves N = moves_from 0 N.tables
 -- the table is replaced, and nothing else changes
 abbrev pub made_constant : NetValue → ConstantMove → NetValue
 made_constant N move = record N {
-  tables = slice_set N.tables move.table (constant_table (table_at N.tables move.table).name move.value)
+  tables = slice_set N.tables move.table (constant_table (table_at N.tables move.table).name move.value);
 }
 
 -- a move is allowed if it keeps the bound on every input vector

@@ -1,14 +1,14 @@
 -- Worked examples, computed from the definitions.
-use Rattle.std.specs.Prelude.{◌≡◌, ℕ, ◌-◌, ◌^◌, Bool, true, false, List, [], ◌∷◌, ◌++◌, map, flat_map, length, codes, Option, Some, None}
+use Rattle.std.specs.Prelude.{◌≡◌, ℕ, ◌-◌, ◌^◌, Bool, true, false, List, [], ◌∷◌, ◌++◌, map, flat_map, length, codes, Some, None}
 use Rattle.semantics.specs.declared.mark.Mark.TheVariants.{Zero, One, Dash}
 use Rattle.semantics.specs.Texts.{Bytes}
 use Rattle.semantics.specs.Net.{TableValue, NetValue, table_count, literal_count}
-use Rattle.semantics.specs.Value.{value_of, outputs_of}
+use Rattle.semantics.specs.Value.{outputs_of}
 use Rattle.semantics.specs.Error.{abs, rel, ham, error_of, net_error}
 use Rattle.semantics.specs.Vectors.{all_vectors}
 use Rattle.semantics.specs.Blif.{blif_text}
 use Rattle.semantics.specs.Report.{report_text, report_of, vectors_text}
-use Rattle.semantics.specs.Job.{Job, synth, check, demo, job_of}
+use Rattle.semantics.specs.Job.{synth, check, demo, job_of}
 use Rattle.semantics.specs.ConstantChain.{constant_table, ConstantMove, constant_moves, made_constant}
 
 abbrev pub text : List (List ℕ) → Bytes
@@ -20,9 +20,9 @@ half_adder = record {
   model = codes "ha";
   inputs = codes "a" ∷ codes "b" ∷ [];
   tables =
-    record { name = codes "s"; pins = 0 ∷ 1 ∷ []; rows = (One ∷ Zero ∷ []) ∷ (Zero ∷ One ∷ []) ∷ []; plane = true }
-    ∷ record { name = codes "c"; pins = 0 ∷ 1 ∷ []; rows = (One ∷ One ∷ []) ∷ []; plane = true }
-    ∷ [];
+      record { name = codes "s"; pins = 0 ∷ 1 ∷ []; rows = (One ∷ Zero ∷ []) ∷ (Zero ∷ One ∷ []) ∷ []; plane = true }
+      ∷ record { name = codes "c"; pins = 0 ∷ 1 ∷ []; rows = (One ∷ One ∷ []) ∷ []; plane = true }
+      ∷ [];
   outputs = 2 ∷ 3 ∷ [];
 }
 
@@ -32,9 +32,9 @@ out_of_order = record {
   model = codes "k";
   inputs = codes "a" ∷ [];
   tables =
-    record { name = codes "z"; pins = 2 ∷ []; rows = (Zero ∷ []) ∷ []; plane = true }
-    ∷ record { name = codes "y"; pins = 0 ∷ []; rows = (One ∷ []) ∷ []; plane = false }
-    ∷ [];
+      record { name = codes "z"; pins = 2 ∷ []; rows = (Zero ∷ []) ∷ []; plane = true }
+      ∷ record { name = codes "y"; pins = 0 ∷ []; rows = (One ∷ []) ∷ []; plane = false }
+      ∷ [];
   outputs = 1 ∷ 2 ∷ 0 ∷ [];
 }
 
@@ -66,9 +66,9 @@ or_twice first = record {
   model = codes "m";
   inputs = codes "a" ∷ codes "b" ∷ [];
   tables =
-    first
-    ∷ record { name = codes "z"; pins = 0 ∷ 1 ∷ []; rows = (One ∷ Dash ∷ []) ∷ (Dash ∷ One ∷ []) ∷ []; plane = true }
-    ∷ [];
+      first
+      ∷ record { name = codes "z"; pins = 0 ∷ 1 ∷ []; rows = (One ∷ Dash ∷ []) ∷ (Dash ∷ One ∷ []) ∷ []; plane = true }
+      ∷ [];
   outputs = 2 ∷ 3 ∷ [];
 }
 
@@ -80,8 +80,8 @@ by_copy = record { name = codes "y"; pins = 3 ∷ []; rows = (One ∷ []) ∷ []
 
 pub record ValueExamples : Type 0 where
   pub half_adder_values :
-    map (outputs_of half_adder) (all_vectors 2)
-    ≡ (false ∷ false ∷ []) ∷ (true ∷ false ∷ []) ∷ (true ∷ false ∷ []) ∷ (false ∷ true ∷ []) ∷ []
+      map (outputs_of half_adder) (all_vectors 2)
+      ≡ (false ∷ false ∷ []) ∷ (true ∷ false ∷ []) ∷ (true ∷ false ∷ []) ∷ (false ∷ true ∷ []) ∷ []
   pub out_of_order_values : map (outputs_of out_of_order) (all_vectors 1) ≡ (false ∷ true ∷ false ∷ []) ∷ (true ∷ false ∷ true ∷ []) ∷ []
   pub wire_values : map (outputs_of wire) (all_vectors 1) ≡ (false ∷ []) ∷ (true ∷ []) ∷ []
   pub constant_values : map (outputs_of constant_one) (all_vectors 0) ≡ (true ∷ []) ∷ []
@@ -91,28 +91,28 @@ pub record ValueExamples : Type 0 where
 
 pub record ErrorExamples : Type 0 where
   pub three_and_two :
-    (error_of abs (true ∷ true ∷ []) (false ∷ true ∷ []) ≡ 1)
-    × (error_of ham (true ∷ true ∷ []) (false ∷ true ∷ []) ≡ 1)
-    × (error_of rel (true ∷ true ∷ []) (false ∷ true ∷ []) ≡ 333334)
+      (error_of abs (true ∷ true ∷ []) (false ∷ true ∷ []) ≡ 1)
+      × (error_of ham (true ∷ true ∷ []) (false ∷ true ∷ []) ≡ 1)
+      × (error_of rel (true ∷ true ∷ []) (false ∷ true ∷ []) ≡ 333334)
   pub nothing_and_three :
-    (error_of abs (false ∷ false ∷ []) (true ∷ true ∷ []) ≡ 3)
-    × (error_of ham (false ∷ false ∷ []) (true ∷ true ∷ []) ≡ 2)
-    × (error_of rel (false ∷ false ∷ []) (true ∷ true ∷ []) ≡ 3000000)
+      (error_of abs (false ∷ false ∷ []) (true ∷ true ∷ []) ≡ 3)
+      × (error_of ham (false ∷ false ∷ []) (true ∷ true ∷ []) ≡ 2)
+      × (error_of rel (false ∷ false ∷ []) (true ∷ true ∷ []) ≡ 3000000)
   pub equal :
-    (error_of abs (true ∷ true ∷ []) (true ∷ true ∷ []) ≡ 0)
-    × (error_of ham (true ∷ true ∷ []) (true ∷ true ∷ []) ≡ 0)
-    × (error_of rel (true ∷ true ∷ []) (true ∷ true ∷ []) ≡ 0)
+      (error_of abs (true ∷ true ∷ []) (true ∷ true ∷ []) ≡ 0)
+      × (error_of ham (true ∷ true ∷ []) (true ∷ true ∷ []) ≡ 0)
+      × (error_of rel (true ∷ true ∷ []) (true ∷ true ∷ []) ≡ 0)
   pub unchanged : map (net_error abs half_adder half_adder) (all_vectors 2) ≡ 0 ∷ 0 ∷ 0 ∷ 0 ∷ []
   pub same_or : map (net_error abs (or_twice by_zeros) (or_twice by_copy)) (all_vectors 2) ≡ 0 ∷ 0 ∷ 0 ∷ 0 ∷ []
   pub other_metrics :
-    (map (net_error ham half_adder both_constant) (all_vectors 2) ≡ 0 ∷ 1 ∷ 1 ∷ 1 ∷ [])
-    × (map (net_error rel half_adder both_constant) (all_vectors 2) ≡ 0 ∷ 1000000 ∷ 1000000 ∷ 1000000 ∷ [])
+      (map (net_error ham half_adder both_constant) (all_vectors 2) ≡ 0 ∷ 1 ∷ 1 ∷ 1 ∷ [])
+      × (map (net_error rel half_adder both_constant) (all_vectors 2) ≡ 0 ∷ 1000000 ∷ 1000000 ∷ 1000000 ∷ [])
   pub sum_is_constant : map (net_error abs half_adder constant_sum) (all_vectors 2) ≡ 0 ∷ 1 ∷ 1 ∷ 0 ∷ []
   pub carry_too :
-    map (net_error abs half_adder both_constant) (all_vectors 2) ≡ 0 ∷ 1 ∷ 1 ∷ 2 ∷ []
+      map (net_error abs half_adder both_constant) (all_vectors 2) ≡ 0 ∷ 1 ∷ 1 ∷ 2 ∷ []
   pub carry_to_one :
-    map (net_error abs half_adder (made_constant constant_sum (move 1 true))) (all_vectors 2)
-    ≡ 2 ∷ 1 ∷ 1 ∷ 0 ∷ []
+      map (net_error abs half_adder (made_constant constant_sum (move 1 true))) (all_vectors 2)
+      ≡ 2 ∷ 1 ∷ 1 ∷ 0 ∷ []
 
 pub record MoveExamples : Type 0 where
   pub of_half_adder : constant_moves half_adder ≡ move 0 false ∷ move 0 true ∷ move 1 false ∷ move 1 true ∷ []
@@ -120,40 +120,40 @@ pub record MoveExamples : Type 0 where
 
 pub record TextExamples : Type 0 where
   pub half_adder_text :
-    blif_text half_adder
-    ≡ text (codes ".model ha" ∷ codes ".inputs a b" ∷ codes ".outputs s c" ∷ codes ".names a b s" ∷ codes "10 1"
-    ∷ codes "01 1" ∷ codes ".names a b c" ∷ codes "11 1" ∷ codes ".end" ∷ [])
+      blif_text half_adder
+      ≡ text (codes ".model ha" ∷ codes ".inputs a b" ∷ codes ".outputs s c" ∷ codes ".names a b s" ∷ codes "10 1"
+      ∷ codes "01 1" ∷ codes ".names a b c" ∷ codes "11 1" ∷ codes ".end" ∷ [])
   pub half_adder_length : length (blif_text half_adder) ≡ 81
   pub lengths : (length (blif_text both_constant) ≡ 58) × (length (blif_text constant_sum) ≡ 67)
   pub both_constant_text :
-    blif_text both_constant
-    ≡ text (codes ".model ha" ∷ codes ".inputs a b" ∷ codes ".outputs s c" ∷ codes ".names s" ∷ codes ".names c" ∷ codes ".end" ∷ [])
+      blif_text both_constant
+      ≡ text (codes ".model ha" ∷ codes ".inputs a b" ∷ codes ".outputs s c" ∷ codes ".names s" ∷ codes ".names c" ∷ codes ".end" ∷ [])
   pub wire_text : blif_text wire ≡ text (codes ".model w" ∷ codes ".inputs a" ∷ codes ".outputs a" ∷ codes ".end" ∷ [])
   pub both_constant_report :
-    report_text (report_of abs 3 2 (true ∷ true ∷ []) half_adder both_constant false)
-    ≡ text (codes "salsa 1" ∷ codes "metric abs" ∷ codes "bound 3" ∷ codes "maximum 2" ∷ codes "witness 11"
-    ∷ codes "tables 2 2" ∷ codes "literals 6 0" ∷ codes "minimal no" ∷ [])
+      report_text (report_of abs 3 2 (true ∷ true ∷ []) half_adder both_constant false)
+      ≡ text (codes "salsa 1" ∷ codes "metric abs" ∷ codes "bound 3" ∷ codes "maximum 2" ∷ codes "witness 11"
+      ∷ codes "tables 2 2" ∷ codes "literals 6 0" ∷ codes "minimal no" ∷ [])
   pub both_constant_vectors :
-    vectors_text (true ∷ true ∷ []) (all_vectors 2)
-    ≡ text (codes "11" ∷ codes "00" ∷ codes "10" ∷ codes "01" ∷ codes "11" ∷ [])
+      vectors_text (true ∷ true ∷ []) (all_vectors 2)
+      ≡ text (codes "11" ∷ codes "00" ∷ codes "10" ∷ codes "01" ∷ codes "11" ∷ [])
   pub constant_text :
-    blif_text constant_one
-    ≡ text (codes ".model k" ∷ codes ".inputs" ∷ codes ".outputs y" ∷ codes ".names y" ∷ codes "1" ∷ codes ".end" ∷ [])
+      blif_text constant_one
+      ≡ text (codes ".model k" ∷ codes ".inputs" ∷ codes ".outputs y" ∷ codes ".names y" ∷ codes "1" ∷ codes ".end" ∷ [])
   pub planes :
-    blif_text out_of_order
-    ≡ text (codes ".model k" ∷ codes ".inputs a" ∷ codes ".outputs z y a" ∷ codes ".names y z" ∷ codes "0 1"
-    ∷ codes ".names a y" ∷ codes "1 0" ∷ codes ".end" ∷ [])
+      blif_text out_of_order
+      ≡ text (codes ".model k" ∷ codes ".inputs a" ∷ codes ".outputs z y a" ∷ codes ".names y z" ∷ codes "0 1"
+      ∷ codes ".names a y" ∷ codes "1 0" ∷ codes ".end" ∷ [])
   pub report :
-    report_text (report_of abs 1 1 (true ∷ false ∷ []) half_adder half_adder true)
-    ≡ text (codes "salsa 1" ∷ codes "metric abs" ∷ codes "bound 1" ∷ codes "maximum 1" ∷ codes "witness 10"
-    ∷ codes "tables 2 2" ∷ codes "literals 6 6" ∷ codes "minimal yes" ∷ [])
+      report_text (report_of abs 1 1 (true ∷ false ∷ []) half_adder half_adder true)
+      ≡ text (codes "salsa 1" ∷ codes "metric abs" ∷ codes "bound 1" ∷ codes "maximum 1" ∷ codes "witness 10"
+      ∷ codes "tables 2 2" ∷ codes "literals 6 6" ∷ codes "minimal yes" ∷ [])
   pub no_bits :
-    report_text (report_of abs 0 0 [] constant_one constant_one false)
-    ≡ text (codes "salsa 1" ∷ codes "metric abs" ∷ codes "bound 0" ∷ codes "maximum 0" ∷ codes "witness "
-    ∷ codes "tables 1 1" ∷ codes "literals 0 0" ∷ codes "minimal no" ∷ [])
+      report_text (report_of abs 0 0 [] constant_one constant_one false)
+      ≡ text (codes "salsa 1" ∷ codes "metric abs" ∷ codes "bound 0" ∷ codes "maximum 0" ∷ codes "witness "
+      ∷ codes "tables 1 1" ∷ codes "literals 0 0" ∷ codes "minimal no" ∷ [])
   pub vectors :
-    vectors_text (true ∷ false ∷ []) (all_vectors 2)
-    ≡ text (codes "10" ∷ codes "00" ∷ codes "10" ∷ codes "01" ∷ codes "11" ∷ [])
+      vectors_text (true ∷ false ∷ []) (all_vectors 2)
+      ≡ text (codes "10" ∷ codes "00" ∷ codes "10" ∷ codes "01" ∷ codes "11" ∷ [])
   pub empty_vectors : vectors_text [] (all_vectors 0) ≡ 10 ∷ 10 ∷ []
 
 abbrev pub synth_words : List ℕ → List ℕ → List ℕ → List ℕ → List ℕ → List Bytes
@@ -165,8 +165,8 @@ pub record JobExamples : Type 0 where
   pub leading_zero : job_of (synth_words (codes "abs") (codes "01") (codes "1") (codes "a") (codes "b")) ≡ None
   pub large_bound : job_of (synth_words (codes "abs") (codes "19342813113834066795298816") (codes "1") (codes "a") (codes "b")) ≡ None
   pub largest_bound :
-    job_of (synth_words (codes "abs") (codes "19342813113834066795298815") (codes "1") (codes "a") (codes "b"))
-    ≡ Some (synth abs (2 ^ 84 - 1) 1 (codes "a") (codes "b"))
+      job_of (synth_words (codes "abs") (codes "19342813113834066795298815") (codes "1") (codes "a") (codes "b"))
+      ≡ Some (synth abs (2 ^ 84 - 1) 1 (codes "a") (codes "b"))
   pub no_conflicts : job_of (synth_words (codes "abs") (codes "1") (codes "0") (codes "a") (codes "b")) ≡ None
   pub many_conflicts : job_of (synth_words (codes "abs") (codes "1") (codes "100001") (codes "a") (codes "b")) ≡ None
   pub other_metric : job_of (synth_words (codes "max") (codes "1") (codes "1") (codes "a") (codes "b")) ≡ None

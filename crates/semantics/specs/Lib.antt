@@ -12,4 +12,5 @@ pub mod Outside
 pub mod Examples
 pub mod Bundle
 pub mod Synthesis
+pub mod PlainReading
 pub mod Laws

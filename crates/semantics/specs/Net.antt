@@ -1,6 +1,6 @@
 -- Nets, their soundness and their size. Source: BLIF's `.model`, `.inputs`, `.outputs` and `.names`; the limits are this tool's own.
 -- Signals 0 to n - 1 are the n inputs, and signal n + i is table i.
-use Rattle.std.specs.Prelude.{◌≡◌, ◌≢◌, ◌⊎◌, ℕ, zero, suc, ◌+◌, ◌-◌, ◌<◌, ◌≤◌, Bool, true, false, List, [], ◌∷◌, ◌++◌, map, length, slice_index, slice_index_or, sum_by, count_by, All, AllPairs}
+use Rattle.std.specs.Prelude.{◌≡◌, ◌≢◌, ◌⊎◌, ℕ, zero, suc, ◌+◌, ◌-◌, ◌<◌, ◌≤◌, Bool, true, false, List, [], ◌++◌, map, length, slice_index, slice_index_or, sum_by, count_by, All, AllPairs}
 use Rattle.std.specs.List.{AllByRecursion}
 use Rattle.semantics.specs.declared.mark.Mark.{Mark}
 use Rattle.semantics.specs.declared.mark.Mark.TheVariants.{Zero, One, Dash}

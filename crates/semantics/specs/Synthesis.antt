@@ -1,14 +1,14 @@
 -- What a synth job with the absolute error comes to, by its answer. Source: SALSA, simplification within a bound on the error.
-use Rattle.std.specs.Prelude.{◌≡◌, ◌⊎◌, ℕ, ◌≤◌, Bool, true, false, IsTrue, List, [], ◌∷◌, ◌++◌, codes}
+use Rattle.std.specs.Prelude.{◌≡◌, ◌⊎◌, ℕ, ◌≤◌, Bool, false, IsTrue, List, [], ◌∷◌, ◌++◌, codes}
 use Rattle.std.specs.FinMap.{contains_key}
 use Rattle.semantics.specs.Texts.{Bytes}
 use Rattle.semantics.specs.Net.{NetValue, input_count, table_count, literal_count}
-use Rattle.semantics.specs.Error.{Metric, abs, net_error, IsWithin}
+use Rattle.semantics.specs.Error.{Metric, net_error, IsWithin}
 use Rattle.semantics.specs.Vectors.{all_vectors, IsFirstGreatestAt}
 use Rattle.semantics.specs.Blif.{blif_text, IsPlainFor, IsPlain}
 use Rattle.semantics.specs.Report.{report_of, report_text, vectors_text}
 use Rattle.semantics.specs.ConstantChain.{IsConstantChainEnd}
-use Rattle.semantics.specs.Outside.{Held, FilesTold, SinkTold, Goes, Rose, WhereTold, Took, TakeFailed, bytes_of}
+use Rattle.semantics.specs.Outside.{FilesTold, SinkTold, Rose, WhereTold, Took, TakeFailed, bytes_of}
 use Rattle.semantics.specs.Bundle.{File, FilesWritten, FilesCutShort, are_steady}
 
 -- a simplified net, its exact maximum error, and an input that attains it
@@ -83,5 +83,5 @@ pub record SynthWriteFault (metric : Metric) (bound : ℕ) (input stem : Bytes) 
   pub result : Simplified
   pub right : IsSimplifiedInput metric bound input old new exact result
   pub left :
-    (FilesCutShort old new (synth_files exact metric bound stem result) × (says ≡ said))
-    ⊎ (FilesWritten old new (synth_files exact metric bound stem result) × TakeFailed said says (synth_report exact metric bound result))
+      (FilesCutShort old new (synth_files exact metric bound stem result) × (says ≡ said))
+      ⊎ (FilesWritten old new (synth_files exact metric bound stem result) × TakeFailed said says (synth_report exact metric bound result))

@@ -1,20 +1,27 @@
 //! The laws about the definitions: each function's contract is a law.
-ghost use Rattle.semantics.specs.Laws.{ValueLaw, VectorLaw, NumeralLaw};
+ghost use Rattle.semantics.specs.Laws.{ValueLaw, VectorLaw, NumeralLaw, PlainTextLaw, ConstantChainLaw};
 
 /// Acyclic tables give each signal one value at each input vector.
 pub fn values()
     ensures { ValueLaw }
-{
-}
+{}
 
 /// Every input vector stands once in counting order.
 pub fn vectors()
     ensures { VectorLaw }
-{
-}
+{}
 
 /// Decimal words and the numbers that they read as.
 pub fn numerals()
     ensures { NumeralLaw }
-{
-}
+{}
+
+/// A text is plain for one net only, and that net is read back from it.
+pub fn plain_texts()
+    ensures { PlainTextLaw }
+{}
+
+/// The constant chain ends, and what each of its members keeps.
+pub fn constant_chain()
+    ensures { ConstantChainLaw }
+{}
