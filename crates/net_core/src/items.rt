@@ -1,0 +1,124 @@
+//! A list of one kind of item, in the order in which they were pushed.
+ghost use Rattle.std.specs.Prelude.{◌≡◌, ◌<◌, ◌==◌, [], ◌∷◌, ◌++◌, length, slice_index_or, slice_set, IfOk, OnOk, OnErr};
+
+use crate::name::Name;
+use crate::row::Row;
+use crate::table::Table;
+use std::alloc::{AllocError, Global};
+use std::marker::Model;
+
+/// The number of an input or a table: the inputs first, then the tables.
+pub type Signal = u32;
+
+/// Pins of a table, or outputs of a net.
+pub type SignalList = Items<Signal>;
+
+pub type NameList = Items<Name>;
+
+pub type RowList = Items<Row>;
+
+pub type TableList = Items<Table>;
+
+/// A vector of truth values.
+pub type Bits = Items<bool>;
+
+/// What can be copied, given memory.
+pub trait Duplicate: Drop {
+    fn duplicate(&self) -> Result<Self, AllocError>
+        ensures { IfOk result (λ x. x ≡ self.now) };
+}
+
+impl Duplicate for u32 {
+    fn duplicate(&self) -> Result<u32, AllocError> {
+        Ok(*self)
+    }
+}
+
+impl Duplicate for bool {
+    fn duplicate(&self) -> Result<bool, AllocError> {
+        Ok(*self)
+    }
+}
+
+/// A list that its callers see as the list of its items.
+#[derive(Drop)]
+pub struct Items<T> {
+    items: Vec<T>,
+}
+
+impl<T> Model for Items<T> {
+    ghost use Rattle.std.specs.Prelude.{List};
+
+    ghost Value = { List T };
+
+    ghost view = { λ a. a.items.items };
+}
+
+impl<T> Items<T> {
+    /// The empty list, which takes no memory.
+    pub fn new(alloc: Global) -> Self
+        ensures { result ≡ [] }
+    {
+        Items {
+            items: Vec::new(alloc),
+        }
+    }
+
+    pub fn len(&self) -> usize
+        ensures { result ≡ length self.now }
+    {
+        self.items.len()
+    }
+
+    pub fn is_empty(&self) -> bool
+        ensures { result ≡ (length self.now == 0) }
+    {
+        self.items.is_empty()
+    }
+
+    /// The item at index `i`, from 0.
+    pub fn get(&self, i: usize) -> &T
+        requires { i < length self.now }
+        ensures { result.now ≡ slice_index_or self.now i result.now }
+    {
+        &self.items[i]
+    }
+
+    pub fn as_slice(&self) -> &[T]
+        ensures { result.now ≡ self.now }
+    {
+        self.items.as_slice()
+    }
+}
+
+impl<T: Drop> Items<T> {
+    /// Adds an item at the end, or drops it where there is no memory.
+    pub fn push(&mut self, item: T) -> Result<(), AllocError>
+        ensures ok { OnOk result (self.new ≡ self.old ++ item ∷ []) }
+        ensures err { OnErr result (self.new ≡ self.old) }
+    {
+        self.items.push(item)?;
+        Ok(())
+    }
+
+    /// Puts an item in the place of another.
+    pub fn set(&mut self, i: usize, item: T)
+        requires { i < length self.old }
+        ensures { self.new ≡ slice_set self.old i item }
+    {
+        self.items[i] = item;
+    }
+}
+
+impl<T: Duplicate> Items<T> {
+    /// An equal list, on the same allocator.
+    pub fn copy(&self) -> Result<Items<T>, AllocError>
+        ensures { IfOk result (λ c. c ≡ self.now) }
+    {
+        let mut copy = Items::new(*self.items.allocator());
+        for item in self.as_slice() {
+            copy.push(item.duplicate()?)?;
+        }
+        Ok(copy)
+    }
+}

@@ -1,0 +1,3 @@
+//! The marks of rows, the type that definitions and code share.
+
+pub use semantics::mark::Mark;
