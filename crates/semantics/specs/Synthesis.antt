@@ -1,5 +1,5 @@
 -- What a synth job with the absolute error comes to, by its answer. Source: SALSA, simplification within a bound on the error.
-use Rattle.std.specs.Prelude.{◌≡◌, ◌⊎◌, ℕ, ◌≤◌, Bool, false, IsTrue, List, [], ◌∷◌, ◌++◌, codes}
+use Rattle.std.specs.Prelude.{◌≡◌, ◌⊎◌, ℕ, ◌≤◌, Bool, false, ◌&&◌, IsTrue, List, [], ◌∷◌, ◌++◌, codes}
 use Rattle.std.specs.FinMap.{contains_key}
 use Rattle.semantics.specs.Texts.{Bytes}
 use Rattle.semantics.specs.Net.{NetValue, input_count, table_count, literal_count}
@@ -85,3 +85,12 @@ pub record SynthWriteFault (metric : Metric) (bound : ℕ) (input stem : Bytes) 
   pub left :
       (FilesCutShort old new (synth_files exact metric bound stem result) × (says ≡ said))
       ⊎ (FilesWritten old new (synth_files exact metric bound stem result) × TakeFailed said says (synth_report exact metric bound result))
+
+-- No count of faults rose in the call; or the files' count may have risen, but every file that is needed is steady.
+pub record IsQuiet (needed_are_steady : Bool) (old new : FilesTold) (said says : SinkTold) : Type 0 where
+  pub files : (¬ Rose old.faults new.faults) ⊎ IsTrue needed_are_steady
+  pub sink : ¬ Rose said.faults says.faults
+
+-- IN and the files to be written are steady at entry
+abbrev pub synth_needs_steady : FilesTold → Bytes → Bytes → Bool
+synth_needs_steady old input stem = old.steady_read input && needs_steady old stem
