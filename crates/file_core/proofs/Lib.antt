@@ -1,0 +1,6 @@
+pub mod Told
+pub mod Pieces
+pub mod Gathering
+pub mod Entries
+pub mod Memory
+pub mod Sure

@@ -1,0 +1,15 @@
+use Rattle.std.proofs.Common.{[], refl}
+use Rattle.std.proofs.lemmas.Result.{err_from_is_err_and}
+use Rattle.file_core.proofs.Told.{Wrote-nil, Wrote-part, WriteFailed-part}
+use Rattle.file_core.proofs.append.append_all.Goals as goal
+
+pub loop-rest-init : goal.loop-rest-init
+loop-rest-init g c = ([], refl, Wrote-nil _)
+
+pub loop-rest-preserved : goal.loop-rest-preserved
+loop-rest-preserved g c = Wrote-part _ _ _ c.loop-rest.invariant c.in_ok-count.ensures.ok
+
+pub returns-in_err-count-clause-err : goal.returns-in_err-count-clause-err
+returns-in_err-count-clause-err g c =
+    let p = err_from_is_err_and c.from_residual.result c.from_residual.ensures.1 in
+    rw p.1 (WriteFailed-part _ _ c.loop-rest.invariant c.in_err-count.ensures.err)

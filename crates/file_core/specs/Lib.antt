@@ -1,0 +1,9 @@
+pub mod Calls
+pub mod Counting
+pub mod Cursor
+pub mod Entries
+pub mod Memory
+pub mod MemorySink
+pub mod Page
+pub mod Pieces
+pub mod Sure

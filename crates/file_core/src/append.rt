@@ -1,0 +1,46 @@
+//! Whole texts over calls that may take a part.
+ghost use Rattle.std.specs.Prelude.{OnOk, OnErr};
+ghost use Rattle.semantics.specs.Outside.{Wrote, WriteFailed, Took, TakeFailed};
+ghost use Rattle.file_core.specs.Pieces.{joined};
+
+use crate::fault::FileFault;
+use crate::files::Files;
+use crate::sink::Sink;
+
+/// Appends the whole text to the file that is being written. After a fault a first part of it was appended.
+pub fn append_all<F: Files>(files: &mut F, text: &[u8]) -> Result<(), FileFault>
+    ensures ok { OnOk result (Wrote (F.told files.old) (F.told files.new) text.now) }
+    ensures err { OnErr result (WriteFailed (F.told files.old) (F.told files.new) text.now) }
+{
+    let mut rest = text;
+    while !rest.is_empty() {
+        let count = files.append(rest)?;
+        rest = &rest[count..];
+    }
+    Ok(())
+}
+
+/// Puts the whole text. After a fault a first part of it was put.
+pub fn put_all<K: Sink>(say: &mut K, text: &[u8]) -> Result<(), FileFault>
+    ensures ok { OnOk result (Took (K.told say.old) (K.told say.new) text.now) }
+    ensures err { OnErr result (TakeFailed (K.told say.old) (K.told say.new) text.now) }
+{
+    let mut rest = text;
+    while !rest.is_empty() {
+        let count = say.put(rest)?;
+        rest = &rest[count..];
+    }
+    Ok(())
+}
+
+/// Appends the pieces, one after another. After a fault a first part of their text was appended.
+pub fn append_pieces<F: Files>(files: &mut F, pieces: &[&[u8]]) -> Result<(), FileFault>
+    ensures ok { OnOk result (Wrote (F.told files.old) (F.told files.new) (joined pieces.now)) }
+    ensures err { OnErr result
+        (WriteFailed (F.told files.old) (F.told files.new) (joined pieces.now)) }
+{
+    for piece in pieces {
+        append_all(files, piece)?;
+    }
+    Ok(())
+}

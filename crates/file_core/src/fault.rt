@@ -1,0 +1,5 @@
+//! The one fault of the outside.
+
+/// A call on files or on a sink failed. The count of faults tells that it did.
+#[derive(Clone, Copy, Debug, PartialEq, Eq)]
+pub struct FileFault;

@@ -1,0 +1,165 @@
+//! Files in memory, which can be made to fail and to work in small chunks.
+ghost use Rattle.std.specs.Prelude.{◌≡◌, ◌-◌, ◌<◌, ◌≤◌, ◌↔◌, [], Some, None, min, length, take, option_map, IsTrue, IsFalse, IsSome, IsOk, IsErr, IfOk, OnOk, OnErr};
+ghost use Rattle.std.specs.FinMap.{get, contains_key};
+ghost use Rattle.semantics.specs.Outside.{Opened, OpenFailed, Gave, ReadFailed, Created, CreateFailed, Wrote, WriteFailed};
+ghost use Rattle.file_core.specs.Memory.{files_at_first, memory_told, fails_next, faulted, opened, not_opened, left_of, read_on, created, not_created, wrote};
+
+use crate::calls::Calls;
+use crate::cursor::{Cursor, copy_next};
+use crate::fault::FileFault;
+use crate::files::Files;
+use crate::lists::{CallList, FileList};
+use std::alloc::Global;
+use std::marker::Model;
+
+/// Files in memory. A call fails where its number is listed, where a file to be opened is missing, and where nothing
+/// is open for it; `create` and `append` fail for want of memory too.
+#[derive(Drop)]
+pub struct MemFiles {
+    alloc: Global,
+    files: FileList,
+    reading: Option<Cursor>,
+    writing: Option<usize>,
+    calls: Calls,
+    chunk: usize,
+}
+
+impl Model for MemFiles {
+    ghost use Rattle.file_core.specs.Memory.{MemoryValue, memory_code};
+
+    ghost Value = { MemoryValue };
+
+    ghost coded = { memory_code };
+
+    ghost use Rattle.file_core.specs.Cursor.{memory_value, IsMemory};
+
+    ghost view = { λ m. memory_value m.files m.reading m.writing m.calls m.chunk };
+
+    ghost invariant = { λ m. IsMemory m.files m.reading m.writing m.chunk };
+}
+
+impl MemFiles {
+    pub fn new(alloc: Global, files: FileList, failing: CallList, chunk: usize) -> MemFiles
+        requires { 0 < chunk }
+        ensures { result ≡ files_at_first files failing chunk }
+    {
+        MemFiles {
+            alloc,
+            files,
+            reading: None,
+            writing: None,
+            calls: Calls {
+                calls: 0,
+                faults: 0,
+                failing,
+            },
+            chunk,
+        }
+    }
+
+    /// The bytes of the file with this name, where it is held.
+    pub fn bytes(&self, name: &[u8]) -> Option<&[u8]>
+        ensures { option_map (λ r. r.now) result ≡ get self.now.held name.now }
+    {
+        let file = self.files.find(name)?;
+        Some(self.files.bytes_at(file))
+    }
+}
+
+impl Files for MemFiles {
+    ghost told = { memory_told };
+
+    fn open_file(&mut self, name: &[u8]) -> Result<(), FileFault>
+        ensures ok { OnOk result
+            (Opened (memory_told self.old) (memory_told self.new) name.now) }
+        ensures err { OnErr result
+            (OpenFailed (memory_told self.old) (memory_told self.new) name.now) }
+        ensures opens { IsOk result
+            ↔ (IsFalse (fails_next self.old) × IsTrue (contains_key self.old.held name.now)) }
+        ensures after_ok { OnOk result (self.new ≡ opened self.old name.now) }
+        ensures after_err { OnErr result (self.new ≡ not_opened self.old) }
+    {
+        self.reading = None;
+        self.calls.count()?;
+        match self.files.find(name) {
+            Some(file) => {
+                self.reading = Some(Cursor { file, at: 0 });
+                Ok(())
+            }
+            None => Err(self.calls.fault()),
+        }
+    }
+
+    fn read(&mut self, buffer: &mut [u8]) -> Result<usize, FileFault>
+        ensures within { IfOk result (λ n. n ≤ length buffer.new) }
+        ensures ok { IfOk result
+            (λ n. Gave (memory_told self.old) (memory_told self.new) n buffer.new) }
+        ensures err { OnErr result (ReadFailed (memory_told self.old) (memory_told self.new)) }
+        ensures reads { IsOk result ↔ (IsFalse (fails_next self.old) × IsSome self.old.reading) }
+        ensures count { IfOk result
+            (λ n. n
+            ≡ min
+            (min (length buffer.old) self.old.chunk)
+            (left_of self.old.held self.old.reading)) }
+        ensures after_ok { IfOk result (λ n. self.new ≡ read_on self.old n) }
+        ensures after_err { OnErr result (self.new ≡ faulted self.old) }
+    {
+        self.calls.count()?;
+        match self.reading {
+            Some(cursor) => {
+                let content = self.files.bytes_at(cursor.file);
+                let count = copy_next(content, cursor.at, self.chunk, buffer);
+                self.reading = Some(Cursor {
+                    file: cursor.file,
+                    at: cursor.at + count,
+                });
+                Ok(count)
+            }
+            None => Err(self.calls.fault()),
+        }
+    }
+
+    fn create(&mut self, name: &[u8]) -> Result<(), FileFault>
+        ensures ok { OnOk result
+            (Created (memory_told self.old) (memory_told self.new) name.now) }
+        ensures err { OnErr result
+            (CreateFailed (memory_told self.old) (memory_told self.new) name.now) }
+        ensures listed { IsTrue (fails_next self.old) → IsErr result }
+        ensures after_ok { OnOk result (self.new ≡ created self.old name.now) }
+        ensures after_err { OnErr result (self.new ≡ not_created self.old) }
+    {
+        self.writing = None;
+        self.calls.count()?;
+        match self.files.make_empty(self.alloc, name) {
+            Ok(file) => {
+                self.writing = Some(file);
+                Ok(())
+            }
+            Err(_) => Err(self.calls.fault()),
+        }
+    }
+
+    fn append(&mut self, piece: &[u8]) -> Result<usize, FileFault>
+        ensures within { IfOk result (λ n. n ≤ length piece.now) }
+        ensures progress { IfOk result (λ n. 0 < length piece.now → 0 < n) }
+        ensures ok { IfOk result
+            (λ n. Wrote (memory_told self.old) (memory_told self.new) (take n piece.now)) }
+        ensures err { OnErr result
+            (WriteFailed (memory_told self.old) (memory_told self.new) []) }
+        ensures listed { IsTrue (fails_next self.old) → IsErr result }
+        ensures closed { self.old.writing ≡ None → IsErr result }
+        ensures count { IfOk result (λ n. n ≡ min (length piece.now) self.old.chunk) }
+        ensures after_ok { IfOk result (λ n. self.new ≡ wrote self.old (take n piece.now)) }
+        ensures after_err { OnErr result (self.new ≡ faulted self.old) }
+    {
+        self.calls.count()?;
+        let Some(file) = self.writing else {
+            return Err(self.calls.fault());
+        };
+        let count = piece.len().min(self.chunk);
+        match self.files.extend_at(file, &piece[..count]) {
+            Ok(()) => Ok(count),
+            Err(_) => Err(self.calls.fault()),
+        }
+    }
+}

@@ -1,0 +1,118 @@
+//! Files that never fail and keep nothing that is written.
+ghost use Rattle.std.specs.Prelude.{◌≡◌, ◌<◌, ◌≤◌, [], Some, None, length, take, IsOk, IfOk, OnOk, OnErr};
+ghost use Rattle.semantics.specs.Outside.{Opened, OpenFailed, Gave, ReadFailed, Created, CreateFailed, Wrote, WriteFailed};
+ghost use Rattle.file_core.specs.Entries.{held_in};
+ghost use Rattle.file_core.specs.Sure.{sure_told};
+
+use crate::cursor::{Cursor, copy_next};
+use crate::fault::FileFault;
+use crate::files::Files;
+use crate::lists::FileList;
+use std::alloc::Global;
+use std::marker::Model;
+
+/// The given files, which are told until a file is created or a name is opened that was not given. Such a name is
+/// read as an empty file, and what is written is forgotten.
+#[derive(Drop)]
+pub struct SureFiles {
+    files: FileList,
+    told: bool,
+    reading: Option<Cursor>,
+}
+
+impl Model for SureFiles {
+    ghost use Rattle.std.specs.Prelude.{IfSome};
+    ghost use Rattle.file_core.specs.Sure.{SureValue, sure_code, held_where};
+
+    ghost Value = { SureValue };
+
+    ghost coded = { sure_code };
+
+    ghost use Rattle.file_core.specs.Entries.{held_in, IsCounted};
+    ghost use Rattle.file_core.specs.Cursor.{place_of};
+
+    ghost view = { λ s. record {
+      held = held_where s.told (held_in s.files);
+      reading = place_of s.files s.reading;
+    } };
+
+    ghost invariant = { λ s. IfSome s.reading (λ c. IsCounted s.files c.file) };
+}
+
+impl SureFiles {
+    pub fn new(alloc: Global, files: FileList) -> SureFiles
+        ensures { result ≡ record { held = Some (held_in files); reading = None } }
+    {
+        SureFiles {
+            files,
+            told: true,
+            reading: None,
+        }
+    }
+}
+
+impl Files for SureFiles {
+    ghost told = { sure_told };
+
+    fn open_file(&mut self, name: &[u8]) -> Result<(), FileFault>
+        ensures ok { OnOk result (Opened (sure_told self.old) (sure_told self.new) name.now) }
+        ensures err { OnErr result
+            (OpenFailed (sure_told self.old) (sure_told self.new) name.now) }
+        ensures sure { IsOk result }
+    {
+        match self.files.find(name) {
+            Some(file) => self.reading = Some(Cursor { file, at: 0 }),
+            None => {
+                self.reading = None;
+                self.told = false;
+            }
+        }
+        Ok(())
+    }
+
+    fn read(&mut self, buffer: &mut [u8]) -> Result<usize, FileFault>
+        ensures within { IfOk result (λ n. n ≤ length buffer.new) }
+        ensures ok { IfOk result
+            (λ n. Gave (sure_told self.old) (sure_told self.new) n buffer.new) }
+        ensures err { OnErr result (ReadFailed (sure_told self.old) (sure_told self.new)) }
+        ensures sure { IsOk result }
+    {
+        match self.reading {
+            Some(cursor) => {
+                let limit = buffer.len();
+                let content = self.files.bytes_at(cursor.file);
+                let count = copy_next(content, cursor.at, limit, buffer);
+                self.reading = Some(Cursor {
+                    file: cursor.file,
+                    at: cursor.at + count,
+                });
+                Ok(count)
+            }
+            None => Ok(0),
+        }
+    }
+
+    fn create(&mut self, name: &[u8]) -> Result<(), FileFault>
+        ensures ok { OnOk result (Created (sure_told self.old) (sure_told self.new) name.now) }
+        ensures err { OnErr result
+            (CreateFailed (sure_told self.old) (sure_told self.new) name.now) }
+        ensures sure { IsOk result }
+        ensures untold { self.new ≡ record self.old { held = None } }
+    {
+        self.told = false;
+        Ok(())
+    }
+
+    fn append(&mut self, piece: &[u8]) -> Result<usize, FileFault>
+        ensures within { IfOk result (λ n. n ≤ length piece.now) }
+        ensures progress { IfOk result (λ n. 0 < length piece.now → 0 < n) }
+        ensures ok { IfOk result
+            (λ n. Wrote (sure_told self.old) (sure_told self.new) (take n piece.now)) }
+        ensures err { OnErr result (WriteFailed (sure_told self.old) (sure_told self.new) []) }
+        ensures sure { IsOk result }
+        ensures whole { IfOk result (λ n. n ≡ length piece.now) }
+        ensures unchanged { self.new ≡ self.old }
+    {
+        Ok(piece.len())
+    }
+}
