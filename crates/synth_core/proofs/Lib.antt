@@ -1,0 +1,4 @@
+pub mod WordLists
+pub mod FirstGreatest
+pub mod MoveLists
+pub mod Members

@@ -1,0 +1,15 @@
+use Rattle.std.proofs.Common.{◌≡◌}
+use Rattle.semantics.specs.Net.{input_count}
+use Rattle.semantics.specs.Error.{net_error}
+use Rattle.semantics.specs.Vectors.{bits_of}
+use Rattle.joint_net.specs.Metric.{meaning}
+use Rattle.synth_core.specs.Widths.{widths_of}
+use Rattle.synth_core.proofs.FirstGreatest.{IsFirstGreatest}
+use Rattle.synth_core.proofs.worst.find_worst.Given as goal
+
+-- the greatest error of the vectors so far
+abbrev pub invariant-loop-j : goal.invariant-loop-j
+invariant-loop-j l = record {
+  greatest : IsFirstGreatest (λ k. net_error (meaning l.metric) l.exact l.approx (bits_of (input_count l.exact) k)) l.j l.at l.maximum;
+  room : l.scratch ≡ widths_of l.approx;
+}
