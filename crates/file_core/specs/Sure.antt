@@ -1,27 +1,32 @@
 -- What files and a sink tell that never fail and keep nothing.
-use Rattle.std.specs.Prelude.{Bool, true, Option, Some, None, refl, if◌then◌else◌}
-use Rattle.std.specs.Coded.{Coded, code_by, coded×, coded_option}
+use Rattle.std.specs.Prelude.{◌≡◌, ℕ, Bool, true, false, Option, Some, None, refl, take, drop, if◌then◌else◌}
+use Rattle.std.specs.Coded.{Coded, code_by, coded×, coded_bool, coded_option}
 use Rattle.std.specs.FinMap as map
-use Rattle.semantics.specs.Outside.{Held, Place, FilesTold, SinkTold}
-use Rattle.file_core.specs.Memory.{bytes_code, place_code}
+use Rattle.semantics.specs.Texts.{Bytes}
+use Rattle.semantics.specs.Outside.{Held, Place, FilesTold, SinkTold, bytes_of}
+use Rattle.file_core.specs.Memory.{bytes_code, place_code, moved}
 
--- the files where they are told, and the place that is read
+-- the given files, whether they are told, and the place that is read
 pub record SureValue : Type 0 where
-  pub held : Option Held
+  pub given : Held
+  pub told : Bool
   pub reading : Option Place
 
 abbrev pub sure_code : Coded SureValue
 sure_code =
-    code_by (Option Held × Option Place)
-    (coded× (coded_option (map.code bytes_code bytes_code)) (coded_option place_code))
-    (λ s. (s.held, s.reading))
-    (λ p. record { held = p.0; reading = p.1 })
+    code_by (Held × (Bool × Option Place))
+    (coded× (map.code bytes_code bytes_code) (coded× coded_bool (coded_option place_code)))
+    (λ s. (s.given, (s.told, s.reading)))
+    (λ p. record { given = p.0; told = p.1.0; reading = p.1.1 })
     (λ _. refl)
+
+abbrev pub held_where : Bool → Held → Option Held
+held_where told held = if told then Some held else None
 
 -- no fault can come, so the count stays 0, every name is steady and both calm meanings are yes
 abbrev pub sure_told : SureValue → FilesTold
 sure_told s = record {
-  held = s.held;
+  held = held_where s.told s.given;
   reading = s.reading;
   writing = None;
   faults = 0;
@@ -31,8 +36,21 @@ sure_told s = record {
   calm_write = true;
 }
 
-abbrev pub held_where : Bool → Held → Option Held
-held_where told held = if told then Some held else None
+-- after `open_file` of a given name
+abbrev pub found : SureValue → Bytes → SureValue
+found s name = record s { reading = Some (record { name = name; at = 0 }) }
+
+-- after `open_file` of another name: nothing is read, as from an empty file, and nothing is told
+abbrev pub not_found : SureValue → SureValue
+not_found s = record s { told = false; reading = None }
+
+-- after `read` gave n bytes
+abbrev pub went_on : SureValue → ℕ → SureValue
+went_on s n = record s { reading = moved n s.reading }
+
+-- the buffer begins with the n bytes of the given file from the place on that is read
+abbrev pub IsNextOf : SureValue → ℕ → Bytes → Type 0
+IsNextOf s n buffer = (place : Place) → s.reading ≡ Some place → take n buffer ≡ take n (drop place.at (bytes_of s.given place.name))
 
 abbrev pub sure_sink_told : SinkTold
 sure_sink_told = record { put_bytes = None; faults = 0 }

@@ -1,8 +1,10 @@
 //! Files that never fail and keep nothing that is written.
-ghost use Rattle.std.specs.Prelude.{◌≡◌, ◌<◌, ◌≤◌, [], Some, None, length, take, IsOk, IfOk, OnOk, OnErr};
+ghost use Rattle.std.specs.Prelude.{◌≡◌, ◌<◌, ◌≤◌, [], None, true, false, length, min, take, IsTrue, IsFalse, IsOk, IfOk, OnOk, OnErr};
+ghost use Rattle.std.specs.FinMap.{contains_key};
 ghost use Rattle.semantics.specs.Outside.{Opened, OpenFailed, Gave, ReadFailed, Created, CreateFailed, Wrote, WriteFailed};
 ghost use Rattle.file_core.specs.Entries.{held_in};
-ghost use Rattle.file_core.specs.Sure.{sure_told};
+ghost use Rattle.file_core.specs.Memory.{left_of};
+ghost use Rattle.file_core.specs.Sure.{sure_told, found, not_found, went_on, IsNextOf};
 
 use crate::cursor::{Cursor, copy_next};
 use crate::fault::FileFault;
@@ -22,7 +24,7 @@ pub struct SureFiles {
 
 impl Model for SureFiles {
     ghost use Rattle.std.specs.Prelude.{IfSome};
-    ghost use Rattle.file_core.specs.Sure.{SureValue, sure_code, held_where};
+    ghost use Rattle.file_core.specs.Sure.{SureValue, sure_code};
 
     ghost Value = { SureValue };
 
@@ -32,7 +34,8 @@ impl Model for SureFiles {
     ghost use Rattle.file_core.specs.Cursor.{place_of};
 
     ghost view = { λ s. record {
-      held = held_where s.told (held_in s.files);
+      given = held_in s.files;
+      told = s.told;
       reading = place_of s.files s.reading;
     } };
 
@@ -41,7 +44,7 @@ impl Model for SureFiles {
 
 impl SureFiles {
     pub fn new(alloc: Global, files: FileList) -> SureFiles
-        ensures { result ≡ record { held = Some (held_in files); reading = None } }
+        ensures { result ≡ record { given = held_in files; told = true; reading = None } }
     {
         SureFiles {
             files,
@@ -59,6 +62,10 @@ impl Files for SureFiles {
         ensures err { OnErr result
             (OpenFailed (sure_told self.old) (sure_told self.new) name.now) }
         ensures sure { IsOk result }
+        ensures given { IsTrue (contains_key self.old.given name.now)
+            → self.new ≡ found self.old name.now }
+        ensures not_given { IsFalse (contains_key self.old.given name.now)
+            → self.new ≡ not_found self.old }
     {
         match self.files.find(name) {
             Some(file) => self.reading = Some(Cursor { file, at: 0 }),
@@ -76,6 +83,10 @@ impl Files for SureFiles {
             (λ n. Gave (sure_told self.old) (sure_told self.new) n buffer.new) }
         ensures err { OnErr result (ReadFailed (sure_told self.old) (sure_told self.new)) }
         ensures sure { IsOk result }
+        ensures count { IfOk result
+            (λ n. n ≡ min (length buffer.old) (left_of self.old.given self.old.reading)) }
+        ensures bytes { IfOk result (λ n. IsNextOf self.old n buffer.new) }
+        ensures place { IfOk result (λ n. self.new ≡ went_on self.old n) }
     {
         match self.reading {
             Some(cursor) => {
@@ -97,7 +108,7 @@ impl Files for SureFiles {
         ensures err { OnErr result
             (CreateFailed (sure_told self.old) (sure_told self.new) name.now) }
         ensures sure { IsOk result }
-        ensures untold { self.new ≡ record self.old { held = None } }
+        ensures untold { self.new ≡ record self.old { told = false } }
     {
         self.told = false;
         Ok(())

@@ -6,3 +6,6 @@ pub mod TextLines
 pub mod PlainLines
 pub mod PlainTexts
 pub mod Chains
+pub mod ChainEnds
+pub mod HeldFiles
+pub mod SynthFiles

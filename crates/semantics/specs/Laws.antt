@@ -1,14 +1,20 @@
 -- The laws about the definitions, each the contract of a function without parameters.
-use Rattle.std.specs.Prelude.{◌≡◌, ℕ, ◌^◌, ◌<◌, ◌≤◌, Bool, true, List, length, slice_get, Some, decimal, All}
+use Rattle.std.specs.Prelude.{◌≡◌, ◌≢◌, ℕ, ◌^◌, ◌<◌, ◌≤◌, Bool, true, List, ◌∷◌, ◌++◌, length, slice_get, Some, decimal, codes, All}
+use Rattle.std.specs.List.{AllByRecursion}
+use Rattle.std.specs.FinMap.{get}
 use Rattle.semantics.specs.Texts.{Bytes}
-use Rattle.semantics.specs.Net.{TableValue, NetValue, table_count, literal_count, IsAcyclic}
+use Rattle.semantics.specs.Net.{TableValue, NetValue, input_count, table_count, literal_count, IsAcyclic}
 use Rattle.semantics.specs.Value.{HasOneValue}
 use Rattle.semantics.specs.Error.{Metric, number_of, IsWithin}
 use Rattle.semantics.specs.Vectors.{bits_of, all_vectors}
 use Rattle.semantics.specs.Job.{digits_number, is_decimal}
-use Rattle.semantics.specs.Blif.{IsPlainFor}
+use Rattle.semantics.specs.Blif.{blif_text, IsPlainFor}
+use Rattle.semantics.specs.Report.{vectors_text}
+use Rattle.semantics.specs.Outside.{Held}
+use Rattle.semantics.specs.Bundle.{File, with_files}
 use Rattle.semantics.specs.PlainReading.{net_of_text}
-use Rattle.semantics.specs.ConstantChain.{constant_moves, made_constant, IsInConstantChain}
+use Rattle.semantics.specs.ConstantChain.{constant_moves, made_constant, IsInConstantChain, IsConstantChainEnd}
+use Rattle.semantics.specs.Synthesis.{Simplified, synth_report, synth_files}
 
 -- an acyclic list of tables gives each signal one value
 abbrev pub ValueLaw : Type 0
@@ -42,8 +48,30 @@ pub record IsReducedFrom (exact N : NetValue) : Type 0 where
   pub inputs : N.inputs ≡ exact.inputs
   pub outputs : N.outputs ≡ exact.outputs
 
--- each move lowers the number of literals, so the chain ends; each member is reduced from the first net, and keeps the bound
+-- each move lowers the number of literals, so the chain ends; each member is reduced from the first net, and keeps the bound;
+-- the chain has one end
 pub record ConstantChainLaw : Type 0 where
   pub falls : (N : NetValue) → All (λ move. literal_count (made_constant N move) < literal_count N) (constant_moves N)
   pub reduces : (metric : Metric) (exact : NetValue) (bound : ℕ) (N : NetValue) → IsInConstantChain metric exact bound N → IsReducedFrom exact N
   pub within : (metric : Metric) (exact : NetValue) (bound : ℕ) (N : NetValue) → IsInConstantChain metric exact bound N → IsWithin metric exact bound N
+  pub only : (metric : Metric) (exact : NetValue) (bound : ℕ) (N M : NetValue) → IsConstantChainEnd metric exact bound N → IsConstantChainEnd metric exact bound M → N ≡ M
+
+-- once files were written one after another, each is held with its text unless a later one has its name, and every other
+-- name is held as before
+pub record WrittenFilesLaw : Type 0 where
+  pub holds : (held : Held) (before after : List File) (file : File) → AllByRecursion (λ f. f.name ≢ file.name) after
+      → get (with_files held (before ++ file ∷ after)) file.name ≡ Some file.text
+  pub others : (held : Held) (files : List File) (name : Bytes) → AllByRecursion (λ f. f.name ≢ name) files
+      → get (with_files held files) name ≡ get held name
+
+-- once the files of a synth job were written, each of the three is held with its text, and every other name is held as before
+pub record SynthFilesLaw : Type 0 where
+  pub net : (held : Held) (exact : NetValue) (metric : Metric) (bound : ℕ) (stem : Bytes) (s : Simplified)
+      → get (with_files held (synth_files exact metric bound stem s)) (stem ++ codes ".blif") ≡ Some (blif_text s.net)
+  pub witness : (held : Held) (exact : NetValue) (metric : Metric) (bound : ℕ) (stem : Bytes) (s : Simplified)
+      → get (with_files held (synth_files exact metric bound stem s)) (stem ++ codes ".wit") ≡ Some (vectors_text s.witness (all_vectors (input_count exact)))
+  pub report : (held : Held) (exact : NetValue) (metric : Metric) (bound : ℕ) (stem : Bytes) (s : Simplified)
+      → get (with_files held (synth_files exact metric bound stem s)) (stem ++ codes ".txt") ≡ Some (synth_report exact metric bound s)
+  pub others : (held : Held) (exact : NetValue) (metric : Metric) (bound : ℕ) (stem : Bytes) (s : Simplified) (name : Bytes)
+      → name ≢ stem ++ codes ".blif" → name ≢ stem ++ codes ".wit" → name ≢ stem ++ codes ".txt"
+      → get (with_files held (synth_files exact metric bound stem s)) name ≡ get held name

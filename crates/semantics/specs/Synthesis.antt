@@ -1,5 +1,5 @@
 -- What a synth job with the absolute error comes to, by its answer. Source: SALSA, simplification within a bound on the error.
-use Rattle.std.specs.Prelude.{◌≡◌, ◌⊎◌, ℕ, ◌≤◌, Bool, false, ◌&&◌, IsTrue, List, [], ◌∷◌, ◌++◌, codes}
+use Rattle.std.specs.Prelude.{◌≡◌, ◌⊎◌, ℕ, ◌≤◌, Bool, false, ◌&&◌, IsTrue, Some, List, [], ◌∷◌, ◌++◌, codes}
 use Rattle.std.specs.FinMap.{contains_key}
 use Rattle.semantics.specs.Texts.{Bytes}
 use Rattle.semantics.specs.Net.{NetValue, input_count, table_count, literal_count}
@@ -8,7 +8,7 @@ use Rattle.semantics.specs.Vectors.{all_vectors, IsFirstGreatestAt}
 use Rattle.semantics.specs.Blif.{blif_text, IsPlainFor, IsPlain}
 use Rattle.semantics.specs.Report.{report_of, report_text, vectors_text}
 use Rattle.semantics.specs.ConstantChain.{IsConstantChainEnd}
-use Rattle.semantics.specs.Outside.{FilesTold, SinkTold, Rose, WhereTold, Took, TakeFailed, bytes_of}
+use Rattle.semantics.specs.Outside.{Held, FilesTold, SinkTold, Rose, WhereTold, Took, TakeFailed, bytes_of}
 use Rattle.semantics.specs.Bundle.{File, FilesWritten, FilesCutShort, are_steady}
 
 -- a simplified net, its exact maximum error, and an input that attains it
@@ -47,14 +47,20 @@ needs_steady told stem = are_steady told (
     ∷ record { name = stem ++ codes ".txt"; text = [] }
     ∷ [])
 
+-- P of the files at entry, where they are told and hold the name
+abbrev pub WhereHeld : FilesTold → Bytes → (Held → Type 0) → Type 0
+WhereHeld old name P = (a : Held) → old.held ≡ Some a → IsTrue (contains_key a name) → P a
+
 -- IN was read and is plain for the exact net, and this is what it is simplified to
 pub record IsSimplifiedInput (metric : Metric) (bound : ℕ) (input : Bytes) (old new : FilesTold) (exact : NetValue) (s : Simplified) : Type 0 where
   pub plain : WhereTold old new (λ a b. IsPlainFor (bytes_of a input) exact)
+  pub plain_at_entry : WhereHeld old input (λ a. IsPlainFor (bytes_of a input) exact)
   pub simplified : IsSimplifiedFrom exact metric bound s
 
--- no file changed, and the sink tells what it told
-pub record IsUntouched (old new : FilesTold) (said says : SinkTold) : Type 0 where
+-- no file changed, what was told of a held IN is told still, and the sink tells what it told
+pub record IsUntouched (input : Bytes) (old new : FilesTold) (said says : SinkTold) : Type 0 where
   pub files : WhereTold old new (λ a b. b ≡ a)
+  pub still_told : WhereHeld old input (λ a. new.held ≡ Some a)
   pub sink : says ≡ said
 
 -- done: the files were written, and then the report was put
@@ -67,13 +73,14 @@ pub record SynthDone (metric : Metric) (bound : ℕ) (input stem : Bytes) (old n
 
 -- IN is held and is not plain
 pub record SynthNotPlain (input : Bytes) (old new : FilesTold) (said says : SinkTold) : Type 0 where
-  pub untouched : IsUntouched old new said says
+  pub untouched : IsUntouched input old new said says
   pub held : WhereTold old new (λ a b. IsTrue (contains_key a input))
   pub not_plain : WhereTold old new (λ a b. ¬ IsPlain (bytes_of a input))
+  pub not_plain_at_entry : WhereHeld old input (λ a. ¬ IsPlain (bytes_of a input))
 
 -- a fault came while IN was read, and IN is not steady
 pub record SynthReadFault (input : Bytes) (old new : FilesTold) (said says : SinkTold) : Type 0 where
-  pub untouched : IsUntouched old new said says
+  pub untouched : IsUntouched input old new said says
   pub rose : Rose old.faults new.faults
   pub not_steady : old.steady_read input ≡ false
 
