@@ -1,0 +1,10 @@
+pub mod Parts
+pub mod NetTexts
+pub mod Traversals
+pub mod Named
+pub mod Steps
+pub mod Drafts
+pub mod Inverses
+pub mod Written
+pub mod PlainNets
+pub mod WholeTexts

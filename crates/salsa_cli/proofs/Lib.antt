@@ -1,0 +1,6 @@
+pub mod Turns
+pub mod FilesInOrder
+pub mod Plainness
+pub mod SmallNets
+pub mod SynthAnswers
+pub mod UntoldFaults

@@ -1,0 +1,37 @@
+//! `salsa`: simplifies a netlist within a bound on its error. The program itself is [`run::run`].
+#![tactic(auto)]
+
+mod arguments;
+mod decimal;
+mod delivery;
+mod input;
+mod reading;
+mod real_files;
+mod real_sink;
+mod report;
+pub mod run;
+mod status;
+mod synthesis;
+#[cfg(test)]
+mod tests;
+mod words;
+
+use real_files::RealFiles;
+use real_sink::RealSink;
+use status::Status;
+use std::process::ExitCode;
+
+fn main(rt: HostRuntime) -> ExitCode {
+    let status = match arguments::words(&rt) {
+        Ok(words) => {
+            let mut files = RealFiles::new(&rt);
+            let mut say = RealSink::new(&rt);
+            run::run(rt.alloc(), &words, &mut files, &mut say).status
+        }
+        Err(_) => Status::NoMemory,
+    };
+    if let Some(line) = status.line() {
+        let _ = eprintln!(rt; "salsa: {line}");
+    }
+    ExitCode::from(status.exit())
+}

@@ -1,0 +1,86 @@
+//! The top call: what the program does with its words, its files and its standard output.
+ghost use Rattle.std.specs.Prelude.{◌≡◌, ◌≢◌, ◌↔◌, ◌⊎◌, ℕ, true, IsTrue, None, Some};
+ghost use Rattle.std.specs.FinMap.{contains_key};
+ghost use Rattle.semantics.specs.Blif.{IsPlain};
+ghost use Rattle.semantics.specs.Outside.{bytes_of};
+ghost use Rattle.semantics.specs.Texts.{Bytes};
+ghost use Rattle.semantics.specs.Error.{abs};
+ghost use Rattle.semantics.specs.Job.{Job, synth, job_of};
+ghost use Rattle.semantics.specs.Synthesis.{IsQuiet, synth_needs_steady};
+ghost use Rattle.salsa_cli.specs.Run.{IsLaterJob, SynthAnswer};
+
+use crate::status::{Outcome, Status};
+use crate::synthesis::synthesize;
+use crate::words::{Command, MetricWord, command_named};
+use file_core::files::Files;
+use file_core::sink::Sink;
+use file_core::sure_files::SureFiles;
+use file_core::sure_sink::SureSink;
+use file_core::word::Word;
+use std::alloc::Global;
+
+/// Carries out the job that the words name.
+pub fn run<F: Files, K: Sink>(alloc: Global, words: &[Word], files: &mut F, say: &mut K) -> Outcome
+    // Words that are no job, and only those, are `Usage`, and then nothing is touched.
+    ensures usage { (result.status ≡ Status.Usage) ↔ (job_of words.now ≡ None) }
+    ensures usage_touches_nothing { result.status ≡ Status.Usage → (files.new ≡ files.old) × (say.new ≡ say.old) }
+
+    // A job of another kind than a synthesis with the absolute error is `NotYet`, and then nothing is touched.
+    ensures later_job { (job : Job) → job_of words.now ≡ Some job → IsLaterJob job
+        → (result.status ≡ Status.NotYet) × (files.new ≡ files.old) × (say.new ≡ say.old) }
+
+    // What each answer to a synthesis with the absolute error says.
+    ensures synthesis { (bound conflicts : ℕ) (input stem : Bytes)
+        → job_of words.now ≡ Some (synth abs bound conflicts input stem)
+        → SynthAnswer bound input stem (F.told files.old) (F.told files.new) (K.told say.old) (K.told say.new) result.status }
+
+    // A quiet call ends, unless IN is of a later kind or memory is wanting.
+    ensures complete { (bound conflicts : ℕ) (input stem : Bytes)
+        → job_of words.now ≡ Some (synth abs bound conflicts input stem)
+        → IsQuiet
+        (synth_needs_steady (F.told files.old) input stem)
+        (F.told files.old)
+        (F.told files.new)
+        (K.told say.old)
+        (K.told say.new)
+        → result.status ≢ Status.NotYet
+        → (result.status ≡ Status.Done) ⊎ (result.status ≡ Status.NoMemory) }
+{
+    let status = match command_named(words) {
+        None => Status::Usage,
+        Some(
+            Command::Synth {
+                metric: MetricWord::Abs,
+                bound,
+                input,
+                stem,
+                ..
+            },
+        ) => synthesize(alloc, bound, input, stem, files, say),
+        Some(_) => Status::NotYet,
+    };
+    Outcome { status }
+}
+
+/// A run over files and a sink that never fail: no fault is answered, and a synthesis of a plain netlist ends.
+pub fn run_surely(
+    alloc: Global,
+    words: &[Word],
+    files: &mut SureFiles,
+    say: &mut SureSink,
+) -> Outcome
+    ensures read { result.status ≢ Status.ReadFault }
+    ensures write { result.status ≢ Status.WriteFault }
+    ensures ends { (bound conflicts : ℕ) (input stem : Bytes)
+        → job_of words.now ≡ Some (synth abs bound conflicts input stem)
+        → result.status ≢ Status.NotYet
+        → (result.status ≡ Status.Done) ⊎ (result.status ≡ Status.NoMemory) }
+    ensures plain_ends { (bound conflicts : ℕ) (input stem : Bytes)
+        → job_of words.now ≡ Some (synth abs bound conflicts input stem)
+        → files.old.told ≡ true
+        → IsTrue (contains_key files.old.given input)
+        → IsPlain (bytes_of files.old.given input)
+        → (result.status ≡ Status.Done) ⊎ (result.status ≡ Status.NoMemory) }
+{
+    run(alloc, words, files, say)
+}

@@ -1,0 +1,88 @@
+//! A synth job: IN is read, everything is computed, and only then a file is touched.
+ghost use Rattle.std.specs.Prelude.{◌≡◌, ◌++◌, ◌≤◌, codes, IfOk};
+ghost use Rattle.semantics.specs.Net.{input_count, IsSmall};
+ghost use Rattle.semantics.specs.Error.{abs};
+ghost use Rattle.salsa_cli.specs.Prepared.{IsPrepared};
+ghost use Rattle.salsa_cli.specs.Run.{SynthAnswer};
+
+use crate::delivery::{Prepared, deliver};
+use crate::input::{NoNet, read_net};
+use crate::report::{Counts, report, vectors};
+use crate::status::Status;
+use file_core::files::Files;
+use file_core::sink::Sink;
+use file_core::word::Word;
+use joint_net::metric::Metric;
+use net_core::net::Net;
+use std::alloc::{AllocError, Global};
+use synth_core::simplify::simplify;
+
+/// The name of a file of the bundle.
+fn bundle_name(alloc: Global, stem: &[u8], ending: &[u8]) -> Result<Word, AllocError>
+    ensures { IfOk result (λ w. w ≡ stem.now ++ ending.now) }
+{
+    let mut name = Vec::from_slice(alloc, stem)?;
+    name.extend_from_slice(ending)?;
+    Word::new(alloc, &name)
+}
+
+/// The files and the report of the simplification of a net.
+fn prepare(alloc: Global, exact: &Net, bound: u128, stem: &[u8]) -> Result<Prepared, AllocError>
+    requires few_inputs { input_count exact.now ≤ 8 }
+    requires small { IsSmall exact.now }
+    ensures { IfOk result (IsPrepared exact.now abs bound stem.now) }
+{
+    let old_tables = u64::from(exact.tables());
+    let simple = simplify(alloc, exact, Metric::Abs, bound)?;
+    let witness = simple.witness.as_slice();
+    let counts = Counts {
+        old_tables,
+        new_tables: u64::from(simple.net.tables()),
+        old_literals: exact.literals(),
+        new_literals: simple.net.literals(),
+    };
+    let report = report(alloc, bound, simple.maximum, witness, counts)?;
+    let vectors = vectors(alloc, witness)?;
+    Ok(Prepared {
+        netlist_name: bundle_name(alloc, stem, b".blif")?,
+        net: simple.net,
+        vectors_name: bundle_name(alloc, stem, b".wit")?,
+        vectors,
+        report_name: bundle_name(alloc, stem, b".txt")?,
+        report,
+    })
+}
+
+/// Carries out a synth job with the absolute error.
+pub fn synthesize<F: Files, K: Sink>(
+    alloc: Global,
+    bound: u128,
+    input: &[u8],
+    stem: &[u8],
+    files: &mut F,
+    say: &mut K,
+) -> Status
+    ensures { SynthAnswer
+        bound
+        input.now
+        stem.now
+        (F.told files.old)
+        (F.told files.new)
+        (K.told say.old)
+        (K.told say.new)
+        result }
+{
+    let exact = match read_net(alloc, files, input) {
+        Ok(net) => net,
+        Err(NoNet::NotPlain) => return Status::NotYet,
+        Err(NoNet::Fault) => return Status::ReadFault,
+        Err(NoNet::OutOfMemory) => return Status::NoMemory,
+    };
+    let Ok(bundle) = prepare(alloc, &exact, bound, stem) else {
+        return Status::NoMemory;
+    };
+    match deliver(&bundle, files, say) {
+        Ok(()) => Status::Done,
+        Err(_) => Status::WriteFault,
+    }
+}

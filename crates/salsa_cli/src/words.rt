@@ -1,0 +1,155 @@
+//! The words of the command line, and the job that they name.
+ghost use Rattle.std.specs.Prelude.{◌≡◌, ◌<◌, ◌^◌, ◌≤◌, ◌++◌, option_map, bytes_eq};
+ghost use Rattle.semantics.specs.Job.{job_of, synth_of, check_of, demo_of, metric_of, bound_of, conflicts_of, are_file_words, is_bundle_name};
+ghost use Rattle.salsa_cli.specs.Words.{metric_meaning, job_meaning};
+
+use crate::decimal::number_from_to;
+use file_core::word::Word;
+
+/// The error that a job names.
+#[derive(Clone, Copy, Debug, PartialEq, Eq)]
+pub enum MetricWord {
+    Abs,
+    Rel,
+    Ham,
+}
+
+/// A job with its values. `input` and `stem` are names of files.
+#[derive(Clone, Copy, Debug)]
+pub enum Command<'a> {
+    Synth {
+        metric: MetricWord,
+        bound: u128,
+        conflicts: u32,
+        input: &'a [u8],
+        stem: &'a [u8],
+    },
+    Check {
+        metric: MetricWord,
+        bound: u128,
+        input: &'a [u8],
+        stem: &'a [u8],
+    },
+    Demo {
+        width: u32,
+        bound: u128,
+        conflicts: u32,
+    },
+}
+
+const LARGEST_BOUND: u128 = 19342813113834066795298815;
+
+fn metric(word: &[u8]) -> Option<MetricWord>
+    ensures { option_map metric_meaning result ≡ metric_of word.now }
+{
+    if word == b"abs".as_slice() {
+        Some(MetricWord::Abs)
+    } else if word == b"rel".as_slice() {
+        Some(MetricWord::Rel)
+    } else if word == b"ham".as_slice() {
+        Some(MetricWord::Ham)
+    } else {
+        None
+    }
+}
+
+fn is_stem_with(stem: &[u8], ending: &[u8], name: &[u8]) -> bool
+    ensures { result ≡ bytes_eq name.now (stem.now ++ ending.now) }
+{
+    name.starts_with(stem) && &name[stem.len()..] == ending
+}
+
+/// Whether the name is one of the five of a bundle.
+fn is_bundle_name(stem: &[u8], name: &[u8]) -> bool
+    ensures { result ≡ is_bundle_name stem.now name.now }
+{
+    is_stem_with(stem, b".blif", name)
+        || is_stem_with(stem, b".cnf", name)
+        || is_stem_with(stem, b".lrat", name)
+        || is_stem_with(stem, b".wit", name)
+        || is_stem_with(stem, b".txt", name)
+}
+
+fn are_file_words(input: &[u8], stem: &[u8]) -> bool
+    ensures { result ≡ are_file_words input.now stem.now }
+{
+    !input.is_empty() && !stem.is_empty() && !is_bundle_name(stem, input)
+}
+
+fn synth(words: &[Word]) -> Option<Command<'_>>
+    ensures { option_map job_meaning result ≡ synth_of words.now }
+{
+    let [metric_word, bound_word, conflicts_word, input, stem] = words else {
+        return None;
+    };
+    let metric = metric(metric_word.bytes())?;
+    let bound = number_from_to(bound_word.bytes(), 0, LARGEST_BOUND)?;
+    let conflicts = number_from_to(conflicts_word.bytes(), 1, 100_000)?;
+    let input = input.bytes();
+    let stem = stem.bytes();
+    if !are_file_words(input, stem) {
+        return None;
+    }
+    Some(Command::Synth {
+        metric,
+        bound,
+        conflicts: conflicts as u32,
+        input,
+        stem,
+    })
+}
+
+fn check(words: &[Word]) -> Option<Command<'_>>
+    ensures { option_map job_meaning result ≡ check_of words.now }
+{
+    let [metric_word, bound_word, input, stem] = words else {
+        return None;
+    };
+    let metric = metric(metric_word.bytes())?;
+    let bound = number_from_to(bound_word.bytes(), 0, LARGEST_BOUND)?;
+    let input = input.bytes();
+    let stem = stem.bytes();
+    if !are_file_words(input, stem) {
+        return None;
+    }
+    Some(Command::Check {
+        metric,
+        bound,
+        input,
+        stem,
+    })
+}
+
+fn demo(words: &[Word]) -> Option<Command<'_>>
+    ensures { option_map job_meaning result ≡ demo_of words.now }
+{
+    let [width_word, bound_word, conflicts_word] = words else {
+        return None;
+    };
+    let width = number_from_to(width_word.bytes(), 1, 32)?;
+    let bound = number_from_to(bound_word.bytes(), 0, LARGEST_BOUND)?;
+    let conflicts = number_from_to(conflicts_word.bytes(), 1, 100_000)?;
+    Some(Command::Demo {
+        width: width as u32,
+        bound,
+        conflicts: conflicts as u32,
+    })
+}
+
+/// The job that the words name, if they name one. It takes no memory.
+#[tactic(auto, unfolding(semantics::specs::Job::job_of))]
+pub fn command_named(words: &[Word]) -> Option<Command<'_>>
+    ensures { option_map job_meaning result ≡ job_of words.now }
+{
+    let (command, rest) = words.split_first()?;
+    let command = command.bytes();
+    if command == b"synth".as_slice() {
+        synth(rest)
+    } else if command == b"check".as_slice() {
+        check(rest)
+    } else if command == b"demo".as_slice() {
+        demo(rest)
+    } else {
+        None
+    }
+}
