@@ -7,6 +7,7 @@ ghost use Rattle.semantics.specs.Texts.{Bytes};
 ghost use Rattle.semantics.specs.Error.{abs};
 ghost use Rattle.semantics.specs.Job.{Job, synth, job_of};
 ghost use Rattle.semantics.specs.Synthesis.{IsQuiet, synth_needs_steady};
+ghost use Rattle.file_core.specs.Sure.{sure_told, sure_sink_told};
 ghost use Rattle.salsa_cli.specs.Run.{IsLaterJob, SynthAnswer};
 
 use crate::status::{Outcome, Status};
@@ -69,6 +70,11 @@ pub fn run_surely(
     files: &mut SureFiles,
     say: &mut SureSink,
 ) -> Outcome
+    ensures usage { (result.status ≡ Status.Usage) ↔ (job_of words.now ≡ None) }
+    ensures later_job { (job : Job) → job_of words.now ≡ Some job → IsLaterJob job → result.status ≡ Status.NotYet }
+    ensures synthesis { (bound conflicts : ℕ) (input stem : Bytes)
+        → job_of words.now ≡ Some (synth abs bound conflicts input stem)
+        → SynthAnswer bound input stem (sure_told files.old) (sure_told files.new) sure_sink_told sure_sink_told result.status }
     ensures read { result.status ≢ Status.ReadFault }
     ensures write { result.status ≢ Status.WriteFault }
     ensures ends { (bound conflicts : ℕ) (input stem : Bytes)
