@@ -71,7 +71,9 @@ pub fn run_surely(
     say: &mut SureSink,
 ) -> Outcome
     ensures usage { (result.status ≡ Status.Usage) ↔ (job_of words.now ≡ None) }
-    ensures later_job { (job : Job) → job_of words.now ≡ Some job → IsLaterJob job → result.status ≡ Status.NotYet }
+    ensures usage_touches_nothing { result.status ≡ Status.Usage → (files.new ≡ files.old) × (say.new ≡ say.old) }
+    ensures later_job { (job : Job) → job_of words.now ≡ Some job → IsLaterJob job
+        → (result.status ≡ Status.NotYet) × (files.new ≡ files.old) × (say.new ≡ say.old) }
     ensures synthesis { (bound conflicts : ℕ) (input stem : Bytes)
         → job_of words.now ≡ Some (synth abs bound conflicts input stem)
         → SynthAnswer bound input stem (sure_told files.old) (sure_told files.new) sure_sink_told sure_sink_told result.status }
