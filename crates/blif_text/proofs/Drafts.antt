@@ -7,10 +7,10 @@ use Rattle.std.proofs.lemmas.List.Elements.{All-push}
 use Rattle.std.proofs.lemmas.Slice.Eq.{bytes_eq-Decides}
 use Rattle.semantics.specs.Texts.{Bytes, Line}
 use Rattle.semantics.specs.Net.{TableValue, IsName}
-use Rattle.semantics.specs.Job.{◌>>=◌}
-use Rattle.semantics.specs.PlainReading.{front_of, last_of, signals_of, RowValue, row_of, with_row, Draft, with_table, with_row_line, read_line, read_lines}
-use Rattle.semantics.proofs.TextLines.{front_of_push}
-use Rattle.semantics.proofs.PlainTexts.{last_of_push}
+use Rattle.semantics.specs.Optional.{◌>>=◌}
+use Rattle.blif_semantics.specs.PlainReading.{front_of, last_of, signals_of, RowValue, row_of, with_row, Draft, with_table, with_row_line, read_line, read_lines}
+use Rattle.blif_semantics.proofs.TextLines.{front_of_push}
+use Rattle.blif_semantics.proofs.PlainTexts.{last_of_push}
 use Rattle.blif_text.specs.Words.{texts}
 use Rattle.blif_text.specs.Reading.{AreNames, IsProper, IsHopeless}
 use Rattle.blif_text.proofs.Traversals.{bind-some}

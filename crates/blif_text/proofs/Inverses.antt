@@ -13,8 +13,8 @@ use Rattle.semantics.specs.declared.mark.Mark.TheVariants.{Zero, One, Dash}
 use Rattle.semantics.specs.Texts.{Bytes, Line, bit_byte}
 use Rattle.semantics.specs.Net.{TableValue, name_of}
 use Rattle.semantics.specs.Blif.{mark_byte, row_line}
-use Rattle.semantics.specs.Job.{◌>>=◌}
-use Rattle.semantics.specs.PlainReading.{front_of, last_of, words_after, signal_of, signals_of, mark_of, marks_of, plane_of, RowValue, row_of, has_none, with_row}
+use Rattle.semantics.specs.Optional.{◌>>=◌}
+use Rattle.blif_semantics.specs.PlainReading.{front_of, last_of, words_after, signal_of, signals_of, mark_of, marks_of, plane_of, RowValue, row_of, has_none, with_row}
 use Rattle.blif_text.proofs.Traversals.{bind-some}
 
 -- the keyword and the words behind it are the line

@@ -9,7 +9,7 @@ use Rattle.std.proofs.lemmas.List.Elements.{All-cons, All-nil}
 use Rattle.std.proofs.lemmas.Bool.Decides.{same_from_decides}
 use Rattle.std.proofs.lemmas.Slice.Eq.{bytes_eq-Decides}
 use Rattle.semantics.specs.Texts.{Bytes}
-use Rattle.semantics.specs.PlainReading.{signal_of}
+use Rattle.blif_semantics.specs.PlainReading.{signal_of}
 use Rattle.blif_text.specs.Words.{texts}
 
 bytes_eq_sym : (xs ys : Bytes) → bytes_eq xs ys ≡ bytes_eq ys xs

@@ -3,7 +3,7 @@ use Rattle.std.proofs.Common.{◌≡◌, ℕ, ◌+◌, ◌<◌, List, [], ◌∷
 use Rattle.std.proofs.lemmas.List.{append-nil, take_more, take-append-drop}
 use Rattle.std.proofs.lemmas.Grind.{flat_map-append}
 use Rattle.semantics.specs.Texts.{Bytes}
-use Rattle.semantics.specs.Outside.{FilesTold, Wrote, WriteFailed}
+use Rattle.outside_semantics.specs.Outside.{FilesTold, Wrote, WriteFailed}
 use Rattle.file_core.specs.Page.{Gathered}
 use Rattle.file_core.proofs.Told.{WriteFailed-after}
 use Rattle.file_core.proofs.Gathering.{Gathered-Gathered, WriteFailed-gathered, WriteFailed-gathered_longer, WriteFailed-longer}

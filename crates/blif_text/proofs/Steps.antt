@@ -9,7 +9,7 @@ use Rattle.std.proofs.lemmas.List.Sums.{sum_by_more, sum_by_more_le}
 use Rattle.semantics.specs.declared.mark.Mark.{Mark}
 use Rattle.semantics.specs.Texts.{Bytes}
 use Rattle.semantics.specs.Net.{TableValue}
-use Rattle.semantics.specs.PlainReading.{signal_of, signals_of, mark_of, marks_of}
+use Rattle.blif_semantics.specs.PlainReading.{signal_of, signals_of, mark_of, marks_of}
 use Rattle.net_core.specs.declared.name.NameRefusal.{NameRefusal}
 use Rattle.net_core.specs.declared.name.NameRefusal.TheVariants as name
 use Rattle.blif_text.specs.declared.refusal.Refusal.{Refusal}

@@ -3,8 +3,8 @@ use Rattle.std.proofs.Common.{◌≡◌, ℕ, zero, suc, ◌<◌, List, [], ◌�
 use Rattle.std.proofs.lemmas.Option.{none-some, same_Some}
 use Rattle.semantics.specs.declared.mark.Mark.{Mark}
 use Rattle.semantics.specs.Texts.{Bytes}
-use Rattle.semantics.specs.Job.{◌>>=◌}
-use Rattle.semantics.specs.PlainReading.{signal_of, signals_of, mark_of, marks_of}
+use Rattle.semantics.specs.Optional.{◌>>=◌}
+use Rattle.blif_semantics.specs.PlainReading.{signal_of, signals_of, mark_of, marks_of}
 
 -- both steps gave a value
 pub bind-some : {A B : Type 0} (o : Option A) (f : A → Option B) (r : B) → (o >>= f) ≡ Some r → (x : A) × (o ≡ Some x) × (f x ≡ Some r)

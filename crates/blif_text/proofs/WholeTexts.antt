@@ -8,11 +8,12 @@ use Rattle.std.proofs.lemmas.List.{map_push, map-append, take-append-drop, drop_
 use Rattle.std.proofs.lemmas.List.Splits.{length-slice_split, join_with_byte-slice_split}
 use Rattle.semantics.specs.Texts.{Bytes, Line, line_text, text_of}
 use Rattle.semantics.specs.Net.{NetValue, signal_names, name_of}
-use Rattle.semantics.specs.Blif.{table_lines, blif_lines, blif_text, end_line, text_limit, IsPlainFor, IsPlain}
-use Rattle.semantics.specs.Job.{◌>>=◌}
-use Rattle.semantics.specs.PlainReading.{front_of, last_of, text_lines, words_after, model_of, is_end_line, lines_before_end, Draft, read_lines, signals_of, net_of_lines, net_of_text}
-use Rattle.semantics.proofs.TextLines.{front_of_push}
-use Rattle.semantics.proofs.PlainTexts.{last_of_push, net_of_text-plain}
+use Rattle.semantics.specs.Blif.{table_lines, blif_lines, blif_text, end_line}
+use Rattle.blif_semantics.specs.Plain.{text_limit, IsPlainFor, IsPlain}
+use Rattle.semantics.specs.Optional.{◌>>=◌}
+use Rattle.blif_semantics.specs.PlainReading.{front_of, last_of, text_lines, words_after, model_of, is_end_line, lines_before_end, Draft, read_lines, signals_of, net_of_lines, net_of_text}
+use Rattle.blif_semantics.proofs.TextLines.{front_of_push}
+use Rattle.blif_semantics.proofs.PlainTexts.{last_of_push, net_of_text-plain}
 use Rattle.blif_text.specs.Words.{texts, words_of}
 use Rattle.blif_text.specs.NetText.{header_text, tables_text}
 use Rattle.blif_text.specs.Reading.{IsReadAs, IsPlainNet}

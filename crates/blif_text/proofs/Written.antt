@@ -9,9 +9,9 @@ use Rattle.semantics.specs.declared.mark.Mark.{Mark}
 use Rattle.semantics.specs.Texts.{Bytes, Line}
 use Rattle.semantics.specs.Net.{TableValue, NetValue, no_table, input_count, signal_count, signal_names, name_of, IsName, IsTable, IsSound, IsInOrder}
 use Rattle.semantics.specs.Blif.{row_line, names_line, table_lines}
-use Rattle.semantics.specs.PlainReading.{front_of, signals_of, Draft, with_table, with_row_line, read_line, read_lines}
+use Rattle.blif_semantics.specs.PlainReading.{front_of, signals_of, Draft, with_table, with_row_line, read_line, read_lines}
 use Rattle.semantics.proofs.Order.{IsAcyclic-in_order}
-use Rattle.semantics.proofs.PlainLines.{length-signal_names}
+use Rattle.blif_semantics.proofs.PlainLines.{length-signal_names}
 use Rattle.blif_text.specs.Reading.{HasRows, AreNames}
 use Rattle.blif_text.proofs.Traversals.{bind-some}
 use Rattle.blif_text.proofs.Drafts.{begun, with_last, IsBegun-with_table, TakesRow-with_row_line, line_cases}

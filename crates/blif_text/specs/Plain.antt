@@ -1,6 +1,6 @@
 -- What the answer to a text says.
 use Rattle.semantics.specs.Texts.{Bytes}
-use Rattle.semantics.specs.Blif.{IsPlainFor, IsPlain}
+use Rattle.blif_semantics.specs.Plain.{IsPlainFor, IsPlain}
 use Rattle.blif_text.specs.declared.reading.Plain.{Plain}
 use Rattle.blif_text.specs.declared.reading.Plain.TheVariants.{Net, Other}
 

@@ -2,7 +2,7 @@
 use Rattle.std.specs.Prelude.{◌≡◌, ◌≢◌, ◌≤◌, true, List, [], ◌∷◌, Option, Some, None, length, sum_by, codes, All, AllPairs}
 use Rattle.semantics.specs.Texts.{Bytes, Line}
 use Rattle.semantics.specs.Net.{TableValue, NetValue, input_count, IsName, IsSound, IsSmall, IsInOrder}
-use Rattle.semantics.specs.PlainReading.{Draft, words_after, with_row_line, read_lines, signals_of}
+use Rattle.blif_semantics.specs.PlainReading.{Draft, words_after, with_row_line, read_lines, signals_of}
 
 -- the rows of a table fit its pins, and one without rows has plane 1
 pub record HasRows (t : TableValue) : Type 0 where

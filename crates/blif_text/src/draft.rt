@@ -1,6 +1,6 @@
 //! A net in the making: the signals and tables of the lines that were read so far.
 ghost use Rattle.std.specs.Prelude.{◌≡◌, ◌≢◌, ◌+◌, ◌≤◌, [], None, Some, IfOk, OnOk, All, AllPairs, length, map};
-ghost use Rattle.semantics.specs.PlainReading.{with_table, read_line, read_lines, signals_of};
+ghost use Rattle.blif_semantics.specs.PlainReading.{with_table, read_line, read_lines, signals_of};
 ghost use Rattle.blif_text.specs.Refusals.{OnNotPlain};
 ghost use Rattle.blif_text.specs.Words.{texts, words_of};
 ghost use Rattle.blif_text.specs.Reading.{HasRows, IsProper, IsHopeless, AddsRow, TakesNoRow};
@@ -24,7 +24,7 @@ pub struct Draft<'a> {
 }
 
 impl<'a> Model for Draft<'a> {
-    ghost use Rattle.semantics.specs.PlainReading.{Draft};
+    ghost use Rattle.blif_semantics.specs.PlainReading.{Draft};
 
     ghost Value = { Draft };
 

@@ -1,6 +1,6 @@
 //! A table whose rows are being read.
 ghost use Rattle.std.specs.Prelude.{◌≡◌, [], true, None, Some, OnOk, length};
-ghost use Rattle.semantics.specs.PlainReading.{with_row};
+ghost use Rattle.blif_semantics.specs.PlainReading.{with_row};
 ghost use Rattle.blif_text.specs.Refusals.{OnNotPlain};
 ghost use Rattle.blif_text.specs.Reading.{HasRows};
 

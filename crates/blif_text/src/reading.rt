@@ -1,8 +1,8 @@
 //! Plain texts, those that this tool writes, are read as their nets. Source: BLIF, as this tool writes it.
 ghost use Rattle.std.specs.Prelude.{◌≡◌, ◌<◌, ◌≤◌, ◌↔◌, [], ◌∷◌, None, Some, IfOk, OnOk, IsTrue, All, codes, length, map, sum_by};
 ghost use Rattle.semantics.specs.Net.{IsName, IsSound, IsInOrder};
-ghost use Rattle.semantics.specs.Blif.{IsPlain, IsPlainFor, text_limit};
-ghost use Rattle.semantics.specs.PlainReading.{words_after};
+ghost use Rattle.blif_semantics.specs.Plain.{IsPlain, IsPlainFor, text_limit};
+ghost use Rattle.blif_semantics.specs.PlainReading.{words_after};
 ghost use Rattle.blif_text.specs.Plain.{IsAnswerFor};
 ghost use Rattle.blif_text.specs.Refusals.{OnNotPlain};
 ghost use Rattle.blif_text.specs.Words.{texts, words_of};

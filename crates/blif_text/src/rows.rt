@@ -1,6 +1,6 @@
 //! Rows of marks, read from words. Source: BLIF's cover lines, as this tool writes them.
 ghost use Rattle.std.specs.Prelude.{◌≡◌, None, Some, IfOk};
-ghost use Rattle.semantics.specs.PlainReading.{mark_of, marks_of, plane_of, row_of};
+ghost use Rattle.blif_semantics.specs.PlainReading.{mark_of, marks_of, plane_of, row_of};
 ghost use Rattle.blif_text.specs.Refusals.{OnNotPlain};
 ghost use Rattle.blif_text.specs.Words.{texts};
 

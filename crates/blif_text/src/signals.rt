@@ -1,6 +1,6 @@
 //! The signals that were named so far, found by their names.
 ghost use Rattle.std.specs.Prelude.{◌≡◌, ◌<◌, ◌≢◌, [], ◌∷◌, ◌++◌, None, Some, All, Contains, IfOk, OnOk, length};
-ghost use Rattle.semantics.specs.PlainReading.{signal_of, signals_of};
+ghost use Rattle.blif_semantics.specs.PlainReading.{signal_of, signals_of};
 ghost use Rattle.blif_text.specs.Refusals.{OnNotPlain};
 ghost use Rattle.blif_text.specs.Words.{texts};
 

@@ -1,7 +1,7 @@
 //! Lines and words, as slices of the text.
 ghost use Rattle.std.specs.Prelude.{◌≡◌, ◌==◌, None, Some, IfOk};
 ghost use Rattle.std.specs.List.{slice_split};
-ghost use Rattle.semantics.specs.PlainReading.{words_after};
+ghost use Rattle.blif_semantics.specs.PlainReading.{words_after};
 ghost use Rattle.blif_text.specs.Refusals.{OnNotPlain};
 ghost use Rattle.blif_text.specs.Words.{texts, words_of};
 

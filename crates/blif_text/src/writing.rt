@@ -3,7 +3,7 @@ ghost use Rattle.std.specs.Prelude.{◌≡◌, ◌<◌, [], ◌∷◌, ◌++◌,
 ghost use Rattle.semantics.specs.Texts.{line_text, bit_byte};
 ghost use Rattle.semantics.specs.Net.{signal_count, signal_names};
 ghost use Rattle.semantics.specs.Blif.{mark_byte, row_line, names_line, blif_text};
-ghost use Rattle.semantics.specs.Outside.{Wrote, WriteFailed};
+ghost use Rattle.outside_semantics.specs.Outside.{Wrote, WriteFailed};
 ghost use Rattle.file_core.specs.Page.{Gathered};
 ghost use Rattle.blif_text.specs.NetText.{blank_words, blank_names, marks_text, rows_text, table_text, tables_text, header_text};
 

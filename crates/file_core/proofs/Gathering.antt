@@ -2,7 +2,7 @@
 use Rattle.std.proofs.Common.{◌≡◌, [], ◌++◌, sym, ap, subst, ◌∙◌, append_assoc}
 use Rattle.std.proofs.lemmas.List.{append-nil}
 use Rattle.semantics.specs.Texts.{Bytes}
-use Rattle.semantics.specs.Outside.{FilesTold, Wrote, WriteFailed}
+use Rattle.outside_semantics.specs.Outside.{FilesTold, Wrote, WriteFailed}
 use Rattle.file_core.specs.Page.{Gathered}
 use Rattle.file_core.proofs.Told.{Wrote-nil, Wrote-Wrote, WriteFailed-after, WriteFailed-more}
 

@@ -8,7 +8,7 @@ use Rattle.std.specs.Ordering.{nat_cmp, eq_by_cmp}
 use Rattle.std.specs.Cmp.Lexicographic.{slice_cmp, nat_list_cmp_total}
 use Rattle.std.specs.FinMap.{get, insert, contains_key, get-insert}
 use Rattle.semantics.specs.Texts.{Bytes}
-use Rattle.semantics.specs.Outside.{Held, Place, Goes, StaysCalm, KeepsAtOpen, Opened, OpenFailed, KeepsAtRead, GaveNext, Gave, ReadFailed, Created, CreateFailed, Wrote, WriteFailed, bytes_of, added_to, appended}
+use Rattle.outside_semantics.specs.Outside.{Held, Place, Goes, StaysCalm, KeepsAtOpen, Opened, OpenFailed, KeepsAtRead, GaveNext, Gave, ReadFailed, Created, CreateFailed, Wrote, WriteFailed, bytes_of, added_to, appended}
 use Rattle.file_core.specs.Calls.{one_more, is_listed, none_left}
 use Rattle.file_core.specs.Memory.{MemoryValue, memory_told, fails_next, faulted, opened, not_opened, left_of, moved, read_on, created, not_created, wrote}
 use Rattle.file_core.specs.Counting.{Rises}

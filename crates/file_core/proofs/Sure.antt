@@ -4,7 +4,7 @@ use Rattle.std.proofs.lemmas.Option.{none-some, same_Some, cond_some}
 use Rattle.std.proofs.lemmas.Bool.{both_ways}
 use Rattle.std.specs.FinMap.{contains_key}
 use Rattle.semantics.specs.Texts.{Bytes}
-use Rattle.semantics.specs.Outside.{Held, Goes, Opened, GaveNext, Gave, bytes_of}
+use Rattle.outside_semantics.specs.Outside.{Held, Goes, Opened, GaveNext, Gave, bytes_of}
 use Rattle.file_core.specs.Memory.{left_of}
 use Rattle.file_core.specs.Sure.{SureValue, sure_told, held_where, found, not_found, went_on, IsNextOf}
 use Rattle.file_core.proofs.Memory.{GaveNext-given, none_open}

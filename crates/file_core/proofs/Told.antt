@@ -11,7 +11,7 @@ use Rattle.std.specs.Cmp.{eq_by_cmp_equiv}
 use Rattle.std.specs.Cmp.Lexicographic.{slice_cmp, nat_list_cmp_total}
 use Rattle.std.specs.FinMap.{get, insert, get-insert, get_tied, same_map, slice_cmp-IsAntisymmetric, nat_cmp-IsAntisymmetric}
 use Rattle.semantics.specs.Texts.{Bytes}
-use Rattle.semantics.specs.Outside.{Held, FilesTold, SinkTold, Rose, Goes, StaysCalm, Wrote, WriteFailed, SinkGoes, Took, TakeFailed, added_to, appended}
+use Rattle.outside_semantics.specs.Outside.{Held, FilesTold, SinkTold, Rose, Goes, StaysCalm, Wrote, WriteFailed, SinkGoes, Took, TakeFailed, added_to, appended}
 
 -- a rise that comes after other calls is a rise
 rose_later : (a b c : ℕ) → a ≤ b → Rose b c → Rose a c

@@ -1,7 +1,7 @@
 -- The value of files in memory, from their entries and the entries' places.
 use Rattle.std.specs.Prelude.{ℕ, ◌<◌, List, Option, option_map, IfSome}
 use Rattle.semantics.specs.Texts.{Bytes}
-use Rattle.semantics.specs.Outside.{Place}
+use Rattle.outside_semantics.specs.Outside.{Place}
 use Rattle.file_core.specs.declared.cursor.Cursor.{Cursor}
 use Rattle.file_core.specs.declared.calls.Calls.{Calls}
 use Rattle.file_core.specs.Entries.{Entry, name_at, held_in, IsCounted}

@@ -4,7 +4,7 @@ use Rattle.std.specs.Ordering.{nat_cmp}
 use Rattle.std.specs.Cmp.Lexicographic.{slice_cmp}
 use Rattle.std.specs.FinMap.{from_entries, insert}
 use Rattle.semantics.specs.Texts.{Bytes}
-use Rattle.semantics.specs.Outside.{Held}
+use Rattle.outside_semantics.specs.Outside.{Held}
 
 abbrev pub Entry : Type 0
 Entry = Bytes × Bytes

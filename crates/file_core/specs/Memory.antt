@@ -3,7 +3,7 @@ use Rattle.std.specs.Prelude.{ℕ, ◌+◌, ◌-◌, Bool, false, ◌&&◌, List
 use Rattle.std.specs.Coded.{Coded, code_by, coded×, coded_ℕ, coded_list, coded_option}
 use Rattle.std.specs.FinMap as map
 use Rattle.semantics.specs.Texts.{Bytes}
-use Rattle.semantics.specs.Outside.{Held, Place, FilesTold, bytes_of, appended}
+use Rattle.outside_semantics.specs.Outside.{Held, Place, FilesTold, bytes_of, appended}
 use Rattle.file_core.specs.Calls.{one_more, is_listed, none_left}
 use Rattle.file_core.specs.Entries.{Entry, held_in}
 

@@ -2,7 +2,7 @@
 use Rattle.std.specs.Prelude.{ℕ, ◌+◌, Bool, List, [], ◌++◌, Some, refl}
 use Rattle.std.specs.Coded.{Coded, code_by, coded×, coded_ℕ, coded_list}
 use Rattle.semantics.specs.Texts.{Bytes}
-use Rattle.semantics.specs.Outside.{SinkTold}
+use Rattle.outside_semantics.specs.Outside.{SinkTold}
 use Rattle.file_core.specs.Calls.{one_more, is_listed}
 use Rattle.file_core.specs.Memory.{bytes_code}
 

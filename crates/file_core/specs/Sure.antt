@@ -3,7 +3,7 @@ use Rattle.std.specs.Prelude.{◌≡◌, ℕ, Bool, true, false, Option, Some, N
 use Rattle.std.specs.Coded.{Coded, code_by, coded×, coded_bool, coded_option}
 use Rattle.std.specs.FinMap as map
 use Rattle.semantics.specs.Texts.{Bytes}
-use Rattle.semantics.specs.Outside.{Held, Place, FilesTold, SinkTold, bytes_of}
+use Rattle.outside_semantics.specs.Outside.{Held, Place, FilesTold, SinkTold, bytes_of}
 use Rattle.file_core.specs.Memory.{bytes_code, place_code, moved}
 
 -- the given files, whether they are told, and the place that is read

@@ -1,6 +1,6 @@
 //! Whole texts over calls that may take a part.
 ghost use Rattle.std.specs.Prelude.{OnOk, OnErr};
-ghost use Rattle.semantics.specs.Outside.{Wrote, WriteFailed, Took, TakeFailed};
+ghost use Rattle.outside_semantics.specs.Outside.{Wrote, WriteFailed, Took, TakeFailed};
 ghost use Rattle.file_core.specs.Pieces.{joined};
 
 use crate::fault::FileFault;

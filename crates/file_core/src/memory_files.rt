@@ -1,7 +1,7 @@
 //! Files in memory, which can be made to fail and to work in small chunks.
 ghost use Rattle.std.specs.Prelude.{◌≡◌, ◌-◌, ◌<◌, ◌≤◌, ◌↔◌, [], Some, None, min, length, take, option_map, IsTrue, IsFalse, IsSome, IsOk, IsErr, IfOk, OnOk, OnErr};
 ghost use Rattle.std.specs.FinMap.{get, contains_key};
-ghost use Rattle.semantics.specs.Outside.{Opened, OpenFailed, Gave, ReadFailed, Created, CreateFailed, Wrote, WriteFailed};
+ghost use Rattle.outside_semantics.specs.Outside.{Opened, OpenFailed, Gave, ReadFailed, Created, CreateFailed, Wrote, WriteFailed};
 ghost use Rattle.file_core.specs.Memory.{files_at_first, memory_told, fails_next, faulted, opened, not_opened, left_of, read_on, created, not_created, wrote};
 
 use crate::calls::Calls;

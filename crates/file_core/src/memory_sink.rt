@@ -1,6 +1,6 @@
 //! A sink in memory, which can be made to fail and to work in small chunks.
 ghost use Rattle.std.specs.Prelude.{◌≡◌, ◌<◌, ◌≤◌, [], min, length, take, IsTrue, IsErr, IfOk, OnErr};
-ghost use Rattle.semantics.specs.Outside.{Took, TakeFailed};
+ghost use Rattle.outside_semantics.specs.Outside.{Took, TakeFailed};
 ghost use Rattle.file_core.specs.MemorySink.{sink_at_first, memory_sink_told, put_fails_next, took, not_taken};
 
 use crate::calls::Calls;

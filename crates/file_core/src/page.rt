@@ -1,6 +1,6 @@
 //! Short pieces are gathered in a page of fixed size, so that few calls of `append` are made and nothing is allocated.
 ghost use Rattle.std.specs.Prelude.{◌≡◌, ◌+◌, ◌≤◌, ◌↔◌, ℕ, List, [], ◌++◌, length, take, IsTrue, IsOk, OnOk, OnErr};
-ghost use Rattle.semantics.specs.Outside.{Wrote, WriteFailed};
+ghost use Rattle.outside_semantics.specs.Outside.{Wrote, WriteFailed};
 ghost use Rattle.file_core.specs.Page.{Gathered};
 ghost use Rattle.file_core.specs.Pieces.{joined};
 

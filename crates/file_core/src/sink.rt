@@ -1,6 +1,6 @@
 //! A sink of bytes, by what it tells. Standard output tells nothing but its count of faults.
 ghost use Rattle.std.specs.Prelude.{◌≤◌, ◌<◌, [], length, take, IfOk, OnErr};
-ghost use Rattle.semantics.specs.Outside.{SinkTold, Took, TakeFailed};
+ghost use Rattle.outside_semantics.specs.Outside.{SinkTold, Took, TakeFailed};
 
 use crate::fault::FileFault;
 

@@ -1,7 +1,7 @@
 //! Files that never fail and keep nothing that is written.
 ghost use Rattle.std.specs.Prelude.{◌≡◌, ◌<◌, ◌≤◌, [], None, true, false, length, min, take, IsTrue, IsFalse, IsOk, IfOk, OnOk, OnErr};
 ghost use Rattle.std.specs.FinMap.{contains_key};
-ghost use Rattle.semantics.specs.Outside.{Opened, OpenFailed, Gave, ReadFailed, Created, CreateFailed, Wrote, WriteFailed};
+ghost use Rattle.outside_semantics.specs.Outside.{Opened, OpenFailed, Gave, ReadFailed, Created, CreateFailed, Wrote, WriteFailed};
 ghost use Rattle.file_core.specs.Entries.{held_in};
 ghost use Rattle.file_core.specs.Memory.{left_of};
 ghost use Rattle.file_core.specs.Sure.{sure_told, found, not_found, went_on, IsNextOf};

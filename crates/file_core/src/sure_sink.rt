@@ -1,6 +1,6 @@
 //! A sink that never fails and keeps nothing.
 ghost use Rattle.std.specs.Prelude.{◌≡◌, ◌<◌, ◌≤◌, [], length, take, IsOk, IfOk, OnErr};
-ghost use Rattle.semantics.specs.Outside.{Took, TakeFailed};
+ghost use Rattle.outside_semantics.specs.Outside.{Took, TakeFailed};
 ghost use Rattle.file_core.specs.Sure.{sure_sink_told};
 
 use crate::fault::FileFault;

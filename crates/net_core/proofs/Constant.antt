@@ -6,7 +6,8 @@ use Rattle.std.proofs.Math.Seq.{map-set_same}
 use Rattle.semantics.specs.Texts.{Bytes}
 use Rattle.semantics.specs.declared.mark.Mark.{Mark}
 use Rattle.semantics.specs.Net.{TableValue, NetValue, table_at, no_table, table_count, signal_count, signal_names, IsName, IsTable, IsSound, IsInOrder}
-use Rattle.semantics.specs.ConstantChain.{constant_table, ConstantMove, made_constant}
+use Rattle.chain_semantics.specs.ConstantChain.{ConstantMove, made_constant}
+use Rattle.semantics.specs.Net.{constant_table}
 use Rattle.net_core.specs.Built.{IsBuilt}
 use Rattle.semantics.proofs.Order.{IsAcyclic-in_order}
 

@@ -3,7 +3,7 @@ ghost use Rattle.std.specs.Prelude.{◌≡◌, ℕ, ◌+◌, ◌<◌, ◌^◌, f
 ghost use Rattle.std.specs.List.{range_with_len};
 ghost use Rattle.semantics.specs.Net.{IsInOrder, input_count, table_count, signal_count, literal_count, signal_names, name_of, table_at, table_literals};
 ghost use Rattle.semantics.specs.Value.{value_of};
-ghost use Rattle.semantics.specs.ConstantChain.{made_constant};
+ghost use Rattle.chain_semantics.specs.ConstantChain.{made_constant};
 ghost use Rattle.net_core.specs.Built.{IsBuilt};
 
 use crate::items::{NameList, Signal, SignalList, TableList};

@@ -3,7 +3,7 @@ ghost use Rattle.std.specs.Prelude.{◌≡◌, ◌<◌, ◌^◌, [], true, false
 ghost use Rattle.std.specs.List.{list_any};
 ghost use Rattle.semantics.specs.Net.{IsTable, is_literal, row_literals, table_literals};
 ghost use Rattle.semantics.specs.Value.{mark_matches, row_matches, table_value};
-ghost use Rattle.semantics.specs.ConstantChain.{constant_table};
+ghost use Rattle.semantics.specs.Net.{constant_table};
 
 use crate::items::{Duplicate, Items, RowList, Signal, SignalList};
 use crate::mark::Mark;

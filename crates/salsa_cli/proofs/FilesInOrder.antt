@@ -4,8 +4,8 @@ use Rattle.std.specs.Prelude.{IsTrue}
 use Rattle.std.specs.FinMap.{insert}
 use Rattle.std.proofs.lemmas.Bool.{false_from_ne_true}
 use Rattle.semantics.specs.Texts.{Bytes}
-use Rattle.semantics.specs.Outside.{Held, FilesTold, Goes, Created, CreateFailed, Wrote, WriteFailed, added_to, appended}
-use Rattle.semantics.specs.Bundle.{File, with_files, are_steady, FilesWritten, IsCutAt, IsCutShort, FilesCutShort}
+use Rattle.outside_semantics.specs.Outside.{Held, FilesTold, Goes, Created, CreateFailed, Wrote, WriteFailed, added_to, appended}
+use Rattle.outside_semantics.specs.WrittenFiles.{File, with_files, are_steady, FilesWritten, IsCutAt, IsCutShort, FilesCutShort}
 use Rattle.file_core.proofs.Told.{Goes-Goes, held_before, get-insert_same, insert-insert}
 
 -- a text that is added to a file just created is the file

@@ -3,8 +3,8 @@ use Rattle.std.proofs.Common.{◌≡◌, ◌+◌, ◌≤◌, length, take, ap, s
 use Rattle.std.proofs.lemmas.List.{take_all, length-take}
 use Rattle.semantics.specs.Texts.{Bytes}
 use Rattle.semantics.specs.Net.{NetValue}
-use Rattle.semantics.specs.Blif.{text_limit, IsPlainFor, IsPlain}
-use Rattle.semantics.specs.Outside.{FilesTold, bytes_of}
+use Rattle.blif_semantics.specs.Plain.{text_limit, IsPlainFor, IsPlain}
+use Rattle.outside_semantics.specs.Outside.{FilesTold, bytes_of}
 use Rattle.salsa_cli.specs.Reading.{TextRead, FilesStay}
 use Rattle.salsa_cli.specs.Input.{NetRead, TextNotPlain}
 

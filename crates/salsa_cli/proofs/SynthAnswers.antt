@@ -4,9 +4,9 @@ use Rattle.std.specs.Prelude.{string_bytes}
 use Rattle.semantics.specs.Texts.{Bytes}
 use Rattle.semantics.specs.Net.{NetValue}
 use Rattle.semantics.specs.Error.{Metric}
-use Rattle.semantics.specs.Outside.{FilesTold, SinkTold, Goes, Took, TakeFailed}
-use Rattle.semantics.specs.Bundle.{FilesWritten, FilesCutShort}
-use Rattle.semantics.specs.Synthesis.{IsSimplifiedInput, SynthDone, SynthWriteFault}
+use Rattle.outside_semantics.specs.Outside.{FilesTold, SinkTold, Goes, Took, TakeFailed}
+use Rattle.outside_semantics.specs.WrittenFiles.{FilesWritten, FilesCutShort}
+use Rattle.job_semantics.specs.Synthesis.{IsSimplifiedInput, SynthDone, SynthWriteFault}
 use Rattle.file_core.proofs.Told.{held_before}
 use Rattle.salsa_cli.specs.declared.delivery.Prepared.{Prepared}
 use Rattle.salsa_cli.specs.Input.{NetRead}

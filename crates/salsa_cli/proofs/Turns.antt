@@ -3,9 +3,9 @@ use Rattle.std.proofs.Common.{◌≡◌, ◌+◌, ◌<◌, ◌≤◌, Bool, fals
 use Rattle.std.proofs.lemmas.List.{take_all}
 use Rattle.std.proofs.lemmas.Bool.{false_from_ne_true}
 use Rattle.semantics.specs.Texts.{Bytes}
-use Rattle.semantics.specs.Blif.{text_limit}
-use Rattle.semantics.specs.Outside.{Held, FilesTold, KeepsAtRead, Opened, OpenFailed, ReadFailed, bytes_of}
-use Rattle.semantics.specs.Synthesis.{WhereHeld}
+use Rattle.blif_semantics.specs.Plain.{text_limit}
+use Rattle.outside_semantics.specs.Outside.{Held, FilesTold, KeepsAtRead, Opened, OpenFailed, ReadFailed, bytes_of}
+use Rattle.job_semantics.specs.Synthesis.{WhereHeld}
 use Rattle.file_core.proofs.Told.{Goes-Goes, Goes-same, StaysCalm-StaysCalm, StaysCalm-same, held_before}
 use Rattle.salsa_cli.specs.Reading.{HasRead, TurnRead, SoFar, TextRead, TextFailed, FilesStay}
 

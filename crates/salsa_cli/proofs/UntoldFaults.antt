@@ -1,7 +1,7 @@
 -- A fault of files that tell nothing but their count.
 use Rattle.std.proofs.Common.{◌≡◌, ℕ, ◌+◌, ◌-◌, ◌^◌, ◌≤◌, min, [], refl, arith}
 use Rattle.semantics.specs.Texts.{Bytes}
-use Rattle.semantics.specs.Outside.{Goes, StaysCalm, OpenFailed, ReadFailed, CreateFailed, WriteFailed}
+use Rattle.outside_semantics.specs.Outside.{Goes, StaysCalm, OpenFailed, ReadFailed, CreateFailed, WriteFailed}
 use Rattle.salsa_cli.specs.Untold.{untold}
 
 goes : {old new : ℕ} → old ≤ new → Goes (untold old) (untold new)

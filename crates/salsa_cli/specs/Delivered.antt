@@ -1,8 +1,8 @@
 -- What stands after the files were written and the report was put, or after a fault on the way.
 use Rattle.std.specs.Prelude.{◌≡◌, ◌⊎◌, List}
 use Rattle.semantics.specs.Texts.{Bytes}
-use Rattle.semantics.specs.Outside.{FilesTold, SinkTold, Took, TakeFailed}
-use Rattle.semantics.specs.Bundle.{File, FilesWritten, FilesCutShort}
+use Rattle.outside_semantics.specs.Outside.{FilesTold, SinkTold, Took, TakeFailed}
+use Rattle.outside_semantics.specs.WrittenFiles.{File, FilesWritten, FilesCutShort}
 
 pub record Delivers (old new : FilesTold) (said says : SinkTold) (files : List File) (report : Bytes) : Type 0 where
   pub written : FilesWritten old new files

@@ -3,9 +3,9 @@ use Rattle.std.specs.Prelude.{◌≡◌, Some, ◌≤◌, IsTrue}
 use Rattle.std.specs.FinMap.{contains_key}
 use Rattle.semantics.specs.Texts.{Bytes}
 use Rattle.semantics.specs.Net.{NetValue, input_count, IsSmall}
-use Rattle.semantics.specs.Blif.{IsPlainFor, IsPlain}
-use Rattle.semantics.specs.Outside.{FilesTold, Goes, WhereTold, bytes_of}
-use Rattle.semantics.specs.Synthesis.{WhereHeld}
+use Rattle.blif_semantics.specs.Plain.{IsPlainFor, IsPlain}
+use Rattle.outside_semantics.specs.Outside.{FilesTold, Goes, WhereTold, bytes_of}
+use Rattle.job_semantics.specs.Synthesis.{WhereHeld}
 use Rattle.salsa_cli.specs.declared.input.NoNet.{NoNet}
 use Rattle.salsa_cli.specs.declared.input.NoNet.TheVariants.{NotPlain, Fault, OutOfMemory}
 use Rattle.salsa_cli.specs.Reading.{TextFailed, FilesStay}

@@ -4,8 +4,8 @@ use Rattle.semantics.specs.Texts.{Bytes}
 use Rattle.semantics.specs.Net.{NetValue}
 use Rattle.semantics.specs.Error.{Metric}
 use Rattle.semantics.specs.Blif.{blif_text}
-use Rattle.semantics.specs.Bundle.{File}
-use Rattle.semantics.specs.Synthesis.{Simplified, IsSimplifiedFrom, synth_files, synth_report}
+use Rattle.outside_semantics.specs.WrittenFiles.{File}
+use Rattle.job_semantics.specs.Synthesis.{Simplified, IsSimplifiedFrom, synth_files, synth_report}
 use Rattle.salsa_cli.specs.declared.delivery.Prepared.{Prepared}
 
 -- the files in the order in which they are written

@@ -2,9 +2,9 @@
 use Rattle.std.specs.Prelude.{◌≡◌, ◌+◌, ◌<◌, ◌≤◌, Bool, false, IsTrue, [], length, take, Some}
 use Rattle.std.specs.FinMap.{contains_key}
 use Rattle.semantics.specs.Texts.{Bytes}
-use Rattle.semantics.specs.Blif.{text_limit}
-use Rattle.semantics.specs.Outside.{Held, FilesTold, Goes, Rose, WhereTold, KeepsAtRead, bytes_of}
-use Rattle.semantics.specs.Synthesis.{WhereHeld}
+use Rattle.blif_semantics.specs.Plain.{text_limit}
+use Rattle.outside_semantics.specs.Outside.{Held, FilesTold, Goes, Rose, WhereTold, KeepsAtRead, bytes_of}
+use Rattle.job_semantics.specs.Synthesis.{WhereHeld}
 
 -- the text is the first part of the file that is being read, up to its place
 pub record HasRead (told : FilesTold) (held : Held) (name text : Bytes) : Type 0 where

@@ -2,9 +2,9 @@
 use Rattle.std.specs.Prelude.{ℕ}
 use Rattle.semantics.specs.Texts.{Bytes}
 use Rattle.semantics.specs.Error.{abs, rel, ham}
-use Rattle.semantics.specs.Job.{Job, synth, check, demo}
-use Rattle.semantics.specs.Outside.{FilesTold, SinkTold}
-use Rattle.semantics.specs.Synthesis.{IsUntouched, SynthDone, SynthNotPlain, SynthReadFault, SynthWriteFault}
+use Rattle.job_semantics.specs.Job.{Job, synth, check, demo}
+use Rattle.outside_semantics.specs.Outside.{FilesTold, SinkTold}
+use Rattle.job_semantics.specs.Synthesis.{IsUntouched, SynthDone, SynthNotPlain, SynthReadFault, SynthWriteFault}
 use Rattle.salsa_cli.specs.declared.status.Status.{Status}
 use Rattle.salsa_cli.specs.declared.status.Status.TheVariants.{Done, Usage, NotYet, NoMemory, ReadFault, WriteFault}
 

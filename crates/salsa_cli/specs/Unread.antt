@@ -1,6 +1,6 @@
 -- What a refusal to read says.
 use Rattle.semantics.specs.Texts.{Bytes}
-use Rattle.semantics.specs.Outside.{FilesTold, ReadFailed, KeepsAtRead}
+use Rattle.outside_semantics.specs.Outside.{FilesTold, ReadFailed, KeepsAtRead}
 use Rattle.salsa_cli.specs.declared.reading.Unread.{Unread}
 use Rattle.salsa_cli.specs.declared.reading.Unread.TheVariants.{Fault, OutOfMemory}
 use Rattle.salsa_cli.specs.Reading.{TextFailed, FilesStay}

@@ -1,6 +1,6 @@
 -- Files that tell nothing but the count of their faults.
 use Rattle.std.specs.Prelude.{ℕ, None, false}
-use Rattle.semantics.specs.Outside.{FilesTold}
+use Rattle.outside_semantics.specs.Outside.{FilesTold}
 
 abbrev pub untold : ℕ → FilesTold
 untold faults = record {

@@ -4,7 +4,7 @@ use Rattle.salsa_cli.specs.declared.words.MetricWord.TheVariants.{Abs, Rel, Ham}
 use Rattle.salsa_cli.specs.declared.words.Command.{Command}
 use Rattle.salsa_cli.specs.declared.words.Command.TheVariants.{Synth, Check, Demo}
 use Rattle.semantics.specs.Error as error
-use Rattle.semantics.specs.Job as words
+use Rattle.job_semantics.specs.Job as words
 
 abbrev pub metric_meaning : MetricWord → error.Metric
 metric_meaning Abs = error.abs

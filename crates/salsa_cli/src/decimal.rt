@@ -1,6 +1,6 @@
 //! Decimal numbers of the command line: `0`, or digits without a leading zero; no sign.
 ghost use Rattle.std.specs.Prelude.{◌≡◌, ◌^◌, ◌<◌, ◌+◌, ◌*◌, ◌-◌, ◌/◌, ◌≤◌, ℕ, length};
-ghost use Rattle.semantics.specs.Job.{number_from_to};
+ghost use Rattle.job_semantics.specs.Job.{number_from_to};
 
 /// The number that the word is, if it is a decimal number from `low` to `high`.
 pub fn number_from_to(word: &[u8], low: u128, high: u128) -> Option<u128>

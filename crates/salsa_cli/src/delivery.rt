@@ -1,7 +1,7 @@
 //! The files of a bundle, one after another, and then the report. From here on no memory is taken.
 ghost use Rattle.std.specs.Prelude.{◌≡◌, [], ◌∷◌, string_bytes, OnOk, OnErr};
 ghost use Rattle.semantics.specs.Blif.{blif_text};
-ghost use Rattle.semantics.specs.Bundle.{FilesWritten, FilesCutShort};
+ghost use Rattle.outside_semantics.specs.WrittenFiles.{FilesWritten, FilesCutShort};
 ghost use Rattle.salsa_cli.specs.Delivered.{Delivers, WasCutShort};
 ghost use Rattle.salsa_cli.specs.Prepared.{prepared_files};
 

@@ -1,6 +1,6 @@
 //! A whole file, up to one byte past the limit of a text: so a file without an end is read no further.
 ghost use Rattle.std.specs.Prelude.{◌≡◌, ◌≤◌, ◌++◌, length, take, IfOk, IfErr, OnOk, OnErr};
-ghost use Rattle.semantics.specs.Blif.{text_limit};
+ghost use Rattle.blif_semantics.specs.Plain.{text_limit};
 ghost use Rattle.salsa_cli.specs.Reading.{TurnRead, TextRead};
 ghost use Rattle.salsa_cli.specs.Unread.{TurnRefused, ReadRefused};
 

@@ -2,7 +2,7 @@
 ghost use Rattle.std.specs.Prelude.{◌≡◌, ◌≤◌, length, ℕ, false, [], ◌∷◌, ◌++◌, decimal, string_bytes, IfOk, OnOk};
 ghost use Rattle.semantics.specs.Texts.{bit_byte, bits_word, line_text};
 ghost use Rattle.semantics.specs.Error.{abs};
-ghost use Rattle.semantics.specs.Report.{report_text, vectors_text};
+ghost use Rattle.job_semantics.specs.Report.{report_text, vectors_text};
 ghost use Rattle.semantics.specs.Vectors.{bits_of, all_vectors};
 
 use std::alloc::{AllocError, Global};

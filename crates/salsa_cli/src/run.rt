@@ -1,12 +1,12 @@
 //! The top call: what the program does with its words, its files and its standard output.
 ghost use Rattle.std.specs.Prelude.{◌≡◌, ◌≢◌, ◌↔◌, ◌⊎◌, ℕ, true, IsTrue, None, Some};
 ghost use Rattle.std.specs.FinMap.{contains_key};
-ghost use Rattle.semantics.specs.Blif.{IsPlain};
-ghost use Rattle.semantics.specs.Outside.{bytes_of};
+ghost use Rattle.blif_semantics.specs.Plain.{IsPlain};
+ghost use Rattle.outside_semantics.specs.Outside.{bytes_of};
 ghost use Rattle.semantics.specs.Texts.{Bytes};
 ghost use Rattle.semantics.specs.Error.{abs};
-ghost use Rattle.semantics.specs.Job.{Job, synth, job_of};
-ghost use Rattle.semantics.specs.Synthesis.{IsQuiet, synth_needs_steady};
+ghost use Rattle.job_semantics.specs.Job.{Job, synth, job_of};
+ghost use Rattle.job_semantics.specs.Synthesis.{IsQuiet, synth_needs_steady};
 ghost use Rattle.file_core.specs.Sure.{sure_told, sure_sink_told};
 ghost use Rattle.salsa_cli.specs.Run.{IsLaterJob, SynthAnswer};
 

@@ -1,6 +1,6 @@
 //! The words of the command line, and the job that they name.
 ghost use Rattle.std.specs.Prelude.{◌≡◌, ◌<◌, ◌^◌, ◌≤◌, ◌++◌, option_map, bytes_eq};
-ghost use Rattle.semantics.specs.Job.{job_of, synth_of, check_of, demo_of, metric_of, bound_of, conflicts_of, are_file_words, is_bundle_name};
+ghost use Rattle.job_semantics.specs.Job.{job_of, synth_of, check_of, demo_of, metric_of, bound_of, conflicts_of, are_file_words, is_bundle_name};
 ghost use Rattle.salsa_cli.specs.Words.{metric_meaning, job_meaning};
 
 use crate::decimal::number_from_to;
@@ -137,7 +137,7 @@ fn demo(words: &[Word]) -> Option<Command<'_>>
 }
 
 /// The job that the words name, if they name one. It takes no memory.
-#[tactic(auto, unfolding(semantics::specs::Job::job_of))]
+#[tactic(auto, unfolding(job_semantics::specs::Job::job_of))]
 pub fn command_named(words: &[Word]) -> Option<Command<'_>>
     ensures { option_map job_meaning result ≡ job_of words.now }
 {

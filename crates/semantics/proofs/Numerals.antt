@@ -7,7 +7,7 @@ use Rattle.std.proofs.lemmas.List.Sums.{fold_push}
 use Rattle.std.proofs.lemmas.List.Recursion.{and_push}
 use Rattle.std.proofs.lemmas.Fmt.{decimal_by_steps_wide, decimal_digit, decimal_step_wide}
 use Rattle.semantics.specs.Texts.{Bytes}
-use Rattle.semantics.specs.Job.{is_digit, digits_number, is_decimal}
+use Rattle.semantics.specs.Decimal.{is_digit, digits_number, is_decimal}
 
 -- a word of digits that has no leading zero, with its number
 record IsNumber (n : ℕ) (word : Bytes) : Type 0 where

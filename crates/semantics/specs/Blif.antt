@@ -1,9 +1,9 @@
--- The BLIF text of a net, and plain texts. Source: BLIF, as this tool writes it.
-use Rattle.std.specs.Prelude.{◌≡◌, ℕ, ◌≤◌, Bool, List, [], ◌∷◌, ◌++◌, map, flat_map, length, codes}
+-- The BLIF text of a net. Source: BLIF, as this tool writes it.
+use Rattle.std.specs.Prelude.{ℕ, Bool, List, [], ◌∷◌, ◌++◌, map, flat_map, codes}
 use Rattle.semantics.specs.declared.mark.Mark.{Mark}
 use Rattle.semantics.specs.declared.mark.Mark.TheVariants.{Zero, One, Dash}
 use Rattle.semantics.specs.Texts.{Bytes, Line, text_of, bit_byte}
-use Rattle.semantics.specs.Net.{TableValue, NetValue, signal_names, name_of, input_count, IsSound, IsSmall, IsInOrder}
+use Rattle.semantics.specs.Net.{TableValue, NetValue, signal_names, name_of}
 
 -- the characters `0`, `1` and `-`
 abbrev pub mark_byte : Mark → ℕ
@@ -35,20 +35,3 @@ blif_lines N =
 
 unfoldable pub blif_text : NetValue → Bytes
 blif_text N = text_of (blif_lines N)
-
--- the most bytes of a netlist that is read
-abbrev pub text_limit : ℕ
-text_limit = 4194304
-
--- The text is the one that this tool writes for N, and N is of the first kind that it reads: small, sound, with at most
--- eight inputs, each pin an input or an earlier table.
-pub record IsPlainFor (text : Bytes) (N : NetValue) : Type 0 where
-  pub short : length text ≤ text_limit
-  pub is : text ≡ blif_text N
-  pub sound : IsSound N
-  pub small : IsSmall N
-  pub few_inputs : input_count N ≤ 8
-  pub in_order : IsInOrder (input_count N) N.tables
-
-abbrev pub IsPlain : Bytes → Type 0
-IsPlain text = (N : NetValue) × IsPlainFor text N

@@ -1,15 +1,13 @@
 -- Worked examples, computed from the definitions.
-use Rattle.std.specs.Prelude.{◌≡◌, ℕ, ◌-◌, ◌^◌, Bool, true, false, List, [], ◌∷◌, ◌++◌, map, flat_map, length, codes, Some, None}
+use Rattle.std.specs.Prelude.{◌≡◌, ℕ, Bool, true, false, List, [], ◌∷◌, ◌++◌, map, flat_map, length, codes}
 use Rattle.semantics.specs.declared.mark.Mark.TheVariants.{Zero, One, Dash}
 use Rattle.semantics.specs.Texts.{Bytes}
-use Rattle.semantics.specs.Net.{TableValue, NetValue, table_count, literal_count}
+use Rattle.semantics.specs.Net.{TableValue, NetValue, table_count, literal_count, constant_table}
 use Rattle.semantics.specs.Value.{outputs_of}
+use Rattle.semantics.specs.Replaced.{with_table}
 use Rattle.semantics.specs.Error.{abs, rel, ham, error_of, net_error}
 use Rattle.semantics.specs.Vectors.{all_vectors}
 use Rattle.semantics.specs.Blif.{blif_text}
-use Rattle.semantics.specs.Report.{report_text, report_of, vectors_text}
-use Rattle.semantics.specs.Job.{synth, check, demo, job_of}
-use Rattle.semantics.specs.ConstantChain.{constant_table, ConstantMove, constant_moves, made_constant}
 
 abbrev pub text : List (List ℕ) → Bytes
 text lines = flat_map (λ line. line ++ 10 ∷ []) lines
@@ -47,14 +45,12 @@ constant_one = record {
   outputs = 0 ∷ [];
 }
 
-abbrev pub move : ℕ → Bool → ConstantMove
-move table value = record { table = table; value = value }
-
+-- the half adder with a constant in the place of one table, and of both
 abbrev pub constant_sum : NetValue
-constant_sum = made_constant half_adder (move 0 false)
+constant_sum = with_table half_adder 0 (constant_table (codes "s") false)
 
 abbrev pub both_constant : NetValue
-both_constant = made_constant constant_sum (move 1 false)
+both_constant = with_table constant_sum 1 (constant_table (codes "c") false)
 
 -- no tables, and an output that is an input
 abbrev pub wire : NetValue
@@ -111,12 +107,9 @@ pub record ErrorExamples : Type 0 where
   pub carry_too :
       map (net_error abs half_adder both_constant) (all_vectors 2) ≡ 0 ∷ 1 ∷ 1 ∷ 2 ∷ []
   pub carry_to_one :
-      map (net_error abs half_adder (made_constant constant_sum (move 1 true))) (all_vectors 2)
+      map (net_error abs half_adder (with_table constant_sum 1 (constant_table (codes "c") true))) (all_vectors 2)
       ≡ 2 ∷ 1 ∷ 1 ∷ 0 ∷ []
 
-pub record MoveExamples : Type 0 where
-  pub of_half_adder : constant_moves half_adder ≡ move 0 false ∷ move 0 true ∷ move 1 false ∷ move 1 true ∷ []
-  pub after_the_first : constant_moves constant_sum ≡ move 1 false ∷ move 1 true ∷ []
 
 pub record TextExamples : Type 0 where
   pub half_adder_text :
@@ -129,13 +122,6 @@ pub record TextExamples : Type 0 where
       blif_text both_constant
       ≡ text (codes ".model ha" ∷ codes ".inputs a b" ∷ codes ".outputs s c" ∷ codes ".names s" ∷ codes ".names c" ∷ codes ".end" ∷ [])
   pub wire_text : blif_text wire ≡ text (codes ".model w" ∷ codes ".inputs a" ∷ codes ".outputs a" ∷ codes ".end" ∷ [])
-  pub both_constant_report :
-      report_text (report_of abs 3 2 (true ∷ true ∷ []) half_adder both_constant false)
-      ≡ text (codes "salsa 1" ∷ codes "metric abs" ∷ codes "bound 3" ∷ codes "maximum 2" ∷ codes "witness 11"
-      ∷ codes "tables 2 2" ∷ codes "literals 6 0" ∷ codes "minimal no" ∷ [])
-  pub both_constant_vectors :
-      vectors_text (true ∷ true ∷ []) (all_vectors 2)
-      ≡ text (codes "11" ∷ codes "00" ∷ codes "10" ∷ codes "01" ∷ codes "11" ∷ [])
   pub constant_text :
       blif_text constant_one
       ≡ text (codes ".model k" ∷ codes ".inputs" ∷ codes ".outputs y" ∷ codes ".names y" ∷ codes "1" ∷ codes ".end" ∷ [])
@@ -143,39 +129,3 @@ pub record TextExamples : Type 0 where
       blif_text out_of_order
       ≡ text (codes ".model k" ∷ codes ".inputs a" ∷ codes ".outputs z y a" ∷ codes ".names y z" ∷ codes "0 1"
       ∷ codes ".names a y" ∷ codes "1 0" ∷ codes ".end" ∷ [])
-  pub report :
-      report_text (report_of abs 1 1 (true ∷ false ∷ []) half_adder half_adder true)
-      ≡ text (codes "salsa 1" ∷ codes "metric abs" ∷ codes "bound 1" ∷ codes "maximum 1" ∷ codes "witness 10"
-      ∷ codes "tables 2 2" ∷ codes "literals 6 6" ∷ codes "minimal yes" ∷ [])
-  pub no_bits :
-      report_text (report_of abs 0 0 [] constant_one constant_one false)
-      ≡ text (codes "salsa 1" ∷ codes "metric abs" ∷ codes "bound 0" ∷ codes "maximum 0" ∷ codes "witness "
-      ∷ codes "tables 1 1" ∷ codes "literals 0 0" ∷ codes "minimal no" ∷ [])
-  pub vectors :
-      vectors_text (true ∷ false ∷ []) (all_vectors 2)
-      ≡ text (codes "10" ∷ codes "00" ∷ codes "10" ∷ codes "01" ∷ codes "11" ∷ [])
-  pub empty_vectors : vectors_text [] (all_vectors 0) ≡ 10 ∷ 10 ∷ []
-
-abbrev pub synth_words : List ℕ → List ℕ → List ℕ → List ℕ → List ℕ → List Bytes
-synth_words metric bound conflicts input stem = codes "synth" ∷ metric ∷ bound ∷ conflicts ∷ input ∷ stem ∷ []
-
-pub record JobExamples : Type 0 where
-  pub no_words : job_of [] ≡ None
-  pub other_word : job_of (codes "--help" ∷ []) ≡ None
-  pub leading_zero : job_of (synth_words (codes "abs") (codes "01") (codes "1") (codes "a") (codes "b")) ≡ None
-  pub large_bound : job_of (synth_words (codes "abs") (codes "19342813113834066795298816") (codes "1") (codes "a") (codes "b")) ≡ None
-  pub largest_bound :
-      job_of (synth_words (codes "abs") (codes "19342813113834066795298815") (codes "1") (codes "a") (codes "b"))
-      ≡ Some (synth abs (2 ^ 84 - 1) 1 (codes "a") (codes "b"))
-  pub no_conflicts : job_of (synth_words (codes "abs") (codes "1") (codes "0") (codes "a") (codes "b")) ≡ None
-  pub many_conflicts : job_of (synth_words (codes "abs") (codes "1") (codes "100001") (codes "a") (codes "b")) ≡ None
-  pub other_metric : job_of (synth_words (codes "max") (codes "1") (codes "1") (codes "a") (codes "b")) ≡ None
-  pub bundle_name : job_of (synth_words (codes "abs") (codes "1") (codes "1") (codes "b.cnf") (codes "b")) ≡ None
-  pub wide : job_of (codes "demo" ∷ codes "33" ∷ codes "1" ∷ codes "1" ∷ []) ≡ None
-  pub no_width : job_of (codes "demo" ∷ codes "0" ∷ codes "1" ∷ codes "1" ∷ []) ≡ None
-  pub a_demo : job_of (codes "demo" ∷ codes "32" ∷ codes "0" ∷ codes "100000" ∷ []) ≡ Some (demo 32 0 100000)
-  pub a_check : job_of (codes "check" ∷ codes "ham" ∷ codes "7" ∷ codes "a" ∷ codes "b" ∷ []) ≡ Some (check ham 7 (codes "a") (codes "b"))
-  pub a_synth : job_of (synth_words (codes "rel") (codes "10") (codes "1000") (codes "a.blif") (codes "b")) ≡ Some (synth rel 10 1000 (codes "a.blif") (codes "b"))
-  pub empty_input : job_of (synth_words (codes "abs") (codes "1") (codes "1") [] (codes "b")) ≡ None
-  pub empty_stem : job_of (synth_words (codes "abs") (codes "1") (codes "1") (codes "a") []) ≡ None
-  pub sign : job_of (synth_words (codes "abs") (codes "-1") (codes "1") (codes "a") (codes "b")) ≡ None

@@ -1,6 +1,6 @@
 -- Nets, their soundness and their size. Source: BLIF's `.model`, `.inputs`, `.outputs` and `.names`; the limits are this tool's own.
 -- Signals 0 to n - 1 are the n inputs, and signal n + i is table i.
-use Rattle.std.specs.Prelude.{◌≡◌, ◌≢◌, ◌⊎◌, ℕ, zero, suc, ◌+◌, ◌-◌, ◌<◌, ◌≤◌, Bool, true, false, List, [], ◌++◌, map, length, slice_index, slice_index_or, sum_by, count_by, All, AllPairs}
+use Rattle.std.specs.Prelude.{◌≡◌, ◌≢◌, ◌⊎◌, ℕ, zero, suc, ◌+◌, ◌-◌, ◌<◌, ◌≤◌, Bool, true, false, List, [], ◌∷◌, ◌++◌, map, length, slice_index, slice_index_or, sum_by, count_by, All, AllPairs}
 use Rattle.std.specs.List.{AllByRecursion}
 use Rattle.semantics.specs.declared.mark.Mark.{Mark}
 use Rattle.semantics.specs.declared.mark.Mark.TheVariants.{Zero, One, Dash}
@@ -62,6 +62,11 @@ pin_count N = sum_by (λ t. length t.pins) N.tables
 
 abbrev pub row_count : NetValue → ℕ
 row_count N = sum_by (λ t. length t.rows) N.tables
+
+-- The canonical constants: no pins and plane 1; constant 0 has no row, and constant 1 has one row without marks.
+abbrev pub constant_table : Bytes → Bool → TableValue
+constant_table name false = record { name = name; pins = []; rows = []; plane = true }
+constant_table name true = record { name = name; pins = []; rows = [] ∷ []; plane = true }
 
 -- A name has 1 to 1,023 bytes, each printable, no blank and no `#`, and does not end in a backslash.
 abbrev pub IsNameByte : ℕ → Type 0

@@ -10,10 +10,11 @@ use Rattle.semantics.specs.Texts.{Bytes}
 use Rattle.semantics.specs.Net.{TableValue, NetValue, no_table, table_at, table_literals, literal_count, input_count, IsSmall}
 use Rattle.semantics.specs.Error.{Metric, net_error}
 use Rattle.semantics.specs.Vectors.{IsFirstGreatestAt}
-use Rattle.semantics.specs.Chain.IsInChain.{first, next}
-use Rattle.semantics.specs.ConstantChain.{constant_table, ConstantMove, constant_moves, made_constant, IsAllowedConstant, IsInConstantChain, IsConstantChainEnd}
-use Rattle.semantics.specs.Synthesis.{IsSimplifiedFrom}
-use Rattle.semantics.proofs.Chains.{first_move_falls, chain_reduces, chain_within}
+use Rattle.chain_semantics.specs.Chain.IsInChain.{first, next}
+use Rattle.chain_semantics.specs.ConstantChain.{ConstantMove, constant_moves, made_constant, IsAllowedConstant, IsInConstantChain, IsConstantChainEnd}
+use Rattle.semantics.specs.Net.{constant_table}
+use Rattle.job_semantics.specs.Synthesis.{IsSimplifiedFrom}
+use Rattle.chain_semantics.proofs.Chains.{first_move_falls, chain_reduces, chain_within}
 use Rattle.synth_core.specs.Words.{IsComparable}
 use Rattle.synth_core.specs.Step.{IsFirstStep}
 use Rattle.synth_core.proofs.MoveLists.{falling_within}

@@ -6,8 +6,9 @@ use Rattle.std.proofs.lemmas.List.{set_past, take-append-drop, drop_more}
 use Rattle.std.proofs.lemmas.List.Elements.{All-weaker, All-get_or, All-more, recursion_from_All}
 use Rattle.semantics.specs.Net.{NetValue, table_at, table_count, table_literals, literal_count}
 use Rattle.semantics.specs.Error.{Metric, IsWithin}
-use Rattle.semantics.specs.ConstantChain.{constant_table, ConstantMove, constant_moves, made_constant, IsAllowedConstant}
-use Rattle.semantics.proofs.Chains.{moves_fall}
+use Rattle.chain_semantics.specs.ConstantChain.{ConstantMove, constant_moves, made_constant, IsAllowedConstant}
+use Rattle.semantics.specs.Net.{constant_table}
+use Rattle.chain_semantics.proofs.Chains.{moves_fall}
 use Rattle.synth_core.specs.Step.{IsFirstStep}
 
 -- what removes literals is a move of one of the tables

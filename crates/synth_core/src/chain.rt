@@ -2,7 +2,7 @@
 ghost use Rattle.std.specs.Prelude.{◌≡◌, ◌^◌, ◌<◌, ◌≤◌, length, IfOk, MatchOption};
 ghost use Rattle.std.specs.List.{AllByRecursion};
 ghost use Rattle.semantics.specs.Net.{input_count, literal_count};
-ghost use Rattle.semantics.specs.ConstantChain.{constant_moves, IsAllowedConstant, IsConstantChainEnd};
+ghost use Rattle.chain_semantics.specs.ConstantChain.{constant_moves, IsAllowedConstant, IsConstantChainEnd};
 ghost use Rattle.joint_net.specs.Metric.{meaning};
 ghost use Rattle.synth_core.specs.Words.{words_of, IsComparable};
 ghost use Rattle.synth_core.specs.Step.{IsFirstStep};

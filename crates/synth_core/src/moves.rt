@@ -1,7 +1,7 @@
 //! The moves that make a table constant, in the order in which they are tried.
 ghost use Rattle.std.specs.Prelude.{◌≡◌, ◌^◌, ◌<◌, IfOk};
 ghost use Rattle.semantics.specs.Net.{literal_count};
-ghost use Rattle.semantics.specs.ConstantChain.{constant_moves};
+ghost use Rattle.chain_semantics.specs.ConstantChain.{constant_moves};
 
 use net_core::items::Items;
 use net_core::net::Net;
@@ -16,7 +16,7 @@ pub struct ConstantMove {
 }
 
 impl Model for ConstantMove {
-    ghost use Rattle.semantics.specs.ConstantChain.{ConstantMove as Move};
+    ghost use Rattle.chain_semantics.specs.ConstantChain.{ConstantMove as Move};
 
     ghost Value = { Move };
 

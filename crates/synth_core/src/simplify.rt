@@ -1,8 +1,8 @@
 //! Simplification within a bound on the error.
 ghost use Rattle.std.specs.Prelude.{◌≡◌, ◌^◌, ◌<◌, ◌≤◌, length, IfOk};
 ghost use Rattle.semantics.specs.Net.{input_count, literal_count, IsSmall};
-ghost use Rattle.semantics.specs.Laws.{IsReducedFrom};
-ghost use Rattle.semantics.specs.Synthesis.{IsSimplifiedFrom};
+ghost use Rattle.chain_semantics.specs.Laws.{IsReducedFrom};
+ghost use Rattle.job_semantics.specs.Synthesis.{IsSimplifiedFrom};
 ghost use Rattle.joint_net.specs.Metric.{meaning};
 
 use crate::chain::end_of_constant_chain;

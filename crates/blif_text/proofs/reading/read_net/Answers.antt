@@ -2,7 +2,7 @@ use Rattle.std.proofs.Common.{◌≡◌, ◌≢◌, List, [], ◌∷◌, map, le
 use Rattle.std.proofs.lemmas.Result.{err_from_is_err_and}
 use Rattle.semantics.specs.Texts.{Bytes, Line}
 use Rattle.semantics.specs.Net.{NetValue, IsName, IsInOrder}
-use Rattle.semantics.specs.PlainReading.{read_lines}
+use Rattle.blif_semantics.specs.PlainReading.{read_lines}
 use Rattle.blif_text.specs.Words.{texts, words_of}
 use Rattle.blif_text.specs.Reading.{IsReadAs}
 use Rattle.blif_text.proofs.Steps.{passed_on}

@@ -1,5 +1,5 @@
 use Rattle.std.proofs.Common.{◌≡◌, take, Some}
-use Rattle.semantics.specs.PlainReading.{marks_of}
+use Rattle.blif_semantics.specs.PlainReading.{marks_of}
 use Rattle.blif_text.proofs.rows.read_marks.Given as goal
 
 abbrev pub invariant-loop-byte : goal.invariant-loop-byte

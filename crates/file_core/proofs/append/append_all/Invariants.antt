@@ -1,6 +1,6 @@
 use Rattle.std.proofs.Common.{◌≡◌, ◌++◌, length}
 use Rattle.semantics.specs.Texts.{Bytes}
-use Rattle.semantics.specs.Outside.{Wrote}
+use Rattle.outside_semantics.specs.Outside.{Wrote}
 use Rattle.file_core.proofs.append.append_all.Given as goal
 
 abbrev pub invariant-loop-rest : goal.invariant-loop-rest

@@ -1,5 +1,5 @@
 use Rattle.std.proofs.Common.{take}
-use Rattle.semantics.specs.Outside.{Wrote}
+use Rattle.outside_semantics.specs.Outside.{Wrote}
 use Rattle.file_core.specs.Pieces.{joined}
 use Rattle.file_core.proofs.append.append_pieces.Given as goal
 

@@ -1,6 +1,6 @@
 use Rattle.std.proofs.Common.{◌≡◌, ◌++◌, length}
 use Rattle.semantics.specs.Texts.{Bytes}
-use Rattle.semantics.specs.Outside.{Took}
+use Rattle.outside_semantics.specs.Outside.{Took}
 use Rattle.file_core.proofs.append.put_all.Given as goal
 
 abbrev pub invariant-loop-rest : goal.invariant-loop-rest

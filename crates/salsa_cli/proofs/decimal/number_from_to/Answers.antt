@@ -2,7 +2,8 @@ use Rattle.std.proofs.Common.{◌≡◌, ℕ, ◌+◌, ◌-◌, ◌*◌, ◌<◌
 use Rattle.std.proofs.lemmas.List.{at_drop_more}
 use Rattle.std.proofs.lemmas.Bool.Decides.{nat_tests}
 use Rattle.semantics.specs.Texts.{Bytes}
-use Rattle.semantics.specs.Job.{digits_number, is_decimal, number_from_to}
+use Rattle.job_semantics.specs.Job.{number_from_to}
+use Rattle.semantics.specs.Decimal.{digits_number, is_decimal}
 use Rattle.salsa_cli.proofs.decimal.number_from_to.Goals as goal
 
 -- further digits make no number smaller

@@ -1,6 +1,6 @@
 use Rattle.std.proofs.Common.{◌≡◌, ◌+◌, ◌-◌, ◌*◌, ◌≤◌, drop, fold}
 use Rattle.std.specs.List.{list_all}
-use Rattle.semantics.specs.Job.{digits_number, is_digit}
+use Rattle.semantics.specs.Decimal.{digits_number, is_digit}
 use Rattle.salsa_cli.proofs.decimal.number_from_to.Given as goal
 
 abbrev pub invariant-loop-digit : goal.invariant-loop-digit

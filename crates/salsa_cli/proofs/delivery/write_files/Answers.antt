@@ -1,8 +1,8 @@
 use Rattle.std.proofs.Common.{◌≡◌, List, [], ◌∷◌, refl, subst}
 use Rattle.std.proofs.lemmas.Result.{err_from_is_err_and, on_ok_weaker, on_err_weaker}
 use Rattle.semantics.specs.Texts.{Bytes}
-use Rattle.semantics.specs.Outside.{FilesTold}
-use Rattle.semantics.specs.Bundle.{File, FilesWritten, FilesCutShort}
+use Rattle.outside_semantics.specs.Outside.{FilesTold}
+use Rattle.outside_semantics.specs.WrittenFiles.{File, FilesWritten, FilesCutShort}
 use Rattle.salsa_cli.proofs.FilesInOrder.{FilesWritten-then, FilesCutShort-after, FilesCutShort-more}
 use Rattle.salsa_cli.proofs.delivery.write_files.Goals as goal
 

@@ -1,7 +1,7 @@
 use Rattle.std.proofs.Common.{◌≡◌, subst}
 use Rattle.semantics.specs.Texts.{Bytes}
 use Rattle.semantics.specs.Net.{NetValue}
-use Rattle.semantics.specs.Blif.{IsPlainFor, IsPlain}
+use Rattle.blif_semantics.specs.Plain.{IsPlainFor, IsPlain}
 use Rattle.blif_text.specs.declared.reading.Plain.{Plain}
 use Rattle.blif_text.specs.declared.reading.Plain.TheVariants.{Net, Other}
 use Rattle.blif_text.specs.Plain.{IsAnswerFor}

@@ -3,8 +3,8 @@ use Rattle.std.proofs.lemmas.List.{append-nil, length-take, length-replicate}
 use Rattle.std.proofs.Math.Seq.{take-add}
 use Rattle.std.proofs.lemmas.Bool.Decides.{nat_tests}
 use Rattle.semantics.specs.Texts.{Bytes}
-use Rattle.semantics.specs.Blif.{text_limit}
-use Rattle.semantics.specs.Outside.{Held, FilesTold, Gave, bytes_of}
+use Rattle.blif_semantics.specs.Plain.{text_limit}
+use Rattle.outside_semantics.specs.Outside.{Held, FilesTold, Gave, bytes_of}
 use Rattle.salsa_cli.specs.Reading.{HasRead, TurnRead}
 use Rattle.salsa_cli.proofs.reading.read_turn.Goals as goal
 

@@ -3,7 +3,7 @@ use Rattle.std.specs.Prelude.{codes, decimal}
 use Rattle.std.proofs.lemmas.List.{append-nil}
 use Rattle.semantics.specs.Texts.{Bytes, bits_word, line_text, text_of}
 use Rattle.semantics.specs.Error.{abs}
-use Rattle.semantics.specs.Report.{report_text}
+use Rattle.job_semantics.specs.Report.{report_text}
 use Rattle.salsa_cli.proofs.report.report.Goals as goal
 
 -- eight texts, one after another

@@ -4,7 +4,7 @@ use Rattle.std.proofs.lemmas.List.{append-nil, map-append}
 use Rattle.std.proofs.lemmas.Grind.{flat_map-append}
 use Rattle.std.proofs.lemmas.List.FromFn.{map-range_with_len_more}
 use Rattle.semantics.specs.Texts.{Line, bits_word, line_text, text_of}
-use Rattle.semantics.specs.Report.{vectors_text}
+use Rattle.job_semantics.specs.Report.{vectors_text}
 use Rattle.semantics.specs.Vectors.{bits_of, all_vectors}
 use Rattle.salsa_cli.proofs.report.vectors.Goals as goal
 

@@ -1,7 +1,7 @@
 use Rattle.std.proofs.Common.{◌≡◌, map, length}
 use Rattle.std.specs.Prelude.{string_bytes}
 use Rattle.std.specs.List.{range_with_len}
-use Rattle.semantics.specs.Report.{vectors_text}
+use Rattle.job_semantics.specs.Report.{vectors_text}
 use Rattle.semantics.specs.Vectors.{bits_of}
 use Rattle.salsa_cli.proofs.report.vectors.Given as goal
 

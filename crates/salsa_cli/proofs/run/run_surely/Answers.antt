@@ -1,11 +1,11 @@
 use Rattle.std.proofs.Common.{◌≡◌, ◌≢◌, inl, inr, ℕ, true, false, Option, Some, None, refl, sym, ap, ◌∙◌, subst, arith}
 use Rattle.semantics.specs.Texts.{Bytes}
 use Rattle.semantics.specs.Error.{abs, rel, ham}
-use Rattle.semantics.specs.Job.{Job, synth, check, demo}
+use Rattle.job_semantics.specs.Job.{Job, synth, check, demo}
 use Rattle.std.specs.FinMap.{contains_key}
-use Rattle.semantics.specs.Blif.{IsPlain}
-use Rattle.semantics.specs.Outside.{bytes_of}
-use Rattle.semantics.specs.Synthesis.{IsQuiet, synth_needs_steady}
+use Rattle.blif_semantics.specs.Plain.{IsPlain}
+use Rattle.outside_semantics.specs.Outside.{bytes_of}
+use Rattle.job_semantics.specs.Synthesis.{IsQuiet, synth_needs_steady}
 use Rattle.file_core.specs.Sure.{SureValue, sure_told, held_where, sure_sink_told}
 use Rattle.salsa_cli.specs.declared.status.Status.{Status}
 use Rattle.salsa_cli.specs.declared.status.Status.TheVariants.{Usage, NotYet, ReadFault, WriteFault}

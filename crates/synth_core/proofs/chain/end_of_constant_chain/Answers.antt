@@ -1,5 +1,5 @@
 use Rattle.std.proofs.Common.{arith}
-use Rattle.semantics.proofs.Chains.{chain_reduces}
+use Rattle.chain_semantics.proofs.Chains.{chain_reduces}
 use Rattle.joint_net.specs.Metric.{meaning}
 use Rattle.synth_core.proofs.Members.{first_member, next_member, step_falls, found_step, IsComparable-member}
 use Rattle.synth_core.proofs.chain.end_of_constant_chain.Goals as goal

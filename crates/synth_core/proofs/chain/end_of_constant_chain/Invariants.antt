@@ -1,5 +1,5 @@
 use Rattle.semantics.specs.Net.{literal_count}
-use Rattle.semantics.specs.ConstantChain.{IsInConstantChain}
+use Rattle.chain_semantics.specs.ConstantChain.{IsInConstantChain}
 use Rattle.joint_net.specs.Metric.{meaning}
 use Rattle.synth_core.proofs.chain.end_of_constant_chain.Given as goal
 

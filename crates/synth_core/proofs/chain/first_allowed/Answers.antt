@@ -2,7 +2,7 @@ use Rattle.std.proofs.Common.{◌≡◌, ap, length, ◌∙◌, subst, All, arit
 use Rattle.std.proofs.lemmas.Bool.{iff_false}
 use Rattle.std.proofs.lemmas.List.{take_all}
 use Rattle.std.proofs.lemmas.List.Elements.{recursion_from_All}
-use Rattle.semantics.specs.ConstantChain.{ConstantMove, constant_moves, IsAllowedConstant}
+use Rattle.chain_semantics.specs.ConstantChain.{ConstantMove, constant_moves, IsAllowedConstant}
 use Rattle.joint_net.specs.Metric.{meaning}
 use Rattle.synth_core.proofs.MoveLists.{read_within, IsMadeAt-from_parts, IsFirstStep-at, none_more}
 use Rattle.synth_core.proofs.chain.first_allowed.Goals as goal

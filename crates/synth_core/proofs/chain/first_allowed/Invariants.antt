@@ -1,5 +1,5 @@
 use Rattle.std.proofs.Common.{◌≡◌, take, All}
-use Rattle.semantics.specs.ConstantChain.{constant_moves, IsAllowedConstant}
+use Rattle.chain_semantics.specs.ConstantChain.{constant_moves, IsAllowedConstant}
 use Rattle.joint_net.specs.Metric.{meaning}
 use Rattle.synth_core.specs.Widths.{widths_of}
 use Rattle.synth_core.proofs.chain.first_allowed.Given as goal

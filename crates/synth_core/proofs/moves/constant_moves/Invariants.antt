@@ -1,5 +1,5 @@
 use Rattle.std.proofs.Common.{◌≡◌, ◌++◌, drop}
-use Rattle.semantics.specs.ConstantChain.{moves_from}
+use Rattle.chain_semantics.specs.ConstantChain.{moves_from}
 use Rattle.synth_core.proofs.moves.constant_moves.Given as goal
 
 -- the moves so far, and those of the tables that are left

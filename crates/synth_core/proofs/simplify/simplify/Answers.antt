@@ -1,5 +1,5 @@
 use Rattle.std.proofs.Common.{ap, length}
-use Rattle.semantics.proofs.Chains.{chain_reduces}
+use Rattle.chain_semantics.proofs.Chains.{chain_reduces}
 use Rattle.joint_net.specs.Metric.{meaning}
 use Rattle.synth_core.proofs.Members.{IsSmall-member, IsSimplifiedFrom-end}
 use Rattle.synth_core.proofs.simplify.simplify.Goals as goal

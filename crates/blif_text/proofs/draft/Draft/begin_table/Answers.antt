@@ -3,7 +3,7 @@ use Rattle.std.proofs.lemmas.List.{map_push, length_push}
 use Rattle.std.proofs.lemmas.Result.{err_from_is_err_and}
 use Rattle.semantics.specs.Texts.{Bytes}
 use Rattle.semantics.specs.Net.{IsName}
-use Rattle.semantics.specs.PlainReading.{with_table}
+use Rattle.blif_semantics.specs.PlainReading.{with_table}
 use Rattle.blif_text.specs.Words.{texts}
 use Rattle.blif_text.proofs.Steps.{passed_on, turned_into}
 use Rattle.blif_text.proofs.Drafts.{begun, begun_last, begun_as, IsProper-begun, twice_named, last_named}

@@ -1,6 +1,6 @@
 use Rattle.std.proofs.Common.{◌+◌, ◌≤◌, length, sym, ap, subst, ◌∙◌}
 use Rattle.std.proofs.lemmas.Result.{on_ok_weaker}
-use Rattle.semantics.specs.PlainReading.{Draft}
+use Rattle.blif_semantics.specs.PlainReading.{Draft}
 use Rattle.blif_text.specs.Words.{texts, words_of}
 use Rattle.blif_text.specs.Reading.{IsProper, AddsRow}
 use Rattle.blif_text.proofs.Drafts.{row_step, IsProper-row, few-row, IsHopeless-none}

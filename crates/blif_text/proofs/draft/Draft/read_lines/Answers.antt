@@ -1,7 +1,7 @@
 use Rattle.std.proofs.Common.{◌+◌, drop, map, get_or, sym, ap, ◌∙◌}
 use Rattle.std.proofs.lemmas.List.{drop_more}
 use Rattle.std.proofs.lemmas.Result.{err_from_is_err_and}
-use Rattle.semantics.specs.PlainReading.{read_lines}
+use Rattle.blif_semantics.specs.PlainReading.{read_lines}
 use Rattle.blif_text.specs.Words.{texts, words_of}
 use Rattle.blif_text.proofs.Steps.{no_slice, passed_on}
 use Rattle.blif_text.proofs.Drafts.{IsHopeless-from}

@@ -1,5 +1,5 @@
 use Rattle.std.proofs.Common.{◌≡◌, ◌+◌, ◌≤◌, length, drop, map}
-use Rattle.semantics.specs.PlainReading.{read_lines}
+use Rattle.blif_semantics.specs.PlainReading.{read_lines}
 use Rattle.blif_text.specs.Words.{texts, words_of}
 use Rattle.blif_text.specs.Reading.{IsProper}
 use Rattle.blif_text.proofs.draft.Draft.read_lines.Given as goal

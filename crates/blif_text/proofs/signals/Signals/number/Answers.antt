@@ -1,5 +1,5 @@
 use Rattle.std.proofs.Common.{ap, ◌∙◌}
-use Rattle.semantics.specs.PlainReading.{signal_of}
+use Rattle.blif_semantics.specs.PlainReading.{signal_of}
 use Rattle.blif_text.proofs.Named.{position-texts}
 use Rattle.blif_text.proofs.signals.Signals.number.Goals as goal
 

@@ -1,5 +1,5 @@
 use Rattle.std.proofs.Common.{◌≡◌, take, Some}
-use Rattle.semantics.specs.PlainReading.{signals_of}
+use Rattle.blif_semantics.specs.PlainReading.{signals_of}
 use Rattle.blif_text.specs.Words.{texts}
 use Rattle.blif_text.proofs.signals.Signals.numbers.Given as goal
 

@@ -1,6 +1,6 @@
 use Rattle.std.proofs.Common.{◌≡◌, ℕ, ◌+◌, ◌<◌, min, length, take, drop, true, None, Some, sym, ap, subst, ◌∙◌, inl, inr, rules}
 use Rattle.std.proofs.lemmas.Result.{err_from_is_err_and}
-use Rattle.semantics.specs.Outside.{Place, bytes_of}
+use Rattle.outside_semantics.specs.Outside.{Place, bytes_of}
 use Rattle.file_core.specs.Cursor.{memory_value, place_of}
 use Rattle.file_core.specs.Memory.{MemoryValue, fails_next, faulted, read_on, left_of}
 use Rattle.file_core.proofs.Memory.{Later-from, Rises-Rises, Gave-memory, ReadFailed-memory, counted_reading, count-counted, next_bytes-counted}

@@ -2,7 +2,7 @@ use Rattle.std.proofs.Common.{◌≡◌, Bool, true, false, None, Some, refl, sy
 use Rattle.std.proofs.lemmas.Bool.{both_ways}
 use Rattle.std.specs.FinMap.{contains_key}
 use Rattle.semantics.specs.Texts.{Bytes}
-use Rattle.semantics.specs.Outside.{Held}
+use Rattle.outside_semantics.specs.Outside.{Held}
 use Rattle.file_core.specs.Entries.{held_in, name_at}
 use Rattle.file_core.specs.Sure.{SureValue, found, not_found}
 use Rattle.file_core.proofs.Memory.{contains_key-first, contains_key-lacks}

@@ -1,6 +1,6 @@
 use Rattle.std.proofs.Common.{◌≡◌, ℕ, ◌+◌, ◌-◌, min, List, length, take, drop, Option, Some, sym, ap, ◌∙◌, arith, rules}
 use Rattle.semantics.specs.Texts.{Bytes}
-use Rattle.semantics.specs.Outside.{Held, bytes_of}
+use Rattle.outside_semantics.specs.Outside.{Held, bytes_of}
 use Rattle.file_core.specs.declared.cursor.Cursor.{Cursor}
 use Rattle.file_core.specs.Cursor.{place_of}
 use Rattle.file_core.specs.Entries.{Entry, held_in, name_at, bytes_at, IsCounted}

@@ -1,0 +1,4 @@
+pub mod Chain
+pub mod ConstantChain
+pub mod Laws
+pub mod Examples

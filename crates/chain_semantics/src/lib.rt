@@ -1,0 +1,5 @@
+//! Chains of simplifications, and the laws about them. It has no code.
+#![tactic(auto)]
+
+pub mod examples;
+pub mod laws;

@@ -1,0 +1,26 @@
+-- by computation
+use Rattle.std.proofs.Common.{refl}
+use Rattle.job_semantics.specs.Job.{job_of}
+use Rattle.job_semantics.proofs.examples.jobs.Goals as goal
+
+pub returns : goal.returns
+unfolding job_of
+returns c = record {
+  no_words = refl;
+  other_word = refl;
+  leading_zero = refl;
+  large_bound = refl;
+  largest_bound = refl;
+  no_conflicts = refl;
+  many_conflicts = refl;
+  other_metric = refl;
+  bundle_name = refl;
+  wide = refl;
+  no_width = refl;
+  a_demo = refl;
+  a_check = refl;
+  a_synth = refl;
+  empty_input = refl;
+  empty_stem = refl;
+  sign = refl;
+}

@@ -1,0 +1,81 @@
+-- The job that the words of the command line name. Source: this tool's own table of commands.
+use Rattle.std.specs.Prelude.{ℕ, ◌-◌, ◌^◌, Bool, true, false, not, ◌&&◌, List, [], ◌∷◌, ◌++◌, codes, nat_le, bytes_eq, Option, Some, None, if◌then◌else◌}
+use Rattle.std.specs.List.{list_any}
+use Rattle.semantics.specs.Texts.{Bytes}
+use Rattle.semantics.specs.Optional.{◌>>=◌}
+use Rattle.semantics.specs.Decimal.{digits_number, is_decimal}
+use Rattle.semantics.specs.Error.{Metric, abs, rel, ham}
+
+pub data Job : Type 0 where
+  synth : Metric → (bound conflicts : ℕ) → (input stem : Bytes) → Job
+  check : Metric → (bound : ℕ) → (input stem : Bytes) → Job
+  demo : (width bound conflicts : ℕ) → Job
+
+-- the number that the word is, if it is a decimal number from low to high
+abbrev pub number_from_to : ℕ → ℕ → Bytes → Option ℕ
+number_from_to low high word =
+    if is_decimal word && (nat_le low (digits_number word) && nat_le (digits_number word) high)
+    then Some (digits_number word)
+    else None
+
+abbrev pub bound_of : Bytes → Option ℕ
+bound_of = number_from_to 0 (2 ^ 84 - 1)
+
+abbrev pub conflicts_of : Bytes → Option ℕ
+conflicts_of = number_from_to 1 100000
+
+abbrev pub width_of : Bytes → Option ℕ
+width_of = number_from_to 1 32
+
+abbrev pub metric_of : Bytes → Option Metric
+metric_of word =
+    if bytes_eq word (codes "abs") then Some abs
+    else (if bytes_eq word (codes "rel") then Some rel
+    else (if bytes_eq word (codes "ham") then Some ham
+    else None))
+
+-- the five files of a bundle
+abbrev pub bundle_endings : List Bytes
+bundle_endings = codes ".blif" ∷ codes ".cnf" ∷ codes ".lrat" ∷ codes ".wit" ∷ codes ".txt" ∷ []
+
+abbrev pub is_bundle_name : Bytes → Bytes → Bool
+is_bundle_name stem name = list_any (λ ending. bytes_eq name (stem ++ ending)) bundle_endings
+
+abbrev pub is_empty_word : Bytes → Bool
+is_empty_word [] = true
+is_empty_word (c ∷ cs) = false
+
+-- IN and STEM are not empty, and IN is no file of the bundle
+abbrev pub are_file_words : Bytes → Bytes → Bool
+are_file_words input stem = not (is_empty_word input) && (not (is_empty_word stem) && not (is_bundle_name stem input))
+
+abbrev pub synth_of : List Bytes → Option Job
+synth_of (m ∷ b ∷ c ∷ input ∷ stem ∷ []) = do
+  metric ← metric_of m
+  bound ← bound_of b
+  conflicts ← conflicts_of c
+  if are_file_words input stem then Some (synth metric bound conflicts input stem) else None
+synth_of _ = None
+
+abbrev pub check_of : List Bytes → Option Job
+check_of (m ∷ b ∷ input ∷ stem ∷ []) = do
+  metric ← metric_of m
+  bound ← bound_of b
+  if are_file_words input stem then Some (check metric bound input stem) else None
+check_of _ = None
+
+abbrev pub demo_of : List Bytes → Option Job
+demo_of (w ∷ b ∷ c ∷ []) = do
+  width ← width_of w
+  bound ← bound_of b
+  conflicts ← conflicts_of c
+  Some (demo width bound conflicts)
+demo_of _ = None
+
+unfoldable pub job_of : List Bytes → Option Job
+job_of [] = None
+job_of (command ∷ words) =
+    if bytes_eq command (codes "synth") then synth_of words
+    else (if bytes_eq command (codes "check") then check_of words
+    else (if bytes_eq command (codes "demo") then demo_of words
+    else None))

@@ -1,0 +1,104 @@
+-- What a synth job with the absolute error comes to, by its answer. Source: SALSA, simplification within a bound on the error.
+use Rattle.std.specs.Prelude.{◌≡◌, ◌⊎◌, ℕ, ◌≤◌, Bool, false, ◌&&◌, IsTrue, Some, List, [], ◌∷◌, ◌++◌, codes}
+use Rattle.std.specs.FinMap.{contains_key}
+use Rattle.semantics.specs.Texts.{Bytes}
+use Rattle.semantics.specs.Net.{NetValue, input_count, table_count, literal_count}
+use Rattle.semantics.specs.Error.{Metric, net_error, IsWithin}
+use Rattle.semantics.specs.Vectors.{all_vectors, IsFirstGreatestAt}
+use Rattle.semantics.specs.Blif.{blif_text}
+use Rattle.blif_semantics.specs.Plain.{IsPlainFor, IsPlain}
+use Rattle.job_semantics.specs.Report.{report_of, report_text, vectors_text}
+use Rattle.chain_semantics.specs.ConstantChain.{IsConstantChainEnd}
+use Rattle.outside_semantics.specs.Outside.{Held, FilesTold, SinkTold, Rose, WhereTold, Took, TakeFailed, bytes_of}
+use Rattle.outside_semantics.specs.WrittenFiles.{File, FilesWritten, FilesCutShort, are_steady}
+
+-- a simplified net, its exact maximum error, and an input that attains it
+pub record Simplified : Type 0 where
+  pub net : NetValue
+  pub maximum : ℕ
+  pub witness : List Bool
+
+-- The net is the end of the constant chain; on every input the error is at most the maximum, which is within the bound
+-- and attained at the witness, the first such input in counting order; nothing grew.
+pub record IsSimplifiedFrom (exact : NetValue) (metric : Metric) (bound : ℕ) (s : Simplified) : Type 0 where
+  pub chain_end : IsConstantChainEnd metric exact bound s.net
+  pub safe : IsWithin metric exact s.maximum s.net
+  pub within : s.maximum ≤ bound
+  pub attained : net_error metric exact s.net s.witness ≡ s.maximum
+  pub first : IsFirstGreatestAt (input_count exact) (net_error metric exact s.net) s.maximum s.witness
+  pub tables : table_count s.net ≤ table_count exact
+  pub literals : literal_count s.net ≤ literal_count exact
+
+abbrev pub synth_report : NetValue → Metric → ℕ → Simplified → Bytes
+synth_report exact metric bound s = report_text (report_of metric bound s.maximum s.witness exact s.net false)
+
+-- the files of a synth job in the order in which they are written
+abbrev pub synth_files : NetValue → Metric → ℕ → Bytes → Simplified → List File
+synth_files exact metric bound stem s =
+    record { name = stem ++ codes ".blif"; text = blif_text s.net }
+    ∷ record { name = stem ++ codes ".wit"; text = vectors_text s.witness (all_vectors (input_count exact)) }
+    ∷ record { name = stem ++ codes ".txt"; text = synth_report exact metric bound s }
+    ∷ []
+
+-- the names that a synth job needs for writing
+abbrev pub needs_steady : FilesTold → Bytes → Bool
+needs_steady told stem = are_steady told (
+    record { name = stem ++ codes ".blif"; text = [] }
+    ∷ record { name = stem ++ codes ".wit"; text = [] }
+    ∷ record { name = stem ++ codes ".txt"; text = [] }
+    ∷ [])
+
+-- P of the files at entry, where they are told and hold the name
+abbrev pub WhereHeld : FilesTold → Bytes → (Held → Type 0) → Type 0
+WhereHeld old name P = (a : Held) → old.held ≡ Some a → IsTrue (contains_key a name) → P a
+
+-- IN was read and is plain for the exact net, and this is what it is simplified to
+pub record IsSimplifiedInput (metric : Metric) (bound : ℕ) (input : Bytes) (old new : FilesTold) (exact : NetValue) (s : Simplified) : Type 0 where
+  pub plain : WhereTold old new (λ a b. IsPlainFor (bytes_of a input) exact)
+  pub plain_at_entry : WhereHeld old input (λ a. IsPlainFor (bytes_of a input) exact)
+  pub simplified : IsSimplifiedFrom exact metric bound s
+
+-- no file changed, what was told of a held IN is told still, and the sink tells what it told
+pub record IsUntouched (input : Bytes) (old new : FilesTold) (said says : SinkTold) : Type 0 where
+  pub files : WhereTold old new (λ a b. b ≡ a)
+  pub still_told : WhereHeld old input (λ a. new.held ≡ Some a)
+  pub sink : says ≡ said
+
+-- done: the files were written, and then the report was put
+pub record SynthDone (metric : Metric) (bound : ℕ) (input stem : Bytes) (old new : FilesTold) (said says : SinkTold) : Type 0 where
+  pub exact : NetValue
+  pub result : Simplified
+  pub right : IsSimplifiedInput metric bound input old new exact result
+  pub files : FilesWritten old new (synth_files exact metric bound stem result)
+  pub report : Took said says (synth_report exact metric bound result)
+
+-- IN is held and is not plain
+pub record SynthNotPlain (input : Bytes) (old new : FilesTold) (said says : SinkTold) : Type 0 where
+  pub untouched : IsUntouched input old new said says
+  pub held : WhereTold old new (λ a b. IsTrue (contains_key a input))
+  pub not_plain : WhereTold old new (λ a b. ¬ IsPlain (bytes_of a input))
+  pub not_plain_at_entry : WhereHeld old input (λ a. ¬ IsPlain (bytes_of a input))
+
+-- a fault came while IN was read, and IN is not steady
+pub record SynthReadFault (input : Bytes) (old new : FilesTold) (said says : SinkTold) : Type 0 where
+  pub untouched : IsUntouched input old new said says
+  pub rose : Rose old.faults new.faults
+  pub not_steady : old.steady_read input ≡ false
+
+-- a file could not be written whole, and nothing was put; or all were, and a first part of the report was put
+pub record SynthWriteFault (metric : Metric) (bound : ℕ) (input stem : Bytes) (old new : FilesTold) (said says : SinkTold) : Type 0 where
+  pub exact : NetValue
+  pub result : Simplified
+  pub right : IsSimplifiedInput metric bound input old new exact result
+  pub left :
+      (FilesCutShort old new (synth_files exact metric bound stem result) × (says ≡ said))
+      ⊎ (FilesWritten old new (synth_files exact metric bound stem result) × TakeFailed said says (synth_report exact metric bound result))
+
+-- No count of faults rose in the call; or the files' count may have risen, but every file that is needed is steady.
+pub record IsQuiet (needed_are_steady : Bool) (old new : FilesTold) (said says : SinkTold) : Type 0 where
+  pub files : (¬ Rose old.faults new.faults) ⊎ IsTrue needed_are_steady
+  pub sink : ¬ Rose said.faults says.faults
+
+-- IN and the files to be written are steady at entry
+abbrev pub synth_needs_steady : FilesTold → Bytes → Bytes → Bool
+synth_needs_steady old input stem = old.steady_read input && needs_steady old stem

@@ -1,0 +1,4 @@
+//! What files and a sink tell, and files written one after another. It has no code.
+#![tactic(auto)]
+
+pub mod laws;

@@ -1,5 +1,0 @@
-use Rattle.semantics.proofs.HeldFiles.{with_files-holds, with_files-others}
-use Rattle.semantics.proofs.laws.written_files.Goals as goal
-
-pub returns : goal.returns
-returns c = record { holds = with_files-holds; others = with_files-others }
