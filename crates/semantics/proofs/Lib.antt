@@ -1,4 +1,12 @@
 pub mod Values
 pub mod Order
+pub mod Embedded
+pub mod Depends
+pub mod Replaced
+pub mod Ordered
+pub mod Grounding
+pub mod Copied
+pub mod Renamed
+pub mod Without
 pub mod Vectors
 pub mod Numerals

@@ -1,8 +1,15 @@
 -- The laws about the definitions, each the contract of a function without parameters.
-use Rattle.std.specs.Prelude.{◌≡◌, ℕ, ◌^◌, ◌<◌, Bool, true, List, length, slice_get, Some, decimal}
+use Rattle.std.specs.Prelude.{◌≡◌, ℕ, ◌+◌, ◌^◌, ◌<◌, Bool, true, false, List, [], ◌∷◌, ◌++◌, map, length, slice_get, slice_index_or, Some, decimal, Contains}
+use Rattle.std.specs.List.{AllByRecursion}
 use Rattle.semantics.specs.Texts.{Bytes}
-use Rattle.semantics.specs.Net.{TableValue, IsAcyclic}
-use Rattle.semantics.specs.Value.{HasOneValue}
+use Rattle.semantics.specs.Net.{TableValue, table_at, IsGroundedIn, IsAcyclic}
+use Rattle.semantics.specs.Replaced.{replaced}
+use Rattle.semantics.specs.Dependence.{DependsOn}
+use Rattle.semantics.specs.Embedding.{IsEmbedded}
+use Rattle.semantics.specs.Order.{IsKnown, IsNext, IsOrderAfter, IsOrderOf}
+use Rattle.semantics.specs.Copies.{IsCopiedBehind}
+use Rattle.semantics.specs.Renamed.{renamed, redirect, raised, without}
+use Rattle.semantics.specs.Value.{Assignment, table_value, value_of, HasOneValue}
 use Rattle.semantics.specs.Error.{number_of}
 use Rattle.semantics.specs.Vectors.{bits_of, all_vectors}
 use Rattle.semantics.specs.Decimal.{digits_number, is_decimal}
@@ -25,3 +32,86 @@ pub record NumeralLaw : Type 0 where
   pub decimal_word : (n : ℕ) → n < 10 ^ 64 → is_decimal (decimal n) ≡ true
   pub number : (n : ℕ) → n < 10 ^ 64 → digits_number (decimal n) ≡ n
   pub only : (word : Bytes) (n : ℕ) → n < 10 ^ 64 → is_decimal word ≡ true → digits_number word ≡ n → word ≡ decimal n
+
+-- where the inputs agree through f, so does every signal; tables that are appended change no value
+pub record EmbeddingLaw : Type 0 where
+  pub values : (n : ℕ) (tables : List TableValue) (m : ℕ) (larger : List TableValue) (f : ℕ → ℕ) (x y : List Bool)
+      → IsAcyclic n tables → IsAcyclic m larger → IsEmbedded n tables m larger f
+      → ((i : ℕ) → i < n → slice_index_or y i false ≡ value_of m larger x (f i))
+      → (s : ℕ) → s < n + length tables → value_of m larger x (f s) ≡ value_of n tables y s
+  pub appended : (n : ℕ) (tables more : List TableValue) (x : List Bool) → IsAcyclic n tables → IsAcyclic n (tables ++ more)
+      → (s : ℕ) → s < n + length tables → value_of n (tables ++ more) x s ≡ value_of n tables x s
+
+-- one table of a list replaced, both lists acyclic
+pub record ReplacedLaw : Type 0 where
+  pub apart : (n : ℕ) (tables : List TableValue) (t : ℕ) (new : TableValue) (x : List Bool) → IsAcyclic n tables → IsAcyclic n (replaced tables t new)
+      → (s : ℕ) → s < n + length tables → ¬ DependsOn n tables t s → value_of n (replaced tables t new) x s ≡ value_of n tables x s
+  pub same : (n : ℕ) (tables : List TableValue) (t : ℕ) (new : TableValue) (x : List Bool) → IsAcyclic n tables → IsAcyclic n (replaced tables t new)
+      → table_value new (value_of n tables x) ≡ value_of n tables x (n + t)
+      → (s : ℕ) → s < n + length tables → value_of n (replaced tables t new) x s ≡ value_of n tables x s
+  pub new : (n : ℕ) (tables : List TableValue) (t : ℕ) (new : TableValue) (x : List Bool) → IsAcyclic n tables → IsAcyclic n (replaced tables t new)
+      → t < length tables → value_of n (replaced tables t new) x (n + t) ≡ table_value new (value_of n tables x)
+
+-- no table depends on itself, and replacing a table changes nothing of what depends on it
+pub record DependenceLaw : Type 0 where
+  pub no_cycle : (n : ℕ) (tables : List TableValue) (t : ℕ) → IsAcyclic n tables → t < length tables
+      → (p : ℕ) → Contains (table_at tables t).pins p → ¬ DependsOn n tables t p
+  pub to_replaced : (n : ℕ) (tables : List TableValue) (t : ℕ) (new : TableValue) (s : ℕ) → DependsOn n tables t s → DependsOn n (replaced tables t new) t s
+  pub from_replaced : (n : ℕ) (tables : List TableValue) (t : ℕ) (new : TableValue) (s : ℕ) → DependsOn n (replaced tables t new) t s → DependsOn n tables t s
+
+-- tables have an order exactly where they are acyclic; it grows by any table that may stand next; as many stand in it as there are tables
+pub record OrderLaw : Type 0 where
+  pub exists : (n : ℕ) (tables : List TableValue) → IsAcyclic n tables → (order : List ℕ) × IsOrderOf n tables order
+  pub acyclic : (n : ℕ) (tables : List TableValue) (order : List ℕ) → IsOrderOf n tables order → IsAcyclic n tables
+  pub count : (n : ℕ) (tables : List TableValue) (order : List ℕ) → IsOrderOf n tables order → length order ≡ length tables
+  pub next : (n : ℕ) (tables : List TableValue) (order : List ℕ) (i : ℕ) → IsOrderAfter n tables [] order → IsNext n tables order i
+      → IsOrderAfter n tables [] (order ++ i ∷ [])
+
+-- where each table is grounded in some number of steps, the tables are acyclic
+abbrev pub GroundedLaw : Type 0
+GroundedLaw = (n : ℕ) (tables : List TableValue) → ((i : ℕ) → i < length tables → (steps : ℕ) × IsGroundedIn n tables steps (n + i)) → IsAcyclic n tables
+
+-- acyclic tables that are copied behind acyclic tables stand there embedded, and the whole is acyclic
+pub record CopyLaw : Type 0 where
+  pub embedded : (m : ℕ) (before : List TableValue) (n : ℕ) (tables copies : List TableValue) (f : ℕ → ℕ)
+      → IsCopiedBehind m before n tables copies f → IsEmbedded n tables m (before ++ copies) f
+  pub acyclic : (m : ℕ) (before : List TableValue) (n : ℕ) (tables copies : List TableValue) (f : ℕ → ℕ) → IsAcyclic m before → IsAcyclic n tables
+      → IsCopiedBehind m before n tables copies f → IsAcyclic m (before ++ copies)
+  pub values : (m : ℕ) (before : List TableValue) (n : ℕ) (tables copies : List TableValue) (f : ℕ → ℕ) → IsAcyclic m before → IsAcyclic n tables
+      → IsCopiedBehind m before n tables copies f → (x y : List Bool) → ((i : ℕ) → i < n → slice_index_or y i false ≡ value_of m before x (f i))
+      → (s : ℕ) → s < n + length tables → value_of m (before ++ copies) x (f s) ≡ value_of n tables y s
+
+-- a table that reads signals of acyclic tables is appended, and the whole is acyclic; one table is replaced, and the whole is acyclic
+-- exactly where the new table reads signals that do not depend on it, as where it reads no more than the old one
+pub record AcyclicLaw : Type 0 where
+  pub appended : (n : ℕ) (tables : List TableValue) (new : TableValue) → IsAcyclic n tables → AllByRecursion (λ s. s < n + length tables) new.pins
+      → IsAcyclic n (tables ++ new ∷ [])
+  pub replaced_from : (n : ℕ) (tables : List TableValue) (t : ℕ) (new : TableValue) → IsAcyclic n tables → t < length tables
+      → AllByRecursion (λ s. (s < n + length tables) × (¬ DependsOn n tables t s)) new.pins → IsAcyclic n (replaced tables t new)
+  pub narrower : (n : ℕ) (tables : List TableValue) (t : ℕ) (new : TableValue) → IsAcyclic n tables → t < length tables
+      → AllByRecursion (Contains (table_at tables t).pins) new.pins → IsAcyclic n (replaced tables t new)
+  pub replaced_reads : (n : ℕ) (tables : List TableValue) (t : ℕ) (new : TableValue) → t < length tables → IsAcyclic n (replaced tables t new)
+      → AllByRecursion (λ s. (s < n + length tables) × (¬ DependsOn n tables t s)) new.pins
+
+-- the next table of an order, evaluated from what is known, has its value
+abbrev pub EvaluationLaw : Type 0
+EvaluationLaw = (n : ℕ) (tables : List TableValue) (x : List Bool) (before : List ℕ) (i : ℕ) (v : Assignment) → IsAcyclic n tables → IsNext n tables before i
+    → ((s : ℕ) → IsKnown n before s → v s ≡ value_of n tables x s) → table_value (table_at tables i) v ≡ value_of n tables x (n + i)
+
+-- pins that are renamed to signals of the same value change no value; to read a pin of table t in the place of table t makes no cycle
+pub record RenamedLaw : Type 0 where
+  pub values : (n : ℕ) (tables : List TableValue) (f : ℕ → ℕ) (x : List Bool) → IsAcyclic n tables → IsAcyclic n (map (renamed f) tables)
+      → ((s : ℕ) → s < n + length tables → value_of n tables x (f s) ≡ value_of n tables x s)
+      → (s : ℕ) → s < n + length tables → value_of n (map (renamed f) tables) x s ≡ value_of n tables x s
+  pub acyclic : (n : ℕ) (tables : List TableValue) (t p : ℕ) → IsAcyclic n tables → Contains (table_at tables t).pins p
+      → IsAcyclic n (map (renamed (redirect (n + t) p)) tables)
+
+-- a table that no table reads is left out: the others stay acyclic and keep their values
+pub record WithoutLaw : Type 0 where
+  pub embedded : (n : ℕ) (tables : List TableValue) (t : ℕ) → t < length tables
+      → ((i : ℕ) → i < length tables → ¬ Contains (table_at tables i).pins (n + t)) → IsEmbedded n (without n tables t) n tables (raised (n + t))
+  pub acyclic : (n : ℕ) (tables : List TableValue) (t : ℕ) → t < length tables → IsAcyclic n tables
+      → ((i : ℕ) → i < length tables → ¬ Contains (table_at tables i).pins (n + t)) → IsAcyclic n (without n tables t)
+  pub values : (n : ℕ) (tables : List TableValue) (t : ℕ) → t < length tables → IsAcyclic n tables
+      → ((i : ℕ) → i < length tables → ¬ Contains (table_at tables i).pins (n + t))
+      → (x : List Bool) (s : ℕ) → s + 1 < n + length tables → value_of n tables x (raised (n + t) s) ≡ value_of n (without n tables t) x s

@@ -3,7 +3,13 @@ pub mod Optional
 pub mod Decimal
 pub mod Net
 pub mod Replaced
+pub mod Dependence
+pub mod Order
 pub mod Value
+pub mod Embedding
+pub mod Copies
+pub mod Renamed
+pub mod Refusals
 pub mod Error
 pub mod Vectors
 pub mod Blif

@@ -1,9 +1,59 @@
 //! The laws about the definitions: each function's contract is a law.
-ghost use Rattle.semantics.specs.Laws.{ValueLaw, VectorLaw, NumeralLaw};
+ghost use Rattle.semantics.specs.Laws.{ValueLaw, EmbeddingLaw, CopyLaw, ReplacedLaw, DependenceLaw, AcyclicLaw, GroundedLaw, OrderLaw, EvaluationLaw, RenamedLaw, WithoutLaw, VectorLaw, NumeralLaw};
 
 /// Acyclic tables give each signal one value at each input vector.
 pub fn values()
     ensures { ValueLaw }
+{}
+
+/// Tables that stand in a larger list keep their values there.
+pub fn embedding()
+    ensures { EmbeddingLaw }
+{}
+
+/// Tables copied behind others.
+pub fn copies()
+    ensures { CopyLaw }
+{}
+
+/// What a replaced table changes.
+pub fn replacement()
+    ensures { ReplacedLaw }
+{}
+
+/// What depends on a table.
+pub fn dependence()
+    ensures { DependenceLaw }
+{}
+
+/// Which changes make no cycle.
+pub fn acyclic_changes()
+    ensures { AcyclicLaw }
+{}
+
+/// Any number of steps grounds as well as the number of tables.
+pub fn grounded()
+    ensures { GroundedLaw }
+{}
+
+/// Orders of tables.
+pub fn orders()
+    ensures { OrderLaw }
+{}
+
+/// Evaluation in an order.
+pub fn evaluation()
+    ensures { EvaluationLaw }
+{}
+
+/// Pins renamed.
+pub fn renamed_pins()
+    ensures { RenamedLaw }
+{}
+
+/// A table left out.
+pub fn without_table()
+    ensures { WithoutLaw }
 {}
 
 /// Every input vector stands once in counting order.
