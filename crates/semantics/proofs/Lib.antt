@@ -10,4 +10,5 @@ pub mod Renamed
 pub mod Without
 pub mod Refused
 pub mod Vectors
+pub mod Sizes
 pub mod Numerals
