@@ -1,3 +1,6 @@
+pub mod Names
+pub mod WordLines
+pub mod NetLines
 pub mod TextLines
-pub mod PlainLines
 pub mod PlainTexts
+pub mod RightLines
