@@ -4,3 +4,4 @@ pub mod NetLines
 pub mod TextLines
 pub mod PlainTexts
 pub mod RightLines
+pub mod WrittenRight

@@ -16,10 +16,10 @@ all_append : {X : Type 0} (P : X → Type 0) (xs ys : List X) → AllByRecursion
 all_append P [] ys h k = k
 all_append P (x ∷ xs) ys h k = (h.0, all_append P xs ys h.1 k)
 
-pub name_word : (name : Bytes) → IsName name → IsWord name
+name_word : (name : Bytes) → IsName name → IsWord name
 name_word name h = record { some = h.not_empty; printable = h.printable; ending = h.ending }
 
-keyword : (word : Bytes) → is_name word ≡ true → IsWord word
+pub keyword : (word : Bytes) → is_name word ≡ true → IsWord word
 keyword word h = name_word word (IsName-from_test word h)
 
 names_words : (names : List Bytes) → All IsName names → AllByRecursion IsWord names
@@ -54,7 +54,7 @@ plane_word : (plane : Bool) → IsWord (bit_byte plane ∷ [])
 plane_word false = keyword (48 ∷ []) refl
 plane_word true = keyword (49 ∷ []) refl
 
-row_line-is_line : (plane : Bool) (marks : List Mark) → IsLine (row_line plane marks)
+pub row_line-is_line : (plane : Bool) (marks : List Mark) → IsLine (row_line plane marks)
 row_line-is_line plane [] = record { some = omega arith; words = (plane_word plane, tt) }
 row_line-is_line plane (m ∷ marks) = record { some = omega arith; words = (marks_word m marks, (plane_word plane, tt)) }
 
@@ -62,7 +62,7 @@ rows-are_lines : (plane : Bool) (rows : List (List Mark)) → AllByRecursion IsL
 rows-are_lines plane [] = tt
 rows-are_lines plane (marks ∷ rows) = (row_line-is_line plane marks, rows-are_lines plane rows)
 
-names_line-is_line : (names : List Bytes) → All IsName names → (t : TableValue) → IsName t.name → All (λ s. s < length names) t.pins → IsLine (names_line names t)
+pub names_line-is_line : (names : List Bytes) → All IsName names → (t : TableValue) → IsName t.name → All (λ s. s < length names) t.pins → IsLine (names_line names t)
 names_line-is_line names h t named pins = record {
   some = omega arith;
   words = (keyword (codes ".names") refl, all_append IsWord (map (name_of names) t.pins) (t.name ∷ []) (signals_words names h t.pins pins) (name_word t.name named, tt));

@@ -6,7 +6,7 @@ use Rattle.blif_semantics.specs.Lines.{Statement}
 use Rattle.blif_semantics.specs.Statements.{kind_of, OpenTable, Place, place_after, had_end, Wrong, WrongLine, wrong, wrong_by, first_wrong_after, first_wrong}
 
 -- no line is wrong after the earlier ones, of which the latest stands first
-pub AllRight : List Line → List Line → Type 0
+abbrev pub AllRight : List Line → List Line → Type 0
 AllRight earlier [] = Unit {0}
 AllRight earlier (words ∷ lines) = (wrong (place_after earlier) words ≡ None) × AllRight (words ∷ earlier) lines
 
@@ -20,14 +20,13 @@ answer_parts None line rest h = (refl, h)
 answer_parts (Some w) line rest h = absurd (none-some (record { line = line; wrong = w }) (sym h))
 
 right_after : (earlier : List Line) (lines : List Statement) → first_wrong_after earlier lines ≡ None → AllRight earlier (map (λ s. s.words) lines)
-unfolding line_answer AllRight
+unfolding line_answer
 right_after earlier [] h = tt
 right_after earlier (s ∷ lines) h =
     let parts = answer_parts (wrong (place_after earlier) s.words) s.line (first_wrong_after (s.words ∷ earlier) lines) h in
     (parts.0, right_after (s.words ∷ earlier) lines parts.1)
 
 none_wrong_after : (earlier : List Line) (lines : List Statement) → AllRight earlier (map (λ s. s.words) lines) → first_wrong_after earlier lines ≡ None
-unfolding AllRight
 none_wrong_after earlier [] h = refl
 none_wrong_after earlier (s ∷ lines) h =
     ap (λ w. elim w [ None ↦ first_wrong_after (s.words ∷ earlier) lines | Some w ↦ Some (record { line = s.line; wrong = w }) ]) h.0
