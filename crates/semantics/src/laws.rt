@@ -1,5 +1,5 @@
 //! The laws about the definitions: each function's contract is a law.
-ghost use Rattle.semantics.specs.Laws.{ValueLaw, EmbeddingLaw, CopyLaw, ReplacedLaw, DependenceLaw, AcyclicLaw, GroundedLaw, OrderLaw, EvaluationLaw, RenamedLaw, WithoutLaw, VectorLaw, NumeralLaw};
+ghost use Rattle.semantics.specs.Laws.{ValueLaw, EmbeddingLaw, CopyLaw, ReplacedLaw, DependenceLaw, AcyclicLaw, GroundedLaw, OrderLaw, EvaluationLaw, RenamedLaw, WithoutLaw, RefusalLaw, VectorLaw, NumeralLaw};
 
 /// Acyclic tables give each signal one value at each input vector.
 pub fn values()
@@ -54,6 +54,11 @@ pub fn renamed_pins()
 /// A table left out.
 pub fn without_table()
     ensures { WithoutLaw }
+{}
+
+/// What is not refused.
+pub fn refusals()
+    ensures { RefusalLaw }
 {}
 
 /// Every input vector stands once in counting order.
