@@ -5,3 +5,6 @@ pub mod TextLines
 pub mod PlainTexts
 pub mod RightLines
 pub mod WrittenRight
+pub mod Looked
+pub mod Accepted
+pub mod WrittenNet

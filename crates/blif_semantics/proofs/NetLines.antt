@@ -12,7 +12,7 @@ use Rattle.blif_semantics.specs.Statements.{is_name}
 use Rattle.blif_semantics.proofs.Names.{IsName-from_test}
 use Rattle.blif_semantics.proofs.WordLines.{IsWord, IsLine}
 
-all_append : {X : Type 0} (P : X → Type 0) (xs ys : List X) → AllByRecursion P xs → AllByRecursion P ys → AllByRecursion P (xs ++ ys)
+pub all_append : {X : Type 0} (P : X → Type 0) (xs ys : List X) → AllByRecursion P xs → AllByRecursion P ys → AllByRecursion P (xs ++ ys)
 all_append P [] ys h k = k
 all_append P (x ∷ xs) ys h k = (h.0, all_append P xs ys h.1 k)
 

@@ -35,7 +35,7 @@ right_by place words h unended right = none_of (list_all (list_all is_printable)
 
 -- ---- rows
 
-row_kind : (plane : Bool) (marks : List Mark) → kind_of (row_line plane marks) ≡ kind.Row
+pub row_kind : (plane : Bool) (marks : List Mark) → kind_of (row_line plane marks) ≡ kind.Row
 row_kind false [] = refl
 row_kind true [] = refl
 row_kind plane (Zero ∷ marks) = refl
