@@ -8,3 +8,5 @@ pub mod WrittenRight
 pub mod Looked
 pub mod Accepted
 pub mod WrittenNet
+pub mod WrittenLength
+pub mod Written
