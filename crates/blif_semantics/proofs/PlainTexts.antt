@@ -16,7 +16,7 @@ use Rattle.semantics.specs.Blif.{mark_byte, row_line, names_line, table_lines, b
 use Rattle.blif_semantics.specs.Plain.{IsPlainFor}
 use Rattle.blif_semantics.specs.PlainReading.{last_of, signal_of, signals_of, marks_of, plane_of, row_of, has_none, Draft, with_row_line, read_line, read_lines, lines_before_end, net_of_lines, net_of_text}
 use Rattle.blif_semantics.proofs.TextLines.{front_of_push, text_lines-text_of}
-use Rattle.blif_semantics.proofs.PlainLines.{length-signal_names, blif_lines-are_lines}
+use Rattle.blif_semantics.proofs.NetLines.{length-signal_names, blif_lines-are_lines}
 
 pub last_of_push : {X : Type 0} (xs : List X) (x : X) → last_of (xs ++ x ∷ []) ≡ Some x
 last_of_push xs x =
