@@ -28,7 +28,7 @@ fn expect_written(
 ) -> Result<(), Fail>
     requires { 0 < chunk }
 {
-    let mut files = MemFiles::new(alloc, FileList::new(alloc), CallList::new(alloc), chunk);
+    let mut files = MemFiles::new(FileList::new(alloc), CallList::new(alloc), chunk);
     files.create(b"out")?;
     write_blif(net, &mut files)?;
     let written = files.bytes(b"out").ok_or("out is not held")?;

@@ -8,7 +8,7 @@ use Rattle.std.specs.Cmp.Lexicographic.{slice_cmp, nat_list_cmp_total}
 use Rattle.std.specs.FinMap.{find, get, insert, get-insert, get-from_entries, from_entries_push, same_map, slice_cmp-IsAntisymmetric, nat_cmp-IsAntisymmetric}
 use Rattle.semantics.specs.Texts.{Bytes}
 use Rattle.file_core.specs.Entries.{Entry, name_at, bytes_at, held_in, LacksName, IsFirstAt, IsCounted, SetsFile}
-use Rattle.file_core.proofs.Told.{is_eq-Equal, inner_covered}
+use Rattle.outside_semantics.proofs.HeldFiles.{is_eq-Equal, inner_covered}
 
 abbrev same_name : Bytes → Bytes → Bool
 same_name = eq_by_cmp (slice_cmp nat_cmp)

@@ -153,6 +153,7 @@ Gave-memory m n k buffer later is some count bytes = record {
       subst (λ h. GaveNext (bytes_of h place.name) place k buffer n.reading) (same_Some m.held a x)
       (GaveNext-given m.held m.reading n.reading place k m.chunk buffer reads (ap (λ v. v.reading) is) (λ _. some) count (bytes place reads));
   nothing_open = λ a x none. none_open m.held m.reading k _ none count;
+  still_closed = λ a x none. ap (λ v. v.reading) is ∙ ap (moved k) none;
 }
 
 -- `read` failed by its number or with nothing open

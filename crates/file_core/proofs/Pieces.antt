@@ -3,10 +3,9 @@ use Rattle.std.proofs.Common.{◌≡◌, ℕ, ◌+◌, ◌<◌, List, [], ◌∷
 use Rattle.std.proofs.lemmas.List.{append-nil, take_more, take-append-drop}
 use Rattle.std.specs.Borrow.{Bor}
 use Rattle.semantics.specs.Texts.{Bytes}
-use Rattle.outside_semantics.specs.Outside.{FilesTold, Wrote, WriteFailed}
+use Rattle.outside_semantics.specs.Outside.{FilesTold, WriteFailed}
 use Rattle.file_core.specs.Pieces.{joined}
 use Rattle.file_core.specs.Page.{Gathered}
-use Rattle.file_core.proofs.Told.{Wrote-Wrote, WriteFailed-after, WriteFailed-more}
 use Rattle.file_core.proofs.Gathering.{Gathered-Gathered, WriteFailed-gathered_longer}
 
 -- the bytes of two lists of pieces
@@ -28,16 +27,6 @@ joined-parts ps i = sym (joined-append (take i ps) (drop i ps)) ∙ ap joined (t
 joined-three : (ps : List (Bor Bytes)) (i : ℕ) (p : Bor Bytes) → i < length ps → (joined (take i ps) ++ (get_or ps i p).now) ++ joined (drop (i + 1) ps) ≡ joined ps
 joined-three ps i p within =
     ap (λ x. x ++ joined (drop (i + 1) ps)) (sym (joined-take_more ps i p within)) ∙ joined-parts ps (i + 1)
-
--- the pieces up to i were written, and then the piece at i
-pub Wrote-next_piece : {a b c : FilesTold} (ps : List (Bor Bytes)) (i : ℕ) (p : Bor Bytes) → i < length ps → Wrote a b (joined (take i ps)) → Wrote b c (get_or ps i p).now → Wrote a c (joined (take (i + 1) ps))
-Wrote-next_piece {a} {b} {c} ps i p within before wrote =
-    subst (λ x. Wrote a c x) (sym (joined-take_more ps i p within)) (Wrote-Wrote before wrote)
-
--- the pieces up to i were written, and the piece at i failed
-pub WriteFailed-next_piece : {a b c : FilesTold} (ps : List (Bor Bytes)) (i : ℕ) (p : Bor Bytes) → i < length ps → Wrote a b (joined (take i ps)) → WriteFailed b c (get_or ps i p).now → WriteFailed a c (joined ps)
-WriteFailed-next_piece {a} {b} {c} ps i p within before failed =
-    subst (λ x. WriteFailed a c x) (joined-three ps i p within) (WriteFailed-more (joined (drop (i + 1) ps)) (WriteFailed-after before failed))
 
 -- the pieces up to i were gathered, and then the piece at i
 pub Gathered-next_piece : {a b c : FilesTold} {p q r : Bytes} (ps : List (Bor Bytes)) (i : ℕ) (piece : Bor Bytes) → i < length ps → Gathered a b p q (joined (take i ps)) → Gathered b c q r (get_or ps i piece).now → Gathered a c p r (joined (take (i + 1) ps))

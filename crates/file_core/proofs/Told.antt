@@ -1,17 +1,13 @@
 -- How what files and a sink tell goes on from call to call: the relations of `Outside` are reflexive, and they join.
-use Rattle.std.proofs.Common.{◌≡◌, ℕ, ◌+◌, ◌-◌, ◌≤◌, Bool, true, false, cond, [], ◌++◌, length, take, drop, Option, Some, None, refl, sym, ap, subst, ◌∙◌, append_assoc, arith, length-append}
+use Rattle.std.proofs.Common.{◌≡◌, ℕ, ◌+◌, ◌-◌, ◌≤◌, [], ◌++◌, length, take, drop, Option, Some, None, refl, sym, ap, subst, ◌∙◌, append_assoc, arith, length-append}
 use Rattle.std.proofs.lemmas.Option.{none-some, same_Some}
 use Rattle.std.proofs.lemmas.List.{append-nil, take_rest, take-append-le, take-append-drop}
-use Rattle.std.proofs.lemmas.Bool.{false_from_ne_true, both_ways, cond-true}
+use Rattle.std.proofs.lemmas.Bool.{false_from_ne_true, both_ways}
 use Rattle.std.proofs.Math.Seq.{take-append-add}
-use Rattle.std.specs.Ordering.{nat_cmp, eq_by_cmp, is_eq}
-use Rattle.std.specs.declared.cmp.Ordering.{Ordering}
-use Rattle.std.specs.declared.cmp.Ordering.TheVariants.{Less, Equal, Greater}
-use Rattle.std.specs.Cmp.{eq_by_cmp_equiv}
-use Rattle.std.specs.Cmp.Lexicographic.{slice_cmp, nat_list_cmp_total}
-use Rattle.std.specs.FinMap.{get, insert, get-insert, get_tied, same_map, slice_cmp-IsAntisymmetric, nat_cmp-IsAntisymmetric}
+use Rattle.std.specs.FinMap.{get, insert}
 use Rattle.semantics.specs.Texts.{Bytes}
 use Rattle.outside_semantics.specs.Outside.{Held, FilesTold, SinkTold, Rose, Goes, StaysCalm, Wrote, WriteFailed, SinkGoes, Took, TakeFailed, added_to, appended}
+use Rattle.outside_semantics.proofs.HeldFiles.{get-insert_same, insert-insert, insert-get}
 
 -- a rise that comes after other calls is a rise
 rose_later : (a b c : ℕ) → a ≤ b → Rose b c → Rose a c
@@ -48,39 +44,6 @@ some_from_told (Some x) f = (x, refl)
 -- files that are told at the end of some calls were told before them
 pub held_before : (b c : FilesTold) → Goes b c → (h : Held) → c.held ≡ Some h → (m : Held) × (b.held ≡ Some m)
 held_before b c goes h e = some_from_told b.held (λ n. none-some h (sym (goes.untold n) ∙ e))
-
--- a name that was just inserted is held with what was inserted
-pub get-insert_same : (h : Held) (name bytes : Bytes) → get (insert h name bytes) name ≡ Some bytes
-get-insert_same h name bytes =
-    get-insert nat_list_cmp_total h name bytes name ∙ cond-true _ _ _ ((eq_by_cmp_equiv nat_list_cmp_total).refl name)
-
-pub inner_covered : {A : Type 0} (b : Bool) (x y z : A) → cond b x (cond b y z) ≡ cond b x z
-inner_covered true x y z = refl
-inner_covered false x y z = refl
-
--- of two inserts under one name the last counts
-pub insert-insert : (h : Held) (name s t : Bytes) → insert (insert h name s) name t ≡ insert h name t
-insert-insert h name s t =
-    same_map nat_list_cmp_total (slice_cmp-IsAntisymmetric nat_cmp-IsAntisymmetric) _ _ (λ q.
-    get-insert nat_list_cmp_total (insert h name s) name t q
-    ∙ ap (cond (eq_by_cmp (slice_cmp nat_cmp) q name) (Some t)) (get-insert nat_list_cmp_total h name s q)
-    ∙ inner_covered (eq_by_cmp (slice_cmp nat_cmp) q name) (Some t) (Some s) (get h q)
-    ∙ sym (get-insert nat_list_cmp_total h name t q))
-
-pub is_eq-Equal : (r : Ordering) → is_eq r ≡ true → r ≡ Equal
-is_eq-Equal Less e = cc
-is_eq-Equal Equal e = refl
-is_eq-Equal Greater e = cc
-
-covered_by_own : (h : Held) (name bytes q : Bytes) → get h name ≡ Some bytes → (b : Bool) → eq_by_cmp (slice_cmp nat_cmp) q name ≡ b → cond b (Some bytes) (get h q) ≡ get h q
-covered_by_own h name bytes q is true e = sym is ∙ get_tied nat_list_cmp_total h q name (is_eq-Equal _ e)
-covered_by_own h name bytes q is false e = refl
-
--- to insert under a name the bytes that it holds changes nothing
-pub insert-get : (h : Held) (name bytes : Bytes) → get h name ≡ Some bytes → insert h name bytes ≡ h
-insert-get h name bytes is =
-    same_map nat_list_cmp_total (slice_cmp-IsAntisymmetric nat_cmp-IsAntisymmetric) _ _ (λ q.
-    get-insert nat_list_cmp_total h name bytes q ∙ covered_by_own h name bytes q is (eq_by_cmp (slice_cmp nat_cmp) q name) refl)
 
 added_twice : (o : Option Bytes) (h : Held) (name s t : Bytes) → get h name ≡ o → appended (added_to o h name s) (Some name) t ≡ added_to o h name (s ++ t)
 added_twice None h name s t e = ap (λ o. added_to o h name t) e

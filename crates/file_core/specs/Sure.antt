@@ -23,11 +23,14 @@ sure_code =
 abbrev pub held_where : Bool → Held → Option Held
 held_where told held = if told then Some held else None
 
+abbrev pub reading_where : Bool → Option Place → Option Place
+reading_where told reading = if told then reading else None
+
 -- no fault can come, so the count stays 0, every name is steady and both calm meanings are yes
 abbrev pub sure_told : SureValue → FilesTold
 sure_told s = record {
   held = held_where s.told s.given;
-  reading = s.reading;
+  reading = reading_where s.told s.reading;
   writing = None;
   faults = 0;
   steady_read = λ name. true;

@@ -1,7 +1,6 @@
 //! Whole texts over calls that may take a part.
 ghost use Rattle.std.specs.Prelude.{OnOk, OnErr};
 ghost use Rattle.outside_semantics.specs.Outside.{Wrote, WriteFailed, Took, TakeFailed};
-ghost use Rattle.file_core.specs.Pieces.{joined};
 
 use crate::fault::FileFault;
 use crate::files::Files;
@@ -29,18 +28,6 @@ pub fn put_all<K: Sink>(say: &mut K, text: &[u8]) -> Result<(), FileFault>
     while !rest.is_empty() {
         let count = say.put(rest)?;
         rest = &rest[count..];
-    }
-    Ok(())
-}
-
-/// Appends the pieces, one after another. After a fault a first part of their text was appended.
-pub fn append_pieces<F: Files>(files: &mut F, pieces: &[&[u8]]) -> Result<(), FileFault>
-    ensures ok { OnOk result (Wrote (F.told files.old) (F.told files.new) (joined pieces.now)) }
-    ensures err { OnErr result
-        (WriteFailed (F.told files.old) (F.told files.new) (joined pieces.now)) }
-{
-    for piece in pieces {
-        append_all(files, piece)?;
     }
     Ok(())
 }

@@ -13,6 +13,4 @@ pub mod page;
 pub mod sink;
 pub mod sure_files;
 pub mod sure_sink;
-#[cfg(test)]
-mod tests;
 pub mod word;

@@ -1,5 +1,5 @@
 //! Lists that say what files in memory hold, and which calls on them fail.
-ghost use Rattle.std.specs.Prelude.{◌≡◌, ◌+◌, ◌<◌, ℕ, List, [], ◌∷◌, ◌++◌, length, slice_set, MatchOption, IfOk, OnOk, OnErr};
+ghost use Rattle.std.specs.Prelude.{◌≡◌, ◌+◌, ◌<◌, ℕ, List, [], ◌∷◌, ◌++◌, length, slice_set, MatchOption, IsOk, IsErr, IfOk, OnOk, OnErr};
 ghost use Rattle.file_core.specs.Calls.{is_listed};
 ghost use Rattle.file_core.specs.Entries.{LacksName, IsFirstAt, IsCounted, SetsFile, name_at, bytes_at};
 
@@ -52,8 +52,9 @@ impl FileList {
     }
 
     /// Makes the file with this name empty, and answers its place.
-    pub(crate) fn make_empty(&mut self, alloc: Global, name: &[u8]) -> Result<usize, AllocError>
+    pub(crate) fn make_empty(&mut self, name: &[u8]) -> Result<usize, AllocError>
         ensures ok { IfOk result (SetsFile self.old self.new name.now []) }
+        ensures refused { IsErr result → LacksName self.old name.now }
         ensures err { OnErr result (self.new ≡ self.old) }
     {
         match find_name(&self.items, name) {
@@ -62,6 +63,7 @@ impl FileList {
                 Ok(place)
             }
             None => {
+                let alloc = *self.items.allocator();
                 let place = self.items.len();
                 self.items
                     .push((Word::new(alloc, name)?, Word::empty(alloc)))?;
@@ -73,6 +75,7 @@ impl FileList {
     /// Adds the piece to the file at this place.
     pub(crate) fn extend_at(&mut self, place: usize, piece: &[u8]) -> Result<(), AllocError>
         requires { IsCounted self.old place }
+        ensures nothing { piece.now ≡ [] → IsOk result }
         ensures ok { OnOk result
             (SetsFile
             self.old
@@ -107,6 +110,7 @@ fn empty_at(items: &mut [(Word, Word)], place: usize)
 
 fn extend_at(items: &mut [(Word, Word)], place: usize, piece: &[u8]) -> Result<(), AllocError>
     requires { place < length items.old }
+    ensures nothing { piece.now ≡ [] → IsOk result }
     ensures ok { OnOk result
         (items.new
         ≡ slice_set

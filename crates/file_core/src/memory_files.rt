@@ -1,5 +1,5 @@
 //! Files in memory, which can be made to fail and to work in small chunks.
-ghost use Rattle.std.specs.Prelude.{◌≡◌, ◌-◌, ◌<◌, ◌≤◌, ◌↔◌, [], Some, None, min, length, take, option_map, IsTrue, IsFalse, IsSome, IsOk, IsErr, IfOk, OnOk, OnErr};
+ghost use Rattle.std.specs.Prelude.{◌≡◌, ◌⊎◌, ◌-◌, ◌<◌, ◌≤◌, ◌↔◌, [], Some, None, min, length, take, option_map, IsTrue, IsFalse, IsSome, IsOk, IsErr, IfOk, OnOk, OnErr};
 ghost use Rattle.std.specs.FinMap.{get, contains_key};
 ghost use Rattle.outside_semantics.specs.Outside.{Opened, OpenFailed, Gave, ReadFailed, Created, CreateFailed, Wrote, WriteFailed};
 ghost use Rattle.file_core.specs.Memory.{files_at_first, memory_told, fails_next, faulted, opened, not_opened, left_of, read_on, created, not_created, wrote};
@@ -9,14 +9,12 @@ use crate::cursor::{Cursor, copy_next};
 use crate::fault::FileFault;
 use crate::files::Files;
 use crate::lists::{CallList, FileList};
-use std::alloc::Global;
 use std::marker::Model;
 
 /// Files in memory. A call fails where its number is listed, where a file to be opened is missing, and where nothing
-/// is open for it; `create` and `append` fail for want of memory too.
+/// is open for it. `create` of a name that is not held and `append` fail for want of memory too.
 #[derive(Drop)]
 pub struct MemFiles {
-    alloc: Global,
     files: FileList,
     reading: Option<Cursor>,
     writing: Option<usize>,
@@ -39,12 +37,11 @@ impl Model for MemFiles {
 }
 
 impl MemFiles {
-    pub fn new(alloc: Global, files: FileList, failing: CallList, chunk: usize) -> MemFiles
+    pub fn new(files: FileList, failing: CallList, chunk: usize) -> MemFiles
         requires { 0 < chunk }
         ensures { result ≡ files_at_first files failing chunk }
     {
         MemFiles {
-            alloc,
             files,
             reading: None,
             writing: None,
@@ -125,12 +122,14 @@ impl Files for MemFiles {
         ensures err { OnErr result
             (CreateFailed (memory_told self.old) (memory_told self.new) name.now) }
         ensures listed { IsTrue (fails_next self.old) → IsErr result }
+        ensures refused { IsErr result
+            → IsTrue (fails_next self.old) ⊎ IsFalse (contains_key self.old.held name.now) }
         ensures after_ok { OnOk result (self.new ≡ created self.old name.now) }
         ensures after_err { OnErr result (self.new ≡ not_created self.old) }
     {
         self.writing = None;
         self.calls.count()?;
-        match self.files.make_empty(self.alloc, name) {
+        match self.files.make_empty(name) {
             Ok(file) => {
                 self.writing = Some(file);
                 Ok(())
@@ -148,6 +147,8 @@ impl Files for MemFiles {
             (WriteFailed (memory_told self.old) (memory_told self.new) []) }
         ensures listed { IsTrue (fails_next self.old) → IsErr result }
         ensures closed { self.old.writing ≡ None → IsErr result }
+        ensures nothing { piece.now ≡ [] → IsErr result
+            → IsTrue (fails_next self.old) ⊎ (self.old.writing ≡ None) }
         ensures count { IfOk result (λ n. n ≡ min (length piece.now) self.old.chunk) }
         ensures after_ok { IfOk result (λ n. self.new ≡ wrote self.old (take n piece.now)) }
         ensures after_err { OnErr result (self.new ≡ faulted self.old) }

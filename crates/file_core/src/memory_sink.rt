@@ -73,6 +73,7 @@ impl Sink for MemSink {
         ensures err { OnErr result
             (TakeFailed (memory_sink_told self.old) (memory_sink_told self.new) []) }
         ensures listed { IsTrue (put_fails_next self.old) → IsErr result }
+        ensures nothing { piece.now ≡ [] → IsErr result → IsTrue (put_fails_next self.old) }
         ensures count { IfOk result (λ n. n ≡ min (length piece.now) self.old.chunk) }
         ensures after_ok { IfOk result (λ n. self.new ≡ took self.old (take n piece.now)) }
         ensures after_err { OnErr result (self.new ≡ not_taken self.old) }

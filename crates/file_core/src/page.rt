@@ -67,12 +67,13 @@ impl Page {
     }
 }
 
-/// Puts the piece into the page, and appends what does not fit.
+/// Puts the piece into the page, and appends what does not fit. A fault empties the page.
 pub fn gather<F: Files>(files: &mut F, page: &mut Page, piece: &[u8]) -> Result<(), FileFault>
     ensures ok { OnOk result
         (Gathered (F.told files.old) (F.told files.new) page.old page.new piece.now) }
     ensures err { OnErr result
         (WriteFailed (F.told files.old) (F.told files.new) (page.old ++ piece.now)) }
+    ensures emptied { OnErr result (page.new ≡ []) }
 
     // A piece that fits makes no call.
     ensures fits { length page.old + length piece.now ≤ PAGE_BYTES
@@ -90,7 +91,7 @@ pub fn gather<F: Files>(files: &mut F, page: &mut Page, piece: &[u8]) -> Result<
     append_all(files, piece)
 }
 
-/// Puts the pieces into the page, one after another, and appends what does not fit.
+/// Puts the pieces into the page, one after another, and appends what does not fit. A fault empties the page.
 pub fn gather_pieces<F: Files>(
     files: &mut F,
     page: &mut Page,
@@ -100,6 +101,7 @@ pub fn gather_pieces<F: Files>(
         (Gathered (F.told files.old) (F.told files.new) page.old page.new (joined pieces.now)) }
     ensures err { OnErr result
         (WriteFailed (F.told files.old) (F.told files.new) (page.old ++ joined pieces.now)) }
+    ensures emptied { OnErr result (page.new ≡ []) }
 {
     for piece in pieces {
         gather(files, page, piece)?;
@@ -107,13 +109,13 @@ pub fn gather_pieces<F: Files>(
     Ok(())
 }
 
-/// Appends what was gathered.
+/// Appends what was gathered, and empties the page.
 pub fn send<F: Files>(files: &mut F, page: &mut Page) -> Result<(), FileFault>
-    ensures ok { OnOk result
-        ((Wrote (F.told files.old) (F.told files.new) page.old) × (page.new ≡ [])) }
+    ensures ok { OnOk result (Wrote (F.told files.old) (F.told files.new) page.old) }
     ensures err { OnErr result (WriteFailed (F.told files.old) (F.told files.new) page.old) }
+    ensures emptied { page.new ≡ [] }
 {
-    append_all(files, page.bytes())?;
+    let sent = append_all(files, page.bytes());
     page.clear();
-    Ok(())
+    sent
 }

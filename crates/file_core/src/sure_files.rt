@@ -10,11 +10,10 @@ use crate::cursor::{Cursor, copy_next};
 use crate::fault::FileFault;
 use crate::files::Files;
 use crate::lists::FileList;
-use std::alloc::Global;
 use std::marker::Model;
 
-/// The given files, which are told until a file is created or a name is opened that was not given. Such a name is
-/// read as an empty file, and what is written is forgotten.
+/// The given files, which are told until a file is created or a name is opened that was not given; from then on
+/// nothing is told. Such a name is read as an empty file, and what is written is forgotten.
 #[derive(Drop)]
 pub struct SureFiles {
     files: FileList,
@@ -43,7 +42,7 @@ impl Model for SureFiles {
 }
 
 impl SureFiles {
-    pub fn new(alloc: Global, files: FileList) -> SureFiles
+    pub fn new(files: FileList) -> SureFiles
         ensures { result ≡ record { given = held_in files; told = true; reading = None } }
     {
         SureFiles {

@@ -1,5 +1,5 @@
 //! A name or a text that owns its bytes.
-ghost use Rattle.std.specs.Prelude.{◌≡◌, ℕ, List, [], ◌++◌, IfOk, OnOk, OnErr};
+ghost use Rattle.std.specs.Prelude.{◌≡◌, ℕ, List, [], ◌++◌, IsOk, IfOk, OnOk, OnErr};
 
 use std::alloc::{AllocError, Global};
 use std::marker::Model;
@@ -45,6 +45,7 @@ impl Word {
     }
 
     pub(crate) fn extend(&mut self, piece: &[u8]) -> Result<(), AllocError>
+        ensures nothing { piece.now ≡ [] → IsOk result }
         ensures ok { OnOk result (self.new ≡ self.old ++ piece.now) }
         ensures err { OnErr result (self.new ≡ self.old) }
     {

@@ -1,3 +1,4 @@
 pub mod Outside
 pub mod WrittenFiles
 pub mod Laws
+pub mod Examples

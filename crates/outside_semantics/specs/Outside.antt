@@ -89,6 +89,7 @@ pub record Gave (old new : FilesTold) (n : ℕ) (buffer : Bytes) : Type 0 where
   pub keeps : KeepsAtRead old new
   pub from_file : (a : Held) (place : Place) → old.held ≡ Some a → old.reading ≡ Some place → GaveNext (bytes_of a place.name) place n buffer new.reading
   pub nothing_open : (a : Held) → old.held ≡ Some a → old.reading ≡ None → n ≡ 0
+  pub still_closed : (a : Held) → old.held ≡ Some a → old.reading ≡ None → new.reading ≡ None
 
 pub record ReadFailed (old new : FilesTold) : Type 0 where
   pub keeps : KeepsAtRead old new

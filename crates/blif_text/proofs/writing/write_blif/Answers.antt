@@ -24,7 +24,7 @@ returns-in_err-gather-clause-err g c =
 
 pub returns-clause-ok : goal.returns-clause-ok
 returns-clause-ok g c =
-    on_ok_weaker _ (λ sent. Wrote-from_empty _ _ c.new-page.ensures (Wrote-gathered (Gathered-in _ (blif_text-parts c.args.net.now) c.in_ok-write_header.ensures.ok (Gathered-Gathered c.in_ok-write_tables.ensures.ok c.in_ok-gather.ensures.ok)) sent.0)) c.send.ensures.ok
+    on_ok_weaker _ (λ sent. Wrote-from_empty _ _ c.new-page.ensures (Wrote-gathered (Gathered-in _ (blif_text-parts c.args.net.now) c.in_ok-write_header.ensures.ok (Gathered-Gathered c.in_ok-write_tables.ensures.ok c.in_ok-gather.ensures.ok)) sent)) c.send.ensures.ok
 
 pub returns-clause-err : goal.returns-clause-err
 returns-clause-err g c =

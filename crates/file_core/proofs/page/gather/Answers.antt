@@ -13,7 +13,7 @@ returns-in_err-send-clause-err g c =
 
 pub returns-clause-ok : goal.returns-clause-ok
 returns-clause-ok g c =
-    on_ok_weaker _ (Gathered-both_sent _ c.in_ok-send.ensures.ok.0 c.in_ok-send.ensures.ok.1) c.append_all.ensures.ok
+    on_ok_weaker _ (Gathered-both_sent _ c.in_ok-send.ensures.ok c.in_ok-send.ensures.emptied) c.append_all.ensures.ok
 
 pub returns-clause-err : goal.returns-clause-err
-returns-clause-err g c = on_err_weaker _ (WriteFailed-after c.in_ok-send.ensures.ok.0) c.append_all.ensures.err
+returns-clause-err g c = on_err_weaker _ (WriteFailed-after c.in_ok-send.ensures.ok) c.append_all.ensures.err

@@ -1,8 +1,9 @@
-use Rattle.std.proofs.Common.{◌≡◌, None, Some, rules}
+use Rattle.std.proofs.Common.{◌≡◌, false, None, Some, refl, subst, inr, rules}
 use Rattle.std.proofs.lemmas.Result.{err_from_is_err_and}
+use Rattle.std.specs.FinMap.{contains_key}
 use Rattle.file_core.specs.Cursor.{memory_value}
 use Rattle.file_core.specs.Memory.{created, not_created}
-use Rattle.file_core.proofs.Memory.{Later-from, Rises-Rises, Created-memory, CreateFailed-memory}
+use Rattle.file_core.proofs.Memory.{Later-from, Rises-Rises, Created-memory, CreateFailed-memory, contains_key-lacks}
 use Rattle.file_core.proofs.memory_files.MemFilesFiles.create.Goals as goal
 
 pub returns-in_err-count-clause-err : goal.returns-in_err-count-clause-err
@@ -26,3 +27,7 @@ returns-in-Err-clause-err c =
     let is : n ≡ not_created c.args.self.now = search rules in
     let r = Rises-Rises c.count.ensures.rises c.fault.ensures.rises in
     CreateFailed-memory c.args.self.now n _ (Later-from n c.self.view_is r.faults r.calls r.failing) is
+
+pub returns-in-Err-clause-refused : goal.returns-in-Err-clause-refused
+returns-in-Err-clause-refused c =
+    λ _. inr (subst (λ x. contains_key x.held c.args.name.now ≡ false) c.self.view_is (contains_key-lacks c.self.inside.files c.args.name.now (c.in-Err.ensures.refused refl)))
