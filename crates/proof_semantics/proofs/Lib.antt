@@ -1,0 +1,6 @@
+pub mod TruthValues
+pub mod Agreement
+pub mod TableClauses
+pub mod NetValues
+pub mod Counts
+pub mod Bounds

@@ -1,0 +1,32 @@
+-- The laws about clauses, each the contract of a function without parameters.
+use Rattle.std.specs.Prelude.{◌≡◌, ℕ, suc, ◌+◌, ◌<◌, ◌↔◌, Bool, true, List, length, sum_by, All}
+use Rattle.semantics.specs.Net.{TableValue, IsAcyclic}
+use Rattle.semantics.specs.Value.{Assignment, value_of}
+use Rattle.proof_semantics.specs.Clauses.{Satisfies, AreClausesOf}
+use Rattle.proof_semantics.specs.NetClauses.{net_clauses, goal_clauses}
+use Rattle.proof_semantics.specs.Variables.{variable_count, table_clause_count, place_value, by_place, IsModelAt, HasPlaceValues}
+
+-- For acyclic tables and each input vector one assignment of the variables satisfies the clauses: each signal has its value, and
+-- each row says whether it matches.
+pub record NetClauseLaw : Type 0 where
+  pub exactly : (n : ℕ) (tables : List TableValue) (x : List Bool) → IsAcyclic n tables → (a : Assignment)
+      → IsModelAt n tables x a ↔ HasPlaceValues n tables x a
+  pub some : (n : ℕ) (tables : List TableValue) (x : List Bool) → IsAcyclic n tables → IsModelAt n tables x (by_place (place_value n tables x))
+  pub only : (n : ℕ) (tables : List TableValue) (x : List Bool) → IsAcyclic n tables → (a b : Assignment)
+      → IsModelAt n tables x a → IsModelAt n tables x b → (k : ℕ) → k < variable_count n tables → a (suc k) ≡ b (suc k)
+  pub signals : (n : ℕ) (tables : List TableValue) (x : List Bool) → IsAcyclic n tables → (a : Assignment)
+      → IsModelAt n tables x a → (s : ℕ) → s < n + length tables → a (suc s) ≡ value_of n tables x s
+
+-- the clauses and a signal's unit clause can be satisfied exactly where some input vector makes the signal true
+abbrev pub GoalLaw : Type 0
+GoalLaw = (n : ℕ) (tables : List TableValue) (signal : ℕ) → IsAcyclic n tables → signal < n + length tables
+    → ((a : Assignment) × Satisfies a (goal_clauses n tables signal)) ↔ ((x : List Bool) × (length x ≡ n) × (value_of n tables x signal ≡ true))
+
+-- how many clauses there are, and that each literal is of one of the variables
+pub record ClauseCountLaw : Type 0 where
+  pub clauses : (n : ℕ) (tables : List TableValue) → All (λ t. All (λ marks. length marks ≡ length t.pins) t.rows) tables
+      → length (net_clauses n tables) ≡ sum_by table_clause_count tables
+  pub goal : (n : ℕ) (tables : List TableValue) (signal : ℕ) → length (goal_clauses n tables signal) ≡ length (net_clauses n tables) + 1
+  pub variables : (n : ℕ) (tables : List TableValue) → IsAcyclic n tables → AreClausesOf (variable_count n tables) (net_clauses n tables)
+  pub goal_variables : (n : ℕ) (tables : List TableValue) (signal : ℕ) → IsAcyclic n tables → signal < n + length tables
+      → AreClausesOf (variable_count n tables) (goal_clauses n tables signal)

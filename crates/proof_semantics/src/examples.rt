@@ -1,0 +1,12 @@
+//! Worked examples of the definitions, computed by the checker: each function's contract is its examples.
+ghost use Rattle.proof_semantics.specs.Examples.{ClauseExamples, DimacsExamples};
+
+/// The clauses of small nets.
+pub fn clauses()
+    ensures { ClauseExamples }
+{}
+
+/// The texts of small formulas.
+pub fn dimacs_texts()
+    ensures { DimacsExamples }
+{}
