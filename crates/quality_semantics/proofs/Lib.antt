@@ -1,0 +1,9 @@
+pub mod Tables
+pub mod Growth
+pub mod Binary
+pub mod Numbers
+pub mod Counts
+pub mod Rounding
+pub mod Formed
+pub mod Quality
+pub mod Sound

@@ -1,0 +1,18 @@
+-- by computation
+use Rattle.std.proofs.Common.{refl}
+use Rattle.quality_semantics.specs.Quality.{quality}
+use Rattle.quality_semantics.specs.Buses.{binary}
+use Rattle.quality_semantics.proofs.examples.absolute.Goals as goal
+
+pub returns : goal.returns
+unfolding quality binary
+returns c = record {
+  one_bit = refl;
+  one_bit_output = refl;
+  one_bit_rows = refl;
+  two_bits = (refl, refl, refl);
+  never = refl;
+  million = refl;
+  constants = (refl, refl);
+  empty_sum = refl;
+}

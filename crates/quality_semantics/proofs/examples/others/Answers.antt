@@ -1,0 +1,23 @@
+-- by computation
+use Rattle.std.proofs.Common.{refl}
+use Rattle.quality_semantics.specs.Quality.{quality}
+use Rattle.quality_semantics.specs.Buses.{binary}
+use Rattle.quality_semantics.proofs.examples.others.Goals as goal
+
+pub returns : goal.returns
+unfolding quality binary
+returns c = record {
+  differing_bit = refl;
+  differing_output = refl;
+  two_differing_bits = refl;
+  two_differing_output = refl;
+  at_least_none = refl;
+  never_differing = refl;
+  relative_begins = refl;
+  relative_tables = (refl, refl);
+  relative_rows = refl;
+  relative_half = (refl, refl);
+  never_relative = refl;
+  not_zero = refl;
+  tripled = refl;
+}

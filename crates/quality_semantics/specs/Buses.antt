@@ -1,0 +1,114 @@
+-- Networks on buses. A bus is a list of signals, bit 0 first; past its width it has the signal of 0. Each call appends tables to a network, in
+-- the order in which they stand here. Source: ripple-carry adders and comparators, multiplication by double-and-add, threshold counters.
+use Rattle.std.specs.Prelude.{ℕ, zero, suc, ◌/◌, ◌%◌, ◌==◌, Bool, true, false, cond, replicate, slice_index_or, List, [], ◌∷◌, map}
+use Rattle.quality_semantics.specs.Forms.{or2, xor2, xor3, maj, gt, grow, low}
+use Rattle.quality_semantics.specs.WordNets.{WordNetValue, signals, appended}
+
+-- the network after a call, and the bus or the signal that is the call's result
+pub record WithBus : Type 0 where
+  pub net : WordNetValue
+  pub bus : List ℕ
+
+pub record WithSignal : Type 0 where
+  pub net : WordNetValue
+  pub signal : ℕ
+
+-- the two bits of each place; past its width a bus has the signal z
+abbrev pub places : ℕ → List ℕ → List ℕ → List (ℕ × ℕ)
+places z [] ys = map (λ y. (z, y)) ys
+places z (x ∷ xs) [] = (x, z) ∷ places z xs []
+places z (x ∷ xs) (y ∷ ys) = (x, y) ∷ places z xs ys
+
+-- a row of full adders, with the carry c into the first; the last bit is the carry out
+abbrev pub adders : WordNetValue → ℕ → List (ℕ × ℕ) → WithBus
+adders W c [] = record { net = W; bus = c ∷ [] }
+adders W c (p ∷ ps) =
+    let half = appended W (xor3 p.0 p.1 c) in
+    let rest = adders (appended half (maj p.0 p.1 c)) (signals half) ps in
+    record { net = rest.net; bus = signals W ∷ rest.bus }
+
+-- the sum
+abbrev pub add : WordNetValue → List ℕ → List ℕ → WithBus
+add W x y = adders W W.inputs (places W.inputs x y)
+
+-- a row of comparators, where g says of the places below that the first number is greater there
+abbrev pub comparators : WordNetValue → ℕ → List (ℕ × ℕ) → WithSignal
+comparators W g [] = record { net = W; signal = g }
+comparators W g (p ∷ ps) = comparators (appended W (gt p.0 p.1 g)) (signals W) ps
+
+-- whether the first is greater
+abbrev pub greater : WordNetValue → List ℕ → List ℕ → WithSignal
+greater W x y = comparators W W.inputs (places W.inputs x y)
+
+-- whether x and y are more than z apart
+abbrev pub exceed : WordNetValue → List ℕ → List ℕ → List ℕ → WithSignal
+exceed W x y z =
+    let s = add W y z in
+    let p = greater s.net x s.bus in
+    let t = add p.net x z in
+    let q = greater t.net y t.bus in
+    record { net = appended q.net (or2 p.signal q.signal); signal = signals q.net }
+
+-- the bits of k up to its highest 1, bit 0 first, where they are at most so many
+abbrev pub bits_within : ℕ → ℕ → List Bool
+bits_within zero k = []
+bits_within (suc most) k = elim (k == 0) [ true ↦ [] | false ↦ (k % 2 == 1) ∷ bits_within most (k / 2) ]
+
+-- the bits of k up to its highest 1, bit 0 first
+unfoldable pub binary : ℕ → List Bool
+binary k = bits_within k k
+
+-- the number k, each bit the signal of 1 or of 0; no table is appended
+abbrev pub constant : WordNetValue → ℕ → List ℕ
+constant W k = map (λ b. cond b (suc W.inputs) W.inputs) (binary k)
+
+-- the double of a bus, and x more where the bit is 1
+abbrev pub doubled_and : Bool → WithBus → List ℕ → WithBus
+doubled_and false half x = record { net = half.net; bus = half.net.inputs ∷ half.bus }
+doubled_and true half x = add half.net (half.net.inputs ∷ half.bus) x
+
+-- from the highest bit down
+abbrev pub times_bits : WordNetValue → List ℕ → List Bool → WithBus
+times_bits W x [] = record { net = W; bus = [] }
+times_bits W x (b ∷ []) = record { net = W; bus = cond b x [] }
+times_bits W x (b ∷ (d ∷ bits)) = doubled_and b (times_bits W x (d ∷ bits)) x
+
+-- the product with a constant
+abbrev pub times : WordNetValue → List ℕ → ℕ → WithBus
+times W x k = times_bits W x (binary k)
+
+-- the number, or 1 where it is 0
+abbrev pub not_zero_low : WordNetValue → List ℕ → WithBus
+not_zero_low W [] = record { net = W; bus = [] }
+not_zero_low W (x ∷ xs) = record { net = appended W (low x xs); bus = signals W ∷ xs }
+
+-- a row of exclusive disjunctions
+abbrev pub differences : WordNetValue → List (ℕ × ℕ) → WithBus
+differences W [] = record { net = W; bus = [] }
+differences W (p ∷ ps) =
+    let rest = differences (appended W (xor2 p.0 p.1)) ps in
+    record { net = rest.net; bus = signals W ∷ rest.bus }
+
+-- bit by bit, whether they differ
+abbrev pub differ : WordNetValue → List ℕ → List ℕ → WithBus
+differ W x y = differences W (places W.inputs x y)
+
+-- a row of a counter: place j of a row says whether at least j of the bits so far were 1. Here d is one more bit, and q the place before.
+abbrev pub growers : WordNetValue → ℕ → ℕ → List ℕ → WithBus
+growers W d q [] = record { net = W; bus = [] }
+growers W d q (p ∷ ps) =
+    let rest = growers (appended W (grow p d q)) d p ps in
+    record { net = rest.net; bus = signals W ∷ rest.bus }
+
+-- one row for each bit; place 0 is the signal of 1 in every row, and stands in none
+abbrev pub count_rows : WordNetValue → List ℕ → List ℕ → WithBus
+count_rows W row [] = record { net = W; bus = row }
+count_rows W row (d ∷ ds) =
+    let next = growers W d (suc W.inputs) row in
+    count_rows next.net next.bus ds
+
+-- whether at least k of the bits are 1
+abbrev pub at_least : WordNetValue → List ℕ → ℕ → WithSignal
+at_least W ds k =
+    let last = count_rows W (replicate k W.inputs) ds in
+    record { net = last.net; signal = slice_index_or (suc W.inputs ∷ last.bus) k W.inputs }

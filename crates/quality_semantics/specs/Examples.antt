@@ -1,0 +1,44 @@
+-- Worked examples, computed from the definitions. Their counts and outputs are those of a program that was written apart from them.
+use Rattle.std.specs.Prelude.{◌≡◌, ℕ, ◌+◌, List, [], ◌∷◌, length, take}
+use Rattle.semantics.specs.Net.{TableValue, row_count}
+use Rattle.semantics.specs.Error.{abs, rel, ham}
+use Rattle.quality_semantics.specs.Forms.{Form, zero_form, one_form, or2, xor2, xor3, maj, gt, grow, low}
+use Rattle.quality_semantics.specs.WordNets.{table_of, started}
+use Rattle.quality_semantics.specs.Buses.{binary, constant, add, times, not_zero_low, at_least}
+use Rattle.quality_semantics.specs.Quality.{quality, quality_net}
+
+-- tables of these forms, numbered from i on
+abbrev pub numbered : ℕ → List Form → List TableValue
+numbered i [] = []
+numbered i (f ∷ forms) = table_of i f ∷ numbered (i + 1) forms
+
+pub record AbsoluteExamples : Type 0 where
+  -- over the inputs e, 0, and a, 1: the tables stand from signal 2 on
+  pub one_bit :
+      (quality abs 1 0).net.tables
+      ≡ numbered 0 (zero_form ∷ one_form ∷ xor3 1 2 2 ∷ maj 1 2 2 ∷ gt 0 4 2 ∷ gt 2 5 6 ∷ xor3 0 2 2 ∷ maj 0 2 2 ∷ gt 1 8 2 ∷ gt 2 9 10 ∷ or2 7 11 ∷ [])
+  pub one_bit_output : (quality_net abs 1 0).outputs ≡ 12 ∷ []
+  pub one_bit_rows : row_count (quality_net abs 1 0) ≡ 29
+  pub two_bits : (length (quality abs 2 1).net.tables ≡ 17) × (row_count (quality_net abs 2 1) ≡ 49) × ((quality abs 2 1).signal ≡ 20)
+  pub never : quality abs 2 3 ≡ record { net = started 4; signal = 4 }
+  pub million : length (binary 1000000) ≡ 20
+  pub constants : (constant (started 4) 0 ≡ []) × (constant (started 4) 6 ≡ 4 ∷ 5 ∷ 5 ∷ [])
+  pub empty_sum : (add (started 4) [] []).bus ≡ 4 ∷ []
+
+pub record OtherExamples : Type 0 where
+  -- whether the bits 0 and 1 differ, and whether that was so at least once
+  pub differing_bit : (quality ham 1 0).net.tables ≡ numbered 0 (zero_form ∷ one_form ∷ xor2 0 1 ∷ grow 2 4 3 ∷ [])
+  pub differing_output : (quality_net ham 1 0).outputs ≡ 5 ∷ []
+  pub two_differing_bits :
+      (quality ham 2 1).net.tables
+      ≡ numbered 0 (zero_form ∷ one_form ∷ xor2 0 2 ∷ xor2 1 3 ∷ grow 4 6 5 ∷ grow 4 6 4 ∷ grow 8 7 5 ∷ grow 9 7 8 ∷ [])
+  pub two_differing_output : (quality ham 2 1).signal ≡ 11
+  pub at_least_none : at_least (started 4) (0 ∷ 1 ∷ []) 0 ≡ record { net = started 4; signal = 5 }
+  pub never_differing : quality ham 2 2 ≡ record { net = started 4; signal = 4 }
+  pub relative_begins : take 5 (quality rel 1 0).net.tables ≡ numbered 0 (zero_form ∷ one_form ∷ low 0 [] ∷ xor3 2 0 2 ∷ maj 2 0 2 ∷ [])
+  pub relative_tables : (length (quality rel 1 0).net.tables ≡ 382) × ((quality rel 1 0).signal ≡ 383)
+  pub relative_rows : row_count (quality_net rel 1 0) ≡ 1301
+  pub relative_half : (length (quality rel 1 500000).net.tables ≡ 492) × (row_count (quality_net rel 1 500000) ≡ 1686)
+  pub never_relative : quality rel 1 1000000 ≡ record { net = started 2; signal = 2 }
+  pub not_zero : (not_zero_low (started 4) (0 ∷ 1 ∷ [])).bus ≡ 6 ∷ 1 ∷ []
+  pub tripled : (times (started 4) (0 ∷ 1 ∷ []) 3).bus ≡ 6 ∷ 8 ∷ 10 ∷ 11 ∷ []

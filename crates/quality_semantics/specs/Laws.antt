@@ -1,0 +1,58 @@
+-- The laws about the networks, each the contract of a function without parameters.
+use Rattle.std.specs.Prelude.{◌≡◌, ℕ, suc, ◌+◌, ◌*◌, ◌^◌, ◌<◌, ◌≤◌, max, nat_lt, nat_le, count_by, Bool, true, false, List, map, length, take, drop}
+use Rattle.std.specs.List.{range_with_len}
+use Rattle.semantics.specs.Net.{table_at, IsAcyclic, IsSound}
+use Rattle.semantics.specs.Value.{Assignment, table_value, value_of}
+use Rattle.semantics.specs.Error.{Metric, number_of, distance, rounded_up, differing, error_of}
+use Rattle.quality_semantics.specs.WordNets.{WordNetValue, signals, started, BeginsWith, IsWordNet}
+use Rattle.quality_semantics.specs.Buses.{constant, add, times, greater, exceed, not_zero_low, differ, at_least}
+use Rattle.quality_semantics.specs.Quality.{greatest_error, quality, quality_net, TellsExcess}
+
+-- the assignment v gives the two constants and each table of the network their values
+pub record Fits (v : Assignment) (W : WordNetValue) : Type 0 where
+  pub zero : v W.inputs ≡ false
+  pub one : v (suc W.inputs) ≡ true
+  pub table : (i : ℕ) → i < length W.tables → v (W.inputs + i) ≡ table_value (table_at W.tables i) v
+
+-- the number of a bus
+abbrev pub number : Assignment → List ℕ → ℕ
+number v bus = number_of (map v bus)
+
+-- Each bus has its number at every assignment that fits the network; tables that are appended later change nothing of that.
+pub record BusLaw : Type 0 where
+  pub input : (W : WordNetValue) (x : List Bool) (from width : ℕ) → IsWordNet W → length x ≡ W.inputs → from + width ≤ W.inputs
+      → map (value_of W.inputs W.tables x) (range_with_len from width) ≡ take width (drop from x)
+  pub constant : (v : Assignment) (W : WordNetValue) (k : ℕ) → Fits v W → number v (constant W k) ≡ k
+  pub add : (v : Assignment) (W : WordNetValue) (x y : List ℕ) → Fits v (add W x y).net → number v (add W x y).bus ≡ number v x + number v y
+  pub times : (v : Assignment) (W : WordNetValue) (x : List ℕ) (k : ℕ) → Fits v (times W x k).net → number v (times W x k).bus ≡ k * number v x
+  pub greater : (v : Assignment) (W : WordNetValue) (x y : List ℕ) → Fits v (greater W x y).net
+      → v (greater W x y).signal ≡ nat_lt (number v y) (number v x)
+  pub exceed : (v : Assignment) (W : WordNetValue) (x y z : List ℕ) → Fits v (exceed W x y z).net
+      → v (exceed W x y z).signal ≡ nat_lt (number v z) (distance (number v x) (number v y))
+  pub not_zero_low : (v : Assignment) (W : WordNetValue) (x : List ℕ) → 0 < length x → Fits v (not_zero_low W x).net
+      → number v (not_zero_low W x).bus ≡ max 1 (number v x)
+  pub differ : (v : Assignment) (W : WordNetValue) (x y : List ℕ) → length x ≡ length y → Fits v (differ W x y).net
+      → count_by v (differ W x y).bus ≡ differing (map v x) (map v y)
+  pub at_least : (v : Assignment) (W : WordNetValue) (ds : List ℕ) (k : ℕ) → Fits v (at_least W ds k).net
+      → v (at_least W ds k).signal ≡ nat_le k (count_by v ds)
+
+-- the values of a network's signals fit it, and each network with which it began
+pub record FitsLaw : Type 0 where
+  pub values : (W : WordNetValue) (x : List Bool) → IsWordNet W → BeginsWith W (started W.inputs) → Fits (value_of W.inputs W.tables x) W
+  pub earlier : (v : Assignment) (W V : WordNetValue) → BeginsWith W V → Fits v W → Fits v V
+
+-- a quotient rounded up exceeds a number exactly where the dividend exceeds its product with the divisor
+abbrev pub RoundingLaw : Type 0
+RoundingLaw = (d m k : ℕ) → 1 ≤ m → nat_lt k (rounded_up d m) ≡ nat_lt (k * m) d
+
+-- The quality network of every metric, width and level.
+pub record QualityLaw : Type 0 where
+  pub greatest : (metric : Metric) (w : ℕ) (e a : List Bool) → length e ≡ w → length a ≡ w → error_of metric e a ≤ greatest_error metric w
+  pub inputs : (metric : Metric) (w k : ℕ) → (quality metric w k).net.inputs ≡ w + w
+  pub formed : (metric : Metric) (w k : ℕ) → IsWordNet (quality metric w k).net
+  pub output : (metric : Metric) (w k : ℕ) → (quality metric w k).signal < signals (quality metric w k).net
+  pub acyclic : (metric : Metric) (w k : ℕ) → IsAcyclic (w + w) (quality metric w k).net.tables
+  pub value : (metric : Metric) (w k : ℕ) (x : List Bool) → length x ≡ w + w
+      → value_of (w + w) (quality metric w k).net.tables x (quality metric w k).signal ≡ nat_lt k (error_of metric (take w x) (drop w x))
+  pub tells : (metric : Metric) (w k : ℕ) → TellsExcess metric w k (quality_net metric w k)
+  pub sound : (metric : Metric) (w k : ℕ) → signals (quality metric w k).net ≤ 2 ^ 30 → IsSound (quality_net metric w k)

@@ -1,0 +1,6 @@
+pub mod Forms
+pub mod WordNets
+pub mod Buses
+pub mod Quality
+pub mod Laws
+pub mod Examples

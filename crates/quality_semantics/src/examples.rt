@@ -1,0 +1,12 @@
+//! Worked examples of the definitions, computed by the checker: each function's contract is its examples.
+ghost use Rattle.quality_semantics.specs.Examples.{AbsoluteExamples, OtherExamples};
+
+/// Networks of the absolute error.
+pub fn absolute()
+    ensures { AbsoluteExamples }
+{}
+
+/// Networks of the other two errors.
+pub fn others()
+    ensures { OtherExamples }
+{}

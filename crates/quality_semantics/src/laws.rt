@@ -1,0 +1,22 @@
+//! The laws about the networks: each function's contract is a law.
+ghost use Rattle.quality_semantics.specs.Laws.{BusLaw, FitsLaw, RoundingLaw, QualityLaw};
+
+/// What the buses' numbers are.
+pub fn buses()
+    ensures { BusLaw }
+{}
+
+/// Which assignments fit a network.
+pub fn fitting()
+    ensures { FitsLaw }
+{}
+
+/// Quotients rounded up.
+pub fn rounding()
+    ensures { RoundingLaw }
+{}
+
+/// What the quality networks say.
+pub fn quality()
+    ensures { QualityLaw }
+{}

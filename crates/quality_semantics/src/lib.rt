@@ -1,0 +1,5 @@
+//! Arithmetic networks and the three quality networks, and the laws about them. It has no code.
+#![tactic(auto)]
+
+pub mod examples;
+pub mod laws;
