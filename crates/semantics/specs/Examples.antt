@@ -104,6 +104,10 @@ pub record ErrorExamples : Type 0 where
       (error_of abs (true ∷ true ∷ []) (true ∷ true ∷ []) ≡ 0)
       × (error_of ham (true ∷ true ∷ []) (true ∷ true ∷ []) ≡ 0)
       × (error_of rel (true ∷ true ∷ []) (true ∷ true ∷ []) ≡ 0)
+  pub largest :
+      (error_of abs (replicate 64 false) (replicate 64 true) ≡ 18446744073709551615)
+      × (error_of ham (replicate 64 false) (replicate 64 true) ≡ 64)
+      × (error_of rel (replicate 64 false) (replicate 64 true) ≡ 18446744073709551615000000)
   pub unchanged : map (net_error abs half_adder half_adder) (all_vectors 2) ≡ 0 ∷ 0 ∷ 0 ∷ 0 ∷ []
   pub same_or : map (net_error abs (or_twice by_zeros) (or_twice by_copy)) (all_vectors 2) ≡ 0 ∷ 0 ∷ 0 ∷ 0 ∷ []
   pub other_metrics :
@@ -196,8 +200,7 @@ pub record ChangeExamples : Type 0 where
   pub left_out : (map (λ t. t.name) without_buffer ≡ codes "z" ∷ codes "w" ∷ []) × (map (λ t. t.pins) without_buffer ≡ (0 ∷ []) ∷ (1 ∷ 0 ∷ []) ∷ [])
   pub left_out_values : (truth_table 1 past_buffer 3 ≡ codes "01") × (truth_table 1 without_buffer 2 ≡ codes "01")
 
--- the inputs, tables, outputs and what of them is wrong: the name of the first table, the outputs, a pin of the second table, one of the third,
--- and the number of pins of the first
+-- three tables over the input a; what may be wrong: the first one's name and number of pins, the pins of the others, and the outputs
 abbrev pub faulty : Bytes → List ℕ → ℕ → ℕ → ℕ → NetValue
 faulty name outputs second third pins = record {
   model = codes "m";
@@ -210,7 +213,7 @@ faulty name outputs second third pins = record {
   outputs = outputs;
 }
 
--- as many inputs, outputs and tables, each table with as many pins and rows, and further tables
+-- so many inputs, outputs and tables, so many pins and rows of each table, and then more tables
 abbrev pub sized : (inputs outputs tables pins rows : ℕ) → List TableValue → NetValue
 sized inputs outputs tables pins rows more = record {
   model = codes "m";
@@ -236,7 +239,7 @@ pub record RefusalExamples : Type 0 where
   pub feeds_itself : first_ungrounded 1 (buffer (codes "y") 1 ∷ []) ≡ Some 0
   pub out_of_order_is_grounded : first_ungrounded 1 out_of_order.tables ≡ None
 
--- the longest and the next number, in the order in which limits are told
+-- the largest of each number, and the next one, which is told before whatever comes later
 pub record LimitExamples : Type 0 where
   pub inputs : (first_limit (sized 256 1 1 1 1 []) ≡ None) × (first_limit (sized 257 65 1 257 1 []) ≡ Some which.Inputs)
   pub outputs : (first_limit (sized 1 64 1 1 1 []) ≡ None) × (first_limit (sized 1 65 1 257 1 []) ≡ Some which.Outputs)
