@@ -10,3 +10,4 @@ pub mod Accepted
 pub mod WrittenNet
 pub mod WrittenLength
 pub mod Written
+pub mod ReadNet

@@ -1,18 +1,22 @@
 -- Names looked up among those of the signals.
-use Rattle.std.proofs.Common.{◌≡◌, ◌≢◌, ℕ, suc, ◌+◌, ◌<◌, Bool, true, false, not, cond, ltb, List, [], ◌∷◌, ◌++◌, map, flat_map, length, get_or, find, bytes_eq, All, AllPairs, Option, Some, None, refl, ap, sym, subst, ◌∙◌, inl, inr, arith}
-use Rattle.std.specs.List.{AllByRecursion, list_any, position, position_or_len, HoldsAt}
+use Rattle.std.proofs.Common.{◌≡◌, ◌≢◌, ℕ, ◌<◌, Bool, true, false, not, cond, List, [], ◌∷◌, map, length, get_or, find, bytes_eq, AllPairs, Option, Some, None, refl, ap, sym, ◌∙◌, inl, inr, arith}
+use Rattle.std.specs.List.{AllByRecursion, position, position_or_len}
 use Rattle.std.proofs.lemmas.Bool.{false_from_ne_true, lt-ltb, cases_lt, both_ways}
 use Rattle.std.proofs.lemmas.List.Folds.{list_any_at, Any-from_list_any}
 use Rattle.std.proofs.lemmas.List.Sums.{position_or_len_is, fails_before_first}
-use Rattle.std.proofs.lemmas.List.Elements.{All-head, All-tail}
 use Rattle.std.proofs.lemmas.Option.{none-some}
 use Rattle.std.proofs.lemmas.Slice.Eq.{bytes_eq-Decides}
 use Rattle.semantics.specs.Texts.{Bytes}
-use Rattle.semantics.specs.Net.{name_of}
+use Rattle.semantics.specs.Net.{TableValue, name_of}
 use Rattle.semantics.specs.Refusals.{has_name}
+use Rattle.blif_semantics.specs.Tables.{NamedTable}
 use Rattle.blif_semantics.specs.Reading.{signal_named}
 
-pub found_first : (names : List Bytes) (word : Bytes) (s : ℕ) → position (λ name. bytes_eq word name) names ≡ Some s → signal_named names word ≡ s
+-- a table with the signals of its names
+abbrev pub with_signals : List Bytes → NamedTable → TableValue
+with_signals names t = record { name = t.name; pins = map (signal_named names) t.pins; rows = t.rows; plane = t.plane }
+
+found_first : (names : List Bytes) (word : Bytes) (s : ℕ) → position (λ name. bytes_eq word name) names ≡ Some s → signal_named names word ≡ s
 found_first names word s e = rw (e, signal_named) refl
 
 -- a name among names that differ stands at one place

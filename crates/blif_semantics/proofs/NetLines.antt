@@ -1,8 +1,8 @@
 -- The lines of a sound net are lines of words that are written.
-use Rattle.std.proofs.Common.{◌≡◌, ◌≢◌, ℕ, ◌+◌, ◌-◌, ◌<◌, Bool, true, false, ◌==◌, not, List, [], ◌∷◌, ◌++◌, map, flat_map, length, get_or, codes, All, refl, ap, sym, subst, ◌∙◌, arith}
+use Rattle.std.proofs.Common.{◌≡◌, ◌≢◌, ℕ, ◌+◌, ◌-◌, ◌<◌, Bool, true, false, List, [], ◌∷◌, ◌++◌, map, flat_map, length, get_or, codes, All, refl, ap, sym, subst, ◌∙◌, arith}
 use Rattle.std.specs.List.{AllByRecursion}
 use Rattle.std.proofs.lemmas.List.{length-append, length-map}
-use Rattle.std.proofs.lemmas.List.Elements.{All-weaker, All-append, All-map, All-get_or, All-head, All-tail, recursion_from_All, All-from_recursion}
+use Rattle.std.proofs.lemmas.List.Elements.{All-weaker, All-append, All-map, All-get_or, All-head, All-tail, recursion_from_All}
 use Rattle.semantics.specs.declared.mark.Mark.{Mark}
 use Rattle.semantics.specs.declared.mark.Mark.TheVariants.{Zero, One, Dash}
 use Rattle.semantics.specs.Texts.{Bytes, bit_byte}

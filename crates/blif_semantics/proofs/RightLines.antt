@@ -1,9 +1,13 @@
 -- Lines none of which is wrong, told line by line.
-use Rattle.std.proofs.Common.{◌≡◌, ℕ, ◌+◌, ◌-◌, ◌<◌, Bool, true, false, ◌==◌, not, ◌||◌, ◌&&◌, cond, List, [], ◌∷◌, ◌++◌, map, length, All, Option, Some, None, refl, ap, sym, subst, ◌∙◌, arith}
+use Rattle.std.proofs.Common.{◌≡◌, ℕ, Bool, List, [], ◌∷◌, map, Option, Some, None, refl, ap, sym, ◌∙◌}
 use Rattle.std.proofs.lemmas.Option.{none-some}
-use Rattle.semantics.specs.Texts.{Bytes, Line}
+use Rattle.semantics.specs.Texts.{Line}
 use Rattle.blif_semantics.specs.Lines.{Statement}
-use Rattle.blif_semantics.specs.Statements.{kind_of, OpenTable, Place, place_after, had_end, Wrong, WrongLine, wrong, wrong_by, first_wrong_after, first_wrong}
+use Rattle.blif_semantics.specs.Statements.{OpenTable, place_after, Wrong, WrongLine, wrong, first_wrong_after, first_wrong}
+
+-- a table with so many pins whose rows may come, and its plane
+abbrev pub open_table : ℕ → Option Bool → Option OpenTable
+open_table n plane = Some (record { pins = n; plane = plane })
 
 -- no line is wrong after the earlier ones, of which the latest stands first
 abbrev pub AllRight : List Line → List Line → Type 0

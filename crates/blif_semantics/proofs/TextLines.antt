@@ -1,11 +1,11 @@
 -- From a text the lines of words come back.
-use Rattle.std.proofs.Common.{◌≡◌, ℕ, ◌-◌, ◌<◌, ◌==◌, List, [], ◌∷◌, ◌++◌, map, length, refl, ap, ◌∙◌, arith}
+use Rattle.std.proofs.Common.{◌≡◌, ◌-◌, ◌==◌, List, [], ◌∷◌, ◌++◌, map, length, refl, ap, ◌∙◌, arith}
 use Rattle.std.specs.List.{AllByRecursion, slice_split, join_with_byte}
 use Rattle.std.proofs.lemmas.Bool.{ne_eqb}
 use Rattle.std.proofs.lemmas.List.{take_at, length_push}
-use Rattle.semantics.specs.Texts.{Bytes, Line, text_of}
+use Rattle.semantics.specs.Texts.{Line, text_of}
 use Rattle.blif_semantics.specs.PlainReading.{front_of, text_lines}
-use Rattle.blif_semantics.proofs.WordLines.{IsWord, IsLine, split_words, physical_lines-text_of}
+use Rattle.blif_semantics.proofs.WordLines.{IsLine, split_words, physical_lines-text_of}
 
 pub front_of_push : {X : Type 0} (xs : List X) (x : X) → front_of (xs ++ x ∷ []) ≡ xs
 front_of_push xs x = take_at xs (x ∷ []) (length (xs ++ x ∷ []) - 1) (omega (arith, length_push xs x))

@@ -1,7 +1,7 @@
 -- Lines of words that are written, cut into the same words again.
-use Rattle.std.proofs.Common.{◌≡◌, ◌≢◌, ℕ, ◌+◌, ◌-◌, ◌<◌, ◌≤◌, Bool, true, false, ◌==◌, not, ◌||◌, List, [], ◌∷◌, ◌++◌, map, length, get_or, take, All, None, refl, ap, sym, subst, ◌∙◌, append_assoc, arith}
+use Rattle.std.proofs.Common.{◌≡◌, ◌≢◌, ℕ, ◌+◌, ◌-◌, ◌<◌, Bool, true, false, ◌==◌, not, ◌||◌, List, [], ◌∷◌, ◌++◌, map, length, get_or, All, None, refl, ap, ◌∙◌, append_assoc, arith}
 use Rattle.std.specs.List.{AllByRecursion, filter, slice_split, suffix_len, join_with_byte, position, position_or_len}
-use Rattle.std.proofs.lemmas.Bool.{ne_eqb, le-ltb, or_from, not_from_false}
+use Rattle.std.proofs.lemmas.Bool.{ne_eqb, le-ltb, or_from}
 use Rattle.std.proofs.lemmas.List.{length-append, take_all}
 use Rattle.std.proofs.lemmas.List.Elements.{All-weaker, All-append, All-cons, All-get_or}
 use Rattle.std.proofs.lemmas.List.Sums.{suffix_len_is, position_or_len_is}
@@ -9,7 +9,7 @@ use Rattle.std.proofs.lemmas.List.Splits.{slice_split_none, slice_split_at}
 use Rattle.std.proofs.Math.Seq.{get_or-append_right}
 use Rattle.semantics.specs.Texts.{Bytes, Line, text_of}
 use Rattle.semantics.specs.Net.{IsNameByte}
-use Rattle.blif_semantics.specs.Lines.{is_blank, physical_lines, without_comment, trimmed, before_backslash, LogicalLine, line_before, logical_from, logical_lines, words_of, Statement, statements}
+use Rattle.blif_semantics.specs.Lines.{is_blank, physical_lines, without_comment, trimmed, before_backslash, LogicalLine, line_before, logical_from, logical_lines, words_of, statements}
 
 -- some bytes, the last of which may end a line: it is printable and no backslash
 record IsEnded (bytes : Bytes) : Type 0 where

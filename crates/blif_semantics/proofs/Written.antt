@@ -1,15 +1,15 @@
 -- A small sound net is read back from its text.
-use Rattle.std.proofs.Common.{◌≡◌, ℕ, ◌+◌, ◌*◌, ◌^◌, ◌<◌, ◌≤◌, Bool, true, false, ◌==◌, not, cond, leb, List, [], map, length, All, Option, Some, None, Result, Ok, Err, refl, ap, sym, subst, ◌∙◌, arith}
-use Rattle.std.proofs.lemmas.Bool.{le-leb, ne_eqb, not_from_true}
+use Rattle.std.proofs.Common.{◌≡◌, ℕ, ◌<◌, ◌≤◌, not, cond, List, [], map, length, All, None, Ok, Err, ap, sym, subst, ◌∙◌, arith}
+use Rattle.std.proofs.lemmas.Bool.{le-leb, ne_eqb}
 use Rattle.std.proofs.lemmas.List.{length-map}
-use Rattle.semantics.specs.Texts.{Bytes, Line, text_of}
+use Rattle.semantics.specs.Texts.{Bytes, Line}
 use Rattle.semantics.specs.Net.{NetValue, input_count, signal_names, name_of, signal_count, IsSound, IsSmall}
 use Rattle.semantics.specs.Refusals.{first_doubled, first_ungrounded, first_limit}
 use Rattle.semantics.specs.Blif.{blif_lines, blif_text}
 use Rattle.semantics.proofs.Refused.{differ-undoubled, acyclic-grounded, limits-small}
 use Rattle.blif_semantics.specs.Lines.{Statement, logical_lines, statements}
-use Rattle.blif_semantics.specs.Statements.{WrongLine, first_wrong}
-use Rattle.blif_semantics.specs.Reading.{Refusal, text_long, wrong_line, bundle_limit, NamedNet, named_net, numbered, unless_refused, single, lines_reading, blif_reading}
+use Rattle.blif_semantics.specs.Statements.{first_wrong}
+use Rattle.blif_semantics.specs.Reading.{text_long, wrong_line, bundle_limit, unless_refused, single, lines_reading, blif_reading}
 use Rattle.blif_semantics.proofs.WordLines.{statements-text_of}
 use Rattle.blif_semantics.proofs.NetLines.{length-signal_names, blif_lines-are_lines}
 use Rattle.blif_semantics.proofs.RightLines.{AllRight, none_wrong}

@@ -1,13 +1,13 @@
 -- How long the text of a small net is.
-use Rattle.std.proofs.Common.{◌≡◌, ℕ, suc, ◌+◌, ◌-◌, ◌*◌, ◌^◌, ◌<◌, ◌≤◌, Bool, true, false, List, [], ◌∷◌, ◌++◌, map, flat_map, length, codes, All, refl, ap, sym, subst, ◌∙◌, arith}
+use Rattle.std.proofs.Common.{◌≡◌, ℕ, ◌+◌, ◌*◌, ◌^◌, ◌<◌, ◌≤◌, Bool, List, [], ◌∷◌, ◌++◌, map, flat_map, length, All, refl, sym, subst, arith}
 use Rattle.std.specs.List.{AllByRecursion, join_with_byte, sum_by}
 use Rattle.std.proofs.lemmas.List.{length-append, length-map}
 use Rattle.std.proofs.lemmas.List.Elements.{All-weaker, All-map, All-get_or, All-head, All-tail}
 use Rattle.std.proofs.lemmas.List.Sums.{sum_by-cons}
 use Rattle.semantics.specs.declared.mark.Mark.{Mark}
-use Rattle.semantics.specs.Texts.{Bytes, Line, line_text, text_of, bit_byte}
-use Rattle.semantics.specs.Net.{TableValue, NetValue, signal_names, name_of, signal_count, pin_count, row_count, IsName, IsTable, IsSound, IsSmall}
-use Rattle.semantics.specs.Blif.{mark_byte, row_line, names_line, table_lines, blif_lines, blif_text, end_line}
+use Rattle.semantics.specs.Texts.{Bytes, Line, line_text, text_of}
+use Rattle.semantics.specs.Net.{TableValue, NetValue, signal_names, name_of, signal_count, pin_count, IsName, IsTable, IsSound, IsSmall}
+use Rattle.semantics.specs.Blif.{mark_byte, row_line, table_lines, blif_lines, blif_text, end_line}
 use Rattle.blif_semantics.proofs.WordLines.{IsLine}
 use Rattle.blif_semantics.proofs.NetLines.{length-signal_names, signal_names-are_names, blif_lines-are_lines}
 

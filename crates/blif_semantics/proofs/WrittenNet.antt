@@ -1,11 +1,11 @@
 -- The lines of a net's text give that net.
-use Rattle.std.proofs.Common.{◌≡◌, ◌≢◌, ℕ, suc, ◌+◌, ◌-◌, ◌<◌, Bool, true, false, not, List, [], ◌∷◌, ◌++◌, map, flat_map, length, get_or, take, filter, codes, find, All, AllPairs, Option, Some, None, refl, ap, sym, subst, ◌∙◌, append_assoc, append-nil, arith}
+use Rattle.std.proofs.Common.{◌≡◌, ◌≢◌, ℕ, ◌-◌, ◌<◌, Bool, true, false, not, List, [], ◌∷◌, ◌++◌, map, flat_map, length, filter, find, All, AllPairs, None, refl, ap, sym, ◌∙◌, append_assoc, append-nil, arith}
 use Rattle.std.specs.List.{AllByRecursion}
-use Rattle.std.proofs.lemmas.List.{length_push, length-append, get_or_push, take_at, map-append}
-use Rattle.std.proofs.lemmas.List.Elements.{All-weaker, All-head, All-tail, recursion_from_All, filter-append}
+use Rattle.std.proofs.lemmas.List.{length_push, get_or_push, take_at}
+use Rattle.std.proofs.lemmas.List.Elements.{All-head, All-tail}
 use Rattle.semantics.specs.declared.mark.Mark.{Mark}
 use Rattle.semantics.specs.declared.mark.Mark.TheVariants.{Zero, One, Dash}
-use Rattle.semantics.specs.Texts.{Bytes, Line, bit_byte}
+use Rattle.semantics.specs.Texts.{Bytes, Line}
 use Rattle.semantics.specs.Net.{TableValue, NetValue, signal_names, name_of, IsTable}
 use Rattle.semantics.specs.Refusals.{has_name}
 use Rattle.semantics.specs.Blif.{mark_byte, row_line, names_line, table_lines, blif_lines, end_line}
@@ -16,7 +16,7 @@ use Rattle.blif_semantics.specs.Tables.{NamedTable, mark_of, last_word, marks_of
 use Rattle.blif_semantics.specs.Reading.{NamedNet, is_inputs, is_outputs, listed, named_net, names_of, names_read, first_undriven_name, signal_named, numbered}
 use Rattle.blif_semantics.proofs.NetLines.{all_append}
 use Rattle.blif_semantics.proofs.WrittenRight.{row_kind}
-use Rattle.blif_semantics.proofs.Looked.{signal_named-name_of, has_name-name_of, none_missing}
+use Rattle.blif_semantics.proofs.Looked.{with_signals, signal_named-name_of, has_name-name_of, none_missing}
 
 -- a table with the names of its signals
 abbrev pub with_names : List Bytes → TableValue → NamedTable
@@ -159,10 +159,6 @@ signals_back names differ (s ∷ signals) h =
     let here = signal_named-name_of names differ s (All-head (λ p. p < length names) s signals h) in
     let rest = signals_back names differ signals (All-tail (λ p. p < length names) s signals h) in
     cc (here, rest)
-
--- a table with the signals of its names
-abbrev with_signals : List Bytes → NamedTable → TableValue
-with_signals names t = record { name = t.name; pins = map (signal_named names) t.pins; rows = t.rows; plane = t.plane }
 
 pins_back : (names : List Bytes) → AllPairs ◌≢◌ names → (tables : List TableValue) → All (λ t. All (λ s. s < length names) t.pins) tables → map (with_signals names) (map (with_names names) tables) ≡ tables
 pins_back names differ [] h = refl

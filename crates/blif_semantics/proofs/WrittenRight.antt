@@ -1,9 +1,9 @@
 -- No line of a sound net's text is wrong.
-use Rattle.std.proofs.Common.{◌≡◌, ℕ, zero, suc, ◌+◌, ◌-◌, ◌<◌, Bool, true, false, ◌==◌, not, ◌||◌, ◌&&◌, cond, List, [], ◌∷◌, ◌++◌, map, flat_map, length, codes, All, Option, Some, None, refl, ap, sym, subst, ◌∙◌, append_assoc, arith}
+use Rattle.std.proofs.Common.{◌≡◌, ℕ, zero, suc, ◌-◌, ◌<◌, Bool, true, false, not, cond, List, [], ◌∷◌, ◌++◌, map, flat_map, length, codes, All, Option, Some, None, refl, ap, sym, subst, ◌∙◌, append_assoc, arith}
 use mathlib.Core.Bool.{beq}
 use Rattle.std.specs.List.{AllByRecursion, list_all}
-use Rattle.std.proofs.lemmas.Bool.{eq-eqb, ne_eqb, and_from, or_from}
-use Rattle.std.proofs.lemmas.List.{length-map, length_push, length-append}
+use Rattle.std.proofs.lemmas.Bool.{eq-eqb, ne_eqb, and_from}
+use Rattle.std.proofs.lemmas.List.{length-map, length_push}
 use Rattle.std.proofs.lemmas.List.Elements.{All-weaker, All-push, All-map, All-get_or, All-head, All-tail}
 use Rattle.std.proofs.lemmas.List.Sums.{list_all-from_AllPass}
 use Rattle.semantics.specs.declared.mark.Mark.{Mark}
@@ -11,13 +11,12 @@ use Rattle.semantics.specs.declared.mark.Mark.TheVariants.{Zero, One, Dash}
 use Rattle.semantics.specs.Texts.{Bytes, Line, bit_byte}
 use Rattle.semantics.specs.Net.{TableValue, NetValue, signal_names, name_of, signal_count, IsName, IsNameByte, IsTable, IsSound}
 use Rattle.semantics.specs.Blif.{mark_byte, row_line, names_line, table_lines, blif_lines, end_line}
-use Rattle.blif_semantics.specs.declared.kind.Kind.{Kind}
 use Rattle.blif_semantics.specs.declared.kind.Kind.TheVariants as kind
-use Rattle.blif_semantics.specs.Statements.{is_printable, kind_of, is_mark, plane_of, row_plane, had_end, OpenTable, table_before, Place, place_after, agrees, with_plane, Wrong, bad_byte, after_end, wrong, wrong_by, wrong_row}
+use Rattle.blif_semantics.specs.Statements.{is_printable, kind_of, is_mark, plane_of, row_plane, had_end, table_before, Place, place_after, agrees, with_plane, Wrong, bad_byte, after_end, wrong, wrong_by, wrong_row}
 use Rattle.blif_semantics.proofs.Names.{printable_byte, is_name-from_IsName, are_names-from_IsName}
 use Rattle.blif_semantics.proofs.WordLines.{IsWord, IsLine}
 use Rattle.blif_semantics.proofs.NetLines.{keyword, row_line-is_line, names_line-is_line, length-signal_names, signal_names-are_names, blif_lines-are_lines}
-use Rattle.blif_semantics.proofs.RightLines.{AllRight}
+use Rattle.blif_semantics.proofs.RightLines.{open_table, AllRight}
 
 printable_words : (words : Line) → AllByRecursion IsWord words → list_all (list_all is_printable) words ≡ true
 printable_words [] h = refl
@@ -60,16 +59,12 @@ row_plane-row_line plane (m ∷ marks) (suc n) e =
     let width = eq-eqb (length (map mark_byte (m ∷ marks))) (suc n) (length-map (m ∷ marks) mark_byte ∙ e) in
     rw (width, marks_pass (m ∷ marks)) (plane_back plane)
 
--- a table with so many pins, whose rows so far have the plane
-abbrev open_table : ℕ → Option Bool → Option OpenTable
-open_table n plane = Some (record { pins = n; plane = plane })
-
 -- no row yet, or the plane
 abbrev IsPlaneSoFar : Bool → Option Bool → Type 0
 IsPlaneSoFar plane None = Unit {0}
 IsPlaneSoFar plane (Some first) = first ≡ plane
 
-beq_same : (b : Bool) → beq b b ≡ true
+pub beq_same : (b : Bool) → beq b b ≡ true
 beq_same false = refl
 beq_same true = refl
 
