@@ -6,7 +6,8 @@ use Rattle.std.proofs.lemmas.Bool.{false_from_ne_true}
 use Rattle.semantics.specs.Texts.{Bytes}
 use Rattle.outside_semantics.specs.Outside.{Held, FilesTold, Goes, Created, CreateFailed, Wrote, WriteFailed, added_to, appended}
 use Rattle.outside_semantics.specs.WrittenFiles.{File, with_files, are_steady, FilesWritten, IsCutAt, IsCutShort, FilesCutShort}
-use Rattle.file_core.proofs.Told.{Goes-Goes, held_before, get-insert_same, insert-insert}
+use Rattle.outside_semantics.proofs.HeldFiles.{get-insert_same, insert-insert}
+use Rattle.file_core.proofs.Told.{Goes-Goes, held_before}
 
 -- a text that is added to a file just created is the file
 created_with : (h : Held) (name text : Bytes) → appended (insert h name []) (Some name) text ≡ insert h name text

@@ -87,12 +87,7 @@ fn run_on(
     requires { 0 < chunk }
 {
     let alloc = rt.alloc();
-    let mut files = MemFiles::new(
-        alloc,
-        holding(alloc, text)?,
-        failing_at(alloc, file_call)?,
-        chunk,
-    );
+    let mut files = MemFiles::new(holding(alloc, text)?, failing_at(alloc, file_call)?, chunk);
     let mut sink = MemSink::new(alloc, failing_at(alloc, sink_call)?, chunk);
     let status = run(alloc, &words(alloc, line)?, &mut files, &mut sink).status;
     Ok(Run {
@@ -293,7 +288,7 @@ fn each_call_on_the_sink_fails_in_turn(rt: HostRuntime) -> Result<(), Fail> {
 #[test]
 fn no_fault_over_files_that_never_fail(rt: HostRuntime) -> Result<(), Fail> {
     let alloc = rt.alloc();
-    let mut files = SureFiles::new(alloc, holding(alloc, HALF_ADDER)?);
+    let mut files = SureFiles::new(holding(alloc, HALF_ADDER)?);
     let mut sink = SureSink::new();
     let line = b"synth abs 1 1 ha.blif out";
     let done = run_surely(alloc, &words(alloc, line)?, &mut files, &mut sink);
