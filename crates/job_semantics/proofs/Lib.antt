@@ -1,1 +1,1 @@
-pub mod SynthFiles
+pub mod BundleFiles

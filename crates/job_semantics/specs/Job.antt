@@ -1,10 +1,10 @@
 -- The job that the words of the command line name. Source: this tool's own table of commands.
-use Rattle.std.specs.Prelude.{ℕ, ◌-◌, ◌^◌, Bool, true, false, not, ◌&&◌, List, [], ◌∷◌, ◌++◌, codes, nat_le, bytes_eq, Option, Some, None, if◌then◌else◌}
-use Rattle.std.specs.List.{list_any}
+use Rattle.std.specs.Prelude.{ℕ, ◌-◌, ◌^◌, Bool, true, false, not, ◌&&◌, List, [], ◌∷◌, codes, nat_le, bytes_eq, Option, Some, None, if◌then◌else◌}
 use Rattle.semantics.specs.Texts.{Bytes}
 use Rattle.semantics.specs.Optional.{◌>>=◌}
 use Rattle.semantics.specs.Decimal.{digits_number, is_decimal}
 use Rattle.semantics.specs.Error.{Metric, abs, rel, ham}
+use Rattle.job_semantics.specs.Endings.{is_bundle_name}
 
 pub data Job : Type 0 where
   synth : Metric → (bound conflicts : ℕ) → (input stem : Bytes) → Job
@@ -33,13 +33,6 @@ metric_of word =
     else (if bytes_eq word (codes "rel") then Some rel
     else (if bytes_eq word (codes "ham") then Some ham
     else None))
-
--- the five files of a bundle
-abbrev pub bundle_endings : List Bytes
-bundle_endings = codes ".blif" ∷ codes ".cnf" ∷ codes ".lrat" ∷ codes ".wit" ∷ codes ".txt" ∷ []
-
-abbrev pub is_bundle_name : Bytes → Bytes → Bool
-is_bundle_name stem name = list_any (λ ending. bytes_eq name (stem ++ ending)) bundle_endings
 
 abbrev pub is_empty_word : Bytes → Bool
 is_empty_word [] = true

@@ -1,5 +1,7 @@
+pub mod Endings
 pub mod Job
 pub mod Report
+pub mod Input
 pub mod Synthesis
 pub mod Laws
 pub mod Examples

@@ -1,16 +1,19 @@
 -- What a synth job with the absolute error comes to, by its answer. Source: SALSA, simplification within a bound on the error.
-use Rattle.std.specs.Prelude.{◌≡◌, ◌⊎◌, ℕ, ◌≤◌, Bool, false, ◌&&◌, IsTrue, Some, List, [], ◌∷◌, ◌++◌, codes}
+use Rattle.std.specs.Prelude.{◌≡◌, ◌⊎◌, ℕ, ◌≤◌, Bool, false, IsTrue, Some, List, []}
 use Rattle.std.specs.FinMap.{contains_key}
 use Rattle.semantics.specs.Texts.{Bytes}
 use Rattle.semantics.specs.Net.{NetValue, input_count, table_count, literal_count}
 use Rattle.semantics.specs.Error.{Metric, net_error, IsWithin}
 use Rattle.semantics.specs.Vectors.{all_vectors, IsFirstGreatestAt}
 use Rattle.semantics.specs.Blif.{blif_text}
-use Rattle.blif_semantics.specs.Plain.{IsPlainFor, IsPlain}
-use Rattle.job_semantics.specs.Report.{report_of, report_text, vectors_text}
 use Rattle.chain_semantics.specs.ConstantChain.{IsConstantChainEnd}
-use Rattle.outside_semantics.specs.Outside.{Held, FilesTold, SinkTold, Rose, WhereTold, Took, TakeFailed, bytes_of}
-use Rattle.outside_semantics.specs.WrittenFiles.{File, FilesWritten, FilesCutShort, are_steady}
+use Rattle.outside_semantics.specs.Outside.{Held, FilesTold, SinkTold, Goes, Rose, WhereTold, Took, TakeFailed, bytes_of}
+use Rattle.outside_semantics.specs.WrittenFiles.{File, FilesWritten, FilesCutShort}
+use Rattle.job_semantics.specs.declared.ending.Ending.{Ending}
+use Rattle.job_semantics.specs.declared.ending.Ending.TheVariants.{Netlist, Formula, Log, Vectors, Report}
+use Rattle.job_semantics.specs.Endings.{bundle_files, are_bundle_names_steady}
+use Rattle.job_semantics.specs.Input.{IsReadAs, IsAccepted, IsRefused}
+use Rattle.job_semantics.specs.Report.{report_of, report_text, vectors_text}
 
 -- a simplified net, its exact maximum error, and an input that attains it
 pub record Simplified : Type 0 where
@@ -32,34 +35,32 @@ pub record IsSimplifiedFrom (exact : NetValue) (metric : Metric) (bound : ℕ) (
 abbrev pub synth_report : NetValue → Metric → ℕ → Simplified → Bytes
 synth_report exact metric bound s = report_text (report_of metric bound s.maximum s.witness exact s.net false)
 
+-- the text of each file; the formula and the log have none so far
+abbrev pub synth_text : NetValue → Metric → ℕ → Simplified → Ending → Bytes
+synth_text exact metric bound s Netlist = blif_text s.net
+synth_text exact metric bound s Formula = []
+synth_text exact metric bound s Log = []
+synth_text exact metric bound s Vectors = vectors_text s.witness (all_vectors (input_count exact))
+synth_text exact metric bound s Report = synth_report exact metric bound s
+
 -- the files of a synth job in the order in which they are written
 abbrev pub synth_files : NetValue → Metric → ℕ → Bytes → Simplified → List File
-synth_files exact metric bound stem s =
-    record { name = stem ++ codes ".blif"; text = blif_text s.net }
-    ∷ record { name = stem ++ codes ".wit"; text = vectors_text s.witness (all_vectors (input_count exact)) }
-    ∷ record { name = stem ++ codes ".txt"; text = synth_report exact metric bound s }
-    ∷ []
-
--- the names that a synth job needs for writing
-abbrev pub needs_steady : FilesTold → Bytes → Bool
-needs_steady told stem = are_steady told (
-    record { name = stem ++ codes ".blif"; text = [] }
-    ∷ record { name = stem ++ codes ".wit"; text = [] }
-    ∷ record { name = stem ++ codes ".txt"; text = [] }
-    ∷ [])
+synth_files exact metric bound stem s = bundle_files stem (synth_text exact metric bound s)
 
 -- P of the files at entry, where they are told and hold the name
 abbrev pub WhereHeld : FilesTold → Bytes → (Held → Type 0) → Type 0
 WhereHeld old name P = (a : Held) → old.held ≡ Some a → IsTrue (contains_key a name) → P a
 
--- IN was read and is plain for the exact net, and this is what it is simplified to
+-- IN was read as the exact net, and this is what it is simplified to
 pub record IsSimplifiedInput (metric : Metric) (bound : ℕ) (input : Bytes) (old new : FilesTold) (exact : NetValue) (s : Simplified) : Type 0 where
-  pub plain : WhereTold old new (λ a b. IsPlainFor (bytes_of a input) exact)
-  pub plain_at_entry : WhereHeld old input (λ a. IsPlainFor (bytes_of a input) exact)
+  pub read : WhereTold old new (λ a b. IsReadAs (bytes_of a input) exact)
+  pub read_at_entry : WhereHeld old input (λ a. IsReadAs (bytes_of a input) exact)
   pub simplified : IsSimplifiedFrom exact metric bound s
 
--- no file changed, what was told of a held IN is told still, and the sink tells what it told
+-- no file changed, no count fell and no steady name was lost, what was told of a held IN is told still, and the sink tells
+-- what it told
 pub record IsUntouched (input : Bytes) (old new : FilesTold) (said says : SinkTold) : Type 0 where
+  pub goes : Goes old new
   pub files : WhereTold old new (λ a b. b ≡ a)
   pub still_told : WhereHeld old input (λ a. new.held ≡ Some a)
   pub sink : says ≡ said
@@ -72,12 +73,12 @@ pub record SynthDone (metric : Metric) (bound : ℕ) (input stem : Bytes) (old n
   pub files : FilesWritten old new (synth_files exact metric bound stem result)
   pub report : Took said says (synth_report exact metric bound result)
 
--- IN is held and is not plain
-pub record SynthNotPlain (input : Bytes) (old new : FilesTold) (said says : SinkTold) : Type 0 where
+-- IN is held and is read as no net
+pub record SynthNotYet (input : Bytes) (old new : FilesTold) (said says : SinkTold) : Type 0 where
   pub untouched : IsUntouched input old new said says
   pub held : WhereTold old new (λ a b. IsTrue (contains_key a input))
-  pub not_plain : WhereTold old new (λ a b. ¬ IsPlain (bytes_of a input))
-  pub not_plain_at_entry : WhereHeld old input (λ a. ¬ IsPlain (bytes_of a input))
+  pub refused : WhereTold old new (λ a b. IsRefused (bytes_of a input))
+  pub refused_at_entry : WhereHeld old input (λ a. IsRefused (bytes_of a input))
 
 -- a fault came while IN was read, and IN is not steady
 pub record SynthReadFault (input : Bytes) (old new : FilesTold) (said says : SinkTold) : Type 0 where
@@ -94,11 +95,20 @@ pub record SynthWriteFault (metric : Metric) (bound : ℕ) (input stem : Bytes) 
       (FilesCutShort old new (synth_files exact metric bound stem result) × (says ≡ said))
       ⊎ (FilesWritten old new (synth_files exact metric bound stem result) × TakeFailed said says (synth_report exact metric bound result))
 
+-- IN is accepted; where the files are not told both at entry and at exit, it counts as accepted
+abbrev pub CountsAsAccepted : FilesTold → FilesTold → Bytes → Type 0
+CountsAsAccepted old new input = WhereTold old new (λ a b. IsAccepted (bytes_of a input))
+
+-- The files that a synth job needs are steady at entry: IN for reading and, where IN is accepted, those that are written for
+-- writing.
+pub record AreSynthFilesSteady (old new : FilesTold) (input stem : Bytes) : Type 0 where
+  pub read : IsTrue (old.steady_read input)
+  pub written : CountsAsAccepted old new input → IsTrue (are_bundle_names_steady old stem)
+
 -- No count of faults rose in the call; or the files' count may have risen, but every file that is needed is steady.
-pub record IsQuiet (needed_are_steady : Bool) (old new : FilesTold) (said says : SinkTold) : Type 0 where
-  pub files : (¬ Rose old.faults new.faults) ⊎ IsTrue needed_are_steady
+pub record IsQuiet (NeededAreSteady : Type 0) (old new : FilesTold) (said says : SinkTold) : Type 0 where
+  pub files : (¬ Rose old.faults new.faults) ⊎ NeededAreSteady
   pub sink : ¬ Rose said.faults says.faults
 
--- IN and the files to be written are steady at entry
-abbrev pub synth_needs_steady : FilesTold → Bytes → Bytes → Bool
-synth_needs_steady old input stem = old.steady_read input && needs_steady old stem
+abbrev pub IsQuietSynth : Bytes → Bytes → FilesTold → FilesTold → SinkTold → SinkTold → Type 0
+IsQuietSynth input stem old new said says = IsQuiet (AreSynthFilesSteady old new input stem) old new said says

@@ -1,7 +1,7 @@
 //! The laws about jobs: each function's contract is a law.
-ghost use Rattle.job_semantics.specs.Laws.{SynthFilesLaw};
+ghost use Rattle.job_semantics.specs.Laws.{BundleFilesLaw};
 
-/// What is held after the three files of a synth job were written.
-pub fn synth_files()
-    ensures { SynthFilesLaw }
+/// What is held after the files of a bundle were written.
+pub fn bundle_files()
+    ensures { BundleFilesLaw }
 {}

@@ -1,5 +1,6 @@
-//! Jobs, reports, and what each answer of a run says. It has no code.
+//! Jobs, reports, and what each answer of a run says. It has no code but the type `Ending`.
 #![tactic(auto)]
 
+pub mod ending;
 pub mod examples;
 pub mod laws;

@@ -6,7 +6,7 @@ use Rattle.std.proofs.lemmas.Bool.{false_from_ne_true}
 use Rattle.semantics.specs.Texts.{Bytes}
 use Rattle.outside_semantics.specs.Outside.{Held, FilesTold, Goes, Created, CreateFailed, Wrote, WriteFailed, added_to, appended}
 use Rattle.outside_semantics.specs.WrittenFiles.{File, with_files, are_steady, FilesWritten, IsCutAt, IsCutShort, FilesCutShort}
-use Rattle.outside_semantics.proofs.HeldFiles.{get-insert_same, insert-insert}
+use Rattle.outside_semantics.proofs.HeldFiles.{get-insert_same, insert-insert, with_files-append}
 use Rattle.file_core.proofs.Told.{Goes-Goes, held_before}
 
 -- a text that is added to a file just created is the file
@@ -61,10 +61,6 @@ FilesCutShort-write {a} {b} {c} {name} {text} made failed = record {
         cut = inr (part.0, part.1, part.2 ∙ (λ i. appended (made.made h m.0 told m.1 i) (made.writing h m.0 told m.1 i) (take part.0 text)) ∙ created_with h name (take part.0 text));
       };
 }
-
-with_files-append : (h : Held) (fs gs : List File) → with_files h (fs ++ gs) ≡ with_files (with_files h fs) gs
-with_files-append h [] gs = refl
-with_files-append h (f ∷ fs) gs = with_files-append (insert h f.name f.text) fs gs
 
 are_steady-append_left : (a : FilesTold) (fs gs : List File) → are_steady a fs ≡ false → are_steady a (fs ++ gs) ≡ false
 are_steady-append_left a [] gs fails = absurd (let e : true ≡ false = fails in cc)

@@ -6,7 +6,7 @@ use Rattle.semantics.specs.Net.{NetValue}
 use Rattle.blif_semantics.specs.Plain.{text_limit, IsPlainFor, IsPlain}
 use Rattle.outside_semantics.specs.Outside.{FilesTold, bytes_of}
 use Rattle.salsa_cli.specs.Reading.{TextRead, FilesStay}
-use Rattle.salsa_cli.specs.Input.{NetRead, TextNotPlain}
+use Rattle.salsa_cli.specs.Input.{NetRead, TextRefused}
 
 -- a front that is within the limit is the whole
 front_is_whole : (content text : Bytes) → text ≡ take (text_limit + 1) content → length text ≤ text_limit → text ≡ content
@@ -29,18 +29,18 @@ NetRead-from {old} {new} {name} {text} {N} read plain = record {
   goes = read.goes;
   stays = read.stays;
   still_told = read.still_told;
-  plain = λ a b told tells. plain_front (bytes_of a name) text N (read.front a b told tells) plain;
+  read = λ a b told tells. plain_front (bytes_of a name) text N (read.front a b told tells) plain;
   few_inputs = plain.few_inputs;
   small = plain.small;
 }
 
-pub TextNotPlain-from : {old new : FilesTold} {name text : Bytes} → TextRead old new name text → (IsPlain text → ⊥) → TextNotPlain old new name
-TextNotPlain-from {old} {new} {name} {text} read not = record {
+pub TextRefused-from : {old new : FilesTold} {name text : Bytes} → TextRead old new name text → (IsPlain text → ⊥) → TextRefused old new name
+TextRefused-from {old} {new} {name} {text} read not = record {
   goes = read.goes;
   stays = read.stays;
   still_told = read.still_told;
   held = read.held;
-  not_plain = λ a b told tells. not_plain_front (bytes_of a name) text (read.front a b told tells) not;
+  refused = λ a b told tells. not_plain_front (bytes_of a name) text (read.front a b told tells) not;
 }
 
 pub FilesStay-read : {old new : FilesTold} {name text : Bytes} → TextRead old new name text → FilesStay old new name

@@ -4,7 +4,7 @@ use Rattle.semantics.specs.Texts.{Bytes}
 use Rattle.semantics.specs.Error.{abs, rel, ham}
 use Rattle.job_semantics.specs.Job.{Job, synth, check, demo}
 use Rattle.outside_semantics.specs.Outside.{FilesTold, SinkTold}
-use Rattle.job_semantics.specs.Synthesis.{IsUntouched, SynthDone, SynthNotPlain, SynthReadFault, SynthWriteFault}
+use Rattle.job_semantics.specs.Synthesis.{IsUntouched, SynthDone, SynthNotYet, SynthReadFault, SynthWriteFault}
 use Rattle.salsa_cli.specs.declared.status.Status.{Status}
 use Rattle.salsa_cli.specs.declared.status.Status.TheVariants.{Done, Usage, NotYet, NoMemory, ReadFault, WriteFault}
 
@@ -20,7 +20,7 @@ IsLaterJob (demo width bound conflicts) = Unit {0}
 abbrev pub SynthAnswer : ℕ → Bytes → Bytes → FilesTold → FilesTold → SinkTold → SinkTold → Status → Type 0
 SynthAnswer bound input stem old new said says Done = SynthDone abs bound input stem old new said says
 SynthAnswer bound input stem old new said says Usage = ⊥
-SynthAnswer bound input stem old new said says NotYet = SynthNotPlain input old new said says
+SynthAnswer bound input stem old new said says NotYet = SynthNotYet input old new said says
 SynthAnswer bound input stem old new said says NoMemory = IsUntouched input old new said says
 SynthAnswer bound input stem old new said says ReadFault = SynthReadFault input old new said says
 SynthAnswer bound input stem old new said says WriteFault = SynthWriteFault abs bound input stem old new said says

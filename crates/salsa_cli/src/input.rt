@@ -11,7 +11,7 @@ use std::alloc::{AllocError, Global};
 /// Why there is no net.
 #[derive(Clone, Copy, Debug, PartialEq, Eq)]
 pub enum NoNet {
-    NotPlain,
+    Refused,
     Fault,
     OutOfMemory,
 }
@@ -40,7 +40,7 @@ impl From<Unread> for NoNet {
     }
 }
 
-/// Reads a file that holds a plain text, and makes its net.
+/// Reads a file, and makes the net of its text.
 pub fn read_net<F: Files>(alloc: Global, files: &mut F, name: &[u8]) -> Result<Net, NoNet>
     ensures ok { IfOk result (NetRead (F.told files.old) (F.told files.new) name.now) }
     ensures err { IfErr result (NetRefused (F.told files.old) (F.told files.new) name.now) }
@@ -49,6 +49,6 @@ pub fn read_net<F: Files>(alloc: Global, files: &mut F, name: &[u8]) -> Result<N
     let plain = read_plain(alloc, &text)?;
     match plain {
         Plain::Net(net) => Ok(net),
-        Plain::Other => Err(NoNet::NotPlain),
+        Plain::Other => Err(NoNet::Refused),
     }
 }

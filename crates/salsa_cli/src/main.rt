@@ -2,6 +2,7 @@
 #![tactic(auto)]
 
 mod arguments;
+mod bundle_names;
 mod decimal;
 mod delivery;
 mod input;
@@ -30,8 +31,8 @@ fn main(rt: HostRuntime) -> ExitCode {
         }
         Err(_) => Status::NoMemory,
     };
-    if let Some(line) = status.line() {
-        let _ = eprintln!(rt; "salsa: {line}");
+    if status != Status::Done {
+        let _ = eprintln!(rt; "salsa: {status}");
     }
     ExitCode::from(status.exit())
 }

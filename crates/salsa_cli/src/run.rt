@@ -1,12 +1,12 @@
 //! The top call: what the program does with its words, its files and its standard output.
 ghost use Rattle.std.specs.Prelude.{◌≡◌, ◌≢◌, ◌↔◌, ◌⊎◌, ℕ, true, IsTrue, None, Some};
 ghost use Rattle.std.specs.FinMap.{contains_key};
-ghost use Rattle.blif_semantics.specs.Plain.{IsPlain};
 ghost use Rattle.outside_semantics.specs.Outside.{bytes_of};
 ghost use Rattle.semantics.specs.Texts.{Bytes};
 ghost use Rattle.semantics.specs.Error.{abs};
 ghost use Rattle.job_semantics.specs.Job.{Job, synth, job_of};
-ghost use Rattle.job_semantics.specs.Synthesis.{IsQuiet, synth_needs_steady};
+ghost use Rattle.job_semantics.specs.Input.{IsAccepted};
+ghost use Rattle.job_semantics.specs.Synthesis.{IsQuietSynth};
 ghost use Rattle.file_core.specs.Sure.{sure_told, sure_sink_told};
 ghost use Rattle.salsa_cli.specs.Run.{IsLaterJob, SynthAnswer};
 
@@ -35,15 +35,10 @@ pub fn run<F: Files, K: Sink>(alloc: Global, words: &[Word], files: &mut F, say:
         → job_of words.now ≡ Some (synth abs bound conflicts input stem)
         → SynthAnswer bound input stem (F.told files.old) (F.told files.new) (K.told say.old) (K.told say.new) result.status }
 
-    // A quiet call ends, unless IN is of a later kind or memory is wanting.
+    // A quiet call ends, unless IN is not read so far or memory is wanting.
     ensures complete { (bound conflicts : ℕ) (input stem : Bytes)
         → job_of words.now ≡ Some (synth abs bound conflicts input stem)
-        → IsQuiet
-        (synth_needs_steady (F.told files.old) input stem)
-        (F.told files.old)
-        (F.told files.new)
-        (K.told say.old)
-        (K.told say.new)
+        → IsQuietSynth input stem (F.told files.old) (F.told files.new) (K.told say.old) (K.told say.new)
         → result.status ≢ Status.NotYet
         → (result.status ≡ Status.Done) ⊎ (result.status ≡ Status.NoMemory) }
 {
@@ -63,7 +58,7 @@ pub fn run<F: Files, K: Sink>(alloc: Global, words: &[Word], files: &mut F, say:
     Outcome { status }
 }
 
-/// A run over files and a sink that never fail: no fault is answered, and a synthesis of a plain netlist ends.
+/// A run over files and a sink that never fail: no fault is answered, and a synthesis of an accepted netlist ends.
 pub fn run_surely(
     alloc: Global,
     words: &[Word],
@@ -83,11 +78,11 @@ pub fn run_surely(
         → job_of words.now ≡ Some (synth abs bound conflicts input stem)
         → result.status ≢ Status.NotYet
         → (result.status ≡ Status.Done) ⊎ (result.status ≡ Status.NoMemory) }
-    ensures plain_ends { (bound conflicts : ℕ) (input stem : Bytes)
+    ensures accepted_ends { (bound conflicts : ℕ) (input stem : Bytes)
         → job_of words.now ≡ Some (synth abs bound conflicts input stem)
         → files.old.told ≡ true
         → IsTrue (contains_key files.old.given input)
-        → IsPlain (bytes_of files.old.given input)
+        → IsAccepted (bytes_of files.old.given input)
         → (result.status ≡ Status.Done) ⊎ (result.status ≡ Status.NoMemory) }
 {
     run(alloc, words, files, say)

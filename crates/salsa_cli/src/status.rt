@@ -2,8 +2,10 @@
 ghost use Rattle.std.specs.Prelude.{◌≡◌};
 ghost use Rattle.salsa_cli.specs.Status.{exit_number};
 
+use std::fmt;
+
 /// The answer of a run.
-#[derive(Clone, Copy, Debug, PartialEq, Eq)]
+#[derive(Debug, Drop, PartialEq, Eq)]
 pub enum Status {
     /// The files were written and the report was put.
     Done,
@@ -33,24 +35,26 @@ impl Status {
             Status::NotYet => 9,
         }
     }
+}
 
-    /// The line on standard error, without the program's name; none where all went well.
-    pub fn line(&self) -> Option<&'static str> {
-        match self {
-            Status::Done => None,
-            Status::Usage => Some(
-                "usage: synth METRIC BOUND CONFLICTS IN STEM, check METRIC BOUND IN STEM, or demo WIDTH BOUND CONFLICTS",
-            ),
-            Status::NotYet => Some("not yet"),
-            Status::NoMemory => Some("out of memory"),
-            Status::ReadFault => Some("read fault"),
-            Status::WriteFault => Some("write fault"),
-        }
+/// The line on standard error, without the program's name.
+impl fmt::Display for Status {
+    fn fmt<W: fmt::Write>(&self, f: &mut fmt::Formatter<W>) -> fmt::Result {
+        f.write_str(match self {
+            Status::Done => "done",
+            Status::Usage => {
+                "usage: synth METRIC BOUND CONFLICTS IN STEM, check METRIC BOUND IN STEM, or demo WIDTH BOUND CONFLICTS"
+            }
+            Status::NotYet => "not yet",
+            Status::NoMemory => "out of memory",
+            Status::ReadFault => "read fault",
+            Status::WriteFault => "write fault",
+        })
     }
 }
 
 /// What a run answers.
-#[derive(Clone, Copy, Debug, PartialEq, Eq)]
+#[derive(Debug, Drop, PartialEq, Eq)]
 pub struct Outcome {
     pub status: Status,
 }

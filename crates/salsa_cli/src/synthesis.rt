@@ -1,30 +1,22 @@
 //! A synth job: IN is read, everything is computed, and only then a file is touched.
-ghost use Rattle.std.specs.Prelude.{◌≡◌, ◌++◌, ◌≤◌, codes, IfOk};
+ghost use Rattle.std.specs.Prelude.{◌≤◌, IfOk};
 ghost use Rattle.semantics.specs.Net.{input_count, IsSmall};
 ghost use Rattle.semantics.specs.Error.{abs};
 ghost use Rattle.salsa_cli.specs.Prepared.{IsPrepared};
 ghost use Rattle.salsa_cli.specs.Run.{SynthAnswer};
 
+use crate::bundle_names::bundle_name;
 use crate::delivery::{Prepared, deliver};
 use crate::input::{NoNet, read_net};
 use crate::report::{Counts, report, vectors};
 use crate::status::Status;
 use file_core::files::Files;
 use file_core::sink::Sink;
-use file_core::word::Word;
+use job_semantics::ending::Ending;
 use joint_net::metric::Metric;
 use net_core::net::Net;
 use std::alloc::{AllocError, Global};
 use synth_core::simplify::simplify;
-
-/// The name of a file of the bundle.
-fn bundle_name(alloc: Global, stem: &[u8], ending: &[u8]) -> Result<Word, AllocError>
-    ensures { IfOk result (λ w. w ≡ stem.now ++ ending.now) }
-{
-    let mut name = Vec::from_slice(alloc, stem)?;
-    name.extend_from_slice(ending)?;
-    Word::new(alloc, &name)
-}
 
 /// The files and the report of the simplification of a net.
 fn prepare(alloc: Global, exact: &Net, bound: u128, stem: &[u8]) -> Result<Prepared, AllocError>
@@ -44,11 +36,11 @@ fn prepare(alloc: Global, exact: &Net, bound: u128, stem: &[u8]) -> Result<Prepa
     let report = report(alloc, bound, simple.maximum, witness, counts)?;
     let vectors = vectors(alloc, witness)?;
     Ok(Prepared {
-        netlist_name: bundle_name(alloc, stem, b".blif")?,
+        netlist_name: bundle_name(alloc, stem, Ending::Netlist)?,
         net: simple.net,
-        vectors_name: bundle_name(alloc, stem, b".wit")?,
+        vectors_name: bundle_name(alloc, stem, Ending::Vectors)?,
         vectors,
-        report_name: bundle_name(alloc, stem, b".txt")?,
+        report_name: bundle_name(alloc, stem, Ending::Report)?,
         report,
     })
 }
@@ -74,7 +66,7 @@ pub fn synthesize<F: Files, K: Sink>(
 {
     let exact = match read_net(alloc, files, input) {
         Ok(net) => net,
-        Err(NoNet::NotPlain) => return Status::NotYet,
+        Err(NoNet::Refused) => return Status::NotYet,
         Err(NoNet::Fault) => return Status::ReadFault,
         Err(NoNet::OutOfMemory) => return Status::NoMemory,
     };

@@ -26,9 +26,12 @@ const BOTH_CONSTANT: &[u8] = b".model ha\n.inputs a b\n.outputs s c\n.names s\n.
 const SUM_CONSTANT: &[u8] =
     b".model ha\n.inputs a b\n.outputs s c\n.names s\n.names a b c\n11 1\n.end\n";
 
-/// The words of a line, which stand between single blanks.
+/// The words of a line, which stand between single blanks; an empty line has none.
 fn words(alloc: Global, line: &[u8]) -> Result<Vec<Word>, AllocError> {
     let mut words = Vec::new(alloc);
+    if line.is_empty() {
+        return Ok(words);
+    }
     for word in line.split(|byte| *byte == b' ') {
         words.push(Word::new(alloc, word)?)?;
     }
@@ -133,8 +136,9 @@ fn half_adder_at_three_bounds(rt: HostRuntime) -> Result<(), Fail> {
 
 #[test]
 fn words_and_texts_that_are_not_carried_out(rt: HostRuntime) -> Result<(), Fail> {
-    let rows: [(&[u8], Status); 18] = [
+    let rows: [(&[u8], Status); 19] = [
         (b"", Status::Usage),
+        (b" ", Status::Usage),
         (b"--help", Status::Usage),
         (b"synth abs 01 1 ha.blif b", Status::Usage),
         (
@@ -202,31 +206,32 @@ const REPORT: &[u8] =
 
 /// Whether the files are as one of their calls left them that failed.
 fn is_left_by_a_fault(ended: &Run) -> bool {
-    let unread = match ended.status {
-        Status::ReadFault => holds(&ended.files, b"out.blif", None),
-        status => status == Status::WriteFault,
-    };
-    unread
+    let is_read = ended.status == Status::WriteFault;
+    (is_read || ended.status == Status::ReadFault)
+        && (is_read || holds(&ended.files, b"out.blif", None))
         && holds(&ended.files, b"ha.blif", Some(HALF_ADDER))
         && is_cut_short(&ended.files, SUM_CONSTANT, VECTORS, REPORT)
         && ended.sink.bytes().is_empty()
 }
 
+/// Whether the netlist is there as it is after the first call that writes, or one of the next two, failed.
+fn is_cut_in_turn(files: &MemFiles, late: u32) -> bool {
+    match late {
+        0 => holds(files, b"out.blif", None),
+        1 | 2 => files.bytes(b"out.blif").is_some(),
+        _ => true,
+    }
+}
+
 #[test]
 fn each_call_on_files_fails_in_turn(rt: HostRuntime) -> Result<(), Fail> {
+    let line = b"synth abs 1 1 ha.blif out";
     for chunk in [1, 3, 64] {
         assert!(rt; 0 < chunk);
-        let mut last = Status::ReadFault;
+        let mut writes = 0;
         let mut done = false;
         for call in 1..1000 {
-            let ended = run_on(
-                &rt,
-                b"synth abs 1 1 ha.blif out",
-                HALF_ADDER,
-                chunk,
-                call,
-                0,
-            )?;
+            let ended = run_on(&rt, line, HALF_ADDER, chunk, call, 0)?;
             if ended.status == Status::Done {
                 done = true;
                 break;
@@ -235,14 +240,14 @@ fn each_call_on_files_fails_in_turn(rt: HostRuntime) -> Result<(), Fail> {
                 is_left_by_a_fault(&ended),
                 "call {call} of chunks of {chunk}"
             );
-            if last != ended.status {
-                assert_eq!(rt; last, Status::ReadFault, "what is read is read first");
-                assert!(rt; holds(&ended.files, b"out.blif", None), "it is not created");
+            if ended.status == Status::WriteFault {
+                assert!(rt; is_cut_in_turn(&ended.files, writes));
+                writes += 1;
+            } else {
+                assert_eq!(rt; writes, 0, "what is read is read first");
             }
-            last = ended.status;
         }
-        assert_eq!(rt; last, Status::WriteFault);
-        assert!(rt; done, "after the last call nothing fails");
+        assert!(rt; writes > 2 && done, "after the last call nothing fails");
     }
     Ok(())
 }
@@ -322,23 +327,22 @@ fn real_files_and_standard_output(rt: HostRuntime) -> Result<(), Fail> {
 }
 
 #[test]
-fn exit_numbers_and_lines(rt: HostRuntime) {
+fn exit_numbers_and_lines(rt: HostRuntime) -> Result<(), Fail> {
     let rows = [
-        (Status::Done, 0, None),
-        (Status::NoMemory, 3, Some("out of memory")),
-        (Status::ReadFault, 5, Some("read fault")),
-        (Status::WriteFault, 6, Some("write fault")),
-        (Status::NotYet, 9, Some("not yet")),
+        (Status::Done, 0, "done"),
+        (Status::NoMemory, 3, "out of memory"),
+        (Status::ReadFault, 5, "read fault"),
+        (Status::WriteFault, 6, "write fault"),
+        (Status::NotYet, 9, "not yet"),
         (
             Status::Usage,
             1,
-            Some(
-                "usage: synth METRIC BOUND CONFLICTS IN STEM, check METRIC BOUND IN STEM, or demo WIDTH BOUND CONFLICTS",
-            ),
+            "usage: synth METRIC BOUND CONFLICTS IN STEM, check METRIC BOUND IN STEM, or demo WIDTH BOUND CONFLICTS",
         ),
     ];
     for (status, exit, line) in rows {
         assert_eq!(rt; status.exit(), exit);
-        assert_eq!(rt; status.line(), line);
+        assert_eq!(rt; status.to_string(rt.alloc())?.as_str(), line);
     }
+    Ok(())
 }

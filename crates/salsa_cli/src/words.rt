@@ -1,8 +1,9 @@
 //! The words of the command line, and the job that they name.
-ghost use Rattle.std.specs.Prelude.{◌≡◌, ◌<◌, ◌^◌, ◌≤◌, ◌++◌, option_map, bytes_eq};
-ghost use Rattle.job_semantics.specs.Job.{job_of, synth_of, check_of, demo_of, metric_of, bound_of, conflicts_of, are_file_words, is_bundle_name};
+ghost use Rattle.std.specs.Prelude.{◌≡◌, option_map};
+ghost use Rattle.job_semantics.specs.Job.{job_of, synth_of, check_of, demo_of, metric_of, bound_of, conflicts_of, are_file_words};
 ghost use Rattle.salsa_cli.specs.Words.{metric_meaning, job_meaning};
 
+use crate::bundle_names::is_bundle_name;
 use crate::decimal::number_from_to;
 use file_core::word::Word;
 
@@ -51,23 +52,6 @@ fn metric(word: &[u8]) -> Option<MetricWord>
     } else {
         None
     }
-}
-
-fn is_stem_with(stem: &[u8], ending: &[u8], name: &[u8]) -> bool
-    ensures { result ≡ bytes_eq name.now (stem.now ++ ending.now) }
-{
-    name.starts_with(stem) && &name[stem.len()..] == ending
-}
-
-/// Whether the name is one of the five of a bundle.
-fn is_bundle_name(stem: &[u8], name: &[u8]) -> bool
-    ensures { result ≡ is_bundle_name stem.now name.now }
-{
-    is_stem_with(stem, b".blif", name)
-        || is_stem_with(stem, b".cnf", name)
-        || is_stem_with(stem, b".lrat", name)
-        || is_stem_with(stem, b".wit", name)
-        || is_stem_with(stem, b".txt", name)
 }
 
 fn are_file_words(input: &[u8], stem: &[u8]) -> bool

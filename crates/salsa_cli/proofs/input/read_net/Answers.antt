@@ -5,7 +5,7 @@ use Rattle.blif_semantics.specs.Plain.{IsPlainFor, IsPlain}
 use Rattle.blif_text.specs.declared.reading.Plain.{Plain}
 use Rattle.blif_text.specs.declared.reading.Plain.TheVariants.{Net, Other}
 use Rattle.blif_text.specs.Plain.{IsAnswerFor}
-use Rattle.salsa_cli.proofs.Plainness.{NetRead-from, TextNotPlain-from}
+use Rattle.salsa_cli.proofs.Plainness.{NetRead-from, TextRefused-from}
 use Rattle.salsa_cli.proofs.input.read_net.Goals as goal
 
 plain_for : {text items : Bytes} {answer : Plain} {N : NetValue} → text ≡ items → answer ≡ Net N → IsAnswerFor text answer → IsPlainFor items N
@@ -22,4 +22,4 @@ returns-in-Net-clause-ok g c =
 
 pub returns-clause-err : goal.returns-clause-err
 returns-clause-err g c =
-    TextNotPlain-from c.in_ok-text.ensures.ok (not_plain c.deref.ensures.value c.in-Other.is c.in_ok-plain.ensures)
+    TextRefused-from c.in_ok-text.ensures.ok (not_plain c.deref.ensures.value c.in-Other.is c.in_ok-plain.ensures)

@@ -3,9 +3,9 @@ use Rattle.semantics.specs.Texts.{Bytes}
 use Rattle.semantics.specs.Error.{abs, rel, ham}
 use Rattle.job_semantics.specs.Job.{Job, synth, check, demo}
 use Rattle.std.specs.FinMap.{contains_key}
-use Rattle.blif_semantics.specs.Plain.{IsPlain}
+use Rattle.job_semantics.specs.Input.{IsAccepted}
 use Rattle.outside_semantics.specs.Outside.{bytes_of}
-use Rattle.job_semantics.specs.Synthesis.{IsQuiet, synth_needs_steady}
+use Rattle.job_semantics.specs.Synthesis.{IsQuietSynth}
 use Rattle.file_core.specs.Sure.{SureValue, sure_told, held_where, sure_sink_told}
 use Rattle.salsa_cli.specs.declared.status.Status.{Status}
 use Rattle.salsa_cli.specs.declared.status.Status.TheVariants.{Usage, NotYet, ReadFault, WriteFault}
@@ -50,22 +50,22 @@ returns-clause-write c =
     (λ bound conflicts input stem named. no_write_fault bound input stem c.args.files.now c.run.new.files c.run.result.status (c.run.ensures.synthesis bound conflicts input stem named))
 
 -- no count can rise, and every name is steady
-quiet : (input stem : Bytes) (old new : SureValue) → IsQuiet (synth_needs_steady (sure_told old) input stem) (sure_told old) (sure_told new) sure_sink_told sure_sink_told
-quiet input stem old new = record { files = inr refl; sink = λ rose. absurd (omega (arith, rose)) }
+quiet : (input stem : Bytes) (old new : SureValue) → IsQuietSynth input stem (sure_told old) (sure_told new) sure_sink_told sure_sink_told
+quiet input stem old new = record { files = inr (record { read = refl; written = λ accepted. refl }); sink = λ rose. absurd (omega (arith, rose)) }
 
--- a plain netlist that is held is not refused
+-- an accepted netlist that is held is not refused
 not_refused : (bound : ℕ) (input stem : Bytes) (old new : SureValue) (status : Status)
     → SynthAnswer bound input stem (sure_told old) (sure_told new) sure_sink_told sure_sink_told status
-    → old.told ≡ true → contains_key old.given input ≡ true → IsPlain (bytes_of old.given input) → status ≢ NotYet
-not_refused bound input stem old new status answer told held plain is =
+    → old.told ≡ true → contains_key old.given input ≡ true → IsAccepted (bytes_of old.given input) → status ≢ NotYet
+not_refused bound input stem old new status answer told held accepted is =
     let refused = subst (SynthAnswer bound input stem (sure_told old) (sure_told new) sure_sink_told sure_sink_told) is answer in
-    refused.not_plain_at_entry old.given (ap (λ t. held_where t old.given) told) held plain
+    refused.refused_at_entry old.given (ap (λ t. held_where t old.given) told) held accepted
 
 pub returns-clause-ends : goal.returns-clause-ends
 returns-clause-ends c =
     λ bound conflicts input stem named other. c.run.ensures.complete bound conflicts input stem named (quiet input stem c.args.files.now c.run.new.files) other
 
-pub returns-clause-plain_ends : goal.returns-clause-plain_ends
-returns-clause-plain_ends c =
-    λ bound conflicts input stem named told held plain. c.run.ensures.complete bound conflicts input stem named (quiet input stem c.args.files.now c.run.new.files)
-    (not_refused bound input stem c.args.files.now c.run.new.files c.run.result.status (c.run.ensures.synthesis bound conflicts input stem named) told held plain)
+pub returns-clause-accepted_ends : goal.returns-clause-accepted_ends
+returns-clause-accepted_ends c =
+    λ bound conflicts input stem named told held accepted. c.run.ensures.complete bound conflicts input stem named (quiet input stem c.args.files.now c.run.new.files)
+    (not_refused bound input stem c.args.files.now c.run.new.files c.run.result.status (c.run.ensures.synthesis bound conflicts input stem named) told held accepted)

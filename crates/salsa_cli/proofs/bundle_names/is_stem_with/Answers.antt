@@ -4,7 +4,7 @@ use Rattle.std.specs.List.{starts_with}
 use Rattle.std.proofs.lemmas.List.{take_rest}
 use Rattle.std.proofs.lemmas.Bool.Decides.{nat_tests}
 use Rattle.semantics.specs.Texts.{Bytes}
-use Rattle.salsa_cli.proofs.words.is_stem_with.Goals as goal
+use Rattle.salsa_cli.proofs.bundle_names.is_stem_with.Goals as goal
 
 both : (a b c : Bool) → ((a && b) && c) ≡ (a && (b && c))
 both true b c = refl

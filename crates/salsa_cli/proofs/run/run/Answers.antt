@@ -1,0 +1,8 @@
+use Rattle.std.proofs.Common.{rules}
+use Rattle.salsa_cli.proofs.SynthAnswers.{quiet_ends}
+use Rattle.salsa_cli.proofs.run.run.Goals as goal
+
+pub returns-in-Some-Synth-Abs-default-default-default-default-clause-complete :
+    goal.returns-in-Some-Synth-Abs-default-default-default-default-clause-complete
+returns-in-Some-Synth-Abs-default-default-default-default-clause-complete g c =
+    λ bound conflicts input stem named quiet other. quiet_ends bound input stem _ _ _ _ c.synthesize-status.result (search rules) quiet other
