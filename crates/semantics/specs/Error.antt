@@ -34,6 +34,12 @@ error_of abs e a = distance (number_of e) (number_of a)
 error_of rel e a = rounded_up (distance (number_of e) (number_of a) * 1000000) (max 1 (number_of e))
 error_of ham e a = differing e a
 
+-- the greatest error of so many outputs
+abbrev pub greatest_error : Metric → ℕ → ℕ
+greatest_error abs width = 2 ^ width - 1
+greatest_error rel width = (2 ^ width - 1) * 1000000
+greatest_error ham width = width
+
 -- what every error of at most 64 outputs is below
 abbrev pub errors_below : Metric → ℕ
 errors_below abs = 2 ^ 64

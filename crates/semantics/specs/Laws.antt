@@ -1,5 +1,5 @@
 -- The laws about the definitions, each the contract of a function without parameters.
-use Rattle.std.specs.Prelude.{◌≡◌, ◌≢◌, ◌↔◌, ℕ, ◌+◌, ◌^◌, ◌<◌, ◌≤◌, Bool, true, false, List, [], ◌∷◌, ◌++◌, map, length, slice_get, slice_index_or, Some, None, decimal, All, AllPairs, Contains}
+use Rattle.std.specs.Prelude.{◌≡◌, ◌≢◌, ◌↔◌, ℕ, ◌+◌, ◌^◌, ◌<◌, ◌≤◌, Bool, true, false, List, [], ◌∷◌, ◌++◌, map, length, replicate, slice_get, slice_index_or, Some, None, decimal, All, AllPairs, Contains}
 use Rattle.std.specs.List.{AllByRecursion}
 use Rattle.semantics.specs.Texts.{Bytes}
 use Rattle.semantics.specs.Net.{TableValue, NetValue, table_at, signal_count, IsName, IsTable, IsGroundedIn, IsAcyclic, IsSound, IsSmall}
@@ -11,7 +11,7 @@ use Rattle.semantics.specs.Copies.{IsCopiedBehind}
 use Rattle.semantics.specs.Renamed.{renamed, redirect, raised, without}
 use Rattle.semantics.specs.Refusals.{first_doubled, first_undriven, first_ungrounded, IsFirstUngrounded, first_limit, net_refusal}
 use Rattle.semantics.specs.Value.{Assignment, table_value, value_of, HasOneValue}
-use Rattle.semantics.specs.Error.{Metric, abs, rel, ham, number_of, error_of, errors_below}
+use Rattle.semantics.specs.Error.{Metric, number_of, error_of, greatest_error, errors_below}
 use Rattle.semantics.specs.Vectors.{bits_of, all_vectors}
 use Rattle.semantics.specs.Decimal.{digits_number, is_decimal}
 
@@ -28,13 +28,12 @@ pub record VectorLaw : Type 0 where
   pub place : (n : ℕ) (x : List Bool) → length x ≡ n → number_of x < 2 ^ n
   pub each : (n : ℕ) (x : List Bool) → length x ≡ n → slice_get (all_vectors n) (number_of x) ≡ Some x
 
--- Of words of one width: the number and the absolute error are below 2 to its power, the Hamming error is at most the width, and the relative
--- error is below 2 to the power of the width and 20.
+-- of words of one width: the number is below 2 to its power, and no error is above the greatest one, which zeros and ones have;
+-- at most 64 bits have errors in 64, 84 and 7 bits
 pub record SizeLaw : Type 0 where
   pub number : (bits : List Bool) → number_of bits < 2 ^ length bits
-  pub absolute : (e a : List Bool) → length e ≡ length a → error_of abs e a < 2 ^ length e
-  pub relative : (e a : List Bool) → length e ≡ length a → error_of rel e a < 2 ^ (length e + 20)
-  pub hamming : (e a : List Bool) → length e ≡ length a → error_of ham e a ≤ length e
+  pub at_most : (metric : Metric) (width : ℕ) (e a : List Bool) → length e ≡ width → length a ≡ width → error_of metric e a ≤ greatest_error metric width
+  pub attained : (metric : Metric) (width : ℕ) → error_of metric (replicate width false) (replicate width true) ≡ greatest_error metric width
   pub below : (metric : Metric) (e a : List Bool) → length e ≡ length a → length e ≤ 64 → error_of metric e a < errors_below metric
 
 -- a number is written as one decimal word, and no other decimal word reads as that number
