@@ -1,23 +1,15 @@
 -- In acyclic tables no table depends on itself, and which signals depend on a table does not change with that table.
-use Rattle.std.proofs.Common.{◌≡◌, ℕ, zero, suc, ◌+◌, ◌-◌, ◌<◌, ◌≤◌, List, [], ◌∷◌, length, subst, inl, inr, arith}
-use Rattle.std.specs.List.{AllByRecursion, Contains}
+use Rattle.std.proofs.Common.{◌≡◌, ℕ, zero, suc, ◌+◌, ◌-◌, ◌<◌, ◌≤◌, List, length, subst, inl, inr, arith}
+use Rattle.std.specs.List.{Contains}
 use Rattle.std.proofs.lemmas.Bool.{cases_eq}
 use Rattle.std.proofs.lemmas.List.{length-set, get_or-set_other}
-use Rattle.std.proofs.lemmas.List.Elements.{All-from_recursion, recursion_from_All, All-contains, All-weaker, All-contains_itself}
 use Rattle.semantics.specs.Net.{TableValue, no_table, table_at, IsGroundedIn, IsAcyclic}
+use Rattle.semantics.proofs.Members.{member_holds}
+use Rattle.semantics.proofs.Values.{grounded_within}
 use Rattle.semantics.specs.Replaced.{replaced}
 use Rattle.semantics.specs.Dependence.{DependsOn}
 use Rattle.semantics.specs.Dependence.DependsOn.{itself, by_pin}
-
-pub member_holds : (P : ℕ → Type 0) (pins : List ℕ) (p : ℕ) → AllByRecursion P pins → Contains pins p → P p
-member_holds P pins p h c = All-contains P pins p (All-from_recursion P pins h) c
-
-pub each_member : (P : ℕ → Type 0) (pins : List ℕ) → ((p : ℕ) → Contains pins p → P p) → AllByRecursion P pins
-each_member P pins f = recursion_from_All P pins (All-weaker (Contains pins) P f pins (All-contains_itself pins))
-
-pub each_weaker : (P Q : ℕ → Type 0) (pins : List ℕ) → ((p : ℕ) → P p → Q p) → AllByRecursion P pins → AllByRecursion Q pins
-each_weaker P Q [] f h = tt
-each_weaker P Q (p ∷ pins) f h = (f p h.0, each_weaker P Q pins f h.1)
+pub use Rattle.semantics.proofs.Members.{each_member, each_weaker}
 
 pub IsGroundedIn-more : (n : ℕ) (tables : List TableValue) (k s : ℕ) → IsGroundedIn n tables k s → IsGroundedIn n tables (suc k) s
 IsGroundedIn-more n tables zero s h = inl h
@@ -29,11 +21,6 @@ IsGroundedIn-more n tables (suc k) s (inr h) =
 pub IsGroundedIn-pin : (n : ℕ) (tables : List TableValue) (k s p : ℕ) → n ≤ s → IsGroundedIn n tables (suc k) s → Contains (table_at tables (s - n)).pins p → IsGroundedIn n tables k p
 IsGroundedIn-pin n tables k s p past (inl h) c = absurd (omega arith)
 IsGroundedIn-pin n tables k s p past (inr h) c = member_holds (IsGroundedIn n tables k) (table_at tables (s - n)).pins p h.1 c
-
-grounded_within : (n : ℕ) (tables : List TableValue) (k s : ℕ) → IsGroundedIn n tables k s → s < n + length tables
-grounded_within n tables zero s h = omega arith
-grounded_within n tables (suc k) s (inl h) = omega arith
-grounded_within n tables (suc k) s (inr h) = h.0
 
 pin_within : (n : ℕ) (tables : List TableValue) (k s p : ℕ) → n ≤ s → IsGroundedIn n tables k s → Contains (table_at tables (s - n)).pins p → p < n + length tables
 pin_within n tables zero s p past h c = absurd (omega arith)

@@ -1,3 +1,4 @@
+pub mod Members
 pub mod Values
 pub mod Order
 pub mod Embedded

@@ -5,6 +5,7 @@ use Rattle.std.proofs.lemmas.Bool.{lt-ltb, le-ltb, cases_lt}
 use Rattle.semantics.specs.declared.mark.Mark.{Mark}
 use Rattle.semantics.specs.Net.{TableValue, table_at, IsGroundedIn, IsAcyclic}
 use Rattle.semantics.specs.Value.{Assignment, row_matches, table_value, IsConsistent, round, after_rounds, value_of, HasOneValue}
+use Rattle.semantics.proofs.Members.{each_weaker}
 
 -- a row reads only the pins
 pub row_matches-same : (marks : List Mark) (pins : List ℕ) (v w : Assignment) → AllByRecursion (λ s. v s ≡ w s) pins → row_matches marks pins v ≡ row_matches marks pins w
@@ -40,11 +41,8 @@ IsRun : (n : ℕ) (tables : List TableValue) (x : List Bool) → ℕ → Assignm
 IsRun n tables x zero v = Unit {0}
 IsRun n tables x (suc k) v = (w : Assignment) × IsRoundOf n tables x v w × IsRun n tables x k w
 
-all_agree : (P : ℕ → Type 0) (v w : Assignment) (pins : List ℕ) → ((s : ℕ) → P s → v s ≡ w s) → AllByRecursion P pins → AllByRecursion (λ s. v s ≡ w s) pins
-all_agree P v w [] f h = tt
-all_agree P v w (s ∷ pins) f h = (f s h.0, all_agree P v w pins f h.1)
-
-grounded_within : (n : ℕ) (tables : List TableValue) (k s : ℕ) → IsGroundedIn n tables k s → s < n + length tables
+-- what is grounded is a signal
+pub grounded_within : (n : ℕ) (tables : List TableValue) (k s : ℕ) → IsGroundedIn n tables k s → s < n + length tables
 grounded_within n tables zero s h = omega arith
 grounded_within n tables (suc k) s (inl h) = omega arith
 grounded_within n tables (suc k) s (inr h) = h.0
@@ -58,7 +56,7 @@ runs_agree n tables x (suc k) v w (v', ev, rv) (w', ew, rw') s (inl h) =
     ev s (omega arith) ∙ round-input n tables x v' w' s h ∙ sym (ew s (omega arith))
 runs_agree n tables x (suc k) v w (v', ev, rv) (w', ew, rw') s (inr h) =
     ev s h.0
-    ∙ round-same n tables x v' w' s (all_agree (IsGroundedIn n tables k) v' w' (table_at tables (s - n)).pins (runs_agree n tables x k v' w' rv rw') h.1)
+    ∙ round-same n tables x v' w' s (each_weaker (IsGroundedIn n tables k) (λ p. v' p ≡ w' p) (table_at tables (s - n)).pins (runs_agree n tables x k v' w' rv rw') h.1)
     ∙ sym (ew s h.0)
 
 after_rounds-run : (n : ℕ) (tables : List TableValue) (x : List Bool) (k : ℕ) → IsRun n tables x k (after_rounds n tables x k)
