@@ -11,3 +11,5 @@ pub mod WrittenNet
 pub mod WrittenLength
 pub mod Written
 pub mod ReadNet
+pub mod Comments
+pub mod LineEnds

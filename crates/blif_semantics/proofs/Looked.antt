@@ -55,6 +55,7 @@ each_there names [] h = tt
 each_there names (word ∷ words) h =
     let parts = none_if (has_name names word) word (find (λ w. not (has_name names w)) words) h in
     (parts.0, each_there names words parts.1)
-    where none_if : (there : Bool) (word : Bytes) (rest : Option Bytes) → cond (not there) (Some word) rest ≡ None → (there ≡ true) × (rest ≡ None)
-          none_if true word rest h = (refl, h)
-          none_if false word rest h = absurd (none-some word (sym h))
+  where
+    none_if : (there : Bool) (word : Bytes) (rest : Option Bytes) → cond (not there) (Some word) rest ≡ None → (there ≡ true) × (rest ≡ None)
+    none_if true word rest h = (refl, h)
+    none_if false word rest h = absurd (none-some word (sym h))

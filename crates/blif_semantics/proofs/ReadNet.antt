@@ -96,18 +96,21 @@ marks_width zero (word ∷ next ∷ words) plane h = absurd (none-some plane h)
 marks_width (suc n) [] plane h = absurd (none-some plane h)
 marks_width (suc n) (word ∷ []) plane h = absurd (none-some plane h)
 marks_width (suc n) (marks ∷ word ∷ []) plane h = length-map marks mark_of ∙ at_test (length marks == suc n && list_all is_mark marks) refl h
-    where at_test : (t : Bool) → (length marks == suc n && list_all is_mark marks) ≡ t → cond t (plane_of word) None ≡ Some plane → length marks ≡ suc n
-          at_test true e k = eqb-true (length marks) (suc n) (and_parts (length marks == suc n) (list_all is_mark marks) e).0
-          at_test false e k = absurd (none-some plane k)
+  where
+    at_test : (t : Bool) → (length marks == suc n && list_all is_mark marks) ≡ t → cond t (plane_of word) None ≡ Some plane → length marks ≡ suc n
+    at_test true e k = eqb-true (length marks) (suc n) (and_parts (length marks == suc n) (list_all is_mark marks) e).0
+    at_test false e k = absurd (none-some plane k)
 marks_width (suc n) (marks ∷ word ∷ more ∷ words) plane h = absurd (none-some plane h)
 
 row_width : (n : ℕ) (first : Option Bool) (row : Line) → wrong_row (open_table n first) row ≡ None → length (marks_of row) ≡ n
 row_width n first row h = at_plane (row_plane n row) refl h
-    where judged : Option Bool → Option Wrong
-          judged p = elim p [ None ↦ Some bad_row | Some plane ↦ cond (agrees first plane) None (Some mixed_plane) ]
-          at_plane : (p : Option Bool) → row_plane n row ≡ p → judged p ≡ None → length (marks_of row) ≡ n
-          at_plane None e k = absurd (none-some bad_row (sym k))
-          at_plane (Some plane) e k = marks_width n row plane e
+  where
+    judged : Option Bool → Option Wrong
+    judged p = elim p [ None ↦ Some bad_row | Some plane ↦ cond (agrees first plane) None (Some mixed_plane) ]
+
+    at_plane : (p : Option Bool) → row_plane n row ≡ p → judged p ≡ None → length (marks_of row) ≡ n
+    at_plane None e k = absurd (none-some bad_row (sym k))
+    at_plane (Some plane) e k = marks_width n row plane e
 
 abbrev HasWidth : ℕ → Line → Type 0
 HasWidth n row = length (marks_of row) ≡ n
@@ -224,8 +227,8 @@ sound d h accepted =
     let N : NetValue = numbered d in
     let same : signal_names N ≡ names = ap (λ rest. d.inputs ++ rest) (names_kept names d.tables) in
     let count : length names ≡ signal_count N =
-        length-append d.inputs (map (λ t. t.name) d.tables)
-        ∙ ap (λ k. length d.inputs + k) (length-map d.tables (λ t. t.name) ∙ sym (length-map d.tables (with_signals names))) in
+    length-append d.inputs (map (λ t. t.name) d.tables)
+    ∙ ap (λ k. length d.inputs + k) (length-map d.tables (λ t. t.name) ∙ sym (length-map d.tables (with_signals names))) in
     let there = parts_there names (flat_map (λ t. t.pins) d.tables) d.outputs (each_there names (names_read d) accepted.driven) in
     record {
       model_named = h.model;

@@ -1,8 +1,9 @@
 -- The laws about what a text means, each the contract of a function without parameters.
-use Rattle.std.specs.Prelude.{◌≡◌, ℕ, ◌+◌, ◌*◌, ◌^◌, ◌<◌, ◌≤◌, length, Some, Ok}
+use Rattle.std.specs.Prelude.{◌≡◌, ◌≢◌, ℕ, ◌+◌, ◌*◌, ◌^◌, ◌<◌, ◌≤◌, ◌==◌, [], ◌∷◌, ◌++◌, flat_map, length, All, Some, Ok, if◌then◌else◌}
 use Rattle.semantics.specs.Texts.{Bytes}
 use Rattle.semantics.specs.Net.{NetValue, pin_count, IsSound, IsSmall}
 use Rattle.semantics.specs.Blif.{blif_text}
+use Rattle.blif_semantics.specs.Lines.{logical_lines, statements}
 use Rattle.blif_semantics.specs.Reading.{bundle_limit, blif_reading}
 use Rattle.blif_semantics.specs.Plain.{IsPlainFor}
 use Rattle.blif_semantics.specs.PlainReading.{net_of_text}
@@ -11,6 +12,19 @@ use Rattle.blif_semantics.specs.PlainReading.{net_of_text}
 pub record PlainTextLaw : Type 0 where
   pub read : (text : Bytes) (N : NetValue) → IsPlainFor text N → net_of_text text ≡ Some N
   pub only : (text : Bytes) (N M : NetValue) → IsPlainFor text N → IsPlainFor text M → N ≡ M
+
+-- with a CR before each LF
+abbrev pub with_carriage_returns : Bytes → Bytes
+with_carriage_returns text = flat_map (λ b. if b == 10 then 13 ∷ 10 ∷ [] else b ∷ []) text
+
+-- a text means its statements: a comment of any bytes means nothing, the last line needs no LF, and a CR may stand before each
+pub record TextLaw : Type 0 where
+  pub comment : (before bytes after : Bytes) → All (λ b. b ≢ 10) bytes → logical_lines (before ++ 35 ∷ (bytes ++ 10 ∷ after)) ≡ logical_lines (before ++ 10 ∷ after)
+  pub last_comment : (before bytes : Bytes) → All (λ b. b ≢ 10) bytes → logical_lines (before ++ 35 ∷ bytes) ≡ logical_lines before
+  pub last_line : (text : Bytes) → statements (logical_lines (text ++ 10 ∷ [])) ≡ statements (logical_lines text)
+  pub carriage_returns : (text : Bytes) → statements (logical_lines (with_carriage_returns text)) ≡ statements (logical_lines text)
+  pub same : (text other : Bytes) (most : ℕ) → length text ≤ most → length other ≤ most → statements (logical_lines text) ≡ statements (logical_lines other)
+      → blif_reading text most ≡ blif_reading other most
 
 -- what is read is a small sound net, from a text that keeps the limit
 pub record ReadingLaw : Type 0 where

@@ -1,9 +1,14 @@
 //! The laws about what a text means: each function's contract is a law.
-ghost use Rattle.blif_semantics.specs.Laws.{PlainTextLaw, ReadingLaw, WrittenLaw};
+ghost use Rattle.blif_semantics.specs.Laws.{PlainTextLaw, TextLaw, ReadingLaw, WrittenLaw};
 
 /// A text is plain for one net only, and that net is read back from it.
 pub fn plain_texts()
     ensures { PlainTextLaw }
+{}
+
+/// What the bytes of a text mean, and what means nothing.
+pub fn texts()
+    ensures { TextLaw }
 {}
 
 /// What is read is a small sound net.
