@@ -13,3 +13,4 @@ pub mod Written
 pub mod ReadNet
 pub mod Comments
 pub mod LineEnds
+pub mod Numbered

@@ -1,23 +1,23 @@
 -- What is read is a small sound net.
-use Rattle.std.proofs.Common.{◌≡◌, ◌≢◌, ℕ, zero, suc, ◌+◌, ◌-◌, ◌<◌, ◌≤◌, Bool, true, false, ◌==◌, not, ◌&&◌, cond, leb, List, [], ◌∷◌, ◌++◌, map, flat_map, length, take, filter, codes, find, All, AllPairs, Option, Some, None, Ok, refl, ap, sym, subst, ◌∙◌, arith}
+use Rattle.std.proofs.Common.{◌≡◌, ◌≢◌, ℕ, zero, suc, ◌-◌, ◌<◌, ◌≤◌, Bool, true, false, ◌==◌, not, ◌&&◌, cond, leb, List, [], ◌∷◌, map, flat_map, length, take, filter, codes, find, All, AllPairs, Option, Some, None, Ok, refl, ap, sym, subst, ◌∙◌, arith}
 use Rattle.std.specs.List.{AllByRecursion, list_all}
 use Rattle.std.proofs.lemmas.Bool.{and_parts, eqb-true, eqb-false, leb-true, not-false, false≢true}
-use Rattle.std.proofs.lemmas.List.{length-append, length-map, length_push, length-take}
+use Rattle.std.proofs.lemmas.List.{length-map, length_push, length-take}
 use Rattle.std.proofs.lemmas.List.Elements.{All-nil, All-cons, All-append, All-push, All-map, All-get_or, All-weaker}
 use Rattle.std.proofs.lemmas.Option.{none-some}
 use Rattle.semantics.specs.Texts.{Bytes, Line}
-use Rattle.semantics.specs.Net.{NetValue, input_count, signal_names, signal_count, IsName, IsTable, IsSound, IsSmall}
-use Rattle.semantics.specs.Refusals.{has_name}
+use Rattle.semantics.specs.Net.{NetValue, input_count, IsName, IsTable, IsSound, IsSmall}
 use Rattle.semantics.proofs.Refused.{undoubled, grounded, small}
 use Rattle.blif_semantics.specs.declared.kind.Kind.{Kind}
 use Rattle.blif_semantics.specs.declared.kind.Kind.TheVariants as kind
 use Rattle.blif_semantics.specs.Lines.{Statement, logical_lines, statements}
 use Rattle.blif_semantics.specs.Statements.{is_printable, is_name, are_names, is_mark, kind_of, first_word, arguments, is_model, plane_of, row_plane, table_before, with_plane, table_by, Place, place_after, Wrong, bad_byte, after_end, second_model, names_empty, bad_name, bad_row, mixed_plane, agrees, unless, wrong, wrong_by, wrong_row, first_wrong}
 use Rattle.blif_semantics.specs.Tables.{NamedTable, mark_of, last_word, marks_of, named, with_row, with_rows, if_row, rows_first, table_first, tables_of}
-use Rattle.blif_semantics.specs.Reading.{text_long, wrong_line, NamedNet, is_inputs, listed, model_of, named_net, names_of, names_read, signal_named, numbered, unless_refused, lines_reading, blif_reading}
+use Rattle.blif_semantics.specs.Reading.{text_long, wrong_line, NamedNet, is_inputs, listed, model_of, named_net, names_of, signal_named, numbered, unless_refused, lines_reading, blif_reading}
 use Rattle.blif_semantics.proofs.Names.{IsName-from_test, IsName-from_are_names}
 use Rattle.blif_semantics.proofs.RightLines.{open_table, AllRight, all_right}
-use Rattle.blif_semantics.proofs.Looked.{with_signals, signal_named-below, each_there}
+use Rattle.blif_semantics.proofs.Numbered.{signal_names-numbered, signals_below}
+use Rattle.blif_semantics.proofs.Looked.{with_signals}
 use Rattle.blif_semantics.proofs.Accepted.{IsAccepted, IsReadAs, read_parts, read_parts-if, accepted}
 
 -- ---- what a line is where nothing is wrong with it
@@ -192,28 +192,6 @@ table_formed names t h = record {
   plane = h.plane;
 }
 
-names_kept : (names : List Bytes) (tables : List NamedTable) → map (λ t. t.name) (map (with_signals names) tables) ≡ map (λ t. t.name) tables
-names_kept names [] = refl
-names_kept names (t ∷ tables) = ap (λ rest. t.name ∷ rest) (names_kept names tables)
-
-abbrev IsThere : List Bytes → Bytes → Type 0
-IsThere names word = has_name names word ≡ true
-
-parts_there : (names words more : List Bytes) → AllByRecursion (IsThere names) (words ++ more) → AllByRecursion (IsThere names) words × AllByRecursion (IsThere names) more
-parts_there names [] more h = (tt, h)
-parts_there names (word ∷ words) more h = let parts = parts_there names words more h.1 in ((h.0, parts.0), parts.1)
-
-signals_below : (names words : List Bytes) → AllByRecursion (IsThere names) words → All (λ s. s < length names) (map (signal_named names) words)
-signals_below names [] h = All-nil (λ s. s < length names)
-signals_below names (word ∷ words) h =
-    All-cons (λ s. s < length names) (signal_named names word) (map (signal_named names) words) (signal_named-below names word h.0) (signals_below names words h.1)
-
-pins_below : (names : List Bytes) (tables : List NamedTable) → AllByRecursion (IsThere names) (flat_map (λ t. t.pins) tables) → All (λ t. All (λ s. s < length names) t.pins) (map (with_signals names) tables)
-pins_below names [] h = All-nil (λ t. All (λ s. s < length names) t.pins)
-pins_below names (t ∷ tables) h =
-    let parts = parts_there names t.pins (flat_map (λ u. u.pins) tables) h in
-    All-cons (λ u. All (λ s. s < length names) u.pins) (with_signals names t) (map (with_signals names) tables) (signals_below names t.pins parts.0) (pins_below names tables parts.1)
-
 -- what is asked of a net of names besides that nothing refuses it
 record IsNamedNet (d : NamedNet) : Type 0 where
   model : IsName d.model
@@ -225,19 +203,15 @@ unfolding numbered
 sound d h accepted =
     let names : List Bytes = names_of d in
     let N : NetValue = numbered d in
-    let same : signal_names N ≡ names = ap (λ rest. d.inputs ++ rest) (names_kept names d.tables) in
-    let count : length names ≡ signal_count N =
-    length-append d.inputs (map (λ t. t.name) d.tables)
-    ∙ ap (λ k. length d.inputs + k) (length-map d.tables (λ t. t.name) ∙ sym (length-map d.tables (with_signals names))) in
-    let there = parts_there names (flat_map (λ t. t.pins) d.tables) d.outputs (each_there names (names_read d) accepted.driven) in
+    let below = signals_below d accepted.driven in
     record {
       model_named = h.model;
       inputs_named = h.inputs;
       tables_formed = All-map IsTable (with_signals names) d.tables (All-weaker IsNamedTable (λ t. IsTable (with_signals names t)) (table_formed names) d.tables h.tables);
-      names_differ = subst (AllPairs ◌≢◌) (sym same) (undoubled names accepted.undoubled);
+      names_differ = subst (AllPairs ◌≢◌) (sym (signal_names-numbered d)) (undoubled names accepted.undoubled);
       has_output = let some = eqb-false (length d.outputs) 0 accepted.some_output in omega (arith, length-map d.outputs (signal_named names));
-      outputs_are_signals = subst (λ k. All (λ s. s < k) N.outputs) count (signals_below names d.outputs there.1);
-      pins_are_signals = subst (λ k. All (λ t. All (λ s. s < k) t.pins) N.tables) count (pins_below names d.tables there.0);
+      outputs_are_signals = below.1;
+      pins_are_signals = below.0;
       acyclic = grounded (input_count N) N.tables accepted.grounded;
     }
 

@@ -1,10 +1,12 @@
 -- The laws about what a text means, each the contract of a function without parameters.
-use Rattle.std.specs.Prelude.{◌≡◌, ◌≢◌, ℕ, ◌+◌, ◌*◌, ◌^◌, ◌<◌, ◌≤◌, ◌==◌, [], ◌∷◌, ◌++◌, flat_map, length, All, Some, Ok, if◌then◌else◌}
+use Rattle.std.specs.Prelude.{◌≡◌, ◌≢◌, ℕ, ◌+◌, ◌*◌, ◌^◌, ◌<◌, ◌≤◌, ◌==◌, [], ◌∷◌, ◌++◌, flat_map, length, All, Some, None, List, Result, Ok, Err, if◌then◌else◌}
 use Rattle.semantics.specs.Texts.{Bytes}
-use Rattle.semantics.specs.Net.{NetValue, pin_count, IsSound, IsSmall}
+use Rattle.semantics.specs.Net.{NetValue, signal_names, name_of, pin_count, IsSound, IsSmall}
+use Rattle.semantics.specs.Refusals.{first_doubled, NetRefused, net_refusal}
+use Rattle.semantics.specs.Refusals.NetRefused.{doubled as parts_doubled, no_output as parts_no_output, undriven as parts_undriven, cycle as parts_cycle, limit as parts_limit}
 use Rattle.semantics.specs.Blif.{blif_text}
 use Rattle.blif_semantics.specs.Lines.{logical_lines, statements}
-use Rattle.blif_semantics.specs.Reading.{bundle_limit, blif_reading}
+use Rattle.blif_semantics.specs.Reading.{bundle_limit, Refusal, doubled, no_output, undriven, cycle, limit, NamedNet, names_of, first_undriven_name, numbered, single, blif_reading}
 use Rattle.blif_semantics.specs.Plain.{IsPlainFor}
 use Rattle.blif_semantics.specs.PlainReading.{net_of_text}
 
@@ -38,3 +40,20 @@ pub record WrittenLaw : Type 0 where
   pub read_within : (N : NetValue) (most : ℕ) → IsSound N → IsSmall N → length (blif_text N) ≤ most → blif_reading (blif_text N) most ≡ Ok N
   pub short : (N : NetValue) → IsSound N → IsSmall N → length (blif_text N) < pin_count N * 1024 + 2 ^ 24
   pub within : (N : NetValue) → IsSound N → IsSmall N → length (blif_text N) ≤ bundle_limit
+
+-- what a refusal of numbered parts says of the net of names
+abbrev pub refusal_of : List Bytes → NetRefused → Refusal
+refusal_of names (parts_doubled name) = doubled name
+refusal_of names parts_no_output = no_output
+refusal_of names (parts_undriven signal) = undriven (name_of names signal)
+refusal_of names (parts_cycle signal) = cycle (name_of names signal)
+refusal_of names (parts_limit which) = limit which
+
+abbrev pub reading_of_parts : NetValue → Result NetValue Refusal
+reading_of_parts N = elim (net_refusal N) [ None ↦ Ok N | Some r ↦ Err (refusal_of (signal_names N) r) ]
+
+-- a net of names is read or refused as its numbered parts are, unless one of the names that it reads is not driven
+pub record NamedNetLaw : Type 0 where
+  pub driven : (d : NamedNet) → first_undriven_name d ≡ None → single d ≡ reading_of_parts (numbered d)
+  pub undriven : (d : NamedNet) (name : Bytes) → first_doubled (names_of d) ≡ None → 0 < length d.outputs → first_undriven_name d ≡ Some name
+      → single d ≡ Err (undriven name)

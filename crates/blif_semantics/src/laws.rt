@@ -1,5 +1,5 @@
 //! The laws about what a text means: each function's contract is a law.
-ghost use Rattle.blif_semantics.specs.Laws.{PlainTextLaw, TextLaw, ReadingLaw, WrittenLaw};
+ghost use Rattle.blif_semantics.specs.Laws.{PlainTextLaw, TextLaw, NamedNetLaw, ReadingLaw, WrittenLaw};
 
 /// A text is plain for one net only, and that net is read back from it.
 pub fn plain_texts()
@@ -9,6 +9,11 @@ pub fn plain_texts()
 /// What the bytes of a text mean, and what means nothing.
 pub fn texts()
     ensures { TextLaw }
+{}
+
+/// Nets of names against their numbered parts.
+pub fn named_nets()
+    ensures { NamedNetLaw }
 {}
 
 /// What is read is a small sound net.
