@@ -14,3 +14,5 @@ pub mod ReadNet
 pub mod Comments
 pub mod LineEnds
 pub mod Numbered
+pub mod FirstRefusals
+pub mod Planes

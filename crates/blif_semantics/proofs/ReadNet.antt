@@ -22,7 +22,7 @@ use Rattle.blif_semantics.proofs.Accepted.{IsAccepted, IsReadAs, read_parts, rea
 
 -- ---- what a line is where nothing is wrong with it
 
-none_wrong-parts : (wrong : Bool) (w : Wrong) (rest : Option Wrong) → cond wrong (Some w) rest ≡ None → (wrong ≡ false) × (rest ≡ None)
+pub none_wrong-parts : (wrong : Bool) (w : Wrong) (rest : Option Wrong) → cond wrong (Some w) rest ≡ None → (wrong ≡ false) × (rest ≡ None)
 none_wrong-parts false w rest h = (refl, h)
 none_wrong-parts true w rest h = absurd (none-some w (sym h))
 
@@ -30,7 +30,7 @@ good : (test : Bool) (w : Wrong) → unless test w ≡ None → test ≡ true
 good true w h = refl
 good false w h = absurd (none-some w (sym h))
 
-right_by : (place : Place) (words : Line) → wrong place words ≡ None → wrong_by (kind_of words) place words ≡ None
+pub right_by : (place : Place) (words : Line) → wrong place words ≡ None → wrong_by (kind_of words) place words ≡ None
 right_by place words h =
     let rest : Option Wrong = wrong_by (kind_of words) place words in
     let printable = none_wrong-parts (not (list_all (list_all is_printable) words)) bad_byte (cond place.had_end (Some after_end) rest) h in
@@ -115,7 +115,7 @@ row_width n first row h = at_plane (row_plane n row) refl h
 abbrev HasWidth : ℕ → Line → Type 0
 HasWidth n row = length (marks_of row) ≡ n
 
-rows_more : (n : ℕ) (row : Line) (lines : List Line) (k : Kind) → (k ≡ kind.Row → HasWidth n row × AllByRecursion (HasWidth n) (rows_first lines)) → AllByRecursion (HasWidth n) (if_row k (row ∷ rows_first lines) [])
+pub rows_more : (n : ℕ) (row : Line) (lines : List Line) (k : Kind) → (k ≡ kind.Row → HasWidth n row × AllByRecursion (HasWidth n) (rows_first lines)) → AllByRecursion (HasWidth n) (if_row k (row ∷ rows_first lines) [])
 rows_more n row lines kind.Row h = h refl
 rows_more n row lines kind.Model h = tt
 rows_more n row lines kind.Inputs h = tt
@@ -151,7 +151,7 @@ rows_formed t (row ∷ rows) h widths =
     } in
     rows_formed (with_row t row) rows grown widths.1
 
-names_line-parts : (place : Place) (words : Line) → wrong_by kind.Names place words ≡ None → (0 < length (arguments words)) × All IsName (arguments words)
+pub names_line-parts : (place : Place) (words : Line) → wrong_by kind.Names place words ≡ None → (0 < length (arguments words)) × All IsName (arguments words)
 names_line-parts place words h =
     let args : List Bytes = arguments words in
     let parts = none_wrong-parts (length args == 0) names_empty (unless (are_names args) bad_name) h in

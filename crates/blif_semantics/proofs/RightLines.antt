@@ -15,16 +15,14 @@ AllRight earlier [] = Unit {0}
 AllRight earlier (words ∷ lines) = (wrong (place_after earlier) words ≡ None) × AllRight (words ∷ earlier) lines
 
 -- the first line's answer, and else that of the others
-line_answer : Option Wrong → ℕ → Option WrongLine → Option WrongLine
+abbrev pub line_answer : Option Wrong → ℕ → Option WrongLine → Option WrongLine
 line_answer w line rest = elim w [ None ↦ rest | Some w ↦ Some (record { line = line; wrong = w }) ]
 
-answer_parts : (w : Option Wrong) (line : ℕ) (rest : Option WrongLine) → line_answer w line rest ≡ None → (w ≡ None) × (rest ≡ None)
-unfolding line_answer
+pub answer_parts : (w : Option Wrong) (line : ℕ) (rest : Option WrongLine) → line_answer w line rest ≡ None → (w ≡ None) × (rest ≡ None)
 answer_parts None line rest h = (refl, h)
 answer_parts (Some w) line rest h = absurd (none-some (record { line = line; wrong = w }) (sym h))
 
 right_after : (earlier : List Line) (lines : List Statement) → first_wrong_after earlier lines ≡ None → AllRight earlier (map (λ s. s.words) lines)
-unfolding line_answer
 right_after earlier [] h = tt
 right_after earlier (s ∷ lines) h =
     let parts = answer_parts (wrong (place_after earlier) s.words) s.line (first_wrong_after (s.words ∷ earlier) lines) h in

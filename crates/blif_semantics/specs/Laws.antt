@@ -1,12 +1,17 @@
 -- The laws about what a text means, each the contract of a function without parameters.
-use Rattle.std.specs.Prelude.{◌≡◌, ◌≢◌, ℕ, ◌+◌, ◌*◌, ◌^◌, ◌<◌, ◌≤◌, ◌==◌, [], ◌∷◌, ◌++◌, flat_map, length, All, Some, None, List, Result, Ok, Err, if◌then◌else◌}
+use Rattle.std.specs.Prelude.{◌↔◌, ◌≡◌, ◌≢◌, ℕ, ◌+◌, ◌*◌, ◌^◌, ◌<◌, ◌≤◌, ◌==◌, [], ◌∷◌, ◌++◌, flat_map, map, length, Contains, All, Some, None, List, Result, Ok, Err, if◌then◌else◌}
+use Rattle.std.specs.List.{AllByRecursion}
 use Rattle.semantics.specs.Texts.{Bytes}
 use Rattle.semantics.specs.Net.{NetValue, signal_names, name_of, pin_count, IsSound, IsSmall}
 use Rattle.semantics.specs.Refusals.{first_doubled, NetRefused, net_refusal}
 use Rattle.semantics.specs.Refusals.NetRefused.{doubled as parts_doubled, no_output as parts_no_output, undriven as parts_undriven, cycle as parts_cycle, limit as parts_limit}
 use Rattle.semantics.specs.Blif.{blif_text}
-use Rattle.blif_semantics.specs.Lines.{logical_lines, statements}
-use Rattle.blif_semantics.specs.Reading.{bundle_limit, Refusal, doubled, no_output, undriven, cycle, limit, NamedNet, names_of, first_undriven_name, numbered, single, blif_reading}
+use Rattle.blif_semantics.specs.declared.kind.Kind.TheVariants as kind
+use Rattle.blif_semantics.specs.Lines.{Statement, logical_lines, statements}
+use Rattle.blif_semantics.specs.Statements.{kind_of, arguments, WrongLine, first_wrong}
+use Rattle.blif_semantics.specs.Tables.{last_word, is_one, named, with_rows, rows_first}
+use Rattle.blif_semantics.specs.Reading.{bundle_limit, Refusal, doubled, no_output, undriven, cycle, limit, NamedNet, names_of, names_read, first_undriven_name, numbered, single, blif_reading}
+use Rattle.blif_semantics.specs.FirstRefusals.{IsFirstWrong, IsFirstDoubled, IsFirstUndriven}
 use Rattle.blif_semantics.specs.Plain.{IsPlainFor}
 use Rattle.blif_semantics.specs.PlainReading.{net_of_text}
 
@@ -57,3 +62,15 @@ pub record NamedNetLaw : Type 0 where
   pub driven : (d : NamedNet) → first_undriven_name d ≡ None → single d ≡ reading_of_parts (numbered d)
   pub undriven : (d : NamedNet) (name : Bytes) → first_doubled (names_of d) ≡ None → 0 < length d.outputs → first_undriven_name d ≡ Some name
       → single d ≡ Err (undriven name)
+
+-- the refusals of lines and of names tell the first of their kind, and all names are driven exactly where none is told
+pub record FirstRefusalLaw : Type 0 where
+  pub wrong_line : (lines : List Statement) (w : WrongLine) → (first_wrong lines ≡ Some w) ↔ IsFirstWrong lines w
+  pub doubled : (names : List Bytes) (name : Bytes) → (first_doubled names ≡ Some name) ↔ IsFirstDoubled names name
+  pub undriven : (d : NamedNet) (name : Bytes) → (first_undriven_name d ≡ Some name) ↔ IsFirstUndriven d name
+  pub driven : (d : NamedNet) → (first_undriven_name d ≡ None) ↔ All (Contains (names_of d)) (names_read d)
+
+-- where no line is wrong, each row of a table has the plane of the table
+abbrev pub PlaneLaw : Type 0
+PlaneLaw = (before : List Statement) (s : Statement) (after : List Statement) → first_wrong (before ++ s ∷ after) ≡ None → kind_of s.words ≡ kind.Names
+    → (let rows = rows_first (map (λ s. s.words) after) in AllByRecursion (λ row. is_one (last_word row) ≡ (with_rows (named (arguments s.words)) rows).plane) rows)
