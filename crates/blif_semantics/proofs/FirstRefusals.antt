@@ -1,6 +1,6 @@
 -- Each refusal of lines and of names tells the first of its kind.
-use Rattle.std.proofs.Common.{◌≡◌, ◌≢◌, ◌↔◌, ℕ, ◌<◌, Bool, true, false, not, cond, List, [], ◌∷◌, ◌++◌, map, length, get_or, reverse, find, bytes_eq, All, AllPairs, Contains, Option, Some, None, refl, ap, sym, subst, ◌∙◌, append_assoc, append-nil, arith}
-use Rattle.std.specs.List.{AllByRecursion, list_any}
+use Rattle.std.proofs.Common.{◌≡◌, ◌↔◌, Bool, true, false, not, cond, List, [], ◌∷◌, ◌++◌, map, get_or, reverse, find, bytes_eq, All, Contains, Option, Some, None, refl, ap, sym, subst, ◌∙◌, append_assoc, append-nil}
+use Rattle.std.specs.List.{AllByRecursion}
 use Rattle.std.proofs.lemmas.Bool.{false≢true, false_from_ne_true}
 use Rattle.std.proofs.lemmas.List.{reverse-append}
 use Rattle.std.proofs.lemmas.List.Elements.{All-weaker, recursion_from_All, All-from_recursion}
@@ -15,7 +15,7 @@ use Rattle.blif_semantics.specs.Statements.{place_after, Wrong, wrong, WrongLine
 use Rattle.blif_semantics.specs.Reading.{NamedNet, names_of, names_read, first_undriven_name}
 use Rattle.blif_semantics.specs.FirstRefusals.{IsFirstWrong, IsFirstDoubled, IsFirstUndriven}
 use Rattle.blif_semantics.proofs.Looked.{none_missing, each_there}
-use Rattle.blif_semantics.proofs.RightLines.{open_table, AllRight, line_answer, answer_parts, all_right}
+use Rattle.blif_semantics.proofs.RightLines.{none_if, line_answer, answer_parts}
 
 -- ---- whether a name is there
 
@@ -46,22 +46,23 @@ reversed earlier words lines = ap (λ ls. ls ++ earlier) (reverse-append (words 
 first_after : (earlier : List Line) (lines : List Statement) (w : WrongLine) → first_wrong_after earlier lines ≡ Some w → IsFirstAfter earlier lines w
 first_after earlier [] w e = absurd (none-some w e)
 first_after earlier (s ∷ lines) w e = at_found (wrong (place_after earlier) s.words) refl e (first_after (s.words ∷ earlier) lines w)
-    where at_found : (found : Option Wrong) → wrong (place_after earlier) s.words ≡ found → line_answer found s.line (first_wrong_after (s.words ∷ earlier) lines) ≡ Some w
-              → (first_wrong_after (s.words ∷ earlier) lines ≡ Some w → IsFirstAfter (s.words ∷ earlier) lines w) → IsFirstAfter earlier (s ∷ lines) w
-          at_found (Some x) is e others =
-              let same = same_Some (record { line = s.line; wrong = x }) w e in
-              record { before = []; statement = s; after = lines; split = refl; none_before = refl; line = ap (λ v. v.line) same; is_wrong = is ∙ ap (λ v. Some v.wrong) same }
-          at_found None is e others =
-              let h = others e in
-              record {
-                before = s ∷ h.before;
-                statement = h.statement;
-                after = h.after;
-                split = ap (λ rest. s ∷ rest) h.split;
-                none_before = ap (λ found. line_answer found s.line (first_wrong_after (s.words ∷ earlier) h.before)) is ∙ h.none_before;
-                line = h.line;
-                is_wrong = ap (λ ls. wrong (place_after ls) h.statement.words) (reversed earlier s.words (map (λ s. s.words) h.before)) ∙ h.is_wrong;
-              }
+  where
+    at_found : (found : Option Wrong) → wrong (place_after earlier) s.words ≡ found → line_answer found s.line (first_wrong_after (s.words ∷ earlier) lines) ≡ Some w
+        → (first_wrong_after (s.words ∷ earlier) lines ≡ Some w → IsFirstAfter (s.words ∷ earlier) lines w) → IsFirstAfter earlier (s ∷ lines) w
+    at_found (Some x) is e others =
+        let same = same_Some (record { line = s.line; wrong = x }) w e in
+        record { before = []; statement = s; after = lines; split = refl; none_before = refl; line = ap (λ v. v.line) same; is_wrong = is ∙ ap (λ v. Some v.wrong) same }
+    at_found None is e others =
+        let h = others e in
+        record {
+          before = s ∷ h.before;
+          statement = h.statement;
+          after = h.after;
+          split = ap (λ rest. s ∷ rest) h.split;
+          none_before = ap (λ found. line_answer found s.line (first_wrong_after (s.words ∷ earlier) h.before)) is ∙ h.none_before;
+          line = h.line;
+          is_wrong = ap (λ ls. wrong (place_after ls) h.statement.words) (reversed earlier s.words (map (λ s. s.words) h.before)) ∙ h.is_wrong;
+        }
 
 first_from : (earlier : List Line) (before : List Statement) (s : Statement) (after : List Statement) (w : WrongLine) → first_wrong_after earlier before ≡ None → s.line ≡ w.line
     → wrong (place_after (reverse (map (λ t. t.words) before) ++ earlier)) s.words ≡ Some w.wrong → first_wrong_after earlier (before ++ s ∷ after) ≡ Some w
@@ -102,24 +103,21 @@ record IsDoubledAfter (earlier names : List Bytes) (name : Bytes) : Type 0 where
 doubled_after : (earlier names : List Bytes) (name : Bytes) → first_doubled_after earlier names ≡ Some name → IsDoubledAfter earlier names name
 doubled_after earlier [] name e = absurd (none-some name e)
 doubled_after earlier (n ∷ names) name e = at_test (has_name earlier n) refl e (doubled_after (earlier ++ n ∷ []) names name)
-    where at_test : (t : Bool) → has_name earlier n ≡ t → cond t (Some n) (first_doubled_after (earlier ++ n ∷ []) names) ≡ Some name
-              → (first_doubled_after (earlier ++ n ∷ []) names ≡ Some name → IsDoubledAfter (earlier ++ n ∷ []) names name) → IsDoubledAfter earlier (n ∷ names) name
-          at_test true is e others =
-              let same : n ≡ name = same_Some n name e in
-              record { before = []; after = names; split = ap (λ m. m ∷ names) same; none_before = refl; again = ap (λ ns. has_name ns name) (append-nil earlier) ∙ ap (has_name earlier) (sym same) ∙ is }
-          at_test false is e others =
-              let h = others e in
-              record {
-                before = n ∷ h.before;
-                after = h.after;
-                split = ap (λ rest. n ∷ rest) h.split;
-                none_before = ap (λ t. cond t (Some n) (first_doubled_after (earlier ++ n ∷ []) h.before)) is ∙ h.none_before;
-                again = ap (λ ns. has_name ns name) (sym (append_assoc earlier (n ∷ []) h.before)) ∙ h.again;
-              }
-
-none_if : (told : Bool) (name : Bytes) (rest : Option Bytes) → cond told (Some name) rest ≡ None → (told ≡ false) × (rest ≡ None)
-none_if false name rest e = (refl, e)
-none_if true name rest e = absurd (none-some name (sym e))
+  where
+    at_test : (t : Bool) → has_name earlier n ≡ t → cond t (Some n) (first_doubled_after (earlier ++ n ∷ []) names) ≡ Some name
+        → (first_doubled_after (earlier ++ n ∷ []) names ≡ Some name → IsDoubledAfter (earlier ++ n ∷ []) names name) → IsDoubledAfter earlier (n ∷ names) name
+    at_test true is e others =
+        let same : n ≡ name = same_Some n name e in
+        record { before = []; after = names; split = ap (λ m. m ∷ names) same; none_before = refl; again = ap (λ ns. has_name ns name) (append-nil earlier) ∙ ap (has_name earlier) (sym same) ∙ is }
+    at_test false is e others =
+        let h = others e in
+        record {
+          before = n ∷ h.before;
+          after = h.after;
+          split = ap (λ rest. n ∷ rest) h.split;
+          none_before = ap (λ t. cond t (Some n) (first_doubled_after (earlier ++ n ∷ []) h.before)) is ∙ h.none_before;
+          again = ap (λ ns. has_name ns name) (sym (append_assoc earlier (n ∷ []) h.before)) ∙ h.again;
+        }
 
 doubled_from : (earlier before : List Bytes) (name : Bytes) (after : List Bytes) → first_doubled_after earlier before ≡ None → has_name (earlier ++ before) name ≡ true → first_doubled_after earlier (before ++ name ∷ after) ≡ Some name
 doubled_from earlier [] name after none again =
@@ -160,13 +158,14 @@ record IsFirstMissing (names words : List Bytes) (name : Bytes) : Type 0 where
 first_missing : (names words : List Bytes) (name : Bytes) → missing names words ≡ Some name → IsFirstMissing names words name
 first_missing names [] name e = absurd (none-some name e)
 first_missing names (word ∷ words) name e = at_test (has_name names word) refl e (first_missing names words name)
-    where at_test : (t : Bool) → has_name names word ≡ t → cond (not t) (Some word) (missing names words) ≡ Some name → (missing names words ≡ Some name → IsFirstMissing names words name) → IsFirstMissing names (word ∷ words) name
-          at_test false is e others =
-              let same : word ≡ name = same_Some word name e in
-              record { before = []; after = words; split = ap (λ w. w ∷ words) same; there = tt; missing = ap (has_name names) (sym same) ∙ is }
-          at_test true is e others =
-              let h = others e in
-              record { before = word ∷ h.before; after = h.after; split = ap (λ rest. word ∷ rest) h.split; there = (is, h.there); missing = h.missing }
+  where
+    at_test : (t : Bool) → has_name names word ≡ t → cond (not t) (Some word) (missing names words) ≡ Some name → (missing names words ≡ Some name → IsFirstMissing names words name) → IsFirstMissing names (word ∷ words) name
+    at_test false is e others =
+        let same : word ≡ name = same_Some word name e in
+        record { before = []; after = words; split = ap (λ w. w ∷ words) same; there = tt; missing = ap (has_name names) (sym same) ∙ is }
+    at_test true is e others =
+        let h = others e in
+        record { before = word ∷ h.before; after = h.after; split = ap (λ rest. word ∷ rest) h.split; there = (is, h.there); missing = h.missing }
 
 missing_from : (names before : List Bytes) (name : Bytes) (after : List Bytes) → AllByRecursion (λ word. has_name names word ≡ true) before → has_name names name ≡ false → missing names (before ++ name ∷ after) ≡ Some name
 missing_from names [] name after h is = rw is refl

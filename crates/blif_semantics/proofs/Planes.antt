@@ -1,5 +1,5 @@
 -- The plane of a table is that of each row.
-use Rattle.std.proofs.Common.{◌≡◌, ℕ, zero, suc, ◌-◌, Bool, true, false, ◌==◌, ◌&&◌, cond, List, [], ◌∷◌, ◌++◌, map, length, Option, Some, None, refl, ap, sym, subst, ◌∙◌}
+use Rattle.std.proofs.Common.{◌≡◌, ℕ, zero, suc, ◌-◌, Bool, true, false, ◌==◌, ◌&&◌, cond, List, [], ◌∷◌, ◌++◌, map, length, Some, None, refl, ap, sym, subst, ◌∙◌}
 use mathlib.Core.Bool.{beq}
 use Rattle.std.specs.List.{AllByRecursion, list_all}
 use Rattle.std.proofs.lemmas.Bool.{eqb-true}
@@ -9,10 +9,10 @@ use Rattle.semantics.specs.Texts.{Bytes, Line}
 use Rattle.blif_semantics.specs.declared.kind.Kind.{Kind}
 use Rattle.blif_semantics.specs.declared.kind.Kind.TheVariants as kind
 use Rattle.blif_semantics.specs.Lines.{Statement}
-use Rattle.blif_semantics.specs.Statements.{kind_of, arguments, is_mark, plane_of, row_plane, OpenTable, table_before, with_plane, table_by, place_after, agrees, Wrong, bad_row, mixed_plane, wrong_row, wrong_by, first_wrong}
+use Rattle.blif_semantics.specs.Statements.{kind_of, arguments, is_mark, plane_of, row_plane, table_before, table_by, first_wrong}
 use Rattle.blif_semantics.specs.Tables.{NamedTable, last_word, is_one, named, with_row, with_rows, if_row, rows_first}
 use Rattle.blif_semantics.proofs.RightLines.{open_table, AllRight, all_right}
-use Rattle.blif_semantics.proofs.ReadNet.{right_by}
+use Rattle.blif_semantics.proofs.Rows.{rows_more, row_right}
 
 abbrev HasPlane : Bool → Line → Type 0
 HasPlane plane row = is_one (last_word row) ≡ plane
@@ -20,12 +20,14 @@ HasPlane plane row = is_one (last_word row) ≡ plane
 plane_byte : (word : Bytes) (plane : Bool) → plane_of word ≡ Some plane → is_one word ≡ plane
 plane_byte [] plane e = absurd (none-some plane e)
 plane_byte (byte ∷ []) plane e = at_zero (byte == 48) refl e
-    where at_one : (t : Bool) → (byte == 49) ≡ t → cond t (Some true) None ≡ Some plane → (byte == 49) ≡ plane
-          at_one true is h = is ∙ same_Some true plane h
-          at_one false is h = absurd (none-some plane h)
-          at_zero : (t : Bool) → (byte == 48) ≡ t → cond t (Some false) (cond (byte == 49) (Some true) None) ≡ Some plane → (byte == 49) ≡ plane
-          at_zero true is h = ap (λ b. b == 49) (eqb-true byte 48 is) ∙ same_Some false plane h
-          at_zero false is h = at_one (byte == 49) refl h
+  where
+    at_one : (t : Bool) → (byte == 49) ≡ t → cond t (Some true) None ≡ Some plane → (byte == 49) ≡ plane
+    at_one true is h = is ∙ same_Some true plane h
+    at_one false is h = absurd (none-some plane h)
+
+    at_zero : (t : Bool) → (byte == 48) ≡ t → cond t (Some false) (cond (byte == 49) (Some true) None) ≡ Some plane → (byte == 49) ≡ plane
+    at_zero true is h = ap (λ b. b == 49) (eqb-true byte 48 is) ∙ same_Some false plane h
+    at_zero false is h = at_one (byte == 49) refl h
 plane_byte (byte ∷ next ∷ bytes) plane e = absurd (none-some plane e)
 
 row_plane-last : (n : ℕ) (row : Line) (plane : Bool) → row_plane n row ≡ Some plane → HasPlane plane row
@@ -35,9 +37,10 @@ row_plane-last zero (word ∷ next ∷ words) plane h = absurd (none-some plane 
 row_plane-last (suc n) [] plane h = absurd (none-some plane h)
 row_plane-last (suc n) (word ∷ []) plane h = absurd (none-some plane h)
 row_plane-last (suc n) (marks ∷ word ∷ []) plane h = at_test (length marks == suc n && list_all is_mark marks) h
-    where at_test : (t : Bool) → cond t (plane_of word) None ≡ Some plane → HasPlane plane (marks ∷ word ∷ [])
-          at_test true k = plane_byte word plane k
-          at_test false k = absurd (none-some plane k)
+  where
+    at_test : (t : Bool) → cond t (plane_of word) None ≡ Some plane → HasPlane plane (marks ∷ word ∷ [])
+    at_test true k = plane_byte word plane k
+    at_test false k = absurd (none-some plane k)
 row_plane-last (suc n) (marks ∷ word ∷ more ∷ words) plane h = absurd (none-some plane h)
 
 beq_true : (a b : Bool) → beq a b ≡ true → b ≡ a
@@ -45,43 +48,6 @@ beq_true false false h = refl
 beq_true false true h = sym h
 beq_true true false h = h
 beq_true true true h = refl
-
--- a good row has a plane, and it is that of the rows before
-record HasGoodPlane (n : ℕ) (first : Option Bool) (row : Line) : Type 0 where
-  plane : Bool
-  is : row_plane n row ≡ Some plane
-  agrees : agrees first plane ≡ true
-
-good_plane : (n : ℕ) (first : Option Bool) (row : Line) → wrong_row (open_table n first) row ≡ None → HasGoodPlane n first row
-good_plane n first row h = at_plane (row_plane n row) refl h
-    where judged : Option Bool → Option Wrong
-          judged p = elim p [ None ↦ Some bad_row | Some plane ↦ cond (agrees first plane) None (Some mixed_plane) ]
-          at_test : (plane : Bool) → row_plane n row ≡ Some plane → (t : Bool) → agrees first plane ≡ t → cond t None (Some mixed_plane) ≡ None → HasGoodPlane n first row
-          at_test plane e true same k = record { plane = plane; is = e; agrees = same }
-          at_test plane e false same k = absurd (none-some mixed_plane (sym k))
-          at_plane : (p : Option Bool) → row_plane n row ≡ p → judged p ≡ None → HasGoodPlane n first row
-          at_plane None e k = absurd (none-some bad_row (sym k))
-          at_plane (Some plane) e k = at_test plane e (agrees first plane) refl k
-
--- a row behind an open table
-record IsRowRight (n : ℕ) (first : Option Bool) (earlier : List Line) (row : Line) : Type 0 where
-  good : HasGoodPlane n first row
-  grown : table_before (row ∷ earlier) ≡ open_table n (elim first [ None ↦ row_plane n row | Some plane ↦ Some plane ])
-
-row_right : (n : ℕ) (first : Option Bool) (earlier : List Line) (row : Line) (lines : List Line) → table_before earlier ≡ open_table n first → AllRight earlier (row ∷ lines) → kind_of row ≡ kind.Row → IsRowRight n first earlier row
-row_right n first earlier row lines table h e = record {
-  good = good_plane n first row (ap (λ t. wrong_row t row) (sym table) ∙ ap (λ k. wrong_by k (place_after earlier) row) (sym e) ∙ right_by (place_after earlier) row h.0);
-  grown = ap (λ k. table_by k row (table_before earlier)) e ∙ ap (λ t. with_plane t row) table;
-}
-
-rows_more : (P : Line → Type 0) (row : Line) (lines : List Line) (k : Kind) → (k ≡ kind.Row → P row × AllByRecursion P (rows_first lines)) → AllByRecursion P (if_row k (row ∷ rows_first lines) [])
-rows_more P row lines kind.Row h = h refl
-rows_more P row lines kind.Model h = tt
-rows_more P row lines kind.Inputs h = tt
-rows_more P row lines kind.Outputs h = tt
-rows_more P row lines kind.Names h = tt
-rows_more P row lines kind.End h = tt
-rows_more P row lines kind.Command h = tt
 
 -- rows behind a row of the plane
 rows_planes : (n : ℕ) (plane : Bool) (earlier lines : List Line) → table_before earlier ≡ open_table n (Some plane) → AllRight earlier lines → AllByRecursion (HasPlane plane) (rows_first lines)
@@ -110,19 +76,21 @@ first_rows : (n : ℕ) (t : NamedTable) (earlier lines : List Line) → table_be
 unfolding AllAgree
 first_rows n t earlier [] table h = tt
 first_rows n t earlier (row ∷ lines) table h = at_kind (kind_of row) refl
-    where at_row : kind_of row ≡ kind.Row → AllAgree t (row ∷ rows_first lines)
-          at_row e =
-              let right = row_right n None earlier row lines table h e in
-              let grown : table_before (row ∷ earlier) ≡ open_table n (Some right.good.plane) = right.grown ∙ ap (open_table n) right.good.is in
-              all_agree t row (rows_first lines) right.good.plane (row_plane-last n row right.good.plane right.good.is) (rows_planes n right.good.plane (row ∷ earlier) lines grown h.1)
-          at_kind : (k : Kind) → kind_of row ≡ k → AllAgree t (if_row k (row ∷ rows_first lines) [])
-          at_kind kind.Row e = at_row e
-          at_kind kind.Model e = tt
-          at_kind kind.Inputs e = tt
-          at_kind kind.Outputs e = tt
-          at_kind kind.Names e = tt
-          at_kind kind.End e = tt
-          at_kind kind.Command e = tt
+  where
+    at_row : kind_of row ≡ kind.Row → AllAgree t (row ∷ rows_first lines)
+    at_row e =
+        let right = row_right n None earlier row lines table h e in
+        let grown : table_before (row ∷ earlier) ≡ open_table n (Some right.good.plane) = right.grown ∙ ap (open_table n) right.good.is in
+        all_agree t row (rows_first lines) right.good.plane (row_plane-last n row right.good.plane right.good.is) (rows_planes n right.good.plane (row ∷ earlier) lines grown h.1)
+
+    at_kind : (k : Kind) → kind_of row ≡ k → AllAgree t (if_row k (row ∷ rows_first lines) [])
+    at_kind kind.Row e = at_row e
+    at_kind kind.Model e = tt
+    at_kind kind.Inputs e = tt
+    at_kind kind.Outputs e = tt
+    at_kind kind.Names e = tt
+    at_kind kind.End e = tt
+    at_kind kind.Command e = tt
 
 behind : (earlier before : List Line) (words : Line) (after : List Line) → AllRight earlier (before ++ words ∷ after) → (lines : List Line) × AllRight lines (words ∷ after)
 behind earlier [] words after h = (earlier, h)

@@ -1,9 +1,15 @@
 -- Lines none of which is wrong, told line by line.
-use Rattle.std.proofs.Common.{◌≡◌, ℕ, Bool, List, [], ◌∷◌, map, Option, Some, None, refl, ap, sym, ◌∙◌}
+use Rattle.std.proofs.Common.{◌≡◌, ℕ, Bool, true, false, not, cond, List, [], ◌∷◌, map, Option, Some, None, refl, ap, sym, ◌∙◌}
+use Rattle.std.specs.List.{list_all}
 use Rattle.std.proofs.lemmas.Option.{none-some}
 use Rattle.semantics.specs.Texts.{Line}
 use Rattle.blif_semantics.specs.Lines.{Statement}
-use Rattle.blif_semantics.specs.Statements.{OpenTable, place_after, Wrong, WrongLine, wrong, first_wrong_after, first_wrong}
+use Rattle.blif_semantics.specs.Statements.{is_printable, bad_byte, after_end, unless, OpenTable, kind_of, wrong_by, Place, place_after, Wrong, WrongLine, wrong, first_wrong_after, first_wrong}
+
+-- nothing is told by a test that fails, and nothing after it
+pub none_if : {X : Type 0} (told : Bool) (x : X) (rest : Option X) → cond told (Some x) rest ≡ None → (told ≡ false) × (rest ≡ None)
+none_if false x rest none = (refl, none)
+none_if true x rest none = absurd (none-some x (sym none))
 
 -- a table with so many pins whose rows may come, and its plane
 abbrev pub open_table : ℕ → Option Bool → Option OpenTable
@@ -41,3 +47,15 @@ all_right lines h = right_after [] lines h
 pub none_wrong : (lines : List Statement) → AllRight [] (map (λ s. s.words) lines) → first_wrong lines ≡ None
 unfolding first_wrong
 none_wrong lines h = none_wrong_after [] lines h
+
+-- ---- what a line is where nothing is wrong with it
+
+pub good : (test : Bool) (w : Wrong) → unless test w ≡ None → test ≡ true
+good true w h = refl
+good false w h = absurd (none-some w (sym h))
+
+pub right_by : (place : Place) (words : Line) → wrong place words ≡ None → wrong_by (kind_of words) place words ≡ None
+right_by place words h =
+    let rest : Option Wrong = wrong_by (kind_of words) place words in
+    let printable = none_if (not (list_all (list_all is_printable) words)) bad_byte (cond place.had_end (Some after_end) rest) h in
+    (none_if place.had_end after_end rest printable.1).1
