@@ -11,3 +11,9 @@ pub mod WrittenNet
 pub mod WrittenLength
 pub mod Written
 pub mod ReadNet
+pub mod Comments
+pub mod LineEnds
+pub mod Numbered
+pub mod FirstRefusals
+pub mod Planes
+pub mod Rows

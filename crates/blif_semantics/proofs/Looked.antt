@@ -1,16 +1,16 @@
 -- Names looked up among those of the signals.
-use Rattle.std.proofs.Common.{◌≡◌, ◌≢◌, ℕ, ◌<◌, Bool, true, false, not, cond, List, [], ◌∷◌, map, length, get_or, find, bytes_eq, AllPairs, Option, Some, None, refl, ap, sym, ◌∙◌, inl, inr, arith}
+use Rattle.std.proofs.Common.{◌≡◌, ◌≢◌, ℕ, ◌<◌, Bool, true, false, not, List, [], ◌∷◌, map, length, get_or, find, bytes_eq, AllPairs, Some, None, refl, ap, sym, ◌∙◌, inl, inr, arith}
 use Rattle.std.specs.List.{AllByRecursion, position, position_or_len}
-use Rattle.std.proofs.lemmas.Bool.{false_from_ne_true, lt-ltb, cases_lt, both_ways}
+use Rattle.std.proofs.lemmas.Bool.{not-false, false_from_ne_true, lt-ltb, cases_lt, both_ways}
 use Rattle.std.proofs.lemmas.List.Folds.{list_any_at, Any-from_list_any}
 use Rattle.std.proofs.lemmas.List.Sums.{position_or_len_is, fails_before_first}
-use Rattle.std.proofs.lemmas.Option.{none-some}
 use Rattle.std.proofs.lemmas.Slice.Eq.{bytes_eq-Decides}
 use Rattle.semantics.specs.Texts.{Bytes}
 use Rattle.semantics.specs.Net.{TableValue, name_of}
 use Rattle.semantics.specs.Refusals.{has_name}
 use Rattle.blif_semantics.specs.Tables.{NamedTable}
 use Rattle.blif_semantics.specs.Reading.{signal_named}
+use Rattle.blif_semantics.proofs.RightLines.{none_if}
 
 -- a table with the signals of its names
 abbrev pub with_signals : List Bytes → NamedTable → TableValue
@@ -53,8 +53,5 @@ none_missing names (word ∷ words) h = rw h.0 (none_missing names words h.1)
 pub each_there : (names words : List Bytes) → find (λ word. not (has_name names word)) words ≡ None → AllByRecursion (λ word. has_name names word ≡ true) words
 each_there names [] h = tt
 each_there names (word ∷ words) h =
-    let parts = none_if (has_name names word) word (find (λ w. not (has_name names w)) words) h in
-    (parts.0, each_there names words parts.1)
-    where none_if : (there : Bool) (word : Bytes) (rest : Option Bytes) → cond (not there) (Some word) rest ≡ None → (there ≡ true) × (rest ≡ None)
-          none_if true word rest h = (refl, h)
-          none_if false word rest h = absurd (none-some word (sym h))
+    let parts = none_if (not (has_name names word)) word (find (λ w. not (has_name names w)) words) h in
+    (not-false (has_name names word) parts.0, each_there names words parts.1)

@@ -38,12 +38,12 @@ is_name-from_IsName word h =
     let short : Bool = leb (length word) 1023 in
     let ending : Bool = not (get_or word (length word - 1) 0 == 92) in
     let bytes = list_all-from_AllPass (λ b. is_printable b && not (b == 35)) word
-        (All-weaker IsNameByte (λ b. (is_printable b && not (b == 35)) ≡ true)
-        (λ b range. and_from (is_printable b) (not (b == 35)) (printable_byte b range) (not_from_false (b == 35) (ne_eqb b 35 range.2))) word h.printable) in
+    (All-weaker IsNameByte (λ b. (is_printable b && not (b == 35)) ≡ true)
+    (λ b range. and_from (is_printable b) (not (b == 35)) (printable_byte b range) (not_from_false (b == 35) (ne_eqb b 35 range.2))) word h.printable) in
     and_from (some && short && has_name_bytes word) ending
-        (and_from (some && short) (has_name_bytes word)
-        (and_from some short (not_from_false (length word == 0) (ne_eqb (length word) 0 (λ e. omega (arith, e, h.not_empty)))) (le-leb (length word) 1023 h.short)) bytes)
-        (not_from_false (get_or word (length word - 1) 0 == 92) (ne_eqb (get_or word (length word - 1) 0) 92 h.ending))
+    (and_from (some && short) (has_name_bytes word)
+    (and_from some short (not_from_false (length word == 0) (ne_eqb (length word) 0 (λ e. omega (arith, e, h.not_empty)))) (le-leb (length word) 1023 h.short)) bytes)
+    (not_from_false (get_or word (length word - 1) 0 == 92) (ne_eqb (get_or word (length word - 1) 0) 92 h.ending))
 
 pub IsName-from_are_names : (words : List Bytes) → are_names words ≡ true → All IsName words
 IsName-from_are_names words h = All-weaker (λ word. is_name word ≡ true) IsName IsName-from_test words (AllPass-from_list_all is_name words h)

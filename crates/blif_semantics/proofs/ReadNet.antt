@@ -1,40 +1,25 @@
 -- What is read is a small sound net.
-use Rattle.std.proofs.Common.{◌≡◌, ◌≢◌, ℕ, zero, suc, ◌+◌, ◌-◌, ◌<◌, ◌≤◌, Bool, true, false, ◌==◌, not, ◌&&◌, cond, leb, List, [], ◌∷◌, ◌++◌, map, flat_map, length, take, filter, codes, find, All, AllPairs, Option, Some, None, Ok, refl, ap, sym, subst, ◌∙◌, arith}
+use Rattle.std.proofs.Common.{◌≡◌, ◌≢◌, ℕ, zero, suc, ◌-◌, ◌<◌, ◌≤◌, Bool, true, false, ◌==◌, not, ◌&&◌, cond, leb, List, [], ◌∷◌, map, flat_map, length, take, filter, codes, find, All, AllPairs, Option, Some, None, Ok, refl, ap, sym, subst, ◌∙◌, arith}
 use Rattle.std.specs.List.{AllByRecursion, list_all}
 use Rattle.std.proofs.lemmas.Bool.{and_parts, eqb-true, eqb-false, leb-true, not-false, false≢true}
-use Rattle.std.proofs.lemmas.List.{length-append, length-map, length_push, length-take}
+use Rattle.std.proofs.lemmas.List.{length-map, length_push, length-take}
 use Rattle.std.proofs.lemmas.List.Elements.{All-nil, All-cons, All-append, All-push, All-map, All-get_or, All-weaker}
 use Rattle.std.proofs.lemmas.Option.{none-some}
 use Rattle.semantics.specs.Texts.{Bytes, Line}
-use Rattle.semantics.specs.Net.{NetValue, input_count, signal_names, signal_count, IsName, IsTable, IsSound, IsSmall}
-use Rattle.semantics.specs.Refusals.{has_name}
+use Rattle.semantics.specs.Net.{NetValue, input_count, IsName, IsTable, IsSound, IsSmall}
 use Rattle.semantics.proofs.Refused.{undoubled, grounded, small}
 use Rattle.blif_semantics.specs.declared.kind.Kind.{Kind}
 use Rattle.blif_semantics.specs.declared.kind.Kind.TheVariants as kind
 use Rattle.blif_semantics.specs.Lines.{Statement, logical_lines, statements}
-use Rattle.blif_semantics.specs.Statements.{is_printable, is_name, are_names, is_mark, kind_of, first_word, arguments, is_model, plane_of, row_plane, table_before, with_plane, table_by, Place, place_after, Wrong, bad_byte, after_end, second_model, names_empty, bad_name, bad_row, mixed_plane, agrees, unless, wrong, wrong_by, wrong_row, first_wrong}
-use Rattle.blif_semantics.specs.Tables.{NamedTable, mark_of, last_word, marks_of, named, with_row, with_rows, if_row, rows_first, table_first, tables_of}
-use Rattle.blif_semantics.specs.Reading.{text_long, wrong_line, NamedNet, is_inputs, listed, model_of, named_net, names_of, names_read, signal_named, numbered, unless_refused, lines_reading, blif_reading}
+use Rattle.blif_semantics.specs.Statements.{is_name, are_names, is_mark, kind_of, first_word, arguments, is_model, plane_of, row_plane, table_before, table_by, Place, place_after, second_model, names_empty, bad_name, unless, wrong, wrong_by, first_wrong}
+use Rattle.blif_semantics.specs.Tables.{NamedTable, mark_of, last_word, marks_of, named, with_row, with_rows, rows_first, table_first, tables_of}
+use Rattle.blif_semantics.specs.Reading.{text_long, wrong_line, NamedNet, is_inputs, listed, model_of, named_net, names_of, signal_named, numbered, unless_refused, lines_reading, blif_reading}
 use Rattle.blif_semantics.proofs.Names.{IsName-from_test, IsName-from_are_names}
-use Rattle.blif_semantics.proofs.RightLines.{open_table, AllRight, all_right}
-use Rattle.blif_semantics.proofs.Looked.{with_signals, signal_named-below, each_there}
+use Rattle.blif_semantics.proofs.RightLines.{open_table, none_if, good, right_by, AllRight, all_right}
+use Rattle.blif_semantics.proofs.Rows.{rows_more, row_right}
+use Rattle.blif_semantics.proofs.Numbered.{signal_names-numbered, signals_below}
+use Rattle.blif_semantics.proofs.Looked.{with_signals}
 use Rattle.blif_semantics.proofs.Accepted.{IsAccepted, IsReadAs, read_parts, read_parts-if, accepted}
-
--- ---- what a line is where nothing is wrong with it
-
-none_wrong-parts : (wrong : Bool) (w : Wrong) (rest : Option Wrong) → cond wrong (Some w) rest ≡ None → (wrong ≡ false) × (rest ≡ None)
-none_wrong-parts false w rest h = (refl, h)
-none_wrong-parts true w rest h = absurd (none-some w (sym h))
-
-good : (test : Bool) (w : Wrong) → unless test w ≡ None → test ≡ true
-good true w h = refl
-good false w h = absurd (none-some w (sym h))
-
-right_by : (place : Place) (words : Line) → wrong place words ≡ None → wrong_by (kind_of words) place words ≡ None
-right_by place words h =
-    let rest : Option Wrong = wrong_by (kind_of words) place words in
-    let printable = none_wrong-parts (not (list_all (list_all is_printable) words)) bad_byte (cond place.had_end (Some after_end) rest) h in
-    (none_wrong-parts place.had_end after_end rest printable.1).1
 
 -- ---- names
 
@@ -70,7 +55,7 @@ model_line : (k : Kind) (place : Place) (words : Line) → is_model k ≡ true �
 model_line kind.Model place words is h =
     let args : List Bytes = arguments words in
     let test : Bool = length args == 1 && are_names args in
-    one_name args (good test bad_name (none_wrong-parts place.had_model second_model (unless test bad_name) h).1)
+    one_name args (good test bad_name (none_if place.had_model second_model (unless test bad_name) h).1)
 model_line kind.Inputs place words is h = absurd (false≢true is)
 model_line kind.Outputs place words is h = absurd (false≢true is)
 model_line kind.Names place words is h = absurd (false≢true is)
@@ -96,39 +81,22 @@ marks_width zero (word ∷ next ∷ words) plane h = absurd (none-some plane h)
 marks_width (suc n) [] plane h = absurd (none-some plane h)
 marks_width (suc n) (word ∷ []) plane h = absurd (none-some plane h)
 marks_width (suc n) (marks ∷ word ∷ []) plane h = length-map marks mark_of ∙ at_test (length marks == suc n && list_all is_mark marks) refl h
-    where at_test : (t : Bool) → (length marks == suc n && list_all is_mark marks) ≡ t → cond t (plane_of word) None ≡ Some plane → length marks ≡ suc n
-          at_test true e k = eqb-true (length marks) (suc n) (and_parts (length marks == suc n) (list_all is_mark marks) e).0
-          at_test false e k = absurd (none-some plane k)
+  where
+    at_test : (t : Bool) → (length marks == suc n && list_all is_mark marks) ≡ t → cond t (plane_of word) None ≡ Some plane → length marks ≡ suc n
+    at_test true e k = eqb-true (length marks) (suc n) (and_parts (length marks == suc n) (list_all is_mark marks) e).0
+    at_test false e k = absurd (none-some plane k)
 marks_width (suc n) (marks ∷ word ∷ more ∷ words) plane h = absurd (none-some plane h)
-
-row_width : (n : ℕ) (first : Option Bool) (row : Line) → wrong_row (open_table n first) row ≡ None → length (marks_of row) ≡ n
-row_width n first row h = at_plane (row_plane n row) refl h
-    where judged : Option Bool → Option Wrong
-          judged p = elim p [ None ↦ Some bad_row | Some plane ↦ cond (agrees first plane) None (Some mixed_plane) ]
-          at_plane : (p : Option Bool) → row_plane n row ≡ p → judged p ≡ None → length (marks_of row) ≡ n
-          at_plane None e k = absurd (none-some bad_row (sym k))
-          at_plane (Some plane) e k = marks_width n row plane e
 
 abbrev HasWidth : ℕ → Line → Type 0
 HasWidth n row = length (marks_of row) ≡ n
 
-rows_more : (n : ℕ) (row : Line) (lines : List Line) (k : Kind) → (k ≡ kind.Row → HasWidth n row × AllByRecursion (HasWidth n) (rows_first lines)) → AllByRecursion (HasWidth n) (if_row k (row ∷ rows_first lines) [])
-rows_more n row lines kind.Row h = h refl
-rows_more n row lines kind.Model h = tt
-rows_more n row lines kind.Inputs h = tt
-rows_more n row lines kind.Outputs h = tt
-rows_more n row lines kind.Names h = tt
-rows_more n row lines kind.End h = tt
-rows_more n row lines kind.Command h = tt
-
 rows_width : (n : ℕ) (first : Option Bool) (earlier lines : List Line) → table_before earlier ≡ open_table n first → AllRight earlier lines → AllByRecursion (HasWidth n) (rows_first lines)
 rows_width n first earlier [] table h = tt
 rows_width n first earlier (row ∷ lines) table h =
-    rows_more n row lines (kind_of row)
+    rows_more (HasWidth n) row lines (kind_of row)
     (λ e.
-    let right : wrong_row (open_table n first) row ≡ None = ap (λ t. wrong_row t row) (sym table) ∙ ap (λ k. wrong_by k (place_after earlier) row) (sym e) ∙ right_by (place_after earlier) row h.0 in
-    let grown : table_before (row ∷ earlier) ≡ with_plane (open_table n first) row = ap (λ k. table_by k row (table_before earlier)) e ∙ ap (λ t. with_plane t row) table in
-    (row_width n first row right, rows_width n (elim first [ None ↦ row_plane n row | Some plane ↦ Some plane ]) (row ∷ earlier) lines grown h.1))
+    let right = row_right n first earlier row lines table h e in
+    (marks_width n row right.good.plane right.good.is, rows_width n (elim first [ None ↦ row_plane n row | Some plane ↦ Some plane ]) (row ∷ earlier) lines right.grown h.1))
 
 -- ---- tables
 
@@ -148,10 +116,10 @@ rows_formed t (row ∷ rows) h widths =
     } in
     rows_formed (with_row t row) rows grown widths.1
 
-names_line-parts : (place : Place) (words : Line) → wrong_by kind.Names place words ≡ None → (0 < length (arguments words)) × All IsName (arguments words)
+pub names_line-parts : (place : Place) (words : Line) → wrong_by kind.Names place words ≡ None → (0 < length (arguments words)) × All IsName (arguments words)
 names_line-parts place words h =
     let args : List Bytes = arguments words in
-    let parts = none_wrong-parts (length args == 0) names_empty (unless (are_names args) bad_name) h in
+    let parts = none_if (length args == 0) names_empty (unless (are_names args) bad_name) h in
     (let some = eqb-false (length args) 0 parts.0 in omega arith, IsName-from_are_names args (good (are_names args) bad_name parts.1))
 
 named_table : (earlier : List Line) (words : Line) (lines : List Line) → kind_of words ≡ kind.Names → AllRight earlier (words ∷ lines) → IsNamedTable (with_rows (named (arguments words)) (rows_first lines))
@@ -189,28 +157,6 @@ table_formed names t h = record {
   plane = h.plane;
 }
 
-names_kept : (names : List Bytes) (tables : List NamedTable) → map (λ t. t.name) (map (with_signals names) tables) ≡ map (λ t. t.name) tables
-names_kept names [] = refl
-names_kept names (t ∷ tables) = ap (λ rest. t.name ∷ rest) (names_kept names tables)
-
-abbrev IsThere : List Bytes → Bytes → Type 0
-IsThere names word = has_name names word ≡ true
-
-parts_there : (names words more : List Bytes) → AllByRecursion (IsThere names) (words ++ more) → AllByRecursion (IsThere names) words × AllByRecursion (IsThere names) more
-parts_there names [] more h = (tt, h)
-parts_there names (word ∷ words) more h = let parts = parts_there names words more h.1 in ((h.0, parts.0), parts.1)
-
-signals_below : (names words : List Bytes) → AllByRecursion (IsThere names) words → All (λ s. s < length names) (map (signal_named names) words)
-signals_below names [] h = All-nil (λ s. s < length names)
-signals_below names (word ∷ words) h =
-    All-cons (λ s. s < length names) (signal_named names word) (map (signal_named names) words) (signal_named-below names word h.0) (signals_below names words h.1)
-
-pins_below : (names : List Bytes) (tables : List NamedTable) → AllByRecursion (IsThere names) (flat_map (λ t. t.pins) tables) → All (λ t. All (λ s. s < length names) t.pins) (map (with_signals names) tables)
-pins_below names [] h = All-nil (λ t. All (λ s. s < length names) t.pins)
-pins_below names (t ∷ tables) h =
-    let parts = parts_there names t.pins (flat_map (λ u. u.pins) tables) h in
-    All-cons (λ u. All (λ s. s < length names) u.pins) (with_signals names t) (map (with_signals names) tables) (signals_below names t.pins parts.0) (pins_below names tables parts.1)
-
 -- what is asked of a net of names besides that nothing refuses it
 record IsNamedNet (d : NamedNet) : Type 0 where
   model : IsName d.model
@@ -222,19 +168,15 @@ unfolding numbered
 sound d h accepted =
     let names : List Bytes = names_of d in
     let N : NetValue = numbered d in
-    let same : signal_names N ≡ names = ap (λ rest. d.inputs ++ rest) (names_kept names d.tables) in
-    let count : length names ≡ signal_count N =
-        length-append d.inputs (map (λ t. t.name) d.tables)
-        ∙ ap (λ k. length d.inputs + k) (length-map d.tables (λ t. t.name) ∙ sym (length-map d.tables (with_signals names))) in
-    let there = parts_there names (flat_map (λ t. t.pins) d.tables) d.outputs (each_there names (names_read d) accepted.driven) in
+    let below = signals_below d accepted.driven in
     record {
       model_named = h.model;
       inputs_named = h.inputs;
       tables_formed = All-map IsTable (with_signals names) d.tables (All-weaker IsNamedTable (λ t. IsTable (with_signals names t)) (table_formed names) d.tables h.tables);
-      names_differ = subst (AllPairs ◌≢◌) (sym same) (undoubled names accepted.undoubled);
+      names_differ = subst (AllPairs ◌≢◌) (sym (signal_names-numbered d)) (undoubled names accepted.undoubled);
       has_output = let some = eqb-false (length d.outputs) 0 accepted.some_output in omega (arith, length-map d.outputs (signal_named names));
-      outputs_are_signals = subst (λ k. All (λ s. s < k) N.outputs) count (signals_below names d.outputs there.1);
-      pins_are_signals = subst (λ k. All (λ t. All (λ s. s < k) t.pins) N.tables) count (pins_below names d.tables there.0);
+      outputs_are_signals = below.1;
+      pins_are_signals = below.0;
       acyclic = grounded (input_count N) N.tables accepted.grounded;
     }
 

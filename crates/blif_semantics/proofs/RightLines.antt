@@ -1,9 +1,15 @@
 -- Lines none of which is wrong, told line by line.
-use Rattle.std.proofs.Common.{◌≡◌, ℕ, Bool, List, [], ◌∷◌, map, Option, Some, None, refl, ap, sym, ◌∙◌}
+use Rattle.std.proofs.Common.{◌≡◌, ℕ, Bool, true, false, not, cond, List, [], ◌∷◌, map, Option, Some, None, refl, ap, sym, ◌∙◌}
+use Rattle.std.specs.List.{list_all}
 use Rattle.std.proofs.lemmas.Option.{none-some}
 use Rattle.semantics.specs.Texts.{Line}
 use Rattle.blif_semantics.specs.Lines.{Statement}
-use Rattle.blif_semantics.specs.Statements.{OpenTable, place_after, Wrong, WrongLine, wrong, first_wrong_after, first_wrong}
+use Rattle.blif_semantics.specs.Statements.{is_printable, bad_byte, after_end, unless, OpenTable, kind_of, wrong_by, Place, place_after, Wrong, WrongLine, wrong, first_wrong_after, first_wrong}
+
+-- nothing is told by a test that fails, and nothing after it
+pub none_if : {X : Type 0} (told : Bool) (x : X) (rest : Option X) → cond told (Some x) rest ≡ None → (told ≡ false) × (rest ≡ None)
+none_if false x rest none = (refl, none)
+none_if true x rest none = absurd (none-some x (sym none))
 
 -- a table with so many pins whose rows may come, and its plane
 abbrev pub open_table : ℕ → Option Bool → Option OpenTable
@@ -15,16 +21,14 @@ AllRight earlier [] = Unit {0}
 AllRight earlier (words ∷ lines) = (wrong (place_after earlier) words ≡ None) × AllRight (words ∷ earlier) lines
 
 -- the first line's answer, and else that of the others
-line_answer : Option Wrong → ℕ → Option WrongLine → Option WrongLine
+abbrev pub line_answer : Option Wrong → ℕ → Option WrongLine → Option WrongLine
 line_answer w line rest = elim w [ None ↦ rest | Some w ↦ Some (record { line = line; wrong = w }) ]
 
-answer_parts : (w : Option Wrong) (line : ℕ) (rest : Option WrongLine) → line_answer w line rest ≡ None → (w ≡ None) × (rest ≡ None)
-unfolding line_answer
+pub answer_parts : (w : Option Wrong) (line : ℕ) (rest : Option WrongLine) → line_answer w line rest ≡ None → (w ≡ None) × (rest ≡ None)
 answer_parts None line rest h = (refl, h)
 answer_parts (Some w) line rest h = absurd (none-some (record { line = line; wrong = w }) (sym h))
 
 right_after : (earlier : List Line) (lines : List Statement) → first_wrong_after earlier lines ≡ None → AllRight earlier (map (λ s. s.words) lines)
-unfolding line_answer
 right_after earlier [] h = tt
 right_after earlier (s ∷ lines) h =
     let parts = answer_parts (wrong (place_after earlier) s.words) s.line (first_wrong_after (s.words ∷ earlier) lines) h in
@@ -43,3 +47,15 @@ all_right lines h = right_after [] lines h
 pub none_wrong : (lines : List Statement) → AllRight [] (map (λ s. s.words) lines) → first_wrong lines ≡ None
 unfolding first_wrong
 none_wrong lines h = none_wrong_after [] lines h
+
+-- ---- what a line is where nothing is wrong with it
+
+pub good : (test : Bool) (w : Wrong) → unless test w ≡ None → test ≡ true
+good true w h = refl
+good false w h = absurd (none-some w (sym h))
+
+pub right_by : (place : Place) (words : Line) → wrong place words ≡ None → wrong_by (kind_of words) place words ≡ None
+right_by place words h =
+    let rest : Option Wrong = wrong_by (kind_of words) place words in
+    let printable = none_if (not (list_all (list_all is_printable) words)) bad_byte (cond place.had_end (Some after_end) rest) h in
+    (none_if place.had_end after_end rest printable.1).1

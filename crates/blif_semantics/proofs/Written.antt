@@ -1,5 +1,5 @@
 -- A small sound net is read back from its text.
-use Rattle.std.proofs.Common.{◌≡◌, ℕ, ◌<◌, ◌≤◌, not, cond, List, [], map, length, All, None, Ok, Err, ap, sym, subst, ◌∙◌, arith}
+use Rattle.std.proofs.Common.{◌≡◌, Result, ℕ, ◌<◌, ◌≤◌, List, [], map, length, All, None, Ok, refl, ap, sym, subst, ◌∙◌, arith}
 use Rattle.std.proofs.lemmas.Bool.{le-leb, ne_eqb}
 use Rattle.std.proofs.lemmas.List.{length-map}
 use Rattle.semantics.specs.Texts.{Bytes, Line}
@@ -9,7 +9,7 @@ use Rattle.semantics.specs.Blif.{blif_lines, blif_text}
 use Rattle.semantics.proofs.Refused.{differ-undoubled, acyclic-grounded, limits-small}
 use Rattle.blif_semantics.specs.Lines.{Statement, logical_lines, statements}
 use Rattle.blif_semantics.specs.Statements.{first_wrong}
-use Rattle.blif_semantics.specs.Reading.{text_long, wrong_line, bundle_limit, unless_refused, single, lines_reading, blif_reading}
+use Rattle.blif_semantics.specs.Reading.{Refusal, wrong_line, bundle_limit, unless_refused, single, lines_reading, blif_reading}
 use Rattle.blif_semantics.proofs.WordLines.{statements-text_of}
 use Rattle.blif_semantics.proofs.NetLines.{length-signal_names, blif_lines-are_lines}
 use Rattle.blif_semantics.proofs.RightLines.{AllRight, none_wrong}
@@ -34,13 +34,20 @@ named_of-read N h small =
     } in
     read-accepted (named_of N) accepted ∙ ap Ok is
 
+-- what is read of statements
+abbrev statements_reading : List Statement → Result NetValue Refusal
+statements_reading all = unless_refused (first_wrong all) (λ w. wrong_line w.line w.wrong) (lines_reading (map (λ s. s.words) all))
+
+within_limit : (text : Bytes) (most : ℕ) → length text ≤ most → blif_reading text most ≡ statements_reading (statements (logical_lines text))
+unfolding blif_reading
+within_limit text most short = rw (le-leb (length text) most short) refl
+
 -- a text that keeps the limit, none of whose lines is wrong
 reading_of : (text : Bytes) (most : ℕ) (lines : List Line) → length text ≤ most → map (λ s. s.words) (statements (logical_lines text)) ≡ lines → AllRight [] lines → blif_reading text most ≡ lines_reading lines
-unfolding blif_reading
 reading_of text most lines short words right =
     let all : List Statement = statements (logical_lines text) in
     let none : first_wrong all ≡ None = none_wrong all (subst (AllRight []) (sym words) right) in
-    ap (λ t. cond (not t) (Err text_long) (unless_refused (first_wrong all) (λ w. wrong_line w.line w.wrong) (lines_reading (map (λ s. s.words) all)))) (le-leb (length text) most short)
+    within_limit text most short
     ∙ ap (λ w. unless_refused w (λ w. wrong_line w.line w.wrong) (lines_reading (map (λ s. s.words) all))) none
     ∙ ap lines_reading words
 
@@ -56,3 +63,7 @@ within N h small = omega (arith, blif_text-short N h small, small.all_pins)
 
 pub read : (N : NetValue) → IsSound N → IsSmall N → blif_reading (blif_text N) bundle_limit ≡ Ok N
 read N h small = read_within N bundle_limit h small (within N h small)
+
+-- what is read depends on the statements alone
+pub same_reading : (text other : Bytes) (most : ℕ) → length text ≤ most → length other ≤ most → statements (logical_lines text) ≡ statements (logical_lines other) → blif_reading text most ≡ blif_reading other most
+same_reading text other most short short' e = within_limit text most short ∙ ap statements_reading e ∙ sym (within_limit other most short')

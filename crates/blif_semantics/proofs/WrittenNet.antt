@@ -99,9 +99,9 @@ tables_back names (t ∷ tables) formed =
     let pins : List Bytes = map (name_of names) t.pins in
     let rows : List Line = map (row_line t.plane) t.rows in
     let table : with_rows (named (pins ++ t.name ∷ [])) (rows_first (rows ++ rest)) ≡ with_names names t =
-        ap (λ n. with_rows n (rows_first (rows ++ rest))) (named-listed pins t.name)
-        ∙ ap (with_rows (part t.name pins [] true)) (rows_first-rows t.plane t.rows rest (no_rows_first names tables))
-        ∙ table_back t.name pins t.rows t.plane (All-head IsTable t tables formed).plane in
+    ap (λ n. with_rows n (rows_first (rows ++ rest))) (named-listed pins t.name)
+    ∙ ap (with_rows (part t.name pins [] true)) (rows_first-rows t.plane t.rows rest (no_rows_first names tables))
+    ∙ table_back t.name pins t.rows t.plane (All-head IsTable t tables formed).plane in
     let others : tables_of (rows ++ rest) ≡ map (with_names names) tables = tables_of-rows t.plane t.rows rest ∙ tables_back names tables (All-tail IsTable t tables formed) in
     ap tables_of (body-more names t tables) ∙ cc (table, others)
 

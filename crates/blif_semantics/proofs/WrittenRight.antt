@@ -88,8 +88,7 @@ rows_right n plane (marks ∷ rows) rest earlier first widths unended table so_f
     let kind = row_kind plane marks in
     let is = row_plane-row_line plane marks n (All-head (λ row. length row ≡ n) marks rows widths) in
     let right : wrong_row (table_before earlier) words ≡ None = rw table (row_right n plane first words is (row_agrees plane first so_far)) in
-    let grown : table_before (words ∷ earlier) ≡ open_table n (Some plane) = rw (kind, table) (plane_set n plane first words is so_far) in
-    (
+    let grown : table_before (words ∷ earlier) ≡ open_table n (Some plane) = rw (kind, table) (plane_set n plane first words is so_far) in (
       right_by (place_after earlier) words (row_line-is_line plane marks) unended (rw kind right),
       rows_right n plane rows rest (words ∷ earlier) (Some plane) (All-tail (λ row. length row ≡ n) marks rows widths) (rw kind unended) grown refl others,
     )
@@ -103,8 +102,7 @@ table_right names h t formed pins rest earlier unended others =
     let listed : List Bytes = pin_names ++ t.name ∷ [] in
     let named : All IsName listed = All-push IsName pin_names t.name (All-map IsName (name_of names) t.pins (All-weaker (λ s. s < length names) (λ s. IsName (name_of names s)) (λ s l. All-get_or IsName names s [] l h) t.pins pins)) formed.named in
     let some = ne_eqb (length listed) 0 (λ e. omega (arith, e, length_push pin_names t.name)) in
-    let count : length listed - 1 ≡ length t.pins = omega (arith, length_push pin_names t.name, length-map t.pins (name_of names)) in
-    (
+    let count : length listed - 1 ≡ length t.pins = omega (arith, length_push pin_names t.name, length-map t.pins (name_of names)) in (
       right_by (place_after earlier) (names_line names t) (names_line-is_line names h t formed.named pins) unended (rw (some, are_names-from_IsName listed named) refl),
       rows_right (length t.pins) t.plane t.rows rest (names_line names t ∷ earlier) None formed.widths unended (ap (λ n. open_table n None) count) tt others,
     )
@@ -129,8 +127,7 @@ blif_lines-right N h =
     let inputs : Line = codes ".inputs" ∷ N.inputs in
     let output_names : List Bytes = map (name_of names) N.outputs in
     let outputs_named : All IsName output_names = All-map IsName (name_of names) N.outputs (All-weaker (λ s. s < length names) (λ s. IsName (name_of names s)) (λ s l. All-get_or IsName names s [] l named) N.outputs outputs) in
-    let lines = blif_lines-are_lines N h in
-    (
+    let lines = blif_lines-are_lines N h in (
       right_by (place_after []) model lines.0 refl (rw (is_name-from_IsName N.model h.model_named) refl),
       (
         right_by (place_after (model ∷ [])) inputs lines.1.0 refl (rw (are_names-from_IsName N.inputs h.inputs_named) refl),

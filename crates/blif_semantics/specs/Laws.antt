@@ -1,9 +1,17 @@
 -- The laws about what a text means, each the contract of a function without parameters.
-use Rattle.std.specs.Prelude.{◌≡◌, ℕ, ◌+◌, ◌*◌, ◌^◌, ◌<◌, ◌≤◌, length, Some, Ok}
+use Rattle.std.specs.Prelude.{◌↔◌, ◌≡◌, ◌≢◌, ℕ, ◌+◌, ◌*◌, ◌^◌, ◌<◌, ◌≤◌, ◌==◌, [], ◌∷◌, ◌++◌, flat_map, map, length, Contains, All, Some, None, List, Result, Ok, Err, if◌then◌else◌}
+use Rattle.std.specs.List.{AllByRecursion}
 use Rattle.semantics.specs.Texts.{Bytes}
-use Rattle.semantics.specs.Net.{NetValue, pin_count, IsSound, IsSmall}
+use Rattle.semantics.specs.Net.{NetValue, signal_names, name_of, pin_count, IsSound, IsSmall}
+use Rattle.semantics.specs.Refusals.{first_doubled, NetRefused, net_refusal}
+use Rattle.semantics.specs.Refusals.NetRefused.{doubled as parts_doubled, no_output as parts_no_output, undriven as parts_undriven, cycle as parts_cycle, limit as parts_limit}
 use Rattle.semantics.specs.Blif.{blif_text}
-use Rattle.blif_semantics.specs.Reading.{bundle_limit, blif_reading}
+use Rattle.blif_semantics.specs.declared.kind.Kind.TheVariants as kind
+use Rattle.blif_semantics.specs.Lines.{Statement, logical_lines, statements}
+use Rattle.blif_semantics.specs.Statements.{kind_of, arguments, WrongLine, first_wrong}
+use Rattle.blif_semantics.specs.Tables.{last_word, is_one, named, with_rows, rows_first}
+use Rattle.blif_semantics.specs.Reading.{bundle_limit, Refusal, doubled, no_output, undriven, cycle, limit, NamedNet, names_of, names_read, first_undriven_name, numbered, single, blif_reading}
+use Rattle.blif_semantics.specs.FirstRefusals.{IsFirstWrong, IsFirstDoubled, IsFirstUndriven}
 use Rattle.blif_semantics.specs.Plain.{IsPlainFor}
 use Rattle.blif_semantics.specs.PlainReading.{net_of_text}
 
@@ -11,6 +19,19 @@ use Rattle.blif_semantics.specs.PlainReading.{net_of_text}
 pub record PlainTextLaw : Type 0 where
   pub read : (text : Bytes) (N : NetValue) → IsPlainFor text N → net_of_text text ≡ Some N
   pub only : (text : Bytes) (N M : NetValue) → IsPlainFor text N → IsPlainFor text M → N ≡ M
+
+-- with a CR before each LF
+abbrev pub with_carriage_returns : Bytes → Bytes
+with_carriage_returns text = flat_map (λ b. if b == 10 then 13 ∷ 10 ∷ [] else b ∷ []) text
+
+-- a text means its statements: a comment of any bytes means nothing, the last line needs no LF, and a CR may stand before each
+pub record TextLaw : Type 0 where
+  pub comment : (before bytes after : Bytes) → All (λ b. b ≢ 10) bytes → logical_lines (before ++ 35 ∷ (bytes ++ 10 ∷ after)) ≡ logical_lines (before ++ 10 ∷ after)
+  pub last_comment : (before bytes : Bytes) → All (λ b. b ≢ 10) bytes → logical_lines (before ++ 35 ∷ bytes) ≡ logical_lines before
+  pub last_line : (text : Bytes) → statements (logical_lines (text ++ 10 ∷ [])) ≡ statements (logical_lines text)
+  pub carriage_returns : (text : Bytes) → statements (logical_lines (with_carriage_returns text)) ≡ statements (logical_lines text)
+  pub same : (text other : Bytes) (most : ℕ) → length text ≤ most → length other ≤ most → statements (logical_lines text) ≡ statements (logical_lines other)
+      → blif_reading text most ≡ blif_reading other most
 
 -- what is read is a small sound net, from a text that keeps the limit
 pub record ReadingLaw : Type 0 where
@@ -24,3 +45,32 @@ pub record WrittenLaw : Type 0 where
   pub read_within : (N : NetValue) (most : ℕ) → IsSound N → IsSmall N → length (blif_text N) ≤ most → blif_reading (blif_text N) most ≡ Ok N
   pub short : (N : NetValue) → IsSound N → IsSmall N → length (blif_text N) < pin_count N * 1024 + 2 ^ 24
   pub within : (N : NetValue) → IsSound N → IsSmall N → length (blif_text N) ≤ bundle_limit
+
+-- what a refusal of numbered parts says of the net of names
+abbrev pub refusal_of : List Bytes → NetRefused → Refusal
+refusal_of names (parts_doubled name) = doubled name
+refusal_of names parts_no_output = no_output
+refusal_of names (parts_undriven signal) = undriven (name_of names signal)
+refusal_of names (parts_cycle signal) = cycle (name_of names signal)
+refusal_of names (parts_limit which) = limit which
+
+abbrev pub reading_of_parts : NetValue → Result NetValue Refusal
+reading_of_parts N = elim (net_refusal N) [ None ↦ Ok N | Some r ↦ Err (refusal_of (signal_names N) r) ]
+
+-- a net of names is read or refused as its numbered parts are, unless one of the names that it reads is not driven
+pub record NamedNetLaw : Type 0 where
+  pub driven : (d : NamedNet) → first_undriven_name d ≡ None → single d ≡ reading_of_parts (numbered d)
+  pub undriven : (d : NamedNet) (name : Bytes) → first_doubled (names_of d) ≡ None → 0 < length d.outputs → first_undriven_name d ≡ Some name
+      → single d ≡ Err (undriven name)
+
+-- the refusals of lines and of names tell the first of their kind, and all names are driven exactly where none is told
+pub record FirstRefusalLaw : Type 0 where
+  pub wrong_line : (lines : List Statement) (w : WrongLine) → (first_wrong lines ≡ Some w) ↔ IsFirstWrong lines w
+  pub doubled : (names : List Bytes) (name : Bytes) → (first_doubled names ≡ Some name) ↔ IsFirstDoubled names name
+  pub undriven : (d : NamedNet) (name : Bytes) → (first_undriven_name d ≡ Some name) ↔ IsFirstUndriven d name
+  pub driven : (d : NamedNet) → (first_undriven_name d ≡ None) ↔ All (Contains (names_of d)) (names_read d)
+
+-- where no line is wrong, each row of a table has the plane of the table
+abbrev pub PlaneLaw : Type 0
+PlaneLaw = (before : List Statement) (s : Statement) (after : List Statement) → first_wrong (before ++ s ∷ after) ≡ None → kind_of s.words ≡ kind.Names
+    → (let rows = rows_first (map (λ s. s.words) after) in AllByRecursion (λ row. is_one (last_word row) ≡ (with_rows (named (arguments s.words)) rows).plane) rows)

@@ -1,9 +1,29 @@
 //! The laws about what a text means: each function's contract is a law.
-ghost use Rattle.blif_semantics.specs.Laws.{PlainTextLaw, ReadingLaw, WrittenLaw};
+ghost use Rattle.blif_semantics.specs.Laws.{PlainTextLaw, TextLaw, FirstRefusalLaw, PlaneLaw, NamedNetLaw, ReadingLaw, WrittenLaw};
 
 /// A text is plain for one net only, and that net is read back from it.
 pub fn plain_texts()
     ensures { PlainTextLaw }
+{}
+
+/// What the bytes of a text mean, and what means nothing.
+pub fn texts()
+    ensures { TextLaw }
+{}
+
+/// Each refusal tells the first of its kind.
+pub fn first_refusals()
+    ensures { FirstRefusalLaw }
+{}
+
+/// The plane of a table is that of each row.
+pub fn planes()
+    ensures { PlaneLaw }
+{}
+
+/// Nets of names against their numbered parts.
+pub fn named_nets()
+    ensures { NamedNetLaw }
 {}
 
 /// What is read is a small sound net.
