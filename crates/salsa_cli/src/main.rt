@@ -2,6 +2,7 @@
 #![tactic(auto)]
 
 mod arguments;
+mod counted;
 mod decimal;
 mod delivery;
 mod input;
