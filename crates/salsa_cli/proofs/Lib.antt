@@ -3,4 +3,3 @@ pub mod FilesInOrder
 pub mod Plainness
 pub mod SmallNets
 pub mod SynthAnswers
-pub mod UntoldFaults

@@ -1,22 +1,35 @@
 //! The words of the command line.
+ghost use Rattle.std.specs.Prelude.{◌≡◌, map, drop, string_bytes, IfOk};
+ghost use Rattle.std.specs.Vec.Iter.{into_iter_items};
 
 use file_core::word::Word;
 use std::alloc::{AllocError, Global};
+use std::env::Args;
 use std::rt::Env;
 use std::{env, io};
 
 /// The words after the program's name. The library gives all arguments as text or none: where it gives none for
 /// another reason than memory, the words are one empty word, which no job has.
 pub fn words(rt: &(impl Env + AllocGlobal)) -> Result<Vec<Word>, AllocError> {
-    let mut words = Vec::new(rt.alloc());
     match env::args(rt) {
-        Ok(arguments) => {
-            for argument in arguments.skip(1) {
-                words.push(Word::new(rt.alloc(), argument.as_bytes())?)?;
-            }
+        Ok(arguments) => after_first(rt.alloc(), arguments),
+        Err(refused) if refused.kind() == io::ErrorKind::OutOfMemory => Err(AllocError),
+        Err(_) => {
+            let mut words = Vec::new(rt.alloc());
+            words.push(Word::new(rt.alloc(), b"")?)?;
+            Ok(words)
         }
-        Err(refused) if refused.kind() == io::ErrorKind::OutOfMemory => return Err(AllocError),
-        Err(_) => words.push(Word::new(rt.alloc(), b"")?)?,
+    }
+}
+
+/// The arguments after the first, which is the program's name, as words.
+fn after_first(alloc: Global, mut arguments: Args) -> Result<Vec<Word>, AllocError>
+    ensures { IfOk result (λ words. words.items ≡ map string_bytes (drop 1 (into_iter_items arguments))) }
+{
+    let _name = arguments.next();
+    let mut words = Vec::new(alloc);
+    for argument in arguments {
+        words.push(Word::new(alloc, argument.as_bytes())?)?;
     }
     Ok(words)
 }

@@ -3,6 +3,7 @@
 
 mod arguments;
 mod bundle_names;
+mod counted;
 mod decimal;
 mod delivery;
 mod input;

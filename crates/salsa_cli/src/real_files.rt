@@ -1,10 +1,14 @@
 //! The files of the operating system. They tell nothing but the count of their faults.
-ghost use Rattle.std.specs.Prelude.{◌≡◌, ◌+◌, ◌-◌, ◌^◌, ◌≤◌, min};
-ghost use Rattle.salsa_cli.specs.Untold.{untold};
+ghost use Rattle.std.specs.Prelude.{◌≡◌, ◌<◌, ◌≤◌, true, [], None, length, take, IsErr, IfOk, OnErr};
+ghost use Rattle.std.specs.Fs.{new_options, with_write, with_create, with_truncate};
+ghost use Rattle.std.specs.Io.KnownBytes.{Appends, Consumes, IsAtEnd};
+ghost use Rattle.outside_semantics.specs.Outside.{Gave, ReadFailed, Wrote, WriteFailed};
+ghost use Rattle.salsa_cli.specs.Untold.{untold, WhereOpen};
 
+use crate::counted::{fault, read_some, write_some};
 use file_core::fault::FileFault;
 use file_core::files::Files;
-use std::io::{Read, Write};
+use std::fs::OpenOptions;
 use std::{fs, rt};
 
 /// Real files by path. Nothing is kept in a buffer.
@@ -17,7 +21,9 @@ pub struct RealFiles<'a, R: rt::Files> {
 }
 
 impl<'a, R: rt::Files> RealFiles<'a, R> {
-    pub fn new(runtime: &'a R) -> Self {
+    pub fn new(runtime: &'a R) -> Self
+        ensures { result.faults ≡ 0 }
+    {
         RealFiles {
             runtime,
             reading: None,
@@ -27,13 +33,13 @@ impl<'a, R: rt::Files> RealFiles<'a, R> {
     }
 }
 
-/// One fault more.
-fn fault(faults: &mut u64) -> FileFault
-    ensures one { faults.new ≡ min (faults.old + 1) (2 ^ 64 - 1) }
-    ensures rises { faults.old ≤ faults.new }
+/// How a file is opened to be written from its start: it is made, or emptied where it is there.
+fn options_of_create() -> OpenOptions
+    ensures { result ≡ with_truncate (with_create (with_write new_options true) true) true }
 {
-    *faults = faults.saturating_add(1);
-    FileFault
+    let mut options = OpenOptions::new();
+    options.write(true).create(true).truncate(true);
+    options
 }
 
 impl<R: rt::Files> Files for RealFiles<'_, R> {
@@ -53,13 +59,21 @@ impl<R: rt::Files> Files for RealFiles<'_, R> {
         }
     }
 
-    fn read(&mut self, buffer: &mut [u8]) -> Result<usize, FileFault> {
-        let Some(file) = &mut self.reading else {
-            return Err(fault(&mut self.faults));
-        };
-        match file.read(buffer) {
-            Ok(count) => Ok(count),
-            Err(_) => Err(fault(&mut self.faults)),
+    fn read(&mut self, buffer: &mut [u8]) -> Result<usize, FileFault>
+        ensures within { IfOk result (λ n. n ≤ length buffer.new) }
+        ensures ok { IfOk result
+            (λ n. Gave (untold self.old.faults) (untold self.new.faults) n buffer.new) }
+        ensures err { OnErr result
+            (ReadFailed (untold self.old.faults) (untold self.new.faults)) }
+        ensures closed { self.old.reading ≡ None → IsErr result }
+        ensures bytes { IfOk result (λ n. WhereOpen self.old.reading self.new.reading
+            (λ a b. Consumes (R.File.remaining a) (R.File.remaining b) (take n buffer.new))) }
+        ensures end { IfOk result (λ n. n ≡ 0 → 0 < length buffer.new
+            → WhereOpen self.old.reading self.new.reading (λ _ b. IsAtEnd (R.File.remaining b))) }
+    {
+        match &mut self.reading {
+            Some(file) => read_some(file, buffer, &mut self.faults),
+            None => Err(fault(&mut self.faults)),
         }
     }
 
@@ -68,7 +82,7 @@ impl<R: rt::Files> Files for RealFiles<'_, R> {
         let Ok(path) = str::from_utf8(name) else {
             return Err(fault(&mut self.faults));
         };
-        match fs::create(self.runtime, path) {
+        match options_of_create().open(self.runtime, path) {
             Ok(file) => {
                 self.writing = Some(file);
                 Ok(())
@@ -77,13 +91,20 @@ impl<R: rt::Files> Files for RealFiles<'_, R> {
         }
     }
 
-    fn append(&mut self, piece: &[u8]) -> Result<usize, FileFault> {
-        let Some(file) = &mut self.writing else {
-            return Err(fault(&mut self.faults));
-        };
-        match file.write(piece) {
-            Ok(count) if count > 0 || piece.is_empty() => Ok(count),
-            _ => Err(fault(&mut self.faults)),
+    fn append(&mut self, piece: &[u8]) -> Result<usize, FileFault>
+        ensures within { IfOk result (λ n. n ≤ length piece.now) }
+        ensures progress { IfOk result (λ n. 0 < length piece.now → 0 < n) }
+        ensures ok { IfOk result
+            (λ n. Wrote (untold self.old.faults) (untold self.new.faults) (take n piece.now)) }
+        ensures err { OnErr result
+            (WriteFailed (untold self.old.faults) (untold self.new.faults) []) }
+        ensures closed { self.old.writing ≡ None → IsErr result }
+        ensures bytes { IfOk result (λ n. WhereOpen self.old.writing self.new.writing
+            (λ a b. Appends (R.File.contents a) (R.File.contents b) (take n piece.now))) }
+    {
+        match &mut self.writing {
+            Some(file) => write_some(file, piece, &mut self.faults),
+            None => Err(fault(&mut self.faults)),
         }
     }
 }

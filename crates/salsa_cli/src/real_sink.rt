@@ -1,8 +1,10 @@
 //! Standard output. It tells nothing but the count of its faults.
-ghost use Rattle.std.specs.Prelude.{None};
+ghost use Rattle.std.specs.Prelude.{◌≡◌, None};
 
+use crate::counted::write_some;
 use file_core::fault::FileFault;
 use file_core::sink::Sink;
+use std::io;
 
 /// Standard output, or what a runtime has in its place. Nothing is kept in a buffer.
 #[derive(Drop)]
@@ -12,7 +14,9 @@ pub struct RealSink<'a, P: Print> {
 }
 
 impl<'a, P: Print> RealSink<'a, P> {
-    pub fn new(to: &'a P) -> Self {
+    pub fn new(to: &'a P) -> Self
+        ensures { result.faults ≡ 0 }
+    {
         RealSink { to, faults: 0 }
     }
 }
@@ -21,12 +25,6 @@ impl<P: Print> Sink for RealSink<'_, P> {
     ghost told = { λ s. record { put_bytes = None; faults = s.faults } };
 
     fn put(&mut self, piece: &[u8]) -> Result<usize, FileFault> {
-        match self.to.write_some(piece) {
-            Ok(count) if count > 0 || piece.is_empty() => Ok(count),
-            _ => {
-                self.faults = self.faults.saturating_add(1);
-                Err(FileFault)
-            }
-        }
+        write_some(&mut io::writer(self.to), piece, &mut self.faults)
     }
 }
