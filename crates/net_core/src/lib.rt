@@ -2,8 +2,10 @@
 #![tactic(auto)]
 
 pub mod items;
+pub mod limits;
 pub mod mark;
 pub mod name;
 pub mod net;
+pub mod order;
 pub mod row;
 pub mod table;
