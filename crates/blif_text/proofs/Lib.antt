@@ -1,4 +1,3 @@
-pub mod Parts
 pub mod NetTexts
 pub mod Traversals
 pub mod Named

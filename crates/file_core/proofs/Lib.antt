@@ -1,6 +1,7 @@
 pub mod Told
 pub mod Pieces
 pub mod Gathering
+pub mod Parts
 pub mod Entries
 pub mod Memory
 pub mod Sure

@@ -4,3 +4,5 @@ pub mod TableClauses
 pub mod NetValues
 pub mod Counts
 pub mod Bounds
+pub mod Refutations
+pub mod Hints

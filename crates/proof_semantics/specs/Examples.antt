@@ -1,12 +1,17 @@
 -- Worked examples, computed from the definitions.
-use Rattle.std.specs.Prelude.{◌≡◌, ℕ, true, false, List, [], ◌∷◌, ◌++◌, codes, ℤ, pos, neg_ℤ}
+use Rattle.std.specs.Prelude.{◌≡◌, ℕ, true, false, List, [], ◌∷◌, ◌++◌, codes, ℤ, pos, neg_ℤ, Result, Ok, Err, ⊤}
 use Rattle.semantics.specs.declared.mark.Mark.{Mark}
 use Rattle.semantics.specs.declared.mark.Mark.TheVariants.{Zero, One, Dash}
 use Rattle.semantics.specs.Net.{TableValue, constant_table}
 use Rattle.semantics.specs.Examples.{text, half_adder}
+use Rattle.proof_semantics.specs.declared.item.Item.TheVariants.{Add, Remove}
+use Rattle.proof_semantics.specs.declared.step_refusal.StepRefusal.{StepRefusal}
+use Rattle.proof_semantics.specs.declared.step_refusal.StepRefusal.TheVariants.{NotRising, UnknownId, NotUnit, NoConflict}
 use Rattle.proof_semantics.specs.Clauses.{Clause}
 use Rattle.proof_semantics.specs.NetClauses.{net_clauses}
 use Rattle.proof_semantics.specs.Formula.{formula_of, goal_of, dimacs_text}
+use Rattle.proof_semantics.specs.Logs.{StepValue, LogItem, held_of, step_answer, removed_from, Refutes, IsSoundLog, IsDerivation}
+use Rattle.proof_semantics.specs.Lrat.{lrat_text}
 
 -- a literal as DIMACS has it
 abbrev pub not_ : ℕ → ℤ
@@ -45,3 +50,45 @@ pub record DimacsExamples : Type 0 where
       ∷ codes "7 -1 -2 0" ∷ codes "-7 4 0" ∷ codes "-4 7 0" ∷ [])
   pub no_clauses : dimacs_text (record { variables = 0; clauses = [] }) ≡ text (codes "p cnf 0 0" ∷ [])
   pub empty_clause : dimacs_text (record { variables = 120; clauses = [] ∷ (not_ 120 ∷ []) ∷ [] }) ≡ text (codes "p cnf 120 2" ∷ codes "0" ∷ codes "-120 0" ∷ [])
+
+-- the clauses 1, -1 2 and -2, which have the ids 1 to 3
+abbrev pub three_clauses : List Clause
+three_clauses = (pos 1 ∷ []) ∷ (not_ 1 ∷ pos 2 ∷ []) ∷ (not_ 2 ∷ []) ∷ []
+
+abbrev pub step : ℕ → Clause → List ℕ → StepValue
+step id literals hints = record { id = id; literals = literals; hints = hints }
+
+-- the answer to a step over the three clauses
+abbrev pub answer : ℕ → Clause → List ℕ → Result ⊤ StepRefusal
+answer id literals hints = step_answer (held_of three_clauses) 3 (step id literals hints)
+
+-- the empty clause in one step, and by way of the clause 2, with removals
+abbrev pub refutation : List LogItem
+refutation = Add (step 4 [] (1 ∷ 2 ∷ 3 ∷ [])) ∷ []
+
+abbrev pub refutation_with_removals : List LogItem
+refutation_with_removals = Add (step 7 (pos 2 ∷ []) (1 ∷ 2 ∷ [])) ∷ Remove (1 ∷ 9 ∷ []) ∷ Add (step 10 [] (7 ∷ 3 ∷ [])) ∷ Remove [] ∷ []
+
+pub record LogExamples : Type 0 where
+  pub in_order : answer 4 [] (1 ∷ 2 ∷ 3 ∷ []) ≡ Ok tt
+  pub in_another_order : answer 4 [] (1 ∷ 3 ∷ 2 ∷ []) ≡ Ok tt
+  pub two_open : answer 4 [] (2 ∷ 1 ∷ 3 ∷ []) ≡ Err (NotUnit 2)
+  pub no_conflict : answer 4 [] (1 ∷ 2 ∷ []) ≡ Err NoConflict
+  pub no_hints : answer 4 [] [] ≡ Err NoConflict
+  pub not_rising : answer 3 [] (1 ∷ 2 ∷ 3 ∷ []) ≡ Err (NotRising 3)
+  pub not_held : answer 4 [] (1 ∷ 9 ∷ 3 ∷ []) ≡ Err (UnknownId 9)
+  pub removed : step_answer (removed_from (held_of three_clauses) (1 ∷ [])) 3 (step 4 [] (1 ∷ 2 ∷ 3 ∷ [])) ≡ Err (UnknownId 1)
+  -- a conflict before the last hint; a literal that is in the set already; the clause -1, from two of the three
+  pub early_conflict : answer 4 [] (1 ∷ 2 ∷ 3 ∷ 1 ∷ []) ≡ Err (NotUnit 3)
+  pub twice : answer 4 [] (1 ∷ 1 ∷ 2 ∷ 3 ∷ []) ≡ Ok tt
+  pub from_one : answer 4 (not_ 1 ∷ []) (2 ∷ 3 ∷ []) ≡ Ok tt
+  pub refutes : Refutes three_clauses refutation × Refutes three_clauses refutation_with_removals
+  pub past_the_empty_clause : ¬ IsSoundLog three_clauses (refutation ++ Add (step 5 (pos 1 ∷ []) []) ∷ [])
+  pub derivation : IsDerivation (record { variables = 2; clauses = three_clauses }) refutation
+  pub no_derivation : ¬ IsDerivation (record { variables = 2; clauses = three_clauses }) refutation_with_removals
+
+pub record LratExamples : Type 0 where
+  pub addition : lrat_text refutation ≡ text (codes "4 0 1 2 3 0" ∷ [])
+  pub removals : lrat_text (Remove (1 ∷ []) ∷ refutation_with_removals)
+      ≡ text (codes "0 d 1 0" ∷ codes "7 2 0 1 2 0" ∷ codes "7 d 1 9 0" ∷ codes "10 0 7 3 0" ∷ codes "10 d 0" ∷ [])
+  pub literals : lrat_text (Add (step 12 (not_ 3 ∷ pos 40 ∷ []) (11 ∷ [])) ∷ []) ≡ text (codes "12 -3 40 0 11 0" ∷ [])

@@ -1,9 +1,11 @@
--- The laws about clauses, each the contract of a function without parameters.
-use Rattle.std.specs.Prelude.{◌≡◌, ℕ, suc, ◌+◌, ◌<◌, ◌↔◌, Bool, true, List, length, sum_by, All}
+-- The laws about clauses and logs, each the contract of a function without parameters.
+use Rattle.std.specs.Prelude.{◌≡◌, ℕ, suc, ◌+◌, ◌<◌, ◌↔◌, Bool, true, false, List, length, sum_by, All, Some, Ok}
+use Rattle.std.specs.FinMap.{get}
 use Rattle.semantics.specs.Net.{TableValue, IsAcyclic}
 use Rattle.semantics.specs.Value.{Assignment, value_of}
-use Rattle.proof_semantics.specs.Clauses.{Satisfies, AreClausesOf}
+use Rattle.proof_semantics.specs.Clauses.{Clause, clause_value, Satisfies, IsUnsatisfiable, AreClausesOf}
 use Rattle.proof_semantics.specs.NetClauses.{net_clauses, goal_clauses}
+use Rattle.proof_semantics.specs.Logs.{StepValue, LogItem, Held, step_answer, Derives, IsSoundLog, last_added, Refutes}
 use Rattle.proof_semantics.specs.Variables.{variable_count, table_clause_count, place_value, by_place, IsModelAt, HasPlaceValues}
 
 -- For acyclic tables and each input vector one assignment of the variables satisfies the clauses: each signal has its value, and
@@ -30,3 +32,18 @@ pub record ClauseCountLaw : Type 0 where
   pub variables : (n : ℕ) (tables : List TableValue) → IsAcyclic n tables → AreClausesOf (variable_count n tables) (net_clauses n tables)
   pub goal_variables : (n : ℕ) (tables : List TableValue) (signal : ℕ) → IsAcyclic n tables → signal < n + length tables
       → AreClausesOf (variable_count n tables) (goal_clauses n tables signal)
+
+-- every held clause is true
+abbrev pub AllHeldTrue : Assignment → Held → Type 0
+AllHeldTrue a held = (id : ℕ) (clause : Clause) → get held id ≡ Some clause → clause_value a clause ≡ true
+
+-- What a step derives is true wherever the held clauses are, so a refuted formula has no satisfying assignment, and where a
+-- signal's goal is refuted no input vector makes the signal true.
+pub record RefutationLaw : Type 0 where
+  pub accepted : (held : Held) (last : ℕ) (s : StepValue) → (step_answer held last s ≡ Ok tt) ↔ ((last < s.id) × Derives held s)
+  pub step : (a : Assignment) (held : Held) (s : StepValue) → AllHeldTrue a held → Derives held s → clause_value a s.literals ≡ true
+  pub added : (a : Assignment) (formula : List Clause) (log : List LogItem) (clause : Clause) → Satisfies a formula → IsSoundLog formula log
+      → last_added log ≡ Some clause → clause_value a clause ≡ true
+  pub refuted : (formula : List Clause) (log : List LogItem) → Refutes formula log → IsUnsatisfiable formula
+  pub goal : (n : ℕ) (tables : List TableValue) (signal : ℕ) (log : List LogItem) → IsAcyclic n tables → signal < n + length tables
+      → Refutes (goal_clauses n tables signal) log → (x : List Bool) → length x ≡ n → value_of n tables x signal ≡ false

@@ -1,5 +1,5 @@
 //! Worked examples of the definitions, computed by the checker: each function's contract is its examples.
-ghost use Rattle.proof_semantics.specs.Examples.{ClauseExamples, DimacsExamples};
+ghost use Rattle.proof_semantics.specs.Examples.{ClauseExamples, DimacsExamples, LogExamples, LratExamples};
 
 /// The clauses of small nets.
 pub fn clauses()
@@ -9,4 +9,14 @@ pub fn clauses()
 /// The texts of small formulas.
 pub fn dimacs_texts()
     ensures { DimacsExamples }
+{}
+
+/// Steps and logs over three clauses.
+pub fn logs()
+    ensures { LogExamples }
+{}
+
+/// The texts of small logs.
+pub fn lrat_texts()
+    ensures { LratExamples }
 {}

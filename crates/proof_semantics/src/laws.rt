@@ -1,5 +1,5 @@
-//! The laws about clauses: each function's contract is a law.
-ghost use Rattle.proof_semantics.specs.Laws.{NetClauseLaw, GoalLaw, ClauseCountLaw};
+//! The laws about clauses and logs: each function's contract is a law.
+ghost use Rattle.proof_semantics.specs.Laws.{NetClauseLaw, GoalLaw, ClauseCountLaw, RefutationLaw};
 
 /// At each input vector one assignment satisfies the clauses of a net.
 pub fn net_clauses()
@@ -14,4 +14,9 @@ pub fn goals()
 /// How many clauses there are, and over which variables.
 pub fn clause_counts()
     ensures { ClauseCountLaw }
+{}
+
+/// What a log refutes.
+pub fn refutations()
+    ensures { RefutationLaw }
 {}

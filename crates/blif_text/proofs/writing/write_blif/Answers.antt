@@ -1,6 +1,6 @@
 use Rattle.std.proofs.lemmas.Result.{err_from_is_err_and, on_ok_weaker, on_err_weaker}
-use Rattle.file_core.proofs.Gathering.{Gathered-Gathered, WriteFailed-gathered, Wrote-gathered}
-use Rattle.blif_text.proofs.Parts.{Gathered-in, WriteFailed-in, WriteFailed-second, WriteFailed-first, WriteFailed-sent, WriteFailed-from_empty, Wrote-from_empty}
+use Rattle.file_core.proofs.Gathering.{Gathered-Gathered, WriteFailed-gathered, WriteFailed-sent, Wrote-gathered}
+use Rattle.file_core.proofs.Parts.{Gathered-in, WriteFailed-in, WriteFailed-second, WriteFailed-first, WriteFailed-from_empty, Wrote-from_empty}
 use Rattle.blif_text.proofs.NetTexts.{blif_text-parts}
 use Rattle.blif_text.proofs.writing.write_blif.Goals as goal
 

@@ -2,7 +2,7 @@ use Rattle.std.proofs.Common.{◌∙◌}
 use Rattle.blif_text.proofs.NetTexts.{header_text-parts}
 use Rattle.std.proofs.lemmas.Result.{err_from_is_err_and, on_ok_weaker, on_err_weaker}
 use Rattle.file_core.proofs.Gathering.{Gathered-Gathered, WriteFailed-gathered}
-use Rattle.blif_text.proofs.Parts.{Gathered-in, WriteFailed-in, WriteFailed-second, WriteFailed-third, WriteFailed-fourth, WriteFailed-first}
+use Rattle.file_core.proofs.Parts.{Gathered-in, WriteFailed-in, WriteFailed-second, WriteFailed-third, WriteFailed-fourth, WriteFailed-first}
 use Rattle.blif_text.proofs.writing.write_header.Goals as goal
 
 pub returns-in_err-gather_pieces-clause-err : goal.returns-in_err-gather_pieces-clause-err

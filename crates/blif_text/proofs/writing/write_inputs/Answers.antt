@@ -2,7 +2,7 @@ use Rattle.std.proofs.Common.{[], ◌∷◌, map, ap, ◌∙◌, arith}
 use Rattle.std.proofs.lemmas.List.{get_or_append_left}
 use Rattle.std.proofs.lemmas.Result.{err_from_is_err_and}
 use Rattle.file_core.proofs.Gathering.{Gathered-nil}
-use Rattle.blif_text.proofs.Parts.{Gathered-next, WriteFailed-next}
+use Rattle.file_core.proofs.Parts.{Gathered-next, WriteFailed-next}
 use Rattle.blif_text.proofs.writing.write_inputs.Goals as goal
 
 pub loop-s-init : goal.loop-s-init

@@ -2,7 +2,7 @@ use Rattle.std.proofs.Common.{[], ◌∷◌, ap}
 use Rattle.semantics.specs.Blif.{mark_byte}
 use Rattle.std.proofs.lemmas.Result.{err_from_is_err_and}
 use Rattle.file_core.proofs.Gathering.{Gathered-nil}
-use Rattle.blif_text.proofs.Parts.{Gathered-next, WriteFailed-next}
+use Rattle.file_core.proofs.Parts.{Gathered-next, WriteFailed-next}
 use Rattle.blif_text.proofs.writing.write_marks.Goals as goal
 
 pub loop-mark-init : goal.loop-mark-init

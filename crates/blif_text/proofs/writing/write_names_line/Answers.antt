@@ -3,7 +3,7 @@ use Rattle.semantics.specs.Net.{signal_names}
 use Rattle.blif_text.proofs.NetTexts.{names_line-parts}
 use Rattle.std.proofs.lemmas.Result.{err_from_is_err_and, on_ok_weaker, on_err_weaker}
 use Rattle.file_core.proofs.Gathering.{Gathered-Gathered, WriteFailed-gathered}
-use Rattle.blif_text.proofs.Parts.{Gathered-in, WriteFailed-in, WriteFailed-second, WriteFailed-first}
+use Rattle.file_core.proofs.Parts.{Gathered-in, WriteFailed-in, WriteFailed-second, WriteFailed-first}
 use Rattle.blif_text.proofs.writing.write_names_line.Goals as goal
 
 pub returns-in_err-gather-clause-err : goal.returns-in_err-gather-clause-err

@@ -2,7 +2,7 @@ use Rattle.std.proofs.Common.{◌∷◌, ap, ◌∙◌, arith}
 use Rattle.semantics.specs.Net.{signal_names, name_of}
 use Rattle.std.proofs.lemmas.Result.{err_from_is_err_and}
 use Rattle.file_core.proofs.Gathering.{Gathered-nil}
-use Rattle.blif_text.proofs.Parts.{Gathered-next, WriteFailed-next}
+use Rattle.file_core.proofs.Parts.{Gathered-next, WriteFailed-next}
 use Rattle.blif_text.proofs.writing.write_outputs.Goals as goal
 
 pub loop-i-init : goal.loop-i-init

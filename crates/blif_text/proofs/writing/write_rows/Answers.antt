@@ -3,7 +3,7 @@ use Rattle.semantics.specs.Texts.{line_text}
 use Rattle.semantics.specs.Blif.{row_line}
 use Rattle.std.proofs.lemmas.Result.{err_from_is_err_and}
 use Rattle.file_core.proofs.Gathering.{Gathered-nil}
-use Rattle.blif_text.proofs.Parts.{Gathered-next, WriteFailed-next}
+use Rattle.file_core.proofs.Parts.{Gathered-next, WriteFailed-next}
 use Rattle.blif_text.proofs.writing.write_rows.Goals as goal
 
 pub loop-row-init : goal.loop-row-init

@@ -2,7 +2,7 @@ use Rattle.std.proofs.Common.{refl, ◌∙◌}
 use Rattle.semantics.specs.Net.{signal_names}
 use Rattle.blif_text.proofs.NetTexts.{table_text-parts}
 use Rattle.std.proofs.lemmas.Result.{err_from_is_err_and, on_ok_weaker, on_err_weaker}
-use Rattle.blif_text.proofs.Parts.{Gathered-in, WriteFailed-in, WriteFailed-first}
+use Rattle.file_core.proofs.Parts.{Gathered-in, WriteFailed-in, WriteFailed-first}
 use Rattle.blif_text.proofs.writing.write_table.Goals as goal
 
 pub returns-in_err-write_names_line-clause-err : goal.returns-in_err-write_names_line-clause-err

@@ -3,7 +3,7 @@ use Rattle.semantics.specs.Net.{signal_names, no_table}
 use Rattle.blif_text.specs.NetText.{table_text}
 use Rattle.std.proofs.lemmas.Result.{err_from_is_err_and}
 use Rattle.file_core.proofs.Gathering.{Gathered-nil}
-use Rattle.blif_text.proofs.Parts.{Gathered-next, WriteFailed-next}
+use Rattle.file_core.proofs.Parts.{Gathered-next, WriteFailed-next}
 use Rattle.blif_text.proofs.writing.write_tables.Goals as goal
 
 pub loop-t-init : goal.loop-t-init

@@ -5,7 +5,6 @@ use Rattle.std.proofs.lemmas.Grind.{flat_map-append}
 use Rattle.semantics.specs.Texts.{Bytes}
 use Rattle.outside_semantics.specs.Outside.{FilesTold, Wrote, WriteFailed}
 use Rattle.file_core.specs.Page.{Gathered}
-use Rattle.file_core.proofs.Told.{WriteFailed-after}
 use Rattle.file_core.proofs.Gathering.{Gathered-Gathered, WriteFailed-gathered, WriteFailed-gathered_longer, WriteFailed-longer}
 
 -- the texts up to an item, and its own
@@ -58,10 +57,6 @@ WriteFailed-third {t = t} u v whole is first second failed = WriteFailed-in (t +
 pub WriteFailed-fourth : {a b c d e : FilesTold} {p q r m s t u : Bytes} (v w whole : Bytes) → s ++ (t ++ (u ++ (v ++ w))) ≡ whole → Gathered a b p q s → Gathered b c q r t → Gathered c d r m u → WriteFailed d e (m ++ v) → WriteFailed a e (p ++ whole)
 WriteFailed-fourth {t = t} {u = u} v w whole is first second third failed =
     WriteFailed-in (t ++ (u ++ (v ++ w))) whole is first (WriteFailed-gathered (u ++ (v ++ w)) second (WriteFailed-gathered_longer v w third failed))
-
--- the whole was gathered, and a fault came when the page was sent
-pub WriteFailed-sent : {a b c : FilesTold} {p q s : Bytes} → Gathered a b p q s → WriteFailed b c q → WriteFailed a c (p ++ s)
-WriteFailed-sent {a = a} {c = c} g failed = subst (λ x. WriteFailed a c x) (sym g.rest) (WriteFailed-after g.wrote failed)
 
 -- nothing stood in the page before
 pub WriteFailed-from_empty : {a b : FilesTold} (p s : Bytes) → p ≡ [] → WriteFailed a b (p ++ s) → WriteFailed a b s
