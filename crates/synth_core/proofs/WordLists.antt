@@ -7,11 +7,11 @@ use Rattle.semantics.specs.Value.{outputs_of}
 use Rattle.semantics.specs.Error.{Metric, error_of, net_error}
 use Rattle.semantics.specs.Vectors.{bits_of, all_vectors}
 use Rattle.semantics.proofs.Vectors.{length-all_vectors, slice_get-all_vectors}
-use Rattle.synth_core.specs.Words.{words_of}
+use Rattle.synth_core.specs.Words.{output_words}
 
 -- one word for each vector
-pub length-words_of : (N : NetValue) → length (words_of N) ≡ 2 ^ input_count N
-length-words_of N = length-map (all_vectors (input_count N)) (outputs_of N) ∙ length-all_vectors (input_count N)
+pub length-output_words : (N : NetValue) → length (output_words N) ≡ 2 ^ input_count N
+length-output_words N = length-map (all_vectors (input_count N)) (outputs_of N) ∙ length-all_vectors (input_count N)
 
 -- one bit for each output
 length-outputs_of : (N : NetValue) (x : List Bool) → length (outputs_of N x) ≡ length N.outputs
@@ -19,25 +19,25 @@ unfolding outputs_of
 length-outputs_of N x = length-map N.outputs _
 
 -- the outputs at vector j stand at place j
-pub get_or-words_of : (N : NetValue) (j : ℕ) (d : List Bool) → j < 2 ^ input_count N → get_or (words_of N) j d ≡ outputs_of N (bits_of (input_count N) j)
-get_or-words_of N j d h =
+pub get_or-output_words : (N : NetValue) (j : ℕ) (d : List Bool) → j < 2 ^ input_count N → get_or (output_words N) j d ≡ outputs_of N (bits_of (input_count N) j)
+get_or-output_words N j d h =
     let n : ℕ = input_count N in
     get_or-map (outputs_of N) (all_vectors n) j [] d (omega (arith, length-all_vectors n))
     ∙ ap (outputs_of N) (get_or_from_slice_get (all_vectors n) j (bits_of n j) [] (slice_get-all_vectors n j h))
 
 -- the outputs that are read at place j are those at vector j
-word_read : (N : NetValue) (words : List (List Bool)) (j : ℕ) (word : List Bool) → words ≡ words_of N → j < 2 ^ input_count N → word ≡ get_or words j word → word ≡ outputs_of N (bits_of (input_count N) j)
-word_read N words j word all h read = read ∙ ap (λ ws. get_or ws j word) all ∙ get_or-words_of N j word h
+word_read : (N : NetValue) (words : List (List Bool)) (j : ℕ) (word : List Bool) → words ≡ output_words N → j < 2 ^ input_count N → word ≡ get_or words j word → word ≡ outputs_of N (bits_of (input_count N) j)
+word_read N words j word all h read = read ∙ ap (λ ws. get_or ws j word) all ∙ get_or-output_words N j word h
 
 -- the outputs at one more vector
-pub words_more : (N : NetValue) (words : List (List Bool)) (j : ℕ) (word : List Bool) → words ≡ take j (words_of N) → j < 2 ^ input_count N → word ≡ outputs_of N (bits_of (input_count N) j) → words ++ word ∷ [] ≡ take (j + 1) (words_of N)
+pub words_more : (N : NetValue) (words : List (List Bool)) (j : ℕ) (word : List Bool) → words ≡ take j (output_words N) → j < 2 ^ input_count N → word ≡ outputs_of N (bits_of (input_count N) j) → words ++ word ∷ [] ≡ take (j + 1) (output_words N)
 words_more N words j word before h here =
-    let more = take_more (words_of N) j [] (omega (arith, length-words_of N)) in
-    let at = get_or-words_of N j [] h in
+    let more = take_more (output_words N) j [] (omega (arith, length-output_words N)) in
+    let at = get_or-output_words N j [] h in
     cc
 
 -- the error against the word that is read at place j is the one at vector j
-pub error-at_word : (metric : Metric) (exact approx : NetValue) (words : List (List Bool)) (j : ℕ) (word : List Bool) (error : ℕ) → words ≡ words_of exact → j < 2 ^ input_count exact → word ≡ get_or words j word → input_count approx ≡ input_count exact → error ≡ error_of metric word (outputs_of approx (bits_of (input_count approx) j)) → error ≡ net_error metric exact approx (bits_of (input_count exact) j)
+pub error-at_word : (metric : Metric) (exact approx : NetValue) (words : List (List Bool)) (j : ℕ) (word : List Bool) (error : ℕ) → words ≡ output_words exact → j < 2 ^ input_count exact → word ≡ get_or words j word → input_count approx ≡ input_count exact → error ≡ error_of metric word (outputs_of approx (bits_of (input_count approx) j)) → error ≡ net_error metric exact approx (bits_of (input_count exact) j)
 unfolding net_error
 error-at_word metric exact approx words j word error all h read same is =
     is
@@ -45,7 +45,7 @@ error-at_word metric exact approx words j word error all h read same is =
     ∙ ap (λ n. error_of metric (outputs_of exact (bits_of (input_count exact) j)) (outputs_of approx (bits_of n j))) same
 
 -- as many outputs as the net has
-pub length-word : (exact : NetValue) (words : List (List Bool)) (j : ℕ) (word : List Bool) → words ≡ words_of exact → j < 2 ^ input_count exact → word ≡ get_or words j word → length word ≡ length exact.outputs
+pub length-word : (exact : NetValue) (words : List (List Bool)) (j : ℕ) (word : List Bool) → words ≡ output_words exact → j < 2 ^ input_count exact → word ≡ get_or words j word → length word ≡ length exact.outputs
 length-word exact words j word all h read =
     ap length (word_read exact words j word all h read) ∙ length-outputs_of exact (bits_of (input_count exact) j)
 

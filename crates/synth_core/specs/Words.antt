@@ -5,8 +5,8 @@ use Rattle.semantics.specs.Value.{outputs_of}
 use Rattle.semantics.specs.Vectors.{all_vectors}
 
 -- the outputs at all vectors in counting order
-abbrev pub words_of : NetValue → List (List Bool)
-words_of N = map (outputs_of N) (all_vectors (input_count N))
+abbrev pub output_words : NetValue → List (List Bool)
+output_words N = map (outputs_of N) (all_vectors (input_count N))
 
 -- the same numbers of inputs and outputs, few enough to try every vector and to take the error
 pub record IsComparable (exact approx : NetValue) : Type 0 where

@@ -3,7 +3,7 @@ ghost use Rattle.std.specs.Prelude.{◌≡◌, ◌↔◌, IsTrue};
 ghost use Rattle.semantics.specs.Error.{IsWithin};
 ghost use Rattle.joint_net.specs.Metric.{meaning};
 ghost use Rattle.synth_core.specs.Widths.{widths_of};
-ghost use Rattle.synth_core.specs.Words.{words_of, IsComparable};
+ghost use Rattle.synth_core.specs.Words.{output_words, IsComparable};
 
 use crate::scratch::Scratch;
 use crate::vectors::vector_count;
@@ -22,7 +22,7 @@ pub fn keeps_bound(
     scratch: &mut Scratch,
 ) -> bool
     requires comparable { IsComparable exact.now approx.now }
-    requires words { words.now ≡ words_of exact.now }
+    requires words { words.now ≡ output_words exact.now }
     requires room { scratch.old ≡ widths_of approx.now }
     ensures value { IsTrue result ↔ IsWithin (meaning metric) exact.now bound approx.now }
     ensures room { scratch.new ≡ scratch.old }

@@ -4,7 +4,7 @@ ghost use Rattle.std.specs.List.{AllByRecursion};
 ghost use Rattle.semantics.specs.Net.{input_count, literal_count};
 ghost use Rattle.chain_semantics.specs.ConstantChain.{constant_moves, IsAllowedConstant, IsConstantChainEnd};
 ghost use Rattle.joint_net.specs.Metric.{meaning};
-ghost use Rattle.synth_core.specs.Words.{words_of, IsComparable};
+ghost use Rattle.synth_core.specs.Words.{output_words, IsComparable};
 ghost use Rattle.synth_core.specs.Step.{IsFirstStep};
 
 use crate::bound::keeps_bound;
@@ -26,7 +26,7 @@ fn first_allowed(
     bound: u128,
 ) -> Result<Option<Net>, AllocError>
     requires comparable { IsComparable exact.now net.now }
-    requires words { words.now ≡ words_of exact.now }
+    requires words { words.now ≡ output_words exact.now }
     requires countable { literal_count net.now < 2 ^ 63 }
     ensures { IfOk result (λ next. MatchOption next
         (AllByRecursion (λ m. ¬ IsAllowedConstant (meaning metric) exact.now bound net.now m) (constant_moves net.now))

@@ -2,7 +2,7 @@
 ghost use Rattle.std.specs.Prelude.{◌≡◌, ◌≤◌, length, IfOk};
 ghost use Rattle.semantics.specs.Net.{input_count, signal_count};
 ghost use Rattle.semantics.specs.Value.{outputs_of};
-ghost use Rattle.synth_core.specs.Words.{words_of};
+ghost use Rattle.synth_core.specs.Words.{output_words};
 
 use crate::scratch::Scratch;
 use crate::vectors::vector_count;
@@ -26,7 +26,7 @@ pub fn outputs_at(net: &Net, x: &[bool], vals: &mut [bool], word: &mut [bool])
 /// The outputs at every input vector, in counting order.
 pub fn exact_words(alloc: Global, net: &Net) -> Result<Items<Bits>, AllocError>
     requires few_inputs { input_count net.now ≤ 8 }
-    ensures { IfOk result (λ words. words ≡ words_of net.now) }
+    ensures { IfOk result (λ words. words ≡ output_words net.now) }
 {
     let mut scratch = Scratch::new(alloc, net)?;
     let mut words = Items::new(alloc);

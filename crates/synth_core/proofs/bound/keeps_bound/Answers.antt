@@ -5,13 +5,13 @@ use Rattle.semantics.specs.Error.{net_error}
 use Rattle.semantics.specs.Vectors.{bits_of}
 use Rattle.semantics.proofs.Vectors.{each_vector, length-bits_of}
 use Rattle.joint_net.specs.Metric.{meaning}
-use Rattle.synth_core.proofs.WordLists.{below_all, length-words_of, read_through, length-word, error-at_word}
+use Rattle.synth_core.proofs.WordLists.{below_all, length-output_words, read_through, length-word, error-at_word}
 use Rattle.synth_core.proofs.bound.keeps_bound.Goals as goal
 
 pub bounds-words-j : goal.bounds-words-j
 bounds-words-j c =
     let below = below_all c.args.exact.now c.loop-j.j _ _ c.loop-j-test.true c.vector_count-j-end.ensures c.inputs.ensures.value in
-    omega (arith, below, ap length c.requires.words, length-words_of c.args.exact.now)
+    omega (arith, below, ap length c.requires.words, length-output_words c.args.exact.now)
 
 pub error_at-error-requires-clause-width : goal.error_at-error-requires-clause-width
 error_at-error-requires-clause-width c =

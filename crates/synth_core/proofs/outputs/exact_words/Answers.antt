@@ -1,7 +1,7 @@
 use Rattle.std.proofs.Common.{ℕ, ◌^◌, ap, ◌∙◌, arith, rules}
 use Rattle.std.proofs.lemmas.List.{take_all}
-use Rattle.synth_core.specs.Words.{words_of}
-use Rattle.synth_core.proofs.WordLists.{below_all, length-words_of, words_more}
+use Rattle.synth_core.specs.Words.{output_words}
+use Rattle.synth_core.proofs.WordLists.{below_all, length-output_words, words_more}
 use Rattle.synth_core.proofs.outputs.exact_words.Goals as goal
 
 pub loop-j-preserved : goal.loop-j-preserved
@@ -17,5 +17,5 @@ loop-j-preserved c =
 pub returns : goal.returns
 returns c =
     c.loop-j.invariant.words
-    ∙ take_all c.loop-j.j (words_of c.args.net.now)
-    (omega (arith, length-words_of c.args.net.now, ap (λ (n : ℕ). 2 ^ n) c.inputs.ensures.value))
+    ∙ take_all c.loop-j.j (output_words c.args.net.now)
+    (omega (arith, length-output_words c.args.net.now, ap (λ (n : ℕ). 2 ^ n) c.inputs.ensures.value))

@@ -4,14 +4,14 @@ use Rattle.semantics.specs.Error.{net_error}
 use Rattle.semantics.specs.Vectors.{bits_of}
 use Rattle.joint_net.specs.Metric.{meaning}
 use Rattle.synth_core.proofs.FirstGreatest.{IsFirstGreatest-more, IsFirstGreatestAt-all}
-use Rattle.synth_core.proofs.WordLists.{below_all, length-words_of, read_through, length-word, error-at_word}
+use Rattle.synth_core.proofs.WordLists.{below_all, length-output_words, read_through, length-word, error-at_word}
 use Rattle.synth_core.proofs.worst.find_worst.Goals as goal
 use Rattle.synth_core.proofs.worst.find_worst.Goals.{then-error-maximum, else-error-maximum}
 
 pub get-requires : goal.get-requires
 get-requires c =
     let below = below_all c.args.exact.now c.loop-j.j _ _ c.loop-j-test.true c.vector_count-j-end.ensures c.inputs.ensures.value in
-    omega (arith, below, ap length c.in_ok-words.ensures, length-words_of c.args.exact.now)
+    omega (arith, below, ap length c.in_ok-words.ensures, length-output_words c.args.exact.now)
 
 pub error_at-error-requires-clause-width : goal.error_at-error-requires-clause-width
 error_at-error-requires-clause-width c =
