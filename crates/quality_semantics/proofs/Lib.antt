@@ -7,3 +7,4 @@ pub mod Rounding
 pub mod Formed
 pub mod Quality
 pub mod Sound
+pub mod Multiply

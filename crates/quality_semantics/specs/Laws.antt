@@ -6,6 +6,7 @@ use Rattle.semantics.specs.Value.{Assignment, table_value, value_of}
 use Rattle.semantics.specs.Error.{Metric, number_of, distance, rounded_up, differing, error_of}
 use Rattle.quality_semantics.specs.WordNets.{WordNetValue, signals, started, BeginsWith, IsWordNet}
 use Rattle.quality_semantics.specs.Buses.{constant, add, times, greater, exceed, not_zero_low, differ, at_least}
+use Rattle.quality_semantics.specs.Multiply.{multiply, multiplier_net, Multiplies}
 use Rattle.quality_semantics.specs.Quality.{greatest_error, quality, quality_net, TellsExcess}
 
 -- the assignment v gives the two constants and each table of the network their values
@@ -56,3 +57,8 @@ pub record QualityLaw : Type 0 where
       → value_of (w + w) (quality metric w k).net.tables x (quality metric w k).signal ≡ nat_lt k (error_of metric (take w x) (drop w x))
   pub tells : (metric : Metric) (w k : ℕ) → TellsExcess metric w k (quality_net metric w k)
   pub sound : (metric : Metric) (w k : ℕ) → signals (quality metric w k).net ≤ 2 ^ 30 → IsSound (quality_net metric w k)
+
+-- The array multiplier.
+pub record MultiplierLaw : Type 0 where
+  pub multiply : (v : Assignment) (W : WordNetValue) (xs ys : List ℕ) → Fits v (multiply W xs ys).net → number v (multiply W xs ys).bus ≡ number v xs * number v ys
+  pub multiplier : (w : ℕ) → Multiplies w (multiplier_net w)

@@ -4,3 +4,4 @@ pub mod Buses
 pub mod Quality
 pub mod Laws
 pub mod Examples
+pub mod Multiply
