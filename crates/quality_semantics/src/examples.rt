@@ -1,5 +1,5 @@
 //! Worked examples of the definitions, computed by the checker: each function's contract is its examples.
-ghost use Rattle.quality_semantics.specs.Examples.{AbsoluteExamples, OtherExamples};
+ghost use Rattle.quality_semantics.specs.Examples.{AbsoluteExamples, OtherExamples, JointExamples};
 
 /// Networks of the absolute error.
 pub fn absolute()
@@ -9,4 +9,9 @@ pub fn absolute()
 /// Networks of the other two errors.
 pub fn others()
     ensures { OtherExamples }
+{}
+
+/// Joint nets.
+pub fn joint_nets()
+    ensures { JointExamples }
 {}
