@@ -7,3 +7,5 @@ pub mod Rounding
 pub mod Formed
 pub mod Quality
 pub mod Sound
+pub mod Joint
+pub mod JointSound

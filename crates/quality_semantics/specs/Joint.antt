@@ -1,9 +1,9 @@
 -- The joint net: two nets over the same inputs, and a quality network over their outputs, so that one output says whether the error
 -- exceeds a level. Source: SALSA's quality function circuit, which the outputs of the exact and of the approximate circuit feed.
-use Rattle.std.specs.Prelude.{ℕ, ◌+◌, ◌-◌, nat_lt, if◌then◌else◌, List, [], ◌∷◌, ◌++◌, map, length, slice_index_or, decimal, codes}
+use Rattle.std.specs.Prelude.{◌≡◌, ℕ, ◌+◌, ◌-◌, nat_lt, if◌then◌else◌, List, [], ◌∷◌, ◌++◌, map, length, slice_index_or, decimal, codes}
 use Rattle.std.specs.List.{range_with_len}
 use Rattle.semantics.specs.Texts.{Bytes}
-use Rattle.semantics.specs.Net.{TableValue, NetValue, input_count, table_count}
+use Rattle.semantics.specs.Net.{TableValue, NetValue, input_count, table_count, IsSound}
 use Rattle.semantics.specs.Error.{Metric}
 use Rattle.quality_semantics.specs.Quality.{quality}
 
@@ -51,3 +51,10 @@ joint_net exact approx metric k =
           ++ copied 113 (quality_signal exact approx) q.net.tables);
       outputs = quality_signal exact approx q.signal ∷ [];
     }
+
+-- sound nets with as many inputs and as many outputs
+pub record AreComparable (exact approx : NetValue) : Type 0 where
+  pub exact_sound : IsSound exact
+  pub approximate_sound : IsSound approx
+  pub inputs : input_count exact ≡ input_count approx
+  pub outputs : length exact.outputs ≡ length approx.outputs

@@ -1,5 +1,5 @@
 //! The laws about the networks: each function's contract is a law.
-ghost use Rattle.quality_semantics.specs.Laws.{BusLaw, FitsLaw, RoundingLaw, QualityLaw};
+ghost use Rattle.quality_semantics.specs.Laws.{BusLaw, FitsLaw, RoundingLaw, QualityLaw, JointLaw};
 
 /// What the buses' numbers are.
 pub fn buses()
@@ -19,4 +19,9 @@ pub fn rounding()
 /// What the quality networks say.
 pub fn quality()
     ensures { QualityLaw }
+{}
+
+/// What joint nets say.
+pub fn joint_nets()
+    ensures { JointLaw }
 {}
