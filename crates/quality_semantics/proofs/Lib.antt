@@ -8,3 +8,5 @@ pub mod Formed
 pub mod Quality
 pub mod Sound
 pub mod Multiply
+pub mod Joint
+pub mod JointSound

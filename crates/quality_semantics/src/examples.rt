@@ -1,5 +1,5 @@
 //! Worked examples of the definitions, computed by the checker: each function's contract is its examples.
-ghost use Rattle.quality_semantics.specs.Examples.{AbsoluteExamples, OtherExamples, MultiplierExamples};
+ghost use Rattle.quality_semantics.specs.Examples.{AbsoluteExamples, OtherExamples, MultiplierExamples, JointExamples};
 
 /// Networks of the absolute error.
 pub fn absolute()
@@ -14,4 +14,9 @@ pub fn others()
 /// Multipliers of one, two and four bits.
 pub fn multipliers()
     ensures { MultiplierExamples }
+{}
+
+/// Joint nets.
+pub fn joint_nets()
+    ensures { JointExamples }
 {}

@@ -1,5 +1,5 @@
 //! The laws about the networks: each function's contract is a law.
-ghost use Rattle.quality_semantics.specs.Laws.{BusLaw, FitsLaw, RoundingLaw, MultiplierLaw, QualityLaw};
+ghost use Rattle.quality_semantics.specs.Laws.{BusLaw, FitsLaw, RoundingLaw, MultiplierLaw, QualityLaw, JointLaw};
 
 /// What the buses' numbers are.
 pub fn buses()
@@ -24,4 +24,9 @@ pub fn multiplier()
 /// What the quality networks say.
 pub fn quality()
     ensures { QualityLaw }
+{}
+
+/// What joint nets say.
+pub fn joint_nets()
+    ensures { JointLaw }
 {}
