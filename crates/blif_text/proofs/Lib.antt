@@ -1,3 +1,5 @@
+pub mod Turns
+pub mod LineSteps
 pub mod Parts
 pub mod NetTexts
 pub mod Traversals

@@ -1,4 +1,6 @@
+pub mod LogicalLines
 pub mod NetText
+pub mod Places
 pub mod Plain
 pub mod Reading
 pub mod Refusals

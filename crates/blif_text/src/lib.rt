@@ -2,12 +2,16 @@
 #![tactic(auto)]
 
 mod draft;
+mod joining;
+mod judging;
 mod limits;
+mod lines;
 mod open_table;
 pub mod reading;
 mod refusal;
 mod rows;
 mod signals;
+mod statements;
 #[cfg(test)]
 mod tests;
 mod words;
