@@ -1,18 +1,18 @@
 -- The chain of constant moves: literals fall, the ports and the number of tables stay, and each member keeps the bound.
-use Rattle.std.proofs.Common.{◌≡◌, ℕ, suc, ◌+◌, ◌-◌, ◌*◌, ◌<◌, ◌≤◌, max, Bool, true, false, ltb, List, [], ◌∷◌, ◌++◌, length, All, refl, ap, subst, ◌∙◌, arith}
+use Rattle.std.proofs.Common.{◌≡◌, ℕ, suc, ◌+◌, ◌-◌, ◌*◌, ◌<◌, ◌≤◌, max, Bool, true, false, ltb, List, [], ◌∷◌, ◌++◌, length, All, map, refl, ap, sym, subst, ◌∙◌, arith}
 use Rattle.std.proofs.Math.Nat.{zero-div, zero-mod}
 use Rattle.std.proofs.lemmas.Bool.{cond_both, ltb-true}
 use Rattle.std.proofs.lemmas.List.{length-set, length-append, get_or_at}
 use Rattle.std.proofs.lemmas.List.Sums.{sum_by-set}
 use Rattle.std.proofs.lemmas.List.Elements.{All-nil, All-cons, All-append, All-weaker}
 use Rattle.semantics.specs.Texts.{Bytes}
-use Rattle.semantics.specs.Net.{TableValue, NetValue, no_table, table_at, table_literals, literal_count}
+use Rattle.semantics.specs.Net.{TableValue, NetValue, no_table, table_at, name_of, table_literals, literal_count, constant_table, HasSamePorts}
 use Rattle.semantics.specs.Value.{outputs_of}
 use Rattle.semantics.specs.Error.{Metric, abs, rel, ham, number_of, distance, rounded_up, differing, error_of, net_error, IsWithin}
+use Rattle.semantics.proofs.Replaced.{constant_table-name, signal_names-with_table}
 use Rattle.chain_semantics.specs.Chain.{IsFirstAllowed}
 use Rattle.chain_semantics.specs.Chain.IsInChain.{first, next}
 use Rattle.chain_semantics.specs.ConstantChain.{ConstantMove, moves_of_table, moves_from, constant_moves, made_constant, IsAllowedConstant, IsInConstantChain}
-use Rattle.semantics.specs.Net.{constant_table}
 use Rattle.chain_semantics.specs.Laws.{IsReducedFrom}
 
 -- the move is of a table from place i on that has a literal
@@ -89,6 +89,13 @@ pub chain_within : (metric : Metric) (exact : NetValue) (bound : ℕ) (N : NetVa
 chain_within metric exact bound N first = IsWithin-same metric exact bound
 chain_within metric exact bound N (next s move h f) = f.allowed
 
+-- the table keeps its name, so each output keeps its own
+HasSamePorts-step : (exact N : NetValue) (move : ConstantMove) → HasSamePorts exact N → HasSamePorts exact (made_constant N move)
+HasSamePorts-step exact N move h =
+    let new : TableValue = constant_table (table_at N.tables move.table).name move.value in
+    let names = signal_names-with_table N move.table new (constant_table-name (table_at N.tables move.table).name move.value) in
+    record { inputs = h.inputs; outputs = h.outputs ∙ ap (λ names. map (name_of names) N.outputs) (sym names) }
+
 IsReducedFrom-step : (exact N : NetValue) (move : ConstantMove) → literal_count (made_constant N move) < literal_count N → IsReducedFrom exact N → IsReducedFrom exact (made_constant N move)
 IsReducedFrom-step exact N move falls h = record {
   literals = omega (arith, falls, h.literals);
@@ -96,9 +103,10 @@ IsReducedFrom-step exact N move falls h = record {
   model = h.model;
   inputs = h.inputs;
   outputs = h.outputs;
+  ports = HasSamePorts-step exact N move h.ports;
 }
 
 pub chain_reduces : (metric : Metric) (exact : NetValue) (bound : ℕ) (N : NetValue) → IsInConstantChain metric exact bound N → IsReducedFrom exact N
-chain_reduces metric exact bound N first = record { literals = omega arith; tables = refl; model = refl; inputs = refl; outputs = refl }
+chain_reduces metric exact bound N first = record { literals = omega arith; tables = refl; model = refl; inputs = refl; outputs = refl; ports = record { inputs = refl; outputs = refl } }
 chain_reduces metric exact bound N (next s move h f) =
     IsReducedFrom-step exact s move (first_move_falls (IsAllowedConstant metric exact bound s) s move f) (chain_reduces metric exact bound s h)

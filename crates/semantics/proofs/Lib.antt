@@ -8,5 +8,7 @@ pub mod Grounding
 pub mod Copied
 pub mod Renamed
 pub mod Without
+pub mod Refused
 pub mod Vectors
+pub mod Sizes
 pub mod Numerals

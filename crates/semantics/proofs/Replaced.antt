@@ -1,12 +1,14 @@
 -- What a replaced table changes: nothing that does not depend on it, and nothing at all where the new table has the old value.
-use Rattle.std.proofs.Common.{◌≡◌, ◌≢◌, ℕ, zero, suc, ◌+◌, ◌-◌, ◌<◌, Bool, false, List, length, get_or, ap, sym, subst, ◌∙◌, inl, inr, arith}
+use Rattle.std.proofs.Common.{◌≡◌, ◌≢◌, ℕ, zero, suc, ◌+◌, ◌-◌, ◌<◌, Bool, true, false, List, ◌++◌, length, get_or, refl, ap, sym, subst, ◌∙◌, inl, inr, arith}
 use Rattle.std.specs.List.{AllByRecursion, Contains}
 use Rattle.std.proofs.lemmas.Bool.{cases_eq, cases_lt}
 use Rattle.std.proofs.lemmas.List.{length-set, get_or-set_same}
-use Rattle.semantics.specs.Net.{TableValue, no_table, table_at, IsGroundedIn, IsAcyclic}
+use Rattle.std.proofs.Math.Seq.{map-set_same}
+use Rattle.semantics.specs.Texts.{Bytes}
+use Rattle.semantics.specs.Net.{TableValue, NetValue, no_table, table_at, signal_names, constant_table, IsGroundedIn, IsAcyclic}
 use Rattle.semantics.specs.Value.{Assignment, table_value, IsConsistent, value_of}
 use Rattle.semantics.proofs.Values.{table_value-same, IsGroundedIn-signal, value_law}
-use Rattle.semantics.specs.Replaced.{replaced}
+use Rattle.semantics.specs.Replaced.{replaced, with_table}
 use Rattle.semantics.specs.Dependence.{DependsOn}
 use Rattle.semantics.specs.Dependence.DependsOn.{itself, by_pin}
 use Rattle.semantics.proofs.Depends.{each_member, IsGroundedIn-pin, pin_is_signal, no_cycle, table_at-other, to_replaced}
@@ -102,3 +104,11 @@ replaced-new n tables t new x acyclic acyclic' within =
     ∙ ap (λ u. table_value u after) (get_or-set_same tables t new no_table within)
     ∙ new-value-same n tables t new x after before acyclic acyclic' within (IsConsistentBut-replaced n tables x t new after law)
     (IsConsistentBut-weaker n tables x t before (value_law n tables x acyclic).consistent)
+
+pub constant_table-name : (name : Bytes) (value : Bool) → (constant_table name value).name ≡ name
+constant_table-name name false = refl
+constant_table-name name true = refl
+
+-- another table of the same name leaves all names
+pub signal_names-with_table : (N : NetValue) (t : ℕ) (new : TableValue) → new.name ≡ (table_at N.tables t).name → signal_names (with_table N t new) ≡ signal_names N
+signal_names-with_table N t new named = ap (◌++◌ N.inputs) (map-set_same (λ table. table.name) N.tables t new no_table named)

@@ -1,5 +1,5 @@
 -- Decimal numbers: `0`, or digits without a leading zero; no sign. Source: this tool's own words and texts.
-use Rattle.std.specs.Prelude.{ℕ, ◌+◌, ◌-◌, ◌*◌, Bool, true, false, not, ◌&&◌, ◌==◌, [], ◌∷◌, fold, nat_le}
+use Rattle.std.specs.Prelude.{ℕ, ◌+◌, ◌-◌, ◌*◌, Bool, false, not, ◌&&◌, ◌==◌, [], ◌∷◌, fold, nat_le}
 use Rattle.std.specs.List.{list_all}
 use Rattle.semantics.specs.Texts.{Bytes}
 

@@ -1,5 +1,5 @@
 -- The number of a list of bits, and the three errors. Source: SALSA's quality functions; the relative error is in parts per million, rounded up.
-use Rattle.std.specs.Prelude.{◌≡◌, ℕ, ◌+◌, ◌-◌, ◌*◌, ◌/◌, ◌%◌, ◌≤◌, min, max, Bool, true, false, List, [], ◌∷◌, length}
+use Rattle.std.specs.Prelude.{◌≡◌, ℕ, ◌+◌, ◌-◌, ◌*◌, ◌/◌, ◌%◌, ◌^◌, ◌≤◌, min, max, Bool, true, false, List, [], ◌∷◌, length}
 use Rattle.semantics.specs.Net.{NetValue, input_count}
 use Rattle.semantics.specs.Value.{outputs_of}
 
@@ -33,6 +33,12 @@ abbrev pub error_of : Metric → List Bool → List Bool → ℕ
 error_of abs e a = distance (number_of e) (number_of a)
 error_of rel e a = rounded_up (distance (number_of e) (number_of a) * 1000000) (max 1 (number_of e))
 error_of ham e a = differing e a
+
+-- what every error of at most 64 outputs is below
+abbrev pub errors_below : Metric → ℕ
+errors_below abs = 2 ^ 64
+errors_below rel = 2 ^ 84
+errors_below ham = 65
 
 unfoldable pub net_error : Metric → NetValue → NetValue → List Bool → ℕ
 net_error metric exact approx x = error_of metric (outputs_of exact x) (outputs_of approx x)

@@ -1,5 +1,5 @@
 -- Worked examples, computed from the definitions.
-use Rattle.std.specs.Prelude.{◌≡◌, ℕ, Bool, true, false, List, [], ◌∷◌, ◌++◌, map, flat_map, length, codes}
+use Rattle.std.specs.Prelude.{◌≡◌, ℕ, true, false, List, [], ◌∷◌, ◌++◌, map, flat_map, length, codes}
 use Rattle.semantics.specs.declared.mark.Mark.TheVariants.{Zero, One, Dash}
 use Rattle.semantics.specs.Texts.{Bytes}
 use Rattle.semantics.specs.Net.{TableValue, NetValue, table_count, literal_count, constant_table}
@@ -109,7 +109,6 @@ pub record ErrorExamples : Type 0 where
   pub carry_to_one :
       map (net_error abs half_adder (with_table constant_sum 1 (constant_table (codes "c") true))) (all_vectors 2)
       ≡ 2 ∷ 1 ∷ 1 ∷ 0 ∷ []
-
 
 pub record TextExamples : Type 0 where
   pub half_adder_text :

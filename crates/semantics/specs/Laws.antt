@@ -1,16 +1,17 @@
 -- The laws about the definitions, each the contract of a function without parameters.
-use Rattle.std.specs.Prelude.{◌≡◌, ℕ, ◌+◌, ◌^◌, ◌<◌, Bool, true, false, List, [], ◌∷◌, ◌++◌, map, length, slice_get, slice_index_or, Some, decimal, Contains}
+use Rattle.std.specs.Prelude.{◌≡◌, ◌≢◌, ◌↔◌, ℕ, ◌+◌, ◌^◌, ◌<◌, ◌≤◌, Bool, true, false, List, [], ◌∷◌, ◌++◌, map, length, slice_get, slice_index_or, Some, None, decimal, All, AllPairs, Contains}
 use Rattle.std.specs.List.{AllByRecursion}
 use Rattle.semantics.specs.Texts.{Bytes}
-use Rattle.semantics.specs.Net.{TableValue, table_at, IsGroundedIn, IsAcyclic}
+use Rattle.semantics.specs.Net.{TableValue, NetValue, table_at, signal_count, IsName, IsTable, IsGroundedIn, IsAcyclic, IsSound, IsSmall}
 use Rattle.semantics.specs.Replaced.{replaced}
 use Rattle.semantics.specs.Dependence.{DependsOn}
 use Rattle.semantics.specs.Embedding.{IsEmbedded}
 use Rattle.semantics.specs.Order.{IsKnown, IsNext, IsOrderAfter, IsOrderOf}
 use Rattle.semantics.specs.Copies.{IsCopiedBehind}
 use Rattle.semantics.specs.Renamed.{renamed, redirect, raised, without}
+use Rattle.semantics.specs.Refusals.{first_doubled, first_undriven, first_ungrounded, IsFirstUngrounded, first_limit, net_refusal}
 use Rattle.semantics.specs.Value.{Assignment, table_value, value_of, HasOneValue}
-use Rattle.semantics.specs.Error.{number_of}
+use Rattle.semantics.specs.Error.{Metric, abs, rel, ham, number_of, error_of, errors_below}
 use Rattle.semantics.specs.Vectors.{bits_of, all_vectors}
 use Rattle.semantics.specs.Decimal.{digits_number, is_decimal}
 
@@ -26,6 +27,15 @@ pub record VectorLaw : Type 0 where
   pub number : (n j : ℕ) → j < 2 ^ n → number_of (bits_of n j) ≡ j
   pub place : (n : ℕ) (x : List Bool) → length x ≡ n → number_of x < 2 ^ n
   pub each : (n : ℕ) (x : List Bool) → length x ≡ n → slice_get (all_vectors n) (number_of x) ≡ Some x
+
+-- Of words of one width: the number and the absolute error are below 2 to its power, the Hamming error is at most the width, and the relative
+-- error is below 2 to the power of the width and 20.
+pub record SizeLaw : Type 0 where
+  pub number : (bits : List Bool) → number_of bits < 2 ^ length bits
+  pub absolute : (e a : List Bool) → length e ≡ length a → error_of abs e a < 2 ^ length e
+  pub relative : (e a : List Bool) → length e ≡ length a → error_of rel e a < 2 ^ (length e + 20)
+  pub hamming : (e a : List Bool) → length e ≡ length a → error_of ham e a ≤ length e
+  pub below : (metric : Metric) (e a : List Bool) → length e ≡ length a → length e ≤ 64 → error_of metric e a < errors_below metric
 
 -- a number is written as one decimal word, and no other decimal word reads as that number
 pub record NumeralLaw : Type 0 where
@@ -115,3 +125,13 @@ pub record WithoutLaw : Type 0 where
   pub values : (n : ℕ) (tables : List TableValue) (t : ℕ) → t < length tables → IsAcyclic n tables
       → ((i : ℕ) → i < length tables → ¬ Contains (table_at tables i).pins (n + t))
       → (x : List Bool) (s : ℕ) → s + 1 < n + length tables → value_of n tables x (raised (n + t) s) ≡ value_of n (without n tables t) x s
+
+-- each refusal is absent exactly where what it refuses is, and all of them exactly where well-formed parts are a small sound net
+pub record RefusalLaw : Type 0 where
+  pub undoubled : (names : List Bytes) → (first_doubled names ≡ None) ↔ AllPairs ◌≢◌ names
+  pub driven : (N : NetValue)
+      → (first_undriven N ≡ None) ↔ (All (λ t. All (λ s. s < signal_count N) t.pins) N.tables × All (λ s. s < signal_count N) N.outputs)
+  pub grounded : (n : ℕ) (tables : List TableValue) → (first_ungrounded n tables ≡ None) ↔ IsAcyclic n tables
+  pub ungrounded : (n : ℕ) (tables : List TableValue) (i : ℕ) → (first_ungrounded n tables ≡ Some i) ↔ IsFirstUngrounded n tables i
+  pub small : (N : NetValue) → (first_limit N ≡ None) ↔ IsSmall N
+  pub whole : (N : NetValue) → IsName N.model → All IsName N.inputs → All IsTable N.tables → (net_refusal N ≡ None) ↔ (IsSound N × IsSmall N)

@@ -1,10 +1,10 @@
 -- What keeps parts from being a small sound net, in the order in which it is told. Source: this tool's own reading of BLIF.
-use Rattle.std.specs.Prelude.{ℕ, zero, suc, ◌+◌, ◌-◌, ◌==◌, Bool, not, ◌||◌, ◌&&◌, nat_lt, nat_le, List, [], ◌∷◌, ◌++◌, flat_map, length, bytes_eq, position, Option, Some, None, if◌then◌else◌}
+use Rattle.std.specs.Prelude.{ℕ, zero, suc, ◌+◌, ◌-◌, ◌<◌, ◌==◌, Bool, not, ◌||◌, ◌&&◌, nat_lt, nat_le, List, [], ◌∷◌, ◌++◌, flat_map, length, bytes_eq, position, Option, Some, None, if◌then◌else◌}
 use Rattle.std.specs.List.{list_any, list_all, find, range_with_len}
 use Rattle.semantics.specs.declared.which.Which.{Which}
 use Rattle.semantics.specs.declared.which.Which.TheVariants as which
 use Rattle.semantics.specs.Texts.{Bytes}
-use Rattle.semantics.specs.Net.{TableValue, NetValue, table_at, input_count, signal_count, signal_names, pin_count, row_count}
+use Rattle.semantics.specs.Net.{TableValue, NetValue, table_at, input_count, signal_count, signal_names, pin_count, row_count, IsGroundedIn}
 
 abbrev pub has_name : List Bytes → Bytes → Bool
 has_name names word = list_any (λ name. bytes_eq word name) names
@@ -34,9 +34,14 @@ is_grounded_in n tables (suc steps) s =
 abbrev pub is_ungrounded : ℕ → List TableValue → ℕ → Bool
 is_ungrounded n tables i = not (is_grounded_in n tables (length tables) (n + i))
 
--- the first table that depends on itself or on a table that does
+-- the first table that depends on itself or on a table that does (`IsFirstUngrounded`)
 unfoldable pub first_ungrounded : ℕ → List TableValue → Option ℕ
 first_ungrounded n tables = position (is_ungrounded n tables) (range_with_len 0 (length tables))
+
+pub record IsFirstUngrounded (n : ℕ) (tables : List TableValue) (i : ℕ) : Type 0 where
+  pub within : i < length tables
+  pub ungrounded : ¬ IsGroundedIn n tables (length tables) (n + i)
+  pub before : (j : ℕ) → j < i → IsGroundedIn n tables (length tables) (n + j)
 
 -- the first limit that is passed
 abbrev pub first_limit : NetValue → Option Which

@@ -1,5 +1,5 @@
 //! The laws about the definitions: each function's contract is a law.
-ghost use Rattle.semantics.specs.Laws.{ValueLaw, EmbeddingLaw, CopyLaw, ReplacedLaw, DependenceLaw, AcyclicLaw, GroundedLaw, OrderLaw, EvaluationLaw, RenamedLaw, WithoutLaw, VectorLaw, NumeralLaw};
+ghost use Rattle.semantics.specs.Laws.{ValueLaw, EmbeddingLaw, CopyLaw, ReplacedLaw, DependenceLaw, AcyclicLaw, GroundedLaw, OrderLaw, EvaluationLaw, RenamedLaw, WithoutLaw, RefusalLaw, VectorLaw, SizeLaw, NumeralLaw};
 
 /// Acyclic tables give each signal one value at each input vector.
 pub fn values()
@@ -56,9 +56,19 @@ pub fn without_table()
     ensures { WithoutLaw }
 {}
 
+/// What is not refused.
+pub fn refusals()
+    ensures { RefusalLaw }
+{}
+
 /// Every input vector stands once in counting order.
 pub fn vectors()
     ensures { VectorLaw }
+{}
+
+/// How large numbers and errors of words are.
+pub fn sizes()
+    ensures { SizeLaw }
 {}
 
 /// Decimal words and the numbers that they read as.
