@@ -1,4 +1,5 @@
 pub mod LogicalLines
+pub mod NamedNets
 pub mod NetText
 pub mod Places
 pub mod Plain

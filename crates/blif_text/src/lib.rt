@@ -6,6 +6,8 @@ mod joining;
 mod judging;
 mod limits;
 mod lines;
+mod named_net;
+mod named_table;
 mod open_table;
 pub mod reading;
 mod refusal;
