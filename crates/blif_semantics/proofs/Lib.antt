@@ -1,3 +1,13 @@
+pub mod Names
+pub mod WordLines
+pub mod NetLines
 pub mod TextLines
-pub mod PlainLines
 pub mod PlainTexts
+pub mod RightLines
+pub mod WrittenRight
+pub mod Looked
+pub mod Accepted
+pub mod WrittenNet
+pub mod WrittenLength
+pub mod Written
+pub mod ReadNet

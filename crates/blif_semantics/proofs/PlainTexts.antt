@@ -16,7 +16,8 @@ use Rattle.semantics.specs.Blif.{mark_byte, row_line, names_line, table_lines, b
 use Rattle.blif_semantics.specs.Plain.{IsPlainFor}
 use Rattle.blif_semantics.specs.PlainReading.{last_of, signal_of, signals_of, marks_of, plane_of, row_of, has_none, Draft, with_row_line, read_line, read_lines, lines_before_end, net_of_lines, net_of_text}
 use Rattle.blif_semantics.proofs.TextLines.{front_of_push, text_lines-text_of}
-use Rattle.blif_semantics.proofs.PlainLines.{length-signal_names, blif_lines-are_lines}
+use Rattle.blif_semantics.proofs.WrittenRight.{beq_same}
+use Rattle.blif_semantics.proofs.NetLines.{length-signal_names, blif_lines-are_lines}
 
 pub last_of_push : {X : Type 0} (xs : List X) (x : X) → last_of (xs ++ x ∷ []) ≡ Some x
 last_of_push xs x =
@@ -75,10 +76,6 @@ part t rows plane = record { name = t.name; pins = t.pins; rows = rows; plane = 
 
 abbrev draft : List Bytes → List TableValue → Draft
 draft names tables = record { names = names; tables = tables }
-
-beq_same : (b : Bool) → beq b b ≡ true
-beq_same false = refl
-beq_same true = refl
 
 -- a row that the table takes is added to the last table
 read_row : (names : List Bytes) (done : List TableValue) (t : TableValue) (rows : List (List Mark)) (first plane : Bool) (marks : List Mark) → length marks ≡ length t.pins → (has_none rows || beq first plane) ≡ true → read_line (draft names (done ++ part t rows first ∷ [])) (row_line plane marks) ≡ Some (draft names (done ++ part t (rows ++ marks ∷ []) plane ∷ []))

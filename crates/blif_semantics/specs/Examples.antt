@@ -1,6 +1,6 @@
 -- Worked examples, computed from the definitions.
 use Rattle.std.specs.Prelude.{◌≡◌, ℕ, true, false, List, [], ◌∷◌, ◌++◌, map, flat_map, replicate, codes, Option, Some, None, Result, Ok, Err}
-use Rattle.semantics.specs.declared.mark.Mark.TheVariants.{Zero, One, Dash}
+use Rattle.semantics.specs.declared.mark.Mark.TheVariants.{Zero, One}
 use Rattle.semantics.specs.declared.which.Which.TheVariants as which
 use Rattle.semantics.specs.Texts.{Bytes, Line}
 use Rattle.semantics.specs.Net.{NetValue}

@@ -1,5 +1,5 @@
 -- The reading of a text: a small sound net, or one refusal. Source: BLIF; the order of the refusals is this tool's own.
-use Rattle.std.specs.Prelude.{ℕ, ◌+◌, ◌==◌, Bool, true, false, not, nat_le, List, [], ◌∷◌, ◌++◌, map, flat_map, length, filter, codes, bytes_eq, position, Option, Some, None, Result, Ok, Err, if◌then◌else◌}
+use Rattle.std.specs.Prelude.{ℕ, ◌+◌, ◌==◌, Bool, true, false, not, nat_le, List, ◌++◌, map, flat_map, length, filter, codes, bytes_eq, position, Option, Some, None, Result, Ok, Err, if◌then◌else◌}
 use Rattle.std.specs.List.{find}
 use Rattle.semantics.specs.declared.which.Which.{Which}
 use Rattle.semantics.specs.Texts.{Bytes, Line}
@@ -8,7 +8,7 @@ use Rattle.semantics.specs.Refusals.{has_name, first_doubled, first_ungrounded, 
 use Rattle.blif_semantics.specs.declared.kind.Kind.{Kind}
 use Rattle.blif_semantics.specs.declared.kind.Kind.TheVariants as kind
 use Rattle.blif_semantics.specs.Lines.{logical_lines, statements}
-use Rattle.blif_semantics.specs.Statements.{kind_of, first_word, arguments, is_model, Wrong, WrongLine, first_wrong}
+use Rattle.blif_semantics.specs.Statements.{kind_of, first_word, arguments, is_model, Wrong, first_wrong}
 use Rattle.blif_semantics.specs.Tables.{NamedTable, tables_of}
 
 -- the most bytes of a netlist that is read, and of a netlist that stands in a bundle

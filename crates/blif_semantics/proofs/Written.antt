@@ -1,0 +1,58 @@
+-- A small sound net is read back from its text.
+use Rattle.std.proofs.Common.{◌≡◌, ℕ, ◌<◌, ◌≤◌, not, cond, List, [], map, length, All, None, Ok, Err, ap, sym, subst, ◌∙◌, arith}
+use Rattle.std.proofs.lemmas.Bool.{le-leb, ne_eqb}
+use Rattle.std.proofs.lemmas.List.{length-map}
+use Rattle.semantics.specs.Texts.{Bytes, Line}
+use Rattle.semantics.specs.Net.{NetValue, input_count, signal_names, name_of, signal_count, IsSound, IsSmall}
+use Rattle.semantics.specs.Refusals.{first_doubled, first_ungrounded, first_limit}
+use Rattle.semantics.specs.Blif.{blif_lines, blif_text}
+use Rattle.semantics.proofs.Refused.{differ-undoubled, acyclic-grounded, limits-small}
+use Rattle.blif_semantics.specs.Lines.{Statement, logical_lines, statements}
+use Rattle.blif_semantics.specs.Statements.{first_wrong}
+use Rattle.blif_semantics.specs.Reading.{text_long, wrong_line, bundle_limit, unless_refused, single, lines_reading, blif_reading}
+use Rattle.blif_semantics.proofs.WordLines.{statements-text_of}
+use Rattle.blif_semantics.proofs.NetLines.{length-signal_names, blif_lines-are_lines}
+use Rattle.blif_semantics.proofs.RightLines.{AllRight, none_wrong}
+use Rattle.blif_semantics.proofs.WrittenRight.{blif_lines-right}
+use Rattle.blif_semantics.proofs.WrittenNet.{named_of, named_net-blif_lines, names_of-named_of, numbered-named_of, named_of-driven}
+use Rattle.blif_semantics.proofs.WrittenLength.{blif_text-short}
+use Rattle.blif_semantics.proofs.Accepted.{IsAccepted, read-accepted}
+
+named_of-read : (N : NetValue) → IsSound N → IsSmall N → single (named_of N) ≡ Ok N
+named_of-read N h small =
+    let names : List Bytes = signal_names N in
+    let count : signal_count N ≡ length names = sym (length-signal_names N) in
+    let outputs : All (λ s. s < length names) N.outputs = subst (λ k. All (λ s. s < k) N.outputs) count h.outputs_are_signals in
+    let pins : All (λ t. All (λ s. s < length names) t.pins) N.tables = subst (λ k. All (λ t. All (λ s. s < k) t.pins) N.tables) count h.pins_are_signals in
+    let is = numbered-named_of N h.names_differ pins outputs in
+    let accepted : IsAccepted (named_of N) = record {
+      undoubled = ap first_doubled (names_of-named_of N) ∙ differ-undoubled names h.names_differ;
+      some_output = ne_eqb (length (map (name_of names) N.outputs)) 0 (λ e. omega (arith, e, length-map N.outputs (name_of names), h.has_output));
+      driven = named_of-driven N pins outputs;
+      grounded = ap (λ M. first_ungrounded (input_count M) M.tables) is ∙ acyclic-grounded (input_count N) N.tables h.acyclic;
+      small = ap first_limit is ∙ limits-small N small;
+    } in
+    read-accepted (named_of N) accepted ∙ ap Ok is
+
+-- a text that keeps the limit, none of whose lines is wrong
+reading_of : (text : Bytes) (most : ℕ) (lines : List Line) → length text ≤ most → map (λ s. s.words) (statements (logical_lines text)) ≡ lines → AllRight [] lines → blif_reading text most ≡ lines_reading lines
+unfolding blif_reading
+reading_of text most lines short words right =
+    let all : List Statement = statements (logical_lines text) in
+    let none : first_wrong all ≡ None = none_wrong all (subst (AllRight []) (sym words) right) in
+    ap (λ t. cond (not t) (Err text_long) (unless_refused (first_wrong all) (λ w. wrong_line w.line w.wrong) (lines_reading (map (λ s. s.words) all)))) (le-leb (length text) most short)
+    ∙ ap (λ w. unless_refused w (λ w. wrong_line w.line w.wrong) (lines_reading (map (λ s. s.words) all))) none
+    ∙ ap lines_reading words
+
+pub read_within : (N : NetValue) (most : ℕ) → IsSound N → IsSmall N → length (blif_text N) ≤ most → blif_reading (blif_text N) most ≡ Ok N
+unfolding blif_text
+read_within N most h small short =
+    reading_of (blif_text N) most (blif_lines N) short (statements-text_of (blif_lines N) (blif_lines-are_lines N h)) (blif_lines-right N h)
+    ∙ ap single (named_net-blif_lines N h.tables_formed)
+    ∙ named_of-read N h small
+
+pub within : (N : NetValue) → IsSound N → IsSmall N → length (blif_text N) ≤ bundle_limit
+within N h small = omega (arith, blif_text-short N h small, small.all_pins)
+
+pub read : (N : NetValue) → IsSound N → IsSmall N → blif_reading (blif_text N) bundle_limit ≡ Ok N
+read N h small = read_within N bundle_limit h small (within N h small)
