@@ -1,2 +1,3 @@
-pub mod Constant
+pub mod Copying
+pub mod Changed
 pub mod Eval

@@ -100,25 +100,37 @@ impl<T: Drop> Items<T> {
         self.items.push(item)?;
         Ok(())
     }
-
-    /// Puts an item in the place of another.
-    pub fn set(&mut self, i: usize, item: T)
-        requires { i < length self.old }
-        ensures { self.new ≡ slice_set self.old i item }
-    {
-        self.items[i] = item;
-    }
 }
 
 impl<T: Duplicate> Items<T> {
+    /// Adds copies of these items at the end; where there is no memory, of the first of them.
+    fn push_copies(&mut self, more: &[T]) -> Result<(), AllocError>
+        ensures { OnOk result (self.new ≡ self.old ++ more.now) }
+    {
+        for item in more {
+            self.push(item.duplicate()?)?;
+        }
+        Ok(())
+    }
+
     /// An equal list, on the same allocator.
     pub fn copy(&self) -> Result<Items<T>, AllocError>
         ensures { IfOk result (λ c. c ≡ self.now) }
     {
         let mut copy = Items::new(*self.items.allocator());
-        for item in self.as_slice() {
-            copy.push(item.duplicate()?)?;
-        }
+        copy.push_copies(&self.items)?;
+        Ok(copy)
+    }
+
+    /// The list with another item in the place of item `i`, which is not copied.
+    pub fn copy_with(&self, i: usize, item: T) -> Result<Items<T>, AllocError>
+        requires { i < length self.now }
+        ensures { IfOk result (λ c. c ≡ slice_set self.now i item) }
+    {
+        let mut copy = Items::new(*self.items.allocator());
+        copy.push_copies(&self.items[..i])?;
+        copy.push(item)?;
+        copy.push_copies(&self.items[i + 1..])?;
         Ok(copy)
     }
 }

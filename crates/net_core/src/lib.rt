@@ -7,5 +7,3 @@ pub mod name;
 pub mod net;
 pub mod row;
 pub mod table;
-#[cfg(test)]
-mod tests;

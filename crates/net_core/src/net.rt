@@ -1,14 +1,14 @@
 //! Nets: sound, each table after those that it reads, and of a size that fits their numbers.
-ghost use Rattle.std.specs.Prelude.{◌≡◌, ℕ, ◌+◌, ◌<◌, ◌^◌, false, length, slice_index, slice_index_or, sum_by, IfOk};
+ghost use Rattle.std.specs.Prelude.{◌≡◌, ℕ, ◌+◌, ◌<◌, ◌^◌, false, length, slice_index, slice_index_or, sum_by, All, IfOk};
 ghost use Rattle.std.specs.List.{range_with_len};
-ghost use Rattle.semantics.specs.Net.{IsInOrder, input_count, table_count, signal_count, literal_count, signal_names, name_of, table_at, table_literals};
+ghost use Rattle.semantics.specs.Net.{IsName, IsTable, IsInOrder, input_count, table_count, signal_count, literal_count, signal_names, name_of, table_at, table_literals};
 ghost use Rattle.semantics.specs.Value.{value_of};
-ghost use Rattle.chain_semantics.specs.ConstantChain.{made_constant};
-ghost use Rattle.net_core.specs.Built.{IsBuilt};
+ghost use Rattle.semantics.specs.Replaced.{replaced, with_table};
+ghost use Rattle.net_core.specs.Built.{IsBuilt, IsWired};
 
 use crate::items::{NameList, Signal, SignalList, TableList};
 use crate::name::Name;
-use crate::table::{Table, constant_table};
+use crate::table::Table;
 use std::alloc::{AllocError, Global};
 use std::marker::Model;
 
@@ -41,6 +41,24 @@ fn table_order(alloc: Global, count: u32) -> Result<Vec<u32>, AllocError>
     ensures { IfOk result (λ order. order.items ≡ range_with_len 0 count) }
 {
     (0..count).collect(alloc)
+}
+
+/// Shows that each of these is a name, which its type holds: one step a name.
+fn see_names(names: &[Name])
+    ensures { All IsName names.now }
+{
+    for name in names {
+        let _ = name.bytes();
+    }
+}
+
+/// Shows that the rows of each of these fit, which its type holds: one step a table.
+fn see_tables(tables: &[Table])
+    ensures { All IsTable tables.now }
+{
+    for table in tables {
+        let _ = table.name();
+    }
 }
 
 /// How many marks of the tables ask for a value.
@@ -78,11 +96,15 @@ impl Net {
         tables: TableList,
         outputs: SignalList,
     ) -> Result<Net, AllocError>
-        requires { IsBuilt (record { model = model; inputs = inputs; tables = tables; outputs = outputs }) }
+        requires wired { IsWired (record { model = model; inputs = inputs; tables = tables; outputs = outputs }) }
+        requires in_order { IsInOrder (length inputs) tables }
         ensures { IfOk result
             (λ n. n ≡ record { model = model; inputs = inputs; tables = tables; outputs = outputs }) }
     {
         let order = table_order(alloc, tables.len() as u32)?;
+        let _ = model.bytes();
+        see_names(inputs.as_slice());
+        see_tables(tables.as_slice());
         Ok(Net {
             model,
             inputs,
@@ -142,6 +164,7 @@ impl Net {
     pub fn table(&self, t: u32) -> &Table
         requires { t < table_count self.now }
         ensures value { result.now ≡ table_at self.now.tables t }
+        ensures built { IsBuilt self.now }
     {
         self.tables.get(t as usize)
     }
@@ -185,28 +208,34 @@ impl Net {
         eval_tables(self.tables.as_slice(), x, vals);
     }
 
-    /// An equal net.
-    pub fn copy(&self, alloc: Global) -> Result<Net, AllocError>
+    /// An equal net, on the same allocator.
+    pub fn copy(&self) -> Result<Net, AllocError>
         ensures { IfOk result (λ n. n ≡ self.now) }
     {
-        let model = self.model.copy()?;
-        let inputs = self.inputs.copy()?;
-        let tables = self.tables.copy()?;
-        let outputs = self.outputs.copy()?;
-        Net::from_sound(alloc, model, inputs, tables, outputs)
+        Ok(Net {
+            model: self.model.copy()?,
+            inputs: self.inputs.copy()?,
+            tables: self.tables.copy()?,
+            outputs: self.outputs.copy()?,
+            order: Vec::from_slice(*self.order.allocator(), &self.order)?,
+        })
     }
 
-    /// The net with a constant of the same name in the place of table `t`.
-    pub fn with_constant(&self, alloc: Global, t: u32, value: bool) -> Result<Net, AllocError>
-        requires { t < table_count self.now }
-        ensures { IfOk result (λ n. n ≡ made_constant self.now (record { table = t; value = value })) }
+    /// The net with another table in the place of table `t`, which is not copied, on the same allocator.
+    pub fn with_table(&self, t: u32, table: Table) -> Result<Net, AllocError>
+        requires within { t < table_count self.now }
+        requires same_name { table.name ≡ (table_at self.now.tables t).name }
+        requires in_order { IsInOrder (input_count self.now) (replaced self.now.tables t table) }
+        ensures { IfOk result (λ n. n ≡ with_table self.now t table) }
     {
-        let model = self.model.copy()?;
-        let inputs = self.inputs.copy()?;
-        let mut tables = self.tables.copy()?;
-        let outputs = self.outputs.copy()?;
-        let name = self.table(t).name().copy()?;
-        tables.set(t as usize, constant_table(alloc, name, value)?);
-        Net::from_sound(alloc, model, inputs, tables, outputs)
+        // A table is formed by its type: the call brings that fact here.
+        let _ = table.name();
+        Ok(Net {
+            model: self.model.copy()?,
+            inputs: self.inputs.copy()?,
+            tables: self.tables.copy_with(t as usize, table)?,
+            outputs: self.outputs.copy()?,
+            order: Vec::from_slice(*self.order.allocator(), &self.order)?,
+        })
     }
 }

@@ -1,10 +1,16 @@
 -- Worked examples, computed from the definitions.
-use Rattle.std.specs.Prelude.{◌≡◌, ℕ, true, false, List, [], ◌∷◌, ◌++◌, map, flat_map, length, codes}
+use Rattle.std.specs.Prelude.{◌≡◌, ℕ, true, false, List, [], ◌∷◌, ◌++◌, map, flat_map, length, replicate, slice_index_or, codes, Contains, Some, None}
 use Rattle.semantics.specs.declared.mark.Mark.TheVariants.{Zero, One, Dash}
-use Rattle.semantics.specs.Texts.{Bytes}
-use Rattle.semantics.specs.Net.{TableValue, NetValue, table_count, literal_count, constant_table}
-use Rattle.semantics.specs.Value.{outputs_of}
-use Rattle.semantics.specs.Replaced.{with_table}
+use Rattle.semantics.specs.declared.which.Which.TheVariants as which
+use Rattle.semantics.specs.Texts.{Bytes, bits_word}
+use Rattle.semantics.specs.Net.{TableValue, NetValue, table_at, table_count, literal_count, constant_table, IsName, IsAcyclic}
+use Rattle.semantics.specs.Value.{value_of, outputs_of}
+use Rattle.semantics.specs.Replaced.{replaced, with_table}
+use Rattle.semantics.specs.Dependence.{DependsOn}
+use Rattle.semantics.specs.Embedding.{IsEmbedded}
+use Rattle.semantics.specs.Copies.{IsCopiedBehind}
+use Rattle.semantics.specs.Renamed.{renamed, redirect, without}
+use Rattle.semantics.specs.Refusals.{first_doubled, first_ungrounded, first_limit, doubled, no_output, undriven, cycle, limit, net_refusal}
 use Rattle.semantics.specs.Error.{abs, rel, ham, error_of, net_error}
 use Rattle.semantics.specs.Vectors.{all_vectors}
 use Rattle.semantics.specs.Blif.{blif_text}
@@ -98,6 +104,10 @@ pub record ErrorExamples : Type 0 where
       (error_of abs (true ∷ true ∷ []) (true ∷ true ∷ []) ≡ 0)
       × (error_of ham (true ∷ true ∷ []) (true ∷ true ∷ []) ≡ 0)
       × (error_of rel (true ∷ true ∷ []) (true ∷ true ∷ []) ≡ 0)
+  pub largest :
+      (error_of abs (replicate 64 false) (replicate 64 true) ≡ 18446744073709551615)
+      × (error_of ham (replicate 64 false) (replicate 64 true) ≡ 64)
+      × (error_of rel (replicate 64 false) (replicate 64 true) ≡ 18446744073709551615000000)
   pub unchanged : map (net_error abs half_adder half_adder) (all_vectors 2) ≡ 0 ∷ 0 ∷ 0 ∷ 0 ∷ []
   pub same_or : map (net_error abs (or_twice by_zeros) (or_twice by_copy)) (all_vectors 2) ≡ 0 ∷ 0 ∷ 0 ∷ 0 ∷ []
   pub other_metrics :
@@ -128,3 +138,124 @@ pub record TextExamples : Type 0 where
       blif_text out_of_order
       ≡ text (codes ".model k" ∷ codes ".inputs a" ∷ codes ".outputs z y a" ∷ codes ".names y z" ∷ codes "0 1"
       ∷ codes ".names a y" ∷ codes "1 0" ∷ codes ".end" ∷ [])
+
+-- the values of a signal at all vectors in counting order, as a word
+abbrev pub truth_table : ℕ → List TableValue → ℕ → Bytes
+truth_table n tables s = bits_word (map (λ x. value_of n tables x s) (all_vectors n))
+
+-- the half adder of inputs 2 and 0, its tables in the other order and an inverter between them, and where its signals stand there
+abbrev pub half_adder_within : List TableValue
+half_adder_within =
+    record { name = codes "q"; pins = 2 ∷ 0 ∷ []; rows = (One ∷ One ∷ []) ∷ []; plane = true }
+    ∷ record { name = codes "r"; pins = 3 ∷ []; rows = (Zero ∷ []) ∷ []; plane = true }
+    ∷ record { name = codes "p"; pins = 2 ∷ 0 ∷ []; rows = (One ∷ Zero ∷ []) ∷ (Zero ∷ One ∷ []) ∷ []; plane = true }
+    ∷ []
+
+abbrev pub place_within : ℕ → ℕ
+place_within s = slice_index_or (2 ∷ 0 ∷ 5 ∷ 3 ∷ []) s 0
+
+-- the half adder again, of the first one's sum and input 2: behind the first one the sum of three bits
+abbrev pub name_behind : ℕ → ℕ
+name_behind s = slice_index_or (3 ∷ 2 ∷ 5 ∷ 6 ∷ []) s 0
+
+abbrev pub half_adder_behind : List TableValue
+half_adder_behind = map (renamed name_behind) half_adder.tables
+
+abbrev pub buffer : Bytes → ℕ → TableValue
+buffer name s = record { name = name; pins = s ∷ []; rows = (One ∷ []) ∷ []; plane = true }
+
+-- a buffer, an inverter of it and a reader of the inverter; then each reader of the buffer reads the input; and then the buffer is left out
+abbrev pub buffered : List TableValue
+buffered =
+    buffer (codes "y") 0
+    ∷ record { name = codes "z"; pins = 1 ∷ []; rows = (Zero ∷ []) ∷ []; plane = true }
+    ∷ record { name = codes "w"; pins = 2 ∷ 0 ∷ []; rows = (Zero ∷ One ∷ []) ∷ []; plane = true }
+    ∷ []
+
+abbrev pub past_buffer : List TableValue
+past_buffer = map (renamed (redirect 1 0)) buffered
+
+abbrev pub without_buffer : List TableValue
+without_buffer = without 1 past_buffer 0
+
+-- after a buffer of the input a reader of a cycle, and the cycle: tables 2 and 3
+abbrev pub feedback : List TableValue
+feedback = buffer (codes "b") 0 ∷ buffer (codes "r") 3 ∷ buffer (codes "p") 4 ∷ buffer (codes "q") 3 ∷ []
+
+pub record ChangeExamples : Type 0 where
+  pub embedded : IsEmbedded 2 half_adder.tables 3 half_adder_within place_within
+  pub embedded_sum : (truth_table 2 half_adder.tables 2 ≡ codes "0110") × (truth_table 3 half_adder_within 5 ≡ codes "01011010")
+  pub embedded_carry : (truth_table 2 half_adder.tables 3 ≡ codes "0001") × (truth_table 3 half_adder_within 3 ≡ codes "00000101")
+  pub copied : IsCopiedBehind 3 half_adder.tables 2 half_adder.tables half_adder_behind name_behind
+  pub copied_values :
+      (truth_table 3 (half_adder.tables ++ half_adder_behind) 5 ≡ codes "01101001")
+      × (truth_table 3 (half_adder.tables ++ half_adder_behind) 6 ≡ codes "00000110")
+  pub reader_before :
+      (truth_table 1 out_of_order.tables 1 ≡ codes "01")
+      × (truth_table 1 (replaced out_of_order.tables 1 (constant_table (codes "y") true)) 1 ≡ codes "00")
+  pub past_the_end : replaced half_adder.tables 2 by_zeros ≡ half_adder.tables
+  pub depends : DependsOn 1 out_of_order.tables 1 1 × (¬ DependsOn 1 out_of_order.tables 0 2)
+  pub redirected : map (λ t. t.pins) past_buffer ≡ (0 ∷ []) ∷ (0 ∷ []) ∷ (2 ∷ 0 ∷ []) ∷ []
+  pub redirected_values : (truth_table 1 buffered 2 ≡ codes "10") × (truth_table 1 past_buffer 2 ≡ codes "10")
+  pub left_out : (map (λ t. t.name) without_buffer ≡ codes "z" ∷ codes "w" ∷ []) × (map (λ t. t.pins) without_buffer ≡ (0 ∷ []) ∷ (1 ∷ 0 ∷ []) ∷ [])
+  pub left_out_values : (truth_table 1 past_buffer 3 ≡ codes "01") × (truth_table 1 without_buffer 2 ≡ codes "01")
+
+-- three tables over the input a; what may be wrong: the first one's name and number of pins, the pins of the others, and the outputs
+abbrev pub faulty : Bytes → List ℕ → ℕ → ℕ → ℕ → NetValue
+faulty name outputs second third pins = record {
+  model = codes "m";
+  inputs = codes "a" ∷ [];
+  tables =
+      record { name = name; pins = replicate pins 0; rows = []; plane = true }
+      ∷ buffer (codes "y") second
+      ∷ buffer (codes "z") third
+      ∷ [];
+  outputs = outputs;
+}
+
+-- so many inputs, outputs and tables, so many pins and rows of each table, and then more tables
+abbrev pub sized : (inputs outputs tables pins rows : ℕ) → List TableValue → NetValue
+sized inputs outputs tables pins rows more = record {
+  model = codes "m";
+  inputs = replicate inputs (codes "a");
+  tables = replicate tables (record { name = codes "t"; pins = replicate pins 0; rows = replicate rows []; plane = true }) ++ more;
+  outputs = replicate outputs 0;
+}
+
+pub record RefusalExamples : Type 0 where
+  pub doubled_first : net_refusal (faulty (codes "a") [] 9 3 257) ≡ Some (doubled (codes "a"))
+  pub then_no_output : net_refusal (faulty (codes "x") [] 9 3 257) ≡ Some no_output
+  pub then_undriven : net_refusal (faulty (codes "x") (8 ∷ []) 9 3 257) ≡ Some (undriven 9)
+  pub then_undriven_output : net_refusal (faulty (codes "x") (8 ∷ []) 0 3 257) ≡ Some (undriven 8)
+  pub then_cycle : net_refusal (faulty (codes "x") (1 ∷ []) 0 3 257) ≡ Some (cycle 3)
+  pub then_limit : net_refusal (faulty (codes "x") (1 ∷ []) 0 2 257) ≡ Some (limit which.Pins)
+  pub then_none : net_refusal (faulty (codes "x") (1 ∷ []) 0 2 256) ≡ None
+  pub second_of_a_name : first_doubled (codes "a" ∷ codes "b" ∷ codes "c" ∷ codes "b" ∷ codes "a" ∷ []) ≡ Some (codes "b")
+  pub empty_names : first_doubled [] ≡ None
+  pub first_of_feedback : first_ungrounded 1 feedback ≡ Some 1
+  pub feedback_depends : Contains (table_at feedback 2).pins 4 × DependsOn 1 feedback 2 4
+  pub reader_depends : DependsOn 1 feedback 3 2
+  pub feedback_is_cyclic : ¬ IsAcyclic 1 feedback
+  pub feeds_itself : first_ungrounded 1 (buffer (codes "y") 1 ∷ []) ≡ Some 0
+  pub out_of_order_is_grounded : first_ungrounded 1 out_of_order.tables ≡ None
+
+-- the largest of each number, and the next one, which is told before whatever comes later
+pub record LimitExamples : Type 0 where
+  pub inputs : (first_limit (sized 256 1 1 1 1 []) ≡ None) × (first_limit (sized 257 65 1 257 1 []) ≡ Some which.Inputs)
+  pub outputs : (first_limit (sized 1 64 1 1 1 []) ≡ None) × (first_limit (sized 1 65 1 257 1 []) ≡ Some which.Outputs)
+  pub tables : (first_limit (sized 1 1 4096 1 1 []) ≡ None) × (first_limit (sized 1 1 4097 257 1 []) ≡ Some which.Tables)
+  pub pins : (first_limit (sized 1 1 1 256 1 []) ≡ None) × (first_limit (sized 1 1 513 257 1 []) ≡ Some which.Pins)
+  pub all_pins : (first_limit (sized 1 1 512 256 0 []) ≡ None) × (first_limit (sized 1 1 512 256 65 (buffer (codes "y") 0 ∷ [])) ≡ Some which.AllPins)
+  pub rows : (first_limit (sized 1 1 512 0 64 []) ≡ None) × (first_limit (sized 1 1 512 0 64 (buffer (codes "y") 0 ∷ [])) ≡ Some which.Rows)
+  pub all_together : first_limit (sized 256 64 4096 32 8 []) ≡ None
+
+pub record NameExamples : Type 0 where
+  pub longest : IsName (replicate 1023 97)
+  pub too_long : ¬ IsName (replicate 1024 97)
+  pub empty : ¬ IsName []
+  pub backslash_within : IsName (97 ∷ 92 ∷ 98 ∷ [])
+  pub backslash_at_the_end : ¬ IsName (97 ∷ 92 ∷ [])
+  pub ends_of_printable : IsName (33 ∷ 126 ∷ [])
+  pub blank : ¬ IsName (97 ∷ 32 ∷ 98 ∷ [])
+  pub comment_sign : ¬ IsName (97 ∷ 35 ∷ [])
+  pub delete : ¬ IsName (127 ∷ [])

@@ -1,5 +1,5 @@
 //! Worked examples of the definitions, computed by the checker: each function's contract is its examples.
-ghost use Rattle.semantics.specs.Examples.{ValueExamples, ErrorExamples, TextExamples};
+ghost use Rattle.semantics.specs.Examples.{ValueExamples, ErrorExamples, TextExamples, ChangeExamples, RefusalExamples, LimitExamples, NameExamples};
 
 /// Values of tables in and out of order, and counts.
 pub fn values()
@@ -14,4 +14,24 @@ pub fn errors()
 /// The texts of nets.
 pub fn texts()
     ensures { TextExamples }
+{}
+
+/// Tables that stand in others, and tables replaced, copied, renamed and left out.
+pub fn changes()
+    ensures { ChangeExamples }
+{}
+
+/// What parts are refused for, in its order.
+pub fn refusals()
+    ensures { RefusalExamples }
+{}
+
+/// The largest sizes of a netlist that is read, and the next ones.
+pub fn limits()
+    ensures { LimitExamples }
+{}
+
+/// What is a name, and what is none.
+pub fn names()
+    ensures { NameExamples }
 {}

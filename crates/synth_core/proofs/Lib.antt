@@ -1,3 +1,4 @@
+pub mod Constants
 pub mod WordLists
 pub mod FirstGreatest
 pub mod MoveLists

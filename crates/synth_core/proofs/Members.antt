@@ -1,5 +1,5 @@
 -- The members of the chain of constant moves: they can be compared with the first, stay small, and the last is what simplification comes to.
-use Rattle.std.proofs.Common.{◌≡◌, ℕ, ◌<◌, ◌≤◌, Bool, true, false, List, [], ◌∷◌, length, Option, Some, MatchOption, refl, ap, arith}
+use Rattle.std.proofs.Common.{◌≡◌, ℕ, ◌<◌, ◌≤◌, Bool, true, false, List, [], ◌∷◌, length, Option, Some, MatchOption, ap, arith}
 use Rattle.std.specs.List.{AllByRecursion}
 use Rattle.std.proofs.lemmas.List.{length-set}
 use Rattle.std.proofs.lemmas.List.Elements.{All-set}
@@ -18,6 +18,7 @@ use Rattle.chain_semantics.proofs.Chains.{first_move_falls, chain_reduces, chain
 use Rattle.synth_core.specs.Words.{IsComparable}
 use Rattle.synth_core.specs.Step.{IsFirstStep}
 use Rattle.synth_core.proofs.MoveLists.{falling_within}
+use Rattle.synth_core.proofs.Constants.{constant_table-pins}
 
 -- the first net is a member
 pub first_member : (metric : Metric) (exact : NetValue) (bound : ℕ) (N : NetValue) → N ≡ exact → IsInConstantChain metric exact bound N
@@ -49,11 +50,7 @@ IsComparable-member metric exact bound N few_inputs few_outputs h =
       same_outputs = ap length reduced.outputs;
     }
 
--- a constant has no pins, and at most one row
-constant_table-pins : (name : Bytes) (value : Bool) → (constant_table name value).pins ≡ []
-constant_table-pins name false = refl
-constant_table-pins name true = refl
-
+-- a constant has at most one row
 constant_table-rows : (name : Bytes) (value : Bool) → length (constant_table name value).rows ≤ 1
 constant_table-rows name false = omega arith
 constant_table-rows name true = omega arith

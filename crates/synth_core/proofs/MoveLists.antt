@@ -1,5 +1,5 @@
 -- The moves of a net: each is of one of its tables, and the first that is allowed is a step of the chain.
-use Rattle.std.proofs.Common.{◌≡◌, ℕ, ◌+◌, ◌<◌, Bool, List, ◌∷◌, ◌++◌, length, get_or, take, drop, All, ap, sym, subst, ◌∙◌, inl, inr, arith}
+use Rattle.std.proofs.Common.{◌≡◌, ℕ, ◌+◌, ◌<◌, List, ◌∷◌, ◌++◌, length, get_or, take, drop, All, ap, sym, subst, ◌∙◌, inl, inr, arith}
 use Rattle.std.specs.List.{sum_by}
 use Rattle.std.proofs.lemmas.Bool.{cases_lt}
 use Rattle.std.proofs.lemmas.List.{set_past, take-append-drop, drop_more}
@@ -39,13 +39,12 @@ read_within N moves i move all h read =
     let within : All (λ m. m.table < table_count N) moves = rw all (moves_within N) in
     subst (λ m. m.table < table_count N) (sym read) (All-get_or (λ m. m.table < table_count N) moves i move h within)
 
--- the net that is made from the parts of a move that was read
-pub IsMadeAt-from_parts : (N : NetValue) (moves : List ConstantMove) (i : ℕ) (move : ConstantMove) (table : ℕ) (value : Bool) (M : NetValue) → moves ≡ constant_moves N → i < length moves → move ≡ get_or moves i move → table ≡ move.table → value ≡ move.value → M ≡ made_constant N (record { table = table; value = value }) → IsMadeAt N i move M
-IsMadeAt-from_parts N moves i move table value M all h read at to made = record {
+-- the net that is made from a move that was read
+pub made_at : (N : NetValue) (moves : List ConstantMove) (i : ℕ) (move : ConstantMove) (M : NetValue) → moves ≡ constant_moves N → i < length moves → move ≡ get_or moves i move → M ≡ made_constant N move → IsMadeAt N i move M
+made_at N moves i move M all h read made = record {
   within = subst (λ ms. i < length ms) all h;
   read = read ∙ ap (λ ms. get_or ms i move) all;
-  made = made ∙ ap (λ t. made_constant N (record { table = t; value = value })) at
-      ∙ ap (λ v. made_constant N (record { table = move.table; value = v })) to;
+  made = made;
 }
 
 -- a list is what stands before an item, the item, and what stands after it

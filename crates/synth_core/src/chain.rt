@@ -8,7 +8,7 @@ ghost use Rattle.synth_core.specs.Words.{words_of, IsComparable};
 ghost use Rattle.synth_core.specs.Step.{IsFirstStep};
 
 use crate::bound::keeps_bound;
-use crate::moves::constant_moves;
+use crate::moves::{constant_moves, made_constant};
 use crate::outputs::exact_words;
 use crate::scratch::Scratch;
 use joint_net::metric::Metric;
@@ -35,7 +35,7 @@ fn first_allowed(
     let moves = constant_moves(alloc, net)?;
     let mut scratch = Scratch::new(alloc, net)?;
     for step in moves.as_slice() {
-        let candidate = net.with_constant(alloc, step.table(), step.value())?;
+        let candidate = made_constant(alloc, net, *step)?;
         if keeps_bound(exact, words, &candidate, metric, bound, &mut scratch) {
             return Ok(Some(candidate));
         }
@@ -56,7 +56,7 @@ pub fn end_of_constant_chain(
     ensures { IfOk result (λ n. IsConstantChainEnd (meaning metric) exact.now bound n) }
 {
     let words = exact_words(alloc, exact)?;
-    let mut net = exact.copy(alloc)?;
+    let mut net = exact.copy()?;
     while let Some(next) = first_allowed(alloc, exact, words.as_slice(), &net, metric, bound)? {
         net = next;
     }

@@ -12,7 +12,5 @@ pub mod moves;
 pub mod outputs;
 mod scratch;
 pub mod simplify;
-#[cfg(test)]
-mod tests;
 mod vectors;
 pub mod worst;

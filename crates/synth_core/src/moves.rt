@@ -1,10 +1,11 @@
 //! The moves that make a table constant, in the order in which they are tried.
 ghost use Rattle.std.specs.Prelude.{◌≡◌, ◌^◌, ◌<◌, IfOk};
-ghost use Rattle.semantics.specs.Net.{literal_count};
-ghost use Rattle.chain_semantics.specs.ConstantChain.{constant_moves};
+ghost use Rattle.semantics.specs.Net.{literal_count, table_count};
+ghost use Rattle.chain_semantics.specs.ConstantChain.{constant_moves, made_constant};
 
 use net_core::items::Items;
 use net_core::net::Net;
+use net_core::table::constant_table;
 use std::alloc::{AllocError, Global};
 use std::marker::Model;
 
@@ -55,4 +56,14 @@ pub fn constant_moves(alloc: Global, net: &Net) -> Result<Items<ConstantMove>, A
         }
     }
     Ok(moves)
+}
+
+/// The net with the constant of a move in the place of its table.
+pub fn made_constant(alloc: Global, net: &Net, step: ConstantMove) -> Result<Net, AllocError>
+    requires { step.table < table_count net.now }
+    ensures { IfOk result (λ n. n ≡ made_constant net.now step) }
+{
+    let name = net.table(step.table()).name().copy()?;
+    let table = constant_table(alloc, name, step.value())?;
+    net.with_table(step.table(), table)
 }

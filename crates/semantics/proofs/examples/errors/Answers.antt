@@ -11,6 +11,7 @@ returns c = record {
   three_and_two = (refl, refl, refl);
   nothing_and_three = (refl, refl, refl);
   equal = (refl, refl, refl);
+  largest = (refl, refl, refl);
   unchanged = refl;
   same_or = refl;
   other_metrics = (refl, refl);
