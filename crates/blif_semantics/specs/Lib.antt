@@ -2,6 +2,7 @@ pub mod Lines
 pub mod Statements
 pub mod Tables
 pub mod Reading
+pub mod Named
 pub mod Examples
 pub mod Plain
 pub mod PlainReading

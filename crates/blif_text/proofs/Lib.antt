@@ -1,6 +1,7 @@
 pub mod Views
 pub mod Turns
 pub mod LineSteps
+pub mod Places
 pub mod Parts
 pub mod NetTexts
 pub mod Traversals

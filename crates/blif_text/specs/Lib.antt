@@ -1,5 +1,6 @@
 pub mod LogicalLines
 pub mod NamedNets
+pub mod Names
 pub mod NetText
 pub mod Places
 pub mod Plain

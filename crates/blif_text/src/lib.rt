@@ -8,6 +8,7 @@ mod limits;
 mod lines;
 mod named_net;
 mod named_table;
+mod names;
 mod open_table;
 pub mod reading;
 mod refusal;
