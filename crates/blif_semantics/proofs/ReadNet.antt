@@ -15,10 +15,10 @@ use Rattle.blif_semantics.specs.Lines.{Statement, logical_lines, statements}
 use Rattle.blif_semantics.specs.Statements.{is_printable, is_name, are_names, is_mark, kind_of, first_word, arguments, is_model, plane_of, row_plane, table_before, with_plane, table_by, Place, place_after, Wrong, bad_byte, after_end, second_model, names_empty, bad_name, bad_row, mixed_plane, agrees, unless, wrong, wrong_by, wrong_row, first_wrong}
 use Rattle.blif_semantics.specs.Tables.{NamedTable, mark_of, last_word, marks_of, named, with_row, with_rows, if_row, rows_first, table_first, tables_of}
 use Rattle.blif_semantics.specs.Reading.{text_long, wrong_line, NamedNet, is_inputs, is_outputs, listed, model_of, named_net, names_of, names_read, first_undriven_name, signal_named, numbered, unless_refused, lines_reading, blif_reading}
-use Rattle.blif_semantics.specs.Named.{IsNamedTable, IsNamedNet, IsDriven}
+use Rattle.blif_semantics.specs.Named.{IsNamedTable, IsNamedNet, with_signals, IsDriven}
 use Rattle.blif_semantics.proofs.Names.{IsName-from_test, IsName-from_are_names}
 use Rattle.blif_semantics.proofs.RightLines.{open_table, AllRight, all_right}
-use Rattle.blif_semantics.proofs.Looked.{with_signals, signal_named-below, each_there}
+use Rattle.blif_semantics.proofs.Looked.{signal_named-below, each_there}
 use Rattle.blif_semantics.proofs.Accepted.{IsAccepted, IsReadAs, read_parts, read_parts-if, accepted}
 
 -- ---- what a line is where nothing is wrong with it

@@ -9,12 +9,14 @@ mod lines;
 mod named_net;
 mod named_table;
 mod names;
+mod numbering;
 mod open_table;
 pub mod reading;
 mod refusal;
 mod rows;
 mod signals;
 mod statements;
+mod stub;
 #[cfg(test)]
 mod tests;
 mod words;

@@ -1,21 +1,29 @@
 //! A table whose pins are names. Source: BLIF's `.names` and its rows.
-ghost use Rattle.std.specs.Prelude.{◌≡◌, ◌-◌, [], IfOk, OnOk, map, take, length};
+ghost use Rattle.std.specs.Prelude.{◌≡◌, ◌-◌, [], Result, None, IfOk, OnOk, IfErr, map, take, length};
 ghost use Rattle.blif_semantics.specs.Tables.{mark_of, marks_of, is_one, last_word, named, with_row};
+ghost use Rattle.semantics.specs.Net.{NetValue};
+ghost use Rattle.blif_semantics.specs.Reading.{Refusal, undriven, unless_refused};
+ghost use Rattle.blif_semantics.specs.Named.{IsNamedTable, with_signals};
+ghost use Rattle.blif_text.specs.Refusals.{Tells};
+ghost use Rattle.blif_text.specs.Names.{first_unknown};
 ghost use Rattle.blif_text.specs.Words.{texts};
 
+use crate::names::{Names, name_of};
+use crate::refusal::BlifRefusal;
 use net_core::items::{Items, RowList};
 use net_core::mark::Mark;
 use net_core::row::Row;
+use net_core::table::Table;
 use std::alloc::{AllocError, Global};
 use std::marker::Model;
 
 /// A table whose rows are being read. The rows are all right: no line was wrong.
 #[derive(Drop)]
 pub struct NamedTable<'a> {
-    pub name: &'a [u8],
-    pub pins: Vec<&'a [u8]>,
-    pub rows: RowList,
-    pub plane: bool,
+    name: &'a [u8],
+    pins: Vec<&'a [u8]>,
+    rows: RowList,
+    plane: bool,
 }
 
 impl<'a> Model for NamedTable<'a> {
@@ -105,5 +113,30 @@ impl<'a> NamedTable<'a> {
         self.rows.push(marks_of(alloc, words)?)?;
         self.plane = is_one(last_word(words));
         Ok(())
+    }
+
+    pub fn name(&self) -> &'a [u8]
+        ensures { result.now ≡ self.now.name }
+    {
+        self.name
+    }
+
+    /// The table with signals in the place of names, or the refusal of its first pin that is no signal.
+    pub fn numbered(self, alloc: Global, names: &Names) -> Result<Table, BlifRefusal>
+        requires { IsNamedTable self }
+        ensures ok { IfOk result (λ t. t ≡ with_signals names.now self.entry) }
+        ensures known { OnOk result (first_unknown names.now self.entry.pins ≡ None) }
+        ensures err { IfErr result (λ told. (rest : Result NetValue Refusal)
+            → Tells told (unless_refused (first_unknown names.now self.entry.pins) undriven rest)) }
+    {
+        let NamedTable {
+            name,
+            pins,
+            rows,
+            plane,
+        } = self;
+        let pins = names.numbers(alloc, &pins)?;
+        let name = name_of(alloc, name)?;
+        Ok(Table::new(name, pins, rows, plane))
     }
 }
