@@ -2,6 +2,8 @@ pub mod Views
 pub mod Turns
 pub mod LineSteps
 pub mod Places
+pub mod Numbered
+pub mod Readings
 pub mod Parts
 pub mod NetTexts
 pub mod Traversals

@@ -3,7 +3,7 @@
 ghost use Rattle.std.specs.Prelude.{◌≡◌, ◌<◌, ◌+◌, ◌^◌, ◌==◌, false, ◌++◌, Result, Ok, None, IfOk, OnOk, IfErr, All, length, map, flat_map};
 ghost use Rattle.semantics.specs.Net.{NetValue};
 ghost use Rattle.semantics.specs.Refusals.{first_doubled};
-ghost use Rattle.blif_semantics.specs.Reading.{Refusal, undriven, unless_refused, names_of, grounded, driven, single};
+ghost use Rattle.blif_semantics.specs.Reading.{Refusal, undriven, unless_refused, names_of, grounded, single};
 ghost use Rattle.blif_semantics.specs.Named.{IsNamedTable, IsNamedNet, with_signals, IsDriven};
 ghost use Rattle.blif_text.specs.Refusals.{Tells};
 ghost use Rattle.blif_text.specs.Names.{first_unknown};
@@ -86,8 +86,8 @@ fn driven_net(alloc: Global, names: &Names, named: NamedNet) -> Result<Net, Blif
     requires few { length (names_of named) < 2 ^ 31 }
     requires differ { first_doubled (names_of named) ≡ None }
     requires output { (length named.outputs == 0) ≡ false }
-    ensures ok { IfOk result (λ n. driven named.entry ≡ Ok n) }
-    ensures err { IfErr result (λ told. Tells told (driven named.entry)) }
+    ensures ok { IfOk result (λ n. single named.entry ≡ Ok n) }
+    ensures err { IfErr result (λ told. Tells told (single named.entry)) }
 {
     let NamedNet {
         model,
