@@ -4,6 +4,7 @@ pub mod LineSteps
 pub mod Places
 pub mod Numbered
 pub mod Readings
+pub mod Sizes
 pub mod Parts
 pub mod NetTexts
 pub mod Traversals

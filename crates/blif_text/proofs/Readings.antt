@@ -1,6 +1,6 @@
 -- The reading of a text, refusal by refusal.
-use Rattle.std.proofs.Common.{◌≡◌, ℕ, ◌<◌, ◌≤◌, Bool, false, not, cond, leb, List, [], ◌∷◌, map, length, Option, Some, None, Result, Ok, Err, refl, sym, ap, subst, ◌∙◌}
-use Rattle.std.proofs.lemmas.Bool.{le-leb}
+use Rattle.std.proofs.Common.{◌≡◌, ℕ, ◌<◌, ◌≤◌, Bool, false, not, cond, leb, List, [], ◌∷◌, map, length, Option, Some, None, Result, Ok, Err, refl, sym, ap, ◌∙◌, arith}
+use Rattle.std.proofs.lemmas.Bool.{le-leb, leb-true, false_from_ne_true}
 use Rattle.semantics.specs.Texts.{Bytes, Line}
 use Rattle.semantics.specs.Net.{NetValue}
 use Rattle.blif_semantics.specs.Lines.{LogicalLine, Statement, words_of, logical_lines, statements}
@@ -10,6 +10,8 @@ use Rattle.blif_semantics.specs.Named.{IsNamedNet}
 use Rattle.blif_semantics.proofs.RightLines.{all_right}
 use Rattle.blif_semantics.proofs.ReadNet.{names_formed}
 use Rattle.blif_text.specs.LogicalLines.{with_words, statement_of}
+use Rattle.blif_text.specs.declared.refusal.BlifRefusal.{BlifRefusal}
+use Rattle.blif_text.specs.Refusals.{Tells}
 use Rattle.blif_text.specs.Places.{start, first_wrong_in}
 use Rattle.blif_text.proofs.LineSteps.{statements-with_words}
 
@@ -54,9 +56,16 @@ pub reading-short : (text : Bytes) (most : ℕ) → length text ≤ most → bli
 unfolding blif_reading
 reading-short text most short = rw (le-leb (length text) most short) refl
 
-pub reading-long : (text : Bytes) (most : ℕ) → leb (length text) most ≡ false → blif_reading text most ≡ Err text_long
+pub reading-long : (text : Bytes) (most : ℕ) → most < length text → blif_reading text most ≡ Err text_long
 unfolding blif_reading
-reading-long text most long = rw long refl
+reading-long text most long = rw (false_from_ne_true (leb (length text) most) (λ t. absurd (omega (arith, leb-true (length text) most t, long)))) refl
 
 pub reading-right : (text : Bytes) (most : ℕ) → length text ≤ most → first_wrong (statements (logical_lines text)) ≡ None → blif_reading text most ≡ single (named_net (lines_of text))
 reading-right text most short none = reading-short text most short ∙ ap (λ o. unless_refused o (λ w. wrong_line w.line w.wrong) (lines_reading (lines_of text))) none
+
+-- a line is wrong
+pub wrong_told : (text : Bytes) (most : ℕ) (lines : List LogicalLine) (told : BlifRefusal) → length text ≤ most → lines ≡ with_words (logical_lines text) → ((rest : Result NetValue Refusal) → Tells told (unless_refused (first_wrong_in start (map statement_of lines)) (λ w. wrong_line w.line w.wrong) rest)) → Tells told (blif_reading text most)
+wrong_told text most lines told short is h = λ refusal e.
+    reading-short text most short
+    ∙ ap (λ o. unless_refused o (λ w. wrong_line w.line w.wrong) (lines_reading (lines_of text))) (sym (judged text lines is))
+    ∙ h (lines_reading (lines_of text)) refusal e
