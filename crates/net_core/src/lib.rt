@@ -2,8 +2,13 @@
 #![tactic(auto)]
 
 pub mod items;
+pub mod limits;
 pub mod mark;
 pub mod name;
+mod names;
 pub mod net;
+pub mod order;
+pub mod refusal;
 pub mod row;
 pub mod table;
+mod undriven;

@@ -16,7 +16,7 @@ use Rattle.semantics.proofs.Depends.{each_weaker, IsGroundedIn-more}
 is_listed : (xs : List ℕ) (q : ℕ) → Contains xs q → list_any (eqb q) xs ≡ true
 is_listed xs q c = list_any-from_Any (eqb q) xs (c.0, q, c.1, c.2, eq-eqb q q refl)
 
-cases_Contains : (xs : List ℕ) (q : ℕ) → Contains xs q ⊎ (Contains xs q → ⊥)
+pub cases_Contains : (xs : List ℕ) (q : ℕ) → Contains xs q ⊎ (Contains xs q → ⊥)
 cases_Contains xs q =
     elim (cases_Bool (list_any (eqb q) xs)) [
       | inl found ↦ inl (Contains-from_any {eq = eqb} eqb-true q xs found)
@@ -29,7 +29,7 @@ order-next n tables before (j ∷ order) i h next =
     (h.0, order-next n tables (before ++ j ∷ []) order i h.1 (subst (λ l. IsNext n tables l i) (sym (append_assoc before (j ∷ []) order)) next))
 
 -- every table in it is a table, and does not stand before
-order-tables : (n : ℕ) (tables : List TableValue) (before order : List ℕ) → IsOrderAfter n tables before order → AllByRecursion (λ i. i < length tables) order
+pub order-tables : (n : ℕ) (tables : List TableValue) (before order : List ℕ) → IsOrderAfter n tables before order → AllByRecursion (λ i. i < length tables) order
 order-tables n tables before [] h = tt
 order-tables n tables before (i ∷ order) h = (h.0.table, order-tables n tables (before ++ i ∷ []) order h.1)
 
@@ -50,7 +50,7 @@ order-distinct n tables before (i ∷ order) h =
     (λ j f. ne_eqb i j (λ e. f (subst (Contains (before ++ i ∷ [])) e (Contains-push before i)))) (order-fresh n tables (before ++ i ∷ []) order h.1))
     (order-distinct n tables (before ++ i ∷ []) order h.1)
 
-order-at_most : (n : ℕ) (tables : List TableValue) (order : List ℕ) → IsOrderAfter n tables [] order → length order ≤ length tables
+pub order-at_most : (n : ℕ) (tables : List TableValue) (order : List ℕ) → IsOrderAfter n tables [] order → length order ≤ length tables
 order-at_most n tables order h =
     length-le_from_distinct_below order (length tables) (order-distinct n tables [] order h)
     (λ q e. All-contains (λ i. i < length tables) order q (All-from_recursion (λ i. i < length tables) order (order-tables n tables [] order h)) (Contains-from_any {eq = eqb} eqb-true q order e))
@@ -70,7 +70,7 @@ known-grounded n tables before k s g (inr c) =
       | inr high ↦ let place : n + (s - n) ≡ s = omega arith in subst (IsGroundedIn n tables k) place (g (s - n) c)
     ]
 
-order-grounded : (n : ℕ) (tables : List TableValue) (before order : List ℕ) (k : ℕ) → IsOrderAfter n tables before order → ((j : ℕ) → Contains before j → IsGroundedIn n tables k (n + j)) → (j : ℕ) → Contains (before ++ order) j → IsGroundedIn n tables (k + length order) (n + j)
+pub order-grounded : (n : ℕ) (tables : List TableValue) (before order : List ℕ) (k : ℕ) → IsOrderAfter n tables before order → ((j : ℕ) → Contains before j → IsGroundedIn n tables k (n + j)) → (j : ℕ) → Contains (before ++ order) j → IsGroundedIn n tables (k + length order) (n + j)
 order-grounded n tables before [] k h g j c = let same : k ≡ k + 0 = omega arith in subst (λ m. IsGroundedIn n tables m (n + j)) same (g j (rw append-nil at c))
 order-grounded n tables before (i ∷ order) k h g j c =
     let place : i ≡ (n + i) - n = omega arith in
