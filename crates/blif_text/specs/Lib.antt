@@ -1,4 +1,5 @@
 pub mod LogicalLines
+pub mod Messages
 pub mod NamedNets
 pub mod Names
 pub mod NetText

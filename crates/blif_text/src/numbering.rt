@@ -13,10 +13,12 @@ use crate::named_net::NamedNet;
 use crate::named_table::NamedTable;
 use crate::names::{Names, name_list, name_of};
 use crate::refusal::BlifRefusal;
-use crate::stub::{first_limit, from_ordered, order_of};
+use crate::stub::from_ordered;
 use net_core::items::{Items, NameList, SignalList, TableList};
+use net_core::limits::first_limit;
 use net_core::name::Name;
 use net_core::net::Net;
+use net_core::order::order_of;
 use std::alloc::{AllocError, Global};
 
 /// The names that are driven: those of the inputs, and then those of the tables.
