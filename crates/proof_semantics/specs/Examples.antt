@@ -1,14 +1,16 @@
 -- Worked examples, computed from the definitions.
-use Rattle.std.specs.Prelude.{◌≡◌, ℕ, true, false, List, [], ◌∷◌, ◌++◌, codes, ℤ, pos, neg_ℤ, Result, Ok, Err, ⊤}
+use Rattle.std.specs.Prelude.{length, ◌≡◌, ℕ, true, false, List, [], ◌∷◌, ◌++◌, codes, ℤ, pos, neg_ℤ, Result, Ok, Err, ⊤}
 use Rattle.semantics.specs.declared.mark.Mark.{Mark}
 use Rattle.semantics.specs.declared.mark.Mark.TheVariants.{Zero, One, Dash}
 use Rattle.semantics.specs.Net.{TableValue, constant_table}
-use Rattle.semantics.specs.Examples.{text, half_adder}
+use Rattle.semantics.specs.Error.{abs}
+use Rattle.semantics.specs.Examples.{text, half_adder, constant_sum, wire}
 use Rattle.proof_semantics.specs.declared.item.Item.TheVariants.{Add, Remove}
 use Rattle.proof_semantics.specs.declared.step_refusal.StepRefusal.{StepRefusal}
 use Rattle.proof_semantics.specs.declared.step_refusal.StepRefusal.TheVariants.{NotRising, UnknownId, NotUnit, NoConflict}
 use Rattle.proof_semantics.specs.Clauses.{Clause}
 use Rattle.proof_semantics.specs.NetClauses.{net_clauses}
+use Rattle.proof_semantics.specs.Miter.{miter}
 use Rattle.proof_semantics.specs.Formula.{formula_of, goal_of, dimacs_text}
 use Rattle.proof_semantics.specs.Logs.{StepValue, LogItem, held_of, step_answer, removed_from, Refutes, IsSoundLog, IsDerivation}
 use Rattle.proof_semantics.specs.Lrat.{lrat_text}
@@ -92,3 +94,8 @@ pub record LratExamples : Type 0 where
   pub removals : lrat_text (Remove (1 ∷ []) ∷ refutation_with_removals)
       ≡ text (codes "0 d 1 0" ∷ codes "7 2 0 1 2 0" ∷ codes "7 d 1 9 0" ∷ codes "10 0 7 3 0" ∷ codes "10 d 0" ∷ [])
   pub literals : lrat_text (Add (step 12 (not_ 3 ∷ pos 40 ∷ []) (11 ∷ [])) ∷ []) ≡ text (codes "12 -3 40 0 11 0" ∷ [])
+
+-- one wire against itself, and the half adder whose sum is constant against the half adder
+pub record MiterExamples : Type 0 where
+  pub of_wires : ((miter wire wire abs 0).variables ≡ 41) × (length (miter wire wire abs 0).clauses ≡ 132)
+  pub of_adders : ((miter half_adder constant_sum abs 1).variables ≡ 76) × (length (miter half_adder constant_sum abs 1).clauses ≡ 246)

@@ -251,7 +251,7 @@ length-outputs_of : (N : NetValue) (x : List Bool) → length (outputs_of N x) �
 unfolding outputs_of
 length-outputs_of N x = length-map N.outputs (value_of (input_count N) N.tables x)
 
-outputs_are : (N M : NetValue) (metric : Metric) (k : ℕ) (x : List Bool) → outputs_of (joint_net N M metric k) x ≡ value_of (input_count N) (joint_net N M metric k).tables x (quality_signal N M (quality metric (length N.outputs) k).signal) ∷ []
+pub outputs_are : (N M : NetValue) (metric : Metric) (k : ℕ) (x : List Bool) → outputs_of (joint_net N M metric k) x ≡ value_of (input_count N) (joint_net N M metric k).tables x (quality_signal N M (quality metric (length N.outputs) k).signal) ∷ []
 unfolding outputs_of
 outputs_are N M metric k x =
     let J : NetValue = joint_net N M metric k in
