@@ -1,8 +1,8 @@
 -- What makes parts, and a net with one table replaced, a net of this crate.
-use Rattle.std.proofs.Common.{ℕ, ◌+◌, ◌≡◌, ◌<◌, ◌++◌, length, All, ap, sym, arith, length-set}
+use Rattle.std.proofs.Common.{ℕ, ◌+◌, ◌≡◌, ◌<◌, ◌++◌, length, All, ap, length-set}
 use Rattle.std.proofs.Math.Seq.{map-set_same}
 use Rattle.semantics.specs.Net.{TableValue, NetValue, table_at, no_table, table_count, input_count, signal_count, signal_names, IsName, IsTable, IsAcyclic}
-use Rattle.semantics.specs.Replaced.{replaced, with_table}
+use Rattle.semantics.specs.Replaced.{with_table}
 use Rattle.net_core.specs.Built.{IsBuilt, IsWired}
 use Rattle.net_core.proofs.Eval.{acyclic-pins}
 

@@ -4,7 +4,7 @@ use Rattle.std.proofs.lemmas.Bool.{cases_eq, cases_lt}
 use Rattle.std.proofs.lemmas.List.{append-nil, get_or_append_left, get_or_read, get_or_default, take_all, take_more}
 use Rattle.std.proofs.lemmas.List.Elements.{All-weaker, All-contains_itself, Contains-push_cases}
 use Rattle.semantics.specs.Net.{TableValue, no_table, table_at, IsAcyclic}
-use Rattle.semantics.specs.Value.{Assignment, table_value, value_of}
+use Rattle.semantics.specs.Value.{table_value, value_of}
 use Rattle.semantics.specs.Order.{IsKnown, IsNext, IsOrderAfter, IsOrderOf}
 use Rattle.semantics.proofs.Values.{value_law}
 use Rattle.semantics.proofs.Depends.{pin_is_signal}

@@ -1,5 +1,5 @@
 -- The first refusal that holds of the parts is the one that is told.
-use Rattle.std.proofs.Common.{◌≡◌, ℕ, ◌+◌, ◌<◌, ◌^◌, Bool, true, false, eqb, List, length, Some, None, All, refl, arith}
+use Rattle.std.proofs.Common.{◌≡◌, ℕ, ◌+◌, ◌<◌, ◌^◌, true, false, eqb, length, Some, None, refl, arith}
 use Rattle.std.proofs.lemmas.Bool.{eqb-false}
 use Rattle.semantics.specs.Texts.{Bytes}
 use Rattle.semantics.specs.declared.which.Which.{Which}

@@ -9,8 +9,8 @@ ghost use Rattle.net_core.specs.Built.{IsBuilt, IsWired};
 ghost use Rattle.net_core.specs.Refused.{IsRefusalOf};
 
 use crate::items::{NameList, Signal, SignalList, TableList};
-use crate::name::Name;
 use crate::limits::first_limit;
+use crate::name::Name;
 use crate::names::{first_doubled, name_at};
 use crate::order::order_of;
 use crate::refusal::NetRefusal;

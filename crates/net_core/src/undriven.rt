@@ -12,11 +12,7 @@ fn first_past(signals: &[Signal], count: u32) -> Option<Signal>
 }
 
 /// The first pin, in table and pin order, and then the first output that is none of so many signals.
-pub(crate) fn first_undriven(
-    count: u32,
-    tables: &TableList,
-    outputs: &SignalList,
-) -> Option<Signal>
+pub(crate) fn first_undriven(count: u32, tables: &TableList, outputs: &SignalList) -> Option<Signal>
     ensures { result ≡ find (λ s. not (nat_lt s count)) (flat_map (λ t. t.pins) tables.now ++ outputs.now) }
 {
     for table in tables.as_slice() {

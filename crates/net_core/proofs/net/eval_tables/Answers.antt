@@ -1,4 +1,4 @@
-use Rattle.std.proofs.Common.{get_or, length, refl, arith}
+use Rattle.std.proofs.Common.{get_or, refl, arith}
 use Rattle.net_core.proofs.Eval.{known_none, member_within, pins_in, known_more, known_all}
 use Rattle.net_core.proofs.net.eval_tables.Goals as goal
 

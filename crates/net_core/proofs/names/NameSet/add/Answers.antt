@@ -1,4 +1,4 @@
-use Rattle.std.proofs.Common.{not, sym, ap, subst, ◌∙◌, ◌≡◌, List}
+use Rattle.std.proofs.Common.{not, ap, ◌∙◌, List}
 use Rattle.semantics.specs.Texts.{Bytes}
 use Rattle.semantics.specs.Refusals.{has_name}
 use Rattle.net_core.proofs.Keys.{has_name-keys}

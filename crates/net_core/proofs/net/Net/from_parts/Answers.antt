@@ -1,9 +1,9 @@
-use Rattle.std.proofs.Common.{◌≡◌, ◌++◌, ◌+◌, ℕ, Some, None, true, false, eqb, length, map, All, sym, ap, subst, ◌∙◌, arith}
+use Rattle.std.proofs.Common.{◌≡◌, Some, None, length, sym, ap, ◌∙◌, arith}
 use Rattle.std.proofs.lemmas.Option.{MatchOption-at_none, MatchOption-at_some}
 use Rattle.std.proofs.lemmas.Result.{MatchResult-at_ok, MatchResult-at_err}
-use Rattle.semantics.specs.Net.{TableValue, NetValue, input_count, signal_names}
+use Rattle.semantics.specs.Net.{NetValue, input_count, signal_names}
 use Rattle.semantics.specs.Order.{IsOrderOf}
-use Rattle.semantics.specs.Refusals.{first_doubled, first_undriven, first_ungrounded, doubled, cycle}
+use Rattle.semantics.specs.Refusals.{first_doubled, first_undriven, first_ungrounded}
 use Rattle.semantics.proofs.Ordered.{order-acyclic}
 use Rattle.semantics.proofs.Refused.{acyclic-grounded, ungrounded, driven}
 use Rattle.net_core.proofs.Refusing.{doubled_told, no_output_told, undriven_told, cycle_told, limit_told, none_told, wired}

@@ -1,4 +1,4 @@
-use Rattle.std.proofs.Common.{◌≡◌, length, sym, subst, ◌∙◌, Some}
+use Rattle.std.proofs.Common.{◌≡◌, length, sym, ◌∙◌, Some}
 use Rattle.std.proofs.lemmas.Option.{none-some}
 use Rattle.std.proofs.lemmas.Result.{MatchResult-at_err}
 use Rattle.semantics.specs.Net.{IsAcyclic}
