@@ -4,7 +4,7 @@ use Rattle.std.proofs.lemmas.Option.{same_Some}
 use Rattle.semantics.specs.Texts.{Bytes, Line}
 use Rattle.semantics.specs.Net.{TableValue, NetValue, signal_names}
 use Rattle.blif_semantics.specs.PlainReading.{Draft, words_after, read_lines, signals_of}
-use Rattle.blif_semantics.proofs.PlainLines.{signal_names-are_names}
+use Rattle.blif_semantics.proofs.NetLines.{signal_names-are_names}
 use Rattle.blif_text.specs.Reading.{AreNames, IsHopeless, IsReadAs, IsPlainNet}
 use Rattle.blif_text.proofs.Drafts.{AreNames-front}
 use Rattle.blif_text.proofs.Written.{IsWrittenAs-read}

@@ -11,7 +11,7 @@ use Rattle.semantics.specs.Net.{TableValue, NetValue, no_table, input_count, sig
 use Rattle.semantics.specs.Blif.{row_line, names_line, table_lines}
 use Rattle.blif_semantics.specs.PlainReading.{front_of, signals_of, Draft, with_table, with_row_line, read_line, read_lines}
 use Rattle.semantics.proofs.Order.{IsAcyclic-in_order}
-use Rattle.blif_semantics.proofs.PlainLines.{length-signal_names}
+use Rattle.blif_semantics.proofs.NetLines.{length-signal_names}
 use Rattle.blif_text.specs.Reading.{HasRows, AreNames}
 use Rattle.blif_text.proofs.Traversals.{bind-some}
 use Rattle.blif_text.proofs.Drafts.{begun, with_last, IsBegun-with_table, TakesRow-with_row_line, line_cases}
