@@ -55,7 +55,7 @@ pins-next names tables rest t all is known same =
 pub pins-told : (names : List Bytes) (tables rest : List NamedTable) (t : NamedTable) (all : Option Bytes) (told : BlifRefusal) → tables ≡ t ∷ rest → first_unknown names (pins_of tables) ≡ all → ((more : Result NetValue Refusal) → Tells told (unless_refused (first_unknown names t.pins) undriven more)) → (more : Result NetValue Refusal) → Tells told (unless_refused all undriven more)
 pins-told names tables rest t all told is same h more =
     let cut : unless_refused all undriven more ≡ unless_refused (first_unknown names t.pins) undriven (unless_refused (first_unknown names (pins_of rest)) undriven more) =
-        ap (λ o. unless_refused o undriven more) (sym same ∙ ap (λ l. first_unknown names (pins_of l)) is) ∙ unknown-append names t.pins (pins_of rest) more in
+    ap (λ o. unless_refused o undriven more) (sym same ∙ ap (λ l. first_unknown names (pins_of l)) is) ∙ unknown-append names t.pins (pins_of rest) more in
     λ refusal e. cut ∙ h (unless_refused (first_unknown names (pins_of rest)) undriven more) refusal e
 
 -- ---- cycles and limits
@@ -69,9 +69,9 @@ table_within n tables i found = (ungrounded n tables i found).within
 pub cycle_told : (N : NetValue) (i : ℕ) (name : Bytes) (t : TableValue) → first_ungrounded (input_count N) N.tables ≡ Some i → name ≡ (get_or N.tables i t).name → (refusal : Refusal) → Some (cycle name) ≡ Some refusal → grounded N ≡ Err refusal
 cycle_told N i name t found is refusal e =
     let at : name_of (signal_names N) (input_count N + i) ≡ name =
-        get_or-append-add N.inputs (map (λ u. u.name) N.tables) i []
-        ∙ get_or-map (λ u. u.name) N.tables i t [] (table_within (input_count N) N.tables i found)
-        ∙ sym is in
+    get_or-append-add N.inputs (map (λ u. u.name) N.tables) i []
+    ∙ get_or-map (λ u. u.name) N.tables i t [] (table_within (input_count N) N.tables i found)
+    ∙ sym is in
     ap (λ o. unless_refused o (λ j. cycle (name_of (signal_names N) (input_count N + j))) (sized N)) found
     ∙ ap (λ n. Err (cycle n)) at
     ∙ ap Err (same_Some _ _ e)

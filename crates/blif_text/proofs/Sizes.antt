@@ -61,9 +61,10 @@ taken n bs = omega (arith, length-take n bs)
 
 commented : (line : Bytes) → length (without_comment line) ≤ length line
 commented line = at_place (position (λ b. b == 35) line)
-    where at_place : (o : Option ℕ) → length {A = ℕ} (elim o [ None ↦ line | Some at ↦ take at line ]) ≤ length line
-          at_place None = omega arith
-          at_place (Some at) = taken at line
+  where
+    at_place : (o : Option ℕ) → length {A = ℕ} (elim o [ None ↦ line | Some at ↦ take at line ]) ≤ length line
+    at_place None = omega arith
+    at_place (Some at) = taken at line
 
 front_below : (line front : Bytes) → before_backslash line ≡ Some front → length front ≤ length line
 front_below line front e =
@@ -80,10 +81,11 @@ joined_total line (next ∷ lines) = omega (arith, length-append line.bytes next
 
 line_below : (number : ℕ) (line : Bytes) (lines : List LogicalLine) → bytes_total (line_before number line lines) ≤ length line + bytes_total lines
 line_below number line lines = at_front (before_backslash line) refl
-    where at_front : (o : Option Bytes) → before_backslash line ≡ o
-              → bytes_total (elim o [ None ↦ record { number = number; bytes = line } ∷ lines | Some bytes ↦ joined_before (record { number = number; bytes = bytes }) lines ]) ≤ length line + bytes_total lines
-          at_front None e = omega arith
-          at_front (Some front) e = omega (arith, joined_total (record { number = number; bytes = front }) lines, front_below line front e)
+  where
+    at_front : (o : Option Bytes) → before_backslash line ≡ o
+        → bytes_total (elim o [ None ↦ record { number = number; bytes = line } ∷ lines | Some bytes ↦ joined_before (record { number = number; bytes = bytes }) lines ]) ≤ length line + bytes_total lines
+    at_front None e = omega arith
+    at_front (Some front) e = omega (arith, joined_total (record { number = number; bytes = front }) lines, front_below line front e)
 
 logical_below : (number : ℕ) (parts : List Bytes) → bytes_total (logical_from number parts) ≤ total parts
 logical_below number [] = omega arith

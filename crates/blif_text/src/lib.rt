@@ -17,7 +17,6 @@ pub mod refusal;
 mod rows;
 mod signals;
 mod statements;
-mod stub;
 #[cfg(test)]
 mod tests;
 mod words;

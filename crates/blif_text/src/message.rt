@@ -8,6 +8,7 @@ use std::error::Error;
 use std::fmt;
 
 /// The bytes of a name or a word, which are text.
+#[derive(Drop)]
 struct Text<'a>(&'a [u8]);
 
 impl<'a> fmt::Display for Text<'a> {

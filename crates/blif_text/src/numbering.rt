@@ -13,7 +13,6 @@ use crate::named_net::NamedNet;
 use crate::named_table::NamedTable;
 use crate::names::{Names, name_list, name_of};
 use crate::refusal::BlifRefusal;
-use crate::stub::from_ordered;
 use net_core::items::{Items, NameList, SignalList, TableList};
 use net_core::limits::first_limit;
 use net_core::name::Name;
@@ -78,7 +77,7 @@ fn ordered_net(
     if let Some(which) = first_limit(&inputs, &tables, &outputs) {
         return Err(BlifRefusal::Limit { which });
     }
-    Ok(from_ordered(alloc, model, inputs, tables, outputs, order)?)
+    Ok(Net::from_ordered(model, inputs, tables, outputs, order))
 }
 
 /// The net of a net of names in which these are driven, each once.

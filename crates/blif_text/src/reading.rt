@@ -10,11 +10,11 @@ ghost use Rattle.blif_text.specs.Words.{texts, words_of};
 ghost use Rattle.blif_text.specs.Reading.{AreSmall, IsReadAs, IsPlainNet, IsReadAsNoPlainNet};
 
 use crate::draft::Draft;
+use crate::joining::lines_with_words;
+use crate::judging::judge;
 use crate::limits::{
     MOST_BYTES, MOST_INPUTS, MOST_OUTPUTS, MOST_PINS, MOST_ROWS, MOST_TABLE_PINS, MOST_TABLES,
 };
-use crate::joining::lines_with_words;
-use crate::judging::judge;
 use crate::named_net::named_net;
 use crate::numbering::net_of;
 use crate::refusal::{BlifRefusal, Refusal};

@@ -14,54 +14,27 @@ use std::alloc::{AllocError, AllocFailed};
 pub enum BlifRefusal {
     /// The text has more bytes than the limit.
     TextLong,
-    BadByte {
-        line: u64,
-    },
+    BadByte { line: u64 },
     /// A command that is none of the five.
-    Command {
-        line: u64,
-        word: Word,
-    },
+    Command { line: u64, word: Word },
     /// A row that stands behind no table.
-    StrayRow {
-        line: u64,
-    },
-    BadRow {
-        line: u64,
-    },
+    StrayRow { line: u64 },
+    BadRow { line: u64 },
     /// A row whose plane is not that of its table's first row.
-    MixedPlane {
-        line: u64,
-    },
-    SecondModel {
-        line: u64,
-    },
-    AfterEnd {
-        line: u64,
-    },
+    MixedPlane { line: u64 },
+    SecondModel { line: u64 },
+    AfterEnd { line: u64 },
     /// `.names` alone.
-    NamesEmpty {
-        line: u64,
-    },
-    BadName {
-        line: u64,
-    },
+    NamesEmpty { line: u64 },
+    BadName { line: u64 },
     /// An input or a table has the name of one before.
-    Doubled {
-        name: Name,
-    },
+    Doubled { name: Name },
     /// A pin or an output is no input and no table.
-    Undriven {
-        name: Name,
-    },
+    Undriven { name: Name },
     NoOutput,
     /// The first table that depends on itself or on a table that does.
-    Cycle {
-        name: Name,
-    },
-    Limit {
-        which: Which,
-    },
+    Cycle { name: Name },
+    Limit { which: Which },
     OutOfMemory,
 }
 

@@ -32,11 +32,11 @@ ordered_net-requires-clause-driven c =
     let outputs : texts c.deref-2.result.now ≡ d.outputs = ap texts c.deref-2.ensures.value ∙ ap (λ v. v.outputs) c.named.view_is in
     let N : NetValue = record { model = c.in_ok-model.model; inputs = c.in_ok-inputs.inputs; tables = c.in_ok-tables.tables; outputs = c.in_ok-outputs.outputs } in
     let same : N ≡ numbered d =
-        numbered_as d names N c.requires.names
-        (c.in_ok-model.ensures ∙ ap (λ v. v.model) c.named.view_is)
-        (c.in_ok-inputs.ensures ∙ ap texts c.deref.ensures.value ∙ ap (λ v. v.inputs) c.named.view_is)
-        (c.in_ok-tables.ensures.ok ∙ ap (map (with_signals names)) tables)
-        (c.in_ok-outputs.ensures.ok ∙ ap (map (signal_named names)) outputs) in
+    numbered_as d names N c.requires.names
+    (c.in_ok-model.ensures ∙ ap (λ v. v.model) c.named.view_is)
+    (c.in_ok-inputs.ensures ∙ ap texts c.deref.ensures.value ∙ ap (λ v. v.inputs) c.named.view_is)
+    (c.in_ok-tables.ensures.ok ∙ ap (map (with_signals names)) tables)
+    (c.in_ok-outputs.ensures.ok ∙ ap (map (signal_named names)) outputs) in
     let none = none_undriven d names (texts c.deref-2.result.now) c.named.inside.tables.items c.requires.names tables outputs c.in_ok-tables.ensures.known c.in_ok-outputs.ensures.known in
     subst IsDriven (sym same) (net_driven d c.requires.differ c.requires.output none)
 
@@ -48,11 +48,11 @@ returns-clause-ok c =
     let outputs : texts c.deref-2.result.now ≡ d.outputs = ap texts c.deref-2.ensures.value ∙ ap (λ v. v.outputs) c.named.view_is in
     let N : NetValue = record { model = c.in_ok-model.model; inputs = c.in_ok-inputs.inputs; tables = c.in_ok-tables.tables; outputs = c.in_ok-outputs.outputs } in
     let same : N ≡ numbered d =
-        numbered_as d names N c.requires.names
-        (c.in_ok-model.ensures ∙ ap (λ v. v.model) c.named.view_is)
-        (c.in_ok-inputs.ensures ∙ ap texts c.deref.ensures.value ∙ ap (λ v. v.inputs) c.named.view_is)
-        (c.in_ok-tables.ensures.ok ∙ ap (map (with_signals names)) tables)
-        (c.in_ok-outputs.ensures.ok ∙ ap (map (signal_named names)) outputs) in
+    numbered_as d names N c.requires.names
+    (c.in_ok-model.ensures ∙ ap (λ v. v.model) c.named.view_is)
+    (c.in_ok-inputs.ensures ∙ ap texts c.deref.ensures.value ∙ ap (λ v. v.inputs) c.named.view_is)
+    (c.in_ok-tables.ensures.ok ∙ ap (map (with_signals names)) tables)
+    (c.in_ok-outputs.ensures.ok ∙ ap (map (signal_named names)) outputs) in
     let none = none_undriven d names (texts c.deref-2.result.now) c.named.inside.tables.items c.requires.names tables outputs c.in_ok-tables.ensures.known c.in_ok-outputs.ensures.known in
     subst (λ g. IfOk c.ordered_net.result (λ n. g ≡ Ok n)) (ap grounded same ∙ sym (driven-grounded d none) ∙ sym (single-driven d c.requires.differ c.requires.output)) c.ordered_net.ensures.ok
 
@@ -64,10 +64,10 @@ returns-clause-err c =
     let outputs : texts c.deref-2.result.now ≡ d.outputs = ap texts c.deref-2.ensures.value ∙ ap (λ v. v.outputs) c.named.view_is in
     let N : NetValue = record { model = c.in_ok-model.model; inputs = c.in_ok-inputs.inputs; tables = c.in_ok-tables.tables; outputs = c.in_ok-outputs.outputs } in
     let same : N ≡ numbered d =
-        numbered_as d names N c.requires.names
-        (c.in_ok-model.ensures ∙ ap (λ v. v.model) c.named.view_is)
-        (c.in_ok-inputs.ensures ∙ ap texts c.deref.ensures.value ∙ ap (λ v. v.inputs) c.named.view_is)
-        (c.in_ok-tables.ensures.ok ∙ ap (map (with_signals names)) tables)
-        (c.in_ok-outputs.ensures.ok ∙ ap (map (signal_named names)) outputs) in
+    numbered_as d names N c.requires.names
+    (c.in_ok-model.ensures ∙ ap (λ v. v.model) c.named.view_is)
+    (c.in_ok-inputs.ensures ∙ ap texts c.deref.ensures.value ∙ ap (λ v. v.inputs) c.named.view_is)
+    (c.in_ok-tables.ensures.ok ∙ ap (map (with_signals names)) tables)
+    (c.in_ok-outputs.ensures.ok ∙ ap (map (signal_named names)) outputs) in
     let none = none_undriven d names (texts c.deref-2.result.now) c.named.inside.tables.items c.requires.names tables outputs c.in_ok-tables.ensures.known c.in_ok-outputs.ensures.known in
     subst (λ g. IfErr c.ordered_net.result (λ told. Tells told g)) (ap grounded same ∙ sym (driven-grounded d none) ∙ sym (single-driven d c.requires.differ c.requires.output)) c.ordered_net.ensures.err

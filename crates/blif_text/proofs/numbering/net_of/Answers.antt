@@ -10,15 +10,15 @@ pub of-requires-clause-named : goal.of-requires-clause-named
 of-requires-clause-named c =
     let d : NamedNet = c.args.named in
     let names : texts c.deref-3.result.now ≡ names_of d =
-        ap texts c.deref-3.ensures.value ∙ c.in_ok-all.ensures
-        ∙ names_as d (texts c.deref.result.now) c.deref-2.result.now (ap texts c.deref.ensures.value ∙ ap (λ v. v.inputs) c.named.view_is) (c.deref-2.ensures.value ∙ ap (λ v. v.tables) c.named.view_is) in
+    ap texts c.deref-3.ensures.value ∙ c.in_ok-all.ensures
+    ∙ names_as d (texts c.deref.result.now) c.deref-2.result.now (ap texts c.deref.ensures.value ∙ ap (λ v. v.inputs) c.named.view_is) (c.deref-2.ensures.value ∙ ap (λ v. v.tables) c.named.view_is) in
     subst (All IsName) (sym names) (names_named d c.requires.named)
 
 pub returns-in_err-names-clause-err : goal.returns-in_err-names-clause-err
 returns-in_err-names-clause-err c =
     let d : NamedNet = c.args.named in
     let names : texts c.deref-3.result.now ≡ names_of d =
-        ap texts c.deref-3.ensures.value ∙ c.in_ok-all.ensures
-        ∙ names_as d (texts c.deref.result.now) c.deref-2.result.now (ap texts c.deref.ensures.value ∙ ap (λ v. v.inputs) c.named.view_is) (c.deref-2.ensures.value ∙ ap (λ v. v.tables) c.named.view_is) in
+    ap texts c.deref-3.ensures.value ∙ c.in_ok-all.ensures
+    ∙ names_as d (texts c.deref.result.now) c.deref-2.result.now (ap texts c.deref.ensures.value ∙ ap (λ v. v.inputs) c.named.view_is) (c.deref-2.ensures.value ∙ ap (λ v. v.tables) c.named.view_is) in
     passed_on _ _ _ (err_from_is_err_and c.from_residual-in_err-names.result c.from_residual-in_err-names.ensures.1)
     (doubled_told d _ _ names c.in_err-names.ensures.err)

@@ -34,4 +34,4 @@ returns-clause-ok c =
     let N : NetValue = record { model = c.args.model; inputs = c.args.inputs; tables = c.args.tables; outputs = c.args.outputs } in
     let order = rw c.in-Ok.is at c.in_ok-order.ensures in
     let none = ap (λ n. first_ungrounded n c.args.tables) (sym c.len.ensures) ∙ ap (first_ungrounded c.len.result) (sym c.as_slice.ensures) ∙ order-grounded _ _ _ order in
-    ordered_ok N none (sym (c.first_limit.ensures c.args.model) ∙ c.in_default.is) ∙ ap Ok (sym c.in_ok-from_ordered.ensures)
+    ordered_ok N none (sym (c.first_limit.ensures c.args.model) ∙ c.in_default.is) ∙ ap Ok (sym c.from_ordered.ensures)
