@@ -1,11 +1,11 @@
 -- The laws about the networks, each the contract of a function without parameters.
-use Rattle.std.specs.Prelude.{◌≡◌, ℕ, suc, ◌+◌, ◌*◌, ◌^◌, ◌<◌, ◌≤◌, max, nat_lt, nat_le, count_by, Bool, true, false, List, [], ◌∷◌, ◌++◌, map, length, take, drop}
+use Rattle.std.specs.Prelude.{◌≡◌, ℕ, suc, ◌+◌, ◌*◌, ◌^◌, ◌<◌, ◌≤◌, max, nat_lt, nat_le, count_by, Bool, true, false, List, [], ◌∷◌, ◌++◌, map, length, take, drop, ◌-◌, slice_index_or}
 use Rattle.std.specs.List.{range_with_len}
 use Rattle.semantics.specs.Net.{NetValue, table_at, input_count, signal_count, IsAcyclic, IsSound, HasSamePorts}
 use Rattle.semantics.specs.Value.{Assignment, table_value, value_of, outputs_of}
 use Rattle.semantics.specs.Error.{Metric, number_of, distance, rounded_up, differing, error_of, net_error}
 use Rattle.quality_semantics.specs.WordNets.{WordNetValue, signals, started, BeginsWith, IsWordNet}
-use Rattle.quality_semantics.specs.Buses.{constant, add, times, greater, exceed, not_zero_low, differ, at_least}
+use Rattle.quality_semantics.specs.Buses.{binary, constant, add, times, greater, exceed, not_zero_low, differ, at_least}
 use Rattle.quality_semantics.specs.Multiply.{multiply, multiplier_net, Multiplies}
 use Rattle.quality_semantics.specs.Quality.{quality, quality_net, TellsExcess}
 use Rattle.quality_semantics.specs.Joint.{approximate_signal, quality_signal, joint_net, AreComparable}
@@ -42,6 +42,12 @@ pub record BusLaw : Type 0 where
 pub record FitsLaw : Type 0 where
   pub values : (W : WordNetValue) (x : List Bool) → IsWordNet W → BeginsWith W (started W.inputs) → Fits (value_of W.inputs W.tables x) W
   pub earlier : (v : Assignment) (W V : WordNetValue) → BeginsWith W V → Fits v W → Fits v V
+
+-- the bits of a number have that number, and the highest of them is 1
+pub record BinaryLaw : Type 0 where
+  pub number : (k : ℕ) → number_of (binary k) ≡ k
+  pub none : binary 0 ≡ []
+  pub highest : (k : ℕ) → 0 < k → slice_index_or (binary k) (length (binary k) - 1) false ≡ true
 
 -- a quotient rounded up exceeds a number exactly where the dividend exceeds its product with the divisor
 abbrev pub RoundingLaw : Type 0

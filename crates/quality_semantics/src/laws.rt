@@ -1,5 +1,5 @@
 //! The laws about the networks: each function's contract is a law.
-ghost use Rattle.quality_semantics.specs.Laws.{BusLaw, FitsLaw, RoundingLaw, MultiplierLaw, QualityLaw, JointLaw};
+ghost use Rattle.quality_semantics.specs.Laws.{BusLaw, FitsLaw, RoundingLaw, MultiplierLaw, QualityLaw, JointLaw, BinaryLaw};
 
 /// What the buses' numbers are.
 pub fn buses()
@@ -9,6 +9,11 @@ pub fn buses()
 /// Which assignments fit a network.
 pub fn fitting()
     ensures { FitsLaw }
+{}
+
+/// The bits of a number.
+pub fn binary_numbers()
+    ensures { BinaryLaw }
 {}
 
 /// Quotients rounded up.
