@@ -1,15 +1,17 @@
--- What IN must be. Source: BLIF, as this tool reads it so far.
+-- What IN must be. Source: BLIF, as this tool reads it.
+use Rattle.std.specs.Prelude.{◌≡◌, Ok, Err}
 use Rattle.semantics.specs.Texts.{Bytes}
 use Rattle.semantics.specs.Net.{NetValue}
-use Rattle.blif_semantics.specs.Plain.{IsPlainFor}
+use Rattle.blif_semantics.specs.Reading.{input_limit, Refusal, blif_reading}
 
 -- the bytes are read as the net
 abbrev pub IsReadAs : Bytes → NetValue → Type 0
-IsReadAs = IsPlainFor
+IsReadAs text N = blif_reading text input_limit ≡ Ok N
 
--- the bytes are read as some net, or as none
+-- the bytes are read as some net
 abbrev pub IsAccepted : Bytes → Type 0
 IsAccepted text = (N : NetValue) × IsReadAs text N
 
-abbrev pub IsRefused : Bytes → Type 0
-IsRefused text = ¬ IsAccepted text
+-- the bytes are read as no net, for this reason
+abbrev pub IsRefusedFor : Bytes → Refusal → Type 0
+IsRefusedFor text refusal = blif_reading text input_limit ≡ Err refusal

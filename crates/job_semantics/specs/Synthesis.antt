@@ -1,18 +1,19 @@
 -- What a synth job with the absolute error comes to, by its answer. Source: SALSA, simplification within a bound on the error.
-use Rattle.std.specs.Prelude.{◌≡◌, ◌⊎◌, ℕ, ◌≤◌, Bool, false, IsTrue, Some, List, []}
+use Rattle.std.specs.Prelude.{◌≡◌, ◌⊎◌, ℕ, ◌<◌, ◌≤◌, Bool, false, IsTrue, Some, List, []}
 use Rattle.std.specs.FinMap.{contains_key}
 use Rattle.semantics.specs.Texts.{Bytes}
 use Rattle.semantics.specs.Net.{NetValue, input_count, table_count, literal_count}
 use Rattle.semantics.specs.Error.{Metric, net_error, IsWithin}
 use Rattle.semantics.specs.Vectors.{all_vectors, IsFirstGreatestAt}
 use Rattle.semantics.specs.Blif.{blif_text}
+use Rattle.blif_semantics.specs.Reading.{Refusal}
 use Rattle.chain_semantics.specs.ConstantChain.{IsConstantChainEnd}
 use Rattle.outside_semantics.specs.Outside.{Held, FilesTold, SinkTold, Goes, Rose, WhereTold, Took, TakeFailed, bytes_of}
 use Rattle.outside_semantics.specs.WrittenFiles.{File, FilesWritten, FilesCutShort}
 use Rattle.job_semantics.specs.declared.ending.Ending.{Ending}
 use Rattle.job_semantics.specs.declared.ending.Ending.TheVariants.{Netlist, Formula, Log, Vectors, Report}
 use Rattle.job_semantics.specs.Endings.{bundle_files, are_bundle_names_steady}
-use Rattle.job_semantics.specs.Input.{IsReadAs, IsAccepted, IsRefused}
+use Rattle.job_semantics.specs.Input.{IsReadAs, IsAccepted, IsRefusedFor}
 use Rattle.job_semantics.specs.Report.{report_of, report_text, vectors_text}
 
 -- a simplified net, its exact maximum error, and an input that attains it
@@ -51,10 +52,19 @@ synth_files exact metric bound stem s = bundle_files stem (synth_text exact metr
 abbrev pub WhereHeld : FilesTold → Bytes → (Held → Type 0) → Type 0
 WhereHeld old name P = (a : Held) → old.held ≡ Some a → IsTrue (contains_key a name) → P a
 
+-- P of the bytes of IN, where the files are told at entry and at exit, and where they are told at entry and hold IN
+pub record OfInput (old new : FilesTold) (input : Bytes) (P : Bytes → Type 0) : Type 0 where
+  pub told : WhereTold old new (λ a b. P (bytes_of a input))
+  pub at_entry : WhereHeld old input (λ a. P (bytes_of a input))
+
+-- the most inputs of a net that is simplified so far
+abbrev pub most_inputs : ℕ
+most_inputs = 8
+
 -- IN was read as the exact net, and this is what it is simplified to
 pub record IsSimplifiedInput (metric : Metric) (bound : ℕ) (input : Bytes) (old new : FilesTold) (exact : NetValue) (s : Simplified) : Type 0 where
-  pub read : WhereTold old new (λ a b. IsReadAs (bytes_of a input) exact)
-  pub read_at_entry : WhereHeld old input (λ a. IsReadAs (bytes_of a input) exact)
+  pub read : OfInput old new input (λ text. IsReadAs text exact)
+  pub few_inputs : input_count exact ≤ most_inputs
   pub simplified : IsSimplifiedFrom exact metric bound s
 
 -- no file changed, no count fell and no steady name was lost, what was told of a held IN is told still, and the sink tells
@@ -73,12 +83,18 @@ pub record SynthDone (metric : Metric) (bound : ℕ) (input stem : Bytes) (old n
   pub files : FilesWritten old new (synth_files exact metric bound stem result)
   pub report : Took said says (synth_report exact metric bound result)
 
--- IN is held and is read as no net
+-- IN was read as a net that has more inputs than are tried so far
 pub record SynthNotYet (input : Bytes) (old new : FilesTold) (said says : SinkTold) : Type 0 where
   pub untouched : IsUntouched input old new said says
+  pub exact : NetValue
+  pub read : OfInput old new input (λ text. IsReadAs text exact)
+  pub many_inputs : most_inputs < input_count exact
+
+-- IN is held and is refused
+pub record SynthRefused (refusal : Refusal) (input : Bytes) (old new : FilesTold) (said says : SinkTold) : Type 0 where
+  pub untouched : IsUntouched input old new said says
   pub held : WhereTold old new (λ a b. IsTrue (contains_key a input))
-  pub refused : WhereTold old new (λ a b. IsRefused (bytes_of a input))
-  pub refused_at_entry : WhereHeld old input (λ a. IsRefused (bytes_of a input))
+  pub refused : OfInput old new input (λ text. IsRefusedFor text refusal)
 
 -- a fault came while IN was read, and IN is not steady
 pub record SynthReadFault (input : Bytes) (old new : FilesTold) (said says : SinkTold) : Type 0 where

@@ -1,5 +1,5 @@
 pub mod Turns
 pub mod FilesInOrder
-pub mod Plainness
+pub mod InputReadings
 pub mod SmallNets
 pub mod SynthAnswers

@@ -3,7 +3,7 @@ use Rattle.std.proofs.Common.{◌≡◌, ◌+◌, ◌<◌, ◌≤◌, Bool, fals
 use Rattle.std.proofs.lemmas.List.{take_all}
 use Rattle.std.proofs.lemmas.Bool.{false_from_ne_true}
 use Rattle.semantics.specs.Texts.{Bytes}
-use Rattle.blif_semantics.specs.Plain.{text_limit}
+use Rattle.blif_semantics.specs.Reading.{input_limit}
 use Rattle.outside_semantics.specs.Outside.{Held, FilesTold, KeepsAtRead, Opened, OpenFailed, ReadFailed, bytes_of}
 use Rattle.job_semantics.specs.Synthesis.{WhereHeld}
 use Rattle.file_core.proofs.Told.{Goes-Goes, Goes-same, StaysCalm-StaysCalm, StaysCalm-same, held_before}
@@ -46,13 +46,19 @@ told_since was keeps a told has = keeps.stays a (was.keeps.still_told a told has
 pub HasRead-none : {old opened : FilesTold} {name : Bytes} → Opened old opened name → (a : Held) → old.held ≡ Some a → opened.held ≡ Some a → HasRead opened a name []
 HasRead-none was a told tells = record { place = was.reading a a told tells; front = refl }
 
+-- no file changed since the opening
+pub FilesStay-from : {old opened now : FilesTold} {name : Bytes} → Opened old opened name → KeepsAtRead opened now → FilesStay old now name
+FilesStay-from was keeps = record {
+  goes = Goes-Goes was.keeps.goes keeps.goes;
+  stays = λ a b told tells. (stays_since was keeps a b told tells).1;
+  still_told = told_since was keeps;
+}
+
 -- the text is all of the file, or the front of it up to one byte past the limit
 TextRead-from : {old opened now : FilesTold} {name text : Bytes} → Opened old opened name → SoFar opened now text
-    → ((held : Held) → opened.held ≡ Some held → HasRead opened held name [] → text ≡ take (text_limit + 1) (bytes_of held name)) → TextRead old now name text
+    → ((held : Held) → opened.held ≡ Some held → HasRead opened held name [] → text ≡ take (input_limit + 1) (bytes_of held name)) → TextRead old now name text
 TextRead-from {old} {opened} {now} {name} {text} was sofar whole = record {
-  goes = Goes-Goes was.keeps.goes sofar.keeps.goes;
-  stays = λ a b told tells. (stays_since was sofar.keeps a b told tells).1;
-  still_told = told_since was sofar.keeps;
+  stay = FilesStay-from was sofar.keeps;
   held = λ a b told tells. was.is_held a a told (stays_since was sofar.keeps a b told tells).0;
   front = λ a b told tells.
       let opened_told = (stays_since was sofar.keeps a b told tells).0 in
@@ -60,15 +66,15 @@ TextRead-from {old} {opened} {now} {name} {text} was sofar whole = record {
 }
 
 -- the limit was passed
-pub TextRead-full : {old opened now : FilesTold} {name text : Bytes} → Opened old opened name → SoFar opened now text → text_limit < length text → TextRead old now name text
+pub TextRead-full : {old opened now : FilesTold} {name text : Bytes} → Opened old opened name → SoFar opened now text → input_limit < length text → TextRead old now name text
 TextRead-full {name = name} {text = text} was sofar past =
-    let full : length text ≡ text_limit + 1 = omega (arith, sofar.within) in
+    let full : length text ≡ input_limit + 1 = omega (arith, sofar.within) in
     TextRead-from was sofar (λ held told has. (sofar.reads held name told has).front ∙ ap (λ k. take k (bytes_of held name)) full)
 
 -- what was read is the file, where the file is no longer
-front_is_all : (content text : Bytes) → length text ≤ text_limit + 1 → length content ≤ length text → text ≡ take (length text) content → text ≡ take (text_limit + 1) content
+front_is_all : (content text : Bytes) → length text ≤ input_limit + 1 → length content ≤ length text → text ≡ take (length text) content → text ≡ take (input_limit + 1) content
 front_is_all content text within ends front =
-    front ∙ take_all (length text) content ends ∙ sym (take_all (text_limit + 1) content (omega arith))
+    front ∙ take_all (length text) content ends ∙ sym (take_all (input_limit + 1) content (omega arith))
 
 -- the file ended
 pub TextRead-ended : {old opened before now : FilesTold} {name front text : Bytes} {more : Bool} → Opened old opened name → SoFar opened before front
@@ -79,23 +85,17 @@ TextRead-ended {name = name} {front = front} {text = text} was sofar turn last =
     let same = ap length (turn.stays last) in
     front_is_all (bytes_of held name) text turn.within (omega arith) ((SoFar-more sofar turn).reads held name told has).front)
 
--- no file changed since the opening
-pub FilesStay-from : {old opened now : FilesTold} {name : Bytes} → Opened old opened name → KeepsAtRead opened now → FilesStay old now name
-FilesStay-from was keeps = record {
-  goes = Goes-Goes was.keeps.goes keeps.goes;
-  stays = λ a b told tells. (stays_since was keeps a b told tells).1;
-  still_told = told_since was keeps;
-}
-
 pub TextFailed-open : {old now : FilesTold} {name : Bytes} → OpenFailed old now name → TextFailed old now name
-TextFailed-open failed = record { goes = failed.keeps.goes; stays = failed.keeps.stays; still_told = failed.keeps.still_told; rose = failed.rose; not_steady = failed.not_steady }
+TextFailed-open failed = record {
+  stay = record { goes = failed.keeps.goes; stays = failed.keeps.stays; still_told = failed.keeps.still_told };
+  rose = failed.rose;
+  not_steady = failed.not_steady;
+}
 
 -- a fault in reading is one of a file that is not steady
 pub TextFailed-read : {old opened before now : FilesTold} {name : Bytes} → Opened old opened name → KeepsAtRead opened before → ReadFailed before now → TextFailed old now name
 TextFailed-read {old} {opened} {before} {now} {name} was keeps failed = record {
-  goes = Goes-Goes was.keeps.goes (Goes-Goes keeps.goes failed.keeps.goes);
-  stays = λ a b told tells. (stays_since was (KeepsAtRead-KeepsAtRead keeps failed.keeps) a b told tells).1;
-  still_told = told_since was (KeepsAtRead-KeepsAtRead keeps failed.keeps);
+  stay = FilesStay-from was (KeepsAtRead-KeepsAtRead keeps failed.keeps);
   rose = omega (arith, was.keeps.goes.counts, keeps.goes.counts, failed.rose);
   not_steady = false_from_ne_true _ (λ steady. cc (keeps.calm.read (was.calm steady), failed.not_calm));
 }

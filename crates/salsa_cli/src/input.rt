@@ -2,28 +2,31 @@
 ghost use Rattle.std.specs.Prelude.{IfOk, IfErr};
 ghost use Rattle.salsa_cli.specs.Input.{NetRead, NetRefused};
 
-use crate::reading::{Unread, read_text};
-use blif_text::reading::{Plain, read_plain};
+use crate::reading::{TEXT_LIMIT, Unread, read_text};
+use blif_text::reading::read_blif;
+use blif_text::refusal::BlifRefusal;
 use file_core::files::Files;
 use net_core::net::Net;
-use std::alloc::{AllocError, Global};
+use std::alloc::Global;
 
 /// Why there is no net.
-#[derive(Clone, Copy, Debug, PartialEq, Eq)]
+#[derive(Debug, Drop)]
 pub enum NoNet {
-    Refused,
+    Refused(BlifRefusal),
     Fault,
     OutOfMemory,
 }
 
-impl From<AllocError> for NoNet {
-    ghost use Rattle.std.specs.Prelude.{◌≡◌};
-    ghost use Rattle.salsa_cli.specs.declared.input.NoNet.TheVariants.{OutOfMemory};
+impl From<BlifRefusal> for NoNet {
+    ghost use Rattle.salsa_cli.specs.Input.{IsSameReason};
 
-    ghost from_gives = { λ _ e. e ≡ OutOfMemory };
+    ghost from_gives = { IsSameReason };
 
-    fn from(_: AllocError) -> NoNet {
-        NoNet::OutOfMemory
+    fn from(reason: BlifRefusal) -> NoNet {
+        match reason {
+            BlifRefusal::OutOfMemory => NoNet::OutOfMemory,
+            reason => NoNet::Refused(reason),
+        }
     }
 }
 
@@ -46,9 +49,5 @@ pub fn read_net<F: Files>(alloc: Global, files: &mut F, name: &[u8]) -> Result<N
     ensures err { IfErr result (NetRefused (F.told files.old) (F.told files.new) name.now) }
 {
     let text = read_text(alloc, files, name)?;
-    let plain = read_plain(alloc, &text)?;
-    match plain {
-        Plain::Net(net) => Ok(net),
-        Plain::Other => Err(NoNet::Refused),
-    }
+    Ok(read_blif(alloc, &text, TEXT_LIMIT as u64)?)
 }

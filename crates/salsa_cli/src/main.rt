@@ -32,7 +32,7 @@ fn main(rt: HostRuntime) -> ExitCode {
         }
         Err(_) => Status::NoMemory,
     };
-    if status != Status::Done {
+    if !matches!(status, Status::Done) {
         let _ = eprintln!(rt; "salsa: {status}");
     }
     ExitCode::from(status.exit())

@@ -1,6 +1,6 @@
 //! A whole file, up to one byte past the limit of a text: so a file without an end is read no further.
 ghost use Rattle.std.specs.Prelude.{◌≡◌, ◌≤◌, ◌++◌, length, take, IfOk, IfErr, OnOk, OnErr};
-ghost use Rattle.blif_semantics.specs.Plain.{text_limit};
+ghost use Rattle.blif_semantics.specs.Reading.{input_limit};
 ghost use Rattle.salsa_cli.specs.Reading.{TurnRead, TextRead};
 ghost use Rattle.salsa_cli.specs.Unread.{TurnRefused, ReadRefused};
 
@@ -9,7 +9,7 @@ use file_core::files::Files;
 use std::alloc::{AllocError, Global};
 
 /// The most bytes of a netlist that is read.
-const TEXT_LIMIT: usize = 4_194_304;
+pub const TEXT_LIMIT: usize = 4_194_304;
 
 /// Why a file was not read.
 #[derive(Clone, Copy, Debug, PartialEq, Eq)]
@@ -50,7 +50,7 @@ fn extend_by_front(text: &mut Vec<u8>, part: &[u8], count: usize) -> Result<(), 
 
 /// Adds the next bytes of the open file to the text, and answers whether there were any.
 fn read_turn<F: Files>(files: &mut F, text: &mut Vec<u8>) -> Result<bool, Unread>
-    requires { length text.old.items ≤ text_limit }
+    requires { length text.old.items ≤ input_limit }
     ensures ok { IfOk result
         (λ more. TurnRead (F.told files.old) (F.told files.new) text.old.items text.new.items more) }
     ensures err { IfErr result (TurnRefused (F.told files.old) (F.told files.new)) }

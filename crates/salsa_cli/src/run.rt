@@ -1,14 +1,14 @@
 //! The top call: what the program does with its words, its files and its standard output.
-ghost use Rattle.std.specs.Prelude.{◌≡◌, ◌≢◌, ◌↔◌, ◌⊎◌, ℕ, true, IsTrue, None, Some};
+ghost use Rattle.std.specs.Prelude.{◌≡◌, ◌≢◌, ◌↔◌, ℕ, true, IsTrue, None, Some};
 ghost use Rattle.std.specs.FinMap.{contains_key};
 ghost use Rattle.outside_semantics.specs.Outside.{bytes_of};
+ghost use Rattle.blif_semantics.specs.Reading.{input_limit, blif_reading};
 ghost use Rattle.semantics.specs.Texts.{Bytes};
 ghost use Rattle.semantics.specs.Error.{abs};
 ghost use Rattle.job_semantics.specs.Job.{Job, synth, job_of};
-ghost use Rattle.job_semantics.specs.Input.{IsAccepted};
 ghost use Rattle.job_semantics.specs.Synthesis.{IsQuietSynth};
 ghost use Rattle.file_core.specs.Sure.{sure_told, sure_sink_told};
-ghost use Rattle.salsa_cli.specs.Run.{IsLaterJob, SynthAnswer};
+ghost use Rattle.salsa_cli.specs.Run.{IsLaterJob, SynthAnswer, IsAnswerTo, EndsWell};
 
 use crate::status::{Outcome, Status};
 use crate::synthesis::synthesize;
@@ -35,15 +35,16 @@ pub fn run<F: Files, K: Sink>(alloc: Global, words: &[Word], files: &mut F, say:
         → job_of words.now ≡ Some (synth abs bound conflicts input stem)
         → SynthAnswer bound input stem (F.told files.old) (F.told files.new) (K.told say.old) (K.told say.new) result.status }
 
-    // A quiet call ends, unless IN is not read so far or memory is wanting.
+    // A quiet call has no fault, and ends as the reading of IN asks, unless memory is wanting.
     ensures complete { (bound conflicts : ℕ) (input stem : Bytes)
         → job_of words.now ≡ Some (synth abs bound conflicts input stem)
         → IsQuietSynth input stem (F.told files.old) (F.told files.new) (K.told say.old) (K.told say.new)
-        → result.status ≢ Status.NotYet
-        → (result.status ≡ Status.Done) ⊎ (result.status ≡ Status.NoMemory) }
+        → EndsWell input (F.told files.old) result.status }
 {
-    let status = match command_named(words) {
-        None => Status::Usage,
+    match command_named(words) {
+        None => Outcome {
+            status: Status::Usage,
+        },
         Some(
             Command::Synth {
                 metric: MetricWord::Abs,
@@ -52,13 +53,16 @@ pub fn run<F: Files, K: Sink>(alloc: Global, words: &[Word], files: &mut F, say:
                 stem,
                 ..
             },
-        ) => synthesize(alloc, bound, input, stem, files, say),
-        Some(_) => Status::NotYet,
-    };
-    Outcome { status }
+        ) => Outcome {
+            status: synthesize(alloc, bound, input, stem, files, say),
+        },
+        Some(_) => Outcome {
+            status: Status::NotYet,
+        },
+    }
 }
 
-/// A run over files and a sink that never fail: no fault is answered, and a synthesis of an accepted netlist ends.
+/// A run over files and a sink that never fail: no fault is answered, and a synthesis of a given netlist ends as its reading asks.
 pub fn run_surely(
     alloc: Global,
     words: &[Word],
@@ -74,16 +78,10 @@ pub fn run_surely(
         → SynthAnswer bound input stem (sure_told files.old) (sure_told files.new) sure_sink_told sure_sink_told result.status }
     ensures read { result.status ≢ Status.ReadFault }
     ensures write { result.status ≢ Status.WriteFault }
-    ensures ends { (bound conflicts : ℕ) (input stem : Bytes)
+    ensures answers { (bound conflicts : ℕ) (input stem : Bytes)
         → job_of words.now ≡ Some (synth abs bound conflicts input stem)
-        → result.status ≢ Status.NotYet
-        → (result.status ≡ Status.Done) ⊎ (result.status ≡ Status.NoMemory) }
-    ensures accepted_ends { (bound conflicts : ℕ) (input stem : Bytes)
-        → job_of words.now ≡ Some (synth abs bound conflicts input stem)
-        → files.old.told ≡ true
-        → IsTrue (contains_key files.old.given input)
-        → IsAccepted (bytes_of files.old.given input)
-        → (result.status ≡ Status.Done) ⊎ (result.status ≡ Status.NoMemory) }
+        → files.old.told ≡ true → IsTrue (contains_key files.old.given input)
+        → IsAnswerTo (blif_reading (bytes_of files.old.given input) input_limit) result.status }
 {
     run(alloc, words, files, say)
 }

@@ -2,15 +2,18 @@
 ghost use Rattle.std.specs.Prelude.{◌≡◌};
 ghost use Rattle.salsa_cli.specs.Status.{exit_number};
 
+use blif_text::refusal::BlifRefusal;
 use std::fmt;
 
 /// The answer of a run.
-#[derive(Debug, Drop, PartialEq, Eq)]
+#[derive(Debug, Drop)]
 pub enum Status {
     /// The files were written and the report was put.
     Done,
     /// The words are no job.
     Usage,
+    /// The input is refused.
+    Text(BlifRefusal),
     /// The job or its input is not of the kind that is carried out so far.
     NotYet,
     /// Want of memory.
@@ -29,6 +32,7 @@ impl Status {
         match self {
             Status::Done => 0,
             Status::Usage => 1,
+            Status::Text(_) => 2,
             Status::NoMemory => 3,
             Status::ReadFault => 5,
             Status::WriteFault => 6,
@@ -40,21 +44,22 @@ impl Status {
 /// The line on standard error, without the program's name.
 impl fmt::Display for Status {
     fn fmt<W: fmt::Write>(&self, f: &mut fmt::Formatter<W>) -> fmt::Result {
-        f.write_str(match self {
-            Status::Done => "done",
-            Status::Usage => {
-                "usage: synth METRIC BOUND CONFLICTS IN STEM, check METRIC BOUND IN STEM, or demo WIDTH BOUND CONFLICTS"
-            }
-            Status::NotYet => "not yet",
-            Status::NoMemory => "out of memory",
-            Status::ReadFault => "read fault",
-            Status::WriteFault => "write fault",
-        })
+        match self {
+            Status::Done => f.write_str("done"),
+            Status::Usage => f.write_str(
+                "usage: synth METRIC BOUND CONFLICTS IN STEM, check METRIC BOUND IN STEM, or demo WIDTH BOUND CONFLICTS",
+            ),
+            Status::Text(reason) => reason.fmt(f),
+            Status::NotYet => f.write_str("not yet"),
+            Status::NoMemory => f.write_str("out of memory"),
+            Status::ReadFault => f.write_str("read fault"),
+            Status::WriteFault => f.write_str("write fault"),
+        }
     }
 }
 
 /// What a run answers.
-#[derive(Debug, Drop, PartialEq, Eq)]
+#[derive(Debug, Drop)]
 pub struct Outcome {
     pub status: Status,
 }

@@ -18,6 +18,9 @@ use net_core::net::Net;
 use std::alloc::{AllocError, Global};
 use synth_core::simplify::simplify;
 
+/// The most inputs of a net that is simplified so far.
+const MOST_INPUTS: u32 = 8;
+
 /// The files and the report of the simplification of a net.
 fn prepare(alloc: Global, exact: &Net, bound: u128, stem: &[u8]) -> Result<Prepared, AllocError>
     requires few_inputs { input_count exact.now ≤ 8 }
@@ -66,10 +69,13 @@ pub fn synthesize<F: Files, K: Sink>(
 {
     let exact = match read_net(alloc, files, input) {
         Ok(net) => net,
-        Err(NoNet::Refused) => return Status::NotYet,
+        Err(NoNet::Refused(reason)) => return Status::Text(reason),
         Err(NoNet::Fault) => return Status::ReadFault,
         Err(NoNet::OutOfMemory) => return Status::NoMemory,
     };
+    if exact.inputs() > MOST_INPUTS {
+        return Status::NotYet;
+    }
     let Ok(bundle) = prepare(alloc, &exact, bound, stem) else {
         return Status::NoMemory;
     };

@@ -21,10 +21,13 @@ use std::test::Fail;
 const HALF_ADDER: &[u8] =
     b".model ha\n.inputs a b\n.outputs s c\n.names a b s\n10 1\n01 1\n.names a b c\n11 1\n.end\n";
 
-const BOTH_CONSTANT: &[u8] = b".model ha\n.inputs a b\n.outputs s c\n.names s\n.names c\n.end\n";
-
 const SUM_CONSTANT: &[u8] =
     b".model ha\n.inputs a b\n.outputs s c\n.names s\n.names a b c\n11 1\n.end\n";
+
+const VECTORS: &[u8] = b"10\n00\n10\n01\n11\n";
+
+const REPORT: &[u8] =
+    b"salsa 1\nmetric abs\nbound 1\nmaximum 1\nwitness 10\ntables 2 2\nliterals 6 2\nminimal no\n";
 
 /// The words of a line, which stand between single blanks; an empty line has none.
 fn words(alloc: Global, line: &[u8]) -> Result<Vec<Word>, AllocError> {
@@ -101,89 +104,150 @@ fn run_on(
 }
 
 #[test]
-fn half_adder_at_three_bounds(rt: HostRuntime) -> Result<(), Fail> {
-    let rows: [(&[u8], &[u8], &[u8], &[u8]); 3] = [
+fn netlists_that_are_simplified(rt: HostRuntime) -> Result<(), Fail> {
+    let rows: [(&[u8], &[u8], &[u8], &[u8], &[u8]); 6] = [
         (
             b"synth abs 3 1 ha.blif out",
-            BOTH_CONSTANT,
+            HALF_ADDER,
+            b".model ha\n.inputs a b\n.outputs s c\n.names s\n.names c\n.end\n",
             b"11\n00\n10\n01\n11\n",
             b"salsa 1\nmetric abs\nbound 3\nmaximum 2\nwitness 11\ntables 2 2\nliterals 6 0\nminimal no\n",
         ),
         (
             b"synth abs 1 1 ha.blif out",
+            HALF_ADDER,
             SUM_CONSTANT,
-            b"10\n00\n10\n01\n11\n",
-            b"salsa 1\nmetric abs\nbound 1\nmaximum 1\nwitness 10\ntables 2 2\nliterals 6 2\nminimal no\n",
+            VECTORS,
+            REPORT,
         ),
         (
             b"synth abs 0 1 ha.blif out",
             HALF_ADDER,
+            HALF_ADDER,
             b"00\n00\n10\n01\n11\n",
             b"salsa 1\nmetric abs\nbound 0\nmaximum 0\nwitness 00\ntables 2 2\nliterals 6 6\nminimal no\n",
         ),
+        (
+            b"synth abs 0 1 ha.blif out",
+            b".model k\n.outputs y\n.names y\n1\n.end\n",
+            b".model k\n.inputs\n.outputs y\n.names y\n1\n.end\n",
+            b"\n\n",
+            b"salsa 1\nmetric abs\nbound 0\nmaximum 0\nwitness \ntables 1 1\nliterals 0 0\nminimal no\n",
+        ),
+        (
+            b"synth abs 0 1 ha.blif out",
+            b".model w\n.inputs a\n.outputs a\n.end\n",
+            b".model w\n.inputs a\n.outputs a\n.end\n",
+            b"0\n0\n1\n",
+            b"salsa 1\nmetric abs\nbound 0\nmaximum 0\nwitness 0\ntables 0 0\nliterals 0 0\nminimal no\n",
+        ),
+        (
+            b"synth abs 0 1 ha.blif out",
+            b".model t # note \\\r\n.inputs a \\\r\n b\r\n.outputs y\r\n.names a b y\r\n11 1\r\n.end\r\n",
+            b".model t\n.inputs a b\n.outputs y\n.names a b y\n11 1\n.end\n",
+            b"00\n00\n10\n01\n11\n",
+            b"salsa 1\nmetric abs\nbound 0\nmaximum 0\nwitness 00\ntables 1 1\nliterals 2 2\nminimal no\n",
+        ),
     ];
-    for (line, netlist, vectors, report) in rows {
-        let done = run_on(&rt, line, HALF_ADDER, 64, 0, 0)?;
-        assert_eq!(rt; done.status, Status::Done);
+    for (line, text, netlist, vectors, report) in rows {
+        let done = run_on(&rt, line, text, 64, 0, 0)?;
+        assert_eq!(rt; done.status.exit(), 0);
         assert!(rt; holds(&done.files, b"out.blif", Some(netlist)));
         assert!(rt; holds(&done.files, b"out.wit", Some(vectors)));
         assert!(rt; holds(&done.files, b"out.txt", Some(report)));
-        assert!(rt; holds(&done.files, b"ha.blif", Some(HALF_ADDER)));
+        assert!(rt; holds(&done.files, b"ha.blif", Some(text)));
         assert!(rt; done.sink.bytes() == report);
     }
     Ok(())
 }
 
 #[test]
-fn words_and_texts_that_are_not_carried_out(rt: HostRuntime) -> Result<(), Fail> {
-    let rows: [(&[u8], Status); 19] = [
-        (b"", Status::Usage),
-        (b" ", Status::Usage),
-        (b"--help", Status::Usage),
-        (b"synth abs 01 1 ha.blif b", Status::Usage),
-        (
-            b"synth abs 19342813113834066795298816 1 ha.blif b",
-            Status::Usage,
-        ),
-        (b"synth abs 1 0 ha.blif b", Status::Usage),
-        (b"synth abs 1 100001 ha.blif b", Status::Usage),
-        (b"synth max 1 1 ha.blif b", Status::Usage),
-        (b"synth abs 1 1 ha.blif ha", Status::Usage),
-        (b"synth abs 1 1 b.cnf b", Status::Usage),
-        (b"synth abs 1 1 ha.blif ", Status::Usage),
-        (b"synth abs 1 1 ha.blif b b", Status::Usage),
-        (b"demo 33 1 1", Status::Usage),
-        (b"demo 0 1 1", Status::Usage),
-        (
-            b"synth abs 19342813113834066795298815 1 ha.blif b",
-            Status::Done,
-        ),
-        (b"synth rel 1 1 ha.blif b", Status::NotYet),
-        (b"check abs 1 ha.blif out", Status::NotYet),
-        (b"demo 1 1 1", Status::NotYet),
-        (b"synth abs 1 1 other.blif b", Status::ReadFault),
+fn words_and_their_answers(rt: HostRuntime) -> Result<(), Fail> {
+    let rows: [(&[u8], u8); 19] = [
+        (b"", 1),
+        (b" ", 1),
+        (b"--help", 1),
+        (b"synth abs 01 1 ha.blif b", 1),
+        (b"synth abs 19342813113834066795298816 1 ha.blif b", 1),
+        (b"synth abs 1 0 ha.blif b", 1),
+        (b"synth abs 1 100001 ha.blif b", 1),
+        (b"synth max 1 1 ha.blif b", 1),
+        (b"synth abs 1 1 ha.blif ha", 1),
+        (b"synth abs 1 1 b.cnf b", 1),
+        (b"synth abs 1 1 ha.blif ", 1),
+        (b"synth abs 1 1 ha.blif b b", 1),
+        (b"demo 33 1 1", 1),
+        (b"demo 0 1 1", 1),
+        (b"synth abs 19342813113834066795298815 1 ha.blif b", 0),
+        (b"synth rel 1 1 ha.blif b", 9),
+        (b"check abs 1 ha.blif out", 9),
+        (b"demo 1 1 1", 9),
+        (b"synth abs 1 1 other.blif b", 5),
     ];
-    for (line, wanted) in rows {
+    for (line, exit) in rows {
         let ended = run_on(&rt, line, HALF_ADDER, 64, 0, 0)?;
-        assert_eq!(rt; ended.status, wanted);
-        assert_eq!(rt;
-            ended.files.bytes(b"b.blif").is_some(),
-            wanted == Status::Done
-        );
+        assert_eq!(rt; ended.status.exit(), exit);
+        assert_eq!(rt; ended.files.bytes(b"b.blif").is_some(), exit == 0);
         assert!(rt; holds(&ended.files, b"out.blif", None));
     }
-    let texts: [&[u8]; 4] = [
-        b"# x\n.model ha\n.inputs a b\n.outputs s c\n.names a b s\n10 1\n01 1\n.names a b c\n11 1\n.end\n",
-        b".model ha\n.inputs a b\n.outputs s c\n.names a b s\n10 1\n01 1\n.names a b c\n11 1\n.end",
-        b".model ha\n.inputs a\n.outputs a\n.end\n\n",
-        b"",
+    Ok(())
+}
+
+/// The text of two parts, one after the other.
+fn joined(alloc: Global, first: &[u8], second: &[u8]) -> Result<Vec<u8>, AllocError> {
+    let mut text = Vec::from_slice(alloc, first)?;
+    text.extend_from_slice(second)?;
+    Ok(text)
+}
+
+#[test]
+fn texts_that_are_refused(rt: HostRuntime) -> Result<(), Fail> {
+    let ports: &[u8] = b".model m\n.inputs a b\n.outputs y\n";
+    let rows: [(&[u8], &[u8], &str); 15] = [
+        (ports, b".latch a y 0\n", "line 4: unknown command .latch"),
+        (ports, b"1 1\n", "line 4: row without a table"),
+        (ports, b".names a b y\n1 1\n", "line 5: bad row"),
+        (ports, b".names a b y\n11 1\n00 0\n", "line 6: mixed planes"),
+        (ports, b".names a\\ y\n", "line 4: bad name"),
+        (ports, b".names\n", "line 4: .names without a name"),
+        (ports, b".end\n.model n\n", "line 5: text after .end"),
+        (ports, b".model n\n", "line 4: second model"),
+        (ports, b".names a \x80\n", "line 4: bad byte"),
+        (
+            ports,
+            b".names z y\n1 1\n.names y z\n1 1\n",
+            "y depends on itself or on a cycle",
+        ),
+        (
+            ports,
+            b".names z y\n1 1\n.names y z\n1 1\n.names q r\n",
+            "q is not driven",
+        ),
+        (
+            ports,
+            b".names z y\n1 1\n.names y z\n1 1\n.names q r\n.names b\n",
+            "b is driven twice",
+        ),
+        (
+            b".model m\n.inputs a b\n",
+            b".names z y\n1 1\n.names y z\n1 1\n.names q r\n",
+            "no output",
+        ),
+        (b"", b"", "no output"),
+        (b"# \x80\n", b".inputs a\n", "no output"),
     ];
-    for text in texts {
-        let ended = run_on(&rt, b"synth abs 3 1 ha.blif out", text, 64, 0, 0)?;
-        assert_eq!(rt; ended.status, Status::NotYet);
+    for (first, second, line) in rows {
+        let text = joined(rt.alloc(), first, second)?;
+        let ended = run_on(&rt, b"synth abs 3 1 ha.blif out", &text, 64, 0, 0)?;
+        assert_eq!(rt; ended.status.exit(), 2);
+        assert_eq!(rt; ended.status.to_string(rt.alloc())?.as_str(), line);
         assert!(rt; holds(&ended.files, b"out.blif", None));
         assert!(rt; ended.sink.bytes().is_empty());
     }
+    let nine = b".inputs a b c d e f g h i\n.outputs a\n";
+    let ended = run_on(&rt, b"synth abs 3 1 ha.blif out", nine, 64, 0, 0)?;
+    assert_eq!(rt; ended.status.exit(), 9);
+    assert!(rt; holds(&ended.files, b"out.blif", None));
     Ok(())
 }
 
@@ -199,15 +263,10 @@ fn is_cut_short(files: &MemFiles, netlist: &[u8], vectors: &[u8], report: &[u8])
         && (vectors_whole || holds(files, b"out.txt", None))
 }
 
-const VECTORS: &[u8] = b"10\n00\n10\n01\n11\n";
-
-const REPORT: &[u8] =
-    b"salsa 1\nmetric abs\nbound 1\nmaximum 1\nwitness 10\ntables 2 2\nliterals 6 2\nminimal no\n";
-
 /// Whether the files are as one of their calls left them that failed.
 fn is_left_by_a_fault(ended: &Run) -> bool {
-    let is_read = ended.status == Status::WriteFault;
-    (is_read || ended.status == Status::ReadFault)
+    let is_read = ended.status.exit() == 6;
+    (is_read || ended.status.exit() == 5)
         && (is_read || holds(&ended.files, b"out.blif", None))
         && holds(&ended.files, b"ha.blif", Some(HALF_ADDER))
         && is_cut_short(&ended.files, SUM_CONSTANT, VECTORS, REPORT)
@@ -232,7 +291,7 @@ fn each_call_on_files_fails_in_turn(rt: HostRuntime) -> Result<(), Fail> {
         let mut done = false;
         for call in 1..1000 {
             let ended = run_on(&rt, line, HALF_ADDER, chunk, call, 0)?;
-            if ended.status == Status::Done {
+            if ended.status.exit() == 0 {
                 done = true;
                 break;
             }
@@ -240,7 +299,7 @@ fn each_call_on_files_fails_in_turn(rt: HostRuntime) -> Result<(), Fail> {
                 is_left_by_a_fault(&ended),
                 "call {call} of chunks of {chunk}"
             );
-            if ended.status == Status::WriteFault {
+            if ended.status.exit() == 6 {
                 first = call.min(first);
                 assert!(rt; is_cut_in_turn(&ended.files, call - first));
             } else {
@@ -254,7 +313,7 @@ fn each_call_on_files_fails_in_turn(rt: HostRuntime) -> Result<(), Fail> {
 
 /// Whether all files are whole, and a first part of the report was put.
 fn is_left_by_the_sink(ended: &Run) -> bool {
-    ended.status == Status::WriteFault
+    ended.status.exit() == 6
         && holds(&ended.files, b"out.blif", Some(SUM_CONSTANT))
         && holds(&ended.files, b"out.wit", Some(VECTORS))
         && holds(&ended.files, b"out.txt", Some(REPORT))
@@ -275,7 +334,7 @@ fn each_call_on_the_sink_fails_in_turn(rt: HostRuntime) -> Result<(), Fail> {
                 0,
                 call,
             )?;
-            if ended.status == Status::Done {
+            if ended.status.exit() == 0 {
                 assert!(rt; call > 1);
                 done = true;
                 break;
@@ -297,7 +356,7 @@ fn no_fault_over_files_that_never_fail(rt: HostRuntime) -> Result<(), Fail> {
     let mut sink = SureSink::new();
     let line = b"synth abs 1 1 ha.blif out";
     let done = run_surely(alloc, &words(alloc, line)?, &mut files, &mut sink);
-    assert_eq!(rt; done.status, Status::Done);
+    assert_eq!(rt; done.status.exit(), 0);
     Ok(())
 }
 

@@ -3,7 +3,7 @@ use Rattle.std.proofs.lemmas.List.{append-nil, length-take, length-replicate}
 use Rattle.std.proofs.Math.Seq.{take-add}
 use Rattle.std.proofs.lemmas.Bool.Decides.{nat_tests}
 use Rattle.semantics.specs.Texts.{Bytes}
-use Rattle.blif_semantics.specs.Plain.{text_limit}
+use Rattle.blif_semantics.specs.Reading.{input_limit}
 use Rattle.outside_semantics.specs.Outside.{Held, FilesTold, Gave, bytes_of}
 use Rattle.salsa_cli.specs.Reading.{HasRead, TurnRead}
 use Rattle.salsa_cli.proofs.reading.read_turn.Goals as goal
@@ -27,7 +27,7 @@ turn_reads old new before after buffer n within gave is held name told has =
       front = is ∙ joined_front (bytes_of held name) before (take n buffer) n has.front next.bytes ∙ ap (λ k. take k (bytes_of held name)) (sym long);
     }
 
-turn_read : (old new : FilesTold) (before after buffer : Bytes) (n room len : ℕ) → length before ≤ text_limit → room ≡ min 8192 (4194305 - len)
+turn_read : (old new : FilesTold) (before after buffer : Bytes) (n room len : ℕ) → length before ≤ input_limit → room ≡ min 8192 (4194305 - len)
     → len ≡ length before → length buffer ≡ room → n ≤ length buffer → Gave old new n buffer → after ≡ before ++ take n buffer → TurnRead old new before after (nat_lt 0 n)
 turn_read old new before after buffer n room len short is_room is_len is_buffer within gave is =
     let long : length after ≡ length before + n = ap length is ∙ length-append before (take n buffer) ∙ ap (λ k. length before + k) (length-take-le n buffer within) in

@@ -5,4 +5,4 @@ use Rattle.salsa_cli.proofs.run.run.Goals as goal
 pub returns-in-Some-Synth-Abs-default-default-default-default-clause-complete :
     goal.returns-in-Some-Synth-Abs-default-default-default-default-clause-complete
 returns-in-Some-Synth-Abs-default-default-default-default-clause-complete g c =
-    λ bound conflicts input stem named quiet other. quiet_ends bound input stem _ _ _ _ c.synthesize-status.result (search rules) quiet other
+    λ bound conflicts input stem named quiet. quiet_ends bound input stem _ _ _ _ c.synthesize.result (search rules) quiet

@@ -2,9 +2,6 @@ use Rattle.std.proofs.Common.{◌≡◌, ◌≢◌, inl, inr, ℕ, true, false, 
 use Rattle.semantics.specs.Texts.{Bytes}
 use Rattle.semantics.specs.Error.{abs, rel, ham}
 use Rattle.job_semantics.specs.Job.{Job, synth, check, demo}
-use Rattle.std.specs.FinMap.{contains_key}
-use Rattle.job_semantics.specs.Input.{IsAccepted}
-use Rattle.outside_semantics.specs.Outside.{bytes_of}
 use Rattle.job_semantics.specs.Synthesis.{IsQuietSynth}
 use Rattle.file_core.specs.Sure.{SureValue, sure_told, held_where, sure_sink_told}
 use Rattle.salsa_cli.specs.declared.status.Status.{Status}
@@ -53,19 +50,8 @@ returns-clause-write c =
 quiet : (input stem : Bytes) (old new : SureValue) → IsQuietSynth input stem (sure_told old) (sure_told new) sure_sink_told sure_sink_told
 quiet input stem old new = record { files = inr (record { read = refl; written = λ accepted. refl }); sink = λ rose. absurd (omega (arith, rose)) }
 
--- an accepted netlist that is held is not refused
-not_refused : (bound : ℕ) (input stem : Bytes) (old new : SureValue) (status : Status)
-    → SynthAnswer bound input stem (sure_told old) (sure_told new) sure_sink_told sure_sink_told status
-    → old.told ≡ true → contains_key old.given input ≡ true → IsAccepted (bytes_of old.given input) → status ≢ NotYet
-not_refused bound input stem old new status answer told held accepted is =
-    let refused = subst (SynthAnswer bound input stem (sure_told old) (sure_told new) sure_sink_told sure_sink_told) is answer in
-    refused.refused_at_entry old.given (ap (λ t. held_where t old.given) told) held accepted
-
-pub returns-clause-ends : goal.returns-clause-ends
-returns-clause-ends c =
-    λ bound conflicts input stem named other. c.run.ensures.complete bound conflicts input stem named (quiet input stem c.args.files.now c.run.new.files) other
-
-pub returns-clause-accepted_ends : goal.returns-clause-accepted_ends
-returns-clause-accepted_ends c =
-    λ bound conflicts input stem named told held accepted. c.run.ensures.complete bound conflicts input stem named (quiet input stem c.args.files.now c.run.new.files)
-    (not_refused bound input stem c.args.files.now c.run.new.files c.run.result.status (c.run.ensures.synthesis bound conflicts input stem named) told held accepted)
+pub returns-clause-answers : goal.returns-clause-answers
+returns-clause-answers c =
+    λ bound conflicts input stem named told held.
+    (c.run.ensures.complete bound conflicts input stem named (quiet input stem c.args.files.now c.run.new.files)).answers
+    c.args.files.now.given (ap (λ t. held_where t c.args.files.now.given) told) held
