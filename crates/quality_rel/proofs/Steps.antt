@@ -1,5 +1,5 @@
 -- The steps of the network, and the test of its level.
-use Rattle.std.proofs.Common.{◌≡◌, ℕ, ◌+◌, ◌-◌, ◌*◌, ◌%◌, ◌^◌, ◌<◌, ◌≤◌, List, length, refl, arith}
+use Rattle.std.proofs.Common.{◌≡◌, ℕ, ◌+◌, ◌-◌, ◌*◌, ◌%◌, ◌^◌, ◌<◌, ◌≤◌, List, refl, arith}
 use Rattle.std.proofs.Math.Nat.{pow-le-pow_right}
 use Rattle.semantics.specs.Error.{rel}
 use Rattle.quality_semantics.specs.WordNets.{WordNetValue, started}

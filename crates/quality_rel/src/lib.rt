@@ -1,5 +1,6 @@
 //! The quality network of the relative error, in parts per million. Source: SALSA's quality function circuit.
 #![tactic(auto)]
+
 ghost use Rattle.std.specs.Prelude.{◌≡◌, ◌+◌, ◌-◌, ◌*◌, ◌^◌, ◌≤◌, ◌<◌, [], ◌∷◌, IfOk, OnOk};
 ghost use Rattle.semantics.specs.Error.{rel};
 ghost use Rattle.quality_semantics.specs.WordNets.{started, signals};
