@@ -4,7 +4,7 @@ use Rattle.std.specs.Prelude.{filter}
 use Rattle.std.specs.List.{list_any}
 use Rattle.std.proofs.lemmas.List.{drop_more, drop_all}
 use Rattle.semantics.specs.Texts.{Bytes}
-use Rattle.blif_semantics.specs.Lines.{LogicalLine, line_before, without_comment, logical_from, Statement, statements}
+use Rattle.blif_semantics.specs.Lines.{LogicalLine, line_before, without_comment, logical_from, statements}
 use Rattle.blif_text.specs.LogicalLines.{after_begun, has_words, with_words, statement_of}
 
 not_empty : (n : ℕ) → true ≡ not (suc n == 0)

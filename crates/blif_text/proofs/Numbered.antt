@@ -1,14 +1,13 @@
 -- The parts of a net of names as a net, and the refusals of the whole, one behind another.
-use Rattle.std.proofs.Common.{◌≡◌, ◌≢◌, ℕ, ◌+◌, ◌<◌, ◌≤◌, ◌^◌, ◌==◌, Bool, true, false, not, cond, List, [], ◌∷◌, ◌++◌, length, get_or, map, flat_map, All, Option, Some, None, Result, Ok, Err, IfErr, refl, sym, ap, subst, ◌∙◌, append_assoc, arith}
-use Rattle.std.specs.List.{find}
+use Rattle.std.proofs.Common.{◌≡◌, ℕ, ◌+◌, ◌<◌, ◌^◌, ◌==◌, false, not, cond, List, [], ◌∷◌, ◌++◌, length, get_or, map, flat_map, All, Option, Some, None, Result, Ok, Err, IfErr, refl, sym, ap, subst, ◌∙◌, arith}
 use Rattle.std.specs.Option.{option_or}
 use Rattle.std.proofs.lemmas.Option.{same_Some}
-use Rattle.std.proofs.lemmas.List.{map_push, get_or-map, get_or-append-add, length-map, length-append}
+use Rattle.std.proofs.lemmas.List.{get_or-map, get_or-append-add}
 use Rattle.std.proofs.lemmas.List.Elements.{All-append, All-map, All-weaker}
 use Rattle.std.proofs.lemmas.List.Folds.{find-append}
 use Rattle.semantics.specs.declared.which.Which.{Which}
 use Rattle.semantics.specs.Texts.{Bytes}
-use Rattle.semantics.specs.Net.{TableValue, NetValue, input_count, signal_count, signal_names, name_of, IsName}
+use Rattle.semantics.specs.Net.{TableValue, NetValue, input_count, signal_names, name_of, IsName}
 use Rattle.semantics.specs.Order.{IsOrderOf}
 use Rattle.semantics.specs.Refusals.{has_name, first_doubled, first_ungrounded, first_limit}
 use Rattle.semantics.proofs.Refused.{ungrounded, acyclic-grounded, small}

@@ -1,5 +1,5 @@
 -- A text has no more names than bytes.
-use Rattle.std.proofs.Common.{◌≡◌, ℕ, suc, ◌+◌, ◌-◌, ◌≤◌, ◌==◌, Bool, true, false, not, cond, List, [], ◌∷◌, ◌++◌, length, take, map, flat_map, filter, Option, Some, None, refl, sym, ap, ◌∙◌, arith}
+use Rattle.std.proofs.Common.{◌≡◌, ℕ, ◌+◌, ◌-◌, ◌≤◌, ◌==◌, Bool, true, false, not, cond, List, [], ◌∷◌, length, take, map, flat_map, filter, Option, Some, None, refl, ap, arith}
 use Rattle.std.specs.List.{slice_split, onto_first, suffix_len}
 use Rattle.std.specs.Prelude.{slice_index, position}
 use Rattle.std.proofs.lemmas.List.{length-append, length-map, length-take}
@@ -12,7 +12,7 @@ use Rattle.blif_semantics.specs.Lines.{is_blank, physical_lines, without_comment
 use Rattle.blif_semantics.specs.Statements.{kind_of, kind_of_word, arguments}
 use Rattle.blif_semantics.specs.Tables.{table_first, tables_of}
 use Rattle.blif_semantics.specs.Reading.{is_inputs, listed, named_net, names_of}
-use Rattle.blif_text.specs.LogicalLines.{has_words, statement_of}
+use Rattle.blif_text.specs.LogicalLines.{has_words}
 
 -- the sum over a list, from its front
 abbrev sizes : {X : Type 0} → (X → ℕ) → List X → ℕ

@@ -1,5 +1,5 @@
 -- One item further in a `for`, and its end, where the iterator is known by the items that it gave.
-use Rattle.std.proofs.Common.{◌≡◌, ◌<◌, List, length, get_or, map, Option, Some, None}
+use Rattle.std.proofs.Common.{◌≡◌, ◌<◌, List, length, get_or, Option, Some, None}
 use Rattle.std.specs.Iterator.{Yields}
 use Rattle.std.proofs.lemmas.Iterator.{YieldsList}
 use Rattle.std.proofs.lemmas.Iterator.Consumers.{YieldsList-turn, YieldsList-end}

@@ -2,8 +2,7 @@ use Rattle.std.proofs.Common.{◌≡◌, ◌==◌, ◌+◌, IfOk, length, sym, a
 use Rattle.std.proofs.lemmas.List.{length_push}
 use Rattle.std.proofs.lemmas.Iterator.Consumers.{YieldsList-at}
 use Rattle.std.proofs.lemmas.Iterator.Splits.{YieldsList-from_slice_split}
-use Rattle.blif_semantics.specs.Lines.{LogicalLine, physical_lines, logical_from, logical_lines}
-use Rattle.blif_text.specs.LogicalLines.{after_begun, with_words}
+use Rattle.blif_semantics.specs.Lines.{physical_lines, logical_lines}
 use Rattle.blif_text.proofs.LineSteps.{lines-next, lines-end}
 use Rattle.blif_text.proofs.Turns.{turn_at, end_at}
 use Rattle.blif_text.proofs.joining.lines_with_words.Goals as goal

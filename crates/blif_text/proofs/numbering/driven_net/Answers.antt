@@ -2,7 +2,6 @@ use Rattle.std.proofs.Common.{List, map, IfOk, IfErr, Ok, sym, ap, subst, ◌≡
 use Rattle.std.proofs.lemmas.Result.{err_from_is_err_and}
 use Rattle.semantics.specs.Texts.{Bytes}
 use Rattle.semantics.specs.Net.{NetValue}
-use Rattle.blif_semantics.specs.Tables.{NamedTable}
 use Rattle.blif_semantics.specs.Reading.{NamedNet, signal_named, numbered, grounded}
 use Rattle.blif_semantics.specs.Named.{with_signals, IsDriven}
 use Rattle.blif_semantics.proofs.ReadNet.{net_driven}

@@ -1,4 +1,4 @@
-use Rattle.std.proofs.Common.{[], ◌∷◌, ◌++◌, sym, ap, ◌∙◌}
+use Rattle.std.proofs.Common.{sym, ◌∙◌}
 use Rattle.blif_text.proofs.Places.{named_at, signals-next, unknown-next, unknown-here, unknown_told}
 use Rattle.blif_text.proofs.names.Names.numbers.Goals as goal
 
