@@ -1,5 +1,5 @@
 -- A checker stands after a sound log: from the start, through accepted steps and removals.
-use Rattle.std.proofs.Common.{◌≡◌, ℕ, true, false, List, [], ◌∷◌, ◌++◌, refl, ap, subst, sym, ◌∙◌, inl, inr, Option, None, Some, Result, Ok, Err}
+use Rattle.std.proofs.Common.{◌≡◌, ℕ, true, List, [], ◌∷◌, ◌++◌, refl, ap, subst, sym, ◌∙◌, inl, inr, Option, None, Some, Result, Ok, Err}
 use Rattle.std.specs.Prelude.{◌↔◌, ◌⊎◌, ⊤, OnOk}
 use Rattle.proof_semantics.specs.declared.step_refusal.StepRefusal.{StepRefusal}
 use Rattle.proof_semantics.specs.declared.step_refusal.StepRefusal.TheVariants.{OutOfMemory}

@@ -1,5 +1,5 @@
 -- What a checker of logs holds, and the log that it has accepted.
-use Rattle.std.specs.Prelude.{◌≡◌, ℕ, Bool, true, false, List, [], ◌∷◌, length, ℤ, refl}
+use Rattle.std.specs.Prelude.{◌≡◌, ℕ, Bool, true, false, List, [], ◌∷◌, length, refl}
 use Rattle.std.specs.FinMap.{insert, code as map_code}
 use Rattle.std.specs.Coded.{Coded, code_by, coded×, coded_ℕ, coded_ℤ, coded_bool, coded_list}
 use Rattle.proof_semantics.specs.declared.item.Item.TheVariants.{Add, Remove}

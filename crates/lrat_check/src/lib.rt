@@ -5,3 +5,5 @@ pub mod checker;
 mod held_clauses;
 mod hints;
 mod literal_set;
+#[cfg(test)]
+mod tests;

@@ -1,4 +1,4 @@
-use Rattle.std.proofs.Common.{◌≡◌, refl, get_or, ℤ, pos, neg_ℤ, to_z, of_z, w32, ap, sym, ◌∙◌, rules}
+use Rattle.std.proofs.Common.{◌≡◌, refl, get_or, ℤ, pos, neg_ℤ, to_z, of_z, w32, ap, ◌∙◌, rules}
 use Rattle.std.specs.FinSet as set
 use Rattle.lrat_check.proofs.HintAnswers.{negations_next}
 use Rattle.lrat_check.proofs.hints.negations.Goals as goal
