@@ -1,5 +1,6 @@
-//! The error of an approximate circuit's outputs against the exact ones.
+//! Two nets with the same ports, and the error of one's outputs against the other's.
 #![tactic(auto)]
 
 pub mod error;
 pub mod metric;
+pub mod ports;
