@@ -32,7 +32,7 @@ pub read_parts-if : (refused : Bool) (r : Refusal) (rest : Result NetValue Refus
 read_parts-if false r rest N e = (refl, e)
 read_parts-if true r rest N e = absurd (refused-read r N e)
 
-same_Ok : (N M : NetValue) → ◌≡◌ {A = Result NetValue Refusal} (Ok N) (Ok M) → N ≡ M
+pub same_Ok : (N M : NetValue) → ◌≡◌ {A = Result NetValue Refusal} (Ok N) (Ok M) → N ≡ M
 unfolding value_or
 same_Ok N M e = ap (λ r. value_or r N) e
 

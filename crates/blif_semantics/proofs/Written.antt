@@ -16,7 +16,7 @@ use Rattle.blif_semantics.proofs.RightLines.{AllRight, none_wrong}
 use Rattle.blif_semantics.proofs.WrittenRight.{blif_lines-right}
 use Rattle.blif_semantics.proofs.WrittenNet.{named_of, named_net-blif_lines, names_of-named_of, numbered-named_of, named_of-driven}
 use Rattle.blif_semantics.proofs.WrittenLength.{blif_text-short}
-use Rattle.blif_semantics.proofs.Accepted.{IsAccepted, read-accepted}
+use Rattle.blif_semantics.proofs.Accepted.{same_Ok, IsAccepted, read-accepted}
 
 named_of-read : (N : NetValue) → IsSound N → IsSmall N → single (named_of N) ≡ Ok N
 named_of-read N h small =
@@ -67,3 +67,6 @@ read N h small = read_within N bundle_limit h small (within N h small)
 -- what is read depends on the statements alone
 pub same_reading : (text other : Bytes) (most : ℕ) → length text ≤ most → length other ≤ most → statements (logical_lines text) ≡ statements (logical_lines other) → blif_reading text most ≡ blif_reading other most
 same_reading text other most short short' e = within_limit text most short ∙ ap statements_reading e ∙ sym (within_limit other most short')
+
+pub only : (N M : NetValue) → IsSound N → IsSmall N → IsSound M → IsSmall M → blif_text N ≡ blif_text M → N ≡ M
+only N M n n' m m' e = same_Ok N M (sym (read N n n') ∙ ap (λ text. blif_reading text bundle_limit) e ∙ read M m m')

@@ -39,10 +39,12 @@ pub record ReadingLaw : Type 0 where
   pub small : (text : Bytes) (most : ℕ) (N : NetValue) → blif_reading text most ≡ Ok N → IsSmall N
   pub short : (text : Bytes) (most : ℕ) (N : NetValue) → blif_reading text most ≡ Ok N → length text ≤ most
 
--- a small sound net is read back from the text that is written for it, and that text keeps the limit of a bundle's netlist
+-- a small sound net is read back from the text that is written for it, which is the text of no other, and that text keeps the limit
+-- of a bundle's netlist
 pub record WrittenLaw : Type 0 where
   pub read : (N : NetValue) → IsSound N → IsSmall N → blif_reading (blif_text N) bundle_limit ≡ Ok N
   pub read_within : (N : NetValue) (most : ℕ) → IsSound N → IsSmall N → length (blif_text N) ≤ most → blif_reading (blif_text N) most ≡ Ok N
+  pub only : (N M : NetValue) → IsSound N → IsSmall N → IsSound M → IsSmall M → blif_text N ≡ blif_text M → N ≡ M
   pub short : (N : NetValue) → IsSound N → IsSmall N → length (blif_text N) < pin_count N * 1024 + 2 ^ 24
   pub within : (N : NetValue) → IsSound N → IsSmall N → length (blif_text N) ≤ bundle_limit
 

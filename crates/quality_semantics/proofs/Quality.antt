@@ -27,7 +27,7 @@ pub record IsExcess (metric : Metric) (w k : ℕ) (r : WithSignal) : Type 0 wher
   pub formed : HasSignal r
   pub value : (v : Assignment) → Fits v r.net → v r.signal ≡ ltb k (error_of metric (map v (exact_bus w)) (map v (approximate_bus w)))
 
-inputs_in : (n from w : ℕ) → from + w ≤ n → AreSignalsOf (started n) (range_with_len from w)
+pub inputs_in : (n from w : ℕ) → from + w ≤ n → AreSignalsOf (started n) (range_with_len from w)
 inputs_in n from w few =
     All-from_get_or (λ s. s < n + 2) (range_with_len from w) 0
     (λ i within. let width = length-range_with_len from w in rw (get_or-range_with_len from w i 0 (omega (arith, width, within))) (omega (arith, width, within, few)))

@@ -7,6 +7,7 @@ use Rattle.semantics.specs.Examples.{text, half_adder, constant_sum, wire}
 use Rattle.quality_semantics.specs.Forms.{Form, zero_form, one_form, or2, xor2, xor3, maj, gt, grow, low}
 use Rattle.quality_semantics.specs.WordNets.{table_of, started}
 use Rattle.quality_semantics.specs.Buses.{binary, constant, add, times, not_zero_low, at_least}
+use Rattle.quality_semantics.specs.Multiply.{multiplier, multiplier_net}
 use Rattle.quality_semantics.specs.Quality.{quality, quality_net}
 use Rattle.quality_semantics.specs.Joint.{joint_net}
 
@@ -45,6 +46,11 @@ pub record OtherExamples : Type 0 where
   pub never_relative : quality rel 1 1000000 ≡ record { net = started 2; signal = 2 }
   pub not_zero : (not_zero_low (started 4) (0 ∷ 1 ∷ [])).bus ≡ 6 ∷ 1 ∷ []
   pub tripled : (times (started 4) (0 ∷ 1 ∷ []) 3).bus ≡ 6 ∷ 8 ∷ 10 ∷ 11 ∷ []
+
+pub record MultiplierExamples : Type 0 where
+  pub tables : (length (multiplier 1).net.tables ≡ 3) × (length (multiplier 2).net.tables ≡ 12) × (length (multiplier 4).net.tables ≡ 54)
+  pub bits : (length (multiplier 1).bus ≡ 1) × (length (multiplier 2).bus ≡ 4) × (length (multiplier 4).bus ≡ 8)
+  pub outputs : (multiplier_net 2).outputs ≡ 10 ∷ 12 ∷ 14 ∷ 15 ∷ []
 
 pub record JointExamples : Type 0 where
   -- an output that is an input: the quality network's tables alone, over one signal twice

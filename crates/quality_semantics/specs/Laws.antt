@@ -6,6 +6,7 @@ use Rattle.semantics.specs.Value.{Assignment, table_value, value_of, outputs_of}
 use Rattle.semantics.specs.Error.{Metric, number_of, distance, rounded_up, differing, error_of, net_error}
 use Rattle.quality_semantics.specs.WordNets.{WordNetValue, signals, started, BeginsWith, IsWordNet}
 use Rattle.quality_semantics.specs.Buses.{constant, add, times, greater, exceed, not_zero_low, differ, at_least}
+use Rattle.quality_semantics.specs.Multiply.{multiply, multiplier_net, Multiplies}
 use Rattle.quality_semantics.specs.Quality.{quality, quality_net, TellsExcess}
 use Rattle.quality_semantics.specs.Joint.{approximate_signal, quality_signal, joint_net, AreComparable}
 
@@ -56,6 +57,11 @@ pub record QualityLaw : Type 0 where
       → value_of (w + w) (quality metric w k).net.tables x (quality metric w k).signal ≡ nat_lt k (error_of metric (take w x) (drop w x))
   pub tells : (metric : Metric) (w k : ℕ) → TellsExcess metric w k (quality_net metric w k)
   pub sound : (metric : Metric) (w k : ℕ) → signals (quality metric w k).net ≤ 2 ^ 30 → IsSound (quality_net metric w k)
+
+-- The array multiplier.
+pub record MultiplierLaw : Type 0 where
+  pub multiply : (v : Assignment) (W : WordNetValue) (xs ys : List ℕ) → Fits v (multiply W xs ys).net → number v (multiply W xs ys).bus ≡ number v xs * number v ys
+  pub multiplier : (w : ℕ) → Multiplies w (multiplier_net w)
 
 -- The joint net of two nets that can be compared, with every metric and level: it is acyclic over the exact net's inputs, each signal of the two
 -- nets and of the quality network keeps its value where it now stands, and the one output says whether the error of the outputs exceeds k.

@@ -5,3 +5,4 @@ pub mod Quality
 pub mod Joint
 pub mod Laws
 pub mod Examples
+pub mod Multiply

@@ -1,5 +1,5 @@
 //! The laws about the networks: each function's contract is a law.
-ghost use Rattle.quality_semantics.specs.Laws.{BusLaw, FitsLaw, RoundingLaw, QualityLaw, JointLaw};
+ghost use Rattle.quality_semantics.specs.Laws.{BusLaw, FitsLaw, RoundingLaw, MultiplierLaw, QualityLaw, JointLaw};
 
 /// What the buses' numbers are.
 pub fn buses()
@@ -14,6 +14,11 @@ pub fn fitting()
 /// Quotients rounded up.
 pub fn rounding()
     ensures { RoundingLaw }
+{}
+
+/// What the array multiplier's number is.
+pub fn multiplier()
+    ensures { MultiplierLaw }
 {}
 
 /// What the quality networks say.
