@@ -1,6 +1,8 @@
 //! Two nets with the same ports, and the error of one's outputs against the other's.
 #![tactic(auto)]
 
+mod copies;
 pub mod error;
+pub mod joint;
 pub mod metric;
 pub mod ports;
