@@ -14,7 +14,8 @@ use proof_semantics::step_refusal::StepRefusal;
 use std::alloc::{AllocError, Global};
 use std::marker::Model;
 
-/// What was accepted so far.
+/// What was accepted so far. Its memory goes with the clauses that are held, however far apart their ids are. A step
+/// needs a set of literals besides, and finds each hint in time logarithmic in the number of held clauses.
 #[derive(Drop)]
 pub struct Checker {
     alloc: Global,
