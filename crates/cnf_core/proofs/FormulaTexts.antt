@@ -1,26 +1,15 @@
 -- The parts of a formula's text make the whole.
-use Rattle.std.proofs.Common.{◌≡◌, List, [], ◌∷◌, ◌++◌, map, flat_map, codes, refl, ap, sym, ◌∙◌, append_assoc}
-use Rattle.std.specs.List.{join_with_byte}
+use Rattle.std.proofs.Common.{◌≡◌, List, [], ◌∷◌, ◌++◌, map, flat_map, codes, refl, ap, ◌∙◌}
 use Rattle.std.specs.Fmt.{signed_decimal}
-use Rattle.semantics.specs.Texts.{Bytes, line_text, text_of}
+use Rattle.semantics.specs.Texts.{line_text, text_of}
 use Rattle.proof_semantics.specs.Clauses.{Clause}
 use Rattle.proof_semantics.specs.Formula.{Formula, header_line, clause_line, dimacs_text}
 use Rattle.cnf_core.specs.FormulaText.{literals_text, clauses_text}
-
--- a word before others
-line_text-word : (word last : Bytes) (words : List Bytes) → line_text (word ∷ (words ++ last ∷ [])) ≡ (word ++ 32 ∷ []) ++ line_text (words ++ last ∷ [])
-line_text-word word last [] = append_assoc word (32 ∷ last) (10 ∷ []) ∙ sym (append_assoc word (32 ∷ []) (last ++ 10 ∷ []))
-line_text-word word last (next ∷ words) =
-    append_assoc word (32 ∷ join_with_byte 32 (next ∷ (words ++ last ∷ []))) (10 ∷ []) ∙ sym (append_assoc word (32 ∷ []) (line_text (next ∷ (words ++ last ∷ []))))
+use Rattle.cnf_core.proofs.Words.{line_text-numbers}
 
 -- a clause's literals and its end
 pub clause_line-parts : (clause literals : Clause) → literals ≡ clause → literals_text literals ++ (48 ∷ 10 ∷ []) ≡ line_text (clause_line clause)
-clause_line-parts clause literals same = ap (λ c. literals_text c ++ (48 ∷ 10 ∷ [])) same ∙ parts clause where
-  parts : (clause : Clause) → literals_text clause ++ (48 ∷ 10 ∷ []) ≡ line_text (clause_line clause)
-  parts [] = refl
-  parts (l ∷ clause) =
-      append_assoc (signed_decimal l ++ 32 ∷ []) (literals_text clause) (48 ∷ 10 ∷ [])
-      ∙ ap (λ rest. (signed_decimal l ++ 32 ∷ []) ++ rest) (parts clause) ∙ sym (line_text-word (signed_decimal l) (codes "0") (map signed_decimal clause))
+clause_line-parts clause literals same = ap (λ c. literals_text c ++ (48 ∷ 10 ∷ [])) same ∙ line_text-numbers signed_decimal clause (codes "0") []
 
 clauses_lines : (clauses : List Clause) → clauses_text clauses ≡ flat_map line_text (map clause_line clauses)
 clauses_lines [] = refl

@@ -1,3 +1,4 @@
 pub mod Literals
 pub mod Cnf
 pub mod FormulaText
+pub mod LogText

@@ -1,5 +1,5 @@
 //! A formula is written as its DIMACS text, gathered in a page, and nothing is allocated.
-ghost use Rattle.std.specs.Prelude.{◌≡◌, [], ◌∷◌, ◌++◌, flat_map, OnOk, OnErr};
+ghost use Rattle.std.specs.Prelude.{◌++◌, OnOk, OnErr};
 ghost use Rattle.semantics.specs.Texts.{line_text};
 ghost use Rattle.outside_semantics.specs.Outside.{Wrote, WriteFailed};
 ghost use Rattle.file_core.specs.Page.{Gathered};
@@ -8,30 +8,11 @@ ghost use Rattle.cnf_core.specs.FormulaText.{clauses_text};
 
 use crate::clause::Lits;
 use crate::cnf::Cnf;
+use crate::numbers::write_list;
 use file_core::fault::FileFault;
 use file_core::files::Files;
-use file_core::page::{Page, gather, gather_pieces, send};
-use itoa::{Buffer, Integer};
-
-/// Puts each number before a blank.
-pub fn write_numbers<F: Files, I: Integer>(
-    numbers: &[I],
-    files: &mut F,
-    page: &mut Page,
-) -> Result<(), FileFault>
-    ensures ok { OnOk result
-        (Gathered (F.told files.old) (F.told files.new) page.old page.new
-        (flat_map (λ n. I.text n ++ 32 ∷ []) numbers.now)) }
-    ensures err { OnErr result
-        (WriteFailed (F.told files.old) (F.told files.new)
-        (page.old ++ flat_map (λ n. I.text n ++ 32 ∷ []) numbers.now)) }
-{
-    for number in numbers {
-        let mut buffer = Buffer::new();
-        gather_pieces(files, page, &[buffer.format(*number).as_bytes(), b" "])?;
-    }
-    Ok(())
-}
+use file_core::page::{Page, gather_pieces, send};
+use itoa::Buffer;
 
 /// Puts the line `p cnf`, the number of variables and the number of clauses.
 fn write_header<F: Files>(cnf: &Cnf, files: &mut F, page: &mut Page) -> Result<(), FileFault>
@@ -66,8 +47,7 @@ fn write_clause<F: Files>(clause: &Lits, files: &mut F, page: &mut Page) -> Resu
         (WriteFailed (F.told files.old) (F.told files.new)
         (page.old ++ line_text (clause_line clause.now))) }
 {
-    write_numbers(clause.as_slice(), files, page)?;
-    gather(files, page, b"0\n")
+    write_list(clause.as_slice(), b"0\n", files, page)
 }
 
 fn write_clauses<F: Files>(

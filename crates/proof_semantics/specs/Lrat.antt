@@ -13,11 +13,19 @@ addition_line s = decimal s.id ∷ (map signed_decimal s.literals ++ codes "0" �
 abbrev pub removal_line : ℕ → List ℕ → Line
 removal_line greatest ids = decimal greatest ∷ codes "d" ∷ (map decimal ids ++ codes "0" ∷ [])
 
--- the lines of the items behind additions of which this id is the greatest
+abbrev pub item_line : ℕ → LogItem → Line
+item_line greatest (Add s) = addition_line s
+item_line greatest (Remove ids) = removal_line greatest ids
+
+-- the greatest id behind one more item
+abbrev pub greatest_with : ℕ → LogItem → ℕ
+greatest_with greatest (Add s) = max greatest s.id
+greatest_with greatest (Remove ids) = greatest
+
+-- the items behind additions of which this id is the greatest
 abbrev pub log_lines : ℕ → List LogItem → List Line
 log_lines greatest [] = []
-log_lines greatest (Add s ∷ log) = addition_line s ∷ log_lines (max greatest s.id) log
-log_lines greatest (Remove ids ∷ log) = removal_line greatest ids ∷ log_lines greatest log
+log_lines greatest (item ∷ log) = item_line greatest item ∷ log_lines (greatest_with greatest item) log
 
 unfoldable pub lrat_text : List LogItem → Bytes
 lrat_text log = text_of (log_lines 0 log)

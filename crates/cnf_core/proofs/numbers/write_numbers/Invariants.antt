@@ -1,6 +1,6 @@
 use Rattle.std.proofs.Common.{take, flat_map, [], ◌∷◌, ◌++◌}
 use Rattle.file_core.specs.Page.{Gathered}
-use Rattle.cnf_core.proofs.dimacs.write_numbers.Given as goal
+use Rattle.cnf_core.proofs.numbers.write_numbers.Given as goal
 
 abbrev pub invariant-loop-number : goal.invariant-loop-number
 invariant-loop-number g l =

@@ -2,7 +2,7 @@ use Rattle.std.proofs.Common.{[], ◌∷◌, ◌++◌, ap, ◌∙◌}
 use Rattle.std.proofs.lemmas.Result.{err_from_is_err_and}
 use Rattle.file_core.proofs.Gathering.{Gathered-nil}
 use Rattle.file_core.proofs.Parts.{Gathered-next, WriteFailed-next}
-use Rattle.cnf_core.proofs.dimacs.write_numbers.Goals as goal
+use Rattle.cnf_core.proofs.numbers.write_numbers.Goals as goal
 
 pub loop-number-init : goal.loop-number-init
 loop-number-init g c = Gathered-nil _ _
