@@ -1,13 +1,13 @@
 -- How many clauses there are.
-use Rattle.std.proofs.Common.{◌≡◌, ℕ, zero, suc, ◌+◌, true, cond, not, List, [], ◌∷◌, ◌++◌, length, map, refl, ap, sym, ◌∙◌, arith, sum_by, length-append, All, ℤ}
+use Rattle.std.proofs.Common.{◌≡◌, ℕ, zero, suc, ◌+◌, ◌≤◌, true, cond, not, List, [], ◌∷◌, ◌++◌, length, map, refl, ap, sym, ◌∙◌, arith, sum_by, length-append, All, ℤ}
 use Rattle.std.proofs.lemmas.List.{length-map}
 use Rattle.std.proofs.lemmas.List.Elements.{All-head, All-tail}
 use Rattle.std.proofs.lemmas.List.Sums.{sum_by-cons}
 use Rattle.semantics.specs.declared.mark.Mark.{Mark}
 use Rattle.semantics.specs.declared.mark.Mark.TheVariants.{Zero, One, Dash}
-use Rattle.semantics.specs.Net.{TableValue, is_literal, row_literals}
+use Rattle.semantics.specs.Net.{TableValue, NetValue, input_count, IsSmall, is_literal, row_literals}
 use Rattle.proof_semantics.specs.NetClauses.{literal_at, literals_of_row, implication, row_clauses, rows_clauses, implications, variables_from, table_clauses, tables_clauses, net_clauses, goal_clauses}
-use Rattle.proof_semantics.specs.Variables.{table_clause_count}
+use Rattle.proof_semantics.specs.Variables.{variable_count, table_clause_count}
 
 -- a row asks as often as it has marks 0 and 1
 pub length-literals_of_row : (marks : List Mark) (pins : List ℕ) → length marks ≡ length pins → length (literals_of_row marks pins) ≡ row_literals marks
@@ -65,3 +65,6 @@ length-net_clauses n tables h = length-tables_clauses n (n + length tables) tabl
 pub length-goal_clauses : (n : ℕ) (tables : List TableValue) (signal : ℕ) → length (goal_clauses n tables signal) ≡ length (net_clauses n tables) + 1
 unfolding goal_clauses
 length-goal_clauses n tables signal = length-append (net_clauses n tables) ((literal_at signal true ∷ []) ∷ [])
+
+pub variable_count-small : (N : NetValue) → IsSmall N → variable_count (input_count N) N.tables ≤ 37120
+variable_count-small N h = omega (arith, h.inputs, h.tables, h.all_rows)

@@ -1,6 +1,6 @@
 -- What a step derives is true wherever the held clauses are, so a refuted formula has no satisfying assignment.
-use Rattle.std.proofs.Common.{◌≡◌, ℕ, zero, suc, ◌<◌, Bool, true, false, cond, not, ◌||◌, List, [], ◌∷◌, length, refl, ap, subst, sym, ◌∙◌, inl, inr, ℤ, pos, negsuc, neg_ℤ, Option, None, Some, Result, Ok, Err}
-use Rattle.std.specs.Prelude.{filter, ⊤}
+use Rattle.std.proofs.Common.{◌≡◌, ℕ, zero, suc, ◌<◌, Bool, true, false, cond, not, ◌||◌, List, [], ◌∷◌, length, refl, ap, subst, sym, ◌∙◌, inl, inr, ℤ, pos, negsuc, neg_ℤ, Option, None, Some, Ok}
+use Rattle.std.specs.Prelude.{filter}
 use Rattle.std.specs.Ordering.{int_eq, int_cmp, nat_cmp, eq_by_cmp}
 use Rattle.std.specs.FinMap.{get, insert, remove, empty, get-insert, get-remove, get-empty}
 use Rattle.std.specs.Cmp.{nat_cmp_total, int_cmp_total}
@@ -10,12 +10,13 @@ use Rattle.std.proofs.Math.IntN.{neg_ℤ-neg_ℤ}
 use Rattle.std.proofs.lemmas.Bool.Decides.{Decides-int_eq}
 use Rattle.std.proofs.lemmas.Bool.{or_parts, and_parts, not-true, false_from_ne_true, true_from_ne_false, cases_lt, lt-leb, le-leb}
 use Rattle.semantics.specs.Value.{Assignment}
-use Rattle.proof_semantics.specs.declared.step_refusal.StepRefusal.{StepRefusal}
 use Rattle.proof_semantics.specs.declared.item.Item.TheVariants.{Add, Remove}
 use Rattle.proof_semantics.specs.Clauses.{Clause, literal_value, clause_value, Satisfies, IsUnsatisfiable}
 use Rattle.proof_semantics.specs.NetClauses.{goal_clauses}
-use Rattle.proof_semantics.specs.Logs.{Held, LiteralSet, with_negations, is_false_in, open_literals, hint_answer, held_answer, is_empty, hints_answer, step_answer, StepValue, LogItem, Derives, removed_from, IsSoundFrom, IsSoundLog, last_added_after, last_added, held_from, held_of, Refutes}
+use Rattle.proof_semantics.specs.Logs.{Held, LiteralSet, with_negations, is_false_in, open_literals, EndsInConflict, Derives, step_answer, StepValue, LogItem, removed_from, IsSoundFrom, IsSoundLog, last_added_after, last_added, held_from, held_of, Refutes}
 use Rattle.proof_semantics.specs.Laws.{AllHeldTrue, RefutationLaw}
+use Rattle.proof_semantics.proofs.TruthValues.{or_false}
+use Rattle.proof_semantics.proofs.Hints.{accepted-from, conflict-from}
 use Rattle.proof_semantics.proofs.NetValues.{goal_law}
 use Rattle.proof_semantics.proofs.TableClauses.{with_literals-value}
 
@@ -43,29 +44,6 @@ filter-value a set h (l ∷ clause) = at_test (is_false_in set l) refl (filter-v
 open_literals-value : (a : Assignment) (set : LiteralSet) → NegationsFail a set → (clause : Clause) → clause_value a (open_literals set clause) ≡ clause_value a clause
 open_literals-value a set h clause = with_literals-value a [] (filter (λ l. not (is_false_in set l)) clause) ∙ filter-value a set h clause
 
--- what an answer to a hint means
-Means : Assignment → Result (Option ℤ) StepRefusal → Type 0
-Means a (Err e) = Unit {0}
-Means a (Ok None) = ⊥
-Means a (Ok (Some l)) = literal_value a l ≡ true
-
-hint_answer-means : (a : Assignment) (hint : ℕ) (last : Bool) (literals : List ℤ) → clause_value a literals ≡ true → Means a (hint_answer hint last literals)
-unfolding Means
-hint_answer-means a hint true [] h = cc
-hint_answer-means a hint true (l ∷ rest) h = tt
-hint_answer-means a hint false [] h = tt
-hint_answer-means a hint false (l ∷ []) h = one (literal_value a l) h where
-  one : (b : Bool) → (b || false) ≡ true → b ≡ true
-  one true k = refl
-  one false k = k
-hint_answer-means a hint false (l ∷ m ∷ rest) h = tt
-
-held_answer-means : (a : Assignment) (set : LiteralSet) → NegationsFail a set → (hint : ℕ) (last : Bool) (o : Option Clause) → ((clause : Clause) → o ≡ Some clause → clause_value a clause ≡ true)
-    → Means a (held_answer set hint last o)
-unfolding Means
-held_answer-means a set h hint last None all = tt
-held_answer-means a set h hint last (Some clause) all = hint_answer-means a hint last (open_literals set clause) (open_literals-value a set h clause ∙ all clause refl)
-
 pub NegationsFail-insert : (a : Assignment) (set : LiteralSet) (l : ℤ) → NegationsFail a set → literal_value a (neg_ℤ l) ≡ false → NegationsFail a (literals.insert set l)
 unfolding NegationsFail
 NegationsFail-insert a set l h k q e = at_test (int_eq q l) refl (sym (contains-insert int_cmp_total set l q) ∙ e) where
@@ -73,16 +51,15 @@ NegationsFail-insert a set l h k q e = at_test (int_eq q l) refl (sym (contains-
   at_test true same m = let is : q ≡ l = (Decides-int_eq q l).0 same in subst (λ x. literal_value a (neg_ℤ x) ≡ false) (sym is) k
   at_test false same m = h q m
 
-hints_answer-sound : (a : Assignment) (held : ℕ → Option Clause) → ((id : ℕ) (clause : Clause) → held id ≡ Some clause → clause_value a clause ≡ true) → (hints : List ℕ) (set : LiteralSet) → NegationsFail a set → hints_answer held set hints ≡ Ok tt → ⊥
-unfolding Means
-hints_answer-sound a held all [] set h e = cc
-hints_answer-sound a held all (hint ∷ hints) set h e =
-    at_answer (held_answer set hint (is_empty hints) (held hint)) (held_answer-means a set h hint (is_empty hints) (held hint) (all hint)) e (hints_answer-sound a held all hints) where
-      at_answer : (r : Result (Option ℤ) StepRefusal) → Means a r → elim r as (λ _. Result ⊤ StepRefusal) [ Err e' ↦ Err e' | Ok None ↦ Ok tt | Ok (Some l) ↦ hints_answer held (literals.insert set l) hints ] ≡ Ok tt
-          → ((set' : LiteralSet) → NegationsFail a set' → hints_answer held set' hints ≡ Ok tt → ⊥) → ⊥
-      at_answer (Err e') m k rest = cc
-      at_answer (Ok None) m k rest = m
-      at_answer (Ok (Some l)) m k rest = rest (literals.insert set l) (NegationsFail-insert a set l h (negation_fails a l m)) k
+-- where the held clauses are true and the negations of the set's literals are false, no hints end in a conflict
+no_conflict : (a : Assignment) (held : ℕ → Option Clause) → ((id : ℕ) (clause : Clause) → held id ≡ Some clause → clause_value a clause ≡ true) → (hints : List ℕ) (set : LiteralSet)
+    → NegationsFail a set → EndsInConflict held set hints → ⊥
+no_conflict a held all [] set h e = e
+no_conflict a held all (hint ∷ []) set h (clause, is, none) =
+    let value : false ≡ true = ap (clause_value a) (sym none) ∙ open_literals-value a set h clause ∙ all hint clause is in cc
+no_conflict a held all (hint ∷ next ∷ hints) set h (clause, l, is, unit, rest) =
+    let value : literal_value a l ≡ true = sym (or_false (literal_value a l)) ∙ ap (clause_value a) (sym unit) ∙ open_literals-value a set h clause ∙ all hint clause is in
+    no_conflict a held all (next ∷ hints) (literals.insert set l) (NegationsFail-insert a set l h (negation_fails a l value)) rest
 
 pub negations-fail : (a : Assignment) (clause : Clause) (set : LiteralSet) → NegationsFail a set → clause_value a clause ≡ false → NegationsFail a (with_negations set clause)
 negations-fail a [] set h e = h
@@ -97,7 +74,7 @@ none-fails a q e = let none = contains-empty int_cmp q in cc
 
 pub derives_sound : (a : Assignment) (held : Held) (s : StepValue) → AllHeldTrue a held
     → Derives held s → clause_value a s.literals ≡ true
-derives_sound a held s all d = true_from_ne_false _ (λ fails. hints_answer-sound a (get held) all s.hints (with_negations literals.empty s.literals) (negations-fail a s.literals literals.empty (none-fails a) fails) d)
+derives_sound a held s all d = true_from_ne_false _ (λ fails. no_conflict a (get held) all s.hints (with_negations literals.empty s.literals) (negations-fail a s.literals literals.empty (none-fails a) fails) d)
 
 AllHeldTrue-insert : (a : Assignment) (held : Held) (id : ℕ) (clause : Clause) → AllHeldTrue a held → clause_value a clause ≡ true → AllHeldTrue a (insert held id clause)
 AllHeldTrue-insert a held id clause h k q c e = at_test (eq_by_cmp nat_cmp q id) (sym (get-insert nat_cmp_total held id clause q) ∙ e) where
@@ -144,12 +121,12 @@ refutes_sound formula log r a all = let ends = added_true a formula log [] all r
 accepted_rises : (held : Held) (last : ℕ) (s : StepValue) → step_answer held last s ≡ Ok tt → (last < s.id) × Derives held s
 accepted_rises held last s e =
     elim (cases_lt last s.id) [
-      | inl low ↦ (low, rw (lt-leb s.id last low) at e)
+      | inl low ↦ (low, conflict-from (get held) s.hints (with_negations literals.empty s.literals) (rw (lt-leb s.id last low) at e))
       | inr high ↦ let refused = rw (le-leb s.id last high) at e in let no : ⊥ = cc (refused) in absurd no
     ]
 
 rising_accepted : (held : Held) (last : ℕ) (s : StepValue) → last < s.id → Derives held s → step_answer held last s ≡ Ok tt
-rising_accepted held last s low d = rw (lt-leb s.id last low) d
+rising_accepted held last s low d = rw (lt-leb s.id last low) (accepted-from (get held) s.hints (with_negations literals.empty s.literals) d)
 
 pub refutation_law : RefutationLaw
 refutation_law = record {

@@ -1,7 +1,7 @@
 -- The laws about clauses and logs, each the contract of a function without parameters.
-use Rattle.std.specs.Prelude.{◌≡◌, ℕ, suc, ◌+◌, ◌<◌, ◌↔◌, Bool, true, false, List, length, sum_by, All, Some, Ok}
+use Rattle.std.specs.Prelude.{◌≡◌, ℕ, suc, ◌+◌, ◌<◌, ◌≤◌, ◌↔◌, Bool, true, false, List, length, sum_by, All, Some, Ok}
 use Rattle.std.specs.FinMap.{get}
-use Rattle.semantics.specs.Net.{TableValue, IsAcyclic}
+use Rattle.semantics.specs.Net.{TableValue, NetValue, input_count, IsAcyclic, IsSmall}
 use Rattle.semantics.specs.Value.{Assignment, value_of}
 use Rattle.proof_semantics.specs.Clauses.{Clause, clause_value, Satisfies, IsUnsatisfiable, AreClausesOf}
 use Rattle.proof_semantics.specs.NetClauses.{net_clauses, goal_clauses}
@@ -24,10 +24,11 @@ abbrev pub GoalLaw : Type 0
 GoalLaw = (n : ℕ) (tables : List TableValue) (signal : ℕ) → IsAcyclic n tables → signal < n + length tables
     → ((a : Assignment) × Satisfies a (goal_clauses n tables signal)) ↔ ((x : List Bool) × (length x ≡ n) × (value_of n tables x signal ≡ true))
 
--- how many clauses there are, and that each literal is of one of the variables
+-- how many clauses and variables there are, and that each literal is of one of the variables
 pub record ClauseCountLaw : Type 0 where
   pub clauses : (n : ℕ) (tables : List TableValue) → All (λ t. All (λ marks. length marks ≡ length t.pins) t.rows) tables
       → length (net_clauses n tables) ≡ sum_by table_clause_count tables
+  pub small : (N : NetValue) → IsSmall N → variable_count (input_count N) N.tables ≤ 37120
   pub goal : (n : ℕ) (tables : List TableValue) (signal : ℕ) → length (goal_clauses n tables signal) ≡ length (net_clauses n tables) + 1
   pub variables : (n : ℕ) (tables : List TableValue) → IsAcyclic n tables → AreClausesOf (variable_count n tables) (net_clauses n tables)
   pub goal_variables : (n : ℕ) (tables : List TableValue) (signal : ℕ) → IsAcyclic n tables → signal < n + length tables

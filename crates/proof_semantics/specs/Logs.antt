@@ -40,7 +40,19 @@ is_false_in set l = literals.contains set (neg_ℤ l)
 abbrev pub open_literals : LiteralSet → Clause → List ℤ
 open_literals set clause = with_literals [] (filter (λ l. not (is_false_in set l)) clause)
 
--- What a hint with these open literals gives: none at the last hint, which ends the step; before it one, which joins the set.
+-- Unit propagation along the hints ends in a conflict: each hint before the last has one open literal, which joins the set,
+-- and the last has none.
+abbrev pub EndsInConflict : (ℕ → Option Clause) → LiteralSet → List ℕ → Type 0
+EndsInConflict held set [] = ⊥
+EndsInConflict held set (hint ∷ []) = (clause : Clause) × (held hint ≡ Some clause) × (open_literals set clause ≡ [])
+EndsInConflict held set (hint ∷ next ∷ hints) =
+    (clause : Clause) × (l : ℤ) × (held hint ≡ Some clause) × (open_literals set clause ≡ l ∷ []) × EndsInConflict held (literals.insert set l) (next ∷ hints)
+
+-- the step's clause follows from what is held
+abbrev pub Derives : Held → StepValue → Type 0
+Derives held s = EndsInConflict (get held) (with_negations literals.empty s.literals) s.hints
+
+-- What a hint with these open literals gives: nothing at the last hint, where a conflict ends the step; before it a literal.
 abbrev pub hint_answer : ℕ → Bool → List ℤ → Result (Option ℤ) StepRefusal
 hint_answer hint true [] = Ok None
 hint_answer hint true (l ∷ rest) = Err NoConflict
@@ -56,7 +68,7 @@ abbrev pub is_empty : List ℕ → Bool
 is_empty [] = true
 is_empty (hint ∷ hints) = false
 
--- the hints in order, from the set on: the first refusal, or a conflict at the last
+-- the hints in order: the first refusal, or the conflict
 abbrev pub hints_answer : (ℕ → Option Clause) → LiteralSet → List ℕ → Result ⊤ StepRefusal
 hints_answer held set [] = Err NoConflict
 hints_answer held set (hint ∷ hints) = elim (held_answer set hint (is_empty hints) (held hint)) [
@@ -65,14 +77,10 @@ hints_answer held set (hint ∷ hints) = elim (held_answer set hint (is_empty hi
   | Ok (Some l) ↦ hints_answer held (literals.insert set l) hints
 ]
 
--- whether a step is accepted after the id `last`, or why not
+-- whether a step is accepted behind the id `last`, or the first reason why not
 abbrev pub step_answer : Held → ℕ → StepValue → Result ⊤ StepRefusal
 step_answer held last s =
     if nat_le s.id last then Err (NotRising s.id) else hints_answer (get held) (with_negations literals.empty s.literals) s.hints
-
--- the step's clause follows from what is held by unit propagation along its hints
-abbrev pub Derives : Held → StepValue → Type 0
-Derives held s = hints_answer (get held) (with_negations literals.empty s.literals) s.hints ≡ Ok tt
 
 -- these ids are no longer held; an id that is not held means nothing
 abbrev pub removed_from : Held → List ℕ → Held

@@ -28,7 +28,7 @@ literals_of_row (m ∷ marks) (pin ∷ pins) = mark_literals m pin ++ literals_o
 abbrev pub implication : ℕ → ℤ → Clause
 implication place l = literal_at place false ∷ l ∷ []
 
--- the row at this place is the conjunction of the literals
+-- the row at this place is the conjunction of the literals; of all clauses only its last can have a literal twice, where a pin stands twice
 abbrev pub row_clauses : ℕ → List ℤ → List Clause
 row_clauses place literals = map (implication place) literals ++ with_literals (literal_at place true ∷ []) (map neg_ℤ literals) ∷ []
 

@@ -10,7 +10,7 @@ use Rattle.proof_semantics.specs.declared.step_refusal.StepRefusal.TheVariants.{
 use Rattle.proof_semantics.specs.Clauses.{Clause, IsLiteralOf}
 use Rattle.proof_semantics.specs.Logs.{Held, LiteralSet, held_of, removed_from, with_negations, hints_answer}
 use Rattle.proof_semantics.specs.Examples.{three_clauses, not_}
-use Rattle.proof_semantics.proofs.Hints.{hints-unit, hints-conflict, hints-refused}
+use Rattle.proof_semantics.proofs.Hints.{hints-unit, hints-conflict, hints-refused, conflict-from}
 use Rattle.proof_semantics.proofs.examples.logs.Goals as goal
 
 inserted : (held : Held) (id : ℕ) (clause : Clause) (q : ℕ) → get (insert held id clause) q ≡ cond (eq_by_cmp nat_cmp q id) (Some clause) (get held q)
@@ -102,10 +102,10 @@ returns c = record {
   twice = twice;
   from_one = from_one;
   refutes = (
-    record { sound = (omega arith, in_order, tt); ends = refl },
-    record { sound = (omega arith, the_clause_2, (omega arith, after_removals, tt)); ends = refl },
+    record { sound = (omega arith, conflict-from (get (held_of three_clauses)) (1 ∷ 2 ∷ 3 ∷ []) (with_negations literals.empty []) in_order, tt); ends = refl },
+    record { sound = (omega arith, conflict-from (get (held_of three_clauses)) (1 ∷ 2 ∷ []) (with_negations literals.empty (pos 2 ∷ [])) the_clause_2, (omega arith, conflict-from (get (removed_from (insert (held_of three_clauses) 7 (pos 2 ∷ [])) (1 ∷ 9 ∷ []))) (7 ∷ 3 ∷ []) (with_negations literals.empty []) after_removals, tt)); ends = refl },
   );
-  past_the_empty_clause = λ h. let last = h.2.1 in cc;
-  derivation = record { sound = (omega arith, in_order, tt); in_turn = (refl, All-nil (IsLiteralOf 2), tt); short = omega arith };
+  past_the_empty_clause = λ h. h.2.1;
+  derivation = record { sound = (omega arith, conflict-from (get (held_of three_clauses)) (1 ∷ 2 ∷ 3 ∷ []) (with_negations literals.empty []) in_order, tt); in_turn = (refl, All-nil (IsLiteralOf 2), tt); short = omega arith };
   no_derivation = λ h. let first = h.in_turn.0 in omega (arith, first);
 }
