@@ -1,8 +1,8 @@
 -- Literals that are taken for true, as they join the set of a step.
-use Rattle.std.proofs.Common.{◌≡◌, ℕ, zero, suc, ◌+◌, ◌<◌, Bool, true, false, cond, not, ◌||◌, List, [], ◌∷◌, ◌++◌, refl, ap, subst, sym, ◌∙◌, arith, ℤ, pos, negsuc, neg_ℤ}
+use Rattle.std.proofs.Common.{◌≡◌, Bool, true, false, cond, not, ◌||◌, [], ◌∷◌, ◌++◌, refl, ap, ◌∙◌, ℤ, neg_ℤ}
 use Rattle.std.specs.Prelude.{filter}
 use Rattle.std.specs.List.{AllByRecursion}
-use Rattle.std.specs.Ordering.{int_eq, int_cmp}
+use Rattle.std.specs.Ordering.{int_eq}
 use Rattle.std.specs.Cmp.{int_cmp_total}
 use Rattle.std.specs.FinSet as literals
 use Rattle.std.specs.FinSet.{contains-insert}
@@ -11,7 +11,6 @@ use Rattle.std.proofs.lemmas.Bool.{false_from_ne_true}
 use Rattle.std.proofs.lemmas.List.Elements.{filter-append}
 use Rattle.semantics.specs.Value.{Assignment}
 use Rattle.proof_semantics.specs.Clauses.{Clause, literal_value, has_literal, with_literals}
-use Rattle.proof_semantics.specs.NetClauses.{literal_at}
 use Rattle.proof_semantics.specs.Logs.{LiteralSet, with_negations, is_false_in, open_literals}
 use Rattle.proof_semantics.proofs.Refutations.{NegationsFail, false_in-fails}
 

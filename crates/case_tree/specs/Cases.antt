@@ -1,8 +1,8 @@
 -- A refutation by cases: for each input vector a step that derives the vector's negation from the clauses of the net, and then two
 -- such clauses joined at a time. Source: Shannon's expansion, and unit propagation in the order of the tables.
-use Rattle.std.specs.Prelude.{ℕ, zero, suc, ◌+◌, Bool, true, false, not, if◌then◌else◌, List, [], ◌∷◌, ◌++◌, length, sum_by}
+use Rattle.std.specs.Prelude.{ℕ, zero, suc, ◌+◌, Bool, true, false, not, if◌then◌else◌, List, [], ◌∷◌, ◌++◌, length}
 use Rattle.semantics.specs.declared.mark.Mark.{Mark}
-use Rattle.semantics.specs.Net.{TableValue, is_literal, row_literals}
+use Rattle.semantics.specs.Net.{TableValue, is_literal, row_literals, table_literals}
 use Rattle.semantics.specs.Value.{Assignment, mark_matches, row_matches, value_of}
 use Rattle.proof_semantics.specs.declared.item.Item.TheVariants.{Add}
 use Rattle.proof_semantics.specs.Clauses.{Clause}
@@ -34,15 +34,11 @@ table_hints next implied pins (marks ∷ rows) v =
     row_hint next marks pins v
     ∷ (if row_matches marks pins v then implied ∷ [] else table_hints (next + row_literals marks + 1) (implied + 1) pins rows v)
 
--- how many clauses decide the rows
-abbrev pub rows_clause_count : List (List Mark) → ℕ
-rows_clause_count rows = sum_by (λ marks. row_literals marks + 1) rows
-
 -- the hints of the tables in turn, and then the clause behind theirs, that the output is true
 abbrev pub tables_hints : ℕ → List TableValue → Assignment → List ℕ
 tables_hints next [] v = next ∷ []
 tables_hints next (t ∷ tables) v =
-    table_hints next (next + rows_clause_count t.rows) t.pins t.rows v ++ tables_hints (next + table_clause_count t) tables v
+    table_hints next (next + table_literals t + length t.rows) t.pins t.rows v ++ tables_hints (next + table_clause_count t) tables v
 
 -- the step that derives the negation of an input vector
 abbrev pub vector_step : ℕ → ℕ → List TableValue → List Bool → StepValue
@@ -50,7 +46,7 @@ vector_step id n tables x = record { id = id; literals = negation x; hints = tab
 
 -- The step that joins the clauses of these ids, which differ in the sign of their last literal.
 abbrev pub join_step : ℕ → List Bool → ℕ → ℕ → StepValue
-join_step id front zeros ones = record { id = id; literals = negation front; hints = zeros ∷ ones ∷ [] }
+join_step id front half other = record { id = id; literals = negation front; hints = half ∷ other ∷ [] }
 
 -- how many steps derive the negation of a front with so many inputs behind it
 abbrev pub step_count : ℕ → ℕ
