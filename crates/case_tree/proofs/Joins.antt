@@ -33,12 +33,12 @@ join-derives front held id other h k =
     let parts = AgreesFrom-parts a front (true ∷ []) 0 i (omega arith) bits in
     let set : LiteralSet = with_negations literals.empty (negation front) in
     let fails = negations-fail a (negation front) literals.empty (none-fails a) (negation-false a front 0 parts.0) in
-    let false_ = AllFalse-negations (negation front) literals.empty in
+    let are_false = AllFalse-negations (negation front) literals.empty in
     let l : ℤ = literal_at i true in
     let first : open_literals set (negation (front ++ false ∷ [])) ≡ l ∷ [] =
-    rw (negation-push front false 0 i (omega arith)) (open-last a set (negation front) l fails parts.1.0 false_) in
+    rw (negation-push front false 0 i (omega arith)) (open-last a set (negation front) l fails parts.1.0 are_false) in
     let second : open_literals (literals.insert set l) (negation (front ++ true ∷ [])) ≡ [] =
     rw (negation-push front true 0 i (omega arith))
     (open-none (literals.insert set l) (negation front ++ literal_at i false ∷ [])
-    (AllFalse-push (literals.insert set l) (negation front) (literal_at i false) (AllFalse-more set l (negation front) false_) (Holds-new set l))) in
+    (AllFalse-push (literals.insert set l) (negation front) (literal_at i false) (AllFalse-more set l (negation front) are_false) (Holds-new set l))) in
     (negation (front ++ false ∷ []), l, h, first, (negation (front ++ true ∷ []), k, second))

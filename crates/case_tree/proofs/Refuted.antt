@@ -21,7 +21,7 @@ pub record IsZeroSignal (n : ℕ) (tables : List TableValue) (output : ℕ) : Ty
   pub in_order : IsInOrder n tables
   pub widths : All (λ t. All (λ marks. length marks ≡ length t.pins) t.rows) tables
   pub within : output < n + length tables
-  pub zero_ : (x : List Bool) → length x ≡ n → value_of n tables x output ≡ false
+  pub is_zero : (x : List Bool) → length x ≡ n → value_of n tables x output ≡ false
 
 -- the halves and their join, behind one another
 halves : (xs ys zs rest : List LogItem) → (xs ++ (ys ++ zs)) ++ rest ≡ xs ++ (ys ++ (zs ++ rest))
@@ -41,7 +41,7 @@ cases-sound n tables output z zero front last held rest e few base follows =
     let width : length front ≡ n = omega (arith, e) in
     let below = λ (q : ℕ) (h : q < last + 1). get-other held (last + 1) (negation front) q h in (
       omega arith,
-      vector-derives n tables output front (get held) z.in_order z.widths z.within width (z.zero_ front width) base,
+      vector-derives n tables output front (get held) z.in_order z.widths z.within width (z.is_zero front width) base,
       follows (insert held (last + 1) (negation front))
           (AreHeldFrom-same (get held) (get (insert held (last + 1) (negation front))) (goal_clauses n tables output) 1 (last + 1) (omega (arith, few)) below base)
           below (get-added held (last + 1) (negation front)),

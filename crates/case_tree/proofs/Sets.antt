@@ -82,11 +82,11 @@ open-none set clause h = ap (with_literals []) (kept-none set clause h)
 -- the first literal is true, and the others are false in the set
 pub open-first : (a : Assignment) (set : LiteralSet) (l : ℤ) (clause : Clause) → NegationsFail a set → literal_value a l ≡ true → AllFalse set clause
     → open_literals set (l ∷ clause) ≡ l ∷ []
-open-first a set l clause h e false_ = open-one set (l ∷ clause) l (kept-open set l clause (true-open a set l h e) ∙ ap (λ rest. l ∷ rest) (kept-none set clause false_))
+open-first a set l clause h e are_false = open-one set (l ∷ clause) l (kept-open set l clause (true-open a set l h e) ∙ ap (λ rest. l ∷ rest) (kept-none set clause are_false))
 
 -- the last literal is true, and the others are false in the set
 pub open-last : (a : Assignment) (set : LiteralSet) (clause : Clause) (l : ℤ) → NegationsFail a set → literal_value a l ≡ true → AllFalse set clause
     → open_literals set (clause ++ l ∷ []) ≡ l ∷ []
-open-last a set clause l h e false_ =
+open-last a set clause l h e are_false =
     open-one set (clause ++ l ∷ []) l
-    (filter-append (λ m. not (is_false_in set m)) clause (l ∷ []) ∙ ap (λ front. front ++ kept set (l ∷ [])) (kept-none set clause false_) ∙ kept-open set l [] (true-open a set l h e))
+    (filter-append (λ m. not (is_false_in set m)) clause (l ∷ []) ∙ ap (λ front. front ++ kept set (l ∷ [])) (kept-none set clause are_false) ∙ kept-open set l [] (true-open a set l h e))

@@ -47,11 +47,11 @@ abbrev pub Goes : Assignment → Assignment → (ℕ → Option Clause) → ℕ 
 Goes a v held place rest = (set : LiteralSet) → NegationsFail a set → Knows v set place → EndsInConflict held set rest
 
 -- the clause of a row that matches, all of whose literals are true
-open-whole : (a : Assignment) (set : LiteralSet) (row : ℕ) (literals_ : List ℤ) → NegationsFail a set → a (suc row) ≡ true → AllFalse set (map neg_ℤ literals_)
-    → open_literals set (with_literals (literal_at row true ∷ []) (map neg_ℤ literals_)) ≡ literal_at row true ∷ []
-open-whole a set row literals_ h e false_ =
-    open-one set (with_literals (literal_at row true ∷ []) (map neg_ℤ literals_)) (literal_at row true)
-    (kept-with set (literal_at row true ∷ []) (map neg_ℤ literals_) false_ ∙ kept-open set (literal_at row true) [] (true-open a set (literal_at row true) h e))
+open-whole : (a : Assignment) (set : LiteralSet) (row : ℕ) (asked : List ℤ) → NegationsFail a set → a (suc row) ≡ true → AllFalse set (map neg_ℤ asked)
+    → open_literals set (with_literals (literal_at row true ∷ []) (map neg_ℤ asked)) ≡ literal_at row true ∷ []
+open-whole a set row asked h e are_false =
+    open-one set (with_literals (literal_at row true ∷ []) (map neg_ℤ asked)) (literal_at row true)
+    (kept-with set (literal_at row true ∷ []) (map neg_ℤ asked) are_false ∙ kept-open set (literal_at row true) [] (true-open a set (literal_at row true) h e))
 
 -- the clause that a row implies a literal: it gives the literal where the row is in the set
 open-implied : (a : Assignment) (set : LiteralSet) (row : ℕ) (l : ℤ) → NegationsFail a set → literal_value a l ≡ true → Holds set (literal_at row true)
@@ -71,13 +71,13 @@ pub rows-decide : (a v : Assignment) (held : ℕ → Option Clause) (place : ℕ
     → NegationsFail a set → Knows v set place → AllFalse set before
     → EndsInConflict held set (table_hints next implied pins rows v ++ rest)
 unfolding AgreesFrom
-rows-decide a v held place plane pins rest below same more goes [] first next implied before set widths clauses behind agree value h k false_ =
+rows-decide a v held place plane pins rest below same more goes [] first next implied before set widths clauses behind agree value h k are_false =
     let l : ℤ = literal_at place (not plane) in
     let none : before ++ [] ≡ before = append-nil before in
-    let true_ = literal_at-true a place (not plane) (same ∙ value) in
-    let open_ : open_literals set (l ∷ (before ++ [])) ≡ l ∷ [] = rw none (open-first a set l before h true_ false_) in
-    unit-hint held set implied (l ∷ (before ++ [])) l rest behind.0 open_ more (goes (literals.insert set l) (NegationsFail-more a set l h true_) (Knows-next v set place (not plane) k value))
-rows-decide a v held place plane pins rest below same more goes (marks ∷ rows) first next implied before set widths clauses behind agree value h k false_ =
+    let is_true = literal_at-true a place (not plane) (same ∙ value) in
+    let unit : open_literals set (l ∷ (before ++ [])) ≡ l ∷ [] = rw none (open-first a set l before h is_true are_false) in
+    unit-hint held set implied (l ∷ (before ++ [])) l rest behind.0 unit more (goes (literals.insert set l) (NegationsFail-more a set l h is_true) (Knows-next v set place (not plane) k value))
+rows-decide a v held place plane pins rest below same more goes (marks ∷ rows) first next implied before set widths clauses behind agree value h k are_false =
     at_row (row_matches marks pins v) refl agree.0 value
     (λ before' set' behind' value' h' k' false'. rows-decide a v held place plane pins rest below same more goes rows (suc first) (next + row_literals marks + 1) (implied + 1) before' set' widths.1 split.1 behind' agree.1 value' h' k' false') where
       whole : Clause
@@ -101,12 +101,12 @@ rows-decide a v held place plane pins rest below same more goes (marks ∷ rows)
           let l : ℤ = literal_at place plane in
           let row_true : a (suc first) ≡ true = here ∙ is in
           let table : v place ≡ plane = rw is at value' in
-          let true_ = literal_at-true a place plane (same ∙ table) in
+          let is_true = literal_at-true a place plane (same ∙ table) in
           let set' : LiteralSet = literals.insert set row in
           let h' = NegationsFail-more a set row h row_true in
           let end : EndsInConflict held set' (implied ∷ rest) =
-          unit-hint held set' implied (implication first l) l rest behind.0 (open-implied a set' first l h' true_ (Holds-new set row)) more
-          (goes (literals.insert set' l) (NegationsFail-more a set' l h' true_) (Knows-next v set' place plane (Knows-more v set place row k) table)) in
+          unit-hint held set' implied (implication first l) l rest behind.0 (open-implied a set' first l h' is_true (Holds-new set row)) more
+          (goes (literals.insert set' l) (NegationsFail-more a set' l h' is_true) (Knows-next v set' place plane (Knows-more v set place row k) table)) in
           rw is
           (unit-hint held set (row_hint next marks pins v) whole row (implied ∷ rest)
           (row_hint-matching held v first whole next marks pins split.0 is)
@@ -115,14 +115,14 @@ rows-decide a v held place plane pins rest below same more goes (marks ∷ rows)
           let failing = row_hint-failing held v set place first whole next marks pins k below split.0 is in
           let row : ℤ = literal_at first false in
           let row_false : a (suc first) ≡ false = here ∙ is in
-          let true_ = literal_at-true a first false row_false in
+          let is_true = literal_at-true a first false row_false in
           let set' : LiteralSet = literals.insert set row in
-          let h' = NegationsFail-more a set row h true_ in
+          let h' = NegationsFail-more a set row h is_true in
           let table : v place ≡ cond (list_any (λ ms. row_matches ms pins v) rows) plane (not plane) = rw is at value' in
           let shifted = append_assoc before (literal_at first true ∷ []) (variables_from (suc first) (length rows)) in
           let behind' : AreHeldFrom held (implied + 1) (implications (suc first) (length rows) (literal_at place plane) ++ (literal_at place (not plane) ∷ ((before ++ literal_at first true ∷ []) ++ variables_from (suc first) (length rows))) ∷ []) =
           rw shifted behind.1 in
-          let next_ = rec (before ++ literal_at first true ∷ []) set' behind' table h' (Knows-more v set place row k) (AllFalse-push set' before (literal_at first true) (AllFalse-more set row before false_) (Holds-new set row)) in
+          let further = rec (before ++ literal_at first true ∷ []) set' behind' table h' (Knows-more v set place row k) (AllFalse-push set' before (literal_at first true) (AllFalse-more set row before are_false) (Holds-new set row)) in
           rw is
           (unit-hint held set (row_hint next marks pins v) (implication first failing.0) row (table_hints (next + row_literals marks + 1) (implied + 1) pins rows v ++ rest)
-          failing.1 (open-first a set row (failing.0 ∷ []) h true_ (failing.2, tt)) (some-hint (next + row_literals marks + 1) (implied + 1) pins rows v rest) next_)
+          failing.1 (open-first a set row (failing.0 ∷ []) h is_true (failing.2, tt)) (some-hint (next + row_literals marks + 1) (implied + 1) pins rows v rest) further)

@@ -75,10 +75,10 @@ tables-decide : (a v : Assignment) (held : ℕ → Option Clause) (total output 
     → AgreesFrom a first (row_values tables v) → HaveValuesFrom v place tables
     → Goes a v held place (tables_hints next tables v)
 unfolding AgreesFrom FormedFrom HaveValuesFrom
-tables-decide a v held total output same within zero_ [] place first next e formed clauses agree values set h k =
+tables-decide a v held total output same within is_zero [] place first next e formed clauses agree values set h k =
     let clause : Clause = literal_at output true ∷ [] in
-    (clause, clauses.0, open-none set clause (Knows-literal v set place output false k (omega (arith, e, within)) zero_, tt))
-tables-decide a v held total output same within zero_ (t ∷ tables) place first next e formed clauses agree values set h k =
+    (clause, clauses.0, open-none set clause (Knows-literal v set place output false k (omega (arith, e, within)) is_zero, tt))
+tables-decide a v held total output same within is_zero (t ∷ tables) place first next e formed clauses agree values set h k =
     let wide = All-from_recursion (λ marks. length marks ≡ length t.pins) t.rows formed.0 in
     let goal : List Clause = (literal_at output true ∷ []) ∷ [] in
     let later : List Clause = tables_clauses (suc place) (first + length t.rows) tables in
@@ -93,7 +93,7 @@ tables-decide a v held total output same within zero_ (t ∷ tables) place first
     let agrees = AgreesFrom-parts a (map (λ marks. row_matches marks t.pins v) t.rows) (row_values tables v) first (first + length t.rows) (omega (arith, wide_values)) agree in
     rows-decide a v held place t.plane t.pins (tables_hints (next + table_clause_count t) tables v) formed.1 (same place (omega (arith, e)))
     (some-hints (next + table_clause_count t) tables v)
-    (tables-decide a v held total output same within zero_ tables (suc place) (first + length t.rows) (next + table_clause_count t) (omega (arith, e)) formed.2 apart.1 agrees.1 values.1)
+    (tables-decide a v held total output same within is_zero tables (suc place) (first + length t.rows) (next + table_clause_count t) (omega (arith, e)) formed.2 apart.1 agrees.1 values.1)
     t.rows first next (next + table_literals t + length t.rows) [] set formed.0 here.0 here.1 agrees.0 values.0 h k tt
 
 opposite : (place : ℕ) (b : Bool) → neg_ℤ (literal_at place (not b)) ≡ literal_at place b
@@ -126,7 +126,7 @@ pub vector-derives : (n : ℕ) (tables : List TableValue) (output : ℕ) (x : Li
     → length x ≡ n → value_of n tables x output ≡ false → AreHeldFrom held 1 (goal_clauses n tables output)
     → EndsInConflict held (with_negations literals.empty (negation x)) (tables_hints 1 tables (value_of n tables x))
 unfolding goal_clauses net_clauses AreWide
-vector-derives n tables output x held order wide within width zero_ clauses =
+vector-derives n tables output x held order wide within width is_zero clauses =
     let v : Assignment = value_of n tables x in
     let a : Assignment = by_place (place_value n tables x) in
     let consistent = (value_law n tables x (IsAcyclic-in_order n tables order)).consistent in
@@ -134,6 +134,6 @@ vector-derives n tables output x held order wide within width zero_ clauses =
     let bits : AgreesFrom a 0 x = AgreesFrom-from a x 0 (λ j below. let at : 0 + j ≡ j = omega arith in rw at (same j (omega (arith, width)) ∙ consistent.input j (omega (arith, width)))) in
     let start : LiteralSet = with_negations literals.empty (negation x) in
     let knows : Knows v start n = λ s below. rw (consistent.input s below) (negation-known x 0 literals.empty s s (omega (arith, width)) (omega arith)) in
-    tables-decide a v held (n + length tables) output same within zero_ tables n (n + length tables) 1 refl
+    tables-decide a v held (n + length tables) output same within is_zero tables n (n + length tables) 1 refl
     (FormedFrom-in_order tables n wide order) clauses (rows_have_values n tables x a (λ k low. refl)) (HaveValuesFrom-at v tables n consistent.table)
     start (negations-fail a (negation x) literals.empty (none-fails a) (negation-false a x 0 bits)) knows

@@ -101,7 +101,7 @@ IsZeroSignal-output N built always = record {
   in_order = built.in_order;
   widths = λ k d within. (built.sound.tables_formed k d within).widths;
   within = built.sound.outputs_are_signals 0 0 built.sound.has_output;
-  zero_ = λ x width. first-output (value_of (input_count N) N.tables x) N.outputs (always x width);
+  is_zero = λ x width. first-output (value_of (input_count N) N.tables x) N.outputs (always x width);
 }
 
 pub clauses-counted : (N : NetValue) (f : Formula) → IsBuilt N → f ≡ goal_of N → length f.clauses ≡ sum_by table_clause_count N.tables + 1
