@@ -6,15 +6,10 @@ use Rattle.std.proofs.lemmas.List.Folds.{list_any_at, Any-from_list_any}
 use Rattle.std.proofs.lemmas.List.Sums.{position_or_len_is, fails_before_first}
 use Rattle.std.proofs.lemmas.Slice.Eq.{bytes_eq-Decides}
 use Rattle.semantics.specs.Texts.{Bytes}
-use Rattle.semantics.specs.Net.{TableValue, name_of}
+use Rattle.semantics.specs.Net.{name_of}
 use Rattle.semantics.specs.Refusals.{has_name}
-use Rattle.blif_semantics.specs.Tables.{NamedTable}
 use Rattle.blif_semantics.specs.Reading.{signal_named}
 use Rattle.blif_semantics.proofs.RightLines.{none_if}
-
--- a table with the signals of its names
-abbrev pub with_signals : List Bytes → NamedTable → TableValue
-with_signals names t = record { name = t.name; pins = map (signal_named names) t.pins; rows = t.rows; plane = t.plane }
 
 found_first : (names : List Bytes) (word : Bytes) (s : ℕ) → position (λ name. bytes_eq word name) names ≡ Some s → signal_named names word ≡ s
 found_first names word s e = rw (e, signal_named) refl

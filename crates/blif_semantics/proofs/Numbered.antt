@@ -12,7 +12,8 @@ use Rattle.semantics.proofs.Refused.{signals-driven}
 use Rattle.blif_semantics.specs.Tables.{NamedTable}
 use Rattle.blif_semantics.specs.Reading.{Refusal, doubled, no_output, undriven, cycle, NamedNet, names_of, names_read, first_undriven_name, signal_named, numbered, unless_refused, sized, grounded, driven, with_output, single}
 use Rattle.blif_semantics.specs.Laws.{refusal_of, reading_of_parts}
-use Rattle.blif_semantics.proofs.Looked.{with_signals, signal_named-below, each_there}
+use Rattle.blif_semantics.specs.Named.{with_signals}
+use Rattle.blif_semantics.proofs.Looked.{signal_named-below, each_there}
 
 names_kept : (names : List Bytes) (tables : List NamedTable) → map (λ t. t.name) (map (with_signals names) tables) ≡ map (λ t. t.name) tables
 names_kept names [] = refl
@@ -44,15 +45,19 @@ outputs_kept : (d : NamedNet) → length (numbered d).outputs ≡ length d.outpu
 unfolding numbered
 outputs_kept d = length-map d.outputs (signal_named (names_of d))
 
+pub length-names_of : (d : NamedNet) → length (names_of d) ≡ signal_count (numbered d)
+unfolding numbered
+length-names_of d =
+    length-append d.inputs (map (λ t. t.name) d.tables)
+    ∙ ap (λ k. length d.inputs + k) (length-map d.tables (λ t. t.name) ∙ sym (length-map d.tables (with_signals (names_of d))))
+
 -- where each name that is read is driven, each pin and output is a signal
 pub signals_below : (d : NamedNet) → first_undriven_name d ≡ None → All (λ t. All (λ s. s < signal_count (numbered d)) t.pins) (numbered d).tables × All (λ s. s < signal_count (numbered d)) (numbered d).outputs
 unfolding numbered
 signals_below d none =
     let names : List Bytes = names_of d in
     let N : NetValue = numbered d in
-    let count : length names ≡ signal_count N =
-    length-append d.inputs (map (λ t. t.name) d.tables)
-    ∙ ap (λ k. length d.inputs + k) (length-map d.tables (λ t. t.name) ∙ sym (length-map d.tables (with_signals names))) in
+    let count = length-names_of d in
     let there = parts_there names (flat_map (λ t. t.pins) d.tables) d.outputs (each_there names (names_read d) none) in (
       subst (λ k. All (λ t. All (λ s. s < k) t.pins) N.tables) count (pins_below names d.tables there.0),
       subst (λ k. All (λ s. s < k) N.outputs) count (words_below names d.outputs there.1),

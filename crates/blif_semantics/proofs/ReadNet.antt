@@ -3,22 +3,23 @@ use Rattle.std.proofs.Common.{◌≡◌, ◌≢◌, ℕ, zero, suc, ◌-◌, ◌
 use Rattle.std.specs.List.{AllByRecursion, list_all}
 use Rattle.std.proofs.lemmas.Bool.{and_parts, eqb-true, eqb-false, leb-true, not-false, false≢true}
 use Rattle.std.proofs.lemmas.List.{length-map, length_push, length-take}
-use Rattle.std.proofs.lemmas.List.Elements.{All-nil, All-cons, All-append, All-push, All-map, All-get_or, All-weaker}
+use Rattle.std.proofs.lemmas.List.Elements.{All-nil, All-cons, All-append, All-push, All-map, All-get_or, All-take, All-weaker}
 use Rattle.std.proofs.lemmas.Option.{none-some}
 use Rattle.semantics.specs.Texts.{Bytes, Line}
 use Rattle.semantics.specs.Net.{NetValue, input_count, IsName, IsTable, IsSound, IsSmall}
+use Rattle.semantics.specs.Refusals.{first_doubled}
 use Rattle.semantics.proofs.Refused.{undoubled, grounded, small}
 use Rattle.blif_semantics.specs.declared.kind.Kind.{Kind}
 use Rattle.blif_semantics.specs.declared.kind.Kind.TheVariants as kind
 use Rattle.blif_semantics.specs.Lines.{Statement, logical_lines, statements}
 use Rattle.blif_semantics.specs.Statements.{is_name, are_names, is_mark, kind_of, first_word, arguments, is_model, plane_of, row_plane, table_before, table_by, Place, place_after, second_model, names_empty, bad_name, unless, wrong, wrong_by, first_wrong}
 use Rattle.blif_semantics.specs.Tables.{NamedTable, mark_of, last_word, marks_of, named, with_row, with_rows, rows_first, table_first, tables_of}
-use Rattle.blif_semantics.specs.Reading.{text_long, wrong_line, NamedNet, is_inputs, listed, model_of, named_net, names_of, signal_named, numbered, unless_refused, lines_reading, blif_reading}
+use Rattle.blif_semantics.specs.Reading.{text_long, wrong_line, NamedNet, is_inputs, is_outputs, listed, model_of, named_net, names_of, first_undriven_name, signal_named, numbered, unless_refused, lines_reading, blif_reading}
+use Rattle.blif_semantics.specs.Named.{IsNamedTable, IsNamedNet, with_signals, IsDriven}
 use Rattle.blif_semantics.proofs.Names.{IsName-from_test, IsName-from_are_names}
 use Rattle.blif_semantics.proofs.RightLines.{open_table, none_if, good, right_by, AllRight, all_right}
 use Rattle.blif_semantics.proofs.Rows.{rows_more, row_right}
 use Rattle.blif_semantics.proofs.Numbered.{signal_names-numbered, signals_below}
-use Rattle.blif_semantics.proofs.Looked.{with_signals}
 use Rattle.blif_semantics.proofs.Accepted.{IsAccepted, IsReadAs, read_parts, read_parts-if, accepted}
 
 -- ---- names
@@ -32,18 +33,32 @@ inputs_named kind.End place words is h = absurd (false≢true is)
 inputs_named kind.Command place words is h = absurd (false≢true is)
 inputs_named kind.Row place words is h = absurd (false≢true is)
 
-abbrev of_inputs : List Line → List Line
-of_inputs lines = filter (λ w. is_inputs (kind_of w)) lines
+outputs_named : (k : Kind) (place : Place) (words : Line) → is_outputs k ≡ true → wrong_by k place words ≡ None → All IsName (arguments words)
+outputs_named kind.Model place words is h = absurd (false≢true is)
+outputs_named kind.Inputs place words is h = absurd (false≢true is)
+outputs_named kind.Outputs place words is h = IsName-from_are_names (arguments words) (good (are_names (arguments words)) bad_name h)
+outputs_named kind.Names place words is h = absurd (false≢true is)
+outputs_named kind.End place words is h = absurd (false≢true is)
+outputs_named kind.Command place words is h = absurd (false≢true is)
+outputs_named kind.Row place words is h = absurd (false≢true is)
 
-inputs_more : (earlier : List Line) (words : Line) (lines : List Line) → wrong (place_after earlier) words ≡ None → All IsName (listed is_inputs lines)
-    → (t : Bool) → is_inputs (kind_of words) ≡ t → All IsName (flat_map arguments (cond t (words ∷ of_inputs lines) (of_inputs lines)))
-inputs_more earlier words lines right rest true e =
-    All-append IsName (arguments words) (listed is_inputs lines) (inputs_named (kind_of words) (place_after earlier) words e (right_by (place_after earlier) words right)) rest
-inputs_more earlier words lines right rest false e = rest
+abbrev of_kind : (Kind → Bool) → List Line → List Line
+of_kind is_kind lines = filter (λ w. is_kind (kind_of w)) lines
 
-inputs_listed : (earlier lines : List Line) → AllRight earlier lines → All IsName (listed is_inputs lines)
-inputs_listed earlier [] h = All-nil IsName
-inputs_listed earlier (words ∷ lines) h = inputs_more earlier words lines h.0 (inputs_listed (words ∷ earlier) lines h.1) (is_inputs (kind_of words)) refl
+-- lines of a kind that are right list names
+abbrev ListsNames : (Kind → Bool) → Type 0
+ListsNames is_kind = (k : Kind) (place : Place) (words : Line) → is_kind k ≡ true → wrong_by k place words ≡ None → All IsName (arguments words)
+
+names_more : (is_kind : Kind → Bool) → ListsNames is_kind → (earlier : List Line) (words : Line) (lines : List Line) → wrong (place_after earlier) words ≡ None → All IsName (listed is_kind lines)
+    → (t : Bool) → is_kind (kind_of words) ≡ t → All IsName (flat_map arguments (cond t (words ∷ of_kind is_kind lines) (of_kind is_kind lines)))
+names_more is_kind each earlier words lines right rest true e =
+    All-append IsName (arguments words) (listed is_kind lines) (each (kind_of words) (place_after earlier) words e (right_by (place_after earlier) words right)) rest
+names_more is_kind each earlier words lines right rest false e = rest
+
+names_listed : (is_kind : Kind → Bool) → ListsNames is_kind → (earlier lines : List Line) → AllRight earlier lines → All IsName (listed is_kind lines)
+names_listed is_kind each earlier [] h = All-nil IsName
+names_listed is_kind each earlier (words ∷ lines) h =
+    names_more is_kind each earlier words lines h.0 (names_listed is_kind each (words ∷ earlier) lines h.1) (is_kind (kind_of words)) refl
 
 one_name : (words : List Bytes) → (length words == 1 && are_names words) ≡ true → IsName (first_word words)
 one_name [] h = absurd (false≢true h)
@@ -100,17 +115,12 @@ rows_width n first earlier (row ∷ lines) table h =
 
 -- ---- tables
 
--- `IsTable` of a table whose pins are names
-record IsNamedTable (t : NamedTable) : Type 0 where
-  named : IsName t.name
-  widths : All (λ marks. length marks ≡ length t.pins) t.rows
-  plane : t.rows ≡ [] → t.plane ≡ true
-
 rows_formed : (t : NamedTable) (rows : List Line) → IsNamedTable t → AllByRecursion (HasWidth (length t.pins)) rows → IsNamedTable (with_rows t rows)
 rows_formed t [] h widths = h
 rows_formed t (row ∷ rows) h widths =
     let grown : IsNamedTable (with_row t row) = record {
       named = h.named;
+      pins = h.pins;
       widths = All-push (λ marks. length marks ≡ length t.pins) t.rows (marks_of row) h.widths widths.0;
       plane = λ e. absurd (omega (arith, ap length e, length_push t.rows (marks_of row)));
     } in
@@ -130,7 +140,7 @@ named_table earlier words lines e h =
     let count : length args - 1 ≡ length (take (length args - 1) args) = omega (arith, length-take (length args - 1) args) in
     let widths = rows_width (length args - 1) None (words ∷ earlier) lines opened h.1 in
     let name : IsName (last_word args) = All-get_or IsName args (length args - 1) [] (omega (arith, parts.0)) parts.1 in
-    let empty : IsNamedTable (named args) = record { named = name; widths = All-nil (λ marks. length marks ≡ length (take (length args - 1) args)); plane = λ e. refl } in
+    let empty : IsNamedTable (named args) = record { named = name; pins = All-take IsName (length args - 1) args parts.1; widths = All-nil (λ marks. length marks ≡ length (take (length args - 1) args)); plane = λ e. refl } in
     rows_formed (named args) (rows_first lines) empty
     (subst (λ n. AllByRecursion (HasWidth n) (rows_first lines)) count widths)
 
@@ -157,26 +167,33 @@ table_formed names t h = record {
   plane = h.plane;
 }
 
--- what is asked of a net of names besides that nothing refuses it
-record IsNamedNet (d : NamedNet) : Type 0 where
-  model : IsName d.model
-  inputs : All IsName d.inputs
-  tables : All IsNamedTable d.tables
+-- a net of names in which nothing is doubled or missing
+pub net_driven : (d : NamedNet) → first_doubled (names_of d) ≡ None → (length d.outputs == 0) ≡ false → first_undriven_name d ≡ None → IsDriven (numbered d)
+unfolding numbered
+net_driven d undoubled_names some_output none_missing =
+    let names : List Bytes = names_of d in
+    let below = signals_below d none_missing in
+    record {
+      names_differ = subst (AllPairs ◌≢◌) (sym (signal_names-numbered d)) (undoubled names undoubled_names);
+      has_output = let some = eqb-false (length d.outputs) 0 some_output in omega (arith, length-map d.outputs (signal_named names));
+      outputs_are_signals = below.1;
+      pins_are_signals = below.0;
+    }
 
 sound : (d : NamedNet) → IsNamedNet d → IsAccepted d → IsSound (numbered d)
 unfolding numbered
 sound d h accepted =
     let names : List Bytes = names_of d in
     let N : NetValue = numbered d in
-    let below = signals_below d accepted.driven in
+    let whole = net_driven d accepted.undoubled accepted.some_output accepted.driven in
     record {
       model_named = h.model;
       inputs_named = h.inputs;
       tables_formed = All-map IsTable (with_signals names) d.tables (All-weaker IsNamedTable (λ t. IsTable (with_signals names t)) (table_formed names) d.tables h.tables);
-      names_differ = subst (AllPairs ◌≢◌) (sym (signal_names-numbered d)) (undoubled names accepted.undoubled);
-      has_output = let some = eqb-false (length d.outputs) 0 accepted.some_output in omega (arith, length-map d.outputs (signal_named names));
-      outputs_are_signals = below.1;
-      pins_are_signals = below.0;
+      names_differ = whole.names_differ;
+      has_output = whole.has_output;
+      outputs_are_signals = whole.outputs_are_signals;
+      pins_are_signals = whole.pins_are_signals;
       acyclic = grounded (input_count N) N.tables accepted.grounded;
     }
 
@@ -201,9 +218,14 @@ reading_parts text most N e =
       net = accepted (named_net lines) N body.1;
     }
 
-names_formed : (lines : List Line) → AllRight [] lines → IsNamedNet (named_net lines)
+pub names_formed : (lines : List Line) → AllRight [] lines → IsNamedNet (named_net lines)
 unfolding named_net
-names_formed lines h = record { model = model_named [] lines h; inputs = inputs_listed [] lines h; tables = tables_formed [] lines h }
+names_formed lines h = record {
+  model = model_named [] lines h;
+  inputs = names_listed is_inputs inputs_named [] lines h;
+  outputs = names_listed is_outputs outputs_named [] lines h;
+  tables = tables_formed [] lines h;
+}
 
 pub read_sound : (text : Bytes) (most : ℕ) (N : NetValue) → blif_reading text most ≡ Ok N → IsSound N
 read_sound text most N e =

@@ -16,7 +16,8 @@ use Rattle.blif_semantics.specs.Tables.{NamedTable, mark_of, last_word, marks_of
 use Rattle.blif_semantics.specs.Reading.{NamedNet, is_inputs, is_outputs, listed, named_net, names_of, names_read, first_undriven_name, signal_named, numbered}
 use Rattle.blif_semantics.proofs.NetLines.{all_append}
 use Rattle.blif_semantics.proofs.WrittenRight.{row_kind}
-use Rattle.blif_semantics.proofs.Looked.{with_signals, signal_named-name_of, has_name-name_of, none_missing}
+use Rattle.blif_semantics.specs.Named.{with_signals}
+use Rattle.blif_semantics.proofs.Looked.{signal_named-name_of, has_name-name_of, none_missing}
 
 -- a table with the names of its signals
 abbrev pub with_names : List Bytes → TableValue → NamedTable

@@ -1,3 +1,10 @@
+pub mod Views
+pub mod Turns
+pub mod LineSteps
+pub mod Places
+pub mod Numbered
+pub mod Readings
+pub mod Sizes
 pub mod NetTexts
 pub mod Traversals
 pub mod Named

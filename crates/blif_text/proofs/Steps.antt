@@ -14,7 +14,7 @@ use Rattle.net_core.specs.declared.name.NameRefusal.{NameRefusal}
 use Rattle.net_core.specs.declared.name.NameRefusal.TheVariants as name
 use Rattle.blif_text.specs.declared.refusal.Refusal.{Refusal}
 use Rattle.blif_text.specs.declared.refusal.Refusal.TheVariants.{NotPlain}
-use Rattle.blif_text.specs.Refusals.{refusal_of}
+use Rattle.blif_text.specs.Refusals.{reason_of}
 use Rattle.blif_text.specs.Words.{texts}
 use Rattle.blif_text.specs.Reading.{AreSmall}
 use Rattle.blif_text.proofs.Traversals.{traverse-push, traverse-none, signals_of-traverse, marks_of-traverse}
@@ -105,19 +105,19 @@ twice words i w within (k, before, is) differ =
     differ k i name low (rw length-texts within) (there ∙ sym here)
 
 -- the refusal of a name is that of the text, where the bytes are no name
-pub refusal_of-NotPlain : (r : NameRefusal) → refusal_of r ≡ NotPlain → r ≡ name.Bad
-refusal_of-NotPlain name.Bad e = refl
-refusal_of-NotPlain name.OutOfMemory e = cc
+pub reason_of-NotPlain : (r : NameRefusal) → reason_of r ≡ NotPlain → r ≡ name.Bad
+reason_of-NotPlain name.Bad e = refl
+reason_of-NotPlain name.OutOfMemory e = cc
 
 -- an error that a `?` passes on
 pub passed_on : {T U : Type 0} (r : Result T Refusal) (d : Refusal) → (y : Refusal) × (r ≡ Err y) × (y ≡ d) → r ≡ Err NotPlain → ◌≡◌ {A = Result U Refusal} (Err d) (Err NotPlain)
 passed_on r d (y, is, same) e = let known : Err y ≡ r = sym is in cc
 
 -- the refusal of a name that a `?` turns into that of the text
-pub turned_into : {T U : Type 0} (r : Result T Refusal) (n : NameRefusal) → (y : Refusal) × (r ≡ Err y) × (y ≡ refusal_of n) → r ≡ Err NotPlain → ◌≡◌ {A = Result U NameRefusal} (Err n) (Err name.Bad)
+pub turned_into : {T U : Type 0} (r : Result T Refusal) (n : NameRefusal) → (y : Refusal) × (r ≡ Err y) × (y ≡ reason_of n) → r ≡ Err NotPlain → ◌≡◌ {A = Result U NameRefusal} (Err n) (Err name.Bad)
 turned_into {T} r n (y, is, same) e =
-    let plain : refusal_of n ≡ NotPlain = cc in
-    ap Err (refusal_of-NotPlain n plain)
+    let plain : reason_of n ≡ NotPlain = cc in
+    ap Err (reason_of-NotPlain n plain)
 
 -- ---- the sizes of tables
 

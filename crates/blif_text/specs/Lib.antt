@@ -1,4 +1,9 @@
+pub mod LogicalLines
+pub mod Messages
+pub mod NamedNets
+pub mod Names
 pub mod NetText
+pub mod Places
 pub mod Plain
 pub mod Reading
 pub mod Refusals

@@ -2,12 +2,21 @@
 #![tactic(auto)]
 
 mod draft;
+mod joining;
+mod judging;
 mod limits;
+mod lines;
+mod message;
+mod named_net;
+mod named_table;
+mod names;
+mod numbering;
 mod open_table;
 pub mod reading;
-mod refusal;
+pub mod refusal;
 mod rows;
 mod signals;
+mod statements;
 #[cfg(test)]
 mod tests;
 mod words;

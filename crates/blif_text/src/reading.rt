@@ -1,24 +1,45 @@
-//! Plain texts, those that this tool writes, are read as their nets. Source: BLIF, as this tool writes it.
-ghost use Rattle.std.specs.Prelude.{◌≡◌, ◌<◌, ◌≤◌, ◌↔◌, [], ◌∷◌, None, Some, IfOk, OnOk, IsTrue, All, codes, length, map, sum_by};
+//! Texts are read as their nets. Source: BLIF, in the profile of `blif_semantics`.
+ghost use Rattle.std.specs.Prelude.{◌≡◌, ◌<◌, ◌≤◌, ◌^◌, Ok, IfErr, ◌↔◌, [], ◌∷◌, None, Some, IfOk, OnOk, IsTrue, All, codes, length, map, sum_by};
 ghost use Rattle.semantics.specs.Net.{IsName, IsSound, IsInOrder};
+ghost use Rattle.blif_semantics.specs.Reading.{blif_reading};
 ghost use Rattle.blif_semantics.specs.Plain.{IsPlain, IsPlainFor, text_limit};
 ghost use Rattle.blif_semantics.specs.PlainReading.{words_after};
 ghost use Rattle.blif_text.specs.Plain.{IsAnswerFor};
-ghost use Rattle.blif_text.specs.Refusals.{OnNotPlain};
+ghost use Rattle.blif_text.specs.Refusals.{Tells, OnNotPlain};
 ghost use Rattle.blif_text.specs.Words.{texts, words_of};
 ghost use Rattle.blif_text.specs.Reading.{AreSmall, IsReadAs, IsPlainNet, IsReadAsNoPlainNet};
 
 use crate::draft::Draft;
+use crate::joining::lines_with_words;
+use crate::judging::judge;
 use crate::limits::{
     MOST_BYTES, MOST_INPUTS, MOST_OUTPUTS, MOST_PINS, MOST_ROWS, MOST_TABLE_PINS, MOST_TABLES,
 };
-use crate::refusal::Refusal;
+use crate::named_net::named_net;
+use crate::numbering::net_of;
+use crate::refusal::{BlifRefusal, Refusal};
 use crate::words::{parts, words_after};
 use net_core::items::{Items, NameList, SignalList, TableList};
 use net_core::name::Name;
 use net_core::net::Net;
 use net_core::table::Table;
 use std::alloc::{AllocError, Global};
+
+/// The net of a text of at most `limit` bytes. Time and memory are about in proportion to the text. Each refusal but want of memory
+/// is the one that the definition gives; want of memory may come at any point.
+pub fn read_blif(alloc: Global, text: &[u8], limit: u64) -> Result<Net, BlifRefusal>
+    requires { limit < 2 ^ 31 }
+    ensures ok { IfOk result (λ n. blif_reading text.now limit ≡ Ok n) }
+    ensures err { IfErr result (λ told. Tells told (blif_reading text.now limit)) }
+{
+    if text.len() as u64 > limit {
+        return Err(BlifRefusal::TextLong);
+    }
+    let lines = lines_with_words(alloc, text)?;
+    judge(alloc, &lines)?;
+    let named = named_net(alloc, &lines)?;
+    net_of(alloc, named)
+}
 
 /// What a text is.
 #[derive(Drop)]

@@ -1,10 +1,50 @@
-//! Why a text is not read.
+//! Why a text is not read. Source: BLIF; what is refused, and in which order, is this tool's own.
 ghost use Rattle.std.specs.Prelude.{◌≡◌};
-ghost use Rattle.blif_text.specs.Refusals.{refusal_of};
+ghost use Rattle.blif_text.specs.Refusals.{reason_of};
 ghost use Rattle.blif_text.specs.declared.refusal.Refusal.TheVariants.{OutOfMemory};
+ghost use Rattle.blif_text.specs.declared.refusal.BlifRefusal.TheVariants.{OutOfMemory as NoMemory};
 
-use net_core::name::NameRefusal;
+use file_core::word::Word;
+use net_core::name::{Name, NameRefusal};
+use semantics::which::Which;
 use std::alloc::{AllocError, AllocFailed};
+
+/// Why a text is refused. Lines are counted from 1.
+#[derive(Debug, Drop)]
+pub enum BlifRefusal {
+    /// The text has more bytes than the limit.
+    TextLong,
+    BadByte { line: u64 },
+    /// A command that is none of the five.
+    Command { line: u64, word: Word },
+    /// A row that stands behind no table.
+    StrayRow { line: u64 },
+    BadRow { line: u64 },
+    /// A row whose plane is not that of its table's first row.
+    MixedPlane { line: u64 },
+    SecondModel { line: u64 },
+    AfterEnd { line: u64 },
+    /// `.names` alone.
+    NamesEmpty { line: u64 },
+    BadName { line: u64 },
+    /// An input or a table has the name of one before.
+    Doubled { name: Name },
+    /// A pin or an output is no input and no table.
+    Undriven { name: Name },
+    NoOutput,
+    /// The first table that depends on itself or on a table that does.
+    Cycle { name: Name },
+    Limit { which: Which },
+    OutOfMemory,
+}
+
+impl From<AllocError> for BlifRefusal {
+    ghost from_gives = { λ _ e. e ≡ NoMemory };
+
+    fn from(_: AllocError) -> BlifRefusal {
+        BlifRefusal::OutOfMemory
+    }
+}
 
 #[derive(Clone, Copy, Debug, Drop, PartialEq, Eq)]
 pub enum Refusal {
@@ -30,7 +70,7 @@ impl<T: Drop> From<AllocFailed<T>> for Refusal {
 }
 
 impl From<NameRefusal> for Refusal {
-    ghost from_gives = { λ r e. e ≡ refusal_of r };
+    ghost from_gives = { λ r e. e ≡ reason_of r };
 
     fn from(refusal: NameRefusal) -> Refusal {
         match refusal {

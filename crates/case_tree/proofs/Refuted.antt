@@ -3,7 +3,8 @@ use Rattle.std.proofs.Common.{◌≡◌, ℕ, zero, suc, ◌+◌, ◌-◌, ◌^�
 use Rattle.std.specs.FinMap.{get, insert}
 use Rattle.std.proofs.lemmas.List.{append-nil}
 use Rattle.std.proofs.lemmas.List.Elements.{All-nil, All-cons}
-use Rattle.semantics.specs.Net.{TableValue, IsInOrder}
+use Rattle.semantics.specs.Net.{TableValue}
+use Rattle.semantics.specs.Order.{IsOrderOf}
 use Rattle.semantics.specs.Value.{value_of}
 use Rattle.proof_semantics.specs.declared.item.Item.TheVariants.{Add, Remove}
 use Rattle.proof_semantics.specs.Clauses.{Clause, IsLiteralOf}
@@ -16,9 +17,9 @@ use Rattle.case_tree.proofs.Held.{get-added, get-other, AreHeldFrom-same, held_o
 use Rattle.case_tree.proofs.Vectors.{vector-derives}
 use Rattle.case_tree.proofs.Joins.{join-derives}
 
--- tables over n inputs that are in order, with a signal that is 0 at every input vector
-pub record IsZeroSignal (n : ℕ) (tables : List TableValue) (output : ℕ) : Type 0 where
-  pub in_order : IsInOrder n tables
+-- tables over n inputs and an order in which they can be evaluated, with a signal that is 0 at every input vector
+pub record IsZeroSignal (n : ℕ) (tables : List TableValue) (order : List ℕ) (output : ℕ) : Type 0 where
+  pub is_order : IsOrderOf n tables order
   pub widths : All (λ t. All (λ marks. length marks ≡ length t.pins) t.rows) tables
   pub within : output < n + length tables
   pub is_zero : (x : List Bool) → length x ≡ n → value_of n tables x output ≡ false
@@ -32,32 +33,32 @@ Follows : List Clause → Held → ℕ → ℕ → List Bool → List LogItem �
 Follows goal held last id front rest =
     (later : Held) → AreHeldFrom (get later) 1 goal → ((q : ℕ) → q < last + 1 → get later q ≡ get held q) → get later id ≡ Some (negation front) → IsSoundFrom later id rest
 
-cases-sound : (n : ℕ) (tables : List TableValue) (output : ℕ) → IsZeroSignal n tables output
+cases-sound : (n : ℕ) (tables : List TableValue) (order : List ℕ) (output : ℕ) → IsZeroSignal n tables order output
     → (free : ℕ) (front : List Bool) (last : ℕ) (held : Held) (rest : List LogItem) → length front + free ≡ n → length (goal_clauses n tables output) ≤ last
     → AreHeldFrom (get held) 1 (goal_clauses n tables output) → Follows (goal_clauses n tables output) held last (last + step_count free) front rest
-    → IsSoundFrom held last (cases_from n tables free front last ++ rest)
+    → IsSoundFrom held last (cases_from n tables order free front last ++ rest)
 unfolding cases_from Follows
-cases-sound n tables output z zero front last held rest e few base follows =
+cases-sound n tables order output z zero front last held rest e few base follows =
     let width : length front ≡ n = omega (arith, e) in
     let below = λ (q : ℕ) (h : q < last + 1). get-other held (last + 1) (negation front) q h in (
       omega arith,
-      vector-derives n tables output front (get held) z.in_order z.widths z.within width (z.is_zero front width) base,
+      vector-derives n tables order output front (get held) z.is_order z.widths z.within width (z.is_zero front width) base,
       follows (insert held (last + 1) (negation front))
           (AreHeldFrom-same (get held) (get (insert held (last + 1) (negation front))) (goal_clauses n tables output) 1 (last + 1) (omega (arith, few)) below base)
           below (get-added held (last + 1) (negation front)),
     )
-cases-sound n tables output z (suc free) front last held rest e few base follows =
+cases-sound n tables order output z (suc free) front last held rest e few base follows =
     let goal : List Clause = goal_clauses n tables output in
     let c : ℕ = step_count free in
     let id : ℕ = last + step_count (suc free) in
     let join : StepValue = join_step id front (last + c) (last + c + c) in
-    let zeros : List LogItem = cases_from n tables free (front ++ false ∷ []) last in
-    let others : List LogItem = cases_from n tables free (front ++ true ∷ []) (last + c) in
+    let zeros : List LogItem = cases_from n tables order free (front ++ false ∷ []) last in
+    let others : List LogItem = cases_from n tables order free (front ++ true ∷ []) (last + c) in
     let longer = λ (b : Bool). length-append front (b ∷ []) in
     subst (IsSoundFrom held last) (sym (halves zeros others (Add join ∷ []) rest))
-    (cases-sound n tables output z free (front ++ false ∷ []) last held (others ++ Add join ∷ rest) (omega (arith, e, longer false)) few base
+    (cases-sound n tables order output z free (front ++ false ∷ []) last held (others ++ Add join ∷ rest) (omega (arith, e, longer false)) few base
     (λ h1 base1 keep1 new1.
-    cases-sound n tables output z free (front ++ true ∷ []) (last + c) h1 (Add join ∷ rest) (omega (arith, e, longer true)) (omega (arith, few)) base1
+    cases-sound n tables order output z free (front ++ true ∷ []) (last + c) h1 (Add join ∷ rest) (omega (arith, e, longer true)) (omega (arith, few)) base1
     (λ h2 base2 keep2 new2.
     let half : get h2 (last + c) ≡ Some (negation (front ++ false ∷ [])) = keep2 (last + c) (omega arith) ∙ new1 in
     let below = λ (q : ℕ) (h : q < id). get-other h2 id (negation front) q h in (
@@ -74,26 +75,26 @@ last_added-end [] s before = refl
 last_added-end (Add t ∷ log) s before = last_added-end log s (Some t.literals)
 last_added-end (Remove ids ∷ log) s before = last_added-end log s before
 
-cases-end : (n : ℕ) (tables : List TableValue) (free : ℕ) (front : List Bool) (last : ℕ) → last_added (cases_from n tables free front last) ≡ Some (negation front)
+cases-end : (n : ℕ) (tables : List TableValue) (order : List ℕ) (free : ℕ) (front : List Bool) (last : ℕ) → last_added (cases_from n tables order free front last) ≡ Some (negation front)
 unfolding cases_from
-cases-end n tables zero front last = refl
-cases-end n tables (suc free) front last =
+cases-end n tables order zero front last = refl
+cases-end n tables order (suc free) front last =
     let c : ℕ = step_count free in
-    let zeros : List LogItem = cases_from n tables free (front ++ false ∷ []) last in
-    let others : List LogItem = cases_from n tables free (front ++ true ∷ []) (last + c) in
+    let zeros : List LogItem = cases_from n tables order free (front ++ false ∷ []) last in
+    let others : List LogItem = cases_from n tables order free (front ++ true ∷ []) (last + c) in
     let join : StepValue = join_step (last + step_count (suc free)) front (last + c) (last + c + c) in
     ap last_added (sym (append_assoc zeros others (Add join ∷ []))) ∙ last_added-end (zeros ++ others) join None
 
-pub cases-count : (n : ℕ) (tables : List TableValue) (free : ℕ) (front : List Bool) (last : ℕ) → length (cases_from n tables free front last) ≡ step_count free
+pub cases-count : (n : ℕ) (tables : List TableValue) (order : List ℕ) (free : ℕ) (front : List Bool) (last : ℕ) → length (cases_from n tables order free front last) ≡ step_count free
 unfolding cases_from
-cases-count n tables zero front last = refl
-cases-count n tables (suc free) front last =
+cases-count n tables order zero front last = refl
+cases-count n tables order (suc free) front last =
     let c : ℕ = step_count free in
-    let zeros : List LogItem = cases_from n tables free (front ++ false ∷ []) last in
-    let others : List LogItem = cases_from n tables free (front ++ true ∷ []) (last + c) in
+    let zeros : List LogItem = cases_from n tables order free (front ++ false ∷ []) last in
+    let others : List LogItem = cases_from n tables order free (front ++ true ∷ []) (last + c) in
     let join : List LogItem = Add (join_step (last + step_count (suc free)) front (last + c) (last + c + c)) ∷ [] in
-    let one = cases-count n tables free (front ++ false ∷ []) last in
-    let two = cases-count n tables free (front ++ true ∷ []) (last + c) in
+    let one = cases-count n tables order free (front ++ false ∷ []) last in
+    let two = cases-count n tables order free (front ++ true ∷ []) (last + c) in
     omega (arith, one, two, length-append zeros (others ++ join), length-append others join)
 
 literals_of-negation : (variables : ℕ) (bits : List Bool) (place : ℕ) → place + length bits ≤ variables → All (IsLiteralOf variables) (negation_from place bits)
@@ -101,19 +102,19 @@ literals_of-negation variables [] place e = All-nil (IsLiteralOf variables)
 literals_of-negation variables (b ∷ bits) place e =
     All-cons (IsLiteralOf variables) _ (negation_from (suc place) bits) (IsLiteralOf-at variables place _ (omega (arith, e))) (literals_of-negation variables bits (suc place) (omega (arith, e)))
 
-cases-in_turn : (n : ℕ) (tables : List TableValue) (variables : ℕ) → n ≤ variables → (free : ℕ) (front : List Bool) (last : ℕ) (rest : List LogItem) → length front + free ≡ n
-    → AddsInTurn variables (last + step_count free) rest → AddsInTurn variables last (cases_from n tables free front last ++ rest)
+cases-in_turn : (n : ℕ) (tables : List TableValue) (order : List ℕ) (variables : ℕ) → n ≤ variables → (free : ℕ) (front : List Bool) (last : ℕ) (rest : List LogItem) → length front + free ≡ n
+    → AddsInTurn variables (last + step_count free) rest → AddsInTurn variables last (cases_from n tables order free front last ++ rest)
 unfolding cases_from
-cases-in_turn n tables variables few zero front last rest e follows = (refl, literals_of-negation variables front 0 (omega (arith, e, few)), follows)
-cases-in_turn n tables variables few (suc free) front last rest e follows =
+cases-in_turn n tables order variables few zero front last rest e follows = (refl, literals_of-negation variables front 0 (omega (arith, e, few)), follows)
+cases-in_turn n tables order variables few (suc free) front last rest e follows =
     let c : ℕ = step_count free in
     let join : StepValue = join_step (last + step_count (suc free)) front (last + c) (last + c + c) in
-    let zeros : List LogItem = cases_from n tables free (front ++ false ∷ []) last in
-    let others : List LogItem = cases_from n tables free (front ++ true ∷ []) (last + c) in
+    let zeros : List LogItem = cases_from n tables order free (front ++ false ∷ []) last in
+    let others : List LogItem = cases_from n tables order free (front ++ true ∷ []) (last + c) in
     let longer = λ (b : Bool). length-append front (b ∷ []) in
     subst (AddsInTurn variables last) (sym (halves zeros others (Add join ∷ []) rest))
-    (cases-in_turn n tables variables few free (front ++ false ∷ []) last (others ++ Add join ∷ rest) (omega (arith, e, longer false))
-    (cases-in_turn n tables variables few free (front ++ true ∷ []) (last + c) (Add join ∷ rest) (omega (arith, e, longer true))
+    (cases-in_turn n tables order variables few free (front ++ false ∷ []) last (others ++ Add join ∷ rest) (omega (arith, e, longer false))
+    (cases-in_turn n tables order variables few free (front ++ true ∷ []) (last + c) (Add join ∷ rest) (omega (arith, e, longer true))
     (omega arith, literals_of-negation variables front 0 (omega (arith, e, few)), follows)))
 
 -- with more inputs there are no fewer steps
@@ -129,26 +130,26 @@ step_count-few free few =
     let e : (15 - free) + free ≡ 15 = omega (arith, few) in
     subst (λ k. step_count free ≤ step_count k) e (step_count-more free (15 - free))
 
-sound : (n : ℕ) (tables : List TableValue) (output : ℕ) → IsZeroSignal n tables output
-    → IsSoundLog (goal_clauses n tables output) (cases_from n tables n [] (length (goal_clauses n tables output)))
+sound : (n : ℕ) (tables : List TableValue) (order : List ℕ) (output : ℕ) → IsZeroSignal n tables order output
+    → IsSoundLog (goal_clauses n tables output) (cases_from n tables order n [] (length (goal_clauses n tables output)))
 unfolding Follows
-sound n tables output z =
+sound n tables order output z =
     let goal : List Clause = goal_clauses n tables output in
-    subst (IsSoundFrom (held_of goal) (length goal)) (append-nil (cases_from n tables n [] (length goal)))
-    (cases-sound n tables output z n [] (length goal) (held_of goal) [] (omega arith) (omega arith) (held_of-held goal) (λ later base keep new. tt))
+    subst (IsSoundFrom (held_of goal) (length goal)) (append-nil (cases_from n tables order n [] (length goal)))
+    (cases-sound n tables order output z n [] (length goal) (held_of goal) [] (omega arith) (omega arith) (held_of-held goal) (λ later base keep new. tt))
 
-pub cases-refute : (n : ℕ) (tables : List TableValue) (output : ℕ) → IsZeroSignal n tables output
-    → Refutes (goal_clauses n tables output) (cases_from n tables n [] (length (goal_clauses n tables output)))
-cases-refute n tables output z = record { sound = sound n tables output z; ends = cases-end n tables n [] (length (goal_clauses n tables output)) }
+pub cases-refute : (n : ℕ) (tables : List TableValue) (order : List ℕ) (output : ℕ) → IsZeroSignal n tables order output
+    → Refutes (goal_clauses n tables output) (cases_from n tables order n [] (length (goal_clauses n tables output)))
+cases-refute n tables order output z = record { sound = sound n tables order output z; ends = cases-end n tables order n [] (length (goal_clauses n tables output)) }
 
-pub cases-derivation : (n : ℕ) (tables : List TableValue) (output variables : ℕ) → IsZeroSignal n tables output → n ≤ variables → n ≤ 15
+pub cases-derivation : (n : ℕ) (tables : List TableValue) (order : List ℕ) (output variables : ℕ) → IsZeroSignal n tables order output → n ≤ variables → n ≤ 15
     → length (goal_clauses n tables output) < 2 ^ 62
-    → IsDerivation (record { variables = variables; clauses = goal_clauses n tables output }) (cases_from n tables n [] (length (goal_clauses n tables output)))
-cases-derivation n tables output variables z few inputs short =
+    → IsDerivation (record { variables = variables; clauses = goal_clauses n tables output }) (cases_from n tables order n [] (length (goal_clauses n tables output)))
+cases-derivation n tables order output variables z few inputs short =
     let goal : List Clause = goal_clauses n tables output in
-    let log : List LogItem = cases_from n tables n [] (length goal) in
+    let log : List LogItem = cases_from n tables order n [] (length goal) in
     record {
-      sound = sound n tables output z;
-      in_turn = subst (AddsInTurn variables (length goal)) (append-nil log) (cases-in_turn n tables variables few n [] (length goal) [] (omega arith) tt);
-      short = omega (arith, short, cases-count n tables n [] (length goal), step_count-few n inputs);
+      sound = sound n tables order output z;
+      in_turn = subst (AddsInTurn variables (length goal)) (append-nil log) (cases-in_turn n tables order variables few n [] (length goal) [] (omega arith) tt);
+      short = omega (arith, short, cases-count n tables order n [] (length goal), step_count-few n inputs);
     }

@@ -1,15 +1,18 @@
 -- How the code's lists of hints and steps grow.
-use Rattle.std.proofs.Common.{◌≡◌, ℕ, suc, ◌+◌, ◌<◌, true, false, List, [], ◌∷◌, ◌++◌, length, get_or, drop, refl, ap, ◌∙◌, arith, append_assoc, drop-cons, sum_by}
+use Rattle.std.proofs.Common.{◌≡◌, ℕ, zero, suc, ◌+◌, ◌<◌, ◌≤◌, true, false, cond, List, [], ◌∷◌, ◌++◌, length, get_or, drop, refl, ap, sym, ◌∙◌, arith, append_assoc, drop-cons, sum_by}
 use Rattle.std.specs.List.{AllByRecursion}
 use Rattle.std.proofs.lemmas.List.Sums.{sum_by-cons}
 use Rattle.semantics.specs.declared.mark.Mark.{Mark}
 use Rattle.semantics.specs.declared.mark.Mark.TheVariants.{Zero, One, Dash}
-use Rattle.semantics.specs.Net.{TableValue, IsAcyclic, row_literals, table_literals}
+use Rattle.semantics.specs.Net.{TableValue, IsAcyclic, row_literals, table_literals, no_table, table_at}
 use Rattle.semantics.specs.Value.{Assignment, row_matches}
+use Rattle.semantics.specs.Order.{IsOrderOf}
+use Rattle.semantics.proofs.Ordered.{order-tables}
+use Rattle.std.proofs.lemmas.List.Elements.{All-from_recursion}
 use Rattle.semantics.proofs.Values.{row_matches-same}
 use Rattle.proof_semantics.specs.Variables.{table_clause_count}
 use Rattle.proof_semantics.proofs.NetValues.{each_pin}
-use Rattle.case_tree.specs.Cases.{row_hint, table_hints, tables_hints}
+use Rattle.case_tree.specs.Cases.{row_hint, table_hints, first_ids, ordered_hints}
 use Rattle.case_tree.proofs.Vectors.{rows_clause_count}
 
 pub table_clauses_counted : (t : TableValue) → table_clause_count t ≡ table_literals t + length t.rows + length t.rows + 1
@@ -67,14 +70,39 @@ table_hints-same next implied pins (marks ∷ rows) v w h =
     let rest = table_hints-same (next + row_literals marks + 1) (implied + 1) pins rows v w h in
     cc (here, matches, rest)
 
-tables_hints-same : (next : ℕ) (tables : List TableValue) (v w : Assignment) → AllByRecursion (λ t. AllByRecursion (λ s. v s ≡ w s) t.pins) tables
-    → tables_hints next tables v ≡ tables_hints next tables w
-tables_hints-same next [] v w h = refl
-tables_hints-same next (t ∷ tables) v w h =
-    let here = table_hints-same next (next + table_literals t + length t.rows) t.pins t.rows v w h.0 in
-    let rest = tables_hints-same (next + table_clause_count t) tables v w h.1 in
+-- what holds of each table holds of the table at a place
+at_each : (P : TableValue → Type 0) → P no_table → (tables : List TableValue) → AllByRecursion P tables → (i : ℕ) → P (table_at tables i)
+at_each P none [] h i = none
+at_each P none (t ∷ tables) h zero = h.0
+at_each P none (t ∷ tables) h (suc i) = at_each P none tables h.1 i
+
+ordered_hints-same : (tables : List TableValue) (v w : Assignment) → ((i : ℕ) → AllByRecursion (λ s. v s ≡ w s) (table_at tables i).pins) → (order : List ℕ)
+    → ordered_hints tables order v ≡ ordered_hints tables order w
+ordered_hints-same tables v w h [] = refl
+ordered_hints-same tables v w h (i ∷ order) =
+    let t : TableValue = table_at tables i in
+    let next : ℕ = get_or (first_ids 1 tables) i 0 in
+    let here = table_hints-same next (next + table_literals t + length t.rows) t.pins t.rows v w (h i) in
+    let rest = ordered_hints-same tables v w h order in
     cc (here, rest)
 
-pub hints-evaluated : (n : ℕ) (tables : List TableValue) (v w : Assignment) → IsAcyclic n tables → ((s : ℕ) → s < n + length tables → v s ≡ w s)
-    → tables_hints 1 tables v ≡ tables_hints 1 tables w
-hints-evaluated n tables v w h same = tables_hints-same 1 tables v w (each_pin (λ s. v s ≡ w s) n tables h same)
+pub hints-evaluated : (n : ℕ) (tables : List TableValue) (order : List ℕ) (v w : Assignment) → IsAcyclic n tables → ((s : ℕ) → s < n + length tables → v s ≡ w s)
+    → ordered_hints tables order v ≡ ordered_hints tables order w
+hints-evaluated n tables order v w h same =
+    ordered_hints-same tables v w (at_each (λ t. AllByRecursion (λ s. v s ≡ w s) t.pins) tt tables (each_pin (λ s. v s ≡ w s) n tables h same)) order
+
+-- ---- the ids of the first clauses
+
+pub length-first_ids : (next : ℕ) (tables : List TableValue) → length (first_ids next tables) ≡ length tables + 1
+length-first_ids next [] = refl
+length-first_ids next (t ∷ tables) = omega (arith, length-first_ids (next + table_clause_count t) tables)
+
+pub first_id-near : (next : ℕ) (tables : List TableValue) (i : ℕ) → i < length tables
+    → get_or (first_ids next tables) i 0 + table_clause_count (table_at tables i) ≤ next + sum_by table_clause_count tables
+first_id-near next [] i within = absurd (omega arith)
+first_id-near next (t ∷ tables) zero within = omega (arith, sum_by-cons table_clause_count t tables)
+first_id-near next (t ∷ tables) (suc i) within =
+    omega (arith, sum_by-cons table_clause_count t tables, first_id-near (next + table_clause_count t) tables i (omega (arith, within)))
+
+pub order-within : (n : ℕ) (tables : List TableValue) (order : List ℕ) (k d : ℕ) → IsOrderOf n tables order → k < length order → get_or order k d < length tables
+order-within n tables order k d h within = All-from_recursion (λ i. i < length tables) order (order-tables n tables [] order h.in_turn) k d within

@@ -1,8 +1,8 @@
 -- A refutation by cases: for each input vector a step that derives the vector's negation from the clauses of the net, and then two
--- such clauses joined at a time. Source: Shannon's expansion, and unit propagation in the order of the tables.
-use Rattle.std.specs.Prelude.{ℕ, zero, suc, ◌+◌, Bool, true, false, not, if◌then◌else◌, List, [], ◌∷◌, ◌++◌, length}
+-- such clauses joined at a time. Source: Shannon's expansion, and unit propagation in an order in which tables can be evaluated.
+use Rattle.std.specs.Prelude.{ℕ, zero, suc, ◌+◌, Bool, true, false, not, if◌then◌else◌, List, [], ◌∷◌, ◌++◌, length, slice_index}
 use Rattle.semantics.specs.declared.mark.Mark.{Mark}
-use Rattle.semantics.specs.Net.{TableValue, is_literal, row_literals, table_literals}
+use Rattle.semantics.specs.Net.{TableValue, is_literal, row_literals, table_literals, table_at}
 use Rattle.semantics.specs.Value.{Assignment, mark_matches, row_matches, value_of}
 use Rattle.proof_semantics.specs.declared.item.Item.TheVariants.{Add}
 use Rattle.proof_semantics.specs.Clauses.{Clause}
@@ -34,15 +34,23 @@ table_hints next implied pins (marks ∷ rows) v =
     row_hint next marks pins v
     ∷ (if row_matches marks pins v then implied ∷ [] else table_hints (next + row_literals marks + 1) (implied + 1) pins rows v)
 
--- the hints of the tables in turn, and then the clause behind theirs, that the output is true
-abbrev pub tables_hints : ℕ → List TableValue → Assignment → List ℕ
-tables_hints next [] v = next ∷ []
-tables_hints next (t ∷ tables) v =
-    table_hints next (next + table_literals t + length t.rows) t.pins t.rows v ++ tables_hints (next + table_clause_count t) tables v
+-- the id of the first clause of each table, and then that of the clause behind those of all tables
+abbrev pub first_ids : ℕ → List TableValue → List ℕ
+first_ids next [] = next ∷ []
+first_ids next (t ∷ tables) = next ∷ first_ids (next + table_clause_count t) tables
+
+-- the hints of a table whose clauses have the ids from `next` on
+abbrev pub hints_from : ℕ → TableValue → Assignment → List ℕ
+hints_from next t v = table_hints next (next + table_literals t + length t.rows) t.pins t.rows v
+
+-- the hints of the tables in an order, and then the clause behind those of all tables, that the output is true
+abbrev pub ordered_hints : List TableValue → List ℕ → Assignment → List ℕ
+ordered_hints tables [] v = slice_index (first_ids 1 tables) (length tables) ∷ []
+ordered_hints tables (i ∷ order) v = hints_from (slice_index (first_ids 1 tables) i) (table_at tables i) v ++ ordered_hints tables order v
 
 -- the step that derives the negation of an input vector
-abbrev pub vector_step : ℕ → ℕ → List TableValue → List Bool → StepValue
-vector_step id n tables x = record { id = id; literals = negation x; hints = tables_hints 1 tables (value_of n tables x) }
+abbrev pub vector_step : ℕ → ℕ → List TableValue → List ℕ → List Bool → StepValue
+vector_step id n tables order x = record { id = id; literals = negation x; hints = ordered_hints tables order (value_of n tables x) }
 
 -- The step that joins the clauses of these ids, which differ in the sign of their last literal.
 abbrev pub join_step : ℕ → List Bool → ℕ → ℕ → StepValue
@@ -55,9 +63,9 @@ step_count (suc free) = step_count free + step_count free + 1
 
 -- The steps after the id `last` that derive the negation of the vectors' front `front`, with so many inputs behind it: both halves,
 -- and their join.
-unfoldable pub cases_from : ℕ → List TableValue → ℕ → List Bool → ℕ → List LogItem
-cases_from n tables zero front last = Add (vector_step (last + 1) n tables front) ∷ []
-cases_from n tables (suc free) front last =
-    cases_from n tables free (front ++ false ∷ []) last
-    ++ (cases_from n tables free (front ++ true ∷ []) (last + step_count free)
+unfoldable pub cases_from : ℕ → List TableValue → List ℕ → ℕ → List Bool → ℕ → List LogItem
+cases_from n tables order zero front last = Add (vector_step (last + 1) n tables order front) ∷ []
+cases_from n tables order (suc free) front last =
+    cases_from n tables order free (front ++ false ∷ []) last
+    ++ (cases_from n tables order free (front ++ true ∷ []) (last + step_count free)
     ++ Add (join_step (last + step_count (suc free)) front (last + step_count free) (last + step_count free + step_count free)) ∷ [])

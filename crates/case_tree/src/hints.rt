@@ -1,9 +1,10 @@
 //! The hints of an input vector: along them unit propagation gives each table its value at the vector.
 ghost use Rattle.std.specs.Prelude.{◌≡◌, ℕ, ◌+◌, ◌<◌, ◌^◌, false, ◌++◌, length, slice_index_or, sum_by, All, IfOk, OnOk};
-ghost use Rattle.semantics.specs.Net.{signal_count, table_literals};
+ghost use Rattle.semantics.specs.Net.{input_count, signal_count, table_literals};
+ghost use Rattle.semantics.specs.Order.{IsOrderOf};
 ghost use Rattle.net_core.specs.Built.{IsBuilt};
 ghost use Rattle.proof_semantics.specs.Variables.{table_clause_count};
-ghost use Rattle.case_tree.specs.Cases.{row_hint, table_hints, tables_hints};
+ghost use Rattle.case_tree.specs.Cases.{row_hint, table_hints, first_ids, ordered_hints};
 
 use cnf_core::log::Ids;
 use net_core::items::{Items, Signal};
@@ -67,21 +68,42 @@ fn table_clause_count(table: &Table) -> u64
     table.literals() + rows + rows + 1
 }
 
-/// The hints of the input vector at which the signals have these values.
-pub fn vector_hints(alloc: Global, net: &Net, vals: &[bool]) -> Result<Ids, AllocError>
+/// The id of the first clause of each table, and then that of the clause behind those of all tables.
+pub fn first_ids(alloc: Global, net: &Net) -> Result<Ids, AllocError>
+    requires { sum_by table_clause_count net.now.tables < 2 ^ 62 }
+    ensures { IfOk result (λ firsts. firsts ≡ first_ids 1 net.now.tables) }
+{
+    let mut firsts = Items::new(alloc);
+    let mut next = 1;
+    for t in 0..net.tables() {
+        firsts.push(next)?;
+        next += table_clause_count(net.table(t));
+    }
+    firsts.push(next)?;
+    Ok(firsts)
+}
+
+/// The hints of the input vector at which the signals have these values, table by table in this order.
+pub fn vector_hints(
+    alloc: Global,
+    net: &Net,
+    order: &[u32],
+    firsts: &[u64],
+    vals: &[bool],
+) -> Result<Ids, AllocError>
     requires values { length vals.now ≡ signal_count net.now }
+    requires order { IsOrderOf (input_count net.now) net.now.tables order.now }
+    requires firsts { firsts.now ≡ first_ids 1 net.now.tables }
     requires ids { sum_by table_clause_count net.now.tables < 2 ^ 62 }
     ensures hints { IfOk result (λ hints. hints
-        ≡ tables_hints 1 net.now.tables (λ s. slice_index_or vals.now s false)) }
+        ≡ ordered_hints net.now.tables order.now (λ s. slice_index_or vals.now s false)) }
     ensures built { IsBuilt net.now }
 {
     let mut hints = Items::new(alloc);
-    let mut next = 1;
-    for t in 0..net.tables() {
-        let table = net.table(t);
-        push_table_hints(&mut hints, next, table, vals)?;
-        next += table_clause_count(table);
+    let count = net.tables() as usize;
+    for i in order {
+        push_table_hints(&mut hints, firsts[*i as usize], net.table(*i), vals)?;
     }
-    hints.push(next)?;
+    hints.push(firsts[count])?;
     Ok(hints)
 }

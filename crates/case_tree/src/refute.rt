@@ -1,13 +1,14 @@
 //! A refutation by cases: each input vector's negation is derived, and then two clauses at a time are joined.
 ghost use Rattle.std.specs.Prelude.{◌≡◌, ℕ, ◌+◌, ◌-◌, ◌<◌, ◌≤◌, ◌^◌, Bool, false, List, [], ◌∷◌, ◌++◌, length, take, sum_by, IfOk, OnOk};
-ghost use Rattle.semantics.specs.Net.{input_count, signal_count};
+ghost use Rattle.semantics.specs.Net.{input_count};
+ghost use Rattle.semantics.specs.Order.{IsOrderOf};
 ghost use Rattle.semantics.specs.Value.{outputs_of};
 ghost use Rattle.proof_semantics.specs.Formula.{goal_of};
 ghost use Rattle.proof_semantics.specs.Logs.{Refutes, IsDerivation};
 ghost use Rattle.proof_semantics.specs.Variables.{table_clause_count};
-ghost use Rattle.case_tree.specs.Cases.{negation_from, negation, vector_step, join_step, step_count, cases_from};
+ghost use Rattle.case_tree.specs.Cases.{negation_from, negation, first_ids, vector_step, join_step, step_count, cases_from};
 
-use crate::hints::vector_hints;
+use crate::hints::{first_ids, vector_hints};
 use cnf_core::clause::Lits;
 use cnf_core::cnf::Cnf;
 use cnf_core::literal::literal_at;
@@ -28,22 +29,25 @@ fn negation(alloc: Global, front: &[bool]) -> Result<Lits, AllocError>
     Ok(clause)
 }
 
-/// The step that derives the negation of the input vector `x`; `vals` holds values on the way.
+/// The step that derives the negation of the input vector `x`.
 fn vector_step(
     alloc: Global,
     id: u64,
     net: &Net,
+    order: &[u32],
+    firsts: &[u64],
     x: &[bool],
-    vals: &mut [bool],
 ) -> Result<Step, AllocError>
     requires width { length x.now ≡ input_count net.now }
     requires few_inputs { length x.now ≤ 15 }
-    requires room { length vals.old ≡ signal_count net.now }
+    requires order { IsOrderOf (input_count net.now) net.now.tables order.now }
+    requires firsts { firsts.now ≡ first_ids 1 net.now.tables }
     requires ids { sum_by table_clause_count net.now.tables < 2 ^ 62 }
-    ensures { IfOk result (λ s. s ≡ vector_step id (input_count net.now) net.now.tables x.now) }
+    ensures { IfOk result (λ s. s ≡ vector_step id (input_count net.now) net.now.tables order.now x.now) }
 {
-    net.eval(x, vals);
-    let hints = vector_hints(alloc, net, vals)?;
+    let mut vals = vec![in alloc; false; net.signals() as usize]?;
+    net.eval(x, &mut vals);
+    let hints = vector_hints(alloc, net, order, firsts, &vals)?;
     Ok(Step::new(id, negation(alloc, x)?, hints))
 }
 
@@ -65,36 +69,38 @@ fn join_step(
 }
 
 /// Adds the steps behind the id `last` that derive the negation of the first `depth` bits of `x`, and answers the last one's id;
-/// `x` and `vals` hold bits and values on the way.
+/// `x` holds bits on the way.
 fn push_cases(
     alloc: Global,
     net: &Net,
+    order: &[u32],
+    firsts: &[u64],
     x: &mut [bool],
     depth: usize,
-    vals: &mut [bool],
     last: u64,
     log: &mut Log,
 ) -> Result<u64, AllocError>
     requires width { length x.old ≡ input_count net.now }
     requires few_inputs { length x.old ≤ 15 }
     requires depth { depth ≤ length x.old }
-    requires room { length vals.old ≡ signal_count net.now }
+    requires order { IsOrderOf (input_count net.now) net.now.tables order.now }
+    requires firsts { firsts.now ≡ first_ids 1 net.now.tables }
     requires clauses { sum_by table_clause_count net.now.tables < 2 ^ 62 }
     requires ids { last + step_count (length x.old - depth) < 2 ^ 63 }
     ensures log { OnOk result (log.new ≡ log.old
-        ++ cases_from (input_count net.now) net.now.tables (length x.old - depth) (take depth x.old) last) }
+        ++ cases_from (input_count net.now) net.now.tables order.now (length x.old - depth) (take depth x.old) last) }
     ensures last { IfOk result (λ id. id ≡ last + step_count (length x.old - depth)) }
     ensures front { OnOk result (take depth x.new ≡ take depth x.old) }
 {
     if depth == x.len() {
         let id = last + 1;
-        log.push(Item::Add(vector_step(alloc, id, net, x, vals)?))?;
+        log.push(Item::Add(vector_step(alloc, id, net, order, firsts, x)?))?;
         return Ok(id);
     }
     x[depth] = false;
-    let half = push_cases(alloc, net, x, depth + 1, vals, last, log)?;
+    let half = push_cases(alloc, net, order, firsts, x, depth + 1, last, log)?;
     x[depth] = true;
-    let other = push_cases(alloc, net, x, depth + 1, vals, half, log)?;
+    let other = push_cases(alloc, net, order, firsts, x, depth + 1, half, log)?;
     let id = other + 1;
     log.push(Item::Add(join_step(alloc, id, &x[..depth], half, other)?))?;
     Ok(id)
@@ -119,8 +125,8 @@ pub fn refute(alloc: Global, joint: &Net, goal: &Cnf) -> Result<Log, AllocError>
 {
     let last = clause_count(goal);
     let mut x = vec![in alloc; false; joint.inputs() as usize]?;
-    let mut vals = vec![in alloc; false; joint.signals() as usize]?;
+    let firsts = first_ids(alloc, joint)?;
     let mut log = Items::new(alloc);
-    push_cases(alloc, joint, &mut x, 0, &mut vals, last, &mut log)?;
+    push_cases(alloc, joint, joint.order(), firsts.as_slice(), &mut x, 0, last, &mut log)?;
     Ok(log)
 }

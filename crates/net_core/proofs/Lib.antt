@@ -1,3 +1,6 @@
+pub mod Keys
+pub mod Reading
+pub mod Refusing
 pub mod Copying
 pub mod Changed
 pub mod Eval

@@ -1,5 +1,5 @@
 -- What each step of sorting keeps, and what it comes to.
-use Rattle.std.proofs.Common.{◌≡◌, ◌≢◌, ◌⊎◌, ◌↔◌, IsTrue, Some, inl, inr, ℕ, zero, suc, ◌+◌, ◌-◌, ◌<◌, ◌≤◌, Bool, true, false, List, [], ◌∷◌, ◌++◌, length, get_or, take, set, replicate, All, Contains, refl, sym, ap, subst, ◌∙◌, true≢false, arith}
+use Rattle.std.proofs.Common.{◌≡◌, ◌≢◌, ◌↔◌, IsTrue, Some, inl, inr, ℕ, zero, suc, ◌+◌, ◌-◌, ◌<◌, ◌≤◌, Bool, true, false, List, [], ◌∷◌, ◌++◌, length, get_or, take, set, replicate, All, Contains, refl, sym, ap, subst, ◌∙◌, true≢false, arith}
 use Rattle.std.proofs.lemmas.Bool.{cases_eq, cases_lt}
 use Rattle.std.proofs.lemmas.List.{get_or-set_same, get_or-set_other, length-set, length_push, get_or_append_left, set_past, get_or_past, get_or_read, get_or-replicate, length-replicate}
 use Rattle.std.proofs.lemmas.List.Elements.{All-from_recursion, recursion_from_All, All-push, All-weaker, All-contains, Contains-push, Contains-push_cases, Contains-append_left, Contains-get_or}
@@ -8,8 +8,8 @@ use Rattle.std.proofs.lemmas.Grind.{get_or_default_zero}
 use Rattle.std.proofs.Math.Nat.{add-sub_cancel_left}
 use Rattle.std.specs.List.{AllByRecursion, range_with_len}
 use Rattle.semantics.specs.Net.{TableValue, table_at, no_table, IsGroundedIn}
-use Rattle.semantics.specs.Order.{IsKnown, IsOrderAfter, IsOrderOf}
-use Rattle.semantics.specs.Refusals.{IsFirstUngrounded, first_ungrounded}
+use Rattle.semantics.specs.Order.{IsKnown, IsOrderOf}
+use Rattle.semantics.specs.Refusals.{first_ungrounded}
 use Rattle.semantics.proofs.Ordered.{order-next, order-tables, order-at_most, order-grounded}
 use Rattle.semantics.proofs.Grounding.{IsGroundedIn-later}
 use Rattle.semantics.proofs.Refused.{first-ungrounded}

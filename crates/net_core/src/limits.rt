@@ -5,21 +5,27 @@ ghost use Rattle.semantics.specs.Refusals.{first_limit};
 
 use crate::items::{NameList, SignalList, TableList};
 use crate::table::Table;
-
 pub use semantics::which::Which;
 
 const MOST_INPUTS: usize = 256;
+
 const MOST_OUTPUTS: usize = 64;
+
 const MOST_TABLES: usize = 4096;
+
 const MOST_TABLE_PINS: usize = 256;
+
 const MOST_PINS: usize = 131072;
+
 const MOST_ROWS: usize = 32768;
 
 /// Whether no table has more pins than one table may.
 fn are_narrow(tables: &[Table]) -> bool
     ensures { result ≡ list_all (λ t. nat_le (length t.pins) 256) tables.now }
 {
-    tables.iter().all(|table| table.pins().len() <= MOST_TABLE_PINS)
+    tables
+        .iter()
+        .all(|table| table.pins().len() <= MOST_TABLE_PINS)
 }
 
 /// Whether the tables have at most so many pins in all.

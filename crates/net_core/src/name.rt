@@ -31,7 +31,7 @@ impl From<AllocError> for NameRefusal {
 }
 
 /// A name of a model, an input or a table.
-#[derive(Drop)]
+#[derive(Debug, Drop)]
 pub struct Name {
     bytes: Vec<u8>,
 }

@@ -1,18 +1,25 @@
-//! Nets: sound, each table after those that it reads, and of a size that fits their numbers.
-ghost use Rattle.std.specs.Prelude.{◌≡◌, ℕ, ◌+◌, ◌<◌, ◌^◌, false, length, slice_index, slice_index_or, sum_by, All, IfOk};
-ghost use Rattle.std.specs.List.{range_with_len};
-ghost use Rattle.semantics.specs.Net.{IsName, IsTable, IsInOrder, input_count, table_count, signal_count, literal_count, signal_names, name_of, table_at, table_literals};
+//! Nets: sound, with an order of their tables, and of a size that fits their numbers.
+ghost use Rattle.std.specs.Prelude.{◌≡◌, ℕ, ◌+◌, ◌<◌, ◌^◌, false, length, slice_index, slice_index_or, sum_by, All, None, IfOk, IfErr, OnOk};
+ghost use Rattle.semantics.specs.Net.{IsName, IsTable, IsAcyclic, input_count, table_count, signal_count, literal_count, signal_names, name_of, table_at, table_literals};
 ghost use Rattle.semantics.specs.Value.{value_of};
+ghost use Rattle.semantics.specs.Order.{IsOrderOf};
+ghost use Rattle.semantics.specs.Refusals.{net_refusal};
 ghost use Rattle.semantics.specs.Replaced.{replaced, with_table};
 ghost use Rattle.net_core.specs.Built.{IsBuilt, IsWired};
+ghost use Rattle.net_core.specs.Refused.{IsRefusalOf};
 
 use crate::items::{NameList, Signal, SignalList, TableList};
+use crate::limits::first_limit;
 use crate::name::Name;
+use crate::names::{first_doubled, name_at};
+use crate::order::order_of;
+use crate::refusal::NetRefusal;
 use crate::table::Table;
+use crate::undriven::first_undriven;
 use std::alloc::{AllocError, Global};
 use std::marker::Model;
 
-/// A net that is sound and in order. Signals are numbered from 0: the inputs, then the tables.
+/// A sound net. Signals are numbered from 0: the inputs, then the tables, which may be in any order.
 #[derive(Drop)]
 pub struct Net {
     model: Name,
@@ -23,9 +30,9 @@ pub struct Net {
 }
 
 impl Model for Net {
-    ghost use Rattle.std.specs.Prelude.{◌≡◌, length};
-    ghost use Rattle.std.specs.List.{range_with_len};
+    ghost use Rattle.std.specs.Prelude.{length};
     ghost use Rattle.semantics.specs.Net.{NetValue};
+    ghost use Rattle.semantics.specs.Order.{IsOrderOf};
     ghost use Rattle.net_core.specs.Built.{IsBuilt};
 
     ghost Value = { NetValue };
@@ -33,14 +40,7 @@ impl Model for Net {
     ghost view = { λ a. record { model = a.model; inputs = a.inputs; tables = a.tables; outputs = a.outputs } };
 
     ghost invariant = { λ a. IsBuilt (record { model = a.model; inputs = a.inputs; tables = a.tables; outputs = a.outputs })
-        × (a.order.items ≡ range_with_len 0 (length a.tables)) };
-}
-
-/// The numbers of so many tables, in an order in which each stands after those that it reads.
-fn table_order(alloc: Global, count: u32) -> Result<Vec<u32>, AllocError>
-    ensures { IfOk result (λ order. order.items ≡ range_with_len 0 count) }
-{
-    (0..count).collect(alloc)
+        × IsOrderOf (length a.inputs) a.tables a.order.items };
 }
 
 /// Shows that each of these is a name, which its type holds: one step a name.
@@ -73,22 +73,47 @@ fn literal_count(tables: &[Table]) -> u64
     count
 }
 
-/// Sets `vals[s]` to the value of each signal `s` at the input vector `x`, in one pass over the tables.
-fn eval_tables(tables: &[Table], x: &[bool], vals: &mut [bool])
-    requires in_order { IsInOrder (length x.now) tables.now }
+/// Sets `vals[s]` to the value of each signal `s` at the input vector `x`, in one pass over the tables in their order.
+fn eval_tables(tables: &[Table], order: &[u32], x: &[bool], vals: &mut [bool])
+    requires order { IsOrderOf (length x.now) tables.now order.now }
     requires room { length vals.old ≡ length x.now + length tables.now }
     ensures { (s : ℕ) → s < length x.now + length tables.now
         → slice_index_or vals.new s false ≡ value_of (length x.now) tables.now x.now s }
 {
     vals[..x.len()].copy_from_slice(x);
-    for (i, table) in tables.iter().enumerate() {
-        let value = table.value(vals);
-        vals[x.len() + i] = value;
+    for i in order {
+        let at = *i as usize;
+        let value = tables[at].value(vals);
+        vals[x.len() + at] = value;
     }
 }
 
 impl Net {
-    /// A net of these parts, which are known to make one.
+    /// A net of these parts, whose tables stand in this order. It takes no memory, and one step for each name.
+    pub fn from_ordered(
+        model: Name,
+        inputs: NameList,
+        tables: TableList,
+        outputs: SignalList,
+        order: Vec<u32>,
+    ) -> Net
+        requires wired { IsWired (record { model = model; inputs = inputs; tables = tables; outputs = outputs }) }
+        requires order { IsOrderOf (length inputs) tables order.items }
+        ensures { result ≡ record { model = model; inputs = inputs; tables = tables; outputs = outputs } }
+    {
+        let _ = model.bytes();
+        see_names(inputs.as_slice());
+        see_tables(tables.as_slice());
+        Net {
+            model,
+            inputs,
+            tables,
+            outputs,
+            order,
+        }
+    }
+
+    /// A net of these parts, which are known to make one, in time about in proportion to their size.
     pub fn from_sound(
         alloc: Global,
         model: Name,
@@ -97,21 +122,51 @@ impl Net {
         outputs: SignalList,
     ) -> Result<Net, AllocError>
         requires wired { IsWired (record { model = model; inputs = inputs; tables = tables; outputs = outputs }) }
-        requires in_order { IsInOrder (length inputs) tables }
+        requires acyclic { IsAcyclic (length inputs) tables }
         ensures { IfOk result
             (λ n. n ≡ record { model = model; inputs = inputs; tables = tables; outputs = outputs }) }
     {
-        let order = table_order(alloc, tables.len() as u32)?;
-        let _ = model.bytes();
-        see_names(inputs.as_slice());
-        see_tables(tables.as_slice());
-        Ok(Net {
-            model,
-            inputs,
-            tables,
-            outputs,
-            order,
-        })
+        let Ok(order) = order_of(alloc, inputs.len() as u32, tables.as_slice())? else {
+            unreachable!()
+        };
+        Ok(Net::from_ordered(model, inputs, tables, outputs, order))
+    }
+
+    /// A small sound net of these parts, or the first reason why they make none, in the order of the refusals.
+    pub fn from_parts(
+        alloc: Global,
+        model: Name,
+        inputs: NameList,
+        tables: TableList,
+        outputs: SignalList,
+    ) -> Result<Net, NetRefusal>
+        requires few_signals { length inputs + length tables < 2 ^ 31 }
+        ensures ok { IfOk result
+            (λ n. n ≡ record { model = model; inputs = inputs; tables = tables; outputs = outputs }) }
+        ensures accepted { OnOk result
+            (net_refusal (record { model = model; inputs = inputs; tables = tables; outputs = outputs }) ≡ None) }
+        ensures refused { IfErr result
+            (IsRefusalOf (record { model = model; inputs = inputs; tables = tables; outputs = outputs })) }
+    {
+        if let Some(name) = first_doubled(alloc, &inputs, &tables)? {
+            return Err(NetRefusal::Doubled(name.copy()?));
+        }
+        if outputs.is_empty() {
+            return Err(NetRefusal::NoOutput);
+        }
+        let signals = (inputs.len() + tables.len()) as u32;
+        if let Some(signal) = first_undriven(signals, &tables, &outputs) {
+            return Err(NetRefusal::Undriven(signal));
+        }
+        let count = inputs.len() as u32;
+        let order = match order_of(alloc, count, tables.as_slice())? {
+            Ok(order) => order,
+            Err(table) => return Err(NetRefusal::Cycle(count + table)),
+        };
+        if let Some(which) = first_limit(&inputs, &tables, &outputs) {
+            return Err(NetRefusal::Limit(which));
+        }
+        Ok(Net::from_ordered(model, inputs, tables, outputs, order))
     }
 
     pub fn model(&self) -> &Name
@@ -182,18 +237,12 @@ impl Net {
         requires { s < signal_count self.now }
         ensures value { result.now ≡ name_of (signal_names self.now) s }
     {
-        let at = s as usize;
-        let inputs = self.inputs.len();
-        if at < inputs {
-            self.inputs.get(at)
-        } else {
-            self.tables.get(at - inputs).name()
-        }
+        name_at(self.inputs.as_slice(), self.tables.as_slice(), s as usize)
     }
 
     /// The numbers of the tables, each after those that it reads.
     pub fn order(&self) -> &[u32]
-        ensures value { result.now ≡ range_with_len 0 (table_count self.now) }
+        ensures { IsOrderOf (input_count self.now) self.now.tables result.now }
     {
         self.order.as_slice()
     }
@@ -205,7 +254,7 @@ impl Net {
         ensures { (s : ℕ) → s < signal_count self.now
             → slice_index_or vals.new s false ≡ value_of (input_count self.now) self.now.tables x.now s }
     {
-        eval_tables(self.tables.as_slice(), x, vals);
+        eval_tables(self.tables.as_slice(), &self.order, x, vals);
     }
 
     /// An equal net, on the same allocator.
@@ -225,17 +274,15 @@ impl Net {
     pub fn with_table(&self, t: u32, table: Table) -> Result<Net, AllocError>
         requires within { t < table_count self.now }
         requires same_name { table.name ≡ (table_at self.now.tables t).name }
-        requires in_order { IsInOrder (input_count self.now) (replaced self.now.tables t table) }
+        requires acyclic { IsAcyclic (input_count self.now) (replaced self.now.tables t table) }
         ensures { IfOk result (λ n. n ≡ with_table self.now t table) }
     {
-        // A table is formed by its type: the call brings that fact here.
-        let _ = table.name();
-        Ok(Net {
-            model: self.model.copy()?,
-            inputs: self.inputs.copy()?,
-            tables: self.tables.copy_with(t as usize, table)?,
-            outputs: self.outputs.copy()?,
-            order: Vec::from_slice(*self.order.allocator(), &self.order)?,
-        })
+        Net::from_sound(
+            *self.order.allocator(),
+            self.model.copy()?,
+            self.inputs.copy()?,
+            self.tables.copy_with(t as usize, table)?,
+            self.outputs.copy()?,
+        )
     }
 }

@@ -29,9 +29,9 @@ impl Model for Sorting {
     ghost Value = { Sorting };
 
     ghost view = { λ a. record {
-        order = a.order.items;
-        waiters = map (λ v. v.items) a.waiters.items;
-        checked = a.checked.items;
+      order = a.order.items;
+      waiters = map (λ v. v.items) a.waiters.items;
+      checked = a.checked.items;
     } };
 
     ghost invariant = { λ a. IsMarked a.order.items a.placed.items
@@ -220,12 +220,7 @@ impl Sorting {
 }
 
 /// The tables, each with a place in the order or waiting for one without.
-fn settle(
-    alloc: Global,
-    inputs: u32,
-    tables: &[Table],
-    count: u32,
-) -> Result<Sorting, AllocError>
+fn settle(alloc: Global, inputs: u32, tables: &[Table], count: u32) -> Result<Sorting, AllocError>
     requires count { count ≡ length tables.now }
     requires pins { All (λ t. All (λ s. s < inputs + length tables.now) t.pins) tables.now }
     ensures sorting { IfOk result (λ s. IsSorting inputs tables.now s) }

@@ -6,3 +6,4 @@ pub mod Counts
 pub mod Bounds
 pub mod Refutations
 pub mod Hints
+pub mod Miters

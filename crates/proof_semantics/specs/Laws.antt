@@ -1,11 +1,14 @@
 -- The laws about clauses and logs, each the contract of a function without parameters.
-use Rattle.std.specs.Prelude.{◌≡◌, ℕ, suc, ◌+◌, ◌<◌, ◌≤◌, ◌↔◌, Bool, true, false, List, length, sum_by, All, Some, Ok}
+use Rattle.std.specs.Prelude.{◌≡◌, ℕ, suc, ◌+◌, ◌<◌, ◌≤◌, ◌↔◌, Bool, true, false, nat_lt, List, length, sum_by, All, Some, Ok}
 use Rattle.std.specs.FinMap.{get}
-use Rattle.semantics.specs.Net.{TableValue, NetValue, input_count, IsAcyclic, IsSmall}
+use Rattle.semantics.specs.Net.{TableValue, NetValue, input_count, signal_count, IsAcyclic, IsSmall}
 use Rattle.semantics.specs.Value.{Assignment, value_of}
+use Rattle.semantics.specs.Error.{Metric, net_error, IsWithin}
+use Rattle.quality_semantics.specs.Joint.{approximate_signal, AreComparable}
 use Rattle.proof_semantics.specs.Clauses.{Clause, clause_value, Satisfies, IsUnsatisfiable, AreClausesOf}
 use Rattle.proof_semantics.specs.NetClauses.{net_clauses, goal_clauses}
 use Rattle.proof_semantics.specs.Logs.{StepValue, LogItem, Held, step_answer, Derives, IsSoundLog, last_added, Refutes}
+use Rattle.proof_semantics.specs.Miter.{miter, IsJointModelAt, joint_output}
 use Rattle.proof_semantics.specs.Variables.{variable_count, table_clause_count, place_value, by_place, IsModelAt, HasPlaceValues}
 
 -- For acyclic tables and each input vector one assignment of the variables satisfies the clauses: each signal has its value, and
@@ -48,3 +51,21 @@ pub record RefutationLaw : Type 0 where
   pub refuted : (formula : List Clause) (log : List LogItem) → Refutes formula log → IsUnsatisfiable formula
   pub goal : (n : ℕ) (tables : List TableValue) (signal : ℕ) (log : List LogItem) → IsAcyclic n tables → signal < n + length tables
       → Refutes (goal_clauses n tables signal) log → (x : List Bool) → length x ≡ n → value_of n tables x signal ≡ false
+
+-- For two nets that can be compared, with every metric and level: at each input vector the joint net's clauses can be satisfied, and then each
+-- signal of the two nets has its value, and the output says whether the error exceeds the level. So the miter can be satisfied exactly where
+-- some input's error exceeds the level, and a refuted miter shows that none does.
+pub record MiterLaw : Type 0 where
+  pub some : (N M : NetValue) (metric : Metric) (k : ℕ) → AreComparable N M → (x : List Bool) → (a : Assignment) × IsJointModelAt N M metric k x a
+  pub exact : (N M : NetValue) (metric : Metric) (k : ℕ) → AreComparable N M → (x : List Bool) (a : Assignment) → IsJointModelAt N M metric k x a
+      → (s : ℕ) → s < signal_count N → a (suc s) ≡ value_of (input_count N) N.tables x s
+  pub approximate : (N M : NetValue) (metric : Metric) (k : ℕ) → AreComparable N M → (x : List Bool) (a : Assignment) → IsJointModelAt N M metric k x a
+      → (s : ℕ) → s < signal_count M → a (suc (approximate_signal N s)) ≡ value_of (input_count M) M.tables x s
+  pub output : (N M : NetValue) (metric : Metric) (k : ℕ) → AreComparable N M → (x : List Bool) (a : Assignment) → IsJointModelAt N M metric k x a
+      → a (suc (joint_output N M metric k)) ≡ nat_lt k (net_error metric N M x)
+  pub satisfiable : (N M : NetValue) (metric : Metric) (k : ℕ) → AreComparable N M
+      → ((a : Assignment) × Satisfies a (miter N M metric k).clauses) ↔ ((x : List Bool) × (length x ≡ input_count N) × (k < net_error metric N M x))
+  pub unsatisfiable : (N M : NetValue) (metric : Metric) (k : ℕ) → AreComparable N M
+      → IsUnsatisfiable (miter N M metric k).clauses ↔ IsWithin metric N k M
+  pub refuted : (N M : NetValue) (metric : Metric) (k : ℕ) → AreComparable N M → (log : List LogItem) → Refutes (miter N M metric k).clauses log
+      → IsWithin metric N k M

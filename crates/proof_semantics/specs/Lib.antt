@@ -2,6 +2,7 @@ pub mod Clauses
 pub mod NetClauses
 pub mod Variables
 pub mod Formula
+pub mod Miter
 pub mod Logs
 pub mod Lrat
 pub mod Laws

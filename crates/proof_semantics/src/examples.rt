@@ -1,5 +1,5 @@
 //! Worked examples of the definitions, computed by the checker: each function's contract is its examples.
-ghost use Rattle.proof_semantics.specs.Examples.{ClauseExamples, DimacsExamples, LogExamples, LratExamples};
+ghost use Rattle.proof_semantics.specs.Examples.{ClauseExamples, DimacsExamples, LogExamples, LratExamples, MiterExamples};
 
 /// The clauses of small nets.
 pub fn clauses()
@@ -19,4 +19,9 @@ pub fn logs()
 /// The texts of small logs.
 pub fn lrat_texts()
     ensures { LratExamples }
+{}
+
+/// How large the miters of small nets are.
+pub fn miters()
+    ensures { MiterExamples }
 {}

@@ -1,5 +1,5 @@
 //! The laws about clauses and logs: each function's contract is a law.
-ghost use Rattle.proof_semantics.specs.Laws.{NetClauseLaw, GoalLaw, ClauseCountLaw, RefutationLaw};
+ghost use Rattle.proof_semantics.specs.Laws.{NetClauseLaw, GoalLaw, ClauseCountLaw, RefutationLaw, MiterLaw};
 
 /// At each input vector one assignment satisfies the clauses of a net.
 pub fn net_clauses()
@@ -19,4 +19,9 @@ pub fn clause_counts()
 /// What a log refutes.
 pub fn refutations()
     ensures { RefutationLaw }
+{}
+
+/// What the miter of two nets says.
+pub fn miters()
+    ensures { MiterLaw }
 {}

@@ -1,6 +1,6 @@
 -- The bits of a number up to its highest 1.
-use Rattle.std.proofs.Common.{◌≡◌, ◌≢◌, ℕ, zero, suc, ◌/◌, ◌%◌, ◌<◌, ◌≤◌, ◌==◌, Bool, true, false, [], ◌∷◌, ⊎_elim, refl, ap, sym, ◌∙◌, arith}
-use Rattle.std.proofs.lemmas.Bool.{cases_eq, ne_eqb}
+use Rattle.std.proofs.Common.{◌≡◌, inr, inl, ◌-◌, get_or, length, ◌≢◌, ℕ, zero, suc, ◌/◌, ◌%◌, ◌<◌, ◌≤◌, ◌==◌, Bool, true, false, List, [], ◌∷◌, ⊎_elim, refl, ap, sym, ◌∙◌, arith}
+use Rattle.std.proofs.lemmas.Bool.{cases_eq, cases_lt, ne_eqb}
 use Rattle.semantics.specs.Error.{bit_number, number_of}
 use Rattle.quality_semantics.specs.Buses.{bits_within, binary}
 
@@ -49,3 +49,34 @@ number_of-bits_within (suc m) k h =
 pub number_of-binary : (k : ℕ) → number_of (binary k) ≡ k
 unfolding binary
 number_of-binary k = number_of-bits_within k k (omega arith)
+
+-- the last of a list with one more in front
+last_later : (b : Bool) (bits : List Bool) → 0 < length bits → get_or (b ∷ bits) (length (b ∷ bits) - 1) false ≡ get_or bits (length bits - 1) false
+last_later b [] some = absurd (omega arith)
+last_later b (c ∷ bits) some =
+    let outer : suc (suc (length bits)) - 1 ≡ suc (length bits) = omega arith in
+    let inner : suc (length bits) - 1 ≡ length bits = omega arith in
+    rw (outer, inner) refl
+
+bits_some_within : (m k : ℕ) → k ≤ m → 0 < k → 0 < length (bits_within m k)
+bits_some_within zero k h some = absurd (omega arith)
+bits_some_within (suc m) k h some = rw (bits_some m k (λ e. omega (arith, e, some))) (omega arith)
+
+highest_within : (m k : ℕ) → k ≤ m → 0 < k → get_or (bits_within m k) (length (bits_within m k) - 1) false ≡ true
+highest_within zero k h some = absurd (omega arith)
+highest_within (suc m) k h some =
+    let here = bits_some m k (λ e. omega (arith, e, some)) in
+    elim (cases_lt k 2) [
+      | inl low ↦
+          let one : k ≡ 1 = omega arith in
+          let none : bits_within m (1 / 2) ≡ [] = bits_room m 0 0 (omega arith) (omega arith) in
+          rw (here, one, none) refl
+      | inr high ↦
+          let some_half : 0 < k / 2 = omega arith in
+          let rest = highest_within m (k / 2) (omega arith) some_half in
+          rw here (last_later (k % 2 == 1) (bits_within m (k / 2)) (bits_some_within m (k / 2) (omega arith) some_half) ∙ rest)
+    ]
+
+pub highest_bit : (k : ℕ) → 0 < k → get_or (binary k) (length (binary k) - 1) false ≡ true
+unfolding binary
+highest_bit k some = highest_within k k (omega arith) some

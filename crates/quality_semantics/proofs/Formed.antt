@@ -51,10 +51,10 @@ IsWordNet-appended W pins rows h pins_in widths =
           (cases_eq i (length W.tables));
     }
 
-signals-appended : (W : WordNetValue) (f : Form) → signals (appended W f) ≡ suc (signals W)
+pub signals-appended : (W : WordNetValue) (f : Form) → signals (appended W f) ≡ suc (signals W)
 signals-appended W f = simp length-append (omega arith)
 
-two_in : (n a b : ℕ) → a < n → b < n → All (λ s. s < n) (a ∷ b ∷ [])
+pub two_in : (n a b : ℕ) → a < n → b < n → All (λ s. s < n) (a ∷ b ∷ [])
 two_in n a b ha hb = All-from_recursion (λ s. s < n) (a ∷ b ∷ []) (ha, (hb, tt))
 
 three_in : (n a b c : ℕ) → a < n → b < n → c < n → All (λ s. s < n) (a ∷ b ∷ c ∷ [])
@@ -98,7 +98,7 @@ places_below n z [] (b ∷ y) hz hx hy = ((hz, All-head (λ s. s < n) b y hy), p
 places_below n z (a ∷ x) [] hz hx hy = ((All-head (λ s. s < n) a x hx, hz), places_below n z x [] hz (All-tail (λ s. s < n) a x hx) hy)
 places_below n z (a ∷ x) (b ∷ y) hz hx hy = ((All-head (λ s. s < n) a x hx, All-head (λ s. s < n) b y hy), places_below n z x y hz (All-tail (λ s. s < n) a x hx) (All-tail (λ s. s < n) b y hy))
 
-zero_below : (W : WordNetValue) → IsWordNet W → W.inputs < signals W
+pub zero_below : (W : WordNetValue) → IsWordNet W → W.inputs < signals W
 zero_below W h = let some = h.room in omega (arith, some)
 
 one_below : (W : WordNetValue) → IsWordNet W → suc W.inputs < signals W

@@ -37,7 +37,7 @@ pub begins_appended : (W : WordNetValue) (f : Form) → BeginsWith (appended W f
 begins_appended W f = record { inputs = refl; tables = take-append_seam W.tables (table_of (length W.tables) f ∷ []) }
 
 -- after one table more
-begins_later : (W : WordNetValue) (f : Form) (V : WordNetValue) → BeginsWith V (appended W f) → BeginsWith V W
+pub begins_later : (W : WordNetValue) (f : Form) (V : WordNetValue) → BeginsWith V (appended W f) → BeginsWith V W
 begins_later W f V h = begins_after W (appended W f) V h (begins_appended W f)
 
 pub begins_adders : (W : WordNetValue) (c : ℕ) (ps : List (ℕ × ℕ)) → BeginsWith (adders W c ps).net W

@@ -7,3 +7,6 @@ pub mod Rounding
 pub mod Formed
 pub mod Quality
 pub mod Sound
+pub mod Multiply
+pub mod Joint
+pub mod JointSound

@@ -8,17 +8,18 @@ use Rattle.std.proofs.lemmas.List.FromFn.{length-map-range_with_len, length-rang
 use Rattle.std.proofs.lemmas.List.Elements.{All-from_get_or}
 use Rattle.semantics.specs.Net.{IsAcyclic}
 use Rattle.semantics.specs.Value.{Assignment, value_of}
-use Rattle.semantics.specs.Error.{Metric, abs, rel, ham, distance, error_of}
+use Rattle.semantics.specs.Error.{Metric, abs, rel, ham, distance, error_of, greatest_error}
 use Rattle.semantics.proofs.Order.{IsAcyclic-in_order}
+use Rattle.semantics.proofs.Sizes.{error_of-le}
 use Rattle.quality_semantics.specs.WordNets.{signals, started, BeginsWith, AreSignalsOf, IsWordNet}
 use Rattle.quality_semantics.specs.Buses.{WithSignal, constant, times, not_zero_low, differ, binary, places}
-use Rattle.quality_semantics.specs.Quality.{exact_bus, approximate_bus, absolute_excess, relative_excess, differing_excess, excess, greatest_error, no_excess, quality}
+use Rattle.quality_semantics.specs.Quality.{exact_bus, approximate_bus, absolute_excess, relative_excess, differing_excess, excess, no_excess, quality}
 use Rattle.quality_semantics.specs.Laws.{Fits, number}
 use Rattle.quality_semantics.proofs.Growth.{begins_itself, begins_after, begins_times, begins_low, begins_differences, begins_exceed, begins_at_least, signals_kept, Fits-earlier, Fits-values}
 use Rattle.quality_semantics.proofs.Numbers.{exceed_value, constant_number, times_number, not_zero_number, input_bits}
 use Rattle.quality_semantics.proofs.Counts.{differ_count, at_least_value}
 use Rattle.quality_semantics.proofs.Formed.{HasSignal, IsWordNet-started, exceed_formed, constant_formed, times_formed, not_zero_formed, differ_formed, at_least_formed}
-use Rattle.quality_semantics.proofs.Rounding.{rounded_up_exceeds, error_of-le}
+use Rattle.quality_semantics.proofs.Rounding.{rounded_up_exceeds}
 
 -- a network over two words of w bits, well formed, whose signal says whether their error exceeds k
 pub record IsExcess (metric : Metric) (w k : ℕ) (r : WithSignal) : Type 0 where
@@ -26,7 +27,7 @@ pub record IsExcess (metric : Metric) (w k : ℕ) (r : WithSignal) : Type 0 wher
   pub formed : HasSignal r
   pub value : (v : Assignment) → Fits v r.net → v r.signal ≡ ltb k (error_of metric (map v (exact_bus w)) (map v (approximate_bus w)))
 
-inputs_in : (n from w : ℕ) → from + w ≤ n → AreSignalsOf (started n) (range_with_len from w)
+pub inputs_in : (n from w : ℕ) → from + w ≤ n → AreSignalsOf (started n) (range_with_len from w)
 inputs_in n from w few =
     All-from_get_or (λ s. s < n + 2) (range_with_len from w) 0
     (λ i within. let width = length-range_with_len from w in rw (get_or-range_with_len from w i 0 (omega (arith, width, within))) (omega (arith, width, within, few)))

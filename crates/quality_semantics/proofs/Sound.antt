@@ -1,12 +1,12 @@
 -- A network under construction makes a sound net.
-use Rattle.std.proofs.Common.{◌≡◌, ◌≢◌, ℕ, suc, ◌+◌, ◌-◌, ◌^◌, ◌<◌, ◌≤◌, List, [], ◌∷◌, map, length, get_or, All, decimal, codes, cond, ltb, inl, inr, ap, arith, length-append}
+use Rattle.std.proofs.Common.{◌≡◌, ◌≢◌, ℕ, suc, ◌+◌, ◌-◌, ◌^◌, ◌<◌, ◌≤◌, List, [], ◌∷◌, map, length, get_or, All, decimal, codes, cond, ltb, inl, inr, refl, ap, sym, subst, arith, length-append}
 use Rattle.std.specs.List.{range_with_len}
 use Rattle.std.proofs.lemmas.Fmt.{decimal_by_steps, decimal_injective, decimal_nonempty, length-decimal-le}
 use Rattle.std.proofs.lemmas.Bool.{cases_lt, lt-ltb, le-ltb}
 use Rattle.std.proofs.lemmas.List.{get_or_append_left, get_or-append_right, length-map, get_or-map, get_or_default}
 use Rattle.std.proofs.lemmas.List.Elements.{All-nil, All-cons, All-push, All-from_recursion}
 use Rattle.std.proofs.lemmas.List.FromFn.{get_or-map-range_with_len, length-map-range_with_len}
-use Rattle.semantics.specs.Net.{TableValue, no_table, input_count, signal_names, IsNameByte, IsName, IsTable, IsSound}
+use Rattle.semantics.specs.Net.{TableValue, NetValue, no_table, input_count, signal_names, IsNameByte, IsName, IsTable, IsSound}
 use Rattle.semantics.specs.Value.{outputs_of}
 use Rattle.semantics.specs.Error.{Metric}
 use Rattle.semantics.proofs.Order.{IsAcyclic-in_order}
@@ -109,3 +109,9 @@ unfolding outputs_of
 quality_tells metric w k x width =
     let Q = quality metric w k in
     rw (input_count-net_of Q.net (Q.signal ∷ []), quality_inputs metric w k) (ap (λ bit. bit ∷ []) (quality_value metric w k x width))
+
+-- a net that was finished from the network with its output
+pub TellsExcess-made : (metric : Metric) (w k : ℕ) (W : WordNetValue) (s : ℕ) (N : NetValue) → W ≡ (quality metric w k).net → s ≡ (quality metric w k).signal → N ≡ net_of W (s ∷ []) → TellsExcess metric w k N
+TellsExcess-made metric w k W s N net signal e =
+    let is : N ≡ quality_net metric w k = rw (e, net, signal) refl in
+    subst (λ M. TellsExcess metric w k M) (sym is) (quality_tells metric w k)

@@ -1,11 +1,15 @@
 -- Worked examples, computed from the definitions. Their counts and outputs are those of a program that was written apart from them.
-use Rattle.std.specs.Prelude.{◌≡◌, ℕ, ◌+◌, List, [], ◌∷◌, length, take}
+use Rattle.std.specs.Prelude.{◌≡◌, ℕ, ◌+◌, List, [], ◌∷◌, map, length, take, codes}
 use Rattle.semantics.specs.Net.{TableValue, row_count}
 use Rattle.semantics.specs.Error.{abs, rel, ham}
+use Rattle.semantics.specs.Blif.{blif_text}
+use Rattle.semantics.specs.Examples.{text, half_adder, constant_sum, wire}
 use Rattle.quality_semantics.specs.Forms.{Form, zero_form, one_form, or2, xor2, xor3, maj, gt, grow, low}
 use Rattle.quality_semantics.specs.WordNets.{table_of, started}
 use Rattle.quality_semantics.specs.Buses.{binary, constant, add, times, not_zero_low, at_least}
+use Rattle.quality_semantics.specs.Multiply.{multiplier, multiplier_net}
 use Rattle.quality_semantics.specs.Quality.{quality, quality_net}
+use Rattle.quality_semantics.specs.Joint.{joint_net}
 
 -- tables of these forms, numbered from i on
 abbrev pub numbered : ℕ → List Form → List TableValue
@@ -42,3 +46,34 @@ pub record OtherExamples : Type 0 where
   pub never_relative : quality rel 1 1000000 ≡ record { net = started 2; signal = 2 }
   pub not_zero : (not_zero_low (started 4) (0 ∷ 1 ∷ [])).bus ≡ 6 ∷ 1 ∷ []
   pub tripled : (times (started 4) (0 ∷ 1 ∷ []) 3).bus ≡ 6 ∷ 8 ∷ 10 ∷ 11 ∷ []
+
+pub record MultiplierExamples : Type 0 where
+  pub tables : (length (multiplier 1).net.tables ≡ 3) × (length (multiplier 2).net.tables ≡ 12) × (length (multiplier 4).net.tables ≡ 54)
+  pub bits : (length (multiplier 1).bus ≡ 1) × (length (multiplier 2).bus ≡ 4) × (length (multiplier 4).bus ≡ 8)
+  pub outputs : (multiplier_net 2).outputs ≡ 10 ∷ 12 ∷ 14 ∷ 15 ∷ []
+
+pub record JointExamples : Type 0 where
+  -- an output that is an input: the quality network's tables alone, over one signal twice
+  pub of_wires :
+      blif_text (joint_net wire wire abs 0)
+      ≡ text (codes ".model joint" ∷ codes ".inputs x0" ∷ codes ".outputs q10" ∷ codes ".names q0" ∷ codes ".names q1" ∷ codes "1"
+      ∷ codes ".names x0 q0 q0 q2" ∷ codes "100 1" ∷ codes "010 1" ∷ codes "001 1" ∷ codes "111 1"
+      ∷ codes ".names x0 q0 q0 q3" ∷ codes "11- 1" ∷ codes "1-1 1" ∷ codes "-11 1"
+      ∷ codes ".names x0 q2 q0 q4" ∷ codes "10- 1" ∷ codes "1-1 1" ∷ codes "-01 1"
+      ∷ codes ".names q0 q3 q4 q5" ∷ codes "10- 1" ∷ codes "1-1 1" ∷ codes "-01 1"
+      ∷ codes ".names x0 q0 q0 q6" ∷ codes "100 1" ∷ codes "010 1" ∷ codes "001 1" ∷ codes "111 1"
+      ∷ codes ".names x0 q0 q0 q7" ∷ codes "11- 1" ∷ codes "1-1 1" ∷ codes "-11 1"
+      ∷ codes ".names x0 q6 q0 q8" ∷ codes "10- 1" ∷ codes "1-1 1" ∷ codes "-01 1"
+      ∷ codes ".names q0 q7 q8 q9" ∷ codes "10- 1" ∷ codes "1-1 1" ∷ codes "-01 1"
+      ∷ codes ".names q5 q9 q10" ∷ codes "1- 1" ∷ codes "-1 1" ∷ codes ".end" ∷ [])
+  -- 2 inputs and 2 + 2 + 17 tables, with 3 + 1 + 49 rows
+  pub of_adders :
+      (length (joint_net half_adder constant_sum abs 1).tables ≡ 21)
+      × (row_count (joint_net half_adder constant_sum abs 1) ≡ 53)
+      × ((joint_net half_adder constant_sum abs 1).outputs ≡ 22 ∷ [])
+  pub first_names :
+      map (λ t. t.name) (take 6 (joint_net half_adder constant_sum abs 1).tables)
+      ≡ codes "e0" ∷ codes "e1" ∷ codes "a0" ∷ codes "a1" ∷ codes "q0" ∷ codes "q1" ∷ []
+  pub first_pins :
+      map (λ t. t.pins) (take 7 (joint_net half_adder constant_sum abs 1).tables)
+      ≡ (0 ∷ 1 ∷ []) ∷ (0 ∷ 1 ∷ []) ∷ [] ∷ (0 ∷ 1 ∷ []) ∷ [] ∷ [] ∷ (4 ∷ 7 ∷ 6 ∷ []) ∷ []

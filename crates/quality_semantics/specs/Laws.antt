@@ -1,12 +1,14 @@
 -- The laws about the networks, each the contract of a function without parameters.
-use Rattle.std.specs.Prelude.{◌≡◌, ℕ, suc, ◌+◌, ◌*◌, ◌^◌, ◌<◌, ◌≤◌, max, nat_lt, nat_le, count_by, Bool, true, false, List, map, length, take, drop}
+use Rattle.std.specs.Prelude.{◌≡◌, ℕ, suc, ◌+◌, ◌*◌, ◌^◌, ◌<◌, ◌≤◌, max, nat_lt, nat_le, count_by, Bool, true, false, List, [], ◌∷◌, ◌++◌, map, length, take, drop, ◌-◌, slice_index_or}
 use Rattle.std.specs.List.{range_with_len}
-use Rattle.semantics.specs.Net.{table_at, IsAcyclic, IsSound}
-use Rattle.semantics.specs.Value.{Assignment, table_value, value_of}
-use Rattle.semantics.specs.Error.{Metric, number_of, distance, rounded_up, differing, error_of}
+use Rattle.semantics.specs.Net.{NetValue, table_at, input_count, signal_count, IsAcyclic, IsSound, HasSamePorts}
+use Rattle.semantics.specs.Value.{Assignment, table_value, value_of, outputs_of}
+use Rattle.semantics.specs.Error.{Metric, number_of, distance, rounded_up, differing, error_of, net_error}
 use Rattle.quality_semantics.specs.WordNets.{WordNetValue, signals, started, BeginsWith, IsWordNet}
-use Rattle.quality_semantics.specs.Buses.{constant, add, times, greater, exceed, not_zero_low, differ, at_least}
-use Rattle.quality_semantics.specs.Quality.{greatest_error, quality, quality_net, TellsExcess}
+use Rattle.quality_semantics.specs.Buses.{binary, constant, add, times, greater, exceed, not_zero_low, differ, at_least}
+use Rattle.quality_semantics.specs.Multiply.{multiply, multiplier_net, Multiplies}
+use Rattle.quality_semantics.specs.Quality.{quality, quality_net, TellsExcess}
+use Rattle.quality_semantics.specs.Joint.{approximate_signal, quality_signal, joint_net, AreComparable}
 
 -- the assignment v gives the two constants and each table of the network their values
 pub record Fits (v : Assignment) (W : WordNetValue) : Type 0 where
@@ -41,13 +43,18 @@ pub record FitsLaw : Type 0 where
   pub values : (W : WordNetValue) (x : List Bool) → IsWordNet W → BeginsWith W (started W.inputs) → Fits (value_of W.inputs W.tables x) W
   pub earlier : (v : Assignment) (W V : WordNetValue) → BeginsWith W V → Fits v W → Fits v V
 
+-- the bits of a number have that number, and the highest of them is 1
+pub record BinaryLaw : Type 0 where
+  pub number : (k : ℕ) → number_of (binary k) ≡ k
+  pub none : binary 0 ≡ []
+  pub highest : (k : ℕ) → 0 < k → slice_index_or (binary k) (length (binary k) - 1) false ≡ true
+
 -- a quotient rounded up exceeds a number exactly where the dividend exceeds its product with the divisor
 abbrev pub RoundingLaw : Type 0
 RoundingLaw = (d m k : ℕ) → 1 ≤ m → nat_lt k (rounded_up d m) ≡ nat_lt (k * m) d
 
 -- The quality network of every metric, width and level.
 pub record QualityLaw : Type 0 where
-  pub greatest : (metric : Metric) (w : ℕ) (e a : List Bool) → length e ≡ w → length a ≡ w → error_of metric e a ≤ greatest_error metric w
   pub inputs : (metric : Metric) (w k : ℕ) → (quality metric w k).net.inputs ≡ w + w
   pub formed : (metric : Metric) (w k : ℕ) → IsWordNet (quality metric w k).net
   pub output : (metric : Metric) (w k : ℕ) → (quality metric w k).signal < signals (quality metric w k).net
@@ -56,3 +63,28 @@ pub record QualityLaw : Type 0 where
       → value_of (w + w) (quality metric w k).net.tables x (quality metric w k).signal ≡ nat_lt k (error_of metric (take w x) (drop w x))
   pub tells : (metric : Metric) (w k : ℕ) → TellsExcess metric w k (quality_net metric w k)
   pub sound : (metric : Metric) (w k : ℕ) → signals (quality metric w k).net ≤ 2 ^ 30 → IsSound (quality_net metric w k)
+
+-- The array multiplier.
+pub record MultiplierLaw : Type 0 where
+  pub multiply : (v : Assignment) (W : WordNetValue) (xs ys : List ℕ) → Fits v (multiply W xs ys).net → number v (multiply W xs ys).bus ≡ number v xs * number v ys
+  pub multiplier : (w : ℕ) → Multiplies w (multiplier_net w)
+
+-- The joint net of two nets that can be compared, with every metric and level: it is acyclic over the exact net's inputs, each signal of the two
+-- nets and of the quality network keeps its value where it now stands, and the one output says whether the error of the outputs exceeds k.
+-- It is sound where its names, which have decimal numbers, are short.
+pub record JointLaw : Type 0 where
+  pub comparable : (N M : NetValue) → IsSound N → IsSound M → HasSamePorts N M → AreComparable N M
+  pub inputs : (N M : NetValue) (metric : Metric) (k : ℕ) → input_count (joint_net N M metric k) ≡ input_count N
+  pub acyclic : (N M : NetValue) (metric : Metric) (k : ℕ) → AreComparable N M → IsAcyclic (input_count N) (joint_net N M metric k).tables
+  pub exact : (N M : NetValue) (metric : Metric) (k : ℕ) → AreComparable N M → (x : List Bool) (s : ℕ) → s < signal_count N
+      → value_of (input_count N) (joint_net N M metric k).tables x s ≡ value_of (input_count N) N.tables x s
+  pub approximate : (N M : NetValue) (metric : Metric) (k : ℕ) → AreComparable N M → (x : List Bool) (s : ℕ) → s < signal_count M
+      → value_of (input_count N) (joint_net N M metric k).tables x (approximate_signal N s) ≡ value_of (input_count M) M.tables x s
+  pub quality : (N M : NetValue) (metric : Metric) (k : ℕ) → AreComparable N M → (x : List Bool) (s : ℕ) → let Q = quality metric (length N.outputs) k in
+      s < signals Q.net
+      → value_of (input_count N) (joint_net N M metric k).tables x (quality_signal N M s)
+      ≡ value_of (length N.outputs + length N.outputs) Q.net.tables (outputs_of N x ++ outputs_of M x) s
+  pub output : (N M : NetValue) (metric : Metric) (k : ℕ) → AreComparable N M
+      → (x : List Bool) → outputs_of (joint_net N M metric k) x ≡ nat_lt k (net_error metric N M x) ∷ []
+  pub sound : (N M : NetValue) (metric : Metric) (k : ℕ) → AreComparable N M → signal_count (joint_net N M metric k) < 2 ^ 31
+      → IsSound (joint_net N M metric k)

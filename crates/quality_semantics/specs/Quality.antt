@@ -1,10 +1,10 @@
 -- The quality network of a metric: 2 * w inputs, the exact word and then the approximate one, and one output that says whether the error
 -- exceeds k. It depends on the metric, the width and k alone. Source: SALSA's quality function circuit.
-use Rattle.std.specs.Prelude.{◌≡◌, ℕ, suc, ◌+◌, ◌-◌, ◌*◌, ◌^◌, nat_lt, nat_le, if◌then◌else◌, Bool, List, [], ◌∷◌, length, take, drop}
+use Rattle.std.specs.Prelude.{◌≡◌, ℕ, suc, ◌+◌, nat_lt, nat_le, if◌then◌else◌, Bool, List, [], ◌∷◌, length, take, drop}
 use Rattle.std.specs.List.{range_with_len}
 use Rattle.semantics.specs.Net.{NetValue}
 use Rattle.semantics.specs.Value.{outputs_of}
-use Rattle.semantics.specs.Error.{Metric, abs, rel, ham, error_of}
+use Rattle.semantics.specs.Error.{Metric, abs, rel, ham, error_of, greatest_error}
 use Rattle.quality_semantics.specs.WordNets.{started, net_of}
 use Rattle.quality_semantics.specs.Buses.{WithSignal, exceed, constant, times, not_zero_low, differ, at_least}
 
@@ -40,12 +40,6 @@ abbrev pub excess : Metric → ℕ → ℕ → WithSignal
 excess abs w k = absolute_excess w k
 excess rel w k = relative_excess w k
 excess ham w k = differing_excess w k
-
--- the greatest error of words of w bits
-abbrev pub greatest_error : Metric → ℕ → ℕ
-greatest_error abs w = 2 ^ w - 1
-greatest_error rel w = (2 ^ w - 1) * 1000000
-greatest_error ham w = w
 
 -- the network whose output is the constant 0
 abbrev pub no_excess : ℕ → WithSignal

@@ -1,5 +1,5 @@
 //! Worked examples of the definitions, computed by the checker: each function's contract is its examples.
-ghost use Rattle.quality_semantics.specs.Examples.{AbsoluteExamples, OtherExamples};
+ghost use Rattle.quality_semantics.specs.Examples.{AbsoluteExamples, OtherExamples, MultiplierExamples, JointExamples};
 
 /// Networks of the absolute error.
 pub fn absolute()
@@ -9,4 +9,14 @@ pub fn absolute()
 /// Networks of the other two errors.
 pub fn others()
     ensures { OtherExamples }
+{}
+
+/// Multipliers of one, two and four bits.
+pub fn multipliers()
+    ensures { MultiplierExamples }
+{}
+
+/// Joint nets.
+pub fn joint_nets()
+    ensures { JointExamples }
 {}

@@ -1,5 +1,5 @@
 //! The laws about the networks: each function's contract is a law.
-ghost use Rattle.quality_semantics.specs.Laws.{BusLaw, FitsLaw, RoundingLaw, QualityLaw};
+ghost use Rattle.quality_semantics.specs.Laws.{BusLaw, FitsLaw, RoundingLaw, MultiplierLaw, QualityLaw, JointLaw, BinaryLaw};
 
 /// What the buses' numbers are.
 pub fn buses()
@@ -11,12 +11,27 @@ pub fn fitting()
     ensures { FitsLaw }
 {}
 
+/// The bits of a number.
+pub fn binary_numbers()
+    ensures { BinaryLaw }
+{}
+
 /// Quotients rounded up.
 pub fn rounding()
     ensures { RoundingLaw }
 {}
 
+/// What the array multiplier's number is.
+pub fn multiplier()
+    ensures { MultiplierLaw }
+{}
+
 /// What the quality networks say.
 pub fn quality()
     ensures { QualityLaw }
+{}
+
+/// What joint nets say.
+pub fn joint_nets()
+    ensures { JointLaw }
 {}

@@ -31,7 +31,7 @@ pub fn with_front(alloc: Global, first: Signal, rest: &[Signal]) -> Result<Bus, 
 }
 
 /// The signal so many times.
-pub fn repeated(alloc: Global, signal: Signal, count: u32) -> Result<Bus, AllocError>
+pub fn repeated(alloc: Global, signal: Signal, count: usize) -> Result<Bus, AllocError>
     ensures { IfOk result (λ b. b ≡ replicate count signal) }
 {
     let mut bus = Bus::new(alloc);

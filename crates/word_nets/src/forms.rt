@@ -12,6 +12,8 @@ use net_core::row::Row;
 use net_core::table::Table;
 use std::alloc::{AllocError, Global};
 
+pub const AND2: [[Mark; 2]; 1] = [[Mark::One, Mark::One]];
+
 pub const OR2: [[Mark; 2]; 2] = [[Mark::One, Mark::Dash], [Mark::Dash, Mark::One]];
 
 pub const XOR2: [[Mark; 2]; 2] = [[Mark::One, Mark::Zero], [Mark::Zero, Mark::One]];

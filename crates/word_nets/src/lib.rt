@@ -3,4 +3,5 @@
 
 pub mod bus;
 mod forms;
+pub mod multiplier;
 pub mod word_net;

@@ -3,11 +3,13 @@ ghost use Rattle.std.specs.Prelude.{cond, suc, ◌≡◌, ◌+◌, ◌<◌, ◌�
 ghost use Rattle.std.specs.List.{range_with_len};
 ghost use Rattle.quality_semantics.specs.Forms.{form, xor3, maj};
 ghost use Rattle.quality_semantics.specs.WordNets.{signals, appended, started, net_of, BeginsWith, AreSignalsOf};
+ghost use Rattle.quality_semantics.specs.Multiply.{products};
 ghost use Rattle.quality_semantics.specs.Buses.{add, greater, exceed, constant, times, not_zero_low, differ, growers, at_least};
 
 use crate::bus::{Bus, bus_of, repeated, with_front};
 use crate::forms::{
-    GROW, GT, MAJ, OR2, XOR2, XOR3, input_names, low_rows, model_name, numbered_table, rows_of,
+    AND2, GROW, GT, MAJ, OR2, XOR2, XOR3, input_names, low_rows, model_name, numbered_table,
+    rows_of,
 };
 use net_core::items::{Items, RowList, Signal, SignalList, TableList};
 use net_core::mark::Mark;
@@ -343,7 +345,7 @@ impl WordNet {
         ensures signal { IfOk result (λ s. s ≡ (at_least self.old d.now k).signal) }
         ensures begins { BeginsWith self.new self.old }
     {
-        let mut row = repeated(self.alloc, self.inputs, k)?;
+        let mut row = repeated(self.alloc, self.inputs, k as usize)?;
         for bit in d.as_slice() {
             row = self.next_row(*bit, &row)?;
         }
@@ -353,5 +355,24 @@ impl WordNet {
             prove!(row.len() == k as usize);
             Ok(*row.get(k as usize - 1))
         }
+    }
+
+    /// Each bit of a bus, and one more bit.
+    #[tactic(auto, using(crate::proofs::Steps::begins_after))]
+    pub fn products(&mut self, bit: Signal, x: &Bus) -> Result<Bus, AllocError>
+        requires bit_in { bit < signals self.old }
+        requires x_in { AreSignalsOf self.old x.now }
+        ensures more { signals self.old ≤ signals self.new }
+        ensures within { IfOk result (λ bus. AreSignalsOf self.new bus) }
+        ensures ok { OnOk result (self.new ≡ (products self.old bit x.now).net) }
+        ensures bus { IfOk result (λ bus. bus ≡ (products self.old bit x.now).bus) }
+        ensures begins { BeginsWith self.new self.old }
+    {
+        let mut bits = Bus::new(self.alloc);
+        for at in x.as_slice() {
+            let product = self.append_form([*at, bit], &AND2)?;
+            bits.push(product)?;
+        }
+        Ok(bits)
     }
 }

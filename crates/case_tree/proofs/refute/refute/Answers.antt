@@ -7,6 +7,10 @@ pub push_cases-requires-clause-clauses : goal.push_cases-requires-clause-clauses
 push_cases-requires-clause-clauses c =
     omega (arith, clauses-counted c.args.joint.now c.args.goal.now c.inputs.ensures.built c.requires.its_goal, c.clause_count-last.ensures.few)
 
+pub first_ids-requires : goal.first_ids-requires
+first_ids-requires c =
+    omega (arith, clauses-counted c.args.joint.now c.args.goal.now c.inputs.ensures.built c.requires.its_goal, c.clause_count-last.ensures.few)
+
 pub push_cases-requires-clause-ids : goal.push_cases-requires-clause-ids
 push_cases-requires-clause-ids c =
     let width = c.deref_mut.ensures.len ∙ c.in_ok-x.ensures.len ∙ c.inputs.ensures.value in
@@ -15,10 +19,10 @@ push_cases-requires-clause-ids c =
 
 pub returns-clause-refutes : goal.returns-clause-refutes
 returns-clause-refutes c =
-    walk-refutes c.args.joint.now c.args.goal.now c.deref_mut.result.now _ c.new-log.result c.push_cases.new.log c.inputs.ensures.built c.requires.its_goal c.requires.always_0
+    walk-refutes c.args.joint.now c.order.result.now c.args.goal.now c.deref_mut.result.now _ c.new-log.result c.push_cases.new.log c.inputs.ensures.built c.order.ensures c.requires.its_goal c.requires.always_0
     (c.deref_mut.ensures.len ∙ c.in_ok-x.ensures.len ∙ c.inputs.ensures.value) c.clause_count-last.ensures.value c.new-log.ensures c.in_ok-push_cases.ensures.log
 
 pub returns-clause-derivation : goal.returns-clause-derivation
 returns-clause-derivation c =
-    walk-derives c.args.joint.now c.args.goal.now c.deref_mut.result.now _ c.new-log.result c.push_cases.new.log c.inputs.ensures.built c.requires.its_goal c.requires.few_inputs c.requires.always_0
+    walk-derives c.args.joint.now c.order.result.now c.args.goal.now c.deref_mut.result.now _ c.new-log.result c.push_cases.new.log c.inputs.ensures.built c.order.ensures c.requires.its_goal c.requires.few_inputs c.requires.always_0
     (c.deref_mut.ensures.len ∙ c.in_ok-x.ensures.len ∙ c.inputs.ensures.value) c.clause_count-last.ensures.value c.clause_count-last.ensures.few c.new-log.ensures c.in_ok-push_cases.ensures.log

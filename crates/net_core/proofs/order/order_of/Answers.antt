@@ -1,4 +1,4 @@
-use Rattle.std.proofs.Common.{arith, sym, subst, refl}
+use Rattle.std.proofs.Common.{arith, sym, subst}
 use Rattle.semantics.specs.Order.{IsOrderOf}
 use Rattle.net_core.proofs.Sorting.{all_placed, first_free}
 use Rattle.net_core.proofs.order.order_of.Goals as goal

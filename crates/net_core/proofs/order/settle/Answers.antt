@@ -1,4 +1,4 @@
-use Rattle.std.proofs.Common.{arith, ◌-◌, ◌+◌, ◌<◌, length, subst, ℕ}
+use Rattle.std.proofs.Common.{arith, ◌-◌, ◌+◌, subst}
 use Rattle.std.specs.List.{range_with_len}
 use Rattle.net_core.specs.Sorting.{IsSettled}
 use Rattle.net_core.proofs.Sorting.{IsSorting-start, IsSettled-start, range-next, order-le}

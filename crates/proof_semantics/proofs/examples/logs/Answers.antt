@@ -9,7 +9,7 @@ use Rattle.std.proofs.lemmas.List.Elements.{All-nil}
 use Rattle.proof_semantics.specs.declared.step_refusal.StepRefusal.TheVariants.{UnknownId, NotUnit, NoConflict}
 use Rattle.proof_semantics.specs.Clauses.{Clause, IsLiteralOf}
 use Rattle.proof_semantics.specs.Logs.{Held, LiteralSet, held_of, removed_from, with_negations, hints_answer}
-use Rattle.proof_semantics.specs.Examples.{three_clauses, not_}
+use Rattle.proof_semantics.specs.Examples.{three_clauses, minus}
 use Rattle.proof_semantics.proofs.Hints.{hints-unit, hints-conflict, hints-refused, conflict-from}
 use Rattle.proof_semantics.proofs.examples.logs.Goals as goal
 
@@ -39,8 +39,8 @@ in_order =
 in_another_order : hints_answer (get (held_of three_clauses)) (with_negations literals.empty []) (1 ∷ 3 ∷ 2 ∷ []) ≡ Ok tt
 in_another_order =
     hints-unit (get (held_of three_clauses)) (with_negations literals.empty []) 1 3 (2 ∷ []) (pos 1) (simp held)
-    ∙ hints-unit (get (held_of three_clauses)) (literals.insert (with_negations literals.empty []) (pos 1)) 3 2 [] (not_ 2) (simp held)
-    ∙ hints-conflict (get (held_of three_clauses)) (literals.insert (literals.insert (with_negations literals.empty []) (pos 1)) (not_ 2)) 2 (simp held)
+    ∙ hints-unit (get (held_of three_clauses)) (literals.insert (with_negations literals.empty []) (pos 1)) 3 2 [] (minus 2) (simp held)
+    ∙ hints-conflict (get (held_of three_clauses)) (literals.insert (literals.insert (with_negations literals.empty []) (pos 1)) (minus 2)) 2 (simp held)
 
 two_open : hints_answer (get (held_of three_clauses)) (with_negations literals.empty []) (2 ∷ 1 ∷ 3 ∷ []) ≡ Err (NotUnit 2)
 two_open =
@@ -73,10 +73,10 @@ twice =
     ∙ hints-unit (get (held_of three_clauses)) (literals.insert (literals.insert (with_negations literals.empty []) (pos 1)) (pos 1)) 2 3 [] (pos 2) (simp held)
     ∙ hints-conflict (get (held_of three_clauses)) (literals.insert (literals.insert (literals.insert (with_negations literals.empty []) (pos 1)) (pos 1)) (pos 2)) 3 (simp held)
 
-from_one : hints_answer (get (held_of three_clauses)) (with_negations literals.empty (not_ 1 ∷ [])) (2 ∷ 3 ∷ []) ≡ Ok tt
+from_one : hints_answer (get (held_of three_clauses)) (with_negations literals.empty (minus 1 ∷ [])) (2 ∷ 3 ∷ []) ≡ Ok tt
 from_one =
-    hints-unit (get (held_of three_clauses)) (with_negations literals.empty (not_ 1 ∷ [])) 2 3 [] (pos 2) (simp held)
-    ∙ hints-conflict (get (held_of three_clauses)) (literals.insert (with_negations literals.empty (not_ 1 ∷ [])) (pos 2)) 3 (simp held)
+    hints-unit (get (held_of three_clauses)) (with_negations literals.empty (minus 1 ∷ [])) 2 3 [] (pos 2) (simp held)
+    ∙ hints-conflict (get (held_of three_clauses)) (literals.insert (with_negations literals.empty (minus 1 ∷ [])) (pos 2)) 3 (simp held)
 
 the_clause_2 : hints_answer (get (held_of three_clauses)) (with_negations literals.empty (pos 2 ∷ [])) (1 ∷ 2 ∷ []) ≡ Ok tt
 the_clause_2 =

@@ -1,11 +1,9 @@
-use Rattle.quality_semantics.proofs.Rounding.{error_of-le}
 use Rattle.quality_semantics.proofs.Quality.{quality_inputs, quality_formed, quality_output, quality_acyclic, quality_value}
 use Rattle.quality_semantics.proofs.Sound.{quality_sound, quality_tells}
 use Rattle.quality_semantics.proofs.laws.quality.Goals as goal
 
 pub returns : goal.returns
 returns c = record {
-  greatest = error_of-le;
   inputs = quality_inputs;
   formed = quality_formed;
   output = quality_output;

@@ -1,4 +1,4 @@
-use Rattle.std.proofs.Common.{◌<◌, inl, inr, sym, subst, Contains, arith}
+use Rattle.std.proofs.Common.{inl, inr, sym, subst, Contains, arith}
 use Rattle.std.proofs.lemmas.Bool.{cases_eq}
 use Rattle.net_core.proofs.order.Sorting.first_without_place.Goals as goal
 

@@ -1,4 +1,4 @@
-use Rattle.std.proofs.Common.{arith, sym, subst, ◌∙◌, ℕ, List, All, ◌-◌, take, get_or, true≢false}
+use Rattle.std.proofs.Common.{sym, subst, ◌∙◌, ℕ, List, All, ◌-◌, take, get_or, true≢false}
 use Rattle.std.proofs.lemmas.Result.{on_ok_weaker}
 use Rattle.semantics.specs.Order.{IsKnown}
 use Rattle.net_core.specs.Sorting.{Sorting, IsSorting, IsSettled}

@@ -1,0 +1,6 @@
+use Rattle.std.proofs.Common.{◌≡◌, take}
+use Rattle.blif_text.specs.Words.{texts}
+use Rattle.blif_text.proofs.names.name_list.Given as goal
+
+abbrev pub invariant-loop-word : goal.invariant-loop-word
+invariant-loop-word l = l.names ≡ texts (take l.word-index l.words)

@@ -1,0 +1,12 @@
+use Rattle.std.specs.List.{list_all}
+use Rattle.std.proofs.Common.{sym, ◌∙◌, rules, tests}
+use Rattle.std.proofs.lemmas.Iterator.{YieldsList-from_slice}
+use Rattle.std.proofs.lemmas.Iterator.Search.{all_from_yields_List}
+use Rattle.std.proofs.lemmas.List.Folds.{list_all-map}
+use Rattle.blif_semantics.specs.Statements.{is_printable}
+use Rattle.blif_text.proofs.statements.are_printable.Goals as goal
+
+pub returns : goal.returns
+returns c =
+    all_from_yields_List (λ s. list_all is_printable s.now) _ _ _ c.all.ensures.ran (YieldsList-from_slice c.args.words.now cc) (λ x b q k. search (rules, tests))
+    ∙ sym (list_all-map (list_all is_printable) (λ s. s.now) c.args.words.now)

@@ -1,0 +1,51 @@
+-- A net with names in the place of signals, while its lines are read.
+use Rattle.std.specs.Prelude.{List, [], ◌∷◌, ◌++◌, Option, Some, None}
+use Rattle.std.specs.Option.{option_map, option_to_list}
+use Rattle.semantics.specs.Texts.{Bytes, Line}
+use Rattle.blif_semantics.specs.declared.kind.Kind.{Kind}
+use Rattle.blif_semantics.specs.declared.kind.Kind.TheVariants as kind
+use Rattle.blif_semantics.specs.Statements.{first_word}
+use Rattle.blif_semantics.specs.Tables.{NamedTable, named, with_row, with_rows, rows_first, tables_of}
+use Rattle.blif_semantics.specs.Reading.{NamedNet, model_of, is_inputs, is_outputs, listed}
+
+-- what was read so far, and the table that may get more rows
+pub record Draft : Type 0 where
+  pub model : Option Bytes
+  pub inputs : List Bytes
+  pub outputs : List Bytes
+  pub tables : List NamedTable
+  pub begun : Option NamedTable
+
+-- the tables of the lines to come, where a table may get their first rows
+abbrev pub after_begun : Option NamedTable → List Line → List NamedTable
+after_begun None lines = tables_of lines
+after_begun (Some t) lines = with_rows t (rows_first lines) ∷ tables_of lines
+
+-- the net of what was read so far and of the lines to come
+abbrev pub after_draft : Draft → List Line → NamedNet
+after_draft d lines = record {
+  model = elim d.model [ None ↦ model_of lines | Some model ↦ model ];
+  inputs = d.inputs ++ listed is_inputs lines;
+  outputs = d.outputs ++ listed is_outputs lines;
+  tables = d.tables ++ after_begun d.begun lines;
+}
+
+-- before any line
+abbrev pub no_draft : Draft
+no_draft = record { model = None; inputs = []; outputs = []; tables = []; begun = None }
+
+-- no table gets more rows
+abbrev pub ended : Draft → Draft
+ended d = record d { tables = d.tables ++ option_to_list d.begun; begun = None }
+
+-- the row goes to the table that may get more, if there is one
+abbrev pub row_added : Draft → Line → Draft
+row_added d words = record d { begun = option_map (λ t. with_row t words) d.begun }
+
+-- the words after the first of a line of this kind that is no row
+abbrev pub added : Kind → Draft → List Bytes → Draft
+added kind.Model d words = record d { model = elim d.model [ None ↦ Some (first_word words) | Some model ↦ Some model ] }
+added kind.Inputs d words = record d { inputs = d.inputs ++ words }
+added kind.Outputs d words = record d { outputs = d.outputs ++ words }
+added kind.Names d words = record d { begun = Some (named words) }
+added _ d words = d

@@ -1,0 +1,171 @@
+//! A net whose pins and outputs are names, as its lines say. Source: BLIF.
+ghost use Rattle.std.specs.Prelude.{◌≡◌, [], ◌∷◌, List, IfOk, OnOk, map};
+ghost use Rattle.semantics.specs.Texts.{Line};
+ghost use Rattle.blif_semantics.specs.Lines.{words_of};
+ghost use Rattle.blif_semantics.specs.Reading.{named_net};
+ghost use Rattle.blif_text.specs.NamedNets.{no_draft, ended, row_added, added, after_draft};
+ghost use Rattle.blif_text.specs.Words.{texts};
+
+use crate::joining::LogicalLine;
+use crate::lines::words_of;
+use crate::named_table::NamedTable;
+use crate::statements::{arguments, first_word, kind_of};
+use blif_semantics::kind::Kind;
+use std::alloc::{AllocError, Global};
+use std::marker::Model;
+
+/// What the lines so far say, and the table to which the next row belongs.
+#[derive(Drop)]
+struct Draft<'a> {
+    model: Option<&'a [u8]>,
+    inputs: Vec<&'a [u8]>,
+    outputs: Vec<&'a [u8]>,
+    tables: Vec<NamedTable<'a>>,
+    begun: Option<NamedTable<'a>>,
+}
+
+impl<'a> Model for Draft<'a> {
+    ghost use Rattle.std.specs.Option.{option_map};
+    ghost use Rattle.blif_text.specs.NamedNets.{Draft};
+    ghost use Rattle.blif_text.specs.Words.{texts};
+
+    ghost Value = { Draft };
+
+    ghost view = { λ a. record {
+      model = option_map (λ word. word.now) a.model;
+      inputs = texts a.inputs.items;
+      outputs = texts a.outputs.items;
+      tables = a.tables.items;
+      begun = a.begun;
+    } };
+}
+
+/// A net whose pins and outputs are names.
+#[derive(Drop)]
+pub struct NamedNet<'a> {
+    pub model: &'a [u8],
+    pub inputs: Vec<&'a [u8]>,
+    pub outputs: Vec<&'a [u8]>,
+    pub tables: Vec<NamedTable<'a>>,
+}
+
+impl<'a> Model for NamedNet<'a> {
+    ghost use Rattle.blif_semantics.specs.Reading.{NamedNet};
+    ghost use Rattle.blif_text.specs.Words.{texts};
+
+    ghost Value = { NamedNet };
+
+    ghost view = { λ a. record {
+      model = a.model.now;
+      inputs = texts a.inputs.items;
+      outputs = texts a.outputs.items;
+      tables = a.tables.items;
+    } };
+}
+
+impl<'a> Draft<'a> {
+    /// Nothing was read.
+    fn new(alloc: Global) -> Draft<'a>
+        ensures { result ≡ no_draft }
+    {
+        Draft {
+            model: None,
+            inputs: Vec::new(alloc),
+            outputs: Vec::new(alloc),
+            tables: Vec::new(alloc),
+            begun: None,
+        }
+    }
+
+    /// Ends the table that may get more rows.
+    fn end_table(&mut self) -> Result<(), AllocError>
+        ensures { OnOk result (self.new ≡ ended self.old) }
+    {
+        if let Some(table) = self.begun.take() {
+            self.tables.push(table)?;
+        }
+        Ok(())
+    }
+
+    /// Adds a row to the table that may get more rows.
+    fn add_row(&mut self, alloc: Global, words: &[&'a [u8]]) -> Result<(), AllocError>
+        ensures { OnOk result (self.new ≡ row_added self.old (texts words.now)) }
+    {
+        if let Some(table) = &mut self.begun {
+            table.push(alloc, words)?;
+        }
+        Ok(())
+    }
+
+    /// Adds a line that is no row, after which no table gets more rows but one that it begins.
+    fn add_statement(
+        &mut self,
+        alloc: Global,
+        kind: Kind,
+        words: &[&'a [u8]],
+    ) -> Result<(), AllocError>
+        ensures { OnOk result (self.new ≡ added kind self.old (texts words.now)) }
+    {
+        match kind {
+            Kind::Model => {
+                if self.model.is_none() {
+                    self.model = Some(first_word(words));
+                }
+            }
+            Kind::Inputs => self.inputs.extend_from_slice(words)?,
+            Kind::Outputs => self.outputs.extend_from_slice(words)?,
+            Kind::Names => self.begun = Some(NamedTable::new(alloc, words)?),
+            _ => {}
+        }
+        Ok(())
+    }
+
+    /// Adds a line.
+    fn add_line(&mut self, alloc: Global, words: &[&'a [u8]]) -> Result<(), AllocError>
+        ensures { OnOk result ((rest : List Line) → after_draft self.new rest ≡ after_draft self.old (texts words.now ∷ rest)) }
+    {
+        match kind_of(words) {
+            Kind::Row => self.add_row(alloc, words),
+            kind => {
+                self.end_table()?;
+                self.add_statement(alloc, kind, arguments(words))
+            }
+        }
+    }
+
+    /// The net, with no more lines to come.
+    fn finish(mut self) -> Result<NamedNet<'a>, AllocError>
+        ensures { IfOk result (λ d. d ≡ after_draft self.entry []) }
+    {
+        self.end_table()?;
+        let Draft {
+            model,
+            inputs,
+            outputs,
+            tables,
+            ..
+        } = self;
+        Ok(NamedNet {
+            model: model.unwrap_or(b"top"),
+            inputs,
+            outputs,
+            tables,
+        })
+    }
+}
+
+/// The net that these lines say.
+#[tactic(auto, unfolding(blif_semantics::specs::Reading::named_net))]
+pub fn named_net<'a>(
+    alloc: Global,
+    lines: &'a [LogicalLine<'a>],
+) -> Result<NamedNet<'a>, AllocError>
+    ensures { IfOk result (λ d. d ≡ named_net (map (λ l. words_of l.bytes) lines.now)) }
+{
+    let mut draft = Draft::new(alloc);
+    for line in lines {
+        let words = words_of(alloc, line.bytes())?;
+        draft.add_line(alloc, &words)?;
+    }
+    draft.finish()
+}

@@ -1,0 +1,119 @@
+//! The names of signals, numbered in order and found by themselves.
+ghost use Rattle.std.specs.Prelude.{◌≡◌, ◌<◌, ◌+◌, ◌^◌, true, not, [], ◌∷◌, ◌++◌, Result, None, Some, IfOk, OnOk, IfErr, IfSome, All, length, map, bytes_eq, position};
+ghost use Rattle.semantics.specs.Net.{IsName, NetValue};
+ghost use Rattle.semantics.specs.Refusals.{has_name, first_doubled};
+ghost use Rattle.blif_semantics.specs.Reading.{Refusal, doubled, undriven, unless_refused, signal_named};
+ghost use Rattle.blif_text.specs.Refusals.{Tells};
+ghost use Rattle.blif_text.specs.Names.{place_of, first_unknown};
+ghost use Rattle.blif_text.specs.Words.{texts};
+
+use crate::refusal::BlifRefusal;
+use indexmap::IndexSet;
+use net_core::items::{Items, NameList, Signal, SignalList};
+use net_core::name::Name;
+use std::alloc::{AllocError, Global};
+use std::marker::Model;
+
+/// The name that a word is known to be.
+pub fn name_of(alloc: Global, word: &[u8]) -> Result<Name, AllocError>
+    requires { IsName word.now }
+    ensures { IfOk result (λ n. n ≡ word.now) }
+{
+    Name::new(alloc, word).map_err(|_| AllocError)
+}
+
+/// The names that words are known to be.
+pub fn name_list(alloc: Global, words: &[&[u8]]) -> Result<NameList, AllocError>
+    requires { All IsName (texts words.now) }
+    ensures { IfOk result (λ names. names ≡ texts words.now) }
+{
+    let mut names = Items::new(alloc);
+    for word in words {
+        names.push(name_of(alloc, word)?)?;
+    }
+    Ok(names)
+}
+
+/// Names that differ, in order. A name is found in about constant time.
+#[derive(Drop)]
+pub struct Names<'a> {
+    names: IndexSet<&'a [u8]>,
+}
+
+impl<'a> Model for Names<'a> {
+    ghost use Rattle.std.specs.Prelude.{List, ◌<◌, ◌^◌, length};
+    ghost use Rattle.semantics.specs.Texts.{Bytes};
+    ghost use Rattle.blif_text.specs.Words.{texts};
+
+    ghost Value = { List Bytes };
+
+    ghost view = { λ a. texts a.names.keys };
+
+    ghost invariant = { λ a. length a.names.keys < 2 ^ 31 };
+}
+
+impl<'a> Names<'a> {
+    fn new(alloc: Global) -> Names<'a>
+        ensures { result ≡ [] }
+    {
+        Names {
+            names: IndexSet::new(alloc),
+        }
+    }
+
+    /// Adds a name, if it is new.
+    fn add(&mut self, name: &'a [u8]) -> Result<bool, AllocError>
+        requires { length self.old + 1 < 2 ^ 31 }
+        ensures new { IfOk result (λ b. b ≡ not (has_name self.old name.now)) }
+        ensures added { IfOk result (λ b. b ≡ true → self.new ≡ self.old ++ name.now ∷ []) }
+    {
+        let is_new = self.names.insert(name)?;
+        Ok(is_new)
+    }
+
+    /// These names, or the refusal of the first that stands a second time.
+    pub fn of(alloc: Global, names: &[&'a [u8]]) -> Result<Names<'a>, BlifRefusal>
+        requires named { All IsName (texts names.now) }
+        requires few { length names.now < 2 ^ 31 }
+        ensures ok { IfOk result (λ all. all ≡ texts names.now) }
+        ensures differ { OnOk result (first_doubled (texts names.now) ≡ None) }
+        ensures err { IfErr result (λ told. (rest : Result NetValue Refusal)
+            → Tells told (unless_refused (first_doubled (texts names.now)) doubled rest)) }
+    {
+        let mut all = Names::new(alloc);
+        for name in names {
+            if !all.add(name)? {
+                let name = name_of(alloc, name)?;
+                return Err(BlifRefusal::Doubled { name });
+            }
+        }
+        Ok(all)
+    }
+
+    /// The number of a name.
+    fn number(&self, name: &[u8]) -> Option<Signal>
+        ensures { result ≡ place_of self.now name.now }
+    {
+        let at = self.names.get_index_of(name)?;
+        Some(at as u32)
+    }
+
+    /// The numbers of these names, or the refusal of the first that is none of these.
+    pub fn numbers(&self, alloc: Global, words: &[&[u8]]) -> Result<SignalList, BlifRefusal>
+        requires { All IsName (texts words.now) }
+        ensures ok { IfOk result (λ signals. signals ≡ map (signal_named self.now) (texts words.now)) }
+        ensures known { OnOk result (first_unknown self.now (texts words.now) ≡ None) }
+        ensures err { IfErr result (λ told. (rest : Result NetValue Refusal)
+            → Tells told (unless_refused (first_unknown self.now (texts words.now)) undriven rest)) }
+    {
+        let mut signals = Items::new(alloc);
+        for word in words {
+            let Some(signal) = self.number(word) else {
+                let name = name_of(alloc, word)?;
+                return Err(BlifRefusal::Undriven { name });
+            };
+            signals.push(signal)?;
+        }
+        Ok(signals)
+    }
+}

@@ -1,0 +1,4 @@
+pub mod HeldMaps
+pub mod LiteralSets
+pub mod HintAnswers
+pub mod Standing

@@ -1,0 +1,58 @@
+//! The quality network of the relative error, in parts per million. Source: SALSA's quality function circuit.
+#![tactic(auto)]
+ghost use Rattle.std.specs.Prelude.{◌≡◌, ◌+◌, ◌-◌, ◌*◌, ◌^◌, ◌≤◌, ◌<◌, [], ◌∷◌, IfOk, OnOk};
+ghost use Rattle.semantics.specs.Error.{rel};
+ghost use Rattle.quality_semantics.specs.WordNets.{started, signals};
+ghost use Rattle.quality_semantics.specs.Quality.{quality, quality_net, relative_excess, TellsExcess};
+
+use net_core::items::Signal;
+use net_core::net::Net;
+use std::alloc::{AllocError, Global};
+use word_nets::word_net::WordNet;
+
+/// The parts of the unit.
+const MILLION: u128 = 1_000_000;
+
+/// Appends what says whether the relative error of two words of so many bits, the inputs of the network, exceeds `k`: a million times their
+/// distance is more than `k` times the exact word, which counts as 1 where it is 0.
+fn excess(net: &mut WordNet, width: u32, k: u128) -> Result<Signal, AllocError>
+    requires start { net.old ≡ started (width + width) }
+    requires some { 0 < width }
+    ensures ok { OnOk result (net.new ≡ (relative_excess width k).net) }
+    ensures signal { IfOk result (λ s. s ≡ (relative_excess width k).signal) }
+    ensures within { IfOk result (λ s. s < signals net.new) }
+{
+    let exact = net.input_bus(0, width)?;
+    let approximate = net.input_bus(width, width)?;
+    let divisor = net.not_zero_low(&exact)?;
+    let scaled_exact = net.times(&exact, MILLION)?;
+    let scaled_approximate = net.times(&approximate, MILLION)?;
+    let level = net.times(&divisor, k)?;
+    net.exceed(&scaled_exact, &scaled_approximate, &level)
+}
+
+/// The output of the network: the constant 0 where no relative error of words of so many bits exceeds `k`.
+fn output(net: &mut WordNet, width: u32, k: u128) -> Result<Signal, AllocError>
+    requires start { net.old ≡ started (width + width) }
+    requires narrow { width ≤ 64 }
+    ensures ok { OnOk result (net.new ≡ (quality rel width k).net) }
+    ensures signal { IfOk result (λ s. s ≡ (quality rel width k).signal) }
+    ensures within { IfOk result (λ s. s < signals net.new) }
+{
+    if k >= ((1u128 << width) - 1) * MILLION {
+        Ok(net.zero())
+    } else {
+        excess(net, width, k)
+    }
+}
+
+/// The net whose output says whether the relative error of two words of so many bits exceeds `k`.
+pub fn quality(alloc: Global, width: u32, k: u128) -> Result<Net, AllocError>
+    requires { width ≤ 64 }
+    ensures net { IfOk result (λ n. n ≡ quality_net rel width k) }
+    ensures tells { IfOk result (λ n. TellsExcess rel width k n) }
+{
+    let mut net = WordNet::new(alloc, width + width)?;
+    let output = output(&mut net, width, k)?;
+    net.finish(&[output])
+}
