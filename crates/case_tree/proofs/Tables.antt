@@ -1,8 +1,7 @@
 -- The hints of a table decide its variable.
-use Rattle.std.proofs.Common.{◌≡◌, ℕ, suc, ◌+◌, ◌<◌, Bool, true, false, cond, not, ◌||◌, List, [], ◌∷◌, ◌++◌, length, map, refl, ap, ◌∙◌, arith, append_assoc, inl, inr, ◌⊎◌, ℤ, neg_ℤ, Option}
+use Rattle.std.proofs.Common.{◌≡◌, ℕ, suc, ◌+◌, Bool, true, false, cond, not, ◌||◌, List, [], ◌∷◌, ◌++◌, length, map, refl, ap, ◌∙◌, arith, append_assoc, inl, inr, ◌⊎◌, ℤ, neg_ℤ, Option}
 use Rattle.std.specs.List.{AllByRecursion, list_any}
 use Rattle.std.specs.FinSet as literals
-use Rattle.std.proofs.lemmas.Bool.{cases_lt}
 use Rattle.std.proofs.lemmas.List.{append-nil}
 use Rattle.semantics.specs.declared.mark.Mark.{Mark}
 use Rattle.semantics.specs.Net.{row_literals}

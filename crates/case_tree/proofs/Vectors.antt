@@ -1,5 +1,5 @@
 -- Where the output is 0 at an input vector, the vector's hints derive its negation.
-use Rattle.std.proofs.Common.{◌≡◌, ℕ, zero, suc, ◌+◌, ◌-◌, ◌<◌, ◌⊎◌, Bool, true, false, not, List, [], ◌∷◌, ◌++◌, length, get_or, map, refl, ap, subst, sym, ◌∙◌, inl, inr, arith, append_assoc, sum_by, All, ℤ, neg_ℤ, Option, Some}
+use Rattle.std.proofs.Common.{◌≡◌, ℕ, zero, suc, ◌+◌, ◌-◌, ◌<◌, ◌⊎◌, Bool, true, false, not, List, [], ◌∷◌, ◌++◌, length, get_or, map, refl, ap, subst, sym, ◌∙◌, inl, inr, arith, append_assoc, sum_by, All, neg_ℤ, Option, Some}
 use Rattle.std.specs.List.{AllByRecursion, Contains}
 use Rattle.std.specs.FinSet as literals
 use Rattle.std.proofs.Math.ListN.{length-map}
@@ -53,15 +53,18 @@ HasClauses-at a v held goal (t ∷ tables) place first next i k wide within e cl
     by_place i within e (λ j low at. HasClauses-at a v held goal tables (suc place) (first + length t.rows) (next + table_clause_count t) j k wide.1 low at apart.1 agrees.1) where
       later : List Clause
       later = tables_clauses (suc place) (first + length t.rows) tables
+
       apart : AreHeldFrom held next (table_clauses place first t) × AreHeldFrom held (next + table_clause_count t) (later ++ goal)
       apart =
           AreHeldFrom-parts held (table_clauses place first t) (later ++ goal) next (next + table_clause_count t)
           (omega (arith, length-table_clauses place first t (All-from_recursion (λ marks. length marks ≡ length t.pins) t.rows wide.0)))
           (subst (AreHeldFrom held next) (append_assoc (table_clauses place first t) later goal) clauses)
+
       agrees : AgreesFrom a first (map (λ marks. row_matches marks t.pins v) t.rows) × AgreesFrom a (first + length t.rows) (row_values tables v)
       agrees =
           let wide_values : length (map (λ marks. row_matches marks t.pins v) t.rows) ≡ length t.rows = length-map t.rows _ in
           AgreesFrom-parts a (map (λ marks. row_matches marks t.pins v) t.rows) (row_values tables v) first (first + length t.rows) (omega (arith, wide_values)) agree
+
       by_place : (i : ℕ) → i < length (t ∷ tables) → place + i ≡ k
           → ((j : ℕ) → j < length tables → suc place + j ≡ k → HasClauses a v held (get_or (first_ids (next + table_clause_count t) tables) j 0) k (table_at tables j))
           → HasClauses a v held (get_or (first_ids next (t ∷ tables)) i 0) k (table_at (t ∷ tables) i)
@@ -96,9 +99,9 @@ known-next n before i s (inr table) =
     elim (cases_lt s n) [
       | inl low ↦ inl (inl low)
       | inr high ↦ elim (Contains-push_cases before i (s - n) table) [
-          | inl earlier ↦ inl (inr earlier)
-          | inr same ↦ inr (omega (arith, same, high))
-        ]
+        | inl earlier ↦ inl (inr earlier)
+        | inr same ↦ inr (omega (arith, same, high))
+      ]
     ]
 
 -- where the tables before are known, and each table's clauses are held

@@ -127,6 +127,15 @@ pub fn refute(alloc: Global, joint: &Net, goal: &Cnf) -> Result<Log, AllocError>
     let mut x = vec![in alloc; false; joint.inputs() as usize]?;
     let firsts = first_ids(alloc, joint)?;
     let mut log = Items::new(alloc);
-    push_cases(alloc, joint, joint.order(), firsts.as_slice(), &mut x, 0, last, &mut log)?;
+    push_cases(
+        alloc,
+        joint,
+        joint.order(),
+        firsts.as_slice(),
+        &mut x,
+        0,
+        last,
+        &mut log,
+    )?;
     Ok(log)
 }
