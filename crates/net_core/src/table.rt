@@ -32,21 +32,21 @@ impl Model for Table {
 }
 
 /// Whether a mark asks for a value.
-fn is_literal(mark: Mark) -> bool
+pub fn is_literal(mark: Mark) -> bool
     ensures { result ≡ is_literal mark }
 {
     mark != Mark::Dash
 }
 
 /// How many marks of a row ask for a value.
-fn row_literals(marks: &[Mark]) -> usize
+pub fn row_literals(marks: &[Mark]) -> usize
     ensures { result ≡ row_literals marks.now }
 {
     marks.iter().filter(|mark| is_literal(**mark)).count()
 }
 
 /// Whether a pin's value is as the mark asks.
-fn mark_matches(mark: Mark, bit: bool) -> bool
+pub fn mark_matches(mark: Mark, bit: bool) -> bool
     ensures { result ≡ mark_matches mark bit }
 {
     match mark {

@@ -11,7 +11,7 @@ use Rattle.proof_semantics.specs.NetClauses.{literal_at, literals_of_row, implic
 use Rattle.proof_semantics.specs.Variables.{variable_count}
 use Rattle.proof_semantics.proofs.NetValues.{each_pin}
 
-IsLiteralOf-at : (v place : ℕ) (sign : Bool) → place < v → IsLiteralOf v (literal_at place sign)
+pub IsLiteralOf-at : (v place : ℕ) (sign : Bool) → place < v → IsLiteralOf v (literal_at place sign)
 IsLiteralOf-at v place true h = record { not_zero = omega arith; within = omega arith }
 IsLiteralOf-at v place false h = record { not_zero = omega arith; within = omega arith }
 

@@ -10,7 +10,7 @@ use Rattle.proof_semantics.specs.NetClauses.{literal_at, literals_of_row, implic
 use Rattle.proof_semantics.specs.Variables.{variable_count, table_clause_count}
 
 -- a row asks as often as it has marks 0 and 1
-length-literals_of_row : (marks : List Mark) (pins : List ℕ) → length marks ≡ length pins → length (literals_of_row marks pins) ≡ row_literals marks
+pub length-literals_of_row : (marks : List Mark) (pins : List ℕ) → length marks ≡ length pins → length (literals_of_row marks pins) ≡ row_literals marks
 length-literals_of_row [] pins h = refl
 length-literals_of_row (m ∷ marks) [] h = absurd (omega (arith, h))
 length-literals_of_row (m ∷ marks) (pin ∷ pins) h = by_mark m (length-literals_of_row marks pins (omega (arith, h))) where
@@ -19,10 +19,10 @@ length-literals_of_row (m ∷ marks) (pin ∷ pins) h = by_mark m (length-litera
   by_mark One rest = let step : row_literals (One ∷ marks) ≡ 1 + row_literals marks = sum_by-cons (λ (k : Mark). cond (is_literal k) 1 0) One marks in omega (arith, rest, step)
   by_mark Dash rest = rest
 
-length-row_clauses : (place : ℕ) (literals : List ℤ) → length (row_clauses place literals) ≡ length literals + 1
+pub length-row_clauses : (place : ℕ) (literals : List ℤ) → length (row_clauses place literals) ≡ length literals + 1
 length-row_clauses place literals = length-append (map (implication place) literals) _ ∙ ap (λ n. n + 1) (length-map literals (implication place))
 
-length-rows_clauses : (first : ℕ) (pins : List ℕ) (rows : List (List Mark)) → All (λ marks. length marks ≡ length pins) rows
+pub length-rows_clauses : (first : ℕ) (pins : List ℕ) (rows : List (List Mark)) → All (λ marks. length marks ≡ length pins) rows
     → length (rows_clauses first pins rows) ≡ sum_by (λ marks. row_literals marks + 1) rows
 length-rows_clauses first pins [] h = refl
 length-rows_clauses first pins (marks ∷ rows) h =
@@ -31,11 +31,11 @@ length-rows_clauses first pins (marks ∷ rows) h =
     length-append (row_clauses first (literals_of_row marks pins)) (rows_clauses (suc first) pins rows)
     ∙ cc (here, rest) ∙ sym (sum_by-cons (λ (m : List Mark). row_literals m + 1) marks rows)
 
-length-implications : (first count : ℕ) (l : ℤ) → length (implications first count l) ≡ count
+pub length-implications : (first count : ℕ) (l : ℤ) → length (implications first count l) ≡ count
 length-implications first zero l = refl
 length-implications first (suc count) l = ap suc (length-implications (suc first) count l)
 
-length-table_clauses : (place first : ℕ) (t : TableValue) → All (λ marks. length marks ≡ length t.pins) t.rows → length (table_clauses place first t) ≡ table_clause_count t
+pub length-table_clauses : (place first : ℕ) (t : TableValue) → All (λ marks. length marks ≡ length t.pins) t.rows → length (table_clauses place first t) ≡ table_clause_count t
 length-table_clauses place first t h =
     let rows = length-rows_clauses first t.pins t.rows h in
     let l : ℤ = literal_at place t.plane in

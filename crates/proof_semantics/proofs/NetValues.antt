@@ -123,6 +123,19 @@ model_values n tables x h a m =
           ∙ ap (λ l. get_or l (k - (n + length tables)) false) rows)
     ]
 
+-- where each variable has the value of what it stands for, the rows' variables say whether the rows match
+pub rows_have_values : (n : ℕ) (tables : List TableValue) (x : List Bool) (a : Assignment) → HasPlaceValues n tables x a
+    → AgreesFrom a (n + length tables) (row_values tables (value_of n tables x))
+rows_have_values n tables x a m =
+    let v : Assignment = value_of n tables x in
+    let wide = row_values-length v tables in
+    AgreesFrom-from a (row_values tables v) (n + length tables)
+    (λ j within.
+    let past : n + length tables ≤ n + length tables + j = omega arith in
+    let place : (n + length tables + j) - (n + length tables) ≡ j = omega arith in
+    let is = rw (le-ltb (n + length tables + j) (n + length tables) past) at (m (n + length tables + j) (omega arith)) in
+    is ∙ ap (λ i. get_or (row_values tables v) i false) place)
+
 values_model : (n : ℕ) (tables : List TableValue) (x : List Bool) → IsAcyclic n tables → (a : Assignment) → HasPlaceValues n tables x a → IsModelAt n tables x a
 unfolding net_clauses
 values_model n tables x h a m =
@@ -131,21 +144,13 @@ values_model n tables x h a m =
     let same = λ (s : ℕ) (low : s < n + length tables). rw (lt-ltb s (n + length tables) low) at (m s (omega arith)) in
     let agree = pins_agree n tables h (signals a) v same in
     let count : length (map (λ t. table_value t v) tables) ≡ length tables = length-map tables _ in
-    let wide = row_values-length v tables in
     let of_tables : AgreesFrom a n (map (λ t. table_value t v) tables) =
     AgreesFrom-from a (map (λ t. table_value t v) tables) n
     (λ j within. same (n + j) (omega arith) ∙ consistent.table j (omega arith) ∙ sym (get_or-map (λ t. table_value t v) tables j no_table false (omega arith))) in
-    let of_rows : AgreesFrom a (n + length tables) (row_values tables v) =
-    AgreesFrom-from a (row_values tables v) (n + length tables)
-    (λ j within.
-    let past : n + length tables ≤ n + length tables + j = omega arith in
-    let place : (n + length tables + j) - (n + length tables) ≡ j = omega arith in
-    let is = rw (le-ltb (n + length tables + j) (n + length tables) past) at (m (n + length tables + j) (omega arith)) in
-    is ∙ ap (λ i. get_or (row_values tables v) i false) place) in
     record {
       satisfies = tables_hold a n (n + length tables) tables
           (subst (AgreesFrom a n) (sym (table_values-same (signals a) v tables agree)) of_tables)
-          (subst (AgreesFrom a (n + length tables)) (sym (row_values-same (signals a) v tables agree)) of_rows);
+          (subst (AgreesFrom a (n + length tables)) (sym (row_values-same (signals a) v tables agree)) (rows_have_values n tables x a m));
       inputs = λ s low. same s (omega arith) ∙ consistent.input s low;
     }
 
@@ -158,7 +163,7 @@ goal_clauses-value n tables signal a =
     list_all-append (clause_value a) (net_clauses n tables) ((literal_at signal true ∷ []) ∷ [])
     ∙ ap (λ b. clauses_value a (net_clauses n tables) && b) (and_end (a (suc signal) || false) ∙ or_false (a (suc signal)))
 
-at_signal : (n : ℕ) (tables : List TableValue) (x : List Bool) (a : Assignment) (signal : ℕ) → signal < n + length tables → HasPlaceValues n tables x a → a (suc signal) ≡ value_of n tables x signal
+pub at_signal : (n : ℕ) (tables : List TableValue) (x : List Bool) (a : Assignment) (signal : ℕ) → signal < n + length tables → HasPlaceValues n tables x a → a (suc signal) ≡ value_of n tables x signal
 at_signal n tables x a signal within v = rw (lt-ltb signal (n + length tables) within) at (v signal (omega arith))
 
 goal_vector : (n : ℕ) (tables : List TableValue) (signal : ℕ) → IsAcyclic n tables → signal < n + length tables → (a : Assignment) → clauses_value a (goal_clauses n tables signal) ≡ true

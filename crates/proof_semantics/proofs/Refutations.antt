@@ -21,15 +21,15 @@ use Rattle.proof_semantics.proofs.NetValues.{goal_law}
 use Rattle.proof_semantics.proofs.TableClauses.{with_literals-value}
 
 -- the opposite of each literal of the set is false
-NegationsFail : Assignment → LiteralSet → Type 0
+unfoldable pub NegationsFail : Assignment → LiteralSet → Type 0
 NegationsFail a set = (l : ℤ) → literals.contains set l ≡ true → literal_value a (neg_ℤ l) ≡ false
 
-negation_fails : (a : Assignment) (l : ℤ) → literal_value a l ≡ true → literal_value a (neg_ℤ l) ≡ false
+pub negation_fails : (a : Assignment) (l : ℤ) → literal_value a l ≡ true → literal_value a (neg_ℤ l) ≡ false
 negation_fails a (pos zero) h = cc
 negation_fails a (pos (suc k)) h = ap not h
 negation_fails a (negsuc k) h = not-true (a (suc k)) h
 
-false_in-fails : (a : Assignment) (set : LiteralSet) (l : ℤ) → NegationsFail a set → is_false_in set l ≡ true → literal_value a l ≡ false
+pub false_in-fails : (a : Assignment) (set : LiteralSet) (l : ℤ) → NegationsFail a set → is_false_in set l ≡ true → literal_value a l ≡ false
 unfolding NegationsFail
 false_in-fails a set l h e = subst (λ x. literal_value a x ≡ false) (neg_ℤ-neg_ℤ l) (h (neg_ℤ l) e)
 
@@ -44,7 +44,7 @@ filter-value a set h (l ∷ clause) = at_test (is_false_in set l) refl (filter-v
 open_literals-value : (a : Assignment) (set : LiteralSet) → NegationsFail a set → (clause : Clause) → clause_value a (open_literals set clause) ≡ clause_value a clause
 open_literals-value a set h clause = with_literals-value a [] (filter (λ l. not (is_false_in set l)) clause) ∙ filter-value a set h clause
 
-NegationsFail-insert : (a : Assignment) (set : LiteralSet) (l : ℤ) → NegationsFail a set → literal_value a (neg_ℤ l) ≡ false → NegationsFail a (literals.insert set l)
+pub NegationsFail-insert : (a : Assignment) (set : LiteralSet) (l : ℤ) → NegationsFail a set → literal_value a (neg_ℤ l) ≡ false → NegationsFail a (literals.insert set l)
 unfolding NegationsFail
 NegationsFail-insert a set l h k q e = at_test (int_eq q l) refl (sym (contains-insert int_cmp_total set l q) ∙ e) where
   at_test : (t : Bool) → int_eq q l ≡ t → (t || literals.contains set q) ≡ true → literal_value a (neg_ℤ q) ≡ false
@@ -61,14 +61,14 @@ no_conflict a held all (hint ∷ next ∷ hints) set h (clause, l, is, unit, res
     let value : literal_value a l ≡ true = sym (or_false (literal_value a l)) ∙ ap (clause_value a) (sym unit) ∙ open_literals-value a set h clause ∙ all hint clause is in
     no_conflict a held all (next ∷ hints) (literals.insert set l) (NegationsFail-insert a set l h (negation_fails a l value)) rest
 
-negations-fail : (a : Assignment) (clause : Clause) (set : LiteralSet) → NegationsFail a set → clause_value a clause ≡ false → NegationsFail a (with_negations set clause)
+pub negations-fail : (a : Assignment) (clause : Clause) (set : LiteralSet) → NegationsFail a set → clause_value a clause ≡ false → NegationsFail a (with_negations set clause)
 negations-fail a [] set h e = h
 negations-fail a (l ∷ clause) set h e =
     let both = or_parts _ _ e in
     let twice : literal_value a (neg_ℤ (neg_ℤ l)) ≡ false = subst (λ x. literal_value a x ≡ false) (sym (neg_ℤ-neg_ℤ l)) both.0 in
     negations-fail a clause (literals.insert set (neg_ℤ l)) (NegationsFail-insert a set (neg_ℤ l) h twice) both.1
 
-none-fails : (a : Assignment) → NegationsFail a literals.empty
+pub none-fails : (a : Assignment) → NegationsFail a literals.empty
 unfolding NegationsFail
 none-fails a q e = let none = contains-empty int_cmp q in cc
 

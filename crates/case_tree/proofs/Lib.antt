@@ -1,0 +1,10 @@
+pub mod Sets
+pub mod Units
+pub mod Rows
+pub mod Tables
+pub mod Vectors
+pub mod Joins
+pub mod Held
+pub mod Refuted
+pub mod Steps
+pub mod Walk
