@@ -1,8 +1,10 @@
 -- The metric of the definitions that a metric of this crate stands for.
 use Rattle.joint_net.specs.declared.metric.Metric.{Metric}
-use Rattle.joint_net.specs.declared.metric.Metric.TheVariants.{Abs}
-use Rattle.semantics.specs.Error.{abs}
+use Rattle.joint_net.specs.declared.metric.Metric.TheVariants.{Abs, Rel, Ham}
+use Rattle.semantics.specs.Error.{abs, rel, ham}
 use Rattle.semantics.specs.Error as error
 
 abbrev pub meaning : Metric → error.Metric
 meaning Abs = abs
+meaning Rel = rel
+meaning Ham = ham

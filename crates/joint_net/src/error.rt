@@ -1,6 +1,6 @@
 //! The error of one pair of output words. The first output is bit 0.
 ghost use Rattle.std.specs.Prelude.{◌≡◌, ◌≤◌, ◌<◌, ◌+◌, ◌*◌, length};
-ghost use Rattle.semantics.specs.Error.{number_of, error_of};
+ghost use Rattle.semantics.specs.Error.{number_of, rounded_up, distance, differing, error_of};
 ghost use Rattle.joint_net.specs.Metric.{meaning};
 
 use crate::metric::Metric;
@@ -17,6 +17,18 @@ fn number(bits: &[bool]) -> u64
     number
 }
 
+/// How many bits differ.
+fn differing(exact: &[bool], approx: &[bool]) -> u64
+    requires { length exact.now ≡ length approx.now }
+    ensures { result ≡ differing exact.now approx.now }
+{
+    let mut count: u64 = 0;
+    for (i, bit) in exact.iter().enumerate() {
+        count += u64::from(*bit != approx[i]);
+    }
+    count
+}
+
 /// The error of the approximate outputs against the exact ones.
 pub fn error(metric: Metric, exact: &[bool], approx: &[bool]) -> u128
     requires width { length exact.now ≡ length approx.now }
@@ -25,25 +37,11 @@ pub fn error(metric: Metric, exact: &[bool], approx: &[bool]) -> u128
 {
     match metric {
         Metric::Abs => u128::from(number(exact).abs_diff(number(approx))),
-    }
-}
-
-#[cfg(test)]
-mod tests {
-    use super::*;
-
-    #[test]
-    fn errors_of_small_words(rt: HostRuntime) {
-        let cases: [(&[bool], &[bool], u128); 4] = [
-            (&[true, true], &[false, true], 1),
-            (&[false, false], &[true, true], 3),
-            (&[true, false, true], &[true, false, true], 0),
-            (&[], &[], 0),
-        ];
-        for (exact, approx, wanted) in cases {
-            assert_eq!(rt; exact.len(), approx.len());
-            assert!(rt; exact.len() <= 64);
-            assert_eq!(rt; error(Metric::Abs, exact, approx), wanted);
+        Metric::Rel => {
+            let whole = number(exact);
+            let apart = u128::from(whole.abs_diff(number(approx)));
+            (apart * 1_000_000).div_ceil(u128::from(whole.max(1)))
         }
+        Metric::Ham => u128::from(differing(exact, approx)),
     }
 }

@@ -1,5 +1,8 @@
-//! The error of an approximate circuit's outputs against the exact ones.
+//! Two nets with the same ports, and the error of one's outputs against the other's.
 #![tactic(auto)]
 
+mod copies;
 pub mod error;
+pub mod joint;
 pub mod metric;
+pub mod ports;

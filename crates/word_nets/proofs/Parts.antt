@@ -2,8 +2,8 @@
 use Rattle.std.proofs.Common.{◌≡◌, ℕ, ◌^◌, ◌<◌, ◌≤◌, List, [], ◌∷◌, ◌++◌, map, length, All, decimal, codes, arith, length-append}
 use Rattle.std.specs.List.{range_with_len}
 use Rattle.semantics.specs.declared.mark.Mark.{Mark}
-use Rattle.semantics.specs.Net.{TableValue}
-use Rattle.net_core.specs.Built.{IsBuilt}
+use Rattle.semantics.specs.Net.{TableValue, IsAcyclic}
+use Rattle.net_core.specs.Built.{IsWired}
 use Rattle.quality_semantics.specs.Forms.{form}
 use Rattle.quality_semantics.specs.WordNets.{WordNetValue, signals, table_of, AreSignalsOf}
 use Rattle.quality_semantics.proofs.Formed.{IsWordNet-appended}
@@ -16,12 +16,19 @@ IsGrowing-pushed W V pins rows i t ts h same pins_in widths few ei et ets =
     rw (ets, et, ei) (record { formed = IsWordNet-appended W pins rows h.formed (rw same pins_in) widths; few = omega (arith, few, length-append W.tables (table_of (length W.tables) (form pins rows) ∷ [])) })
 
 -- the parts of a net are those of a network
-pub IsBuilt-parts : (W V : WordNetValue) (model : List ℕ) (names : List (List ℕ)) (outputs given : List ℕ) → IsGrowing W → W ≡ V → outputs ≡ given → 0 < length given → length given ≤ 2 ^ 30 → AreSignalsOf V given → model ≡ codes "word" → names ≡ map (λ i. 120 ∷ decimal i) (range_with_len 0 W.inputs) → IsBuilt (record { model = model; inputs = names; tables = W.tables; outputs = outputs })
-IsBuilt-parts W V model names outputs given h same eo some few outputs_in em en =
+pub IsWired-parts : (W V : WordNetValue) (model : List ℕ) (names : List (List ℕ)) (outputs given : List ℕ) → IsGrowing W → W ≡ V → outputs ≡ given → 0 < length given → length given ≤ 2 ^ 30 → AreSignalsOf V given → model ≡ codes "word" → names ≡ map (λ i. 120 ∷ decimal i) (range_with_len 0 W.inputs)
+    → IsWired (record { model = model; inputs = names; tables = W.tables; outputs = outputs }) × IsAcyclic (length names) W.tables
+IsWired-parts W V model names outputs given h same eo some few outputs_in em en =
     let width = input_count-net_of W given in
-    rw (eo, em, en) (record {
-      sound = IsSound-net_of W given h.formed h.few some (rw same outputs_in);
-      in_order = rw width h.formed.in_order;
-      few_signals = let most = h.few in omega (arith, width, most);
-      few_outputs = omega (arith, few);
-    })
+    let sound = IsSound-net_of W given h.formed h.few some (rw same outputs_in) in
+    rw (eo, em, en)
+    (
+      record {
+        names_differ = sound.names_differ;
+        has_output = sound.has_output;
+        outputs_are_signals = sound.outputs_are_signals;
+        few_signals = let most = h.few in omega (arith, width, most);
+        few_outputs = omega (arith, few);
+      },
+      sound.acyclic,
+    )

@@ -1,14 +1,9 @@
-use Rattle.std.proofs.Common.{◌≡◌, ℕ, ◌-◌, ◌^◌, ◌<◌, ◌≤◌, Bool, true, false, List, [], ◌∷◌, length, drop, get_or, arith, length-drop, lit<, lit≤}
+use Rattle.std.proofs.Common.{◌≡◌, ℕ, ◌-◌, ◌^◌, ◌<◌, ◌≤◌, Bool, true, false, List, length, drop, get_or, arith, length-drop, lit<, lit≤}
 use Rattle.std.specs.Int.{from_bool}
-use Rattle.std.proofs.Math.Nat.{pow-le-pow_right, two-pow-succ}
+use Rattle.std.proofs.Math.Nat.{pow-le-pow_right}
 use Rattle.semantics.specs.Error.{number_of}
+use Rattle.semantics.proofs.Vectors.{number_of-lt}
 use Rattle.joint_net.proofs.error.number.Goals as goal
-
--- n bits have a number below 2 ^ n
-number_of-lt : (bits : List Bool) → number_of bits < 2 ^ length bits
-number_of-lt [] = lit< tt
-number_of-lt (true ∷ bits) = omega (arith, number_of-lt bits, two-pow-succ (length bits))
-number_of-lt (false ∷ bits) = omega (arith, number_of-lt bits, two-pow-succ (length bits))
 
 -- at most 63 bits have a number below 2 ^ 63
 number_of-lt_63 : (bits : List Bool) → length bits ≤ 63 → number_of bits < 2 ^ 63

@@ -1,0 +1,2 @@
+pub mod PortNames
+pub mod Placed

@@ -1,0 +1,140 @@
+//! Copies of the tables of a net, with other names and other pins.
+ghost use Rattle.std.specs.Prelude.{◌≡◌, ℕ, ◌+◌, ◌<◌, ◌^◌, ◌∷◌, ◌++◌, map, codes, All, IfOk, OnOk};
+ghost use Rattle.std.specs.List.{range_with_len};
+ghost use Rattle.quality_semantics.specs.Joint.{numbered_name, copied};
+ghost use Rattle.joint_net.specs.Copies.{placed, copy_at};
+
+use itoa::Buffer;
+use net_core::items::{NameList, Signal, SignalList, TableList};
+use net_core::name::Name;
+use net_core::net::Net;
+use net_core::table::Table;
+use std::alloc::{AllocError, Global};
+
+/// A name that is one, or want of memory.
+fn name_of(alloc: Global, text: &[u8]) -> Result<Name, AllocError>
+    ensures { IfOk result (λ name. name ≡ text.now) }
+{
+    match Name::new(alloc, text) {
+        Ok(name) => Ok(name),
+        Err(_) => Err(AllocError),
+    }
+}
+
+/// The name of the model.
+pub fn model_name(alloc: Global) -> Result<Name, AllocError>
+    ensures { IfOk result (λ name. name ≡ codes "joint") }
+{
+    name_of(alloc, b"joint")
+}
+
+/// A letter, and a number without leading zeros.
+fn numbered_name(alloc: Global, letter: u8, number: u32) -> Result<Name, AllocError>
+    ensures { IfOk result (λ name. name ≡ numbered_name letter number) }
+{
+    let mut buffer = Buffer::new();
+    let mut text = Vec::from_slice(alloc, &[letter])?;
+    text.extend_from_slice(buffer.format(number).as_bytes())?;
+    name_of(alloc, &text)
+}
+
+/// The names `x0`, `x1` and so on of so many inputs.
+pub fn input_names(alloc: Global, count: u32) -> Result<NameList, AllocError>
+    ensures { IfOk result (λ names. names ≡ map (numbered_name 120) (range_with_len 0 count)) }
+{
+    let mut names = NameList::new(alloc);
+    for i in 0..count {
+        names.push(numbered_name(alloc, b'x', i)?)?;
+    }
+    Ok(names)
+}
+
+/// The numbers of so many signals, from 0.
+pub fn first_signals(alloc: Global, count: u32) -> Result<Vec<Signal>, AllocError>
+    ensures { IfOk result (λ signals. signals.items ≡ range_with_len 0 count) }
+{
+    (0..count).collect(alloc)
+}
+
+/// Where a signal stands: an input at its place, and the tables one behind another from `first` on.
+fn placed(inputs: &[Signal], first: Signal, signal: Signal) -> Signal
+    requires { first + signal < 2 ^ 32 }
+    ensures { result ≡ placed inputs.now first signal }
+{
+    let at = signal as usize;
+    if at < inputs.len() {
+        inputs[at]
+    } else {
+        first + (signal - inputs.len() as u32)
+    }
+}
+
+/// The signals, each where it stands.
+fn placed_signals(
+    alloc: Global,
+    inputs: &[Signal],
+    first: Signal,
+    signals: &[Signal],
+) -> Result<SignalList, AllocError>
+    requires { All (λ s. first + s < 2 ^ 32) signals.now }
+    ensures { IfOk result (λ list. list ≡ map (placed inputs.now first) signals.now) }
+{
+    let mut list = SignalList::new(alloc);
+    for signal in signals {
+        list.push(placed(inputs, first, *signal))?;
+    }
+    Ok(list)
+}
+
+/// Adds the signals of the net's outputs at the end, each where it stands.
+pub fn push_outputs(
+    list: &mut SignalList,
+    inputs: &[Signal],
+    first: Signal,
+    net: &Net,
+) -> Result<(), AllocError>
+    requires { first < 2 ^ 31 }
+    ensures { OnOk result (list.new ≡ list.old ++ map (placed inputs.now first) net.now.outputs) }
+{
+    for i in 0..net.outputs() {
+        list.push(placed(inputs, first, net.output(i)))?;
+    }
+    Ok(())
+}
+
+/// A copy of a table, named by the letter and its number.
+fn copied_table(
+    alloc: Global,
+    letter: u8,
+    number: u32,
+    inputs: &[Signal],
+    first: Signal,
+    table: &Table,
+) -> Result<Table, AllocError>
+    requires { All (λ s. first + s < 2 ^ 32) table.now.pins }
+    ensures { IfOk result (λ t. t ≡ copy_at number letter (placed inputs.now first) table.now) }
+{
+    let name = numbered_name(alloc, letter, number)?;
+    let pins = placed_signals(alloc, inputs, first, table.pins().as_slice())?;
+    let rows = table.rows().copy()?;
+    Ok(Table::new(name, pins, rows, table.plane()))
+}
+
+/// Adds copies of the net's tables at the end, named by the letter and their numbers.
+pub fn push_copies(
+    alloc: Global,
+    tables: &mut TableList,
+    letter: u8,
+    inputs: &[Signal],
+    first: Signal,
+    net: &Net,
+) -> Result<(), AllocError>
+    requires { first < 2 ^ 31 }
+    ensures { OnOk result (tables.new ≡ tables.old ++ copied letter (placed inputs.now first) net.now.tables) }
+{
+    for t in 0..net.tables() {
+        let copy = copied_table(alloc, letter, t, inputs, first, net.table(t))?;
+        tables.push(copy)?;
+    }
+    Ok(())
+}

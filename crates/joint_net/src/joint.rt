@@ -1,0 +1,139 @@
+//! The joint net: two nets over the same inputs, and a quality network over their outputs.
+//! Source: SALSA's quality function circuit, which the outputs of the exact and of the approximate circuit feed.
+ghost use Rattle.std.specs.Prelude.{◌≡◌, ◌↔◌, ℕ, ◌+◌, ◌<◌, ◌≤◌, ◌^◌, map, length, IfOk, IsTrue};
+ghost use Rattle.std.specs.List.{range_with_len};
+ghost use Rattle.semantics.specs.Net.{input_count, table_count, signal_count, row_count, HasSamePorts};
+ghost use Rattle.quality_semantics.specs.Quality.{quality_net};
+ghost use Rattle.quality_semantics.specs.Joint.{both_outputs, quality_signal, joint_net};
+ghost use Rattle.joint_net.specs.Copies.{all_copies};
+ghost use Rattle.joint_net.specs.Metric.{meaning};
+
+use crate::copies::{first_signals, input_names, model_name, push_copies, push_outputs};
+use crate::metric::Metric;
+use net_core::items::{Signal, SignalList, TableList};
+use net_core::net::Net;
+use std::alloc::{AllocError, Global};
+
+/// What the signals and the rows of a joint net together are fewer than.
+const ROOM: u32 = 1 << 31;
+
+/// The net whose output says whether the error of two words of so many bits exceeds `k`.
+fn quality(alloc: Global, metric: Metric, width: u32, k: u128) -> Result<Net, AllocError>
+    requires { width ≤ 64 }
+    ensures { IfOk result (λ n. n ≡ quality_net (meaning metric) width k) }
+{
+    match metric {
+        Metric::Abs => quality_abs::quality(alloc, width, k),
+        Metric::Rel => quality_rel::quality(alloc, width, k),
+        Metric::Ham => quality_ham::quality(alloc, width, k),
+    }
+}
+
+/// The signals that the quality network reads: the outputs of the exact net, and then those of the approximate one.
+fn signals_read(
+    alloc: Global,
+    inputs: &[Signal],
+    exact: &Net,
+    approx: &Net,
+) -> Result<SignalList, AllocError>
+    requires { inputs.now ≡ range_with_len 0 (input_count exact.now) }
+    ensures { IfOk result (λ read. read ≡ both_outputs exact.now approx.now) }
+{
+    let mut read = SignalList::new(alloc);
+    push_outputs(&mut read, inputs, exact.inputs(), exact)?;
+    push_outputs(&mut read, inputs, exact.signals(), approx)?;
+    Ok(read)
+}
+
+/// The tables of the joint net.
+fn joint_tables(
+    alloc: Global,
+    inputs: &[Signal],
+    read: &[Signal],
+    exact: &Net,
+    approx: &Net,
+    quality: &Net,
+) -> Result<TableList, AllocError>
+    requires inputs { inputs.now ≡ range_with_len 0 (input_count exact.now) }
+    requires read { read.now ≡ both_outputs exact.now approx.now }
+    requires outputs { length exact.now.outputs ≡ length approx.now.outputs }
+    requires room { signal_count exact.now + table_count approx.now < 2 ^ 31 }
+    ensures { IfOk result (λ tables. tables ≡ all_copies exact.now approx.now quality.now.tables) }
+{
+    let first = exact.signals();
+    let last = first + approx.tables();
+    let mut tables = TableList::new(alloc);
+    push_copies(alloc, &mut tables, b'e', inputs, exact.inputs(), exact)?;
+    push_copies(alloc, &mut tables, b'a', inputs, first, approx)?;
+    push_copies(alloc, &mut tables, b'q', read, last, quality)?;
+    Ok(tables)
+}
+
+/// The output of the joint net.
+fn joint_outputs(
+    alloc: Global,
+    read: &[Signal],
+    exact: &Net,
+    approx: &Net,
+    quality: &Net,
+) -> Result<SignalList, AllocError>
+    requires read { read.now ≡ both_outputs exact.now approx.now }
+    requires outputs { length exact.now.outputs ≡ length approx.now.outputs }
+    requires room { signal_count exact.now + table_count approx.now < 2 ^ 31 }
+    ensures { IfOk result (λ outputs. outputs ≡ map (quality_signal exact.now approx.now) quality.now.outputs) }
+{
+    let last = exact.signals() + approx.tables();
+    let mut outputs = SignalList::new(alloc);
+    push_outputs(&mut outputs, read, last, quality)?;
+    Ok(outputs)
+}
+
+/// Whether the signals and the rows together are few.
+fn has_room(net: &Net) -> bool
+    ensures { IsTrue result ↔ (signal_count net.now + row_count net.now < 2 ^ 31) }
+{
+    let mut left = ROOM - net.signals();
+    for t in 0..net.tables() {
+        let rows = net.table(t).rows().len();
+        if rows >= left as usize {
+            return false;
+        }
+        left -= rows as u32;
+    }
+    true
+}
+
+/// The joint net, whose output says whether the error of the approximate net's outputs against the exact one's exceeds `k`.
+/// It answers want of memory also where its signals and rows would be 2^31 or more.
+pub fn joint(
+    alloc: Global,
+    exact: &Net,
+    approx: &Net,
+    metric: Metric,
+    k: u128,
+) -> Result<Net, AllocError>
+    requires ports { HasSamePorts exact.now approx.now }
+    requires few { length exact.now.outputs ≤ 64 }
+    ensures net { IfOk result (λ n. n ≡ joint_net exact.now approx.now (meaning metric) k) }
+    ensures room { IfOk result (λ n. signal_count n + row_count n < 2 ^ 31) }
+{
+    let quality = quality(alloc, metric, exact.outputs(), k)?;
+    let signals = u64::from(exact.signals())
+        + u64::from(approx.tables())
+        + u64::from(quality.tables());
+    if signals >= u64::from(ROOM) {
+        return Err(AllocError);
+    }
+    let model = model_name(alloc)?;
+    let inputs = input_names(alloc, exact.inputs())?;
+    let own = first_signals(alloc, exact.inputs())?;
+    let read = signals_read(alloc, &own, exact, approx)?;
+    let tables = joint_tables(alloc, &own, read.as_slice(), exact, approx, &quality)?;
+    let outputs = joint_outputs(alloc, read.as_slice(), exact, approx, &quality)?;
+    let net = Net::from_sound(alloc, model, inputs, tables, outputs)?;
+    if has_room(&net) {
+        Ok(net)
+    } else {
+        Err(AllocError)
+    }
+}
