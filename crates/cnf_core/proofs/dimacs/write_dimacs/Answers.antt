@@ -28,5 +28,5 @@ pub returns-clause-ok : goal.returns-clause-ok
 returns-clause-ok g c =
     on_ok_weaker _
     (λ sent. Wrote-from_empty _ _ c.new-page.ensures
-    (Wrote-gathered (Gathered-in _ (dimacs_text-parts c.args.cnf.now _ (c.as_slice.ensures ∙ c.clauses.ensures.value)) c.in_ok-write_header.ensures.ok c.in_ok-write_clauses.ensures.ok) sent.0))
+    (Wrote-gathered (Gathered-in _ (dimacs_text-parts c.args.cnf.now _ (c.as_slice.ensures ∙ c.clauses.ensures.value)) c.in_ok-write_header.ensures.ok c.in_ok-write_clauses.ensures.ok) sent))
     c.send.ensures.ok

@@ -24,5 +24,5 @@ pub returns-clause-ok : goal.returns-clause-ok
 returns-clause-ok g c =
     on_ok_weaker _
     (λ sent. subst (λ t. Wrote (g.F.Files.told c.args.files.now) (g.F.Files.told c.send.new.files) t) (lrat_text-items c.args.log.now _ c.as_slice.ensures)
-    (Wrote-from_empty _ _ c.new-page.ensures (Wrote-gathered c.in_ok-write_items.ensures.ok sent.0)))
+    (Wrote-from_empty _ _ c.new-page.ensures (Wrote-gathered c.in_ok-write_items.ensures.ok sent)))
     c.send.ensures.ok
