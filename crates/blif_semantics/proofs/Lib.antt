@@ -1,8 +1,6 @@
 pub mod Names
 pub mod WordLines
 pub mod NetLines
-pub mod TextLines
-pub mod PlainTexts
 pub mod RightLines
 pub mod WrittenRight
 pub mod Looked

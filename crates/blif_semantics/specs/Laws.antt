@@ -12,13 +12,6 @@ use Rattle.blif_semantics.specs.Statements.{kind_of, arguments, WrongLine, first
 use Rattle.blif_semantics.specs.Tables.{last_word, is_one, named, with_rows, rows_first}
 use Rattle.blif_semantics.specs.Reading.{bundle_limit, Refusal, doubled, no_output, undriven, cycle, limit, NamedNet, names_of, names_read, first_undriven_name, numbered, single, blif_reading}
 use Rattle.blif_semantics.specs.FirstRefusals.{IsFirstWrong, IsFirstDoubled, IsFirstUndriven}
-use Rattle.blif_semantics.specs.Plain.{IsPlainFor}
-use Rattle.blif_semantics.specs.PlainReading.{net_of_text}
-
--- a net is read back from its plain text, so a text is plain for one net only
-pub record PlainTextLaw : Type 0 where
-  pub read : (text : Bytes) (N : NetValue) → IsPlainFor text N → net_of_text text ≡ Some N
-  pub only : (text : Bytes) (N M : NetValue) → IsPlainFor text N → IsPlainFor text M → N ≡ M
 
 -- with a CR before each LF
 abbrev pub with_carriage_returns : Bytes → Bytes

@@ -5,6 +5,4 @@ pub mod Reading
 pub mod FirstRefusals
 pub mod Named
 pub mod Examples
-pub mod Plain
-pub mod PlainReading
 pub mod Laws

@@ -1,10 +1,5 @@
 //! The laws about what a text means: each function's contract is a law.
-ghost use Rattle.blif_semantics.specs.Laws.{PlainTextLaw, TextLaw, FirstRefusalLaw, PlaneLaw, NamedNetLaw, ReadingLaw, WrittenLaw};
-
-/// A text is plain for one net only, and that net is read back from it.
-pub fn plain_texts()
-    ensures { PlainTextLaw }
-{}
+ghost use Rattle.blif_semantics.specs.Laws.{TextLaw, FirstRefusalLaw, PlaneLaw, NamedNetLaw, ReadingLaw, WrittenLaw};
 
 /// What the bytes of a text mean, and what means nothing.
 pub fn texts()

@@ -6,11 +6,3 @@ pub mod Numbered
 pub mod Readings
 pub mod Sizes
 pub mod NetTexts
-pub mod Traversals
-pub mod Named
-pub mod Steps
-pub mod Drafts
-pub mod Inverses
-pub mod Written
-pub mod PlainNets
-pub mod WholeTexts

@@ -4,7 +4,5 @@ pub mod NamedNets
 pub mod Names
 pub mod NetText
 pub mod Places
-pub mod Plain
-pub mod Reading
 pub mod Refusals
 pub mod Words

@@ -3,21 +3,8 @@ use Rattle.std.specs.Prelude.{◌≡◌, Option, Some, None, Result, Err}
 use Rattle.semantics.specs.Net.{NetValue}
 use Rattle.blif_semantics.specs.Statements.{bad_byte, command, stray_row, bad_row, mixed_plane, second_model, after_end, names_empty, bad_name}
 use Rattle.blif_semantics.specs.Reading as r
-use Rattle.net_core.specs.declared.name.NameRefusal.{NameRefusal}
-use Rattle.net_core.specs.declared.name.NameRefusal.TheVariants as name
 use Rattle.blif_text.specs.declared.refusal.BlifRefusal.{BlifRefusal}
 use Rattle.blif_text.specs.declared.refusal.BlifRefusal.TheVariants as b
-use Rattle.blif_text.specs.declared.refusal.Refusal.{Refusal}
-use Rattle.blif_text.specs.declared.refusal.Refusal.TheVariants.{NotPlain, OutOfMemory}
-
--- why a name is refused, as a reason for which a text is
-abbrev pub reason_of : NameRefusal → Refusal
-reason_of name.Bad = NotPlain
-reason_of name.OutOfMemory = OutOfMemory
-
--- P, where the text is refused as one that this tool does not write
-abbrev pub OnNotPlain : {T : Type 0} → Result T Refusal → Type 0 → Type 0
-OnNotPlain r P = r ≡ Err NotPlain → P
 
 -- the refusal that the code tells, if it is not want of memory
 abbrev pub refusal_of : BlifRefusal → Option r.Refusal

@@ -1,13 +1,11 @@
 //! Why a text is not read. Source: BLIF; what is refused, and in which order, is this tool's own.
 ghost use Rattle.std.specs.Prelude.{◌≡◌};
-ghost use Rattle.blif_text.specs.Refusals.{reason_of};
-ghost use Rattle.blif_text.specs.declared.refusal.Refusal.TheVariants.{OutOfMemory};
 ghost use Rattle.blif_text.specs.declared.refusal.BlifRefusal.TheVariants.{OutOfMemory as NoMemory};
 
 use file_core::word::Word;
-use net_core::name::{Name, NameRefusal};
+use net_core::name::Name;
 use semantics::which::Which;
-use std::alloc::{AllocError, AllocFailed};
+use std::alloc::AllocError;
 
 /// Why a text is refused. Lines are counted from 1.
 #[derive(Debug, Drop)]
@@ -43,39 +41,5 @@ impl From<AllocError> for BlifRefusal {
 
     fn from(_: AllocError) -> BlifRefusal {
         BlifRefusal::OutOfMemory
-    }
-}
-
-#[derive(Clone, Copy, Debug, Drop, PartialEq, Eq)]
-pub enum Refusal {
-    /// This tool writes no such text.
-    NotPlain,
-    OutOfMemory,
-}
-
-impl From<AllocError> for Refusal {
-    ghost from_gives = { λ _ e. e ≡ OutOfMemory };
-
-    fn from(_: AllocError) -> Refusal {
-        Refusal::OutOfMemory
-    }
-}
-
-impl<T: Drop> From<AllocFailed<T>> for Refusal {
-    ghost from_gives = { λ _ e. e ≡ OutOfMemory };
-
-    fn from(_: AllocFailed<T>) -> Refusal {
-        Refusal::OutOfMemory
-    }
-}
-
-impl From<NameRefusal> for Refusal {
-    ghost from_gives = { λ r e. e ≡ reason_of r };
-
-    fn from(refusal: NameRefusal) -> Refusal {
-        match refusal {
-            NameRefusal::Bad => Refusal::NotPlain,
-            NameRefusal::OutOfMemory => Refusal::OutOfMemory,
-        }
     }
 }

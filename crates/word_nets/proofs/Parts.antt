@@ -21,8 +21,7 @@ pub IsWired-parts : (W V : WordNetValue) (model : List ℕ) (names : List (List 
 IsWired-parts W V model names outputs given h same eo some few outputs_in em en =
     let width = input_count-net_of W given in
     let sound = IsSound-net_of W given h.formed h.few some (rw same outputs_in) in
-    rw (eo, em, en)
-    (
+    rw (eo, em, en) (
       record {
         names_differ = sound.names_differ;
         has_output = sound.has_output;
