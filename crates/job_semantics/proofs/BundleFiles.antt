@@ -45,7 +45,8 @@ AreDistinct [] = ⊤
 AreDistinct (e ∷ endings) = AllByRecursion (λ f. f ≢ e) endings × AreDistinct endings
 
 written_endings-AreDistinct : AreDistinct written_endings
-written_endings-AreDistinct = (((λ e. cc), ((λ e. cc), tt)), (((λ e. cc), tt), (tt, tt)))
+written_endings-AreDistinct =
+    (((λ e. cc), ((λ e. cc), ((λ e. cc), tt))), (((λ e. cc), ((λ e. cc), tt)), (((λ e. cc), tt), (tt, tt))))
 
 later_names : (stem : Bytes) (text : Ending → Bytes) (e : Ending) (endings : List Ending) → AllByRecursion (λ f. f ≢ e) endings
     → AllByRecursion (λ f. f.name ≢ bundle_name stem e) (files_of stem text endings)

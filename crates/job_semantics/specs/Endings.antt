@@ -10,10 +10,10 @@ use Rattle.job_semantics.specs.declared.ending.Ending.TheVariants.{Netlist, Form
 abbrev pub bundle_endings : List Ending
 bundle_endings = Netlist ∷ Formula ∷ Log ∷ Vectors ∷ Report ∷ []
 
--- the formula and the log are not written so far
+-- the log is not written so far
 abbrev pub is_written : Ending → Bool
 is_written Netlist = true
-is_written Formula = false
+is_written Formula = true
 is_written Log = false
 is_written Vectors = true
 is_written Report = true

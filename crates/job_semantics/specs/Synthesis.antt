@@ -8,6 +8,8 @@ use Rattle.semantics.specs.Vectors.{all_vectors, IsFirstGreatestAt}
 use Rattle.semantics.specs.Blif.{blif_text}
 use Rattle.blif_semantics.specs.Reading.{Refusal}
 use Rattle.chain_semantics.specs.ConstantChain.{IsConstantChainEnd}
+use Rattle.proof_semantics.specs.Formula.{dimacs_text}
+use Rattle.proof_semantics.specs.Miter.{miter}
 use Rattle.outside_semantics.specs.Outside.{Held, FilesTold, SinkTold, Goes, Rose, WhereTold, Took, TakeFailed, bytes_of}
 use Rattle.outside_semantics.specs.WrittenFiles.{File, FilesWritten, FilesCutShort}
 use Rattle.job_semantics.specs.declared.ending.Ending.{Ending}
@@ -36,10 +38,10 @@ pub record IsSimplifiedFrom (exact : NetValue) (metric : Metric) (bound : ℕ) (
 abbrev pub synth_report : NetValue → Metric → ℕ → Simplified → Bytes
 synth_report exact metric bound s = report_text (report_of metric bound s.maximum s.witness exact s.net false)
 
--- the text of each file; the formula and the log have none so far
+-- the text of each file: the formula says that some error exceeds the maximum, and the log has no text so far
 abbrev pub synth_text : NetValue → Metric → ℕ → Simplified → Ending → Bytes
 synth_text exact metric bound s Netlist = blif_text s.net
-synth_text exact metric bound s Formula = []
+synth_text exact metric bound s Formula = dimacs_text (miter exact s.net metric s.maximum)
 synth_text exact metric bound s Log = []
 synth_text exact metric bound s Vectors = vectors_text s.witness (all_vectors (input_count exact))
 synth_text exact metric bound s Report = synth_report exact metric bound s

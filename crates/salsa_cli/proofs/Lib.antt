@@ -3,3 +3,4 @@ pub mod FilesInOrder
 pub mod InputReadings
 pub mod SmallNets
 pub mod SynthAnswers
+pub mod Preparing

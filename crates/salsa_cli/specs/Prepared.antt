@@ -4,6 +4,7 @@ use Rattle.semantics.specs.Texts.{Bytes}
 use Rattle.semantics.specs.Net.{NetValue}
 use Rattle.semantics.specs.Error.{Metric}
 use Rattle.semantics.specs.Blif.{blif_text}
+use Rattle.proof_semantics.specs.Formula.{dimacs_text}
 use Rattle.outside_semantics.specs.WrittenFiles.{File}
 use Rattle.job_semantics.specs.Synthesis.{Simplified, IsSimplifiedFrom, synth_files, synth_report}
 use Rattle.salsa_cli.specs.declared.delivery.Prepared.{Prepared}
@@ -12,6 +13,7 @@ use Rattle.salsa_cli.specs.declared.delivery.Prepared.{Prepared}
 abbrev pub prepared_files : Prepared → List File
 prepared_files p =
     record { name = p.netlist_name; text = blif_text p.net }
+    ∷ record { name = p.formula_name; text = dimacs_text p.formula }
     ∷ record { name = p.vectors_name; text = string_bytes p.vectors }
     ∷ record { name = p.report_name; text = string_bytes p.report }
     ∷ []

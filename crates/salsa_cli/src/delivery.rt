@@ -1,11 +1,14 @@
 //! The files of a bundle, one after another, and then the report. From here on no memory is taken.
 ghost use Rattle.std.specs.Prelude.{◌≡◌, [], ◌∷◌, string_bytes, OnOk, OnErr};
 ghost use Rattle.semantics.specs.Blif.{blif_text};
+ghost use Rattle.proof_semantics.specs.Formula.{dimacs_text};
 ghost use Rattle.outside_semantics.specs.WrittenFiles.{FilesWritten, FilesCutShort};
 ghost use Rattle.salsa_cli.specs.Delivered.{Delivers, WasCutShort};
 ghost use Rattle.salsa_cli.specs.Prepared.{prepared_files};
 
 use blif_text::writing::write_blif;
+use cnf_core::cnf::Cnf;
+use cnf_core::dimacs::write_dimacs;
 use file_core::append::{append_all, put_all};
 use file_core::fault::FileFault;
 use file_core::files::Files;
@@ -18,6 +21,8 @@ use net_core::net::Net;
 pub struct Prepared {
     pub netlist_name: Word,
     pub net: Net,
+    pub formula_name: Word,
+    pub formula: Cnf,
     pub vectors_name: Word,
     pub vectors: String,
     pub report_name: Word,
@@ -52,6 +57,23 @@ fn write_netlist<F: Files>(files: &mut F, name: &[u8], net: &Net) -> Result<(), 
     write_blif(net, files)
 }
 
+/// Makes a file that holds the formula.
+fn write_formula<F: Files>(files: &mut F, name: &[u8], formula: &Cnf) -> Result<(), FileFault>
+    ensures ok { OnOk result
+        (FilesWritten
+        (F.told files.old)
+        (F.told files.new)
+        (record { name = name.now; text = dimacs_text formula.now } ∷ [])) }
+    ensures err { OnErr result
+        (FilesCutShort
+        (F.told files.old)
+        (F.told files.new)
+        (record { name = name.now; text = dimacs_text formula.now } ∷ [])) }
+{
+    files.create(name)?;
+    write_dimacs(formula, files)
+}
+
 /// Makes the files, one after another.
 fn write_files<F: Files>(files: &mut F, bundle: &Prepared) -> Result<(), FileFault>
     ensures ok { OnOk result (FilesWritten (F.told files.old) (F.told files.new) (prepared_files bundle.now)) }
@@ -59,6 +81,7 @@ fn write_files<F: Files>(files: &mut F, bundle: &Prepared) -> Result<(), FileFau
         (FilesCutShort (F.told files.old) (F.told files.new) (prepared_files bundle.now)) }
 {
     write_netlist(files, bundle.netlist_name.bytes(), &bundle.net)?;
+    write_formula(files, bundle.formula_name.bytes(), &bundle.formula)?;
     write_text(
         files,
         bundle.vectors_name.bytes(),

@@ -7,6 +7,7 @@ mod counted;
 mod decimal;
 mod delivery;
 mod input;
+mod miter;
 mod reading;
 mod real_files;
 mod real_sink;

@@ -8,6 +8,7 @@ ghost use Rattle.salsa_cli.specs.Run.{SynthAnswer};
 use crate::bundle_names::bundle_name;
 use crate::delivery::{Prepared, deliver};
 use crate::input::{NoNet, read_net};
+use crate::miter::miter;
 use crate::report::{Counts, report, vectors};
 use crate::status::Status;
 use file_core::files::Files;
@@ -29,6 +30,7 @@ fn prepare(alloc: Global, exact: &Net, bound: u128, stem: &[u8]) -> Result<Prepa
 {
     let old_tables = u64::from(exact.tables());
     let simple = simplify(alloc, exact, Metric::Abs, bound)?;
+    let formula = miter(alloc, exact, &simple.net, Metric::Abs, simple.maximum)?;
     let witness = simple.witness.as_slice();
     let counts = Counts {
         old_tables,
@@ -41,6 +43,8 @@ fn prepare(alloc: Global, exact: &Net, bound: u128, stem: &[u8]) -> Result<Prepa
     Ok(Prepared {
         netlist_name: bundle_name(alloc, stem, Ending::Netlist)?,
         net: simple.net,
+        formula_name: bundle_name(alloc, stem, Ending::Formula)?,
+        formula,
         vectors_name: bundle_name(alloc, stem, Ending::Vectors)?,
         vectors,
         report_name: bundle_name(alloc, stem, Ending::Report)?,

@@ -21,8 +21,15 @@ use std::test::Fail;
 const HALF_ADDER: &[u8] =
     b".model ha\n.inputs a b\n.outputs s c\n.names a b s\n10 1\n01 1\n.names a b c\n11 1\n.end\n";
 
+const BOTH_CONSTANT: &[u8] = b".model ha\n.inputs a b\n.outputs s c\n.names s\n.names c\n.end\n";
+
 const SUM_CONSTANT: &[u8] =
     b".model ha\n.inputs a b\n.outputs s c\n.names s\n.names a b c\n11 1\n.end\n";
+
+/// The first line of the formula of the half adder and the net with its constant sum, and the formula's length in bytes.
+const FORMULA_HEADER: &[u8] = b"p cnf 76 246\n";
+
+const FORMULA_LENGTH: usize = 2391;
 
 const VECTORS: &[u8] = b"10\n00\n10\n01\n11\n";
 
@@ -74,6 +81,14 @@ fn holds_at_most(files: &MemFiles, name: &[u8], text: &[u8]) -> bool {
     }
 }
 
+/// Whether the name is held with a text that begins with these bytes.
+fn begins(files: &MemFiles, name: &[u8], front: &[u8]) -> bool {
+    match files.bytes(name) {
+        Some(bytes) => bytes.starts_with(front),
+        None => false,
+    }
+}
+
 /// One run on the words over files that hold `ha.blif` with the text.
 #[derive(Drop)]
 struct Run {
@@ -105,11 +120,12 @@ fn run_on(
 
 #[test]
 fn netlists_that_are_simplified(rt: HostRuntime) -> Result<(), Fail> {
-    let rows: [(&[u8], &[u8], &[u8], &[u8], &[u8]); 6] = [
+    let rows: [(&[u8], &[u8], &[u8], &[u8], &[u8], &[u8]); 6] = [
         (
             b"synth abs 3 1 ha.blif out",
             HALF_ADDER,
-            b".model ha\n.inputs a b\n.outputs s c\n.names s\n.names c\n.end\n",
+            BOTH_CONSTANT,
+            b"p cnf 75 242\n",
             b"11\n00\n10\n01\n11\n",
             b"salsa 1\nmetric abs\nbound 3\nmaximum 2\nwitness 11\ntables 2 2\nliterals 6 0\nminimal no\n",
         ),
@@ -117,6 +133,7 @@ fn netlists_that_are_simplified(rt: HostRuntime) -> Result<(), Fail> {
             b"synth abs 1 1 ha.blif out",
             HALF_ADDER,
             SUM_CONSTANT,
+            FORMULA_HEADER,
             VECTORS,
             REPORT,
         ),
@@ -124,6 +141,7 @@ fn netlists_that_are_simplified(rt: HostRuntime) -> Result<(), Fail> {
             b"synth abs 0 1 ha.blif out",
             HALF_ADDER,
             HALF_ADDER,
+            b"p cnf 78 254\n",
             b"00\n00\n10\n01\n11\n",
             b"salsa 1\nmetric abs\nbound 0\nmaximum 0\nwitness 00\ntables 2 2\nliterals 6 6\nminimal no\n",
         ),
@@ -131,6 +149,7 @@ fn netlists_that_are_simplified(rt: HostRuntime) -> Result<(), Fail> {
             b"synth abs 0 1 ha.blif out",
             b".model k\n.outputs y\n.names y\n1\n.end\n",
             b".model k\n.inputs\n.outputs y\n.names y\n1\n.end\n",
+            b"p cnf 44 138\n",
             b"\n\n",
             b"salsa 1\nmetric abs\nbound 0\nmaximum 0\nwitness \ntables 1 1\nliterals 0 0\nminimal no\n",
         ),
@@ -138,6 +157,7 @@ fn netlists_that_are_simplified(rt: HostRuntime) -> Result<(), Fail> {
             b"synth abs 0 1 ha.blif out",
             b".model w\n.inputs a\n.outputs a\n.end\n",
             b".model w\n.inputs a\n.outputs a\n.end\n",
+            b"p cnf 41 132\n",
             b"0\n0\n1\n",
             b"salsa 1\nmetric abs\nbound 0\nmaximum 0\nwitness 0\ntables 0 0\nliterals 0 0\nminimal no\n",
         ),
@@ -145,14 +165,16 @@ fn netlists_that_are_simplified(rt: HostRuntime) -> Result<(), Fail> {
             b"synth abs 0 1 ha.blif out",
             b".model t # note \\\r\n.inputs a \\\r\n b\r\n.outputs y\r\n.names a b y\r\n11 1\r\n.end\r\n",
             b".model t\n.inputs a b\n.outputs y\n.names a b y\n11 1\n.end\n",
+            b"p cnf 46 142\n",
             b"00\n00\n10\n01\n11\n",
             b"salsa 1\nmetric abs\nbound 0\nmaximum 0\nwitness 00\ntables 1 1\nliterals 2 2\nminimal no\n",
         ),
     ];
-    for (line, text, netlist, vectors, report) in rows {
+    for (line, text, netlist, header, vectors, report) in rows {
         let done = run_on(&rt, line, text, 64, 0, 0)?;
         assert_eq!(rt; done.status.exit(), 0);
         assert!(rt; holds(&done.files, b"out.blif", Some(netlist)));
+        assert!(rt; begins(&done.files, b"out.cnf", header));
         assert!(rt; holds(&done.files, b"out.wit", Some(vectors)));
         assert!(rt; holds(&done.files, b"out.txt", Some(report)));
         assert!(rt; holds(&done.files, b"ha.blif", Some(text)));
@@ -251,6 +273,14 @@ fn texts_that_are_refused(rt: HostRuntime) -> Result<(), Fail> {
     Ok(())
 }
 
+/// Whether the formula of the constant sum is held whole.
+fn holds_formula(files: &MemFiles) -> bool {
+    match files.bytes(b"out.cnf") {
+        Some(bytes) => bytes.starts_with(FORMULA_HEADER) && bytes.len() == FORMULA_LENGTH,
+        None => false,
+    }
+}
+
 /// Whether the files are as they are when one of them could not be written whole: those before it are whole, and those
 /// after it are not there.
 fn is_cut_short(files: &MemFiles, netlist: &[u8], vectors: &[u8], report: &[u8]) -> bool {
@@ -259,7 +289,8 @@ fn is_cut_short(files: &MemFiles, netlist: &[u8], vectors: &[u8], report: &[u8])
     holds_at_most(files, b"out.blif", netlist)
         && holds_at_most(files, b"out.wit", vectors)
         && holds_at_most(files, b"out.txt", report)
-        && (netlist_whole || holds(files, b"out.wit", None))
+        && (netlist_whole || holds(files, b"out.cnf", None))
+        && (holds_formula(files) || holds(files, b"out.wit", None))
         && (vectors_whole || holds(files, b"out.txt", None))
 }
 
@@ -285,7 +316,7 @@ fn is_cut_in_turn(files: &MemFiles, late: u64) -> bool {
 #[test]
 fn each_call_on_files_fails_in_turn(rt: HostRuntime) -> Result<(), Fail> {
     let line = b"synth abs 1 1 ha.blif out";
-    for chunk in [1, 3, 64] {
+    for chunk in [7, 64] {
         assert!(rt; 0 < chunk);
         let mut first = 1000;
         let mut done = false;
@@ -315,6 +346,7 @@ fn each_call_on_files_fails_in_turn(rt: HostRuntime) -> Result<(), Fail> {
 fn is_left_by_the_sink(ended: &Run) -> bool {
     ended.status.exit() == 6
         && holds(&ended.files, b"out.blif", Some(SUM_CONSTANT))
+        && holds_formula(&ended.files)
         && holds(&ended.files, b"out.wit", Some(VECTORS))
         && holds(&ended.files, b"out.txt", Some(REPORT))
         && REPORT.starts_with(ended.sink.bytes())
