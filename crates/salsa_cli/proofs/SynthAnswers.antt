@@ -100,21 +100,21 @@ not_quiet_read {input} {stem} {old} fault quiet =
     ]
 
 -- an answer without a fault is the one that the reading of IN asks for
-answers_reading : (bound : ℕ) (input stem : Bytes) (old new : FilesTold) (said says : SinkTold) (status : Status)
-    → SynthAnswer bound input stem old new said says status → status ≢ ReadFault → status ≢ WriteFault
+answers_reading : (metric : Metric) (bound : ℕ) (input stem : Bytes) (old new : FilesTold) (said says : SinkTold) (status : Status)
+    → SynthAnswer metric bound input stem old new said says status → status ≢ ReadFault → status ≢ WriteFault
     → WhereHeld old input (λ a. IsAnswerTo (blif_reading (bytes_of a input) input_limit) status)
-answers_reading bound input stem old new said says Done answer read written = λ a told has. (answer.exact, answer.right.read.at_entry a told has, answer.right.few_inputs)
-answers_reading bound input stem old new said says Usage answer read written = absurd answer
-answers_reading bound input stem old new said says (Text reason) answer read written = λ a told has. (answer.0, answer.2.refused.at_entry a told has, answer.1)
-answers_reading bound input stem old new said says NotYet answer read written = λ a told has. (answer.exact, answer.read.at_entry a told has, answer.many_inputs)
-answers_reading bound input stem old new said says NoMemory answer read written = λ a told has. tt
-answers_reading bound input stem old new said says ReadFault answer read written = absurd (read refl)
-answers_reading bound input stem old new said says WriteFault answer read written = absurd (written refl)
+answers_reading metric bound input stem old new said says Done answer read written = λ a told has. (answer.exact, answer.right.read.at_entry a told has, answer.right.few_inputs)
+answers_reading metric bound input stem old new said says Usage answer read written = absurd answer
+answers_reading metric bound input stem old new said says (Text reason) answer read written = λ a told has. (answer.0, answer.2.refused.at_entry a told has, answer.1)
+answers_reading metric bound input stem old new said says NotYet answer read written = λ a told has. (answer.exact, answer.read.at_entry a told has, answer.many_inputs)
+answers_reading metric bound input stem old new said says NoMemory answer read written = λ a told has. tt
+answers_reading metric bound input stem old new said says ReadFault answer read written = absurd (read refl)
+answers_reading metric bound input stem old new said says WriteFault answer read written = absurd (written refl)
 
 -- a quiet call has no fault, and is answered as the reading of IN asks
-pub quiet_ends : (bound : ℕ) (input stem : Bytes) (old new : FilesTold) (said says : SinkTold) (status : Status)
-    → SynthAnswer bound input stem old new said says status → IsQuietSynth input stem old new said says → EndsWell input old status
-quiet_ends bound input stem old new said says status answer quiet =
-    let no_read : status ≢ ReadFault = λ is. not_quiet_read (subst (SynthAnswer bound input stem old new said says) is answer) quiet in
-    let no_write : status ≢ WriteFault = λ is. not_quiet (subst (SynthAnswer bound input stem old new said says) is answer) quiet in
-    record { read = no_read; written = no_write; answers = answers_reading bound input stem old new said says status answer no_read no_write }
+pub quiet_ends : (metric : Metric) (bound : ℕ) (input stem : Bytes) (old new : FilesTold) (said says : SinkTold) (status : Status)
+    → SynthAnswer metric bound input stem old new said says status → IsQuietSynth input stem old new said says → EndsWell input old status
+quiet_ends metric bound input stem old new said says status answer quiet =
+    let no_read : status ≢ ReadFault = λ is. not_quiet_read (subst (SynthAnswer metric bound input stem old new said says) is answer) quiet in
+    let no_write : status ≢ WriteFault = λ is. not_quiet (subst (SynthAnswer metric bound input stem old new said says) is answer) quiet in
+    record { read = no_read; written = no_write; answers = answers_reading metric bound input stem old new said says status answer no_read no_write }

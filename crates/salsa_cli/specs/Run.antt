@@ -2,7 +2,7 @@
 use Rattle.std.specs.Prelude.{◌≡◌, ◌≢◌, ℕ, ◌<◌, ◌≤◌, Some, Result, Ok, Err}
 use Rattle.semantics.specs.Texts.{Bytes}
 use Rattle.semantics.specs.Net.{NetValue, input_count}
-use Rattle.semantics.specs.Error.{abs, rel, ham}
+use Rattle.semantics.specs.Error.{Metric}
 use Rattle.outside_semantics.specs.Outside.{FilesTold, SinkTold, bytes_of}
 use Rattle.blif_semantics.specs.Reading.{input_limit, Refusal, blif_reading}
 use Rattle.job_semantics.specs.Job.{Job, synth, check, demo}
@@ -12,11 +12,9 @@ use Rattle.blif_text.specs.declared.refusal.BlifRefusal.{BlifRefusal}
 use Rattle.salsa_cli.specs.declared.status.Status.{Status}
 use Rattle.salsa_cli.specs.declared.status.Status.TheVariants.{Done, Usage, Text, NotYet, NoMemory, ReadFault, WriteFault}
 
--- the jobs that are not carried out so far: all but synthesis with the absolute error
+-- the jobs that are not carried out so far: all but synthesis
 abbrev pub IsLaterJob : Job → Type 0
-IsLaterJob (synth abs bound conflicts input stem) = ⊥
-IsLaterJob (synth rel bound conflicts input stem) = Unit {0}
-IsLaterJob (synth ham bound conflicts input stem) = Unit {0}
+IsLaterJob (synth metric bound conflicts input stem) = ⊥
 IsLaterJob (check metric bound input stem) = Unit {0}
 IsLaterJob (demo width bound conflicts) = Unit {0}
 
@@ -24,15 +22,15 @@ IsLaterJob (demo width bound conflicts) = Unit {0}
 abbrev pub SynthText : BlifRefusal → Bytes → FilesTold → FilesTold → SinkTold → SinkTold → Type 0
 SynthText reason input old new said says = (refusal : Refusal) × (refusal_of reason ≡ Some refusal) × SynthRefused refusal input old new said says
 
--- what a synth job with the absolute error comes to, by its answer
-abbrev pub SynthAnswer : ℕ → Bytes → Bytes → FilesTold → FilesTold → SinkTold → SinkTold → Status → Type 0
-SynthAnswer bound input stem old new said says Done = SynthDone abs bound input stem old new said says
-SynthAnswer bound input stem old new said says Usage = ⊥
-SynthAnswer bound input stem old new said says (Text reason) = SynthText reason input old new said says
-SynthAnswer bound input stem old new said says NotYet = SynthNotYet input old new said says
-SynthAnswer bound input stem old new said says NoMemory = IsUntouched input old new said says
-SynthAnswer bound input stem old new said says ReadFault = SynthReadFault input old new said says
-SynthAnswer bound input stem old new said says WriteFault = SynthWriteFault abs bound input stem old new said says
+-- what a synth job comes to, by its answer
+abbrev pub SynthAnswer : Metric → ℕ → Bytes → Bytes → FilesTold → FilesTold → SinkTold → SinkTold → Status → Type 0
+SynthAnswer metric bound input stem old new said says Done = SynthDone metric bound input stem old new said says
+SynthAnswer metric bound input stem old new said says Usage = ⊥
+SynthAnswer metric bound input stem old new said says (Text reason) = SynthText reason input old new said says
+SynthAnswer metric bound input stem old new said says NotYet = SynthNotYet input old new said says
+SynthAnswer metric bound input stem old new said says NoMemory = IsUntouched input old new said says
+SynthAnswer metric bound input stem old new said says ReadFault = SynthReadFault input old new said says
+SynthAnswer metric bound input stem old new said says WriteFault = SynthWriteFault metric bound input stem old new said says
 
 -- the answer that the reading of IN asks for, unless memory is wanting
 abbrev pub IsAnswerTo : Result NetValue Refusal → Status → Type 0

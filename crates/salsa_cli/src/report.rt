@@ -1,14 +1,15 @@
 //! The report and the vectors text of a bundle, made in memory before any file is touched.
 ghost use Rattle.std.specs.Prelude.{◌≡◌, ◌≤◌, length, ℕ, false, [], ◌∷◌, ◌++◌, decimal, string_bytes, IfOk, OnOk};
 ghost use Rattle.semantics.specs.Texts.{bit_byte, bits_word, line_text};
-ghost use Rattle.semantics.specs.Error.{abs};
-ghost use Rattle.job_semantics.specs.Report.{report_text, vectors_text};
+ghost use Rattle.joint_net.specs.Metric.{meaning};
+ghost use Rattle.job_semantics.specs.Report.{metric_word, report_text, vectors_text};
 ghost use Rattle.semantics.specs.Vectors.{bits_of, all_vectors};
 
+use joint_net::metric::Metric;
 use std::alloc::{AllocError, Global};
 use std::fmt::Write;
 
-/// What the report says besides its metric, the absolute error. `old` is the netlist as it was read, and `new` as written.
+/// How large the netlists are. `old` is the netlist as it was read, and `new` as written.
 #[derive(Clone, Copy, Debug)]
 pub struct Counts {
     pub old_tables: u64,
@@ -65,9 +66,21 @@ fn add_numbers(text: &mut String, key: &str, old: u64, new: u64) -> Result<(), A
     write!(text, "{key} {old} {new}\n")
 }
 
+/// The word of a metric.
+fn metric_word(metric: Metric) -> &'static str
+    ensures { result.now ≡ metric_word (meaning metric) }
+{
+    match metric {
+        Metric::Abs => "abs",
+        Metric::Rel => "rel",
+        Metric::Ham => "ham",
+    }
+}
+
 /// The eight lines of the report of a synthesis that was not shown to be minimal.
 pub fn report(
     alloc: Global,
+    metric: Metric,
     bound: u128,
     maximum: u128,
     witness: &[bool],
@@ -75,7 +88,7 @@ pub fn report(
 ) -> Result<String, AllocError>
     ensures { IfOk result
         (λ s. string_bytes s ≡ report_text (record {
-          metric = abs;
+          metric = meaning metric;
           bound = bound;
           maximum = maximum;
           witness = witness.now;
@@ -89,7 +102,7 @@ pub fn report(
     let bits = bits_text(alloc, witness)?;
     let mut text = String::new(alloc);
     add_word(&mut text, "salsa", "1")?;
-    add_word(&mut text, "metric", "abs")?;
+    add_word(&mut text, "metric", metric_word(metric))?;
     add_number(&mut text, "bound", bound)?;
     add_number(&mut text, "maximum", maximum)?;
     add_word(&mut text, "witness", bits.as_str())?;

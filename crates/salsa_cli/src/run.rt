@@ -4,7 +4,7 @@ ghost use Rattle.std.specs.FinMap.{contains_key};
 ghost use Rattle.outside_semantics.specs.Outside.{bytes_of};
 ghost use Rattle.blif_semantics.specs.Reading.{input_limit, blif_reading};
 ghost use Rattle.semantics.specs.Texts.{Bytes};
-ghost use Rattle.semantics.specs.Error.{abs};
+ghost use Rattle.semantics.specs.Error.{Metric};
 ghost use Rattle.job_semantics.specs.Job.{Job, synth, job_of};
 ghost use Rattle.job_semantics.specs.Synthesis.{IsQuietSynth};
 ghost use Rattle.file_core.specs.Sure.{sure_told, sure_sink_told};
@@ -12,7 +12,7 @@ ghost use Rattle.salsa_cli.specs.Run.{IsLaterJob, SynthAnswer, IsAnswerTo, EndsW
 
 use crate::status::{Outcome, Status};
 use crate::synthesis::synthesize;
-use crate::words::{Command, MetricWord, command_named};
+use crate::words::{Command, command_named};
 use file_core::files::Files;
 use file_core::sink::Sink;
 use file_core::sure_files::SureFiles;
@@ -26,18 +26,18 @@ pub fn run<F: Files, K: Sink>(alloc: Global, words: &[Word], files: &mut F, say:
     ensures usage { (result.status ≡ Status.Usage) ↔ (job_of words.now ≡ None) }
     ensures usage_touches_nothing { result.status ≡ Status.Usage → (files.new ≡ files.old) × (say.new ≡ say.old) }
 
-    // A job of another kind than a synthesis with the absolute error is `NotYet`, and then nothing is touched.
+    // A job of another kind than a synthesis is `NotYet`, and then nothing is touched.
     ensures later_job { (job : Job) → job_of words.now ≡ Some job → IsLaterJob job
         → (result.status ≡ Status.NotYet) × (files.new ≡ files.old) × (say.new ≡ say.old) }
 
-    // What each answer to a synthesis with the absolute error says.
-    ensures synthesis { (bound conflicts : ℕ) (input stem : Bytes)
-        → job_of words.now ≡ Some (synth abs bound conflicts input stem)
-        → SynthAnswer bound input stem (F.told files.old) (F.told files.new) (K.told say.old) (K.told say.new) result.status }
+    // What each answer to a synthesis says.
+    ensures synthesis { (metric : Metric) (bound conflicts : ℕ) (input stem : Bytes)
+        → job_of words.now ≡ Some (synth metric bound conflicts input stem)
+        → SynthAnswer metric bound input stem (F.told files.old) (F.told files.new) (K.told say.old) (K.told say.new) result.status }
 
     // A quiet call has no fault, and ends as the reading of IN asks, unless memory is wanting.
-    ensures complete { (bound conflicts : ℕ) (input stem : Bytes)
-        → job_of words.now ≡ Some (synth abs bound conflicts input stem)
+    ensures complete { (metric : Metric) (bound conflicts : ℕ) (input stem : Bytes)
+        → job_of words.now ≡ Some (synth metric bound conflicts input stem)
         → IsQuietSynth input stem (F.told files.old) (F.told files.new) (K.told say.old) (K.told say.new)
         → EndsWell input (F.told files.old) result.status }
 {
@@ -47,14 +47,14 @@ pub fn run<F: Files, K: Sink>(alloc: Global, words: &[Word], files: &mut F, say:
         },
         Some(
             Command::Synth {
-                metric: MetricWord::Abs,
+                metric,
                 bound,
                 input,
                 stem,
                 ..
             },
         ) => Outcome {
-            status: synthesize(alloc, bound, input, stem, files, say),
+            status: synthesize(alloc, metric, bound, input, stem, files, say),
         },
         Some(_) => Outcome {
             status: Status::NotYet,
@@ -73,13 +73,13 @@ pub fn run_surely(
     ensures usage_touches_nothing { result.status ≡ Status.Usage → (files.new ≡ files.old) × (say.new ≡ say.old) }
     ensures later_job { (job : Job) → job_of words.now ≡ Some job → IsLaterJob job
         → (result.status ≡ Status.NotYet) × (files.new ≡ files.old) × (say.new ≡ say.old) }
-    ensures synthesis { (bound conflicts : ℕ) (input stem : Bytes)
-        → job_of words.now ≡ Some (synth abs bound conflicts input stem)
-        → SynthAnswer bound input stem (sure_told files.old) (sure_told files.new) sure_sink_told sure_sink_told result.status }
+    ensures synthesis { (metric : Metric) (bound conflicts : ℕ) (input stem : Bytes)
+        → job_of words.now ≡ Some (synth metric bound conflicts input stem)
+        → SynthAnswer metric bound input stem (sure_told files.old) (sure_told files.new) sure_sink_told sure_sink_told result.status }
     ensures read { result.status ≢ Status.ReadFault }
     ensures write { result.status ≢ Status.WriteFault }
-    ensures answers { (bound conflicts : ℕ) (input stem : Bytes)
-        → job_of words.now ≡ Some (synth abs bound conflicts input stem)
+    ensures answers { (metric : Metric) (bound conflicts : ℕ) (input stem : Bytes)
+        → job_of words.now ≡ Some (synth metric bound conflicts input stem)
         → files.old.told ≡ true → IsTrue (contains_key files.old.given input)
         → IsAnswerTo (blif_reading (bytes_of files.old.given input) input_limit) result.status }
 {

@@ -1,7 +1,7 @@
 //! A synth job: IN is read, everything is computed, and only then a file is touched.
 ghost use Rattle.std.specs.Prelude.{◌≤◌, IfOk};
 ghost use Rattle.semantics.specs.Net.{input_count, IsSmall};
-ghost use Rattle.semantics.specs.Error.{abs};
+ghost use Rattle.joint_net.specs.Metric.{meaning};
 ghost use Rattle.salsa_cli.specs.Prepared.{IsPrepared};
 ghost use Rattle.salsa_cli.specs.Run.{SynthAnswer};
 
@@ -23,14 +23,20 @@ use synth_core::simplify::simplify;
 const MOST_INPUTS: u32 = 8;
 
 /// The files and the report of the simplification of a net.
-fn prepare(alloc: Global, exact: &Net, bound: u128, stem: &[u8]) -> Result<Prepared, AllocError>
+fn prepare(
+    alloc: Global,
+    exact: &Net,
+    metric: Metric,
+    bound: u128,
+    stem: &[u8],
+) -> Result<Prepared, AllocError>
     requires few_inputs { input_count exact.now ≤ 8 }
     requires small { IsSmall exact.now }
-    ensures { IfOk result (IsPrepared exact.now abs bound stem.now) }
+    ensures { IfOk result (IsPrepared exact.now (meaning metric) bound stem.now) }
 {
     let old_tables = u64::from(exact.tables());
-    let simple = simplify(alloc, exact, Metric::Abs, bound)?;
-    let formula = miter(alloc, exact, &simple.net, Metric::Abs, simple.maximum)?;
+    let simple = simplify(alloc, exact, metric, bound)?;
+    let formula = miter(alloc, exact, &simple.net, metric, simple.maximum)?;
     let witness = simple.witness.as_slice();
     let counts = Counts {
         old_tables,
@@ -38,7 +44,7 @@ fn prepare(alloc: Global, exact: &Net, bound: u128, stem: &[u8]) -> Result<Prepa
         old_literals: exact.literals(),
         new_literals: simple.net.literals(),
     };
-    let report = report(alloc, bound, simple.maximum, witness, counts)?;
+    let report = report(alloc, metric, bound, simple.maximum, witness, counts)?;
     let vectors = vectors(alloc, witness)?;
     Ok(Prepared {
         netlist_name: bundle_name(alloc, stem, Ending::Netlist)?,
@@ -52,9 +58,10 @@ fn prepare(alloc: Global, exact: &Net, bound: u128, stem: &[u8]) -> Result<Prepa
     })
 }
 
-/// Carries out a synth job with the absolute error.
+/// Carries out a synth job.
 pub fn synthesize<F: Files, K: Sink>(
     alloc: Global,
+    metric: Metric,
     bound: u128,
     input: &[u8],
     stem: &[u8],
@@ -62,6 +69,7 @@ pub fn synthesize<F: Files, K: Sink>(
     say: &mut K,
 ) -> Status
     ensures { SynthAnswer
+        (meaning metric)
         bound
         input.now
         stem.now
@@ -80,7 +88,7 @@ pub fn synthesize<F: Files, K: Sink>(
     if exact.inputs() > MOST_INPUTS {
         return Status::NotYet;
     }
-    let Ok(bundle) = prepare(alloc, &exact, bound, stem) else {
+    let Ok(bundle) = prepare(alloc, &exact, metric, bound, stem) else {
         return Status::NoMemory;
     };
     match deliver(&bundle, files, say) {

@@ -120,7 +120,7 @@ fn run_on(
 
 #[test]
 fn netlists_that_are_simplified(rt: HostRuntime) -> Result<(), Fail> {
-    let rows: [(&[u8], &[u8], &[u8], &[u8], &[u8], &[u8]); 6] = [
+    let rows: [(&[u8], &[u8], &[u8], &[u8], &[u8], &[u8]); 9] = [
         (
             b"synth abs 3 1 ha.blif out",
             HALF_ADDER,
@@ -144,6 +144,30 @@ fn netlists_that_are_simplified(rt: HostRuntime) -> Result<(), Fail> {
             b"p cnf 78 254\n",
             b"00\n00\n10\n01\n11\n",
             b"salsa 1\nmetric abs\nbound 0\nmaximum 0\nwitness 00\ntables 2 2\nliterals 6 6\nminimal no\n",
+        ),
+        (
+            b"synth ham 1 1 ha.blif out",
+            HALF_ADDER,
+            BOTH_CONSTANT,
+            b"p cnf 30 71\n",
+            VECTORS,
+            b"salsa 1\nmetric ham\nbound 1\nmaximum 1\nwitness 10\ntables 2 2\nliterals 6 0\nminimal no\n",
+        ),
+        (
+            b"synth rel 999999 1 ha.blif out",
+            HALF_ADDER,
+            HALF_ADDER,
+            b"p cnf 1829 6760\n",
+            b"00\n00\n10\n01\n11\n",
+            b"salsa 1\nmetric rel\nbound 999999\nmaximum 0\nwitness 00\ntables 2 2\nliterals 6 6\nminimal no\n",
+        ),
+        (
+            b"synth rel 1000000 1 ha.blif out",
+            HALF_ADDER,
+            BOTH_CONSTANT,
+            b"p cnf 2375 8822\n",
+            VECTORS,
+            b"salsa 1\nmetric rel\nbound 1000000\nmaximum 1000000\nwitness 10\ntables 2 2\nliterals 6 0\nminimal no\n",
         ),
         (
             b"synth abs 0 1 ha.blif out",
@@ -201,7 +225,7 @@ fn words_and_their_answers(rt: HostRuntime) -> Result<(), Fail> {
         (b"demo 33 1 1", 1),
         (b"demo 0 1 1", 1),
         (b"synth abs 19342813113834066795298815 1 ha.blif b", 0),
-        (b"synth rel 1 1 ha.blif b", 9),
+        (b"synth rel 1 1 ha.blif b", 0),
         (b"check abs 1 ha.blif out", 9),
         (b"demo 1 1 1", 9),
         (b"synth abs 1 1 other.blif b", 5),

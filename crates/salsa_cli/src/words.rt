@@ -1,32 +1,26 @@
 //! The words of the command line, and the job that they name.
 ghost use Rattle.std.specs.Prelude.{◌≡◌, option_map};
 ghost use Rattle.job_semantics.specs.Job.{job_of, synth_of, check_of, demo_of, metric_of, bound_of, conflicts_of, are_file_words};
-ghost use Rattle.salsa_cli.specs.Words.{metric_meaning, job_meaning};
+ghost use Rattle.joint_net.specs.Metric.{meaning};
+ghost use Rattle.salsa_cli.specs.Words.{job_meaning};
 
 use crate::bundle_names::is_bundle_name;
 use crate::decimal::number_from_to;
 use file_core::word::Word;
-
-/// The error that a job names.
-#[derive(Clone, Copy, Debug, PartialEq, Eq)]
-pub enum MetricWord {
-    Abs,
-    Rel,
-    Ham,
-}
+use joint_net::metric::Metric;
 
 /// A job with its values. `input` and `stem` are names of files.
 #[derive(Clone, Copy, Debug)]
 pub enum Command<'a> {
     Synth {
-        metric: MetricWord,
+        metric: Metric,
         bound: u128,
         conflicts: u32,
         input: &'a [u8],
         stem: &'a [u8],
     },
     Check {
-        metric: MetricWord,
+        metric: Metric,
         bound: u128,
         input: &'a [u8],
         stem: &'a [u8],
@@ -40,15 +34,15 @@ pub enum Command<'a> {
 
 const LARGEST_BOUND: u128 = 19342813113834066795298815;
 
-fn metric(word: &[u8]) -> Option<MetricWord>
-    ensures { option_map metric_meaning result ≡ metric_of word.now }
+fn metric(word: &[u8]) -> Option<Metric>
+    ensures { option_map meaning result ≡ metric_of word.now }
 {
     if word == b"abs".as_slice() {
-        Some(MetricWord::Abs)
+        Some(Metric::Abs)
     } else if word == b"rel".as_slice() {
-        Some(MetricWord::Rel)
+        Some(Metric::Rel)
     } else if word == b"ham".as_slice() {
-        Some(MetricWord::Ham)
+        Some(Metric::Ham)
     } else {
         None
     }

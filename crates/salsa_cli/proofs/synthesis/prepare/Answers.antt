@@ -1,5 +1,6 @@
 use Rattle.std.proofs.Common.{refl, ◌∙◌, arith}
-use Rattle.semantics.specs.Error.{abs}
+use Rattle.joint_net.specs.Metric.{meaning}
+use Rattle.job_semantics.specs.Synthesis.{Simplified}
 use Rattle.salsa_cli.specs.declared.delivery.Prepared.{Prepared}
 use Rattle.salsa_cli.proofs.SmallNets.{literals_at_most}
 use Rattle.salsa_cli.proofs.Preparing.{vectors_are, report_is, IsPrepared-from}
@@ -18,7 +19,8 @@ literals-requires-2 c =
 
 pub returns : goal.returns
 returns c =
-    let simple = c.in_ok-simple.simple in
+    let simple : Simplified =
+    record { net = c.in_ok-simple.simple.net; maximum = c.in_ok-simple.simple.maximum; witness = c.in_ok-simple.simple.witness } in
     let ready : Prepared =
     record {
       netlist_name = c.in_ok-bundle_name.field-0;
@@ -30,10 +32,10 @@ returns c =
       report_name = c.in_ok-bundle_name-4.field-0;
       report = c.in_ok-report.report;
     } in
-    IsPrepared-from ready (record { net = simple.net; maximum = simple.maximum; witness = simple.witness }) c.in_ok-simple.ensures.simplified
+    IsPrepared-from ready simple c.in_ok-simple.ensures.simplified
     c.in_ok-bundle_name.ensures refl
     c.in_ok-bundle_name-2.ensures (c.formula.view_is ∙ c.in_ok-formula.ensures)
     c.in_ok-bundle_name-3.ensures (vectors_are c.as_slice-witness.ensures c.in_ok-simple.ensures.simplified.first.width c.in_ok-vectors.ensures)
     c.in_ok-bundle_name-4.ensures
-    (report_is c.args.exact.now abs c.args.bound (record { net = simple.net; maximum = simple.maximum; witness = simple.witness }) c.as_slice-witness.ensures
+    (report_is c.args.exact.now (meaning c.args.metric) c.args.bound simple c.as_slice-witness.ensures
     (c.from-old_tables.ensures ∙ c.tables.ensures.value) (c.from.ensures ∙ c.tables-2.ensures.value) c.literals.ensures.value c.literals-2.ensures.value c.in_ok-report.ensures)
