@@ -1,5 +1,5 @@
 -- What is known of IN, of which a front up to one byte past the limit was read.
-use Rattle.std.proofs.Common.{◌≡◌, ◌+◌, ◌<◌, ◌≤◌, ℕ, Bool, false, not, if◌then◌else◌, length, take, nat_le, Option, Some, None, Result, Ok, Err, inl, inr, refl, ap, sym, subst, ◌∙◌, arith}
+use Rattle.std.proofs.Common.{◌≡◌, ◌+◌, ◌<◌, ℕ, Bool, false, not, if◌then◌else◌, length, take, nat_le, Option, Some, None, Result, Ok, Err, inl, inr, refl, ap, sym, subst, ◌∙◌, arith}
 use Rattle.std.proofs.lemmas.List.{take_all, length-take}
 use Rattle.std.proofs.lemmas.Bool.{cases_lt}
 use Rattle.std.proofs.lemmas.Bool.Decides.{nat_tests}
@@ -13,7 +13,6 @@ use Rattle.file_core.proofs.Told.{held_before}
 use Rattle.blif_text.specs.Refusals.{refusal_of, Tells}
 use Rattle.blif_text.specs.declared.refusal.BlifRefusal.{BlifRefusal}
 use Rattle.salsa_cli.specs.declared.input.NoNet.{NoNet}
-use Rattle.salsa_cli.specs.declared.input.NoNet.TheVariants.{Refused, OutOfMemory}
 use Rattle.salsa_cli.specs.Reading.{TextRead}
 use Rattle.salsa_cli.specs.Input.{NetRead, NetRefused, IsHandedOn, IsSameReason}
 

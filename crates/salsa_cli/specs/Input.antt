@@ -4,9 +4,9 @@ use Rattle.std.specs.FinMap.{contains_key}
 use Rattle.semantics.specs.Texts.{Bytes}
 use Rattle.semantics.specs.Net.{NetValue, IsSmall}
 use Rattle.blif_semantics.specs.Reading.{Refusal}
-use Rattle.outside_semantics.specs.Outside.{FilesTold, Goes, WhereTold}
+use Rattle.outside_semantics.specs.Outside.{FilesTold, WhereTold}
 use Rattle.job_semantics.specs.Input.{IsReadAs, IsRefusedFor}
-use Rattle.job_semantics.specs.Synthesis.{WhereHeld, OfInput}
+use Rattle.job_semantics.specs.Synthesis.{OfInput}
 use Rattle.blif_text.specs.Refusals.{refusal_of}
 use Rattle.blif_text.specs.declared.refusal.BlifRefusal.{BlifRefusal}
 use Rattle.salsa_cli.specs.declared.input.NoNet.{NoNet}
