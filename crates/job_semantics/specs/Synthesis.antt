@@ -1,4 +1,4 @@
--- What a synth job with the absolute error comes to, by its answer. Source: SALSA, simplification within a bound on the error.
+-- What a synth job comes to, by its answer. Source: SALSA, simplification within a bound on the error.
 use Rattle.std.specs.Prelude.{◌≡◌, ◌⊎◌, ℕ, ◌<◌, ◌≤◌, Bool, false, IsTrue, Some, List, []}
 use Rattle.std.specs.FinMap.{contains_key}
 use Rattle.semantics.specs.Texts.{Bytes}
