@@ -3,7 +3,7 @@ use Rattle.std.proofs.Common.{◌≡◌, ◌⊎◌, ℕ, List, [], ◌∷◌, �
 use Rattle.std.specs.List.{AllByRecursion}
 use Rattle.semantics.specs.Net.{NetValue}
 use Rattle.semantics.specs.Error.{Metric}
-use Rattle.chain_semantics.specs.Chain.{IsFirstAllowed, IsInChain, IsChainEnd}
+use Rattle.chain_semantics.specs.Chain.{IsFirstAllowed, IsInChain, IsChainEnd, IsStepBy}
 use Rattle.chain_semantics.specs.Chain.IsInChain.{first, next}
 use Rattle.chain_semantics.specs.ConstantChain.{constant_moves, made_constant, IsAllowedConstant, IsConstantChainEnd}
 
@@ -36,48 +36,58 @@ pub IsFirstAllowed-none : {M : Type 0} (Allowed : M → Type 0) (moves : List M)
 IsFirstAllowed-none Allowed moves m none f =
     none_at Allowed f.before m f.after (subst (AllByRecursion (λ k. ¬ Allowed k)) f.stands none) f.allowed
 
--- a chain goes on from its start: the first allowed move there, and the chain after it
-record GoesOn {S M : Type 0} (moves : S → List M) (Allowed : S → M → Type 0) (step : S → M → S) (start end : S) : Type 0 where
-  move : M
-  is_first : IsFirstAllowed (Allowed start) (moves start) move
-  rest : IsInChain moves Allowed step (step start move) end
+-- where a step has one outcome
+abbrev pub HasOneStep : {S M : Type 0} → (S → M → S → Type 0) → Type 0
+HasOneStep {S = S} {M = M} Step = (s : S) (move : M) (a b : S) → Step s move a → Step s move b → a ≡ b
 
--- one step from the start
-goes_one : {S M : Type 0} (moves : S → List M) (Allowed : S → M → Type 0) (step : S → M → S) (start s : S) (move : M)
-    → s ≡ start → IsFirstAllowed (Allowed s) (moves s) move → GoesOn moves Allowed step start (step s move)
-goes_one moves Allowed step start s move e f =
-    subst (λ t. GoesOn moves Allowed step t (step s move)) e (record { move = move; is_first = f; rest = first })
+module _ {S M : Type 0} (moves : S → List M) (Allowed : S → M → Type 0) (Step : S → M → S → Type 0) where
+  -- a chain goes on from its start: the first allowed move there, the step, and the chain after it
+  record GoesOn (start end : S) : Type 0 where
+    move : M
+    is_first : IsFirstAllowed (Allowed start) (moves start) move
+    after : S
+    step : Step start move after
+    rest : IsInChain moves Allowed Step after end
 
--- a chain from the front: it is still at its start, or it goes on from there
-from_front : {S M : Type 0} (moves : S → List M) (Allowed : S → M → Type 0) (step : S → M → S) (start end : S)
-    → IsInChain moves Allowed step start end → (end ≡ start) ⊎ GoesOn moves Allowed step start end
-from_front moves Allowed step start end first = inl refl
-from_front moves Allowed step start end (next s move h f) =
-    elim (from_front moves Allowed step start s h) [
-      | inl e ↦ inr (goes_one moves Allowed step start s move e f)
-      | inr g ↦ inr (record { move = g.move; is_first = g.is_first; rest = next s move g.rest f })
-    ]
+  -- one step from the start
+  goes_one : (start s t : S) (move : M) → s ≡ start → IsFirstAllowed (Allowed s) (moves s) move → Step s move t → GoesOn start t
+  goes_one start s t move e f step = subst (λ u. GoesOn u t) e (record { move = move; is_first = f; after = t; step = step; rest = first })
 
--- an end is reached from each member of the chain
-pub IsInChain-end : {S M : Type 0} (moves : S → List M) (Allowed : S → M → Type 0) (step : S → M → S) (start a b : S)
-    → IsInChain moves Allowed step start a → IsChainEnd moves Allowed step start b → IsInChain moves Allowed step a b
-IsInChain-end moves Allowed step start a b first end = end.member
-IsInChain-end moves Allowed step start a b (next s move h f) end =
-    elim (from_front moves Allowed step s b (IsInChain-end moves Allowed step start s b h end)) [
-      | inl e ↦ absurd (IsFirstAllowed-none (Allowed s) (moves s) move (subst (λ t. AllByRecursion (λ k. ¬ Allowed t k) (moves t)) e end.none_allowed) f)
-      | inr g ↦ subst (λ m. IsInChain moves Allowed step (step s m) b) (IsFirstAllowed-only (Allowed s) (moves s) g.move move g.is_first f) g.rest
-    ]
+  -- a chain from the front: it is still at its start, or it goes on from there
+  from_front : (start end : S) → IsInChain moves Allowed Step start end → (end ≡ start) ⊎ GoesOn start end
+  from_front start end first = inl refl
+  from_front start end (next s t move h f step) =
+      elim (from_front start s h) [
+        | inl e ↦ inr (goes_one start s t move e f step)
+        | inr g ↦ inr (record { move = g.move; is_first = g.is_first; after = g.after; step = g.step; rest = next s t move g.rest f step })
+      ]
 
--- a chain has one end
-pub IsChainEnd-only : {S M : Type 0} (moves : S → List M) (Allowed : S → M → Type 0) (step : S → M → S) (start a b : S)
-    → IsChainEnd moves Allowed step start a → IsChainEnd moves Allowed step start b → a ≡ b
-IsChainEnd-only moves Allowed step start a b end other =
-    elim (from_front moves Allowed step a b (IsInChain-end moves Allowed step start a b end.member other)) [
-      | inl e ↦ sym e
-      | inr g ↦ absurd (IsFirstAllowed-none (Allowed a) (moves a) g.move end.none_allowed g.is_first)
-    ]
+  -- the chain that goes on with another step is the chain after that step
+  other_step : HasOneStep Step → (s t b : S) (move : M) → IsFirstAllowed (Allowed s) (moves s) move → Step s move t → GoesOn s b → IsInChain moves Allowed Step t b
+  other_step one s t b move f step g =
+      let same : g.move ≡ move = IsFirstAllowed-only (Allowed s) (moves s) g.move move g.is_first f in
+      let at : g.after ≡ t = one s move g.after t (subst (λ m. Step s m g.after) same g.step) step in
+      subst (λ u. IsInChain moves Allowed Step u b) at g.rest
+
+  -- an end is reached from each member of the chain
+  pub IsInChain-end : HasOneStep Step → (start a b : S) → IsInChain moves Allowed Step start a → IsChainEnd moves Allowed Step start b → IsInChain moves Allowed Step a b
+  IsInChain-end one start a b first end = end.member
+  IsInChain-end one start a b (next s t move h f step) end =
+      elim (from_front s b (IsInChain-end one start s b h end)) [
+        | inl e ↦ absurd (IsFirstAllowed-none (Allowed s) (moves s) move (subst (λ u. AllByRecursion (λ k. ¬ Allowed u k) (moves u)) e end.none_allowed) f)
+        | inr g ↦ other_step one s t b move f step g
+      ]
+
+  -- a chain has one end
+  pub IsChainEnd-only : HasOneStep Step → (start a b : S) → IsChainEnd moves Allowed Step start a → IsChainEnd moves Allowed Step start b → a ≡ b
+  IsChainEnd-only one start a b end other =
+      elim (from_front a b (IsInChain-end one start a b end.member other)) [
+        | inl e ↦ sym e
+        | inr g ↦ absurd (IsFirstAllowed-none (Allowed a) (moves a) g.move end.none_allowed g.is_first)
+      ]
 
 -- a net is simplified to one net
 pub IsConstantChainEnd-only : (metric : Metric) (exact : NetValue) (bound : ℕ) (N M : NetValue)
     → IsConstantChainEnd metric exact bound N → IsConstantChainEnd metric exact bound M → N ≡ M
-IsConstantChainEnd-only metric exact bound N M = IsChainEnd-only constant_moves (IsAllowedConstant metric exact bound) made_constant exact N M
+IsConstantChainEnd-only metric exact bound N M =
+    IsChainEnd-only constant_moves (IsAllowedConstant metric exact bound) (IsStepBy made_constant) (λ s move a b e f. e ∙ sym f) exact N M

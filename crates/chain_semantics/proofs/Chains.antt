@@ -60,7 +60,7 @@ pub moves_fall : (N : NetValue) → All (λ move. literal_count (made_constant N
 moves_fall N = All-weaker (IsMoveFrom 0 N.tables) (λ move. literal_count (made_constant N move) < literal_count N) (move_falls N) (constant_moves N) (moves_from-are_moves 0 N.tables)
 
 -- what holds of all moves holds of the first allowed
-first_allowed_at : {M : Type 0} (Allowed P : M → Type 0) (moves : List M) (move : M) → IsFirstAllowed Allowed moves move → All P moves → P move
+pub first_allowed_at : {M : Type 0} (Allowed P : M → Type 0) (moves : List M) (move : M) → IsFirstAllowed Allowed moves move → All P moves → P move
 first_allowed_at Allowed P moves move h all =
     let whole : All P (h.before ++ move ∷ h.after) = subst (All P) h.stands all in
     let within : length h.before < length (h.before ++ move ∷ h.after) = omega (arith, length-append h.before (move ∷ h.after)) in
@@ -87,7 +87,7 @@ IsWithin-same metric N level x width = omega (arith, error_of-same metric (outpu
 
 pub chain_within : (metric : Metric) (exact : NetValue) (bound : ℕ) (N : NetValue) → IsInConstantChain metric exact bound N → IsWithin metric exact bound N
 chain_within metric exact bound N first = IsWithin-same metric exact bound
-chain_within metric exact bound N (next s move h f) = f.allowed
+chain_within metric exact bound N (next s t move h f e) = subst (IsWithin metric exact bound) (sym e) f.allowed
 
 -- the table keeps its name, so each output keeps its own
 HasSamePorts-step : (exact N : NetValue) (move : ConstantMove) → HasSamePorts exact N → HasSamePorts exact (made_constant N move)
@@ -108,5 +108,5 @@ IsReducedFrom-step exact N move falls h = record {
 
 pub chain_reduces : (metric : Metric) (exact : NetValue) (bound : ℕ) (N : NetValue) → IsInConstantChain metric exact bound N → IsReducedFrom exact N
 chain_reduces metric exact bound N first = record { literals = omega arith; tables = refl; model = refl; inputs = refl; outputs = refl; ports = record { inputs = refl; outputs = refl } }
-chain_reduces metric exact bound N (next s move h f) =
-    IsReducedFrom-step exact s move (first_move_falls (IsAllowedConstant metric exact bound s) s move f) (chain_reduces metric exact bound s h)
+chain_reduces metric exact bound N (next s t move h f e) =
+    subst (IsReducedFrom exact) (sym e) (IsReducedFrom-step exact s move (first_move_falls (IsAllowedConstant metric exact bound s) s move f) (chain_reduces metric exact bound s h))

@@ -11,11 +11,16 @@ pub record IsFirstAllowed {M : Type 0} (Allowed : M → Type 0) (moves : List M)
   pub none_before : AllByRecursion (λ m. ¬ Allowed m) before
   pub allowed : Allowed move
 
--- the member after a state is the step after its first allowed move
-pub data IsInChain {S M : Type 0} (moves : S → List M) (Allowed : S → M → Type 0) (step : S → M → S) (start : S) : S → Type 0 where
-  first : IsInChain moves Allowed step start start
-  next : (s : S) (move : M) → IsInChain moves Allowed step start s → IsFirstAllowed (Allowed s) (moves s) move → IsInChain moves Allowed step start (step s move)
+-- the member after a state is what the step makes of its first allowed move
+pub data IsInChain {S M : Type 0} (moves : S → List M) (Allowed : S → M → Type 0) (Step : S → M → S → Type 0) (start : S) : S → Type 0 where
+  first : IsInChain moves Allowed Step start start
+  next : (s t : S) (move : M) → IsInChain moves Allowed Step start s → IsFirstAllowed (Allowed s) (moves s) move → Step s move t
+      → IsInChain moves Allowed Step start t
 
-pub record IsChainEnd {S M : Type 0} (moves : S → List M) (Allowed : S → M → Type 0) (step : S → M → S) (start end : S) : Type 0 where
-  pub member : IsInChain moves Allowed step start end
+pub record IsChainEnd {S M : Type 0} (moves : S → List M) (Allowed : S → M → Type 0) (Step : S → M → S → Type 0) (start end : S) : Type 0 where
+  pub member : IsInChain moves Allowed Step start end
   pub none_allowed : AllByRecursion (λ m. ¬ Allowed end m) (moves end)
+
+-- the step by a function
+abbrev pub IsStepBy : {S M : Type 0} → (S → M → S) → S → M → S → Type 0
+IsStepBy step s move t = t ≡ step s move

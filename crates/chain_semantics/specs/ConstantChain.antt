@@ -3,7 +3,7 @@ use Rattle.std.specs.Prelude.{ℕ, ◌+◌, Bool, true, false, List, [], ◌∷�
 use Rattle.semantics.specs.Net.{TableValue, NetValue, table_at, table_literals, constant_table}
 use Rattle.semantics.specs.Replaced.{with_table}
 use Rattle.semantics.specs.Error.{Metric, IsWithin}
-use Rattle.chain_semantics.specs.Chain.{IsInChain, IsChainEnd}
+use Rattle.chain_semantics.specs.Chain.{IsInChain, IsChainEnd, IsStepBy}
 
 -- the table and the value that it becomes
 pub record ConstantMove : Type 0 where
@@ -34,7 +34,7 @@ abbrev pub IsAllowedConstant : Metric → NetValue → ℕ → NetValue → Cons
 IsAllowedConstant metric exact bound N move = IsWithin metric exact bound (made_constant N move)
 
 abbrev pub IsInConstantChain : Metric → NetValue → ℕ → NetValue → Type 0
-IsInConstantChain metric exact bound = IsInChain constant_moves (IsAllowedConstant metric exact bound) made_constant exact
+IsInConstantChain metric exact bound = IsInChain constant_moves (IsAllowedConstant metric exact bound) (IsStepBy made_constant) exact
 
 abbrev pub IsConstantChainEnd : Metric → NetValue → ℕ → NetValue → Type 0
-IsConstantChainEnd metric exact bound = IsChainEnd constant_moves (IsAllowedConstant metric exact bound) made_constant exact
+IsConstantChainEnd metric exact bound = IsChainEnd constant_moves (IsAllowedConstant metric exact bound) (IsStepBy made_constant) exact

@@ -2,3 +2,16 @@ pub mod Chain
 pub mod ConstantChain
 pub mod Laws
 pub mod Examples
+pub mod TidyRules
+pub mod Tidy
+pub mod TidyLevels
+pub mod TidyLaws
+pub mod TidyExamples
+pub mod Moves
+pub mod Flips
+pub mod Care
+pub mod MoveLaws
+pub mod MoveExamples
+pub mod Simplification
+pub mod SimplificationLaws
+pub mod SimplificationExamples

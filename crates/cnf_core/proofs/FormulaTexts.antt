@@ -1,5 +1,5 @@
 -- The parts of a formula's text make the whole.
-use Rattle.std.proofs.Common.{◌≡◌, List, [], ◌∷◌, ◌++◌, map, flat_map, codes, refl, ap, ◌∙◌}
+use Rattle.std.proofs.Common.{◌≡◌, List, [], ◌∷◌, ◌++◌, map, flat_map, codes, refl, ap, sym, ◌∙◌}
 use Rattle.std.specs.Fmt.{signed_decimal}
 use Rattle.semantics.specs.Texts.{line_text, text_of}
 use Rattle.proof_semantics.specs.Clauses.{Clause}
@@ -19,3 +19,8 @@ clauses_lines (clause ∷ clauses) = ap (λ rest. line_text (clause_line clause)
 pub dimacs_text-parts : (f : Formula) (clauses : List Clause) → clauses ≡ f.clauses → line_text (header_line f) ++ clauses_text clauses ≡ dimacs_text f
 unfolding text_of dimacs_text
 dimacs_text-parts f clauses same = ap (λ text. line_text (header_line f) ++ text) (ap clauses_text same ∙ clauses_lines f.clauses)
+
+-- a clause, and those behind it
+pub clauses_text-next : (clauses rest : List Clause) (clause literals : Clause) → clauses ≡ clause ∷ rest → literals ≡ clause → clauses_text clauses ≡ (literals_text literals ++ (48 ∷ 10 ∷ [])) ++ clauses_text rest
+clauses_text-next clauses rest clause literals first same =
+    ap clauses_text first ∙ ap (λ t. t ++ clauses_text rest) (sym (clause_line-parts clause literals same))

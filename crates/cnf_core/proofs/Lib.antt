@@ -3,3 +3,9 @@ pub mod Formulas
 pub mod Words
 pub mod FormulaTexts
 pub mod LogTexts
+pub mod Drafts
+pub mod LratScans
+pub mod LratForms
+pub mod LratReadings
+pub mod LratReaders
+pub mod Pieces

@@ -4,9 +4,20 @@
 pub mod clause;
 pub mod cnf;
 pub mod dimacs;
+pub mod dimacs_text;
+mod dimacs_words;
+mod draft;
+mod held_word;
+mod item_draft;
 pub mod literal;
 pub mod log;
 pub mod lrat;
+mod lrat_part;
+pub mod lrat_reader;
+mod lrat_scanner;
 mod numbers;
 pub mod of_net;
 mod table_clauses;
+#[cfg(test)]
+mod tests;
+mod word;

@@ -10,7 +10,7 @@ use Rattle.outside_semantics.specs.WrittenFiles.{File, with_files}
 use Rattle.outside_semantics.proofs.HeldFiles.{with_files-holds, with_files-others}
 use Rattle.job_semantics.specs.declared.ending.Ending.{Ending}
 use Rattle.job_semantics.specs.declared.ending.Ending.TheVariants.{Netlist, Formula, Log, Vectors, Report}
-use Rattle.job_semantics.specs.Endings.{written_endings, ending_word, bundle_name, bundle_files}
+use Rattle.job_semantics.specs.Endings.{bundle_endings, ending_word, bundle_name, bundle_files}
 
 -- the ending whose word has this byte at place 1
 abbrev ending_with : ℕ → Ending
@@ -44,9 +44,11 @@ abbrev AreDistinct : List Ending → Type 0
 AreDistinct [] = ⊤
 AreDistinct (e ∷ endings) = AllByRecursion (λ f. f ≢ e) endings × AreDistinct endings
 
-written_endings-AreDistinct : AreDistinct written_endings
-written_endings-AreDistinct =
-    (((λ e. cc), ((λ e. cc), ((λ e. cc), tt))), (((λ e. cc), ((λ e. cc), tt)), (((λ e. cc), tt), (tt, tt))))
+bundle_endings-AreDistinct : AreDistinct bundle_endings
+bundle_endings-AreDistinct = (
+  ((λ e. cc), ((λ e. cc), ((λ e. cc), ((λ e. cc), tt)))),
+  (((λ e. cc), ((λ e. cc), ((λ e. cc), tt))), (((λ e. cc), ((λ e. cc), tt)), (((λ e. cc), tt), (tt, tt)))),
+)
 
 later_names : (stem : Bytes) (text : Ending → Bytes) (e : Ending) (endings : List Ending) → AllByRecursion (λ f. f ≢ e) endings
     → AllByRecursion (λ f. f.name ≢ bundle_name stem e) (files_of stem text endings)
@@ -67,10 +69,10 @@ other_names stem text name [] differ = tt
 other_names stem text name (e ∷ endings) differ = (differ.0, other_names stem text name endings differ.1)
 
 pub bundle_files-holds : (held : Held) (stem : Bytes) (text : Ending → Bytes)
-    → AllByRecursion (λ e. get (with_files held (bundle_files stem text)) (bundle_name stem e) ≡ Some (text e)) written_endings
-bundle_files-holds held stem text = held_texts held stem text written_endings written_endings-AreDistinct
+    → AllByRecursion (λ e. get (with_files held (bundle_files stem text)) (bundle_name stem e) ≡ Some (text e)) bundle_endings
+bundle_files-holds held stem text = held_texts held stem text bundle_endings bundle_endings-AreDistinct
 
 pub bundle_files-others : (held : Held) (stem : Bytes) (text : Ending → Bytes) (name : Bytes)
-    → AllByRecursion (λ e. bundle_name stem e ≢ name) written_endings → get (with_files held (bundle_files stem text)) name ≡ get held name
+    → AllByRecursion (λ e. bundle_name stem e ≢ name) bundle_endings → get (with_files held (bundle_files stem text)) name ≡ get held name
 bundle_files-others held stem text name differ =
-    with_files-others held (bundle_files stem text) name (other_names stem text name written_endings differ)
+    with_files-others held (bundle_files stem text) name (other_names stem text name bundle_endings differ)

@@ -1,1 +1,6 @@
 pub mod BundleFiles
+pub mod SmallNets
+pub mod ReportTexts
+pub mod WritableLogs
+pub mod Certificates
+pub mod CertificateTexts

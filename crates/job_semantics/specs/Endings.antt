@@ -1,5 +1,5 @@
 -- The files of a bundle, in the order in which they are written. Source: this tool's own bundles.
-use Rattle.std.specs.Prelude.{Bool, true, false, List, [], ◌∷◌, ◌++◌, map, filter, codes, bytes_eq}
+use Rattle.std.specs.Prelude.{Bool, List, [], ◌∷◌, ◌++◌, map, codes, bytes_eq}
 use Rattle.std.specs.List.{list_any, list_all}
 use Rattle.semantics.specs.Texts.{Bytes}
 use Rattle.outside_semantics.specs.Outside.{FilesTold}
@@ -9,17 +9,6 @@ use Rattle.job_semantics.specs.declared.ending.Ending.TheVariants.{Netlist, Form
 
 abbrev pub bundle_endings : List Ending
 bundle_endings = Netlist ∷ Formula ∷ Log ∷ Vectors ∷ Report ∷ []
-
--- the log is not written so far
-abbrev pub is_written : Ending → Bool
-is_written Netlist = true
-is_written Formula = true
-is_written Log = false
-is_written Vectors = true
-is_written Report = true
-
-abbrev pub written_endings : List Ending
-written_endings = filter is_written bundle_endings
 
 abbrev pub ending_word : Ending → Bytes
 ending_word Netlist = codes ".blif"
@@ -31,14 +20,14 @@ ending_word Report = codes ".txt"
 abbrev pub bundle_name : Bytes → Ending → Bytes
 bundle_name stem ending = stem ++ ending_word ending
 
--- one of the five names, also of a file that is not written so far
+-- one of the five names
 abbrev pub is_bundle_name : Bytes → Bytes → Bool
 is_bundle_name stem name = list_any (λ ending. bytes_eq name (bundle_name stem ending)) bundle_endings
 
--- the files that are written, each with its text
+-- the files in the order in which they are written, each with its text
 abbrev pub bundle_files : Bytes → (Ending → Bytes) → List File
-bundle_files stem text = map (λ ending. record { name = bundle_name stem ending; text = text ending }) written_endings
+bundle_files stem text = map (λ ending. record { name = bundle_name stem ending; text = text ending }) bundle_endings
 
--- the names that are written can be written
+-- all five names can be written
 abbrev pub are_bundle_names_steady : FilesTold → Bytes → Bool
-are_bundle_names_steady told stem = list_all (λ ending. told.steady_write (bundle_name stem ending)) written_endings
+are_bundle_names_steady told stem = list_all (λ ending. told.steady_write (bundle_name stem ending)) bundle_endings

@@ -6,13 +6,13 @@ use Rattle.semantics.specs.Texts.{Bytes}
 use Rattle.outside_semantics.specs.Outside.{Held}
 use Rattle.outside_semantics.specs.WrittenFiles.{with_files}
 use Rattle.job_semantics.specs.declared.ending.Ending.{Ending}
-use Rattle.job_semantics.specs.Endings.{written_endings, bundle_name, bundle_files}
+use Rattle.job_semantics.specs.Endings.{bundle_endings, bundle_name, bundle_files}
 
 -- one stem with two endings makes two names; once the files of a bundle were written, each is held with its text, and every
 -- other name is held as before
 pub record BundleFilesLaw : Type 0 where
   pub differ : (stem : Bytes) (a b : Ending) → a ≢ b → bundle_name stem a ≢ bundle_name stem b
   pub holds : (held : Held) (stem : Bytes) (text : Ending → Bytes)
-      → AllByRecursion (λ e. get (with_files held (bundle_files stem text)) (bundle_name stem e) ≡ Some (text e)) written_endings
+      → AllByRecursion (λ e. get (with_files held (bundle_files stem text)) (bundle_name stem e) ≡ Some (text e)) bundle_endings
   pub others : (held : Held) (stem : Bytes) (text : Ending → Bytes) (name : Bytes)
-      → AllByRecursion (λ e. bundle_name stem e ≢ name) written_endings → get (with_files held (bundle_files stem text)) name ≡ get held name
+      → AllByRecursion (λ e. bundle_name stem e ≢ name) bundle_endings → get (with_files held (bundle_files stem text)) name ≡ get held name

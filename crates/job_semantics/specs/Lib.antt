@@ -1,7 +1,12 @@
 pub mod Endings
 pub mod Job
 pub mod Report
+pub mod Bundle
 pub mod Input
 pub mod Synthesis
 pub mod Laws
 pub mod Examples
+pub mod Certificate
+pub mod CertificateLaws
+pub mod Checking
+pub mod CertificateExamples

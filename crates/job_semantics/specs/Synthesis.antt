@@ -1,22 +1,23 @@
 -- What a synth job comes to, by its answer. Source: SALSA, simplification within a bound on the error.
-use Rattle.std.specs.Prelude.{◌≡◌, ◌⊎◌, ℕ, ◌<◌, ◌≤◌, Bool, false, IsTrue, Some, List, []}
+use Rattle.std.specs.Prelude.{◌≡◌, ◌⊎◌, ℕ, ◌<◌, ◌≤◌, Bool, false, IsTrue, Some, List}
 use Rattle.std.specs.FinMap.{contains_key}
 use Rattle.semantics.specs.Texts.{Bytes}
 use Rattle.semantics.specs.Net.{NetValue, input_count, table_count, literal_count}
 use Rattle.semantics.specs.Error.{Metric, net_error, IsWithin}
 use Rattle.semantics.specs.Vectors.{all_vectors, IsFirstGreatestAt}
-use Rattle.semantics.specs.Blif.{blif_text}
 use Rattle.blif_semantics.specs.Reading.{Refusal}
 use Rattle.chain_semantics.specs.ConstantChain.{IsConstantChainEnd}
-use Rattle.proof_semantics.specs.Formula.{dimacs_text}
+use Rattle.proof_semantics.specs.Clauses.{IsUnsatisfiable}
+use Rattle.proof_semantics.specs.Formula.{Formula}
 use Rattle.proof_semantics.specs.Miter.{miter}
+use Rattle.proof_semantics.specs.Logs.{LogItem, Refutes, IsDerivation}
 use Rattle.outside_semantics.specs.Outside.{Held, FilesTold, SinkTold, Goes, Rose, WhereTold, Took, TakeFailed, bytes_of}
 use Rattle.outside_semantics.specs.WrittenFiles.{File, FilesWritten, FilesCutShort}
-use Rattle.job_semantics.specs.declared.ending.Ending.{Ending}
-use Rattle.job_semantics.specs.declared.ending.Ending.TheVariants.{Netlist, Formula, Log, Vectors, Report}
+use Rattle.job_semantics.specs.declared.ending.Ending.TheVariants.{Report}
 use Rattle.job_semantics.specs.Endings.{bundle_files, are_bundle_names_steady}
+use Rattle.job_semantics.specs.Bundle.{BundleValue, bundle_text}
+use Rattle.job_semantics.specs.Certificate.{OfBundle, Certifies}
 use Rattle.job_semantics.specs.Input.{IsReadAs, IsAccepted, IsRefusedFor}
-use Rattle.job_semantics.specs.Report.{report_of, report_text, vectors_text}
 
 -- a simplified net, its exact maximum error, and an input that attains it
 pub record Simplified : Type 0 where
@@ -35,20 +36,33 @@ pub record IsSimplifiedFrom (exact : NetValue) (metric : Metric) (bound : ℕ) (
   pub tables : table_count s.net ≤ table_count exact
   pub literals : literal_count s.net ≤ literal_count exact
 
-abbrev pub synth_report : NetValue → Metric → ℕ → Simplified → Bytes
-synth_report exact metric bound s = report_text (report_of metric bound s.maximum s.witness exact s.net false)
+-- The log refutes the formula, and is a derivation over it; so no assignment satisfies the formula.
+pub record IsRefutedBy (f : Formula) (log : List LogItem) : Type 0 where
+  pub refutes : Refutes f.clauses log
+  pub derivation : IsDerivation f log
+  pub unsatisfiable : IsUnsatisfiable f.clauses
 
--- the text of each file: the formula says that some error exceeds the maximum, and the log has no text so far
-abbrev pub synth_text : NetValue → Metric → ℕ → Simplified → Ending → Bytes
-synth_text exact metric bound s Netlist = blif_text s.net
-synth_text exact metric bound s Formula = dimacs_text (miter exact s.net metric s.maximum)
-synth_text exact metric bound s Log = []
-synth_text exact metric bound s Vectors = vectors_text s.witness (all_vectors (input_count exact))
-synth_text exact metric bound s Report = synth_report exact metric bound s
+-- The formula says that some error exceeds the maximum; behind the witness stand all vectors; nothing is claimed of further moves.
+abbrev pub synth_bundle : NetValue → Metric → ℕ → Simplified → List LogItem → BundleValue
+synth_bundle exact metric bound s log = record {
+  exact = exact;
+  approx = s.net;
+  metric = metric;
+  bound = bound;
+  maximum = s.maximum;
+  witness = s.witness;
+  pool = all_vectors (input_count exact);
+  minimal = false;
+  goal = miter exact s.net metric s.maximum;
+  log = log;
+}
 
 -- the files of a synth job in the order in which they are written
-abbrev pub synth_files : NetValue → Metric → ℕ → Bytes → Simplified → List File
-synth_files exact metric bound stem s = bundle_files stem (synth_text exact metric bound s)
+abbrev pub synth_files : NetValue → Metric → ℕ → Bytes → Simplified → List LogItem → List File
+synth_files exact metric bound stem s log = bundle_files stem (bundle_text (synth_bundle exact metric bound s log))
+
+abbrev pub synth_report : NetValue → Metric → ℕ → Simplified → List LogItem → Bytes
+synth_report exact metric bound s log = bundle_text (synth_bundle exact metric bound s log) Report
 
 -- P of the files at entry, where they are told and hold the name
 abbrev pub WhereHeld : FilesTold → Bytes → (Held → Type 0) → Type 0
@@ -77,23 +91,26 @@ pub record IsUntouched (input : Bytes) (old new : FilesTold) (said says : SinkTo
   pub still_told : WhereHeld old input (λ a. new.held ≡ Some a)
   pub sink : says ≡ said
 
--- done: the files were written, and then the report was put
+-- done: the files were written, and then the report was put; the texts of the files are a certificate
 pub record SynthDone (metric : Metric) (bound : ℕ) (input stem : Bytes) (old new : FilesTold) (said says : SinkTold) : Type 0 where
   pub exact : NetValue
   pub result : Simplified
+  pub log : List LogItem
   pub right : IsSimplifiedInput metric bound input old new exact result
-  pub files : FilesWritten old new (synth_files exact metric bound stem result)
-  pub report : Took said says (synth_report exact metric bound result)
+  pub refuted : IsRefutedBy (miter exact result.net metric result.maximum) log
+  pub files : FilesWritten old new (synth_files exact metric bound stem result log)
+  pub report : Took said says (synth_report exact metric bound result log)
+  pub certificate : OfBundle old new stem (Certifies exact metric bound)
 
 -- IN was read as a net that has more inputs than are tried so far
-pub record SynthNotYet (input : Bytes) (old new : FilesTold) (said says : SinkTold) : Type 0 where
+pub record InputNotYet (input : Bytes) (old new : FilesTold) (said says : SinkTold) : Type 0 where
   pub untouched : IsUntouched input old new said says
   pub exact : NetValue
   pub read : OfInput old new input (λ text. IsReadAs text exact)
   pub many_inputs : most_inputs < input_count exact
 
 -- IN is held and is refused
-pub record SynthRefused (refusal : Refusal) (input : Bytes) (old new : FilesTold) (said says : SinkTold) : Type 0 where
+pub record InputRefused (refusal : Refusal) (input : Bytes) (old new : FilesTold) (said says : SinkTold) : Type 0 where
   pub untouched : IsUntouched input old new said says
   pub held : WhereTold old new (λ a b. IsTrue (contains_key a input))
   pub refused : OfInput old new input (λ text. IsRefusedFor text refusal)
@@ -108,10 +125,12 @@ pub record SynthReadFault (input : Bytes) (old new : FilesTold) (said says : Sin
 pub record SynthWriteFault (metric : Metric) (bound : ℕ) (input stem : Bytes) (old new : FilesTold) (said says : SinkTold) : Type 0 where
   pub exact : NetValue
   pub result : Simplified
+  pub log : List LogItem
   pub right : IsSimplifiedInput metric bound input old new exact result
+  pub refuted : IsRefutedBy (miter exact result.net metric result.maximum) log
   pub left :
-      (FilesCutShort old new (synth_files exact metric bound stem result) × (says ≡ said))
-      ⊎ (FilesWritten old new (synth_files exact metric bound stem result) × TakeFailed said says (synth_report exact metric bound result))
+      (FilesCutShort old new (synth_files exact metric bound stem result log) × (says ≡ said))
+      ⊎ (FilesWritten old new (synth_files exact metric bound stem result log) × TakeFailed said says (synth_report exact metric bound result log))
 
 -- IN is accepted; where the files are not told both at entry and at exit, it counts as accepted
 abbrev pub CountsAsAccepted : FilesTold → FilesTold → Bytes → Type 0

@@ -1,6 +1,9 @@
-//! Jobs, reports, and what each answer of a run says. It has no code but the type `Ending`.
+//! Jobs, reports, certificates, and what each answer of a run says. It has no code but the types `Ending` and `Clause`.
 #![tactic(auto)]
 
+pub mod certificate_examples;
+pub mod certificate_laws;
+pub mod clause;
 pub mod ending;
 pub mod examples;
 pub mod laws;

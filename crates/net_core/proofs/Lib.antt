@@ -3,6 +3,8 @@ pub mod Reading
 pub mod Refusing
 pub mod Copying
 pub mod Changed
+pub mod InOrder
 pub mod Eval
+pub mod Dependents
 pub mod Sorting
 pub mod Views

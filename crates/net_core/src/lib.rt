@@ -1,6 +1,7 @@
 //! Nets in memory: names, rows of marks, tables, nets, their values and their sizes.
 #![tactic(auto)]
 
+mod dependence;
 pub mod items;
 pub mod limits;
 pub mod mark;
@@ -11,4 +12,6 @@ pub mod order;
 pub mod refusal;
 pub mod row;
 pub mod table;
+#[cfg(test)]
+mod tests;
 mod undriven;

@@ -7,3 +7,13 @@ pub mod Bounds
 pub mod Refutations
 pub mod Hints
 pub mod Miters
+pub mod LratAccepted
+pub mod LratOnly
+pub mod LratTexts
+pub mod LratGrowth
+pub mod LratRoundTrip
+pub mod HeldClauses
+pub mod OpenLiterals
+pub mod Conflicts
+pub mod LratDerivations
+pub mod LratRefusals

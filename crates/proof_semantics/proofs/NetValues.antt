@@ -157,7 +157,7 @@ values_model n tables x h a m =
 place_values_model : (n : ℕ) (tables : List TableValue) (x : List Bool) → IsAcyclic n tables → IsModelAt n tables x (by_place (place_value n tables x))
 place_values_model n tables x h = values_model n tables x h (by_place (place_value n tables x)) (λ k within. refl)
 
-goal_clauses-value : (n : ℕ) (tables : List TableValue) (signal : ℕ) (a : Assignment) → clauses_value a (goal_clauses n tables signal) ≡ (clauses_value a (net_clauses n tables) && a (suc signal))
+pub goal_clauses-value : (n : ℕ) (tables : List TableValue) (signal : ℕ) (a : Assignment) → clauses_value a (goal_clauses n tables signal) ≡ (clauses_value a (net_clauses n tables) && a (suc signal))
 unfolding goal_clauses
 goal_clauses-value n tables signal a =
     list_all-append (clause_value a) (net_clauses n tables) ((literal_at signal true ∷ []) ∷ [])

@@ -7,3 +7,14 @@ pub mod Logs
 pub mod Lrat
 pub mod Laws
 pub mod Examples
+pub mod LratTokens
+pub mod LratMatching
+pub mod LratReading
+pub mod LratGrammar
+pub mod LratLaws
+pub mod LratExamples
+pub mod Conflicts
+pub mod ConflictLaws
+pub mod ConflictExamples
+pub mod Queries
+pub mod QueryExamples

@@ -1,6 +1,5 @@
-pub mod Turns
-pub mod FilesInOrder
 pub mod InputReadings
-pub mod SmallNets
+pub mod JobWords
 pub mod SynthAnswers
+pub mod CheckAnswers
 pub mod Preparing

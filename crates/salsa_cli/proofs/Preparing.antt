@@ -1,67 +1,101 @@
 -- What is ready before the first file is touched, from its parts.
-use Rattle.std.proofs.Common.{◌≡◌, ℕ, Bool, List, false, [], ◌∷◌, length, ap, ◌∙◌}
-use Rattle.std.specs.Prelude.{string_bytes}
-use Rattle.semantics.specs.Texts.{Bytes}
-use Rattle.semantics.specs.Net.{NetValue, input_count, table_count, literal_count}
+use Rattle.std.proofs.Common.{◌≡◌, ◌^◌, ◌<◌, ◌≤◌, ℕ, false, List, [], ◌∷◌, map, length, refl, ap, sym, subst, arith}
+use Rattle.std.specs.List.{AllByRecursion, range_with_len}
+use Rattle.semantics.specs.Net.{NetValue, IsSound, IsSmall, HasSamePorts, input_count, literal_count}
 use Rattle.semantics.specs.Error.{Metric}
-use Rattle.semantics.specs.Vectors.{all_vectors}
-use Rattle.semantics.specs.Blif.{blif_text}
-use Rattle.proof_semantics.specs.Formula.{dimacs_text}
+use Rattle.semantics.specs.Vectors.{bits_of, all_vectors}
+use Rattle.semantics.proofs.Vectors.{length-bits_of}
 use Rattle.proof_semantics.specs.Miter.{miter}
-use Rattle.job_semantics.specs.declared.ending.Ending.TheVariants.{Netlist, Formula, Vectors, Report}
-use Rattle.job_semantics.specs.Endings.{bundle_name}
-use Rattle.job_semantics.specs.Report.{report_text, vectors_text}
-use Rattle.job_semantics.specs.Synthesis.{Simplified, IsSimplifiedFrom, synth_report}
-use Rattle.salsa_cli.specs.declared.delivery.Prepared.{Prepared}
+use Rattle.proof_semantics.specs.Formula.{Formula}
+use Rattle.job_semantics.specs.Bundle.{bundle_text}
+use Rattle.job_semantics.specs.Certificate.{Certifies}
+use Rattle.job_semantics.specs.CertificateLaws.{IsRightBundle}
+use Rattle.job_semantics.proofs.Certificates.{written_certifies}
+use Rattle.job_semantics.proofs.SmallNets.{literals_at_most}
+use Rattle.job_semantics.specs.Synthesis.{Simplified, IsSimplifiedFrom, IsRefutedBy, synth_bundle}
+use Rattle.joint_net.specs.Metric.{meaning}
+use Rattle.bundle.specs.declared.bundle.Bundle.{Bundle}
+use Rattle.bundle.specs.Value.{FitsReport, bundle_value}
 use Rattle.salsa_cli.specs.Prepared.{IsPrepared}
 
--- the vectors of the witness's width
-pub vectors_are : {text : Bytes} {word witness : List Bool} {n : ℕ} → word ≡ witness → length witness ≡ n → text ≡ vectors_text word (all_vectors (length word))
-    → text ≡ vectors_text witness (all_vectors n)
-vectors_are same width is = is ∙ (λ i. vectors_text (same i) (all_vectors ((ap length same ∙ width) i)))
+widths_of : (n : ℕ) (numbers : List ℕ) → AllByRecursion (λ x. length x ≡ n) (map (bits_of n) numbers)
+widths_of n [] = tt
+widths_of n (j ∷ numbers) = (length-bits_of n j, widths_of n numbers)
 
--- the report, with its counts known by other terms
-pub report_is : (exact : NetValue) (metric : Metric) (bound : ℕ) (s : Simplified) {text : Bytes} {word : List Bool} {old_tables new_tables old_literals new_literals : ℕ}
-    → word ≡ s.witness → old_tables ≡ table_count exact → new_tables ≡ table_count s.net → old_literals ≡ literal_count exact → new_literals ≡ literal_count s.net
-    → text ≡ report_text (record {
-      metric = metric;
-      bound = bound;
-      maximum = s.maximum;
-      witness = word;
-      old_tables = old_tables;
-      new_tables = new_tables;
-      old_literals = old_literals;
-      new_literals = new_literals;
-      minimal = false;
-    })
-    → text ≡ synth_report exact metric bound s
-report_is exact metric bound s same a b c d is =
-    is ∙ (λ i. report_text (record {
-      metric = metric;
-      bound = bound;
-      maximum = s.maximum;
-      witness = same i;
-      old_tables = a i;
-      new_tables = b i;
-      old_literals = c i;
-      new_literals = d i;
-      minimal = false;
-    }))
+-- each vector has a bit for each input
+vector_widths : (n : ℕ) → AllByRecursion (λ x. length x ≡ n) (all_vectors n)
+unfolding all_vectors
+vector_widths n = widths_of n (range_with_len 0 (2 ^ n))
 
-pub IsPrepared-from : {exact : NetValue} {metric : Metric} {bound : ℕ} {stem : Bytes} (p : Prepared) (s : Simplified) → IsSimplifiedFrom exact metric bound s
-    → p.netlist_name ≡ bundle_name stem Netlist → p.net ≡ s.net
-    → p.formula_name ≡ bundle_name stem Formula → p.formula ≡ miter exact s.net metric s.maximum
-    → p.vectors_name ≡ bundle_name stem Vectors → string_bytes p.vectors ≡ vectors_text s.witness (all_vectors (input_count exact))
-    → p.report_name ≡ bundle_name stem Report → string_bytes p.report ≡ synth_report exact metric bound s
-    → IsPrepared exact metric bound stem p
-IsPrepared-from p s simple netlist_name net formula_name formula vectors_name vectors report_name report = record {
+-- what the parts of a bundle are
+pub record AreParts (exact : NetValue) (bound : ℕ) (s : Simplified) (goal : Formula) : Type 0 where
+  pub exact_sound : IsSound exact
+  pub exact_small : IsSmall exact
+  pub approx_sound : IsSound s.net
+  pub approx_small : IsSmall s.net
+  pub ports : HasSamePorts exact s.net
+  pub few_bits : bound < 2 ^ 84
+  pub variables : goal.variables < 2 ^ 31
+
+right_bundle : {exact : NetValue} {metric : Metric} {bound : ℕ} {s : Simplified} (b : Bundle) → AreParts exact bound s b.goal → IsSimplifiedFrom exact metric bound s
+    → IsRefutedBy (miter exact s.net metric s.maximum) b.log → b.goal ≡ miter exact s.net metric s.maximum
+    → IsRightBundle (synth_bundle exact metric bound s b.log)
+right_bundle {exact = exact} b parts simple refuted goal = record {
+  exact_sound = parts.exact_sound;
+  exact_small = parts.exact_small;
+  approx_sound = parts.approx_sound;
+  approx_small = parts.approx_small;
+  ports = parts.ports;
+  bound = parts.few_bits;
+  within = simple.within;
+  width = simple.first.width;
+  attained = simple.attained;
+  pool = vector_widths (input_count exact);
+  goal = refl;
+  variables = subst (λ f. f.variables < 2 ^ 31) goal parts.variables;
+  refutes = refuted.refutes;
+  derivation = refuted.derivation;
+  tables = simple.tables;
+  literals = simple.literals;
+  minimal = refl;
+}
+
+-- a bundle whose parts are known by other terms
+pub bundle_is : {exact : NetValue} {metric : Metric} {bound : ℕ} {s : Simplified} (b : Bundle) → b.exact ≡ exact → b.approx ≡ s.net → meaning b.metric ≡ metric → b.bound ≡ bound
+    → b.maximum ≡ s.maximum → b.witness ≡ s.witness → b.pool.vectors ≡ all_vectors (input_count exact) → b.minimal ≡ false → b.goal ≡ miter exact s.net metric s.maximum
+    → bundle_value b ≡ synth_bundle exact metric bound s b.log
+bundle_is b exact approx metric bound maximum witness pool minimal goal = λ i. record {
+  exact = exact i;
+  approx = approx i;
+  metric = metric i;
+  bound = bound i;
+  maximum = maximum i;
+  witness = witness i;
+  pool = pool i;
+  minimal = minimal i;
+  goal = goal i;
+  log = b.log;
+}
+
+pub FitsReport-from : {exact : NetValue} {metric : Metric} {bound : ℕ} {s : Simplified} (b : Bundle) → IsSound exact → IsSmall exact → input_count exact ≤ 8 → IsSimplifiedFrom exact metric bound s
+    → b.exact ≡ exact → b.approx ≡ s.net → b.witness ≡ s.witness → FitsReport b
+FitsReport-from {exact = exact} b sound small few simple is_exact is_approx is_witness =
+    let most = literals_at_most exact small sound.tables_formed in
+    record {
+      witness = omega (arith, ap length is_witness, simple.first.width, few);
+      exact = omega (arith, ap literal_count is_exact, most);
+      approx = omega (arith, ap literal_count is_approx, simple.literals, most);
+    }
+
+pub IsPrepared-from : {exact : NetValue} {metric : Metric} {bound : ℕ} {s : Simplified} (b : Bundle) → AreParts exact bound s b.goal → IsSimplifiedFrom exact metric bound s
+    → IsRefutedBy (miter exact s.net metric s.maximum) b.log → b.goal ≡ miter exact s.net metric s.maximum
+    → bundle_value b ≡ synth_bundle exact metric bound s b.log → FitsReport b
+    → IsPrepared exact metric bound b
+IsPrepared-from {exact} {metric} {bound} {s} b parts simple refuted goal is fits = record {
   result = s;
   simplified = simple;
-  files = λ i.
-      record { name = netlist_name i; text = blif_text (net i) }
-      ∷ record { name = formula_name i; text = dimacs_text (formula i) }
-      ∷ record { name = vectors_name i; text = vectors i }
-      ∷ record { name = report_name i; text = report i }
-      ∷ [];
-  report = report;
+  refuted = refuted;
+  is = is;
+  fits = fits;
+  certificate = subst (λ v. Certifies exact metric bound (bundle_text v)) (sym is) (written_certifies (synth_bundle exact metric bound s b.log) (right_bundle b parts simple refuted goal));
 }

@@ -11,7 +11,7 @@ use Rattle.blif_text.specs.Refusals.{refusal_of}
 use Rattle.blif_text.specs.declared.refusal.BlifRefusal.{BlifRefusal}
 use Rattle.salsa_cli.specs.declared.input.NoNet.{NoNet}
 use Rattle.salsa_cli.specs.declared.input.NoNet.TheVariants.{Refused, Fault, OutOfMemory}
-use Rattle.salsa_cli.specs.Reading.{TextFailed, FilesStay}
+use Rattle.file_reading.specs.Reading.{FileFailed, FilesStay}
 
 -- IN was read as the net
 pub record NetRead (old new : FilesTold) (name : Bytes) (N : NetValue) : Type 0 where
@@ -27,7 +27,7 @@ pub record TextRefused (refusal : Refusal) (old new : FilesTold) (name : Bytes) 
 
 abbrev pub NetRefused : FilesTold → FilesTold → Bytes → NoNet → Type 0
 NetRefused old new name (Refused reason) = (refusal : Refusal) × (refusal_of reason ≡ Some refusal) × TextRefused refusal old new name
-NetRefused old new name Fault = TextFailed old new name
+NetRefused old new name Fault = FileFailed old new name
 NetRefused old new name OutOfMemory = FilesStay old new name
 
 -- want of memory in the reading of a text is want of memory, and a refusal is handed on

@@ -1,10 +1,6 @@
 pub mod Words
-pub mod Reading
-pub mod Unread
-pub mod SameRefusal
 pub mod Input
 pub mod Status
-pub mod Delivered
 pub mod Prepared
 pub mod Run
 pub mod Untold

@@ -1,10 +1,8 @@
-//! The names of a bundle's files: the stem, and the ending of each.
-ghost use Rattle.std.specs.Prelude.{◌≡◌, ◌++◌, bytes_eq, IfOk};
-ghost use Rattle.job_semantics.specs.Endings.{ending_word, bundle_name, is_bundle_name};
+//! Which names are those of a bundle's files: the stem, with an ending.
+ghost use Rattle.std.specs.Prelude.{◌≡◌, ◌++◌, bytes_eq};
+ghost use Rattle.job_semantics.specs.Endings.{ending_word, is_bundle_name};
 
-use file_core::word::Word;
 use job_semantics::ending::Ending;
-use std::alloc::{AllocError, Global};
 
 /// All endings, in the order in which the files are written.
 const ENDINGS: [Ending; 5] = [
@@ -25,15 +23,6 @@ fn ending_word(ending: Ending) -> &'static [u8]
         Ending::Vectors => b".wit",
         Ending::Report => b".txt",
     }
-}
-
-/// The name of a file of the bundle.
-pub fn bundle_name(alloc: Global, stem: &[u8], ending: Ending) -> Result<Word, AllocError>
-    ensures { IfOk result (λ name. name ≡ bundle_name stem.now ending) }
-{
-    let mut name = Vec::from_slice(alloc, stem)?;
-    name.extend_from_slice(ending_word(ending))?;
-    Word::new(alloc, &name)
 }
 
 fn is_stem_with(stem: &[u8], ending: &[u8], name: &[u8]) -> bool

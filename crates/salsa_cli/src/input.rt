@@ -2,12 +2,20 @@
 ghost use Rattle.std.specs.Prelude.{IfOk, IfErr};
 ghost use Rattle.salsa_cli.specs.Input.{NetRead, NetRefused};
 
-use crate::reading::{TEXT_LIMIT, Unread, read_text};
 use blif_text::reading::read_blif;
 use blif_text::refusal::BlifRefusal;
 use file_core::files::Files;
+use file_reading::front::Front;
+use file_reading::reading::read_file;
+use file_reading::unread::Unread;
 use net_core::net::Net;
 use std::alloc::Global;
+
+/// The most bytes of a netlist that is read.
+const TEXT_LIMIT: usize = 4_194_304;
+
+/// The most inputs of a net that is carried out so far.
+pub const MOST_INPUTS: u32 = 8;
 
 /// Why there is no net.
 #[derive(Debug, Drop)]
@@ -30,24 +38,18 @@ impl From<BlifRefusal> for NoNet {
     }
 }
 
-impl From<Unread> for NoNet {
-    ghost use Rattle.salsa_cli.specs.SameRefusal.{IsSameRefusal};
-
-    ghost from_gives = { IsSameRefusal };
-
-    fn from(unread: Unread) -> NoNet {
-        match unread {
-            Unread::Fault => NoNet::Fault,
-            Unread::OutOfMemory => NoNet::OutOfMemory,
-        }
-    }
-}
-
-/// Reads a file, and makes the net of its text.
+/// Reads a file, and makes the net of its text. A file is read no further than one byte past the limit, so none is endless.
 pub fn read_net<F: Files>(alloc: Global, files: &mut F, name: &[u8]) -> Result<Net, NoNet>
     ensures ok { IfOk result (NetRead (F.told files.old) (F.told files.new) name.now) }
     ensures err { IfErr result (NetRefused (F.told files.old) (F.told files.new) name.now) }
 {
-    let text = read_text(alloc, files, name)?;
-    Ok(read_blif(alloc, &text, TEXT_LIMIT as u64)?)
+    let mut front = Front::new(alloc, TEXT_LIMIT);
+    let read = read_file(files, name, &mut front);
+    let text = front.bytes();
+    match read {
+        Ok(()) => Ok(read_blif(alloc, text, TEXT_LIMIT as u64)?),
+        Err(Unread::Fault) => Err(NoNet::Fault),
+        Err(Unread::OutOfMemory) => Err(NoNet::OutOfMemory),
+        Err(Unread::Endless) => unreachable!(),
+    }
 }

@@ -1,17 +1,15 @@
-//! `salsa`: simplifies a netlist within a bound on its error. The program itself is [`run::run`].
+//! `salsa`: simplifies a netlist within a bound on its error, and checks what a simplification left. The program itself is
+//! [`run::run`].
 #![tactic(auto)]
 
 mod arguments;
 mod bundle_names;
+mod checking;
 mod counted;
-mod decimal;
-mod delivery;
 mod input;
 mod miter;
-mod reading;
 mod real_files;
 mod real_sink;
-mod report;
 pub mod run;
 mod status;
 mod synthesis;

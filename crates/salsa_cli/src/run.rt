@@ -5,11 +5,13 @@ ghost use Rattle.outside_semantics.specs.Outside.{bytes_of};
 ghost use Rattle.blif_semantics.specs.Reading.{input_limit, blif_reading};
 ghost use Rattle.semantics.specs.Texts.{Bytes};
 ghost use Rattle.semantics.specs.Error.{Metric};
-ghost use Rattle.job_semantics.specs.Job.{Job, synth, job_of};
+ghost use Rattle.job_semantics.specs.Job.{Job, synth, check, job_of};
 ghost use Rattle.job_semantics.specs.Synthesis.{IsQuietSynth};
+ghost use Rattle.job_semantics.specs.Checking.{IsQuietCheck};
 ghost use Rattle.file_core.specs.Sure.{sure_told, sure_sink_told};
-ghost use Rattle.salsa_cli.specs.Run.{IsLaterJob, SynthAnswer, IsAnswerTo, EndsWell};
+ghost use Rattle.salsa_cli.specs.Run.{IsLaterJob, SynthAnswer, CheckAnswer, IsAnswerTo, IsCheckAnswerTo, EndsWell};
 
+use crate::checking::check;
 use crate::status::{Outcome, Status};
 use crate::synthesis::synthesize;
 use crate::words::{Command, command_named};
@@ -26,7 +28,7 @@ pub fn run<F: Files, K: Sink>(alloc: Global, words: &[Word], files: &mut F, say:
     ensures usage { (result.status ≡ Status.Usage) ↔ (job_of words.now ≡ None) }
     ensures usage_touches_nothing { result.status ≡ Status.Usage → (files.new ≡ files.old) × (say.new ≡ say.old) }
 
-    // A job of another kind than a synthesis is `NotYet`, and then nothing is touched.
+    // A demonstration is `NotYet`, and then nothing is touched.
     ensures later_job { (job : Job) → job_of words.now ≡ Some job → IsLaterJob job
         → (result.status ≡ Status.NotYet) × (files.new ≡ files.old) × (say.new ≡ say.old) }
 
@@ -35,11 +37,20 @@ pub fn run<F: Files, K: Sink>(alloc: Global, words: &[Word], files: &mut F, say:
         → job_of words.now ≡ Some (synth metric bound conflicts input stem)
         → SynthAnswer metric bound input stem (F.told files.old) (F.told files.new) (K.told say.old) (K.told say.new) result.status }
 
+    // What each answer to a check job says.
+    ensures checking { (metric : Metric) (bound : ℕ) (input stem : Bytes)
+        → job_of words.now ≡ Some (check metric bound input stem)
+        → CheckAnswer metric bound input stem (F.told files.old) (F.told files.new) (K.told say.old) (K.told say.new) result.status }
+
     // A quiet call has no fault, and ends as the reading of IN asks, unless memory is wanting.
     ensures complete { (metric : Metric) (bound conflicts : ℕ) (input stem : Bytes)
         → job_of words.now ≡ Some (synth metric bound conflicts input stem)
         → IsQuietSynth input stem (F.told files.old) (F.told files.new) (K.told say.old) (K.told say.new)
-        → EndsWell input (F.told files.old) result.status }
+        → EndsWell IsAnswerTo input (F.told files.old) result.status }
+    ensures check_complete { (metric : Metric) (bound : ℕ) (input stem : Bytes)
+        → job_of words.now ≡ Some (check metric bound input stem)
+        → IsQuietCheck metric bound input stem (F.told files.old) (F.told files.new) (K.told say.old) (K.told say.new)
+        → EndsWell IsCheckAnswerTo input (F.told files.old) result.status }
 {
     match command_named(words) {
         None => Outcome {
@@ -56,13 +67,23 @@ pub fn run<F: Files, K: Sink>(alloc: Global, words: &[Word], files: &mut F, say:
         ) => Outcome {
             status: synthesize(alloc, metric, bound, input, stem, files, say),
         },
-        Some(_) => Outcome {
+        Some(
+            Command::Check {
+                metric,
+                bound,
+                input,
+                stem,
+            },
+        ) => Outcome {
+            status: check(alloc, metric, bound, input, stem, files),
+        },
+        Some(Command::Demo { .. }) => Outcome {
             status: Status::NotYet,
         },
     }
 }
 
-/// A run over files and a sink that never fail: no fault is answered, and a synthesis of a given netlist ends as its reading asks.
+/// A run over files and a sink that never fail: no fault is answered, and a job on a given netlist ends as its reading asks.
 pub fn run_surely(
     alloc: Global,
     words: &[Word],
@@ -76,12 +97,19 @@ pub fn run_surely(
     ensures synthesis { (metric : Metric) (bound conflicts : ℕ) (input stem : Bytes)
         → job_of words.now ≡ Some (synth metric bound conflicts input stem)
         → SynthAnswer metric bound input stem (sure_told files.old) (sure_told files.new) sure_sink_told sure_sink_told result.status }
+    ensures checking { (metric : Metric) (bound : ℕ) (input stem : Bytes)
+        → job_of words.now ≡ Some (check metric bound input stem)
+        → CheckAnswer metric bound input stem (sure_told files.old) (sure_told files.new) sure_sink_told sure_sink_told result.status }
     ensures read { result.status ≢ Status.ReadFault }
     ensures write { result.status ≢ Status.WriteFault }
     ensures answers { (metric : Metric) (bound conflicts : ℕ) (input stem : Bytes)
         → job_of words.now ≡ Some (synth metric bound conflicts input stem)
         → files.old.told ≡ true → IsTrue (contains_key files.old.given input)
         → IsAnswerTo (blif_reading (bytes_of files.old.given input) input_limit) result.status }
+    ensures check_answers { (metric : Metric) (bound : ℕ) (input stem : Bytes)
+        → job_of words.now ≡ Some (check metric bound input stem)
+        → files.old.told ≡ true → IsTrue (contains_key files.old.given input)
+        → IsCheckAnswerTo (blif_reading (bytes_of files.old.given input) input_limit) result.status }
 {
     run(alloc, words, files, say)
 }

@@ -10,6 +10,10 @@ use std::fmt;
 pub enum Status {
     /// The files were written and the report was put.
     Done,
+    /// The files of the bundle are a certificate.
+    Verified,
+    /// The clause of this number, from 1, is the first of a certificate that fails.
+    Refuted(u8),
     /// The words are no job.
     Usage,
     /// The input is refused.
@@ -18,10 +22,12 @@ pub enum Status {
     NotYet,
     /// Want of memory.
     NoMemory,
-    /// The input could not be read.
+    /// A file that is needed could not be read.
     ReadFault,
     /// A file or the report could not be written.
     WriteFault,
+    /// A file of the bundle goes on past the budget of turns.
+    Endless,
 }
 
 impl Status {
@@ -30,12 +36,14 @@ impl Status {
         ensures { result ≡ exit_number self.now }
     {
         match self {
-            Status::Done => 0,
+            Status::Done | Status::Verified => 0,
             Status::Usage => 1,
             Status::Text(_) => 2,
             Status::NoMemory => 3,
             Status::ReadFault => 5,
             Status::WriteFault => 6,
+            Status::Refuted(_) => 7,
+            Status::Endless => 8,
             Status::NotYet => 9,
         }
     }
@@ -46,6 +54,9 @@ impl fmt::Display for Status {
     fn fmt<W: fmt::Write>(&self, f: &mut fmt::Formatter<W>) -> fmt::Result {
         match self {
             Status::Done => f.write_str("done"),
+            Status::Verified => f.write_str("verified"),
+            Status::Refuted(number) => write!(f, "refuted by clause {number}"),
+            Status::Endless => f.write_str("input without end"),
             Status::Usage => f.write_str(
                 "usage: synth METRIC BOUND CONFLICTS IN STEM, check METRIC BOUND IN STEM, or demo WIDTH BOUND CONFLICTS",
             ),

@@ -2,10 +2,13 @@
 ghost use Rattle.std.specs.Prelude.{◌<◌};
 
 use crate::arguments;
+use crate::input::read_net;
 use crate::real_files::RealFiles;
 use crate::real_sink::RealSink;
 use crate::run::{run, run_surely};
 use crate::status::Status;
+use crate::synthesis::prepare;
+use cnf_core::log::Item;
 use file_core::files::Files;
 use file_core::lists::{CallList, FileList};
 use file_core::memory_files::MemFiles;
@@ -14,6 +17,8 @@ use file_core::sink::Sink;
 use file_core::sure_files::SureFiles;
 use file_core::sure_sink::SureSink;
 use file_core::word::Word;
+use joint_net::metric::Metric;
+use lrat_check::checker::Checker;
 use std::alloc::{AllocError, Global};
 use std::fs;
 use std::test::Fail;
@@ -26,15 +31,13 @@ const BOTH_CONSTANT: &[u8] = b".model ha\n.inputs a b\n.outputs s c\n.names s\n.
 const SUM_CONSTANT: &[u8] =
     b".model ha\n.inputs a b\n.outputs s c\n.names s\n.names a b c\n11 1\n.end\n";
 
-/// The first line of the formula of the half adder and the net with its constant sum, and the formula's length in bytes.
-const FORMULA_HEADER: &[u8] = b"p cnf 76 246\n";
-
-const FORMULA_LENGTH: usize = 2391;
-
 const VECTORS: &[u8] = b"10\n00\n10\n01\n11\n";
 
 const REPORT: &[u8] =
     b"salsa 1\nmetric abs\nbound 1\nmaximum 1\nwitness 10\ntables 2 2\nliterals 6 2\nminimal no\n";
+
+/// The names of the bundle, in the order in which they are written.
+const NAMES: [&[u8]; 5] = [b"out.blif", b"out.cnf", b"out.lrat", b"out.wit", b"out.txt"];
 
 /// The words of a line, which stand between single blanks; an empty line has none.
 fn words(alloc: Global, line: &[u8]) -> Result<Vec<Word>, AllocError> {
@@ -133,7 +136,7 @@ fn netlists_that_are_simplified(rt: HostRuntime) -> Result<(), Fail> {
             b"synth abs 1 1 ha.blif out",
             HALF_ADDER,
             SUM_CONSTANT,
-            FORMULA_HEADER,
+            b"p cnf 76 246\n",
             VECTORS,
             REPORT,
         ),
@@ -208,6 +211,24 @@ fn netlists_that_are_simplified(rt: HostRuntime) -> Result<(), Fail> {
 }
 
 #[test]
+fn the_log_is_accepted(rt: HostRuntime) -> Result<(), Fail> {
+    let alloc = rt.alloc();
+    let mut files = MemFiles::new(holding(alloc, HALF_ADDER)?, failing_at(alloc, 0)?, 64);
+    let exact = read_net(alloc, &mut files, b"ha.blif")?;
+    assert!(rt; exact.inputs() <= 8);
+    let bundle = prepare(alloc, exact, Metric::Abs, 1)?;
+    let mut checker = Checker::new(alloc, &bundle.goal)?;
+    for item in bundle.log.as_slice() {
+        match item {
+            Item::Add(step) => assert_eq!(rt; checker.step(step), Ok(())),
+            Item::Remove(ids) => checker.remove(ids),
+        }
+    }
+    assert!(rt; checker.done());
+    Ok(())
+}
+
+#[test]
 fn words_and_their_answers(rt: HostRuntime) -> Result<(), Fail> {
     let rows: [(&[u8], u8); 19] = [
         (b"", 1),
@@ -226,7 +247,7 @@ fn words_and_their_answers(rt: HostRuntime) -> Result<(), Fail> {
         (b"demo 0 1 1", 1),
         (b"synth abs 19342813113834066795298815 1 ha.blif b", 0),
         (b"synth rel 1 1 ha.blif b", 0),
-        (b"check abs 1 ha.blif out", 9),
+        (b"check abs 1 ha.blif out", 5),
         (b"demo 1 1 1", 9),
         (b"synth abs 1 1 other.blif b", 5),
     ];
@@ -297,34 +318,29 @@ fn texts_that_are_refused(rt: HostRuntime) -> Result<(), Fail> {
     Ok(())
 }
 
-/// Whether the formula of the constant sum is held whole.
-fn holds_formula(files: &MemFiles) -> bool {
-    match files.bytes(b"out.cnf") {
-        Some(bytes) => bytes.starts_with(FORMULA_HEADER) && bytes.len() == FORMULA_LENGTH,
-        None => false,
-    }
-}
-
 /// Whether the files are as they are when one of them could not be written whole: those before it are whole, and those
 /// after it are not there.
-fn is_cut_short(files: &MemFiles, netlist: &[u8], vectors: &[u8], report: &[u8]) -> bool {
-    let netlist_whole = holds(files, b"out.blif", Some(netlist));
-    let vectors_whole = holds(files, b"out.wit", Some(vectors));
-    holds_at_most(files, b"out.blif", netlist)
-        && holds_at_most(files, b"out.wit", vectors)
-        && holds_at_most(files, b"out.txt", report)
-        && (netlist_whole || holds(files, b"out.cnf", None))
-        && (holds_formula(files) || holds(files, b"out.wit", None))
-        && (vectors_whole || holds(files, b"out.txt", None))
+fn is_cut_short(files: &MemFiles, whole: &MemFiles) -> bool {
+    let mut is_cut = false;
+    for name in NAMES {
+        let Some(text) = whole.bytes(name) else {
+            return false;
+        };
+        if is_cut && files.bytes(name).is_some() || !holds_at_most(files, name, text) {
+            return false;
+        }
+        is_cut = is_cut || !holds(files, name, Some(text));
+    }
+    true
 }
 
 /// Whether the files are as one of their calls left them that failed.
-fn is_left_by_a_fault(ended: &Run) -> bool {
+fn is_left_by_a_fault(ended: &Run, whole: &MemFiles) -> bool {
     let is_read = ended.status.exit() == 6;
     (is_read || ended.status.exit() == 5)
         && (is_read || holds(&ended.files, b"out.blif", None))
         && holds(&ended.files, b"ha.blif", Some(HALF_ADDER))
-        && is_cut_short(&ended.files, SUM_CONSTANT, VECTORS, REPORT)
+        && is_cut_short(&ended.files, whole)
         && ended.sink.bytes().is_empty()
 }
 
@@ -340,6 +356,7 @@ fn is_cut_in_turn(files: &MemFiles, late: u64) -> bool {
 #[test]
 fn each_call_on_files_fails_in_turn(rt: HostRuntime) -> Result<(), Fail> {
     let line = b"synth abs 1 1 ha.blif out";
+    let whole = run_on(&rt, line, HALF_ADDER, 64, 0, 0)?;
     for chunk in [7, 64] {
         assert!(rt; 0 < chunk);
         let mut first = 1000;
@@ -351,7 +368,7 @@ fn each_call_on_files_fails_in_turn(rt: HostRuntime) -> Result<(), Fail> {
                 break;
             }
             assert!(rt;
-                is_left_by_a_fault(&ended),
+                is_left_by_a_fault(&ended, &whole.files),
                 "call {call} of chunks of {chunk}"
             );
             if ended.status.exit() == 6 {
@@ -367,36 +384,31 @@ fn each_call_on_files_fails_in_turn(rt: HostRuntime) -> Result<(), Fail> {
 }
 
 /// Whether all files are whole, and a first part of the report was put.
-fn is_left_by_the_sink(ended: &Run) -> bool {
-    ended.status.exit() == 6
-        && holds(&ended.files, b"out.blif", Some(SUM_CONSTANT))
-        && holds_formula(&ended.files)
-        && holds(&ended.files, b"out.wit", Some(VECTORS))
-        && holds(&ended.files, b"out.txt", Some(REPORT))
-        && REPORT.starts_with(ended.sink.bytes())
+fn is_left_by_the_sink(ended: &Run, whole: &MemFiles) -> bool {
+    for name in NAMES {
+        if !holds(&ended.files, name, whole.bytes(name)) {
+            return false;
+        }
+    }
+    ended.status.exit() == 6 && REPORT.starts_with(ended.sink.bytes())
 }
 
 #[test]
 fn each_call_on_the_sink_fails_in_turn(rt: HostRuntime) -> Result<(), Fail> {
+    let line = b"synth abs 1 1 ha.blif out";
+    let whole = run_on(&rt, line, HALF_ADDER, 64, 0, 0)?;
     for chunk in [1, 3, 64] {
         assert!(rt; 0 < chunk);
         let mut done = false;
         for call in 1..1000 {
-            let ended = run_on(
-                &rt,
-                b"synth abs 1 1 ha.blif out",
-                HALF_ADDER,
-                chunk,
-                0,
-                call,
-            )?;
+            let ended = run_on(&rt, line, HALF_ADDER, chunk, 0, call)?;
             if ended.status.exit() == 0 {
                 assert!(rt; call > 1);
                 done = true;
                 break;
             }
             assert!(rt;
-                is_left_by_the_sink(&ended),
+                is_left_by_the_sink(&ended, &whole.files),
                 "call {call} of chunks of {chunk}"
             );
         }
@@ -445,6 +457,9 @@ fn real_files_and_standard_output(rt: HostRuntime) -> Result<(), Fail> {
 fn exit_numbers_and_lines(rt: HostRuntime) -> Result<(), Fail> {
     let rows = [
         (Status::Done, 0, "done"),
+        (Status::Verified, 0, "verified"),
+        (Status::Refuted(10), 7, "refuted by clause 10"),
+        (Status::Endless, 8, "input without end"),
         (Status::NoMemory, 3, "out of memory"),
         (Status::ReadFault, 5, "read fault"),
         (Status::WriteFault, 6, "write fault"),

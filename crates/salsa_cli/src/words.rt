@@ -1,11 +1,11 @@
 //! The words of the command line, and the job that they name.
-ghost use Rattle.std.specs.Prelude.{◌≡◌, option_map};
+ghost use Rattle.std.specs.Prelude.{◌≡◌, ◌<◌, ◌^◌, option_map, IfSome};
 ghost use Rattle.job_semantics.specs.Job.{job_of, synth_of, check_of, demo_of, metric_of, bound_of, conflicts_of, are_file_words};
 ghost use Rattle.joint_net.specs.Metric.{meaning};
-ghost use Rattle.salsa_cli.specs.Words.{job_meaning};
+ghost use Rattle.salsa_cli.specs.Words.{job_meaning, bound_in};
 
 use crate::bundle_names::is_bundle_name;
-use crate::decimal::number_from_to;
+use bundle::decimal::number_from_to;
 use file_core::word::Word;
 use joint_net::metric::Metric;
 
@@ -54,8 +54,10 @@ fn are_file_words(input: &[u8], stem: &[u8]) -> bool
     !input.is_empty() && !stem.is_empty() && !is_bundle_name(stem, input)
 }
 
+#[tactic(auto, using(crate::proofs::JobWords::number_within))]
 fn synth(words: &[Word]) -> Option<Command<'_>>
-    ensures { option_map job_meaning result ≡ synth_of words.now }
+    ensures job { option_map job_meaning result ≡ synth_of words.now }
+    ensures bound { IfSome result (λ c. bound_in c < 2 ^ 84) }
 {
     let [metric_word, bound_word, conflicts_word, input, stem] = words else {
         return None;
@@ -77,8 +79,10 @@ fn synth(words: &[Word]) -> Option<Command<'_>>
     })
 }
 
+#[tactic(auto, using(crate::proofs::JobWords::number_within))]
 fn check(words: &[Word]) -> Option<Command<'_>>
-    ensures { option_map job_meaning result ≡ check_of words.now }
+    ensures job { option_map job_meaning result ≡ check_of words.now }
+    ensures bound { IfSome result (λ c. bound_in c < 2 ^ 84) }
 {
     let [metric_word, bound_word, input, stem] = words else {
         return None;
@@ -98,8 +102,10 @@ fn check(words: &[Word]) -> Option<Command<'_>>
     })
 }
 
+#[tactic(auto, using(crate::proofs::JobWords::number_within))]
 fn demo(words: &[Word]) -> Option<Command<'_>>
-    ensures { option_map job_meaning result ≡ demo_of words.now }
+    ensures job { option_map job_meaning result ≡ demo_of words.now }
+    ensures bound { IfSome result (λ c. bound_in c < 2 ^ 84) }
 {
     let [width_word, bound_word, conflicts_word] = words else {
         return None;
@@ -117,7 +123,8 @@ fn demo(words: &[Word]) -> Option<Command<'_>>
 /// The job that the words name, if they name one. It takes no memory.
 #[tactic(auto, unfolding(job_semantics::specs::Job::job_of))]
 pub fn command_named(words: &[Word]) -> Option<Command<'_>>
-    ensures { option_map job_meaning result ≡ job_of words.now }
+    ensures job { option_map job_meaning result ≡ job_of words.now }
+    ensures bound { IfSome result (λ c. bound_in c < 2 ^ 84) }
 {
     let (command, rest) = words.split_first()?;
     let command = command.bytes();

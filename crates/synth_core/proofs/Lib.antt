@@ -3,3 +3,4 @@ pub mod WordLists
 pub mod FirstGreatest
 pub mod MoveLists
 pub mod Members
+pub mod Shrinkings

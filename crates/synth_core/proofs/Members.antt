@@ -26,7 +26,7 @@ first_member metric exact bound N is = rw is first
 
 -- the net after a step is a member
 pub next_member : (metric : Metric) (exact : NetValue) (bound : ℕ) (N M : NetValue) → IsInConstantChain metric exact bound N → IsFirstStep metric exact bound N M → IsInConstantChain metric exact bound M
-next_member metric exact bound N M h step = rw step.is (next N step.move h step.first)
+next_member metric exact bound N M h step = next N M step.move h step.first step.is
 
 -- each step removes literals
 pub step_falls : (metric : Metric) (exact : NetValue) (bound : ℕ) (N M : NetValue) → IsFirstStep metric exact bound N M → literal_count M < literal_count N
@@ -85,8 +85,8 @@ IsSmall-made_constant N move falls h =
 -- the members of a small net's chain are small
 pub IsSmall-member : (metric : Metric) (exact : NetValue) (bound : ℕ) (N : NetValue) → IsInConstantChain metric exact bound N → IsSmall exact → IsSmall N
 IsSmall-member metric exact bound N first small = small
-IsSmall-member metric exact bound N (next s move h f) small =
-    IsSmall-made_constant s move (first_move_falls (IsAllowedConstant metric exact bound s) s move f) (IsSmall-member metric exact bound s h small)
+IsSmall-member metric exact bound N (next s t move h f e) small =
+    rw e (IsSmall-made_constant s move (first_move_falls (IsAllowedConstant metric exact bound s) s move f) (IsSmall-member metric exact bound s h small))
 
 -- the end of the chain with its greatest error
 pub IsSimplifiedFrom-end : (metric : Metric) (exact : NetValue) (bound : ℕ) (N : NetValue) (maximum : ℕ) (witness : List Bool) → IsConstantChainEnd metric exact bound N → IsFirstGreatestAt (input_count exact) (net_error metric exact N) maximum witness → IsSimplifiedFrom exact metric bound (record { net = N; maximum = maximum; witness = witness })

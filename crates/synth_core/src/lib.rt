@@ -11,6 +11,7 @@ pub mod chain;
 pub mod moves;
 pub mod outputs;
 mod scratch;
+pub mod shrink;
 pub mod simplify;
 mod vectors;
 pub mod worst;

@@ -1,0 +1,185 @@
+-- Where a move changes its table's value, and where it breaks the bound, bit by bit.
+use Rattle.std.proofs.Common.{◌≡◌, ◌≢◌, ◌↔◌, ℕ, ◌+◌, ◌-◌, ◌*◌, ◌^◌, ◌<◌, ◌≤◌, Bool, true, false, not, ◌&&◌, ◌||◌, ltb, List, length, get_or, set, IsTrue, All, w64, refl, ap, sym, subst, ◌∙◌, inl, inr, arith, get_or-set_same, get_or-set_other}
+use Rattle.std.specs.Prelude.{bit_and, bit_or, bit_xor, ◌==◌}
+use Rattle.std.specs.Int.{bit_not, trailing_zeros}
+use Rattle.std.proofs.lemmas.Bool.{cases_eq, cases_lt, and_parts, and_from, or_cases, or_left, or_right, not-true, not_from_false, false_from_ne_true, lt-ltb, le-ltb, ltb-true}
+use Rattle.std.proofs.lemmas.Nat.Bits.{bit_at_ones, bit_at_ones_above, bit_at-trailing_zeros}
+use Rattle.std.proofs.lemmas.List.Elements.{All-weaker, recursion_from_All}
+use Rattle.semantics.specs.Net.{TableValue, NetValue, table_at, input_count, signal_count, IsSound}
+use Rattle.semantics.specs.Value.{table_value, value_of}
+use Rattle.semantics.specs.Error.{Metric}
+use Rattle.semantics.proofs.Values.{table_value-same}
+use Rattle.chain_semantics.specs.declared.moves.Move.{Move}
+use Rattle.chain_semantics.specs.Moves.{table_of, moved_table}
+use Rattle.chain_semantics.specs.Care.{IsCaredFor, Exceeds, moved_value, Changes, IsBrokenAt}
+use Rattle.chain_semantics.specs.MoveLaws.{IsMoveOf}
+use Rattle.chain_semantics.proofs.MovedNets.{move-within, moved-pins}
+use Rattle.chain_semantics.proofs.MovedFlips.{move-broken}
+use Rattle.lane_bits.specs.Rows.{row_bit, turned, word_count}
+use Rattle.lane_bits.proofs.Bits.{and_bit, or_bit, xor_bit}
+use Rattle.adc_core.specs.Words.{word_bit, values_at, HasValues}
+use Rattle.adc_core.specs.Masks.{vector_at, row_at, IsRowWhere, IsFirstBroken}
+use Rattle.adc_core.specs.Blocks.{AreBlocksOf, IsWordWhere}
+use Rattle.adc_core.proofs.WordBits.{not_bit, ones_bit}
+use Rattle.adc_core.proofs.RowBits.{row_bit-word, row_where}
+
+turned-differs : (m v : Bool) → (turned v m ≡ true) ↔ (m ≢ v)
+turned-differs true true = (λ e. absurd (let f : false ≡ true = e in cc), λ d. absurd (d refl))
+turned-differs false true = (λ e same. cc, λ d. refl)
+turned-differs true false = (λ e same. cc, λ d. refl)
+turned-differs false false = (λ e. absurd (let f : false ≡ true = e in cc), λ d. absurd (d refl))
+
+-- the difference of the two words
+pub difference_bit : (N : NetValue) (m : Move) (words : List ℕ) (moved_word value : ℕ) → IsSound N → IsMoveOf N m
+    → value ≡ get_or words (input_count N + table_of m) 0
+    → ((b : ℕ) → b < 64 → word_bit moved_word b ≡ table_value (moved_table (table_at N.tables (table_of m)) m) (values_at words b))
+    → (b : ℕ) (x : List Bool) → b < 64 → HasValues N words b x → IsTrue (word_bit (bit_xor moved_word value) b) ↔ Changes N m x
+difference_bit N m words moved_word value sound is value_is moved b x low values =
+    let t : ℕ = table_of m in
+    let new : TableValue = moved_table (table_at N.tables t) m in
+    let pins : All (λ s. values_at words b s ≡ value_of (input_count N) N.tables x s) new.pins =
+    All-weaker (λ s. s < signal_count N) (λ s. values_at words b s ≡ value_of (input_count N) N.tables x s) (λ s within. values s within) new.pins (moved-pins N m sound is) in
+    let left : word_bit moved_word b ≡ moved_value N m x =
+    moved b low ∙ table_value-same new (values_at words b) (value_of (input_count N) N.tables x) (recursion_from_All (λ s. values_at words b s ≡ value_of (input_count N) N.tables x s) new.pins pins) in
+    let right : word_bit value b ≡ value_of (input_count N) N.tables x (input_count N + t) =
+    ap (λ w. word_bit w b) value_is ∙ values (input_count N + t) (omega (arith, move-within N m is)) in
+    let bit : word_bit (bit_xor moved_word value) b ≡ turned (value_of (input_count N) N.tables x (input_count N + t)) (moved_value N m x) =
+    xor_bit moved_word value b ∙ (λ j. turned (right j) (left j)) in
+    let tells = turned-differs (moved_value N m x) (value_of (input_count N) N.tables x (input_count N + t)) in
+    (λ set. tells.0 (sym bit ∙ set), λ differs. bit ∙ tells.1 differs)
+
+-- the bits below a place
+pub used_low : (count k b left : ℕ) → b < 64 → left ≡ count - 64 * k → 0 < left → word_bit (2 ^ left - 1) b ≡ ltb (64 * k + b) count
+used_low count k b left low is some =
+    elim (cases_lt b left) [
+      | inl below ↦ ap (λ n. n == 1) (bit_at_ones left b below) ∙ sym (lt-ltb (64 * k + b) count (omega arith))
+      | inr past ↦ ap (λ n. n == 1) (bit_at_ones_above left b past) ∙ sym (le-ltb (64 * k + b) count (omega arith))
+    ]
+
+pub used_all : (count k b : ℕ) → b < 64 → 64 ≤ count - 64 * k → word_bit (2 ^ 64 - 1) b ≡ ltb (64 * k + b) count
+used_all count k b low full = ones_bit b low ∙ sym (lt-ltb (64 * k + b) count (omega arith))
+
+pub lowest_is : (word : ℕ) → 0 < word → word < 2 ^ 64
+    → (trailing_zeros w64 word < 64) × (word_bit word (trailing_zeros w64 word) ≡ true) × ((b : ℕ) → b < trailing_zeros w64 word → word_bit word b ≡ false)
+lowest_is word some fits =
+    let h = bit_at-trailing_zeros w64 word some fits in
+    (h.0, ap (λ n. n == 1) h.1, λ b low. ap (λ n. n == 1) (h.2 b low))
+
+-- one more word of the patterns at which a move changes its table's value
+pub changes_more : (N : NetValue) (m : Move) (blocks : List (List ℕ)) (count k : ℕ) (words row : List ℕ) (differs used : ℕ) → k < length blocks → words ≡ row_at blocks k → k < length row
+    → ((b : ℕ) (x : List Bool) → b < 64 → HasValues N words b x → IsTrue (word_bit differs b) ↔ Changes N m x) → ((b : ℕ) → b < 64 → word_bit used b ≡ ltb (64 * k + b) count)
+    → ((vectors : List (List Bool)) → length vectors ≡ count → AreBlocksOf N vectors blocks → (j : ℕ) → j < k → IsWordWhere vectors (Changes N m) j (get_or row j 0))
+    → (vectors : List (List Bool)) → length vectors ≡ count → AreBlocksOf N vectors blocks → (j : ℕ) → j < k + 1
+    → IsWordWhere vectors (Changes N m) j (get_or (set row k (bit_and differs used)) j 0)
+changes_more N m blocks count k words row differs used low words_are room tells use_is before vectors long are j within =
+    elim (cases_eq j k) [
+      | inl e ↦ rw (e, get_or-set_same row k (bit_and differs used) 0 room) (λ b inside.
+          let values : HasValues N words b (vector_at vectors (64 * k + b)) =
+          subst (λ w. HasValues N w b (vector_at vectors (64 * k + b))) (sym words_are) ((are.each k low).values b inside) in
+          let iff = tells b (vector_at vectors (64 * k + b)) inside values in (
+            λ set.
+                let parts = and_parts (word_bit differs b) (word_bit used b) (sym (and_bit differs used b) ∙ set) in
+                (omega (arith, ltb-true (64 * k + b) count (sym (use_is b inside) ∙ parts.1), long), iff.0 parts.0),
+            λ h. and_bit differs used b ∙ and_from (word_bit differs b) (word_bit used b) (iff.1 h.1) (use_is b inside ∙ lt-ltb (64 * k + b) count (omega (arith, h.0, long))),
+          ))
+      | inr other ↦ rw (get_or-set_other row k j (bit_and differs used) 0 other) (before vectors long are j (omega arith))
+    ]
+
+pub changes_all : (N : NetValue) (m : Move) (blocks : List (List ℕ)) (count k : ℕ) (row : List ℕ) → length row ≡ word_count count → length blocks ≡ word_count count → length blocks ≤ k
+    → ((vectors : List (List Bool)) → length vectors ≡ count → AreBlocksOf N vectors blocks → (j : ℕ) → j < k → IsWordWhere vectors (Changes N m) j (get_or row j 0))
+    → (vectors : List (List Bool)) → length vectors ≡ count → AreBlocksOf N vectors blocks → IsRowWhere vectors (Changes N m) row
+changes_all N m blocks count k row room whole past each vectors long are =
+    row_where vectors (Changes N m) row (room ∙ ap word_count (sym long)) (λ j low. each vectors long are j (omega (arith, room, whole)))
+
+module _ (metric : Metric) (E N : NetValue) (bound : ℕ) (m : Move) (sound : IsSound N) (is : IsMoveOf N m) (vectors : List (List Bool)) (blocks : List (List ℕ)) (care exceeds : List ℕ)
+    (are : AreBlocksOf N vectors blocks) (cared : IsRowWhere vectors (IsCaredFor metric E bound N (table_of m)) care) (exceeded : IsRowWhere vectors (Exceeds metric E bound N) exceeds) where
+  abbrev Broken : ℕ → Type 0
+  Broken p = IsBrokenAt metric E bound N m (vector_at vectors p)
+
+  -- a bit of a row is 1 at a pattern alone
+  at_pattern : (P : List Bool → Type 0) (row : List ℕ) → IsRowWhere vectors P row → (p : ℕ) → row_bit row p ≡ true → p < length vectors
+  at_pattern P row holds p set =
+      elim (cases_lt p (length vectors)) [
+        | inl low ↦ low
+        | inr past ↦ absurd (let clear : row_bit row p ≡ false = holds.clear p past in cc)
+      ]
+
+  -- the words of one block
+  abbrev broken_word : ℕ → ℕ → ℕ
+  broken_word k differs = bit_or (bit_and differs (get_or care k 0)) (bit_and (get_or exceeds k 0) (bit_not w64 differs))
+
+  pub broken_bit : (k differs : ℕ) (words : List ℕ) → k < length blocks → words ≡ row_at blocks k → differs < 2 ^ 64
+      → ((b : ℕ) (x : List Bool) → b < 64 → HasValues N words b x → IsTrue (word_bit differs b) ↔ Changes N m x)
+      → (b : ℕ) → b < 64 → (word_bit (bit_or (bit_and differs (get_or care k 0)) (bit_and (get_or exceeds k 0) (bit_not w64 differs))) b ≡ true)
+      ↔ ((64 * k + b < length vectors) × IsBrokenAt metric E bound N m (vector_at vectors (64 * k + b)))
+  broken_bit k differs words low words_are fits tells b inside =
+      let p : ℕ = 64 * k + b in
+      let x : List Bool = vector_at vectors p in
+      let values : HasValues N words b x = subst (λ w. HasValues N w b x) (sym words_are) ((are.each k low).values b inside) in
+      let iff = tells b x inside values in
+      let law = move-broken N m x sound is metric E bound in
+      let c : Bool = word_bit (get_or care k 0) b in
+      let e : Bool = word_bit (get_or exceeds k 0) b in
+      let d : Bool = word_bit differs b in
+      let care_is : row_bit care p ≡ c = row_bit-word care k b inside in
+      let exceeds_is : row_bit exceeds p ≡ e = row_bit-word exceeds k b inside in
+      let whole : word_bit (broken_word k differs) b ≡ ((d && c) || (e && not d)) =
+      or_bit (bit_and differs (get_or care k 0)) (bit_and (get_or exceeds k 0) (bit_not w64 differs)) b
+      ∙ (λ j. and_bit differs (get_or care k 0) b j || (and_bit (get_or exceeds k 0) (bit_not w64 differs) b ∙ ap (λ y. e && y) (not_bit differs b fits inside)) j) in (
+        λ set. elim (or_cases (d && c) (e && not d) (sym whole ∙ set)) [
+          | inl both ↦
+              let parts = and_parts d c both in
+              let here : p < length vectors = at_pattern (IsCaredFor metric E bound N (table_of m)) care cared p (care_is ∙ parts.1) in
+              (here, law.1 (inl (iff.0 parts.0, (cared.bits p here).0 (care_is ∙ parts.1))))
+          | inr both ↦
+              let parts = and_parts e (not d) both in
+              let here : p < length vectors = at_pattern (Exceeds metric E bound N) exceeds exceeded p (exceeds_is ∙ parts.0) in
+              let clear : d ≡ false = not-true d parts.1 in
+              (here, law.1 (inr ((λ changes. (let set' : d ≡ true = iff.1 changes in cc)), (exceeded.bits p here).0 (exceeds_is ∙ parts.0))))
+        ],
+        λ h. whole ∙ elim (law.0 h.1) [
+          | inl changed ↦ or_left (d && c) (e && not d) (and_from d c (iff.1 changed.0) (sym care_is ∙ (cared.bits p h.0).1 changed.1))
+          | inr left ↦
+              or_right (d && c) (e && not d)
+              (and_from e (not d) (sym exceeds_is ∙ (exceeded.bits p h.0).1 left.1) (not_from_false d (false_from_ne_true d (λ set. left.0 (iff.0 set)))))
+        ],
+      )
+
+  -- the first bit of a block behind blocks that break nowhere
+  pub broken_first : (k word t p : ℕ) → p ≡ 64 * k + t
+      → ((b : ℕ) → b < 64 → (word_bit word b ≡ true) ↔ ((64 * k + b < length vectors) × IsBrokenAt metric E bound N m (vector_at vectors (64 * k + b))))
+      → (t < 64) × (word_bit word t ≡ true) × ((b : ℕ) → b < t → word_bit word b ≡ false)
+      → ((q : ℕ) → q < 64 * k → q < length vectors → ¬ IsBrokenAt metric E bound N m (vector_at vectors q)) → IsFirstBroken metric E bound N vectors m p
+  broken_first k word t p at bits first before =
+      let here = (bits t first.0).0 first.1 in
+      record {
+        within = omega (arith, here.0);
+        broken = subst Broken (sym at) here.1;
+        first = λ q low broken.
+            elim (cases_lt q (64 * k)) [
+              | inl old ↦ before q old (omega (arith, here.0)) broken
+              | inr new ↦
+                  let b : ℕ = q - 64 * k in
+                  let place : q ≡ 64 * k + b = omega arith in
+                  let set : word_bit word b ≡ true = (bits b (omega (arith, first.0))).1 (omega (arith, here.0), subst Broken place broken) in
+                  let clear : word_bit word b ≡ false = first.2 b (omega arith) in
+                  cc
+            ];
+      }
+
+  -- a block without a bit
+  pub broken_none : (k word : ℕ)
+      → ((b : ℕ) → b < 64 → (word_bit word b ≡ true) ↔ ((64 * k + b < length vectors) × IsBrokenAt metric E bound N m (vector_at vectors (64 * k + b))))
+      → ((b : ℕ) → b < 64 → word_bit word b ≡ false)
+      → ((q : ℕ) → q < 64 * k → q < length vectors → ¬ IsBrokenAt metric E bound N m (vector_at vectors q))
+      → (q : ℕ) → q < 64 * (k + 1) → q < length vectors → ¬ IsBrokenAt metric E bound N m (vector_at vectors q)
+  broken_none k word bits none before q low within broken =
+      elim (cases_lt q (64 * k)) [
+        | inl old ↦ before q old within broken
+        | inr new ↦
+            let b : ℕ = q - 64 * k in
+            let place : q ≡ 64 * k + b = omega arith in
+            let set : word_bit word b ≡ true = (bits b (omega arith)).1 (omega arith, subst Broken place broken) in
+            let clear : word_bit word b ≡ false = none b (omega arith) in
+            cc
+      ]

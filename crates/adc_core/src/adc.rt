@@ -1,0 +1,145 @@
+//! The masks of an approximate net over a set of patterns, and what they say of moves.
+ghost use Rattle.std.specs.Prelude.{◌≡◌, ◌<◌, ◌≤◌, ℕ, length, IfOk, Contains};
+ghost use Rattle.semantics.specs.Net.{NetValue, input_count, table_count, HasSamePorts};
+ghost use Rattle.semantics.specs.Error.{Metric as ErrorMetric};
+ghost use Rattle.chain_semantics.specs.Moves.{moves_of};
+ghost use Rattle.chain_semantics.specs.Care.{Changes};
+ghost use Rattle.joint_net.specs.Metric.{meaning};
+ghost use Rattle.adc_core.specs.Masks.{row_at, IsRowWhere, AreMasksOf, FindsFirstBroken};
+ghost use Rattle.adc_core.specs.Blocks.{vectors_in, AreFilled};
+
+use crate::blocks::blocks;
+use crate::differences::{first_broken, set_differences};
+use crate::outputs::all_outputs;
+use crate::rows::{Limit, care_rows, exceeding_row};
+use crate::word_list::WordList;
+use chain_semantics::moves::Move;
+use joint_net::metric::Metric;
+use lane_bits::kernels::word_count;
+use lane_bits::patterns::Patterns;
+use net_core::items::Items;
+use net_core::net::Net;
+use net_moves::apply::table_of;
+use std::alloc::{AllocError, Global};
+use std::marker::Model;
+
+/// The net's values at the patterns in blocks of 64, for each table the row of the patterns that are cared for, the row of those
+/// at which the net itself exceeds the bound, and room for one more row.
+#[derive(Drop)]
+pub struct Adc {
+    net: Net,
+    count: u64,
+    blocks: Items<WordList>,
+    care: Items<WordList>,
+    exceeds: WordList,
+    differs: Vec<u64>,
+}
+
+impl Model for Adc {
+    ghost use Rattle.semantics.specs.Net.{input_count};
+    ghost use Rattle.adc_core.specs.Masks.{Masks};
+    ghost use Rattle.adc_core.specs.Blocks.{vectors_in, AreFilled};
+
+    ghost Value = { Masks };
+
+    ghost view = { λ a. record {
+      net = a.net;
+      vectors = vectors_in (input_count a.net) a.count a.blocks;
+      care = a.care;
+      exceeds = a.exceeds;
+    } };
+
+    ghost invariant = { λ a. AreFilled a.net a.count a.blocks a.care a.exceeds a.differs.items };
+}
+
+impl Adc {
+    /// The masks of these parts.
+    fn of_parts(
+        net: Net,
+        count: u64,
+        blocks: Items<WordList>,
+        care: Items<WordList>,
+        exceeds: WordList,
+        differs: Vec<u64>,
+    ) -> Adc
+        requires { AreFilled net count blocks care exceeds differs.items }
+        ensures { result ≡ record { net = net; vectors = vectors_in (input_count net) count blocks; care = care; exceeds = exceeds } }
+    {
+        Adc {
+            net,
+            count,
+            blocks,
+            care,
+            exceeds,
+            differs,
+        }
+    }
+
+    /// The masks of `approx` against `exact` at these patterns.
+    pub fn new(
+        alloc: Global,
+        exact: &Net,
+        approx: &Net,
+        metric: Metric,
+        bound: u128,
+        patterns: &Patterns,
+    ) -> Result<Adc, AllocError>
+        requires ports { HasSamePorts exact.now approx.now }
+        requires few_outputs { length exact.now.outputs ≤ 64 }
+        requires inputs { patterns.now.inputs ≡ input_count exact.now }
+        ensures net { IfOk result (λ adc. adc.net ≡ approx.now) }
+        ensures vectors { IfOk result (λ adc. adc.vectors ≡ patterns.now.vectors) }
+        ensures masks { IfOk result (AreMasksOf (meaning metric) exact.now bound) }
+    {
+        let limit = Limit {
+            outputs: all_outputs(alloc, exact, patterns)?,
+            metric,
+            bound,
+        };
+        let blocks = blocks(alloc, approx, patterns)?;
+        let exceeds = exceeding_row(alloc, approx, blocks.as_slice(), &limit)?;
+        let care = care_rows(alloc, approx, blocks.as_slice(), &limit)?;
+        let differs = vec![in alloc; 0; word_count(patterns.count()) as usize]?;
+        let net = approx.copy()?;
+        Ok(Adc::of_parts(net, patterns.count(), blocks, care, exceeds, differs))
+    }
+
+    /// The row of the patterns that are cared for at table `t`; the others are its don't-cares.
+    pub fn care(&self, t: u32) -> &[u64]
+        requires { t < table_count self.now.net }
+        ensures { result.now ≡ row_at self.now.care t }
+    {
+        self.care.get(t as usize).as_slice()
+    }
+
+    /// The row of the patterns at which the move changes its table's value.
+    pub fn differs(&mut self, step: Move) -> &[u64]
+        requires { Contains (moves_of self.old.net) step }
+        ensures { IsRowWhere self.old.vectors (Changes self.old.net step) result.now }
+    {
+        set_differences(
+            &self.net,
+            step,
+            self.count,
+            self.blocks.as_slice(),
+            &mut self.differs,
+        );
+        &self.differs
+    }
+
+    /// The first pattern at which the moved net exceeds the bound.
+    pub fn breaks(&self, step: Move) -> Option<u64>
+        requires { Contains (moves_of self.now.net) step }
+        ensures { (metric : ErrorMetric) (exact : NetValue) (bound : ℕ) → AreMasksOf metric exact bound self.now
+            → FindsFirstBroken metric exact bound self.now.net self.now.vectors step result }
+    {
+        let care = self.care.get(table_of(step) as usize).as_slice();
+        first_broken(
+            &self.net,
+            step,
+            self.blocks.as_slice(),
+            care,
+            self.exceeds.as_slice(),
+        )
+    }
+}

@@ -1,0 +1,98 @@
+//! At which patterns a move changes its table's value, and where that breaks the bound.
+ghost use Rattle.std.specs.Prelude.{◌≡◌, ◌↔◌, ◌+◌, ◌*◌, ◌<◌, ◌≤◌, ◌^◌, ℕ, Bool, List, true, false, length, nat_lt, IsTrue, MatchOption, Contains};
+ghost use Rattle.semantics.specs.Net.{NetValue, signal_count};
+ghost use Rattle.semantics.specs.Error.{Metric};
+ghost use Rattle.chain_semantics.specs.Moves.{moves_of, table_of};
+ghost use Rattle.chain_semantics.specs.Care.{IsCaredFor, Exceeds, Changes};
+ghost use Rattle.lane_bits.specs.Rows.{word_count};
+ghost use Rattle.net_core.specs.Built.{IsBuilt};
+ghost use Rattle.adc_core.specs.Words.{word_bit, HasValues};
+ghost use Rattle.adc_core.specs.Masks.{row_at, IsRowWhere, FindsFirstBroken};
+ghost use Rattle.adc_core.specs.Blocks.{AreBlocksOf};
+
+use crate::moved::moved_word;
+use crate::word_list::WordList;
+use chain_semantics::moves::Move;
+use net_core::net::Net;
+use net_moves::apply::table_of;
+
+/// Where the move changes its table's value, in one block.
+fn difference_word(net: &Net, step: Move, words: &[u64]) -> u64
+    requires step { Contains (moves_of net.now) step }
+    requires room { length words.now ≡ signal_count net.now }
+    ensures bits { (b : ℕ) (x : List Bool) → b < 64 → HasValues net.now words.now b x
+        → IsTrue (word_bit result b) ↔ Changes net.now step x }
+    ensures built { IsBuilt net.now }
+{
+    let value = words[(net.inputs() + table_of(step)) as usize];
+    moved_word(net, step, words) ^ value
+}
+
+/// The bits of block k that are patterns.
+fn used_word(count: u64, k: usize) -> u64
+    requires { k < word_count count }
+    ensures { (b : ℕ) → b < 64 → word_bit result b ≡ nat_lt (64 * k + b) count }
+{
+    let left = count - 64 * k as u64;
+    if left < 64 { (1 << left) - 1 } else { u64::MAX }
+}
+
+/// Sets `row` to the patterns at which the move changes its table's value.
+pub(crate) fn set_differences(
+    net: &Net,
+    step: Move,
+    count: u64,
+    blocks: &[WordList],
+    row: &mut [u64],
+)
+    requires step { Contains (moves_of net.now) step }
+    requires blocks { (k : ℕ) → k < length blocks.now → length (row_at blocks.now k) ≡ signal_count net.now }
+    requires count { length blocks.now ≡ word_count count }
+    requires room { length row.old ≡ word_count count }
+    ensures { (vectors : List (List Bool)) → length vectors ≡ count → AreBlocksOf net.now vectors blocks.now
+        → IsRowWhere vectors (Changes net.now step) row.new }
+{
+    for k in 0..blocks.len() {
+        row[k] = difference_word(net, step, blocks[k].as_slice()) & used_word(count, k);
+    }
+}
+
+/// The lowest bit that is 1.
+fn lowest_bit(word: u64) -> Option<u32>
+    ensures { MatchOption result ((b : ℕ) → b < 64 → word_bit word b ≡ false)
+        (λ t. (t < 64) × (word_bit word t ≡ true) × ((b : ℕ) → b < t → word_bit word b ≡ false)) }
+{
+    if word == 0 {
+        return None;
+    }
+    Some(word.trailing_zeros())
+}
+
+/// The first pattern at which the move breaks the bound: where it changes its table's value and the pattern is cared for, or
+/// where it leaves the value and the net itself exceeds the bound.
+pub(crate) fn first_broken(
+    net: &Net,
+    step: Move,
+    blocks: &[WordList],
+    care: &[u64],
+    exceeds: &[u64],
+) -> Option<u64>
+    requires step { Contains (moves_of net.now) step }
+    requires blocks { (k : ℕ) → k < length blocks.now → length (row_at blocks.now k) ≡ signal_count net.now }
+    requires few { length blocks.now ≤ 2 ^ 58 }
+    requires care { length care.now ≡ length blocks.now }
+    requires exceeds { length exceeds.now ≡ length blocks.now }
+    ensures { (metric : Metric) (exact : NetValue) (bound : ℕ) (vectors : List (List Bool)) → AreBlocksOf net.now vectors blocks.now
+        → IsRowWhere vectors (IsCaredFor metric exact bound net.now (table_of step)) care.now
+        → IsRowWhere vectors (Exceeds metric exact bound net.now) exceeds.now
+        → FindsFirstBroken metric exact bound net.now vectors step result }
+{
+    for k in 0..blocks.len() {
+        let differs = difference_word(net, step, blocks[k].as_slice());
+        let broken = (differs & care[k]) | (exceeds[k] & !differs);
+        if let Some(b) = lowest_bit(broken) {
+            return Some(64 * k as u64 + u64::from(b));
+        }
+    }
+    None
+}

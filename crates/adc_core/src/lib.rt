@@ -1,0 +1,21 @@
+//! Approximation don't-cares: at which patterns turning a table's value over makes the error exceed the bound.
+//!
+//! A move changes one table. Where it leaves the table's value, every output stays; where it changes it, the outputs are those of
+//! the net with that value turned over. So it is found out once, for each table, at which patterns the turned value exceeds the
+//! bound, and after that a move costs the rows of its own table at a few patterns.
+//!
+//! Patterns are evaluated 64 at a time: one word for each signal, one bit for each pattern.
+#![tactic(auto)]
+
+pub mod adc;
+mod blocks;
+mod differences;
+mod errors;
+mod moved;
+mod outputs;
+mod rows;
+#[cfg(test)]
+mod tests;
+mod values;
+mod word_list;
+mod words;

@@ -1,0 +1,137 @@
+-- What the front of a file's text says of the whole.
+use Rattle.std.proofs.Common.{◌≡◌, ℕ, ◌+◌, ◌-◌, ◌<◌, ◌≤◌, Bool, false, not, if◌then◌else◌, List, [], ◌∷◌, ◌++◌, append_assoc, length, nat_le, Option, Some, None, Err, inl, inr, refl, sym, ap, subst, ◌∙◌, arith}
+use Rattle.std.specs.Prelude.{◌↔◌, IsTrue, IfSome, MatchOption, slice_index_or}
+use Rattle.std.specs.Bool.{Decides}
+use Rattle.std.proofs.lemmas.List.{length-take}
+use Rattle.std.proofs.lemmas.Bool.{cases_lt}
+use Rattle.std.proofs.lemmas.Bool.Decides.{nat_tests}
+use Rattle.semantics.specs.Texts.{Bytes}
+use Rattle.semantics.specs.Net.{NetValue, input_count}
+use Rattle.blif_semantics.specs.Reading.{bundle_limit, Refusal, text_long, blif_reading}
+use Rattle.blif_text.specs.Refusals.{refusal_of, Tells}
+use Rattle.blif_text.specs.declared.refusal.BlifRefusal.{BlifRefusal}
+use Rattle.blif_text.specs.declared.refusal.BlifRefusal.TheVariants as b
+use Rattle.file_reading.specs.Reading.{IsAllWanted, FilesStay}
+use Rattle.file_core.proofs.Told.{Goes-same}
+use Rattle.outside_semantics.specs.Outside.{FilesTold}
+use Rattle.semantics.specs.Texts.{bits_word}
+use Rattle.semantics.specs.Error.{Metric}
+use Rattle.job_semantics.specs.Report.{Report}
+use Rattle.job_semantics.specs.declared.ending.Ending.TheVariants as file
+use Rattle.job_semantics.specs.Certificate.{Texts, AreVectors, IsReportText, IsVectorsText}
+use Rattle.job_semantics.proofs.ReportTexts.{bits-cut}
+use Rattle.lane_bits.specs.Patterns.{PatternSet}
+use Rattle.bundle.specs.declared.report_reading.ReportRead.{ReportRead}
+use Rattle.bundle.specs.Reading.{HoldsVectors, report_read}
+use Rattle.bundle.specs.VectorLines.{vector_lines}
+use Rattle.bundle.proofs.VectorTexts.{vectors_text-is}
+use Rattle.bundle.specs.FilesRead.{IsNetIn, IsReportIn, BeginsVectors}
+
+pub FilesStay-same : (a : FilesTold) (name : Bytes) → FilesStay a a name
+FilesStay-same a name = record { goes = Goes-same a; stays = λ h k told tells. cc; still_told = λ h told has. told }
+
+-- a front within the limit is the whole
+pub whole_front : (content text : Bytes) (limit : ℕ) → IsAllWanted content text (limit + 1 - length text) → length text ≤ limit → text ≡ content
+whole_front content text limit (inl whole) within = whole
+whole_front content text limit (inr (none, front)) within = absurd (omega (arith, none, within))
+
+-- the whole is no shorter than the front
+front_at_most : (content text : Bytes) (room n : ℕ) → IsAllWanted content text room → n ≤ length text → n ≤ length content
+front_at_most content text room n (inl whole) h = subst (λ t. n ≤ length t) whole h
+front_at_most content text room n (inr (none, front)) h = omega (arith, h, ap length front, length-take (length text) content)
+
+if_false : {X : Type 0} (b : Bool) (x y : X) → b ≡ false → (if not b then x else y) ≡ x
+if_false b x y is = ap (λ t. if not t then x else y) is
+
+too_long : (text : Bytes) (most : ℕ) → most < length text → blif_reading text most ≡ Err text_long
+unfolding blif_reading
+too_long text most long = if_false (nat_le (length text) most) _ _ (grind (arith, nat_tests))
+
+-- the reading of a netlist is that of its front up to one byte past the limit
+pub reading_front : (content text : Bytes) (limit : ℕ) → limit ≡ bundle_limit → IsAllWanted content text (limit + 1 - length text) → blif_reading text bundle_limit ≡ blif_reading content bundle_limit
+reading_front content text limit is wanted =
+    elim (cases_lt bundle_limit (length text)) [
+      | inl long ↦ too_long text bundle_limit long ∙ sym (too_long content bundle_limit (front_at_most content text (limit + 1 - length text) (bundle_limit + 1) wanted (omega (arith, long))))
+      | inr short ↦ ap (λ t. blif_reading t bundle_limit) (whole_front content text limit wanted (omega (arith, short, is)))
+    ]
+
+-- a refusal but want of memory is one of the text
+told_refusal : (reason : BlifRefusal) → ¬ (reason ≡ b.OutOfMemory) → (refusal : Refusal) × (refusal_of reason ≡ Some refusal)
+told_refusal b.TextLong other = (_, refl)
+told_refusal (b.BadByte line) other = (_, refl)
+told_refusal (b.Command line word) other = (_, refl)
+told_refusal (b.StrayRow line) other = (_, refl)
+told_refusal (b.BadRow line) other = (_, refl)
+told_refusal (b.MixedPlane line) other = (_, refl)
+told_refusal (b.SecondModel line) other = (_, refl)
+told_refusal (b.AfterEnd line) other = (_, refl)
+told_refusal (b.NamesEmpty line) other = (_, refl)
+told_refusal (b.BadName line) other = (_, refl)
+told_refusal (b.Doubled name) other = (_, refl)
+told_refusal (b.Undriven name) other = (_, refl)
+told_refusal b.NoOutput other = (_, refl)
+told_refusal (b.Cycle name) other = (_, refl)
+told_refusal (b.Limit which) other = (_, refl)
+told_refusal b.OutOfMemory other = absurd (other refl)
+
+-- no net is in a text that is refused
+pub refused_text : (reason : BlifRefusal) (content text : Bytes) → blif_reading text bundle_limit ≡ blif_reading content bundle_limit → Tells reason (blif_reading text bundle_limit) → ¬ (reason ≡ b.OutOfMemory)
+    → IsNetIn None content
+refused_text reason content text same tells other M is =
+    let told = told_refusal reason other in
+    let refused : blif_reading text bundle_limit ≡ Err told.0 = tells told.0 told.1 in
+    cc
+
+-- ---- what was read of a report and of vectors
+
+pub report_in : (inputs : ℕ) (metric : Metric) (bound : ℕ) (text : Bytes) (o : Option ReportRead)
+    → MatchOption o ((r : Report) → ¬ IsReportText inputs metric bound text r) (λ found. IsReportText inputs metric bound text (report_read metric bound found)) → IsReportIn inputs metric bound o text
+report_in inputs metric bound text None h = h
+report_in inputs metric bound text (Some found) h = h
+
+pub report_width : (inputs : ℕ) (metric : Metric) (bound : ℕ) (text : Bytes) (o : Option ReportRead)
+    → MatchOption o ((r : Report) → ¬ IsReportText inputs metric bound text r) (λ found. IsReportText inputs metric bound text (report_read metric bound found))
+    → IfSome o (λ r. length r.witness ≡ inputs)
+report_width inputs metric bound text None h = tt
+report_width inputs metric bound text (Some found) h = h.witness
+
+one_witness : (inputs : ℕ) (text : Bytes) (w v : List Bool) (p q : List (List Bool)) → IsVectorsText inputs text w p → IsVectorsText inputs text v q → w ≡ v
+one_witness inputs text w v p q h k =
+    let lines : bits_word w ++ 10 ∷ vector_lines p ≡ bits_word v ++ 10 ∷ vector_lines q =
+    sym (append_assoc (bits_word w) (10 ∷ []) (vector_lines p)) ∙ vectors_text-is w p ∙ sym h.spelled ∙ k.spelled ∙ sym (vectors_text-is v q)
+    ∙ append_assoc (bits_word v) (10 ∷ []) (vector_lines q) in
+    (bits-cut w v (10 ∷ vector_lines p) (10 ∷ vector_lines q) (h.widths.0 ∙ sym k.widths.0) lines).0
+
+-- the first vector is the witness, or another
+pub first_decides : (inputs : ℕ) (text : Bytes) (set : PatternSet) (first witness : List Bool) (same : Bool) → HoldsVectors inputs text set → first ≡ slice_index_or set.vectors 0 []
+    → Decides same (witness ≡ first) → IsTrue same ↔ BeginsVectors inputs witness text
+first_decides inputs text set first witness same holds is decides =
+    let here : first ≡ holds.witness = is ∙ ap (λ vs. slice_index_or vs 0 []) holds.vectors_are in (
+      (λ h. (holds.pool, subst (λ w. IsVectorsText inputs text w holds.pool) (sym (decides.0 h ∙ here)) holds.read)),
+      λ begins. decides.1 (one_witness inputs text witness holds.witness begins.0 holds.pool begins.1 holds.read ∙ sym here),
+    )
+
+-- the vectors of a text, for the witness that the code holds
+pub vectors_known : (exact : NetValue) (texts : Texts) (held witness : List Bool) → held ≡ witness → length witness ≡ input_count exact → BeginsVectors (length held) held (texts file.Vectors)
+    → (pool : List (List Bool)) × AreVectors exact texts witness pool
+vectors_known exact texts held witness same width begins =
+    (begins.0, subst (λ n. IsVectorsText n (texts file.Vectors) witness begins.0) (ap length same ∙ width) (subst (λ w. IsVectorsText (length held) (texts file.Vectors) w begins.0) same begins.1))
+
+pub vectors_begin : (exact : NetValue) (texts : Texts) (held witness : List Bool) (pool : List (List Bool)) → held ≡ witness → length witness ≡ input_count exact → AreVectors exact texts witness pool
+    → BeginsVectors (length held) held (texts file.Vectors)
+vectors_begin exact texts held witness pool same width vectors =
+    (pool, subst (λ w. IsVectorsText (length held) (texts file.Vectors) w pool) (sym same) (subst (λ n. IsVectorsText n (texts file.Vectors) witness pool) (sym (ap length same ∙ width)) vectors))
+
+pub vectors_some : (inputs : ℕ) (text : Bytes) (o : Option PatternSet) (set : PatternSet)
+    → MatchOption o ((witness : List Bool) (pool : List (List Bool)) → ¬ IsVectorsText inputs text witness pool) (HoldsVectors inputs text) → o ≡ Some set → HoldsVectors inputs text set
+vectors_some inputs text None set h is = cc
+vectors_some inputs text (Some held) set h is = let same : held ≡ set = cc in subst (HoldsVectors inputs text) same h
+
+pub vectors_none : (inputs : ℕ) (text : Bytes) (o : Option PatternSet)
+    → MatchOption o ((witness : List Bool) (pool : List (List Bool)) → ¬ IsVectorsText inputs text witness pool) (HoldsVectors inputs text) → o ≡ None
+    → (witness : List Bool) → ¬ BeginsVectors inputs witness text
+vectors_none inputs text None h is = λ witness begins. h witness begins.0 begins.1
+vectors_none inputs text (Some held) h is = cc
+
+pub holds_some : (inputs : ℕ) (text : Bytes) (set : PatternSet) → HoldsVectors inputs text set → 0 < length set.vectors
+holds_some inputs text set holds = omega (arith, ap length holds.vectors_are)

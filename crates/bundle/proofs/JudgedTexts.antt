@@ -1,0 +1,253 @@
+-- Which clause fails first, and which files are needed, by what is known of the texts.
+use Rattle.std.proofs.Common.{◌≡◌, ◌≢◌, ℕ, ◌≤◌, Bool, true, false, List, [], ◌∷◌, refl, subst, arith}
+use Rattle.semantics.specs.Net.{NetValue, HasSamePorts}
+use Rattle.semantics.specs.Error.{Metric, net_error}
+use Rattle.proof_semantics.specs.Formula.{dimacs_text}
+use Rattle.proof_semantics.specs.Logs.{LogItem}
+use Rattle.proof_semantics.specs.Miter.{miter}
+use Rattle.job_semantics.specs.declared.ending.Ending.TheVariants as file
+use Rattle.job_semantics.specs.declared.clause.Clause.TheVariants as clause
+use Rattle.job_semantics.specs.Report.{Report}
+use Rattle.job_semantics.specs.Certificate.{IsNeededFor, Texts, IsNetlist, IsReport, AreVectors, IsRefutation, AreCounts, OfNet, OfReport, OfBoth, Holds, Certifies, IsFirstFailing}
+use Rattle.job_semantics.proofs.Certificates.{verified_law}
+use Rattle.bundle.specs.LogTold.{IsRefutingText}
+use Rattle.bundle.specs.Judging.{NetKnown, ReportKnown, WitnessKnown, FormulaKnown, LogKnown}
+
+module _ (exact : NetValue) (metric : Metric) (bound : ℕ) (texts : Texts) where
+  of_net : (P : NetValue → Type 0) (M : NetValue) → IsNetlist texts M → OfNet texts P → P M
+  of_net P M is some = subst P (verified_law.one_net texts some.0 M some.1 is) some.2
+
+  of_report : (P : Report → Type 0) (r : Report) → IsReport exact metric bound texts r → OfReport exact metric bound texts P → P r
+  of_report P r is some = subst P (verified_law.one_report exact metric bound texts some.0 r some.1 is) some.2
+
+  of_both : (P : NetValue → Report → Type 0) (M : NetValue) (r : Report) → IsNetlist texts M → IsReport exact metric bound texts r → OfBoth exact metric bound texts P → P M r
+  of_both P M r net report some = of_report (P M) r report (of_net (λ N. OfReport exact metric bound texts (P N)) M net some)
+
+  -- ---- the first that fails
+
+  pub no_netlist : ((M : NetValue) → ¬ IsNetlist texts M) → IsFirstFailing exact metric bound texts clause.Netlist
+  no_netlist none = record {
+    before = [];
+    after = clause.Ports ∷ clause.ReportForm ∷ clause.MaximumWithin ∷ clause.Witness ∷ clause.Attained ∷ clause.Formula ∷ clause.Log ∷ clause.Counts ∷ clause.Minimal ∷ [];
+    order = refl;
+    hold = tt;
+    fails = λ (M, is). none M is;
+  }
+
+  pub other_ports : (M : NetValue) → IsNetlist texts M → ¬ HasSamePorts exact M → IsFirstFailing exact metric bound texts clause.Ports
+  other_ports M net other = record {
+    before = clause.Netlist ∷ [];
+    after = clause.ReportForm ∷ clause.MaximumWithin ∷ clause.Witness ∷ clause.Attained ∷ clause.Formula ∷ clause.Log ∷ clause.Counts ∷ clause.Minimal ∷ [];
+    order = refl;
+    hold = ((M, net), tt);
+    fails = λ some. other (of_net (HasSamePorts exact) M net some);
+  }
+
+  module _ (M : NetValue) where
+    pub no_report : NetKnown exact M texts → ((r : Report) → ¬ IsReport exact metric bound texts r) → IsFirstFailing exact metric bound texts clause.ReportForm
+    no_report known none = record {
+      before = clause.Netlist ∷ clause.Ports ∷ [];
+      after = clause.MaximumWithin ∷ clause.Witness ∷ clause.Attained ∷ clause.Formula ∷ clause.Log ∷ clause.Counts ∷ clause.Minimal ∷ [];
+      order = refl;
+      hold = ((M, known.netlist), ((M, known.netlist, known.ports), tt));
+      fails = λ (r, is). none r is;
+    }
+
+    pub above_bound : (r : Report) → NetKnown exact M texts → IsReport exact metric bound texts r → ¬ (r.maximum ≤ bound) → IsFirstFailing exact metric bound texts clause.MaximumWithin
+    above_bound r known report above = record {
+      before = clause.Netlist ∷ clause.Ports ∷ clause.ReportForm ∷ [];
+      after = clause.Witness ∷ clause.Attained ∷ clause.Formula ∷ clause.Log ∷ clause.Counts ∷ clause.Minimal ∷ [];
+      order = refl;
+      hold = ((M, known.netlist), ((M, known.netlist, known.ports), ((r, report), tt)));
+      fails = λ some. above (of_report (λ s. s.maximum ≤ bound) r report some);
+    }
+
+    module _ (r : Report) where
+      pub other_vectors : ReportKnown exact metric bound M r texts → ((pool : List (List Bool)) → ¬ AreVectors exact texts r.witness pool) → IsFirstFailing exact metric bound texts clause.Witness
+      other_vectors known none = record {
+        before = clause.Netlist ∷ clause.Ports ∷ clause.ReportForm ∷ clause.MaximumWithin ∷ [];
+        after = clause.Attained ∷ clause.Formula ∷ clause.Log ∷ clause.Counts ∷ clause.Minimal ∷ [];
+        order = refl;
+        hold = ((M, known.net.netlist), ((M, known.net.netlist, known.net.ports), ((r, known.report), ((r, known.report, known.within), tt))));
+        fails = λ some. let here = of_report (λ s. (pool : List (List Bool)) × AreVectors exact texts s.witness pool) r known.report some in none here.0 here.1;
+      }
+
+      pub not_attained : ReportKnown exact metric bound M r texts → (pool : List (List Bool)) → AreVectors exact texts r.witness pool → net_error metric exact M r.witness ≢ r.maximum
+          → IsFirstFailing exact metric bound texts clause.Attained
+      not_attained known pool vectors other = record {
+        before = clause.Netlist ∷ clause.Ports ∷ clause.ReportForm ∷ clause.MaximumWithin ∷ clause.Witness ∷ [];
+        after = clause.Formula ∷ clause.Log ∷ clause.Counts ∷ clause.Minimal ∷ [];
+        order = refl;
+        hold = ((M, known.net.netlist), ((M, known.net.netlist, known.net.ports), ((r, known.report), ((r, known.report, known.within), ((r, known.report, (pool, vectors)), tt)))));
+        fails = λ some. other (of_both (λ N s. net_error metric exact N s.witness ≡ s.maximum) M r known.net.netlist known.report some);
+      }
+
+      pub other_formula : WitnessKnown exact metric bound M r texts → texts file.Formula ≢ dimacs_text (miter exact M metric r.maximum) → IsFirstFailing exact metric bound texts clause.Formula
+      other_formula known other =
+          let k = known.report in
+          record {
+            before = clause.Netlist ∷ clause.Ports ∷ clause.ReportForm ∷ clause.MaximumWithin ∷ clause.Witness ∷ clause.Attained ∷ [];
+            after = clause.Log ∷ clause.Counts ∷ clause.Minimal ∷ [];
+            order = refl;
+            hold = (
+              (M, k.net.netlist),
+              ((M, k.net.netlist, k.net.ports), ((r, k.report), ((r, k.report, k.within), ((r, k.report, (known.pool, known.vectors)), ((M, k.net.netlist, (r, k.report, known.attained)), tt))))),
+            );
+            fails = λ some. other (of_both (λ N s. texts file.Formula ≡ dimacs_text (miter exact N metric s.maximum)) M r k.net.netlist k.report some);
+          }
+
+      pub no_refutation : FormulaKnown exact metric bound M r texts → ¬ IsRefutingText (miter exact M metric r.maximum).clauses (texts file.Log) → IsFirstFailing exact metric bound texts clause.Log
+      no_refutation known other =
+          let w = known.witness in
+          let k = w.report in
+          record {
+            before = clause.Netlist ∷ clause.Ports ∷ clause.ReportForm ∷ clause.MaximumWithin ∷ clause.Witness ∷ clause.Attained ∷ clause.Formula ∷ [];
+            after = clause.Counts ∷ clause.Minimal ∷ [];
+            order = refl;
+            hold = (
+              (M, k.net.netlist),
+              (
+                (M, k.net.netlist, k.net.ports),
+                (
+                  (r, k.report),
+                  (
+                    (r, k.report, k.within),
+                    ((r, k.report, (w.pool, w.vectors)), ((M, k.net.netlist, (r, k.report, w.attained)), ((M, k.net.netlist, (r, k.report, known.formula)), tt))),
+                  ),
+                ),
+              ),
+            );
+            fails = λ some.
+                let here = of_both (λ N s. (log : List LogItem) × IsRefutation exact N metric s.maximum texts log) M r k.net.netlist k.report some in
+                other (here.0, here.1.read, here.1.refutes);
+          }
+
+      module _ (known : LogKnown exact metric bound M r texts) where
+        n : IsNetlist texts M
+        n = known.formula.witness.report.net.netlist
+
+        k : ReportKnown exact metric bound M r texts
+        k = known.formula.witness.report
+
+        w : WitnessKnown exact metric bound M r texts
+        w = known.formula.witness
+
+        log_holds : Holds exact metric bound texts clause.Log
+        log_holds = (M, n, (r, k.report, (known.refutation.0, record { read = known.refutation.1; refutes = known.refutation.2 })))
+
+        formula_holds : Holds exact metric bound texts clause.Formula
+        formula_holds = (M, n, (r, k.report, known.formula.formula))
+
+        attained_holds : Holds exact metric bound texts clause.Attained
+        attained_holds = (M, n, (r, k.report, w.attained))
+
+        pub other_counts : ¬ AreCounts exact M r → IsFirstFailing exact metric bound texts clause.Counts
+        other_counts other = record {
+          before = clause.Netlist ∷ clause.Ports ∷ clause.ReportForm ∷ clause.MaximumWithin ∷ clause.Witness ∷ clause.Attained ∷ clause.Formula ∷ clause.Log ∷ [];
+          after = clause.Minimal ∷ [];
+          order = refl;
+          hold = (
+            (M, n),
+            ((M, n, k.net.ports), ((r, k.report), ((r, k.report, k.within), ((r, k.report, (w.pool, w.vectors)), (attained_holds, (formula_holds, (log_holds, tt))))))),
+          );
+          fails = λ some. other (of_both (AreCounts exact) M r n k.report some);
+        }
+
+        pub says_more : AreCounts exact M r → r.minimal ≡ true → IsFirstFailing exact metric bound texts clause.Minimal
+        says_more counts minimal = record {
+          before =
+              clause.Netlist ∷ clause.Ports ∷ clause.ReportForm ∷ clause.MaximumWithin ∷ clause.Witness ∷ clause.Attained ∷ clause.Formula ∷ clause.Log ∷ clause.Counts ∷ [];
+          after = [];
+          order = refl;
+          hold = (
+            (M, n),
+            (
+              (M, n, k.net.ports),
+              (
+                (r, k.report),
+                ((r, k.report, k.within), ((r, k.report, (w.pool, w.vectors)), (attained_holds, (formula_holds, (log_holds, ((M, n, (r, k.report, counts)), tt)))))),
+              ),
+            ),
+          );
+          fails = λ some. let no : r.minimal ≡ false = of_report (λ s. s.minimal ≡ false) r k.report some in cc;
+        }
+
+        pub all_hold : AreCounts exact M r → r.minimal ≡ false → Certifies exact metric bound texts
+        all_hold counts minimal = (
+          (M, n),
+          (
+            (M, n, k.net.ports),
+            (
+              (r, k.report),
+              (
+                (r, k.report, k.within),
+                (
+                  (r, k.report, (w.pool, w.vectors)),
+                  (attained_holds, (formula_holds, (log_holds, ((M, n, (r, k.report, counts)), ((r, k.report, minimal), tt))))),
+                ),
+              ),
+            ),
+          ),
+        )
+
+  -- ---- which clauses need a file
+
+  pub netlist_needed : IsNeededFor exact metric bound texts file.Netlist
+  netlist_needed clause.Netlist f = (0, omega arith, refl)
+  netlist_needed clause.Ports f = (0, omega arith, refl)
+  netlist_needed clause.ReportForm f = (0, omega arith, refl)
+  netlist_needed clause.MaximumWithin f = (0, omega arith, refl)
+  netlist_needed clause.Witness f = (0, omega arith, refl)
+  netlist_needed clause.Attained f = (0, omega arith, refl)
+  netlist_needed clause.Formula f = (0, omega arith, refl)
+  netlist_needed clause.Log f = (0, omega arith, refl)
+  netlist_needed clause.Counts f = (0, omega arith, refl)
+  netlist_needed clause.Minimal f = (0, omega arith, refl)
+
+  pub report_needed : (M : NetValue) → NetKnown exact M texts → IsNeededFor exact metric bound texts file.Report
+  report_needed M known clause.Netlist f = absurd (f.fails (M, known.netlist))
+  report_needed M known clause.Ports f = absurd (f.fails (M, known.netlist, known.ports))
+  report_needed M known clause.ReportForm f = (1, omega arith, refl)
+  report_needed M known clause.MaximumWithin f = (1, omega arith, refl)
+  report_needed M known clause.Witness f = (2, omega arith, refl)
+  report_needed M known clause.Attained f = (2, omega arith, refl)
+  report_needed M known clause.Formula f = (3, omega arith, refl)
+  report_needed M known clause.Log f = (4, omega arith, refl)
+  report_needed M known clause.Counts f = (4, omega arith, refl)
+  report_needed M known clause.Minimal f = (4, omega arith, refl)
+
+  pub vectors_needed : (M : NetValue) (r : Report) → ReportKnown exact metric bound M r texts → IsNeededFor exact metric bound texts file.Vectors
+  vectors_needed M r known clause.Netlist f = absurd (f.fails (M, known.net.netlist))
+  vectors_needed M r known clause.Ports f = absurd (f.fails (M, known.net.netlist, known.net.ports))
+  vectors_needed M r known clause.ReportForm f = absurd (f.fails (r, known.report))
+  vectors_needed M r known clause.MaximumWithin f = absurd (f.fails (r, known.report, known.within))
+  vectors_needed M r known clause.Witness f = (1, omega arith, refl)
+  vectors_needed M r known clause.Attained f = (1, omega arith, refl)
+  vectors_needed M r known clause.Formula f = (2, omega arith, refl)
+  vectors_needed M r known clause.Log f = (3, omega arith, refl)
+  vectors_needed M r known clause.Counts f = (3, omega arith, refl)
+  vectors_needed M r known clause.Minimal f = (3, omega arith, refl)
+
+  pub formula_needed : (M : NetValue) (r : Report) → WitnessKnown exact metric bound M r texts → IsNeededFor exact metric bound texts file.Formula
+  formula_needed M r known clause.Netlist f = absurd (f.fails (M, known.report.net.netlist))
+  formula_needed M r known clause.Ports f = absurd (f.fails (M, known.report.net.netlist, known.report.net.ports))
+  formula_needed M r known clause.ReportForm f = absurd (f.fails (r, known.report.report))
+  formula_needed M r known clause.MaximumWithin f = absurd (f.fails (r, known.report.report, known.report.within))
+  formula_needed M r known clause.Witness f = absurd (f.fails (r, known.report.report, (known.pool, known.vectors)))
+  formula_needed M r known clause.Attained f = absurd (f.fails (M, known.report.net.netlist, (r, known.report.report, known.attained)))
+  formula_needed M r known clause.Formula f = (1, omega arith, refl)
+  formula_needed M r known clause.Log f = (1, omega arith, refl)
+  formula_needed M r known clause.Counts f = (1, omega arith, refl)
+  formula_needed M r known clause.Minimal f = (1, omega arith, refl)
+
+  pub log_needed : (M : NetValue) (r : Report) → FormulaKnown exact metric bound M r texts → IsNeededFor exact metric bound texts file.Log
+  log_needed M r known clause.Netlist f = absurd (f.fails (M, known.witness.report.net.netlist))
+  log_needed M r known clause.Ports f = absurd (f.fails (M, known.witness.report.net.netlist, known.witness.report.net.ports))
+  log_needed M r known clause.ReportForm f = absurd (f.fails (r, known.witness.report.report))
+  log_needed M r known clause.MaximumWithin f = absurd (f.fails (r, known.witness.report.report, known.witness.report.within))
+  log_needed M r known clause.Witness f = absurd (f.fails (r, known.witness.report.report, (known.witness.pool, known.witness.vectors)))
+  log_needed M r known clause.Attained f = absurd (f.fails (M, known.witness.report.net.netlist, (r, known.witness.report.report, known.witness.attained)))
+  log_needed M r known clause.Formula f = absurd (f.fails (M, known.witness.report.net.netlist, (r, known.witness.report.report, known.formula)))
+  log_needed M r known clause.Log f = (2, omega arith, refl)
+  log_needed M r known clause.Counts f = (2, omega arith, refl)
+  log_needed M r known clause.Minimal f = (2, omega arith, refl)

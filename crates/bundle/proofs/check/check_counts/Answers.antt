@@ -1,0 +1,57 @@
+use Rattle.std.proofs.Common.{◌≡◌, ℕ, true, refl}
+use Rattle.semantics.specs.Net.{NetValue}
+use Rattle.semantics.specs.Error.{Metric, abs}
+use Rattle.joint_net.specs.Metric.{meaning}
+use Rattle.job_semantics.specs.declared.clause.Clause.TheVariants as clause
+use Rattle.job_semantics.specs.Certificate.{AreCounts}
+use Rattle.bundle.specs.declared.report_reading.ReportRead.{ReportRead}
+use Rattle.bundle.specs.Reading.{report_read}
+use Rattle.bundle.proofs.JudgedTexts.{other_counts, says_more, all_hold}
+use Rattle.bundle.proofs.check.check_counts.Goals as goal
+
+-- the counts do not depend on the metric and the bound
+counts_at : (N M : NetValue) (read : ReportRead) (m k : Metric) (a b : ℕ) → AreCounts N M (report_read m a read) → AreCounts N M (report_read k b read)
+counts_at N M read m k a b h = record {
+  old_tables = h.old_tables;
+  new_tables = h.new_tables;
+  old_literals = h.old_literals;
+  new_literals = h.new_literals;
+  tables = h.tables;
+  literals = h.literals;
+}
+
+pub returns-then-not-are_counts : goal.returns-then-not-are_counts
+returns-then-not-are_counts c texts known =
+    let claim = c.args.claim.now in
+    let metric = meaning claim.metric in
+    let read = c.args.report.now in
+    let N = claim.exact.now in
+    let M = c.args.approx.now in (
+      clause.Counts,
+      refl,
+      other_counts N metric claim.bound texts M (report_read metric claim.bound read) known
+          (λ counts. let yes : c.are_counts.result ≡ true = c.are_counts.ensures.1 (counts_at N M read metric abs claim.bound 0 counts) in cc),
+    )
+
+pub returns-then-report : goal.returns-then-report
+returns-then-report c texts known =
+    let claim = c.args.claim.now in
+    let metric = meaning claim.metric in
+    let read = c.args.report.now in
+    let N = claim.exact.now in
+    let M = c.args.approx.now in (
+      clause.Minimal,
+      refl,
+      says_more N metric claim.bound texts M (report_read metric claim.bound read) known
+          (counts_at N M read abs metric 0 claim.bound (c.are_counts.ensures.0 c.if-not-are_counts.false)) c.if-report.true,
+    )
+
+pub returns : goal.returns
+returns c texts known =
+    let claim = c.args.claim.now in
+    let metric = meaning claim.metric in
+    let read = c.args.report.now in
+    let N = claim.exact.now in
+    let M = c.args.approx.now in
+    all_hold N metric claim.bound texts M (report_read metric claim.bound read) known
+    (counts_at N M read abs metric 0 claim.bound (c.are_counts.ensures.0 c.if-not-are_counts.false)) c.if-report.false

@@ -1,0 +1,23 @@
+use Rattle.std.proofs.Common.{◌≡◌, ap, subst, sym, ◌∙◌}
+use Rattle.std.specs.Prelude.{◌↔◌, IsTrue}
+use Rattle.std.proofs.lemmas.Result.{err_from_is_err_and}
+use Rattle.proof_semantics.specs.Formula.{Formula, dimacs_text}
+use Rattle.file_reading.specs.Refused.{FileUnread}
+use Rattle.bundle.specs.TextCheck.{TextCheck}
+use Rattle.bundle.proofs.ToldAnswers.{text_read, text_unread}
+use Rattle.bundle.proofs.file_texts.is_formula.Goals as goal
+
+pub returns-in_err-read_file-clause-err : goal.returns-in_err-read_file-clause-err
+returns-in_err-read_file-clause-err g c =
+    let p = err_from_is_err_and c.from_residual.result c.from_residual.ensures.1 in
+    let old = g.F.Files.told c.args.files.now in
+    let new = g.F.Files.told c.read_file.new.files in
+    let text = c.read_file.new.intake.text in
+    rw p.1 (text_unread old new c.args.name.now text p.0 (subst (FileUnread old new c.args.name.now text) (sym p.2) c.in_err-read_file.ensures.err))
+
+pub returns-clause-ok : goal.returns-clause-ok
+returns-clause-ok g c =
+    let yes = c.finish.result in
+    let formula = c.in_ok-read_file.ensures.aim ∙ ap (λ (v : TextCheck). v.formula) c.new-check.ensures in
+    text_read (λ content. IsTrue yes ↔ (content ≡ dimacs_text c.args.formula.now)) c.in_ok-read_file.ensures.ok
+    (λ content wanted. subst (λ (f : Formula). IsTrue yes ↔ (content ≡ dimacs_text f)) formula (c.finish.ensures content wanted))

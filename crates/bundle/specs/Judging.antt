@@ -1,0 +1,84 @@
+-- What the check of a bundle's files comes to.
+use Rattle.std.specs.Prelude.{◌≡◌, ℕ, ◌^◌, ◌≤◌, Bool, false, List, length, Result, Ok, Err}
+use Rattle.semantics.specs.Texts.{Bytes}
+use Rattle.semantics.specs.Net.{NetValue, HasSamePorts}
+use Rattle.semantics.specs.Error.{Metric, net_error}
+use Rattle.outside_semantics.specs.Outside.{FilesTold, Goes, Rose, WhereTold, bytes_of}
+use Rattle.file_reading.specs.declared.unread.Unread.{Unread}
+use Rattle.file_reading.specs.declared.unread.Unread.TheVariants.{Fault, OutOfMemory, Endless}
+use Rattle.file_reading.specs.Reading.{FilesStay, FileFailed}
+use Rattle.proof_semantics.specs.Formula.{dimacs_text}
+use Rattle.proof_semantics.specs.Miter.{miter}
+use Rattle.job_semantics.specs.declared.ending.Ending.{Ending}
+use Rattle.job_semantics.specs.declared.ending.Ending.TheVariants as file
+use Rattle.job_semantics.specs.declared.clause.Clause.{Clause}
+use Rattle.job_semantics.specs.Endings.{bundle_name}
+use Rattle.job_semantics.specs.Report.{Report}
+use Rattle.job_semantics.specs.Certificate.{Texts, OfBundle, IsNetlist, IsReport, AreVectors, Certifies, IsFirstFailing, IsNeededFor, clause_number}
+use Rattle.bundle.specs.LogTold.{IsRefutingText}
+use Rattle.bundle.specs.declared.verdict.Verdict.{Verdict}
+use Rattle.bundle.specs.declared.verdict.Verdict.TheVariants.{Verified, Refuted}
+
+-- the texts are a certificate, or the clause of this number is the first that fails
+abbrev pub IsJudged : NetValue → Metric → ℕ → Texts → Verdict → Type 0
+IsJudged exact metric bound texts Verified = Certifies exact metric bound texts
+IsJudged exact metric bound texts (Refuted number) = (c : Clause) × (clause_number c ≡ number) × IsFirstFailing exact metric bound texts c
+
+-- calls changed no file
+pub record FilesKept (old new : FilesTold) : Type 0 where
+  pub goes : Goes old new
+  pub stays : WhereTold old new (λ a b. b ≡ a)
+
+-- why there is no verdict, where K holds of the texts: a needed file could not be read, or goes on past the budget of turns
+abbrev pub IsCause : NetValue → Metric → ℕ → Bytes → (Texts → Type 0) → FilesTold → FilesTold → Unread → Type 0
+IsCause exact metric bound stem K old new Fault =
+    Rose old.faults new.faults × ((ending : Ending) × OfBundle old new stem (λ texts. K texts → IsNeededFor exact metric bound texts ending)
+    × (old.steady_read (bundle_name stem ending) ≡ false))
+IsCause exact metric bound stem K old new OutOfMemory = Unit {0}
+IsCause exact metric bound stem K old new Endless =
+    (ending : Ending) × OfBundle old new stem (λ texts. K texts → IsNeededFor exact metric bound texts ending)
+    × OfBundle old new stem (λ texts. 2 ^ 40 ≤ length (texts ending))
+
+-- what the check answers, where K holds of the texts
+abbrev pub Answers : NetValue → Metric → ℕ → Bytes → (Texts → Type 0) → FilesTold → FilesTold → Result Verdict Unread → Type 0
+Answers exact metric bound stem K old new (Ok verdict) = FilesKept old new × OfBundle old new stem (λ texts. K texts → IsJudged exact metric bound texts verdict)
+Answers exact metric bound stem K old new (Err reason) = FilesKept old new × IsCause exact metric bound stem K old new reason
+
+-- a file was read to its end, or as far as Q of its bytes asks
+pub record TextRead (old new : FilesTold) (name : Bytes) (Q : Bytes → Type 0) : Type 0 where
+  pub stay : FilesStay old new name
+  pub content : WhereTold old new (λ a b. Q (bytes_of a name))
+
+-- why a file was not read
+abbrev pub TextUnread : FilesTold → FilesTold → Bytes → Unread → Type 0
+TextUnread old new name Fault = FileFailed old new name
+TextUnread old new name OutOfMemory = FilesStay old new name
+TextUnread old new name Endless = FilesStay old new name × WhereTold old new (λ a b. 2 ^ 40 ≤ length (bytes_of a name))
+
+-- ---- what is known once the clauses that speak of a file hold
+
+abbrev pub NothingKnown : Texts → Type 0
+NothingKnown texts = Unit {0}
+
+pub record NetKnown (exact M : NetValue) (texts : Texts) : Type 0 where
+  pub netlist : IsNetlist texts M
+  pub ports : HasSamePorts exact M
+
+pub record ReportKnown (exact : NetValue) (metric : Metric) (bound : ℕ) (M : NetValue) (r : Report) (texts : Texts) : Type 0 where
+  pub net : NetKnown exact M texts
+  pub report : IsReport exact metric bound texts r
+  pub within : r.maximum ≤ bound
+
+pub record WitnessKnown (exact : NetValue) (metric : Metric) (bound : ℕ) (M : NetValue) (r : Report) (texts : Texts) : Type 0 where
+  pub report : ReportKnown exact metric bound M r texts
+  pub pool : List (List Bool)
+  pub vectors : AreVectors exact texts r.witness pool
+  pub attained : net_error metric exact M r.witness ≡ r.maximum
+
+pub record FormulaKnown (exact : NetValue) (metric : Metric) (bound : ℕ) (M : NetValue) (r : Report) (texts : Texts) : Type 0 where
+  pub witness : WitnessKnown exact metric bound M r texts
+  pub formula : texts file.Formula ≡ dimacs_text (miter exact M metric r.maximum)
+
+pub record LogKnown (exact : NetValue) (metric : Metric) (bound : ℕ) (M : NetValue) (r : Report) (texts : Texts) : Type 0 where
+  pub formula : FormulaKnown exact metric bound M r texts
+  pub refutation : IsRefutingText (miter exact M metric r.maximum).clauses (texts file.Log)

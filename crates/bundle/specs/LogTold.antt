@@ -1,0 +1,41 @@
+-- What the text of a log comes to, piece by piece. Source: LRAT with positive hints.
+use Rattle.std.specs.Prelude.{◌≡◌, Bool, true, false, List, ◌++◌, length, take, None, Ok}
+use Rattle.semantics.specs.Texts.{Bytes}
+use Rattle.proof_semantics.specs.Clauses.{Clause}
+use Rattle.proof_semantics.specs.Logs.{LogItem, IsSoundLog, Refutes}
+use Rattle.proof_semantics.specs.LratReading.{lrat_items}
+use Rattle.cnf_core.specs.LratReads.{LogRead, read_items}
+use Rattle.lrat_check.specs.Checker.{CheckerValue, StandsAfter}
+
+-- the text is read to its end as a log that refutes the clauses
+abbrev pub IsRefutingText : List Clause → Bytes → Type 0
+IsRefutingText clauses text = (log : List LogItem) × (lrat_items text ≡ Ok log) × Refutes clauses log
+
+-- however the text goes on, it is none
+abbrev pub NeverRefutes : List Clause → Bytes → Type 0
+NeverRefutes clauses text = (more : Bytes) → ¬ IsRefutingText clauses (text ++ more)
+
+-- no sound log begins with these items
+abbrev pub IsNeverSound : List Clause → List LogItem → Type 0
+IsNeverSound clauses items = (later : List LogItem) → ¬ IsSoundLog clauses (items ++ later)
+
+-- the checker accepted the items, or refused one of them
+abbrev pub AreJudged : Bool → List Clause → List LogItem → CheckerValue → Type 0
+AreJudged true clauses items k = StandsAfter clauses items k
+AreJudged false clauses items k = IsNeverSound clauses items
+
+-- the checker stands after the items that the reader gave
+abbrev pub IsInStep : List Clause → LogRead → CheckerValue → Type 0
+IsInStep clauses v k = StandsAfter clauses (take v.given (read_items v)) k
+
+-- The text is a log's so far, with sound items.
+pub record IsSoundSoFar (clauses : List Clause) (v : LogRead) (k : CheckerValue) : Type 0 where
+  pub going : v.finished ≡ false
+  pub calm : v.refused ≡ None
+  pub all_given : v.given ≡ length (read_items v)
+  pub sound : StandsAfter clauses (read_items v) k
+
+-- what is known after a piece: the text goes on, or never refutes the clauses
+abbrev pub SoFar : Bool → List Clause → LogRead → CheckerValue → Type 0
+SoFar true clauses v k = IsSoundSoFar clauses v k
+SoFar false clauses v k = NeverRefutes clauses v.text

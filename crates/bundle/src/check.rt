@@ -1,0 +1,187 @@
+//! A bundle's files are checked clause by clause, and each is opened when a clause first needs it.
+ghost use Rattle.std.specs.Prelude.{◌≡◌, length, IfOk, IfErr};
+ghost use Rattle.semantics.specs.Net.{HasSamePorts, IsSmall, input_count};
+ghost use Rattle.proof_semantics.specs.Miter.{miter};
+ghost use Rattle.job_semantics.specs.Certificate.{Texts};
+ghost use Rattle.job_semantics.specs.Certificate.{OfBundle};
+ghost use Rattle.joint_net.specs.Metric.{meaning};
+ghost use Rattle.bundle.specs.Reading.{report_read};
+ghost use Rattle.bundle.specs.Judging.{Answers, FilesKept, IsCause, IsJudged, NothingKnown, NetKnown, ReportKnown, WitnessKnown, FormulaKnown, LogKnown};
+
+use crate::claim::{Claim, are_counts, error_at, miter};
+use crate::file_texts::{begins_vectors, is_formula, is_refuted, read_netlist, read_report_file};
+use crate::report_reading::ReportRead;
+use crate::stem::Stem;
+use crate::verdict::Verdict;
+use cnf_core::cnf::Cnf;
+use file_core::files::Files;
+use file_reading::unread::Unread;
+use job_semantics::ending::Ending;
+use joint_net::metric::Metric;
+use joint_net::ports::same_ports;
+use net_core::net::Net;
+use std::alloc::Global;
+
+/// The clauses on the counts and on the report's last line, which need no further file.
+fn check_counts(claim: &Claim, approx: &Net, report: &ReportRead) -> Verdict
+    requires exact { IsSmall claim.now.exact.now }
+    requires approx { IsSmall approx.now }
+    ensures { (texts : Texts)
+        → LogKnown claim.now.exact.now (meaning claim.now.metric) claim.now.bound approx.now
+        (report_read (meaning claim.now.metric) claim.now.bound report.now) texts
+        → IsJudged claim.now.exact.now (meaning claim.now.metric) claim.now.bound texts result }
+{
+    if !are_counts(claim.exact, approx, report) {
+        return Verdict::Refuted(9);
+    }
+    if report.counts.minimal {
+        return Verdict::Refuted(10);
+    }
+    Verdict::Verified
+}
+
+/// The clauses from the log's on.
+fn check_log<F: Files>(
+    alloc: Global,
+    claim: &Claim,
+    approx: &Net,
+    report: &ReportRead,
+    formula: &Cnf,
+    files: &mut F,
+) -> Result<Verdict, Unread>
+    requires exact { IsSmall claim.now.exact.now }
+    requires approx { IsSmall approx.now }
+    requires formula { formula.now ≡ miter claim.now.exact.now approx.now (meaning claim.now.metric) report.now.maximum }
+    ensures { Answers claim.now.exact.now (meaning claim.now.metric) claim.now.bound claim.now.stem.now
+        (FormulaKnown claim.now.exact.now (meaning claim.now.metric) claim.now.bound approx.now
+        (report_read (meaning claim.now.metric) claim.now.bound report.now))
+        (F.told files.old) (F.told files.new) result }
+{
+    if !is_refuted(alloc, files, claim.stem.name(Ending::Log), formula)? {
+        return Ok(Verdict::Refuted(8));
+    }
+    Ok(check_counts(claim, approx, report))
+}
+
+/// The clauses from the formula's on.
+fn check_formula<F: Files>(
+    alloc: Global,
+    claim: &Claim,
+    approx: &Net,
+    report: &ReportRead,
+    files: &mut F,
+) -> Result<Verdict, Unread>
+    requires exact { IsSmall claim.now.exact.now }
+    requires approx { IsSmall approx.now }
+    requires ports { HasSamePorts claim.now.exact.now approx.now }
+    ensures { Answers claim.now.exact.now (meaning claim.now.metric) claim.now.bound claim.now.stem.now
+        (WitnessKnown claim.now.exact.now (meaning claim.now.metric) claim.now.bound approx.now
+        (report_read (meaning claim.now.metric) claim.now.bound report.now))
+        (F.told files.old) (F.told files.new) result }
+{
+    let formula = miter(alloc, claim.exact, approx, claim.metric, report.maximum)?;
+    if !is_formula(files, claim.stem.name(Ending::Formula), &formula)? {
+        return Ok(Verdict::Refuted(7));
+    }
+    check_log(alloc, claim, approx, report, &formula, files)
+}
+
+/// The clauses from the witness's on.
+fn check_witness<F: Files>(
+    alloc: Global,
+    claim: &Claim,
+    approx: &Net,
+    report: &ReportRead,
+    files: &mut F,
+) -> Result<Verdict, Unread>
+    requires exact { IsSmall claim.now.exact.now }
+    requires approx { IsSmall approx.now }
+    requires ports { HasSamePorts claim.now.exact.now approx.now }
+    requires width { length report.now.witness ≡ input_count claim.now.exact.now }
+    ensures { Answers claim.now.exact.now (meaning claim.now.metric) claim.now.bound claim.now.stem.now
+        (ReportKnown claim.now.exact.now (meaning claim.now.metric) claim.now.bound approx.now
+        (report_read (meaning claim.now.metric) claim.now.bound report.now))
+        (F.told files.old) (F.told files.new) result }
+{
+    let witness = report.witness.as_slice();
+    if !begins_vectors(alloc, files, claim.stem.name(Ending::Vectors), witness)? {
+        return Ok(Verdict::Refuted(5));
+    }
+    if error_at(alloc, claim.exact, approx, claim.metric, witness)? != report.maximum {
+        return Ok(Verdict::Refuted(6));
+    }
+    check_formula(alloc, claim, approx, report, files)
+}
+
+/// The clauses from the report's on.
+fn check_report<F: Files>(
+    alloc: Global,
+    claim: &Claim,
+    approx: &Net,
+    files: &mut F,
+) -> Result<Verdict, Unread>
+    requires exact { IsSmall claim.now.exact.now }
+    requires approx { IsSmall approx.now }
+    requires ports { HasSamePorts claim.now.exact.now approx.now }
+    ensures { Answers claim.now.exact.now (meaning claim.now.metric) claim.now.bound claim.now.stem.now
+        (NetKnown claim.now.exact.now approx.now)
+        (F.told files.old) (F.told files.new) result }
+{
+    let name = claim.stem.name(Ending::Report);
+    let inputs = claim.exact.inputs();
+    let Some(report) = read_report_file(alloc, files, name, claim.metric, claim.bound, inputs)?
+    else {
+        return Ok(Verdict::Refuted(3));
+    };
+    if report.maximum > claim.bound {
+        return Ok(Verdict::Refuted(4));
+    }
+    check_witness(alloc, claim, approx, &report, files)
+}
+
+/// All clauses, from the netlist's on.
+fn check_netlist<F: Files>(
+    alloc: Global,
+    net: &Net,
+    metric: Metric,
+    bound: u128,
+    stem: &Stem,
+    files: &mut F,
+) -> Result<Verdict, Unread>
+    requires { IsSmall net.now }
+    ensures { Answers net.now (meaning metric) bound stem.now NothingKnown (F.told files.old) (F.told files.new) result }
+{
+    let Some(approx) = read_netlist(alloc, files, stem.name(Ending::Netlist))? else {
+        return Ok(Verdict::Refuted(1));
+    };
+    if !same_ports(net, &approx) {
+        return Ok(Verdict::Refuted(2));
+    }
+    let claim = Claim {
+        exact: net,
+        metric,
+        bound,
+        stem,
+    };
+    check_report(alloc, &claim, &approx, files)
+}
+
+/// Whether the files of the stem are a certificate that a simplified net is within the bound: the ten clauses in their order,
+/// on what the files hold and nothing else. A file that no clause up to the first failing one needs is not opened.
+pub fn check_bundle<F: Files>(
+    alloc: Global,
+    net: &Net,
+    metric: Metric,
+    bound: u128,
+    stem: &Stem,
+    files: &mut F,
+) -> Result<Verdict, Unread>
+    requires { IsSmall net.now }
+    ensures kept { FilesKept (F.told files.old) (F.told files.new) }
+    ensures verdict { IfOk result (λ verdict. OfBundle (F.told files.old) (F.told files.new) stem.now
+        (λ texts. IsJudged net.now (meaning metric) bound texts verdict)) }
+    ensures cause { IfErr result
+        (IsCause net.now (meaning metric) bound stem.now NothingKnown (F.told files.old) (F.told files.new)) }
+{
+    check_netlist(alloc, net, metric, bound, stem, files)
+}

@@ -1,0 +1,102 @@
+//! What a bundle is checked for, and the nets in it.
+ghost use Rattle.std.specs.Prelude.{◌≡◌, ◌≤◌, ◌↔◌, length, IsTrue, IfOk};
+ghost use Rattle.semantics.specs.Net.{HasSamePorts, IsSmall, IsSound, input_count};
+ghost use Rattle.semantics.specs.Value.{outputs_of};
+ghost use Rattle.semantics.specs.Error.{abs, net_error};
+ghost use Rattle.proof_semantics.specs.Miter.{miter};
+ghost use Rattle.job_semantics.specs.Certificate.{AreCounts};
+ghost use Rattle.joint_net.specs.Metric.{meaning};
+ghost use Rattle.bundle.specs.Reading.{report_read};
+
+use crate::report_reading::ReportRead;
+use crate::stem::Stem;
+use cnf_core::cnf::Cnf;
+use cnf_core::of_net::of_goal;
+use joint_net::error::error;
+use joint_net::joint::joint;
+use joint_net::metric::Metric;
+use net_core::items::Bits;
+use net_core::net::Net;
+use std::alloc::{AllocError, Global};
+
+/// What the files of a stem are to show of a net.
+#[derive(Clone, Copy)]
+pub(crate) struct Claim<'a> {
+    pub exact: &'a Net,
+    pub metric: Metric,
+    pub bound: u128,
+    pub stem: &'a Stem,
+}
+
+/// Shows that a net is sound, which its type holds.
+fn see_sound(net: &Net)
+    ensures { IsSound net.now }
+{
+    let _ = net.inputs();
+}
+
+/// The formula that says that some error exceeds the level.
+pub(crate) fn miter(
+    alloc: Global,
+    exact: &Net,
+    approx: &Net,
+    metric: Metric,
+    level: u128,
+) -> Result<Cnf, AllocError>
+    requires ports { HasSamePorts exact.now approx.now }
+    requires few_outputs { length exact.now.outputs ≤ 64 }
+    ensures { IfOk result (λ f. f ≡ miter exact.now approx.now (meaning metric) level) }
+{
+    let net = joint(alloc, exact, approx, metric, level)?;
+    of_goal(alloc, &net)
+}
+
+/// The outputs at an input vector.
+fn outputs(alloc: Global, net: &Net, x: &[bool]) -> Result<Bits, AllocError>
+    requires { length x.now ≡ input_count net.now }
+    ensures { IfOk result (λ word. word ≡ outputs_of net.now x.now) }
+{
+    let mut vals = vec![in alloc; false; net.signals() as usize]?;
+    net.eval(x, &mut vals);
+    let mut word = Bits::new(alloc);
+    for i in 0..net.outputs() {
+        word.push(vals[net.output(i) as usize])?;
+    }
+    Ok(word)
+}
+
+/// The error of the approximate net at an input vector.
+pub(crate) fn error_at(
+    alloc: Global,
+    exact: &Net,
+    approx: &Net,
+    metric: Metric,
+    x: &[bool],
+) -> Result<u128, AllocError>
+    requires ports { HasSamePorts exact.now approx.now }
+    requires few_outputs { length exact.now.outputs ≤ 64 }
+    requires width { length x.now ≡ input_count exact.now }
+    ensures { IfOk result (λ e. e ≡ net_error (meaning metric) exact.now approx.now x.now) }
+{
+    let right = outputs(alloc, exact, x)?;
+    let word = outputs(alloc, approx, x)?;
+    Ok(error(metric, right.as_slice(), word.as_slice()))
+}
+
+/// Whether the report's counts are those of the two nets, and none grew.
+pub(crate) fn are_counts(exact: &Net, approx: &Net, report: &ReportRead) -> bool
+    requires exact { IsSmall exact.now }
+    requires approx { IsSmall approx.now }
+    ensures { IsTrue result ↔ AreCounts exact.now approx.now (report_read abs 0 report.now) }
+{
+    see_sound(exact);
+    see_sound(approx);
+    let old_literals = exact.literals();
+    let new_literals = approx.literals();
+    report.counts.old_tables == exact.tables()
+        && report.counts.new_tables == approx.tables()
+        && u64::from(report.counts.old_literals) == old_literals
+        && u64::from(report.counts.new_literals) == new_literals
+        && approx.tables() <= exact.tables()
+        && new_literals <= old_literals
+}

@@ -1,0 +1,15 @@
+pub mod Loops
+pub mod NewClauses
+pub mod Back
+pub mod Derived
+pub mod Trails
+pub mod Placing
+pub mod StatusSteps
+pub mod Propagating
+pub mod Analysed
+pub mod Marking
+pub mod Resolving
+pub mod FromConflict
+pub mod Jumping
+pub mod LastOther
+pub mod Searching

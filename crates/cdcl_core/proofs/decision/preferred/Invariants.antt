@@ -1,0 +1,5 @@
+use Rattle.std.proofs.Common.{◌≤◌}
+use Rattle.cdcl_core.proofs.decision.preferred.Given as goal
+
+abbrev pub invariant-along : goal.invariant-along
+invariant-along l = l.variable ≤ l.order

@@ -1,0 +1,23 @@
+use Rattle.std.proofs.Common.{subst}
+use Rattle.cdcl_core.specs.Propagation.{IsComplete}
+use Rattle.cdcl_core.proofs.Searching.{searching_extended, searching_decided, searching_smaller}
+use Rattle.cdcl_core.proofs.search.next_conflict.Goals as goal
+
+pub returns-in-Some-clause-searching : goal.returns-in-Some-clause-searching
+returns-in-Some-clause-searching c =
+    searching_extended c.args.clauses.now c.loop-conflict.trail c.propagate.new.trail c.args.order.now c.loop-conflict.invariant c.in_ok-conflict.ensures.extended
+
+pub returns-in-None-clause-searching : goal.returns-in-None-clause-searching
+returns-in-None-clause-searching c =
+    searching_extended c.args.clauses.now c.loop-conflict.trail c.propagate.new.trail c.args.order.now c.loop-conflict.invariant c.in_ok-conflict.ensures.extended
+
+pub loop-conflict-smaller : goal.loop-conflict-smaller
+loop-conflict-smaller c =
+    searching_smaller c.args.clauses.now c.loop-conflict.trail c.propagate.new.trail c.push_decision.new.self c.in-Some-decide.literal c.consistent.ensures.few c.in_ok-conflict.ensures.extended
+    c.in_ok-push_decision-in-Some-decide.ensures
+
+pub loop-conflict-preserved : goal.loop-conflict-preserved
+loop-conflict-preserved c =
+    searching_decided c.args.clauses.now c.propagate.new.trail c.push_decision.new.self c.args.order.now c.in-Some-decide.literal
+    (searching_extended c.args.clauses.now c.loop-conflict.trail c.propagate.new.trail c.args.order.now c.loop-conflict.invariant c.in_ok-conflict.ensures.extended)
+    (subst (IsComplete c.args.clauses.now c.propagate.new.trail) c.in_default.is c.in_ok-conflict.ensures.complete) c.in_ok-push_decision-in-Some-decide.ensures

@@ -1,0 +1,5 @@
+use Rattle.cdcl_core.specs.Searched.{IsSearch}
+use Rattle.cdcl_core.proofs.solve.solve.Given as goal
+
+abbrev pub invariant-loop-conflicts : goal.invariant-loop-conflicts
+invariant-loop-conflicts l = IsSearch l.cnf l.merged l._conflicts l.search

@@ -1,0 +1,15 @@
+pub mod Links
+pub mod Settled
+pub mod Trail
+pub mod Explained
+pub mod Placed
+pub mod Status
+pub mod Propagation
+pub mod Analysis
+pub mod Refuted
+pub mod Analysed
+pub mod Jump
+pub mod Laws
+pub mod Decided
+pub mod Searched
+pub mod Answers

@@ -1,0 +1,19 @@
+-- How the trail is held: each variable has the place where it stands in the trail, if it does.
+use Rattle.std.specs.Prelude.{ℤ, ◌≡◌, ℕ, ◌-◌, ◌<◌, Option, List, length, slice_index_or, nat_abs}
+use Rattle.cdcl_core.specs.Trail.{literal_at}
+
+pub record TrailValue : Type 0 where
+  pub variables : ℕ
+  pub literals : List ℤ
+  pub reasons : List (Option ℕ)
+  pub starts : List ℕ
+
+-- where the last level starts
+abbrev pub last_start : TrailValue → ℕ
+last_start t = slice_index_or t.starts (length t.starts - 1) 0
+
+-- each entry's variable has the entry's place
+pub record IsPlaced (places : List ℕ) (trail : List ℤ) : Type 0 where
+  pub some : 0 < length places
+  pub literal : (i : ℕ) → i < length trail → (0 < nat_abs (literal_at trail i)) × (nat_abs (literal_at trail i) < length places)
+  pub at : (i : ℕ) → i < length trail → slice_index_or places (nat_abs (literal_at trail i)) 0 ≡ i

@@ -1,0 +1,57 @@
+-- What holds of a search between its steps.
+use Rattle.std.specs.Prelude.{◌≡◌, ℕ, ◌+◌, ◌<◌, ◌^◌, List, [], ◌∷◌, ◌++◌, take, length, All}
+use Rattle.proof_semantics.specs.Clauses.{Clause, IsLiteralOf, AreClausesOf}
+use Rattle.proof_semantics.specs.declared.item.Item.TheVariants.{Add}
+use Rattle.proof_semantics.specs.Formula.{Formula}
+use Rattle.proof_semantics.specs.Logs.{StepValue, LogItem, Derives, held_of}
+use Rattle.proof_semantics.specs.Conflicts.{IsNew, clauses_with, IsConflictChain}
+use Rattle.cdcl_core.specs.Settled.{IsSettled}
+use Rattle.cdcl_core.specs.Explained.{Holds}
+use Rattle.cdcl_core.specs.Placed.{TrailValue}
+use Rattle.cdcl_core.specs.Jump.{IsRunning}
+use Rattle.cdcl_core.specs.Decided.{IsFull}
+use Rattle.cdcl_core.specs.declared.search.Search.{Search}
+
+-- the clauses and the trail are over the same variables, which the order has
+pub record IsSearching (clauses : List Clause) (t : TrailValue) (order : ℕ) : Type 0 where
+  pub running : IsRunning clauses t
+  pub literals : AreClausesOf t.variables clauses
+  pub variables : order ≡ t.variables
+  pub small : t.variables < 2 ^ 31
+
+-- each variable has a value, and every clause is settled
+pub record IsModelTrail (clauses : List Clause) (t : TrailValue) : Type 0 where
+  pub full : IsFull t
+  pub settled : IsSettled (Holds t.literals) clauses
+
+-- the log begins with the merged steps
+abbrev pub Begins : List LogItem → List LogItem → Type 0
+Begins merged log = take (length merged) log ≡ merged
+
+-- the search over a formula after so many conflicts
+pub record IsSearch (f : Formula) (merged : List LogItem) (conflicts : ℕ) (s : Search) : Type 0 where
+  pub searching : IsSearching s.clauses s.trail s.order
+  pub variables : s.trail.variables ≡ f.variables
+  pub clauses : s.clauses ≡ clauses_with f.clauses s.log
+  pub begins : Begins merged s.log
+  pub chain : IsConflictChain f (length merged) conflicts s.log
+
+-- the log ends with the empty clause, which derives from the clauses
+pub record HasEnded (clauses : List Clause) (before after : List LogItem) : Type 0 where
+  pub step : StepValue
+  pub logged : after ≡ before ++ Add step ∷ []
+  pub id : step.id ≡ length clauses + 1
+  pub few : length clauses < 2 ^ 59
+  pub empty : step.literals ≡ []
+  pub derives : Derives (held_of clauses) step
+
+-- a clause that is new and derives was logged and added
+pub record HasLearned (old new : Search) : Type 0 where
+  pub step : StepValue
+  pub logged : new.log ≡ old.log ++ Add step ∷ []
+  pub added : new.clauses ≡ old.clauses ++ step.literals ∷ []
+  pub id : step.id ≡ length old.clauses + 1
+  pub few : length old.clauses < 2 ^ 59
+  pub literals : All (IsLiteralOf old.trail.variables) step.literals
+  pub derives : Derives (held_of old.clauses) step
+  pub is_new : IsNew old.clauses step.literals

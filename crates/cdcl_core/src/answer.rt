@@ -1,0 +1,13 @@
+//! What the solver answers.
+use cnf_core::log::Log;
+use net_core::items::Bits;
+
+#[derive(Drop)]
+pub enum Answer {
+    /// A value for each variable, with which the formula is satisfied.
+    Model(Bits),
+    /// A log that refutes the formula.
+    Refuted(Log),
+    /// A log of as many conflicts as were allowed.
+    Spent(Log),
+}

@@ -1,0 +1,92 @@
+//! What the search learns of a conflict, and how its log shows it.
+//!
+//! Each step has the next id, and its hints are the clauses that were resolved, so a checker follows the log by unit propagation
+//! along hints and searches nothing. Source: LRAT.
+ghost use Rattle.std.specs.Prelude.{◌≡◌, ◌+◌, ◌<◌, ◌^◌, [], length, IfOk, OnOk};
+ghost use Rattle.cdcl_core.specs.Propagation.{IsConflict};
+ghost use Rattle.cdcl_core.specs.Searched.{IsSearching, HasEnded, HasLearned};
+
+use crate::analysis::{Learned, learn};
+use crate::clause::{ClauseList, count, written};
+use crate::jump::jump;
+use crate::literal::Literal;
+use crate::order::Order;
+use crate::refutation::refute;
+use crate::search::Search;
+use crate::trail::Trail;
+use cnf_core::log::{Ids, Item, Step};
+use std::alloc::{AllocError, Global};
+
+/// The values of the entries from a place on are kept, before they are closed.
+fn keep_values(order: &mut Order, trail: &Trail, from: usize)
+    requires { order.old ≡ trail.now.variables }
+    ensures { order.new ≡ order.old }
+{
+    trail.consistent();
+    for i in from..trail.len() {
+        order.keep(trail.literal(i));
+    }
+}
+
+/// The step with the next id.
+fn next_step(
+    alloc: Global,
+    clauses: &ClauseList,
+    clause: &[Literal],
+    hints: Ids,
+) -> Result<Step, AllocError>
+    ensures step { IfOk result
+        (λ s. s ≡ record { id = length clauses.now + 1; literals = clause.now; hints = hints }) }
+    ensures few { length clauses.now < 2 ^ 59 }
+{
+    let id = count(clauses) + 1;
+    Ok(Step::new(id, written(alloc, clause)?, hints))
+}
+
+/// Where a clause is false without a decision, the log ends with the empty clause.
+pub fn log_refutation(alloc: Global, search: &mut Search, conflict: usize) -> Result<(), AllocError>
+    requires searching { IsSearching search.old.clauses search.old.trail search.old.order }
+    requires conflict { IsConflict search.old.clauses search.old.trail conflict }
+    requires no_level { search.old.trail.starts ≡ [] }
+    ensures { OnOk result (HasEnded search.old.clauses search.old.log search.new.log) }
+{
+    let hints = refute(
+        alloc,
+        &search.trail,
+        &search.clauses,
+        &mut search.order,
+        &mut search.marks,
+        conflict,
+    )?;
+    let step = next_step(alloc, &search.clauses, &[], hints)?;
+    search.log.push(Item::Add(step))?;
+    Ok(())
+}
+
+/// Learns a clause of a conflict, logs it, and goes back to where it forces a literal.
+pub fn learn_from(alloc: Global, search: &mut Search, conflict: usize) -> Result<(), AllocError>
+    requires searching { IsSearching search.old.clauses search.old.trail search.old.order }
+    requires conflict { IsConflict search.old.clauses search.old.trail conflict }
+    requires levels { 0 < length search.old.trail.starts }
+    ensures searching { OnOk result (IsSearching search.new.clauses search.new.trail search.new.order) }
+    ensures variables { OnOk result (search.new.trail.variables ≡ search.old.trail.variables) }
+    ensures logged { OnOk result (HasLearned search.old search.new) }
+{
+    let Learned {
+        clause,
+        hints,
+        place,
+    } = learn(
+        alloc,
+        &search.trail,
+        &search.clauses,
+        &mut search.order,
+        &mut search.marks,
+        conflict,
+    )?;
+    keep_values(&mut search.order, &search.trail, search.trail.start(0));
+    let step = next_step(alloc, &search.clauses, clause.as_slice(), hints)?;
+    search.log.push(Item::Add(step))?;
+    jump(&mut search.trail, &mut search.clauses, clause, place)?;
+    Ok(())
+}

@@ -1,0 +1,84 @@
+//! The search: propagation, and decisions only where it is complete, until a clause is false or each variable has a value.
+//!
+//! Before each decision every clause is settled: it has a true literal, or two that are open. This is what makes each learned
+//! clause new, so a decision never comes before propagation has ended. Source: the loop of GRASP, Chaff and MiniSat.
+ghost use Rattle.std.specs.Prelude.{◌≡◌, MatchOption, IfOk};
+ghost use Rattle.proof_semantics.specs.Logs.{IsDerivation};
+ghost use Rattle.proof_semantics.specs.Conflicts.{clauses_with};
+ghost use Rattle.cdcl_core.specs.Propagation.{IsConflict};
+ghost use Rattle.cdcl_core.specs.Searched.{IsSearch, IsSearching, IsModelTrail};
+
+use crate::clause::{ClauseList, push_added, push_all};
+use crate::decision::decide;
+use crate::log_copy::log_copy;
+use crate::order::Order;
+use crate::propagation::propagate;
+use crate::trail::Trail;
+use cnf_core::cnf::Cnf;
+use cnf_core::log::Log;
+use net_core::items::Items;
+use std::alloc::{AllocError, Global};
+
+/// The clauses that are held, the literals that are true, the order of the variables, the log of what was derived, and room for the
+/// marks of an analysis.
+#[derive(Drop)]
+pub struct Search {
+    pub clauses: ClauseList,
+    pub trail: Trail,
+    pub order: Order,
+    pub log: Log,
+    pub marks: Vec<bool>,
+}
+
+/// The clauses of the formula, and those that the log adds.
+fn all_clauses(alloc: Global, cnf: &Cnf, log: &Log) -> Result<ClauseList, AllocError>
+    ensures { IfOk result (λ clauses. clauses ≡ clauses_with cnf.now.clauses log.now) }
+{
+    let mut clauses = Items::new(alloc);
+    push_all(alloc, &mut clauses, cnf.clauses().as_slice())?;
+    push_added(alloc, &mut clauses, log.as_slice())?;
+    Ok(clauses)
+}
+
+/// No variable has a value, and the log is `merged`.
+pub fn start(alloc: Global, cnf: &Cnf, merged: &Log) -> Result<Search, AllocError>
+    requires { IsDerivation cnf.now merged.now }
+    ensures { IfOk result (IsSearch cnf.now merged.now 0) }
+{
+    let variables = cnf.vars();
+    let clauses = all_clauses(alloc, cnf, merged)?;
+    let trail = Trail::new(alloc, variables)?;
+    let order = Order::new(alloc, variables)?;
+    let log = log_copy(alloc, merged.as_slice())?;
+    let marks = Vec::new(alloc);
+    Ok(Search {
+        clauses,
+        trail,
+        order,
+        log,
+        marks,
+    })
+}
+
+/// Decides, each time after complete propagation, until a clause is false, or every variable has a value.
+pub fn next_conflict(
+    trail: &mut Trail,
+    clauses: &ClauseList,
+    order: &Order,
+) -> Result<Option<usize>, AllocError>
+    requires searching { IsSearching clauses.now trail.old order.now }
+    ensures searching { IfOk result (λ _. IsSearching clauses.now trail.new order.now) }
+    ensures found { IfOk result (λ found. MatchOption found
+        (IsModelTrail clauses.now trail.new) (IsConflict clauses.now trail.new)) }
+{
+    loop {
+        trail.consistent();
+        if let Some(conflict) = propagate(trail, clauses)? {
+            return Ok(Some(conflict));
+        }
+        match decide(trail, order) {
+            None => return Ok(None),
+            Some(literal) => trail.push_decision(literal)?,
+        }
+    }
+}

@@ -1,0 +1,11 @@
+use Rattle.chain_semantics.proofs.Simplifications.{tidy-lowers, simplified, simplified-small, simplification-falls, simplification_end-only}
+use Rattle.chain_semantics.proofs.simplification_laws.simplification.Goals as goal
+
+pub returns : goal.returns
+returns c = record {
+  lowers = tidy-lowers;
+  members = λ metric exact bound N sound h. simplified metric exact bound sound N h;
+  small = λ metric exact bound N sound few h. simplified-small metric exact bound sound N few h;
+  falls = λ metric exact bound N M move sound h f tidied. simplification-falls metric exact bound sound N M move h f tidied;
+  only = simplification_end-only;
+}

@@ -1,0 +1,17 @@
+//! The laws about moves, flips and cared-for inputs: each function's contract is a law.
+ghost use Rattle.chain_semantics.specs.MoveLaws.{MoveLaw, FlipLaw, FlippedMoveLaw};
+
+/// Which moves a net has, and what each keeps and lowers.
+pub fn moves()
+    ensures { MoveLaw }
+{}
+
+/// What turning over a table changes.
+pub fn flips()
+    ensures { FlipLaw }
+{}
+
+/// A move changes its table's value or leaves it: which outputs the moved net has, and where it is broken.
+pub fn flipped_moves()
+    ensures { FlippedMoveLaw }
+{}

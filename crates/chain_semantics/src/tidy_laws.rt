@@ -1,0 +1,12 @@
+//! The laws about tidying: each function's contract is a law.
+ghost use Rattle.chain_semantics.specs.TidyLaws.{StepLaw, TidyLaw};
+
+/// What one step keeps and lowers.
+pub fn step()
+    ensures { StepLaw }
+{}
+
+/// Steps end at one net, and what that net keeps.
+pub fn tidying()
+    ensures { TidyLaw }
+{}

@@ -1,0 +1,91 @@
+//! The bytes of a token, as far as they were read.
+ghost use Rattle.std.specs.Prelude.{◌≡◌, ◌+◌, ◌*◌, ◌<◌};
+ghost use Rattle.proof_semantics.specs.LratTokens.{is_blank, is_log_byte, number_word};
+ghost use Rattle.cnf_core.specs.LratScanning.{word_with, held_with, ended_word};
+
+use proof_semantics::lrat_word::LratWord;
+
+/// The token at hand, by its bytes so far.
+#[derive(Clone, Copy, Drop)]
+pub enum HeldWord {
+    /// No token has begun.
+    Empty,
+    Minus,
+    Whole(LratWord),
+}
+
+#[tactic(auto, unfolding(proof_semantics::specs::LratTokens::is_blank))]
+pub fn is_blank(byte: u8) -> bool
+    ensures { result ≡ is_blank byte }
+{
+    byte == b' ' || byte == b'\t' || byte == b'\r' || byte == b'\n'
+}
+
+/// Whether the byte may stand in a log at all.
+#[tactic(auto, unfolding(proof_semantics::specs::LratTokens::is_log_byte))]
+pub fn is_log_byte(byte: u8) -> bool
+    ensures { result ≡ is_log_byte byte }
+{
+    is_blank(byte) || byte.is_ascii_digit() || byte == b'-' || byte == b'd'
+}
+
+/// A number with one more digit, as long as it is below 2^63.
+fn with_digit(negative: bool, size: u64, digit: u8) -> LratWord
+    requires { digit < 10 }
+    ensures { result ≡ number_word negative (10 * size + digit) }
+{
+    let size = 10 * size as u128 + digit as u128;
+    if size < 1 << 63 {
+        LratWord::Number {
+            negative,
+            size: size as u64,
+        }
+    } else {
+        LratWord::Malformed
+    }
+}
+
+fn with_byte(word: LratWord, byte: u8) -> HeldWord
+    ensures { result ≡ word_with word byte }
+{
+    HeldWord::Whole(match word {
+        LratWord::Number { negative, size } if byte.is_ascii_digit() => {
+            with_digit(negative, size, byte - b'0')
+        }
+        _ => LratWord::Malformed,
+    })
+}
+
+fn first_digit(negative: bool, byte: u8) -> HeldWord
+    ensures { result ≡ word_with (LratWord.Number negative 0) byte }
+{
+    with_byte(LratWord::Number { negative, size: 0 }, byte)
+}
+
+impl HeldWord {
+    /// The token with one more byte.
+    pub fn with_byte(self, byte: u8) -> HeldWord
+        ensures { result ≡ held_with self byte }
+    {
+        match self {
+            HeldWord::Empty => match byte {
+                b'd' => HeldWord::Whole(LratWord::Letter),
+                b'-' => HeldWord::Minus,
+                _ => first_digit(false, byte),
+            },
+            HeldWord::Minus => first_digit(true, byte),
+            HeldWord::Whole(word) => with_byte(word, byte),
+        }
+    }
+
+    /// What the token is where a blank ends it.
+    pub fn ended(self) -> Option<LratWord>
+        ensures { result ≡ ended_word self }
+    {
+        match self {
+            HeldWord::Empty => None,
+            HeldWord::Minus => Some(LratWord::Malformed),
+            HeldWord::Whole(word) => Some(word),
+        }
+    }
+}

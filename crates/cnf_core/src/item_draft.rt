@@ -1,0 +1,143 @@
+//! The lists of the item at hand.
+ghost use Rattle.std.specs.Prelude.{◌≡◌, ◌^◌, ◌<◌, [], ◌∷◌, ◌++◌, length, take, IfOk, OnOk, OnErr};
+ghost use Rattle.cnf_core.specs.Drafts.{whole, Grows};
+ghost use Rattle.cnf_core.specs.Literals.{IsLiteral};
+
+use crate::clause::Lits;
+use crate::draft::Draft;
+use crate::literal::Literal;
+use crate::log::{Ids, Step};
+use std::alloc::{AllocError, Global};
+use std::marker::Model;
+
+/// The literals of an addition, and its hints or the ids of a deletion. Lists that were begun before are kept until
+/// `settle`, so that want of memory can take all back.
+#[derive(Drop)]
+pub struct ItemDraft {
+    literals: Draft<Literal>,
+    numbers: Draft<u64>,
+}
+
+impl Model for ItemDraft {
+    ghost use Rattle.cnf_core.specs.Drafts.{ItemDraftValue, whole};
+    ghost use Rattle.cnf_core.specs.Literals.{AreLiterals};
+
+    ghost Value = { ItemDraftValue };
+
+    ghost view = { λ a. record { literals = a.literals; numbers = a.numbers } };
+
+    ghost invariant = { λ a. AreLiterals (whole a.literals) };
+}
+
+/// How long the two lists at hand are.
+#[derive(Clone, Copy, Drop)]
+pub struct Lengths {
+    pub literals: usize,
+    pub numbers: usize,
+}
+
+fn ids(alloc: Global, numbers: &[u64]) -> Result<Ids, AllocError>
+    ensures { IfOk result (λ ids. ids ≡ numbers.now) }
+{
+    let mut ids = Ids::new(alloc);
+    for number in numbers {
+        ids.push(*number)?;
+    }
+    Ok(ids)
+}
+
+impl ItemDraft {
+    /// No lists. It takes no memory.
+    pub fn new(alloc: Global) -> ItemDraft
+        ensures { result ≡ record { literals = record { before = []; at_hand = [] }; numbers = record { before = []; at_hand = [] } } }
+    {
+        ItemDraft {
+            literals: Draft::new(alloc),
+            numbers: Draft::new(alloc),
+        }
+    }
+
+    /// Begins an empty list of literals.
+    pub fn begin_literals(&mut self)
+        ensures value { self.new ≡ record self.old { literals = record { before = whole self.old.literals; at_hand = [] } } }
+        ensures grows { Grows self.old self.new }
+    {
+        self.literals.begin();
+    }
+
+    /// Begins an empty list of hints or ids.
+    pub fn begin_numbers(&mut self)
+        ensures value { self.new ≡ record self.old { numbers = record { before = whole self.old.numbers; at_hand = [] } } }
+        ensures grows { Grows self.old self.new }
+    {
+        self.numbers.begin();
+    }
+
+    pub fn push_literal(&mut self, literal: Literal) -> Result<(), AllocError>
+        requires { IsLiteral literal }
+        ensures ok { OnOk result (self.new
+            ≡ record self.old { literals = record self.old.literals { at_hand = self.old.literals.at_hand ++ literal ∷ [] } }) }
+        ensures err { OnErr result (self.new ≡ self.old) }
+        ensures grows { Grows self.old self.new }
+    {
+        self.literals.push(literal)
+    }
+
+    pub fn push_number(&mut self, number: u64) -> Result<(), AllocError>
+        ensures ok { OnOk result (self.new
+            ≡ record self.old { numbers = record self.old.numbers { at_hand = self.old.numbers.at_hand ++ number ∷ [] } }) }
+        ensures err { OnErr result (self.new ≡ self.old) }
+        ensures grows { Grows self.old self.new }
+    {
+        self.numbers.push(number)
+    }
+
+    /// The step of the lists at hand.
+    pub fn step(&self, alloc: Global, id: u64) -> Result<Step, AllocError>
+        ensures { IfOk result (λ s. s
+            ≡ record { id = id; literals = self.now.literals.at_hand; hints = self.now.numbers.at_hand }) }
+    {
+        let literals = Lits::from_slice(alloc, self.literals.as_slice())?;
+        let hints = ids(alloc, self.numbers.as_slice())?;
+        Ok(Step::new(id, literals, hints))
+    }
+
+    /// The ids at hand.
+    pub fn ids(&self, alloc: Global) -> Result<Ids, AllocError>
+        ensures { IfOk result (λ ids. ids ≡ self.now.numbers.at_hand) }
+    {
+        ids(alloc, self.numbers.as_slice())
+    }
+
+    pub fn lengths(&self) -> Lengths
+        ensures literals { result.literals ≡ length self.now.literals.at_hand }
+        ensures numbers { result.numbers ≡ length self.now.numbers.at_hand }
+    {
+        Lengths {
+            literals: self.literals.len(),
+            numbers: self.numbers.len(),
+        }
+    }
+
+    /// Forgets what was begun before the lists at hand.
+    pub fn settle(&mut self)
+        ensures { self.new ≡ record {
+          literals = record { before = []; at_hand = self.old.literals.at_hand };
+          numbers = record { before = []; at_hand = self.old.numbers.at_hand };
+        } }
+    {
+        self.literals.settle();
+        self.numbers.settle();
+    }
+
+    /// The lists that had these lengths when nothing stood before them are at hand again.
+    pub fn take_back(&mut self, lengths: Lengths)
+        ensures { self.new ≡ record {
+          literals = record { before = []; at_hand = take lengths.literals (whole self.old.literals) };
+          numbers = record { before = []; at_hand = take lengths.numbers (whole self.old.numbers) };
+        } }
+    {
+        self.literals.take_back(lengths.literals);
+        self.numbers.take_back(lengths.numbers);
+    }
+}

@@ -1,0 +1,54 @@
+-- What the reading of a file comes to: from its first byte on, to its end or as far as it is wanted.
+use Rattle.std.specs.Prelude.{◌≡◌, ◌⊎◌, ℕ, ◌^◌, ◌<◌, ◌≤◌, Bool, false, IsTrue, [], length, take, Some}
+use Rattle.std.specs.FinMap.{contains_key}
+use Rattle.semantics.specs.Texts.{Bytes}
+use Rattle.outside_semantics.specs.Outside.{Held, FilesTold, Goes, Rose, WhereTold, KeepsAtRead, bytes_of}
+
+-- the text is the first part of the file that is being read, up to its place
+pub record HasRead (told : FilesTold) (held : Held) (name text : Bytes) : Type 0 where
+  pub place : told.reading ≡ Some (record { name = name; at = length text })
+  pub front : text ≡ take (length text) (bytes_of held name)
+
+-- turns of reading, from the moment at which the file was opened
+pub record SoFar (opened now : FilesTold) (text : Bytes) : Type 0 where
+  pub keeps : KeepsAtRead opened now
+  pub reads : (held : Held) (name : Bytes) → opened.held ≡ Some held → HasRead opened held name [] → HasRead now held name text
+
+-- the file has no more bytes
+pub record HasEnded (told : FilesTold) (text : Bytes) : Type 0 where
+  pub ends : (held : Held) (name : Bytes) → told.held ≡ Some held → HasRead told held name text → length (bytes_of held name) ≤ length text
+
+-- one turn of reading: bytes came, or none because none are left or wanted
+pub record TurnRead (old new : FilesTold) (before after : Bytes) (room : ℕ) (more : Bool) : Type 0 where
+  pub keeps : KeepsAtRead old new
+  pub reads : (held : Held) (name : Bytes) → old.held ≡ Some held → HasRead old held name before → HasRead new held name after
+  pub grows : IsTrue more → length before < length after
+  pub stops : more ≡ false → (after ≡ before) × ((room ≡ 0) ⊎ HasEnded old before)
+
+-- no file changed, and what was told of a held name is told still
+pub record FilesStay (old new : FilesTold) (name : Bytes) : Type 0 where
+  pub goes : Goes old new
+  pub stays : WhereTold old new (λ a b. b ≡ a)
+  pub still_told : (a : Held) → old.held ≡ Some a → IsTrue (contains_key a name) → new.held ≡ Some a
+
+-- the text is all of the file; or a first part of it, and no more is wanted
+abbrev pub IsAllWanted : Bytes → Bytes → ℕ → Type 0
+IsAllWanted content text room = (text ≡ content) ⊎ ((room ≡ 0) × (text ≡ take (length text) content))
+
+-- the file was read as far as it was wanted
+pub record FileRead (old new : FilesTold) (name text : Bytes) (room : ℕ) : Type 0 where
+  pub stay : FilesStay old new name
+  pub held : WhereTold old new (λ a b. IsTrue (contains_key a name))
+  pub all : WhereTold old new (λ a b. IsAllWanted (bytes_of a name) text room)
+
+-- a fault came while the file was opened or read, and the file is not steady
+pub record FileFailed (old new : FilesTold) (name : Bytes) : Type 0 where
+  pub stay : FilesStay old new name
+  pub rose : Rose old.faults new.faults
+  pub not_steady : old.steady_read name ≡ false
+
+-- each of 2 ^ 40 turns gave a byte, and so many bytes the file has
+pub record FileEndless (old new : FilesTold) (name text : Bytes) : Type 0 where
+  pub stay : FilesStay old new name
+  pub turns : 2 ^ 40 ≤ length text
+  pub long : WhereTold old new (λ a b. 2 ^ 40 ≤ length (bytes_of a name))

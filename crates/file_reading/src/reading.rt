@@ -1,0 +1,66 @@
+//! A file from its first byte on. A file without an end is read no further than the budget of turns.
+ghost use Rattle.std.specs.Prelude.{◌≡◌, ◌≤◌, [], ◌++◌, length, take, Err, IfOk, IfErr, OnOk};
+ghost use Rattle.file_reading.specs.Reading.{TurnRead, FileRead};
+ghost use Rattle.file_reading.specs.Refused.{TurnRefused, FileUnread};
+
+use crate::intake::Intake;
+use crate::unread::Unread;
+use file_core::files::Files;
+use std::alloc::AllocError;
+
+/// How often a file is asked for more; each time that goes on gives a byte at least.
+const TURNS: u64 = 1 << 40;
+
+/// Hands on the first bytes of the buffer.
+fn take_front<I: Intake>(intake: &mut I, buffer: &[u8], count: usize) -> Result<(), AllocError>
+    requires within { count ≤ length buffer.now }
+    requires wanted { count ≤ I.room intake.old }
+    ensures text { OnOk result (I.text intake.new ≡ I.text intake.old ++ take count buffer.now) }
+    ensures aim { OnOk result (I.aim intake.new ≡ I.aim intake.old) }
+{
+    intake.take(&buffer[..count])
+}
+
+/// Hands on the next bytes of the open file, and answers whether there were any; where none are wanted it asks for none.
+fn read_turn<F: Files, I: Intake>(files: &mut F, intake: &mut I) -> Result<bool, Unread>
+    ensures ok { IfOk result
+        (λ more. TurnRead (F.told files.old) (F.told files.new) (I.text intake.old) (I.text intake.new) (I.room intake.new) more) }
+    ensures aim { OnOk result (I.aim intake.new ≡ I.aim intake.old) }
+    ensures err { IfErr result (TurnRefused (F.told files.old) (F.told files.new)) }
+{
+    let mut buffer = [0u8; 65536];
+    let room = intake.wanted().min(buffer.len());
+    if room == 0 {
+        return Ok(false);
+    }
+    let part = &mut buffer[..room];
+    let count = files.read(part)?;
+    if count == 0 {
+        return Ok(false);
+    }
+    take_front(intake, part, count)?;
+    Ok(true)
+}
+
+/// Hands on the bytes of a file, all of them or as many as are wanted.
+pub fn read_file<F: Files, I: Intake>(
+    files: &mut F,
+    name: &[u8],
+    intake: &mut I,
+) -> Result<(), Unread>
+    requires { I.text intake.old ≡ [] }
+    ensures ok { OnOk result
+        (FileRead (F.told files.old) (F.told files.new) name.now (I.text intake.new) (I.room intake.new)) }
+    ensures aim { OnOk result (I.aim intake.new ≡ I.aim intake.old) }
+    ensures err { IfErr result
+        (FileUnread (F.told files.old) (F.told files.new) name.now (I.text intake.new)) }
+    ensures endless { result ≡ Err Unread.Endless → I.aim intake.new ≡ I.aim intake.old }
+{
+    files.open_file(name)?;
+    for turn in 0..TURNS {
+        if !read_turn(files, intake)? {
+            return Ok(());
+        }
+    }
+    Err(Unread::Endless)
+}

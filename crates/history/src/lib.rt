@@ -1,0 +1,4 @@
+//! What was handed over so far, for contracts alone: it takes no memory, and keeping it costs nothing at run time.
+#![tactic(auto)]
+
+pub mod text;

@@ -1,0 +1,200 @@
+-- What a certificate shows, and which bundles are written as certificates.
+use Rattle.std.specs.Prelude.{unwrap_or}
+use Rattle.std.proofs.Common.{◌≡◌, ℕ, ◌^◌, ◌<◌, ◌≤◌, List, [], ◌∷◌, ◌++◌, refl, ap, sym, subst, ◌∙◌, lt_of_le_of_lt, arith}
+use Rattle.std.proofs.lemmas.List.{append_cancel_left}
+use Rattle.std.specs.List.{AllByRecursion}
+use Rattle.semantics.specs.Texts.{Bytes}
+use Rattle.semantics.specs.Net.{NetValue, table_count, literal_count, HasSamePorts, IsSound, IsSmall}
+use Rattle.semantics.specs.Error.{Metric, net_error}
+use Rattle.quality_semantics.proofs.Joint.{comparable}
+use Rattle.blif_semantics.specs.Reading.{bundle_limit}
+use Rattle.blif_semantics.proofs.ReadNet.{read_sound}
+use Rattle.blif_semantics.proofs.Written.{read}
+use Rattle.proof_semantics.specs.Formula.{dimacs_text}
+use Rattle.proof_semantics.specs.Logs.{LogItem, Refutes}
+use Rattle.proof_semantics.proofs.Miters.{miter_law}
+use Rattle.proof_semantics.proofs.LratRoundTrip.{round_trip_law}
+use Rattle.outside_semantics.specs.Outside.{Held}
+use Rattle.outside_semantics.specs.WrittenFiles.{with_files}
+use Rattle.job_semantics.specs.declared.ending.Ending.{Ending}
+use Rattle.job_semantics.specs.declared.ending.Ending.TheVariants as file
+use Rattle.job_semantics.specs.Endings.{bundle_files}
+use Rattle.job_semantics.specs.declared.clause.Clause.{Clause}
+use Rattle.job_semantics.specs.Report.{Report}
+use Rattle.job_semantics.specs.Bundle.{BundleValue, bundle_report, bundle_text}
+use Rattle.job_semantics.specs.Certificate.{Texts, texts_of, IsNetlist, IsReport, IsRefutation, AreCounts, OfNet, OfReport, OfBoth, Holds, Certifies, IsFirstFailing}
+use Rattle.job_semantics.specs.CertificateLaws.{IsVerified, VerifiedLaw, IsRightBundle, HeldCertificateLaw, FirstFailingLaw}
+use Rattle.job_semantics.proofs.BundleFiles.{bundle_files-holds}
+use Rattle.job_semantics.proofs.ReportTexts.{AreFew, one_report}
+use Rattle.job_semantics.proofs.SmallNets.{literals_at_most}
+use Rattle.job_semantics.proofs.WritableLogs.{writable}
+
+-- ---- one net and one report
+
+same_net : (texts : Texts) (N M : NetValue) → IsNetlist texts N → IsNetlist texts M → N ≡ M
+same_net texts N M n m = cc
+
+few : (exact : NetValue) (metric : Metric) (bound : ℕ) (texts : Texts) (r : Report) → IsReport exact metric bound texts r → AreFew r
+few exact metric bound texts r h = record { maximum = h.maximum; counts = h.counts }
+
+same_report : (exact : NetValue) (metric : Metric) (bound : ℕ) (texts : Texts) (r s : Report) → IsReport exact metric bound texts r → IsReport exact metric bound texts s → r ≡ s
+same_report exact metric bound texts r s h k =
+    one_report r s (few exact metric bound texts r h) (few exact metric bound texts s k) (h.same_metric ∙ sym k.same_metric) (h.same_bound ∙ sym k.same_bound)
+    (h.witness ∙ sym k.witness) (sym h.spelled ∙ k.spelled)
+
+of_net : (texts : Texts) (P : NetValue → Type 0) (M : NetValue) → IsNetlist texts M → OfNet texts P → P M
+of_net texts P M is some = subst P (same_net texts some.0 M some.1 is) some.2
+
+module _ (exact : NetValue) (metric : Metric) (bound : ℕ) (texts : Texts) where
+  of_report : (P : Report → Type 0) (r : Report) → IsReport exact metric bound texts r → OfReport exact metric bound texts P → P r
+  of_report P r is some = subst P (same_report exact metric bound texts some.0 r some.1 is) some.2
+
+  of_both : (P : NetValue → Report → Type 0) (M : NetValue) (r : Report) → IsNetlist texts M → IsReport exact metric bound texts r → OfBoth exact metric bound texts P → P M r
+  of_both P M r net report some = of_report (P M) r report (of_net texts (λ N. OfReport exact metric bound texts (P N)) M net some)
+
+-- ---- what a certificate shows
+
+module _ (exact : NetValue) (metric : Metric) (bound : ℕ) (texts : Texts) (sound : IsSound exact) (c : Certifies exact metric bound texts)
+    (M : NetValue) (r : Report) (net : IsNetlist texts M) (report : IsReport exact metric bound texts r) where
+  with_ports : HasSamePorts exact M
+  with_ports = of_net texts (HasSamePorts exact) M net c.1.0
+
+  refuted : (log : List LogItem) × IsRefutation exact M metric r.maximum texts log
+  refuted = of_both exact metric bound texts (λ N s. (log : List LogItem) × IsRefutation exact N metric s.maximum texts log) M r net report c.1.1.1.1.1.1.1.0
+
+  counted : AreCounts exact M r
+  counted = of_both exact metric bound texts (AreCounts exact) M r net report c.1.1.1.1.1.1.1.1.0
+
+  verified : IsVerified exact metric bound M r
+  verified = record {
+    ports = with_ports;
+    safe =
+        let other = read_sound (texts file.Netlist) bundle_limit M net in
+        miter_law.refuted exact M metric r.maximum (comparable exact M sound other with_ports) refuted.0 refuted.1.refutes;
+    within = of_report exact metric bound texts (λ s. s.maximum ≤ bound) r report c.1.1.1.0;
+    width = report.witness;
+    attained = of_both exact metric bound texts (λ N s. net_error metric exact N s.witness ≡ s.maximum) M r net report c.1.1.1.1.1.0;
+    tables = counted.tables;
+    literals = counted.literals;
+  }
+
+pub verified_law : VerifiedLaw
+verified_law = record {
+  read = λ exact metric bound texts c. (c.0.0, c.1.1.0.0, c.0.1, c.1.1.0.1);
+  one_net = same_net;
+  one_report = same_report;
+  verified = verified;
+}
+
+-- ---- which bundles are written as certificates
+
+module _ (b : BundleValue) (h : IsRightBundle b) where
+  net_read : IsNetlist (bundle_text b) b.approx
+  net_read = read b.approx h.approx_sound h.approx_small
+
+  few_tables : (N : NetValue) → IsSmall N → table_count N < 2 ^ 32
+  few_tables N small = omega (arith, small.tables)
+
+  few_literals : (N : NetValue) → IsSound N → IsSmall N → literal_count N < 2 ^ 32
+  few_literals N sound small = omega (arith, literals_at_most N small sound.tables_formed)
+
+  report_read : IsReport b.exact b.metric b.bound (bundle_text b) (bundle_report b)
+  report_read = record {
+    spelled = refl;
+    same_metric = refl;
+    same_bound = refl;
+    maximum = lt_of_le_of_lt h.within h.bound;
+    witness = h.width;
+    counts = (
+      few_tables b.exact h.exact_small,
+      (few_tables b.approx h.approx_small, (few_literals b.exact h.exact_sound h.exact_small, (few_literals b.approx h.approx_sound h.approx_small, tt))),
+    );
+  }
+
+  counts_right : AreCounts b.exact b.approx (bundle_report b)
+  counts_right = record {
+    old_tables = refl;
+    new_tables = refl;
+    old_literals = refl;
+    new_literals = refl;
+    tables = h.tables;
+    literals = h.literals;
+  }
+
+  log_read : IsRefutation b.exact b.approx b.metric b.maximum (bundle_text b) b.log
+  log_read = record {
+    read = round_trip_law b.log (writable b.goal b.log h.variables h.derivation);
+    refutes = subst (λ f. Refutes f.clauses b.log) h.goal h.refutes;
+  }
+
+  pub written_certifies : Certifies b.exact b.metric b.bound (bundle_text b)
+  written_certifies = (
+    (b.approx, net_read),
+    (
+      (b.approx, net_read, h.ports),
+      (
+        (bundle_report b, report_read),
+        (
+          (bundle_report b, report_read, h.within),
+          (
+            (bundle_report b, report_read, (b.pool, record { spelled = refl; widths = (h.width, h.pool) })),
+            (
+              (b.approx, net_read, (bundle_report b, report_read, h.attained)),
+              (
+                (b.approx, net_read, (bundle_report b, report_read, ap dimacs_text h.goal)),
+                (
+                  (b.approx, net_read, (bundle_report b, report_read, (b.log, log_read))),
+                  (
+                    (b.approx, net_read, (bundle_report b, report_read, counts_right)),
+                    ((bundle_report b, report_read, h.minimal), tt),
+                  ),
+                ),
+              ),
+            ),
+          ),
+        ),
+      ),
+    ),
+  )
+
+-- ---- the files that are held once they were written
+
+held_text : (held : Held) (stem : Bytes) (text : Texts) (e : Ending) → texts_of (with_files held (bundle_files stem text)) stem e ≡ text e
+held_text held stem text file.Netlist = ap (λ found. unwrap_or found []) (bundle_files-holds held stem text).0
+held_text held stem text file.Formula = ap (λ found. unwrap_or found []) (bundle_files-holds held stem text).1.0
+held_text held stem text file.Log = ap (λ found. unwrap_or found []) (bundle_files-holds held stem text).1.1.0
+held_text held stem text file.Vectors = ap (λ found. unwrap_or found []) (bundle_files-holds held stem text).1.1.1.0
+held_text held stem text file.Report = ap (λ found. unwrap_or found []) (bundle_files-holds held stem text).1.1.1.1.0
+
+pub held_certificate_law : HeldCertificateLaw
+held_certificate_law b h stem old new written = λ before now told tells.
+    let texts : bundle_text b ≡ texts_of now stem =
+    sym ((λ i. texts_of (written.held before now told tells i) stem) ∙ (λ i e. held_text before stem (bundle_text b) e i)) in
+    subst (Certifies b.exact b.metric b.bound) texts (written_certifies b h)
+
+-- ---- texts that are no certificate
+
+-- what holds of a list holds of what stands in its middle
+in_middle : (P : Clause → Type 0) (before after : List Clause) (c : Clause) → AllByRecursion P (before ++ c ∷ after) → P c
+in_middle P [] after c all = all.0
+in_middle P (d ∷ before) after c all = in_middle P before after c all.1
+
+refuted_by : (exact : NetValue) (metric : Metric) (bound : ℕ) (texts : Texts) (c : Clause) → IsFirstFailing exact metric bound texts c → ¬ Certifies exact metric bound texts
+refuted_by exact metric bound texts c f all =
+    f.fails (in_middle (Holds exact metric bound texts) f.before f.after c (subst (AllByRecursion (Holds exact metric bound texts)) f.order all))
+
+-- of two places in one list, the clauses before each of which hold and which fail themselves, neither is before the other
+one_place : (P : Clause → Type 0) (before after before' after' : List Clause) (c d : Clause) → before ++ c ∷ after ≡ before' ++ d ∷ after'
+    → AllByRecursion P before → AllByRecursion P before' → ¬ P c → ¬ P d → c ≡ d
+one_place P [] after [] after' c d same all all' fails fails' = cc
+one_place P [] after (e ∷ before') after' c d same all all' fails fails' = absurd (fails (subst P (let is : e ≡ c = cc in is) all'.0))
+one_place P (e ∷ before) after [] after' c d same all all' fails fails' = absurd (fails' (subst P (let is : e ≡ d = cc in is) all.0))
+one_place P (e ∷ before) after (e' ∷ before') after' c d same all all' fails fails' =
+    one_place P before after before' after' c d (append_cancel_left (e ∷ []) _ _ (same ∙ ap (λ x. x ∷ (before' ++ d ∷ after')) (let is : e' ≡ e = cc in is))) all.1 all'.1 fails fails'
+
+pub first_failing_law : FirstFailingLaw
+first_failing_law = record {
+  refuted = refuted_by;
+  only = λ exact metric bound texts c d f g.
+      one_place (Holds exact metric bound texts) f.before f.after g.before g.after c d (sym f.order ∙ g.order) f.hold g.hold f.fails g.fails;
+}

@@ -1,0 +1,139 @@
+-- The certificate that the five texts of a bundle are: ten clauses, tested in order. Source: this tool's own bundles; that no error
+-- exceeds the maximum is shown by a refuted miter, as in equivalence checking by SAT.
+use Rattle.std.specs.Prelude.{◌≡◌, ℕ, ◌^◌, ◌<◌, ◌≤◌, Bool, false, nat_le, List, [], ◌∷◌, ◌++◌, length, filter, Contains, Ok}
+use Rattle.std.specs.List.{AllByRecursion}
+use Rattle.semantics.specs.Texts.{Bytes}
+use Rattle.semantics.specs.Net.{NetValue, input_count, table_count, literal_count, HasSamePorts}
+use Rattle.semantics.specs.Error.{Metric, net_error}
+use Rattle.blif_semantics.specs.Reading.{bundle_limit, blif_reading}
+use Rattle.proof_semantics.specs.Formula.{dimacs_text}
+use Rattle.proof_semantics.specs.Logs.{LogItem, Refutes}
+use Rattle.proof_semantics.specs.LratReading.{lrat_items}
+use Rattle.proof_semantics.specs.Miter.{miter}
+use Rattle.job_semantics.specs.declared.ending.Ending.{Ending}
+use Rattle.job_semantics.specs.declared.ending.Ending.TheVariants as file
+use Rattle.job_semantics.specs.declared.clause.Clause.{Clause}
+use Rattle.job_semantics.specs.declared.clause.Clause.TheVariants as clause
+use Rattle.outside_semantics.specs.Outside.{Held, FilesTold, WhereTold, bytes_of}
+use Rattle.job_semantics.specs.Endings.{bundle_endings, bundle_name}
+use Rattle.job_semantics.specs.Report.{Report, report_text, vectors_text}
+
+-- the text of each file of a bundle
+abbrev pub Texts : Type 0
+Texts = Ending → Bytes
+
+-- the texts of a bundle among the held files; a name that is not held has no bytes
+abbrev pub texts_of : Held → Bytes → Texts
+texts_of held stem ending = bytes_of held (bundle_name stem ending)
+
+-- P of the bundle's texts, where the files are told at entry and at exit
+abbrev pub OfBundle : FilesTold → FilesTold → Bytes → (Texts → Type 0) → Type 0
+OfBundle old new stem P = WhereTold old new (λ a b. P (texts_of b stem))
+
+-- `.blif` is read as the net
+abbrev pub IsNetlist : Texts → NetValue → Type 0
+IsNetlist texts M = blif_reading (texts file.Netlist) bundle_limit ≡ Ok M
+
+-- the text is that of the report, which is one for so many inputs, the metric and the bound
+pub record IsReportText (inputs : ℕ) (metric : Metric) (bound : ℕ) (text : Bytes) (r : Report) : Type 0 where
+  pub spelled : text ≡ report_text r
+  pub same_metric : r.metric ≡ metric
+  pub same_bound : r.bound ≡ bound
+  pub maximum : r.maximum < 2 ^ 84
+  pub witness : length r.witness ≡ inputs
+  pub counts : AllByRecursion (λ count. count < 2 ^ 32) (r.old_tables ∷ r.new_tables ∷ r.old_literals ∷ r.new_literals ∷ [])
+
+-- the text is one or more vectors of so many bits, a line each, the witness first
+pub record IsVectorsText (inputs : ℕ) (text : Bytes) (witness : List Bool) (pool : List (List Bool)) : Type 0 where
+  pub spelled : text ≡ vectors_text witness pool
+  pub widths : AllByRecursion (λ x. length x ≡ inputs) (witness ∷ pool)
+
+-- `.txt` is that report for the original net, and `.wit` those input vectors of it
+abbrev pub IsReport : NetValue → Metric → ℕ → Texts → Report → Type 0
+IsReport exact metric bound texts r = IsReportText (input_count exact) metric bound (texts file.Report) r
+
+abbrev pub AreVectors : NetValue → Texts → List Bool → List (List Bool) → Type 0
+AreVectors exact texts witness pool = IsVectorsText (input_count exact) (texts file.Vectors) witness pool
+
+-- `.lrat` is read to its end as a log that refutes the miter at the maximum
+pub record IsRefutation (exact approx : NetValue) (metric : Metric) (maximum : ℕ) (texts : Texts) (log : List LogItem) : Type 0 where
+  pub read : lrat_items (texts file.Log) ≡ Ok log
+  pub refutes : Refutes (miter exact approx metric maximum).clauses log
+
+-- the report's counts are those of the two nets, and none grew
+pub record AreCounts (exact approx : NetValue) (r : Report) : Type 0 where
+  pub old_tables : r.old_tables ≡ table_count exact
+  pub new_tables : r.new_tables ≡ table_count approx
+  pub old_literals : r.old_literals ≡ literal_count exact
+  pub new_literals : r.new_literals ≡ literal_count approx
+  pub tables : table_count approx ≤ table_count exact
+  pub literals : literal_count approx ≤ literal_count exact
+
+-- P of the net of `.blif`, of the report of `.txt`, and of both
+abbrev pub OfNet : Texts → (NetValue → Type 0) → Type 0
+OfNet texts P = (M : NetValue) × IsNetlist texts M × P M
+
+abbrev pub OfReport : NetValue → Metric → ℕ → Texts → (Report → Type 0) → Type 0
+OfReport exact metric bound texts P = (r : Report) × IsReport exact metric bound texts r × P r
+
+abbrev pub OfBoth : NetValue → Metric → ℕ → Texts → (NetValue → Report → Type 0) → Type 0
+OfBoth exact metric bound texts P = OfNet texts (λ M. OfReport exact metric bound texts (P M))
+
+-- What each clause says. The last one asks so far that the report claims nothing of further simplifications: not all moves are there.
+abbrev pub Holds : NetValue → Metric → ℕ → Texts → Clause → Type 0
+Holds exact metric bound texts clause.Netlist = (M : NetValue) × IsNetlist texts M
+Holds exact metric bound texts clause.Ports = OfNet texts (HasSamePorts exact)
+Holds exact metric bound texts clause.ReportForm = (r : Report) × IsReport exact metric bound texts r
+Holds exact metric bound texts clause.MaximumWithin = OfReport exact metric bound texts (λ r. r.maximum ≤ bound)
+Holds exact metric bound texts clause.Witness = OfReport exact metric bound texts (λ r. (pool : List (List Bool)) × AreVectors exact texts r.witness pool)
+Holds exact metric bound texts clause.Attained = OfBoth exact metric bound texts (λ M r. net_error metric exact M r.witness ≡ r.maximum)
+Holds exact metric bound texts clause.Formula = OfBoth exact metric bound texts (λ M r. texts file.Formula ≡ dimacs_text (miter exact M metric r.maximum))
+Holds exact metric bound texts clause.Log = OfBoth exact metric bound texts (λ M r. (log : List LogItem) × IsRefutation exact M metric r.maximum texts log)
+Holds exact metric bound texts clause.Counts = OfBoth exact metric bound texts (AreCounts exact)
+Holds exact metric bound texts clause.Minimal = OfReport exact metric bound texts (λ r. r.minimal ≡ false)
+
+abbrev pub certificate_clauses : List Clause
+certificate_clauses =
+    clause.Netlist ∷ clause.Ports ∷ clause.ReportForm ∷ clause.MaximumWithin ∷ clause.Witness
+    ∷ clause.Attained ∷ clause.Formula ∷ clause.Log ∷ clause.Counts ∷ clause.Minimal ∷ []
+
+-- the texts are a certificate for the original net, the metric and the bound
+abbrev pub Certifies : NetValue → Metric → ℕ → Texts → Type 0
+Certifies exact metric bound texts = AllByRecursion (Holds exact metric bound texts) certificate_clauses
+
+-- the clauses before this one hold, and this one does not
+pub record IsFirstFailing (exact : NetValue) (metric : Metric) (bound : ℕ) (texts : Texts) (c : Clause) : Type 0 where
+  pub before : List Clause
+  pub after : List Clause
+  pub order : certificate_clauses ≡ before ++ c ∷ after
+  pub hold : AllByRecursion (Holds exact metric bound texts) before
+  pub fails : ¬ Holds exact metric bound texts c
+
+-- the number of a clause, from 1
+abbrev pub clause_number : Clause → ℕ
+clause_number clause.Netlist = 1
+clause_number clause.Ports = 2
+clause_number clause.ReportForm = 3
+clause_number clause.MaximumWithin = 4
+clause_number clause.Witness = 5
+clause_number clause.Attained = 6
+clause_number clause.Formula = 7
+clause_number clause.Log = 8
+clause_number clause.Counts = 9
+clause_number clause.Minimal = 10
+
+-- the first clause that needs a file
+abbrev pub first_needing : Ending → Clause
+first_needing file.Netlist = clause.Netlist
+first_needing file.Report = clause.ReportForm
+first_needing file.Vectors = clause.Witness
+first_needing file.Formula = clause.Formula
+first_needing file.Log = clause.Log
+
+-- a clause needs the files of the clauses before it and its own
+abbrev pub needed_endings : Clause → List Ending
+needed_endings c = filter (λ ending. nat_le (clause_number (first_needing ending)) (clause_number c)) bundle_endings
+
+-- the file is needed for the verdict: where some clause fails first, that clause needs it
+abbrev pub IsNeededFor : NetValue → Metric → ℕ → Texts → Ending → Type 0
+IsNeededFor exact metric bound texts ending = (c : Clause) → IsFirstFailing exact metric bound texts c → Contains (needed_endings c) ending

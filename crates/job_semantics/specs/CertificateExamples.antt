@@ -1,0 +1,85 @@
+-- Worked examples of certificates, computed from the definitions.
+use Rattle.std.specs.Prelude.{◌≡◌, [], ◌∷◌, ◌++◌, map, codes}
+use Rattle.semantics.specs.Texts.{Bytes}
+use Rattle.semantics.specs.Error.{abs}
+use Rattle.semantics.specs.Examples.{text, half_adder}
+use Rattle.job_semantics.specs.declared.ending.Ending.TheVariants as file
+use Rattle.job_semantics.specs.declared.clause.Clause.TheVariants as clause
+use Rattle.job_semantics.specs.Certificate.{Texts, Holds, IsFirstFailing, certificate_clauses, clause_number, needed_endings}
+
+pub record CertificateClauseExamples : Type 0 where
+  pub numbers : map clause_number certificate_clauses ≡ 1 ∷ 2 ∷ 3 ∷ 4 ∷ 5 ∷ 6 ∷ 7 ∷ 8 ∷ 9 ∷ 10 ∷ []
+  pub ports : needed_endings clause.Ports ≡ file.Netlist ∷ []
+  pub maximum : needed_endings clause.MaximumWithin ≡ file.Netlist ∷ file.Report ∷ []
+  pub attained : needed_endings clause.Attained ≡ file.Netlist ∷ file.Vectors ∷ file.Report ∷ []
+  pub formula : needed_endings clause.Formula ≡ file.Netlist ∷ file.Formula ∷ file.Vectors ∷ file.Report ∷ []
+  pub log : needed_endings clause.Log ≡ file.Netlist ∷ file.Formula ∷ file.Log ∷ file.Vectors ∷ file.Report ∷ []
+  pub minimal : needed_endings clause.Minimal ≡ file.Netlist ∷ file.Formula ∷ file.Log ∷ file.Vectors ∷ file.Report ∷ []
+
+-- the texts of a bundle without its formula and its log
+abbrev pub texts_of_three : Bytes → Bytes → Bytes → Texts
+texts_of_three netlist vectors report file.Netlist = netlist
+texts_of_three netlist vectors report file.Formula = []
+texts_of_three netlist vectors report file.Log = []
+texts_of_three netlist vectors report file.Vectors = vectors
+texts_of_three netlist vectors report file.Report = report
+
+-- the half adder with both outputs constant, its inputs as named
+abbrev pub netlist_with : Bytes → Bytes
+netlist_with inputs = text (codes ".model ha" ∷ inputs ∷ codes ".outputs s c" ∷ codes ".names s" ∷ codes ".names c" ∷ codes ".end" ∷ [])
+
+abbrev pub both_constant_netlist : Bytes
+both_constant_netlist = netlist_with (codes ".inputs a b")
+
+abbrev pub both_constant_vectors : Bytes
+both_constant_vectors = text (codes "11" ∷ codes "00" ∷ codes "10" ∷ [])
+
+-- a report for the bound 3 with these lines
+abbrev pub report_with : Bytes → Bytes → Bytes → Bytes
+report_with maximum literals minimal =
+    text (codes "salsa 1" ∷ codes "metric abs" ∷ codes "bound 3" ∷ maximum ∷ codes "witness 11" ∷ codes "tables 2 2" ∷ literals ∷ minimal ∷ [])
+
+abbrev pub both_constant_report : Bytes
+both_constant_report = report_with (codes "maximum 2") (codes "literals 6 0") (codes "minimal no")
+
+abbrev pub both_constant_texts : Texts
+both_constant_texts = texts_of_three both_constant_netlist both_constant_vectors both_constant_report
+
+pub record HoldingExamples : Type 0 where
+  pub netlist : Holds half_adder abs 3 both_constant_texts clause.Netlist
+  pub ports : Holds half_adder abs 3 both_constant_texts clause.Ports
+  pub report : Holds half_adder abs 3 both_constant_texts clause.ReportForm
+  pub within : Holds half_adder abs 3 both_constant_texts clause.MaximumWithin
+  pub witness : Holds half_adder abs 3 both_constant_texts clause.Witness
+  pub attained : Holds half_adder abs 3 both_constant_texts clause.Attained
+  pub counts : Holds half_adder abs 3 both_constant_texts clause.Counts
+  pub minimal : Holds half_adder abs 3 both_constant_texts clause.Minimal
+
+-- the first clause that fails of texts of which one is damaged, and clauses behind it that fail too
+pub record FailingExamples : Type 0 where
+  pub no_formula : IsFirstFailing half_adder abs 3 both_constant_texts clause.Formula
+  pub other_bound : IsFirstFailing half_adder abs 2 both_constant_texts clause.ReportForm
+  pub no_netlist : IsFirstFailing half_adder abs 3 (texts_of_three [] both_constant_vectors both_constant_report) clause.Netlist
+  pub other_ports : IsFirstFailing half_adder abs 3 (texts_of_three (netlist_with (codes ".inputs b a")) both_constant_vectors both_constant_report) clause.Ports
+  pub large_maximum :
+      IsFirstFailing half_adder abs 3
+      (texts_of_three both_constant_netlist both_constant_vectors (report_with (codes "maximum 4") (codes "literals 6 0") (codes "minimal no")))
+      clause.MaximumWithin
+  pub other_first_line :
+      IsFirstFailing half_adder abs 3 (texts_of_three both_constant_netlist (text (codes "00" ∷ codes "11" ∷ [])) both_constant_report) clause.Witness
+  pub no_last_line_end :
+      IsFirstFailing half_adder abs 3 (texts_of_three both_constant_netlist (text (codes "11" ∷ []) ++ codes "00") both_constant_report) clause.Witness
+  pub other_maximum :
+      IsFirstFailing half_adder abs 3
+      (texts_of_three both_constant_netlist both_constant_vectors (report_with (codes "maximum 0") (codes "literals 6 0") (codes "minimal no")))
+      clause.Attained
+  pub other_literals :
+      Holds half_adder abs 3
+      (texts_of_three both_constant_netlist both_constant_vectors (report_with (codes "maximum 2") (codes "literals 6 1") (codes "minimal no")))
+      clause.Counts
+      → ⊥
+  pub said_minimal :
+      Holds half_adder abs 3
+      (texts_of_three both_constant_netlist both_constant_vectors (report_with (codes "maximum 2") (codes "literals 6 0") (codes "minimal yes")))
+      clause.Minimal
+      → ⊥

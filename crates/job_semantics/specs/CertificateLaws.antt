@@ -1,0 +1,72 @@
+-- The laws about certificates, each the contract of a function without parameters.
+use Rattle.std.specs.Prelude.{◌≡◌, ℕ, ◌^◌, ◌<◌, ◌≤◌, false, length}
+use Rattle.std.specs.List.{AllByRecursion}
+use Rattle.semantics.specs.Texts.{Bytes}
+use Rattle.semantics.specs.Net.{NetValue, input_count, table_count, literal_count, HasSamePorts, IsSound, IsSmall}
+use Rattle.semantics.specs.Error.{Metric, net_error, IsWithin}
+use Rattle.outside_semantics.specs.Outside.{FilesTold}
+use Rattle.outside_semantics.specs.WrittenFiles.{FilesWritten}
+use Rattle.proof_semantics.specs.Logs.{Refutes, IsDerivation}
+use Rattle.proof_semantics.specs.Miter.{miter}
+use Rattle.job_semantics.specs.declared.clause.Clause.{Clause}
+use Rattle.job_semantics.specs.Endings.{bundle_files}
+use Rattle.job_semantics.specs.Report.{Report}
+use Rattle.job_semantics.specs.Bundle.{BundleValue, bundle_text}
+use Rattle.job_semantics.specs.Certificate.{Texts, OfBundle, IsNetlist, IsReport, Certifies, IsFirstFailing}
+
+-- On every input the error of the approximate net is at most the report's maximum, which is within the bound and attained at the
+-- witness; and there are no more tables and literals.
+pub record IsVerified (exact : NetValue) (metric : Metric) (bound : ℕ) (approx : NetValue) (r : Report) : Type 0 where
+  pub ports : HasSamePorts exact approx
+  pub safe : IsWithin metric exact r.maximum approx
+  pub within : r.maximum ≤ bound
+  pub width : length r.witness ≡ input_count exact
+  pub attained : net_error metric exact approx r.witness ≡ r.maximum
+  pub tables : table_count approx ≤ table_count exact
+  pub literals : literal_count approx ≤ literal_count exact
+
+-- The verified-bundle theorem: the texts of a certificate have one net and one report, and these are verified.
+pub record VerifiedLaw : Type 0 where
+  pub read : (exact : NetValue) (metric : Metric) (bound : ℕ) (texts : Texts) → Certifies exact metric bound texts
+      → (approx : NetValue) × (r : Report) × IsNetlist texts approx × IsReport exact metric bound texts r
+  pub one_net : (texts : Texts) (N M : NetValue) → IsNetlist texts N → IsNetlist texts M → N ≡ M
+  pub one_report : (exact : NetValue) (metric : Metric) (bound : ℕ) (texts : Texts) (r s : Report)
+      → IsReport exact metric bound texts r → IsReport exact metric bound texts s → r ≡ s
+  pub verified : (exact : NetValue) (metric : Metric) (bound : ℕ) (texts : Texts) → IsSound exact → Certifies exact metric bound texts
+      → (approx : NetValue) (r : Report) → IsNetlist texts approx → IsReport exact metric bound texts r → IsVerified exact metric bound approx r
+
+-- a bundle of small nets that holds what it says
+pub record IsRightBundle (b : BundleValue) : Type 0 where
+  pub exact_sound : IsSound b.exact
+  pub exact_small : IsSmall b.exact
+  pub approx_sound : IsSound b.approx
+  pub approx_small : IsSmall b.approx
+  pub ports : HasSamePorts b.exact b.approx
+  pub bound : b.bound < 2 ^ 84
+  pub within : b.maximum ≤ b.bound
+  pub width : length b.witness ≡ input_count b.exact
+  pub attained : net_error b.metric b.exact b.approx b.witness ≡ b.maximum
+  pub pool : AllByRecursion (λ x. length x ≡ input_count b.exact) b.pool
+  pub goal : b.goal ≡ miter b.exact b.approx b.metric b.maximum
+  pub variables : b.goal.variables < 2 ^ 31
+  pub refutes : Refutes b.goal.clauses b.log
+  pub derivation : IsDerivation b.goal b.log
+  pub tables : table_count b.approx ≤ table_count b.exact
+  pub literals : literal_count b.approx ≤ literal_count b.exact
+  pub minimal : b.minimal ≡ false
+
+-- the texts of such a bundle are a certificate
+abbrev pub WrittenCertificateLaw : Type 0
+WrittenCertificateLaw = (b : BundleValue) → IsRightBundle b → Certifies b.exact b.metric b.bound (bundle_text b)
+
+-- texts with a clause that fails first are no certificate, and no other clause is the first that fails
+pub record FirstFailingLaw : Type 0 where
+  pub refuted : (exact : NetValue) (metric : Metric) (bound : ℕ) (texts : Texts) (c : Clause)
+      → IsFirstFailing exact metric bound texts c → ¬ Certifies exact metric bound texts
+  pub only : (exact : NetValue) (metric : Metric) (bound : ℕ) (texts : Texts) (c d : Clause)
+      → IsFirstFailing exact metric bound texts c → IsFirstFailing exact metric bound texts d → c ≡ d
+
+-- The written-bundle theorem: once the files of such a bundle were written, the files that are held are a certificate.
+abbrev pub HeldCertificateLaw : Type 0
+HeldCertificateLaw = (b : BundleValue) → IsRightBundle b → (stem : Bytes) (old new : FilesTold) → FilesWritten old new (bundle_files stem (bundle_text b))
+    → OfBundle old new stem (Certifies b.exact b.metric b.bound)

@@ -1,0 +1,17 @@
+//! Worked examples of certificates, computed by the checker: each function's contract is its examples.
+ghost use Rattle.job_semantics.specs.CertificateExamples.{CertificateClauseExamples, HoldingExamples, FailingExamples};
+
+/// The numbers of the clauses, and the files that they need.
+pub fn clauses()
+    ensures { CertificateClauseExamples }
+{}
+
+/// Clauses that hold of a bundle's texts.
+pub fn holding()
+    ensures { HoldingExamples }
+{}
+
+/// The first clause that fails, of texts that are damaged.
+pub fn failing()
+    ensures { FailingExamples }
+{}

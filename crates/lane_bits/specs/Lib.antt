@@ -1,0 +1,4 @@
+pub mod Rows
+pub mod Patterns
+pub mod Store
+pub mod Examples

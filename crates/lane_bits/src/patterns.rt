@@ -1,0 +1,180 @@
+//! Sets of input vectors, held as one row of bits for each input.
+ghost use Rattle.std.specs.Prelude.{◌≡◌, ◌⊎◌, ◌+◌, ◌/◌, ◌<◌, ◌≤◌, ℕ, [], ◌∷◌, ◌++◌, length, replicate, slice_index_or, All, IfOk, OnOk, OnErr};
+ghost use Rattle.semantics.specs.Vectors.{bits_of, all_vectors};
+ghost use Rattle.lane_bits.specs.Rows.{word_count};
+ghost use Rattle.lane_bits.specs.Patterns.{IsPatternSet, IsRowOf, vector_at};
+ghost use Rattle.lane_bits.specs.Store.{AreGrownFrom, AreReadied, AreSetAt, row_at};
+
+use crate::kernels::word_count;
+use crate::row::Row;
+use std::alloc::{AllocError, Global};
+use std::marker::Model;
+
+/// A list of vectors, each of one bit for each input.
+#[derive(Drop)]
+pub struct Patterns {
+    inputs: u32,
+    count: u64,
+    rows: Vec<Row>,
+}
+
+impl Model for Patterns {
+    ghost use Rattle.lane_bits.specs.Patterns.{PatternSet, vectors_in};
+    ghost use Rattle.lane_bits.specs.Store.{AreRowsOf};
+
+    ghost Value = { PatternSet };
+
+    ghost view = { λ s. record { inputs = s.inputs; vectors = vectors_in s.rows.items s.count } };
+
+    ghost invariant = { λ s. AreRowsOf s.inputs s.count s.rows.items };
+}
+
+/// As many rows without bits as there are inputs.
+fn empty_rows(alloc: Global, inputs: u32) -> Result<Vec<Row>, AllocError>
+    ensures { IfOk result (λ rows. rows.items ≡ replicate inputs []) }
+{
+    let mut rows = Vec::new(alloc);
+    for _i in 0..inputs {
+        rows.push(Row::new(alloc))?;
+    }
+    Ok(rows)
+}
+
+/// Makes room for so many words in each row.
+fn reach_words(rows: &mut [Row], words: usize) -> Result<(), AllocError>
+    requires { All (λ row. words ≤ length row + 1) rows.old }
+    ensures grown { AreGrownFrom rows.old rows.new }
+    ensures ok { OnOk result (All (λ row. words ≤ length row) rows.new) }
+{
+    for row in rows.iter_mut() {
+        row.reach(words)?;
+    }
+    Ok(())
+}
+
+/// Makes a row for each input where there is none, and room for so many words in each.
+fn ready_rows(rows: &mut Vec<Row>, inputs: u32, words: usize) -> Result<(), AllocError>
+    requires count { (length rows.old.items ≡ inputs) ⊎ (rows.old.items ≡ []) }
+    requires room { (i : ℕ) → i < inputs → words ≤ length (row_at rows.old.items i) + 1 }
+    ensures readied { AreReadied inputs rows.old.items rows.new.items }
+    ensures count { OnOk result (length rows.new.items ≡ inputs) }
+    ensures room { OnOk result (All (λ row. words ≤ length row) rows.new.items) }
+{
+    if rows.is_empty() {
+        *rows = empty_rows(*rows.allocator(), inputs)?;
+    }
+    reach_words(rows, words)
+}
+
+/// Makes bit p of each row 1 where the vector's bit is.
+fn set_bits(rows: &mut [Row], p: u64, x: &[bool])
+    requires width { length x.now ≡ length rows.old }
+    requires room { All (λ row. p / 64 < length row) rows.old }
+    ensures { AreSetAt p x.now rows.old rows.new }
+{
+    for (i, row) in rows.iter_mut().enumerate() {
+        if x[i] {
+            row.set(p);
+        }
+    }
+}
+
+/// The bits at position p of the rows.
+fn get_bits(rows: &[Row], p: u64, x: &mut [bool])
+    requires width { length x.old ≡ length rows.now }
+    requires room { All (λ row. p / 64 < length row) rows.now }
+    ensures { x.new ≡ vector_at rows.now p }
+{
+    for (i, row) in rows.iter().enumerate() {
+        x[i] = row.bit(p);
+    }
+}
+
+/// Vector j of the counting order.
+fn counting_vector(j: u32, x: &mut [bool])
+    ensures { x.new ≡ bits_of (length x.old) j }
+{
+    let mut rest = j;
+    for bit in x.iter_mut() {
+        *bit = rest % 2 == 1;
+        rest /= 2;
+    }
+}
+
+impl Patterns {
+    /// The set without vectors, which takes no memory.
+    pub fn new(alloc: Global, inputs: u32) -> Patterns
+        requires { inputs ≤ 256 }
+        ensures { result ≡ record { inputs = inputs; vectors = [] } }
+    {
+        Patterns {
+            inputs,
+            count: 0,
+            rows: Vec::new(alloc),
+        }
+    }
+
+    /// All vectors in counting order.
+    pub fn exhaustive(alloc: Global, inputs: u32) -> Result<Patterns, AllocError>
+        requires { inputs ≤ 16 }
+        ensures { IfOk result (λ s. s ≡ record { inputs = inputs; vectors = all_vectors inputs }) }
+    {
+        let mut set = Patterns::new(alloc, inputs);
+        let mut buffer = [false; 16];
+        let x = &mut buffer[..inputs as usize];
+        for j in 0..2u32.pow(inputs) {
+            counting_vector(j, x);
+            set.push(x)?;
+        }
+        Ok(set)
+    }
+
+    /// How many bits a vector has.
+    pub fn inputs(&self) -> u32
+        ensures value { result ≡ self.now.inputs }
+        ensures formed { IsPatternSet self.now }
+    {
+        self.inputs
+    }
+
+    /// How many vectors there are.
+    pub fn count(&self) -> u64
+        ensures value { result ≡ length self.now.vectors }
+        ensures formed { IsPatternSet self.now }
+    {
+        self.count
+    }
+
+    /// Adds a vector at the end.
+    pub fn push(&mut self, x: &[bool]) -> Result<(), AllocError>
+        requires { length x.now ≡ self.old.inputs }
+        ensures ok { OnOk result (self.new ≡ record self.old { vectors = self.old.vectors ++ x.now ∷ [] }) }
+        ensures err { OnErr result (self.new ≡ self.old) }
+    {
+        let count = self.count.checked_add(1).ok_or(AllocError)?;
+        ready_rows(&mut self.rows, self.inputs, word_count(count) as usize)?;
+        set_bits(&mut self.rows, self.count, x);
+        self.count = count;
+        Ok(())
+    }
+
+    /// Puts vector i, from 0, into `x`.
+    pub fn get(&self, i: u64, x: &mut [bool])
+        requires within { i < length self.now.vectors }
+        requires width { length x.old ≡ self.now.inputs }
+        ensures { x.new ≡ slice_index_or self.now.vectors i [] }
+    {
+        get_bits(&self.rows, i, x);
+    }
+
+    /// The row of an input: bit p is its bit in vector p, and the bits past the last vector are 0.
+    pub fn row(&self, input: u32) -> &[u64]
+        requires { input < self.now.inputs }
+        ensures { IsRowOf self.now.vectors input result.now }
+    {
+        match self.rows.get(input as usize) {
+            Some(row) => row.first_words(word_count(self.count) as usize),
+            None => &[],
+        }
+    }
+}

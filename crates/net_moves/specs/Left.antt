@@ -1,0 +1,46 @@
+-- What is left of lists of moves that are given one after another.
+use Rattle.std.specs.Prelude.{◌≡◌, ℕ, ◌+◌, ◌-◌, ◌<◌, ◌^◌, Bool, true, false, if◌then◌else◌, Option, Some, None, MatchOption, List, [], ◌∷◌, ◌++◌, map, drop, length, All}
+use Rattle.std.specs.List.{range_with_len}
+use Rattle.semantics.specs.declared.mark.Mark.{Mark}
+use Rattle.chain_semantics.specs.declared.moves.Move.{Move}
+use Rattle.chain_semantics.specs.declared.moves.Move.TheVariants.{Const, DropRow, DropLiteral, Signal}
+use Rattle.chain_semantics.specs.Moves.{literal_pins, literal_moves, copies_of}
+
+-- the first of a list is given, or none of the empty list
+abbrev pub GivesFirst : List Move → Option Move → List Move → Type 0
+GivesFirst old given new = MatchOption given ((old ≡ []) × (new ≡ [])) (λ move. old ≡ move ∷ new)
+
+-- from the constant of this value on
+abbrev pub constants_left : ℕ → Option Bool → List Move
+constants_left t None = []
+constants_left t (Some false) = Const t false ∷ Const t true ∷ []
+constants_left t (Some true) = Const t true ∷ []
+
+-- from row r up to row end
+abbrev pub rows_left : ℕ → ℕ → ℕ → List Move
+rows_left t r end = map (DropRow t) (range_with_len r (end - r))
+
+-- from pin p of the first of these rows on, which is row r
+abbrev pub literals_left : ℕ → ℕ → ℕ → List (List Mark) → List Move
+literals_left t r p [] = []
+literals_left t r p (marks ∷ rows) = map (DropLiteral t r) (literal_pins p (drop p marks)) ++ literal_moves t (r + 1) rows
+
+-- rows and pins whose numbers fit
+pub record AreCountable (rows : List (List Mark)) : Type 0 where
+  pub few_rows : length rows < 2 ^ 32
+  pub few_pins : All (λ marks. length marks < 2 ^ 32) rows
+
+-- from signal s on, whose marks these are: a marked signal depends on the table
+abbrev pub signals_from : ℕ → ℕ → List Bool → List Move
+signals_from t s [] = []
+signals_from t s (depends ∷ marks) = (if depends then [] else copies_of t s) ++ signals_from t (s + 1) marks
+
+-- the opposite of signal s is still to come, or signal s
+abbrev pub signals_left : ℕ → ℕ → Bool → List Bool → List Move
+signals_left t s false marks = signals_from t s (drop s marks)
+signals_left t s true marks = Signal t s true ∷ signals_from t (s + 1) (drop (s + 1) marks)
+
+-- moves that are left of a table, with room for the marks of so many signals
+pub record RoomAndMoves : Type 0 where
+  pub room : ℕ
+  pub left : List Move

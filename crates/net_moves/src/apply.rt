@@ -1,0 +1,119 @@
+//! The net after a move: one table is made anew, and the others are copied.
+ghost use Rattle.std.specs.Prelude.{◌≡◌, ◌<◌, [], ◌∷◌, ◌++◌, true, length, remove, slice_set, IfOk, OnOk, All, Contains};
+ghost use Rattle.semantics.specs.declared.mark.Mark.TheVariants.{Dash};
+ghost use Rattle.chain_semantics.specs.Moves.{moves_of, table_of, moved_table, moved, copy_mark, row_at};
+ghost use Rattle.net_moves.specs.Fitting.{Fits};
+
+use chain_semantics::moves::Move;
+use net_core::items::{Items, RowList, Signal};
+use net_core::mark::Mark;
+use net_core::name::Name;
+use net_core::net::Net;
+use net_core::row::Row;
+use net_core::table::{Table, constant_table};
+use std::alloc::{AllocError, Global};
+
+/// Adds copies of these rows at the end.
+fn push_rows(list: &mut RowList, rows: &[Row]) -> Result<(), AllocError>
+    ensures { OnOk result (list.new ≡ list.old ++ rows.now) }
+{
+    for row in rows {
+        list.push(row.copy()?)?;
+    }
+    Ok(())
+}
+
+/// Copies of all rows but one.
+fn without_row(alloc: Global, rows: &[Row], row: usize) -> Result<RowList, AllocError>
+    requires { row < length rows.now }
+    ensures { IfOk result (λ kept. kept ≡ remove rows.now row) }
+{
+    let mut kept = Items::new(alloc);
+    push_rows(&mut kept, &rows[..row])?;
+    push_rows(&mut kept, &rows[row + 1..])?;
+    Ok(kept)
+}
+
+/// The row with a dash at one pin.
+fn without_literal(alloc: Global, marks: &[Mark], pin: usize) -> Result<Row, AllocError>
+    requires { pin < length marks.now }
+    ensures { IfOk result (λ row. row ≡ slice_set marks.now pin Dash) }
+{
+    let mut row = Row::new(alloc);
+    for (i, mark) in marks.iter().enumerate() {
+        row.push(if i == pin { Mark::Dash } else { *mark })?;
+    }
+    Ok(row)
+}
+
+/// The table of one pin that copies a signal, or its opposite.
+fn copy_table(alloc: Global, name: Name, s: Signal, flip: bool) -> Result<Table, AllocError>
+    ensures { IfOk result
+        (λ t. t ≡ record { name = name; pins = s ∷ []; rows = (copy_mark flip ∷ []) ∷ []; plane = true }) }
+{
+    let mut pins = Items::new(alloc);
+    pins.push(s)?;
+    let mut row = Row::new(alloc);
+    row.push(if flip { Mark::Zero } else { Mark::One })?;
+    let mut rows = Items::new(alloc);
+    rows.push(row)?;
+    Ok(Table::new(name, pins, rows, true))
+}
+
+/// The table with other rows.
+fn with_rows(table: &Table, rows: RowList) -> Result<Table, AllocError>
+    requires widths { All (λ marks. length marks ≡ length table.now.pins) rows }
+    requires full { 0 < length rows }
+    ensures { IfOk result (λ t. t ≡ record table.now { rows = rows }) }
+{
+    Ok(Table::new(
+        table.name().copy()?,
+        table.pins().copy()?,
+        rows,
+        table.plane(),
+    ))
+}
+
+/// What a move makes of its table.
+fn moved_table(alloc: Global, table: &Table, step: Move) -> Result<Table, AllocError>
+    requires { Fits table.now step }
+    ensures { IfOk result (λ t. t ≡ moved_table table.now step) }
+{
+    match step {
+        Move::Const { value, .. } => constant_table(alloc, table.name().copy()?, value),
+        Move::DropRow { row, .. } => {
+            let rows = without_row(alloc, table.rows().as_slice(), row as usize)?;
+            with_rows(table, rows)
+        }
+        Move::DropLiteral { row, pin, .. } => {
+            let marks = table.rows().get(row as usize).as_slice();
+            let changed = without_literal(alloc, marks, pin as usize)?;
+            with_rows(table, table.rows().copy_with(row as usize, changed)?)
+        }
+        Move::Signal { s, flip, .. } => copy_table(alloc, table.name().copy()?, s, flip),
+    }
+}
+
+/// The table that a move changes.
+pub fn table_of(step: Move) -> u32
+    ensures { result ≡ table_of step }
+{
+    match step {
+        Move::Const { t, .. } => t,
+        Move::DropRow { t, .. } => t,
+        Move::DropLiteral { t, .. } => t,
+        Move::Signal { t, .. } => t,
+    }
+}
+
+/// The net after one of its moves. Nothing is tidied.
+pub fn apply(alloc: Global, net: &Net, step: Move) -> Result<Net, AllocError>
+    requires { Contains (moves_of net.now) step }
+    ensures { IfOk result (λ n. n ≡ moved net.now step) }
+{
+    // A net is sound by its type: the call brings that fact here.
+    let _ = net.tables();
+    let t = table_of(step);
+    let table = moved_table(alloc, net.table(t), step)?;
+    net.with_table(t, table)
+}

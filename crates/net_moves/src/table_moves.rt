@@ -1,0 +1,86 @@
+//! The moves of one table, kind after kind.
+ghost use Rattle.std.specs.Prelude.{◌≡◌, ◌<◌, [], IfOk};
+ghost use Rattle.semantics.specs.Net.{IsSmall, table_at, table_count, signal_count};
+ghost use Rattle.chain_semantics.specs.Moves.{moves_of_table};
+ghost use Rattle.net_moves.specs.Left.{GivesFirst};
+
+use crate::constants::ConstantMoves;
+use crate::literals::LiteralMoves;
+use crate::rows::RowMoves;
+use crate::signals::SignalMoves;
+use chain_semantics::moves::Move;
+use net_core::net::Net;
+use std::alloc::{AllocError, Global};
+use std::marker::Model;
+
+/// The moves of a table that are left.
+#[derive(Drop)]
+pub(crate) struct TableMoves<'a> {
+    constants: ConstantMoves,
+    rows: RowMoves,
+    literals: LiteralMoves<'a>,
+    signals: SignalMoves,
+}
+
+impl<'a> Model for TableMoves<'a> {
+    ghost use Rattle.std.specs.Prelude.{◌++◌};
+    ghost use Rattle.net_moves.specs.Left.{RoomAndMoves};
+
+    ghost Value = { RoomAndMoves };
+
+    ghost view = { λ a. record { room = a.signals.room; left = a.constants ++ a.rows ++ a.literals ++ a.signals.left } };
+}
+
+impl<'a> TableMoves<'a> {
+    /// No moves, with room for those of each table of a net.
+    pub(crate) fn none(alloc: Global, net: &Net) -> Result<TableMoves<'a>, AllocError>
+        ensures { IfOk result (λ moves. moves ≡ record { room = signal_count net.now; left = [] }) }
+    {
+        Ok(TableMoves {
+            constants: ConstantMoves::none(),
+            rows: RowMoves::new(0, 0),
+            literals: LiteralMoves::new(0, &[]),
+            signals: SignalMoves::none(alloc, net)?,
+        })
+    }
+
+    /// Starts with all moves of a table.
+    pub(crate) fn start(&mut self, net: &'a Net, t: u32)
+        requires small { IsSmall net.now }
+        requires room { self.old.room ≡ signal_count net.now }
+        requires table { t < table_count net.now }
+        ensures { self.new ≡ record self.old { left = moves_of_table net.now t (table_at net.now.tables t) } }
+    {
+        let table = net.table(t);
+        let literals = table.literals();
+        let rows = table.rows().len() as u32;
+        self.constants = if literals > 0 {
+            ConstantMoves::new(t)
+        } else {
+            ConstantMoves::none()
+        };
+        self.rows = RowMoves::new(t, if rows > 1 { rows } else { 0 });
+        self.literals = LiteralMoves::new(t, table.rows().as_slice());
+        if literals > 1 {
+            self.signals.start(net, t);
+        } else {
+            self.signals.clear();
+        }
+    }
+
+    pub(crate) fn next(&mut self) -> Option<Move>
+        ensures given { GivesFirst self.old.left result self.new.left }
+        ensures room { self.new.room ≡ self.old.room }
+    {
+        if let Some(constant) = self.constants.next() {
+            return Some(constant);
+        }
+        if let Some(row) = self.rows.next() {
+            return Some(row);
+        }
+        if let Some(literal) = self.literals.next() {
+            return Some(literal);
+        }
+        self.signals.next()
+    }
+}

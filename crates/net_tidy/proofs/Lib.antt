@@ -1,0 +1,9 @@
+pub mod First
+pub mod Turning
+pub mod Edited
+pub mod Stepping
+pub mod Flagged
+pub mod Likeness
+pub mod Fixing
+pub mod Passing
+pub mod Tidied

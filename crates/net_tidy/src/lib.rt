@@ -1,0 +1,13 @@
+//! Tidying of nets.
+#![tactic(auto)]
+
+mod draft;
+mod flags;
+mod marks;
+mod net_draft;
+mod net_rules;
+mod rule;
+mod rules;
+#[cfg(test)]
+mod tests;
+pub mod tidy;

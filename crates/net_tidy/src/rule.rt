@@ -1,0 +1,18 @@
+//! The rules of tidying, as what is done at a table.
+
+/// A rule, with the place of the pin that it is about.
+#[derive(Clone, Copy, Debug)]
+pub(crate) enum Rule {
+    /// The pin reads a table without pins.
+    ConstantPin(usize),
+    /// The pin has a dash in every row.
+    DashedPin(usize),
+    /// The pin has the signal of an earlier one.
+    RepeatedPin(usize),
+    /// The table becomes a canonical constant.
+    Constant,
+    /// What reads the table reads its pin.
+    Bypass,
+    /// The table goes.
+    Removal,
+}

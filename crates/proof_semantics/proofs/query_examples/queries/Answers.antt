@@ -1,0 +1,31 @@
+use Rattle.std.proofs.Common.{◌≡◌, ◌<◌, ◌≤◌, Bool, true, false, List, [], ◌∷◌, length, refl, inl, arith}
+use Rattle.semantics.specs.Value.{after_rounds, value_of, outputs_of}
+use Rattle.semantics.specs.Error.{abs, number_of, net_error}
+use Rattle.semantics.specs.Examples.{half_adder, constant_sum}
+use Rattle.proof_semantics.proofs.query_examples.queries.Goals as goal
+
+-- by computation
+right_at_0 : net_error abs half_adder constant_sum (false ∷ false ∷ []) ≡ 0
+unfolding after_rounds value_of outputs_of net_error
+right_at_0 = refl
+
+wrong_at_1 : net_error abs half_adder constant_sum (true ∷ false ∷ []) ≡ 1
+unfolding after_rounds value_of outputs_of net_error
+wrong_at_1 = refl
+
+right_before : (y : List Bool) → length y ≡ 2 → number_of y < 1 → net_error abs half_adder constant_sum y ≤ 0
+right_before [] width low = absurd (omega (arith, width))
+right_before (a ∷ []) width low = absurd (omega (arith, width))
+right_before (false ∷ false ∷ []) width low = omega (arith, right_at_0)
+right_before (false ∷ true ∷ []) width low = absurd (omega (arith, low))
+right_before (true ∷ b ∷ []) width low = absurd (omega (arith, low))
+right_before (a ∷ b ∷ d ∷ bits) width low = absurd (omega (arith, width))
+
+pub returns : goal.returns
+returns c = record {
+  first = record { width = refl; exceeds = omega (arith, wrong_at_1); first = λ few y width before. right_before y width before };
+  not_the_first = λ h. omega (arith, h.first (omega arith) (true ∷ false ∷ []) refl (omega arith), wrong_at_1);
+  not_above = λ h. omega (arith, h.exceeds, wrong_at_1);
+  too_short = λ h. omega (arith, h.width);
+  few_inputs = λ s h. h.not_enough (inl (omega arith));
+}

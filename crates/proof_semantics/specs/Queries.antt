@@ -1,0 +1,32 @@
+-- Queries whether some input's error exceeds a level, and what their three answers must be. Source: SALSA's queries on the quality
+-- function circuit, here answered by a witness, by a refutation, or by the conflicts that were spent.
+use Rattle.std.specs.Prelude.{◌≡◌, ℕ, ◌<◌, ◌≤◌, Bool, List, length}
+use Rattle.semantics.specs.Net.{NetValue, input_count}
+use Rattle.semantics.specs.Error.{Metric, number_of, net_error, IsWithin}
+use Rattle.proof_semantics.specs.Logs.{LogItem, Refutes, IsDerivation}
+use Rattle.proof_semantics.specs.Miter.{miter}
+use Rattle.proof_semantics.specs.Conflicts.{IsConflictChain, IsEnough}
+
+-- an input vector whose error exceeds the level; with at most eight inputs the first in counting order
+pub record IsOver (metric : Metric) (exact approx : NetValue) (k : ℕ) (x : List Bool) : Type 0 where
+  pub width : length x ≡ input_count exact
+  pub exceeds : k < net_error metric exact approx x
+  pub first : input_count exact ≤ 8 → (y : List Bool) → length y ≡ input_count exact → number_of y < number_of x → net_error metric exact approx y ≤ k
+
+-- the log refutes the miter, so no input's error exceeds the level
+pub record IsNever (metric : Metric) (exact approx : NetValue) (k : ℕ) (log : List LogItem) : Type 0 where
+  pub refutes : Refutes (miter exact approx metric k).clauses log
+  pub derivation : IsDerivation (miter exact approx metric k) log
+  pub within : IsWithin metric exact k approx
+
+-- a query that ended without an answer: the approximate net, the level, how many steps were merged, and the log
+pub record SpentValue : Type 0 where
+  pub net : NetValue
+  pub k : ℕ
+  pub merged : ℕ
+  pub log : List LogItem
+
+-- The limit is not enough for the inputs, and the log has spent it: exactly so many conflicts over the miter after the merged steps.
+pub record IsSpentQuery (metric : Metric) (exact : NetValue) (limit : ℕ) (s : SpentValue) : Type 0 where
+  pub not_enough : ¬ IsEnough limit (input_count exact)
+  pub chain : IsConflictChain (miter exact s.net metric s.k) s.merged limit s.log

@@ -1,0 +1,13 @@
+-- Worked examples of what queries answer.
+use Rattle.std.specs.Prelude.{true, false, [], ◌∷◌}
+use Rattle.semantics.specs.Error.{abs}
+use Rattle.semantics.specs.Examples.{half_adder, constant_sum}
+use Rattle.proof_semantics.specs.Queries.{IsOver, SpentValue, IsSpentQuery}
+
+-- a half adder with the sum 0 is wrong by 1 at 1 and 0, and at 0 and 1
+pub record QueryExamples : Type 0 where
+  pub first : IsOver abs half_adder constant_sum 0 (true ∷ false ∷ [])
+  pub not_the_first : ¬ IsOver abs half_adder constant_sum 0 (false ∷ true ∷ [])
+  pub not_above : ¬ IsOver abs half_adder constant_sum 1 (true ∷ false ∷ [])
+  pub too_short : ¬ IsOver abs half_adder constant_sum 0 (true ∷ [])
+  pub few_inputs : (s : SpentValue) → ¬ IsSpentQuery abs half_adder 1 s

@@ -1,0 +1,12 @@
+use Rattle.semantics.specs.Net.{literal_count}
+use Rattle.chain_semantics.specs.Simplification.{IsInSimplification}
+use Rattle.joint_net.specs.Metric.{meaning}
+use Rattle.synth_core.proofs.shrink.shrink.Given as goal
+
+-- the net is a member of the chain
+abbrev pub invariant-loop-shrunk : goal.invariant-loop-shrunk
+invariant-loop-shrunk l = IsInSimplification (meaning l.metric) l.net l.bound l.shrunk
+
+-- each step removes literals
+abbrev pub decreases-loop-shrunk : goal.decreases-loop-shrunk
+decreases-loop-shrunk l = literal_count l.shrunk

@@ -1,0 +1,22 @@
+-- What a query answers whether some input's error exceeds a level.
+use Rattle.std.specs.Prelude.{◌≡◌, ℕ}
+use Rattle.semantics.specs.Net.{NetValue}
+use Rattle.semantics.specs.Error.{Metric}
+use Rattle.proof_semantics.specs.Queries.{IsOver, IsNever, SpentValue, IsSpentQuery}
+use Rattle.worst_case.specs.declared.exceed.Spent as spent
+use Rattle.worst_case.specs.declared.exceed.Exceed.{Exceed}
+use Rattle.worst_case.specs.declared.exceed.Exceed.TheVariants.{Over, Never, Spent}
+
+abbrev pub spent_value : spent.Spent → SpentValue
+spent_value s = record { net = s.net; k = s.k; merged = s.merged; log = s.log }
+
+-- the conflicts were spent on the miter of these two nets at this level
+pub record IsSpentOn (metric : Metric) (exact approx : NetValue) (k limit : ℕ) (s : spent.Spent) : Type 0 where
+  pub net : s.net ≡ approx
+  pub level : s.k ≡ k
+  pub query : IsSpentQuery metric exact limit (spent_value s)
+
+abbrev pub IsAnswer : Metric → NetValue → NetValue → ℕ → ℕ → Exceed → Type 0
+IsAnswer metric exact approx k limit (Over x) = IsOver metric exact approx k x
+IsAnswer metric exact approx k limit (Never log) = IsNever metric exact approx k log
+IsAnswer metric exact approx k limit (Spent s) = IsSpentOn metric exact approx k limit s

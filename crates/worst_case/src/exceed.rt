@@ -1,0 +1,27 @@
+//! What a query answers.
+use cnf_core::log::Log;
+use net_core::items::Bits;
+use net_core::net::Net;
+
+/// A query that ended without an answer.
+#[derive(Drop)]
+pub struct Spent {
+    /// The approximate net.
+    pub net: Net,
+    /// The error level.
+    pub k: u128,
+    /// How many steps of the log come before the conflicts.
+    pub merged: u64,
+    /// The merged steps, and then as many conflicts as were allowed.
+    pub log: Log,
+}
+
+#[derive(Drop)]
+pub enum Exceed {
+    /// An input vector whose error exceeds the level.
+    Over(Bits),
+    /// A log that refutes the miter: no error exceeds the level.
+    Never(Log),
+    /// The conflicts that were allowed are spent.
+    Spent(Spent),
+}

@@ -1,0 +1,7 @@
+//! Queries whether the error of an approximate net exceeds a level at some input.
+#![tactic(auto)]
+
+mod bits;
+pub mod exceed;
+pub mod exceeds;
+mod first_true;
