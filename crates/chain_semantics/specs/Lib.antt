@@ -10,6 +10,7 @@ pub mod TidyExamples
 pub mod Moves
 pub mod Flips
 pub mod Care
+pub mod Minimality
 pub mod MoveLaws
 pub mod MoveExamples
 pub mod Simplification

@@ -4,8 +4,9 @@ use Rattle.std.proofs.Common.{◌≡◌, ℕ, ◌^◌, ◌<◌, ◌≤◌, List,
 use Rattle.std.proofs.lemmas.List.{append_cancel_left}
 use Rattle.std.specs.List.{AllByRecursion}
 use Rattle.semantics.specs.Texts.{Bytes}
-use Rattle.semantics.specs.Net.{NetValue, table_count, literal_count, HasSamePorts, IsSound, IsSmall}
+use Rattle.semantics.specs.Net.{NetValue, input_count, table_count, literal_count, HasSamePorts, IsSound, IsSmall}
 use Rattle.semantics.specs.Error.{Metric, net_error}
+use Rattle.chain_semantics.specs.Moves.{moves_of}
 use Rattle.quality_semantics.proofs.Joint.{comparable}
 use Rattle.blif_semantics.specs.Reading.{bundle_limit}
 use Rattle.blif_semantics.proofs.ReadNet.{read_sound}
@@ -22,10 +23,12 @@ use Rattle.job_semantics.specs.Endings.{bundle_files}
 use Rattle.job_semantics.specs.declared.clause.Clause.{Clause}
 use Rattle.job_semantics.specs.Report.{Report}
 use Rattle.job_semantics.specs.Bundle.{BundleValue, bundle_report, bundle_text}
-use Rattle.job_semantics.specs.Certificate.{Texts, texts_of, IsNetlist, IsReport, IsRefutation, AreCounts, OfNet, OfReport, OfBoth, Holds, Certifies, IsFirstFailing}
+use Rattle.job_semantics.specs.Certificate.{Texts, texts_of, IsNetlist, IsReport, AreVectors, IsRefutation, IsShownMinimal, AreCounts, OfNet, OfReport, OfBoth, Holds, Certifies, IsFirstFailing}
 use Rattle.job_semantics.specs.CertificateLaws.{IsVerified, VerifiedLaw, IsRightBundle, HeldCertificateLaw, FirstFailingLaw}
 use Rattle.job_semantics.proofs.BundleFiles.{bundle_files-holds}
 use Rattle.job_semantics.proofs.ReportTexts.{AreFew, one_report}
+use Rattle.job_semantics.proofs.MinimalNets.{minimal-none_allowed}
+use Rattle.job_semantics.proofs.VectorsTexts.{one_pool}
 use Rattle.job_semantics.proofs.SmallNets.{literals_at_most}
 use Rattle.job_semantics.proofs.WritableLogs.{writable}
 
@@ -76,6 +79,10 @@ module _ (exact : NetValue) (metric : Metric) (bound : ℕ) (texts : Texts) (sou
     attained = of_both exact metric bound texts (λ N s. net_error metric exact N s.witness ≡ s.maximum) M r net report c.1.1.1.1.1.0;
     tables = counted.tables;
     literals = counted.literals;
+    minimal = λ yes.
+        let shown = of_both exact metric bound texts (IsShownMinimal exact metric bound texts) M r net report c.1.1.1.1.1.1.1.1.1.0 in
+        let pool = shown yes in
+        minimal-none_allowed metric exact bound M (r.witness ∷ pool.0) (moves_of M) pool.1.widths pool.2;
   }
 
 pub verified_law : VerifiedLaw
@@ -83,6 +90,7 @@ verified_law = record {
   read = λ exact metric bound texts c. (c.0.0, c.1.1.0.0, c.0.1, c.1.1.0.1);
   one_net = same_net;
   one_report = same_report;
+  one_pool = λ exact texts witness pool others v w. one_pool (input_count exact) (texts file.Vectors) witness pool others v w;
   verified = verified;
 }
 
@@ -110,6 +118,9 @@ module _ (b : BundleValue) (h : IsRightBundle b) where
       (few_tables b.approx h.approx_small, (few_literals b.exact h.exact_sound h.exact_small, (few_literals b.approx h.approx_sound h.approx_small, tt))),
     );
   }
+
+  pool_read : AreVectors b.exact (bundle_text b) b.witness b.pool
+  pool_read = record { spelled = refl; widths = (h.width, h.pool) }
 
   counts_right : AreCounts b.exact b.approx (bundle_report b)
   counts_right = record {
@@ -146,7 +157,7 @@ module _ (b : BundleValue) (h : IsRightBundle b) where
                   (b.approx, net_read, (bundle_report b, report_read, (b.log, log_read))),
                   (
                     (b.approx, net_read, (bundle_report b, report_read, counts_right)),
-                    ((bundle_report b, report_read, h.minimal), tt),
+                    ((b.approx, net_read, (bundle_report b, report_read, λ yes. (b.pool, pool_read, h.minimal yes))), tt),
                   ),
                 ),
               ),

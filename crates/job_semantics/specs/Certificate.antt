@@ -1,10 +1,11 @@
 -- The certificate that the five texts of a bundle are: ten clauses, tested in order. Source: this tool's own bundles; that no error
 -- exceeds the maximum is shown by a refuted miter, as in equivalence checking by SAT.
-use Rattle.std.specs.Prelude.{◌≡◌, ℕ, ◌^◌, ◌<◌, ◌≤◌, Bool, false, nat_le, List, [], ◌∷◌, ◌++◌, length, filter, Contains, Ok}
+use Rattle.std.specs.Prelude.{◌≡◌, ℕ, ◌^◌, ◌<◌, ◌≤◌, Bool, IsTrue, nat_le, List, [], ◌∷◌, ◌++◌, length, filter, Contains, Ok}
 use Rattle.std.specs.List.{AllByRecursion}
 use Rattle.semantics.specs.Texts.{Bytes}
 use Rattle.semantics.specs.Net.{NetValue, input_count, table_count, literal_count, HasSamePorts}
 use Rattle.semantics.specs.Error.{Metric, net_error}
+use Rattle.chain_semantics.specs.Minimality.{IsMinimalBy}
 use Rattle.blif_semantics.specs.Reading.{bundle_limit, blif_reading}
 use Rattle.proof_semantics.specs.Formula.{dimacs_text}
 use Rattle.proof_semantics.specs.Logs.{LogItem, Refutes}
@@ -69,6 +70,11 @@ pub record AreCounts (exact approx : NetValue) (r : Report) : Type 0 where
   pub tables : table_count approx ≤ table_count exact
   pub literals : literal_count approx ≤ literal_count exact
 
+-- where the report says that no further move is allowed, each move of the net is broken by some vector of `.wit`
+abbrev pub IsShownMinimal : NetValue → Metric → ℕ → Texts → NetValue → Report → Type 0
+IsShownMinimal exact metric bound texts approx r =
+    IsTrue r.minimal → (pool : List (List Bool)) × AreVectors exact texts r.witness pool × IsMinimalBy metric exact bound approx (r.witness ∷ pool)
+
 -- P of the net of `.blif`, of the report of `.txt`, and of both
 abbrev pub OfNet : Texts → (NetValue → Type 0) → Type 0
 OfNet texts P = (M : NetValue) × IsNetlist texts M × P M
@@ -79,7 +85,7 @@ OfReport exact metric bound texts P = (r : Report) × IsReport exact metric boun
 abbrev pub OfBoth : NetValue → Metric → ℕ → Texts → (NetValue → Report → Type 0) → Type 0
 OfBoth exact metric bound texts P = OfNet texts (λ M. OfReport exact metric bound texts (P M))
 
--- What each clause says. The last one asks so far that the report claims nothing of further simplifications: not all moves are there.
+-- What each clause says. The net is as it was read, and need not be tidy.
 abbrev pub Holds : NetValue → Metric → ℕ → Texts → Clause → Type 0
 Holds exact metric bound texts clause.Netlist = (M : NetValue) × IsNetlist texts M
 Holds exact metric bound texts clause.Ports = OfNet texts (HasSamePorts exact)
@@ -90,7 +96,7 @@ Holds exact metric bound texts clause.Attained = OfBoth exact metric bound texts
 Holds exact metric bound texts clause.Formula = OfBoth exact metric bound texts (λ M r. texts file.Formula ≡ dimacs_text (miter exact M metric r.maximum))
 Holds exact metric bound texts clause.Log = OfBoth exact metric bound texts (λ M r. (log : List LogItem) × IsRefutation exact M metric r.maximum texts log)
 Holds exact metric bound texts clause.Counts = OfBoth exact metric bound texts (AreCounts exact)
-Holds exact metric bound texts clause.Minimal = OfReport exact metric bound texts (λ r. r.minimal ≡ false)
+Holds exact metric bound texts clause.Minimal = OfBoth exact metric bound texts (IsShownMinimal exact metric bound texts)
 
 abbrev pub certificate_clauses : List Clause
 certificate_clauses =

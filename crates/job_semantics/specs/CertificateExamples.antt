@@ -78,8 +78,27 @@ pub record FailingExamples : Type 0 where
       (texts_of_three both_constant_netlist both_constant_vectors (report_with (codes "maximum 2") (codes "literals 6 1") (codes "minimal no")))
       clause.Counts
       → ⊥
-  pub said_minimal :
+
+-- the half adder with its sum constant and its carry a copy of b, of which no move keeps the bound 1
+abbrev pub carry_copied_netlist : Bytes
+carry_copied_netlist =
+    text (codes ".model ha" ∷ codes ".inputs a b" ∷ codes ".outputs s c" ∷ codes ".names s" ∷ codes ".names b c" ∷ codes "1 1" ∷ codes ".end" ∷ [])
+
+abbrev pub carry_copied_report : Bytes
+carry_copied_report =
+    text (
+    codes "salsa 1" ∷ codes "metric abs" ∷ codes "bound 1" ∷ codes "maximum 1" ∷ codes "witness 10" ∷ codes "tables 2 2" ∷ codes "literals 6 1"
+    ∷ codes "minimal yes" ∷ []
+    )
+
+abbrev pub carry_copied_texts : Bytes → Texts
+carry_copied_texts vectors = texts_of_three carry_copied_netlist vectors carry_copied_report
+
+-- The clause on further moves: with all vectors each move is broken; with the witness alone one is not; a net without moves needs no vector.
+pub record MinimalExamples : Type 0 where
+  pub each_broken : Holds half_adder abs 1 (carry_copied_texts (text (codes "10" ∷ codes "00" ∷ codes "10" ∷ codes "01" ∷ codes "11" ∷ []))) clause.Minimal
+  pub witness_alone : Holds half_adder abs 1 (carry_copied_texts (text (codes "10" ∷ []))) clause.Minimal → ⊥
+  pub without_moves :
       Holds half_adder abs 3
       (texts_of_three both_constant_netlist both_constant_vectors (report_with (codes "maximum 2") (codes "literals 6 0") (codes "minimal yes")))
       clause.Minimal
-      → ⊥

@@ -1,9 +1,12 @@
 -- The laws about certificates, each the contract of a function without parameters.
-use Rattle.std.specs.Prelude.{◌≡◌, ℕ, ◌^◌, ◌<◌, ◌≤◌, false, length}
+use Rattle.std.specs.Prelude.{◌≡◌, ℕ, ◌^◌, ◌<◌, ◌≤◌, Bool, IsTrue, List, ◌∷◌, length}
 use Rattle.std.specs.List.{AllByRecursion}
 use Rattle.semantics.specs.Texts.{Bytes}
 use Rattle.semantics.specs.Net.{NetValue, input_count, table_count, literal_count, HasSamePorts, IsSound, IsSmall}
 use Rattle.semantics.specs.Error.{Metric, net_error, IsWithin}
+use Rattle.chain_semantics.specs.Moves.{moves_of}
+use Rattle.chain_semantics.specs.Minimality.{IsMinimalBy}
+use Rattle.chain_semantics.specs.Simplification.{IsAllowedMove}
 use Rattle.outside_semantics.specs.Outside.{FilesTold}
 use Rattle.outside_semantics.specs.WrittenFiles.{FilesWritten}
 use Rattle.proof_semantics.specs.Logs.{Refutes, IsDerivation}
@@ -12,10 +15,10 @@ use Rattle.job_semantics.specs.declared.clause.Clause.{Clause}
 use Rattle.job_semantics.specs.Endings.{bundle_files}
 use Rattle.job_semantics.specs.Report.{Report}
 use Rattle.job_semantics.specs.Bundle.{BundleValue, bundle_text}
-use Rattle.job_semantics.specs.Certificate.{Texts, OfBundle, IsNetlist, IsReport, Certifies, IsFirstFailing}
+use Rattle.job_semantics.specs.Certificate.{Texts, OfBundle, IsNetlist, IsReport, AreVectors, Certifies, IsFirstFailing}
 
 -- On every input the error of the approximate net is at most the report's maximum, which is within the bound and attained at the
--- witness; and there are no more tables and literals.
+-- witness; there are no more tables and literals; and where the report says so, no move of the approximate net is allowed.
 pub record IsVerified (exact : NetValue) (metric : Metric) (bound : ℕ) (approx : NetValue) (r : Report) : Type 0 where
   pub ports : HasSamePorts exact approx
   pub safe : IsWithin metric exact r.maximum approx
@@ -24,14 +27,17 @@ pub record IsVerified (exact : NetValue) (metric : Metric) (bound : ℕ) (approx
   pub attained : net_error metric exact approx r.witness ≡ r.maximum
   pub tables : table_count approx ≤ table_count exact
   pub literals : literal_count approx ≤ literal_count exact
+  pub minimal : IsTrue r.minimal → AllByRecursion (λ m. ¬ IsAllowedMove metric exact bound approx m) (moves_of approx)
 
--- The verified-bundle theorem: the texts of a certificate have one net and one report, and these are verified.
+-- The verified-bundle theorem: the texts of a certificate have one net, one report and one list of vectors, and these are verified.
 pub record VerifiedLaw : Type 0 where
   pub read : (exact : NetValue) (metric : Metric) (bound : ℕ) (texts : Texts) → Certifies exact metric bound texts
       → (approx : NetValue) × (r : Report) × IsNetlist texts approx × IsReport exact metric bound texts r
   pub one_net : (texts : Texts) (N M : NetValue) → IsNetlist texts N → IsNetlist texts M → N ≡ M
   pub one_report : (exact : NetValue) (metric : Metric) (bound : ℕ) (texts : Texts) (r s : Report)
       → IsReport exact metric bound texts r → IsReport exact metric bound texts s → r ≡ s
+  pub one_pool : (exact : NetValue) (texts : Texts) (witness : List Bool) (pool others : List (List Bool))
+      → AreVectors exact texts witness pool → AreVectors exact texts witness others → pool ≡ others
   pub verified : (exact : NetValue) (metric : Metric) (bound : ℕ) (texts : Texts) → IsSound exact → Certifies exact metric bound texts
       → (approx : NetValue) (r : Report) → IsNetlist texts approx → IsReport exact metric bound texts r → IsVerified exact metric bound approx r
 
@@ -53,7 +59,7 @@ pub record IsRightBundle (b : BundleValue) : Type 0 where
   pub derivation : IsDerivation b.goal b.log
   pub tables : table_count b.approx ≤ table_count b.exact
   pub literals : literal_count b.approx ≤ literal_count b.exact
-  pub minimal : b.minimal ≡ false
+  pub minimal : IsTrue b.minimal → IsMinimalBy b.metric b.exact b.bound b.approx (b.witness ∷ b.pool)
 
 -- the texts of such a bundle are a certificate
 abbrev pub WrittenCertificateLaw : Type 0

@@ -3,6 +3,7 @@ pub mod Job
 pub mod Report
 pub mod Bundle
 pub mod Input
+pub mod Shrinking
 pub mod Synthesis
 pub mod Laws
 pub mod Examples

@@ -1,12 +1,12 @@
 -- What a synth job comes to, by its answer. Source: SALSA, simplification within a bound on the error.
-use Rattle.std.specs.Prelude.{◌≡◌, ◌⊎◌, ℕ, ◌<◌, ◌≤◌, Bool, false, IsTrue, Some, List}
+use Rattle.std.specs.Prelude.{◌≡◌, ◌⊎◌, ℕ, ◌<◌, ◌≤◌, Bool, true, false, IsTrue, Some, List}
 use Rattle.std.specs.FinMap.{contains_key}
 use Rattle.semantics.specs.Texts.{Bytes}
 use Rattle.semantics.specs.Net.{NetValue, input_count, table_count, literal_count}
 use Rattle.semantics.specs.Error.{Metric, net_error, IsWithin}
 use Rattle.semantics.specs.Vectors.{all_vectors, IsFirstGreatestAt}
 use Rattle.blif_semantics.specs.Reading.{Refusal}
-use Rattle.chain_semantics.specs.ConstantChain.{IsConstantChainEnd}
+use Rattle.chain_semantics.specs.Simplification.{IsSimplificationEnd}
 use Rattle.proof_semantics.specs.Clauses.{IsUnsatisfiable}
 use Rattle.proof_semantics.specs.Formula.{Formula}
 use Rattle.proof_semantics.specs.Miter.{miter}
@@ -25,10 +25,10 @@ pub record Simplified : Type 0 where
   pub maximum : ℕ
   pub witness : List Bool
 
--- The net is the end of the constant chain; on every input the error is at most the maximum, which is within the bound
--- and attained at the witness, the first such input in counting order; nothing grew.
+-- The net is the end of the chain of simplifications: no single move of it keeps the bound. On every input the error is at most the maximum,
+-- which is within the bound and attained at the witness, the first such input in counting order; nothing grew.
 pub record IsSimplifiedFrom (exact : NetValue) (metric : Metric) (bound : ℕ) (s : Simplified) : Type 0 where
-  pub chain_end : IsConstantChainEnd metric exact bound s.net
+  pub chain_end : IsSimplificationEnd metric exact bound s.net
   pub safe : IsWithin metric exact s.maximum s.net
   pub within : s.maximum ≤ bound
   pub attained : net_error metric exact s.net s.witness ≡ s.maximum
@@ -42,7 +42,7 @@ pub record IsRefutedBy (f : Formula) (log : List LogItem) : Type 0 where
   pub derivation : IsDerivation f log
   pub unsatisfiable : IsUnsatisfiable f.clauses
 
--- The formula says that some error exceeds the maximum; behind the witness stand all vectors; nothing is claimed of further moves.
+-- The formula says that some error exceeds the maximum; behind the witness stand all vectors, which break each further move.
 abbrev pub synth_bundle : NetValue → Metric → ℕ → Simplified → List LogItem → BundleValue
 synth_bundle exact metric bound s log = record {
   exact = exact;
@@ -52,7 +52,7 @@ synth_bundle exact metric bound s log = record {
   maximum = s.maximum;
   witness = s.witness;
   pool = all_vectors (input_count exact);
-  minimal = false;
+  minimal = true;
   goal = miter exact s.net metric s.maximum;
   log = log;
 }

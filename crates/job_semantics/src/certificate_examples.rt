@@ -1,5 +1,5 @@
 //! Worked examples of certificates, computed by the checker: each function's contract is its examples.
-ghost use Rattle.job_semantics.specs.CertificateExamples.{CertificateClauseExamples, HoldingExamples, FailingExamples};
+ghost use Rattle.job_semantics.specs.CertificateExamples.{CertificateClauseExamples, HoldingExamples, FailingExamples, MinimalExamples};
 
 /// The numbers of the clauses, and the files that they need.
 pub fn clauses()
@@ -14,4 +14,9 @@ pub fn holding()
 /// The first clause that fails, of texts that are damaged.
 pub fn failing()
     ensures { FailingExamples }
+{}
+
+/// Vectors that break each move, and some that do not.
+pub fn minimal()
+    ensures { MinimalExamples }
 {}

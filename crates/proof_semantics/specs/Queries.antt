@@ -3,6 +3,7 @@
 use Rattle.std.specs.Prelude.{◌≡◌, ℕ, ◌<◌, ◌≤◌, Bool, List, length}
 use Rattle.semantics.specs.Net.{NetValue, input_count}
 use Rattle.semantics.specs.Error.{Metric, number_of, net_error, IsWithin}
+use Rattle.semantics.specs.Vectors.{IsFirstGreatestAt}
 use Rattle.proof_semantics.specs.Logs.{LogItem, Refutes, IsDerivation}
 use Rattle.proof_semantics.specs.Miter.{miter}
 use Rattle.proof_semantics.specs.Conflicts.{IsConflictChain, IsEnough}
@@ -30,3 +31,17 @@ pub record SpentValue : Type 0 where
 pub record IsSpentQuery (metric : Metric) (exact : NetValue) (limit : ℕ) (s : SpentValue) : Type 0 where
   pub not_enough : ¬ IsEnough limit (input_count exact)
   pub chain : IsConflictChain (miter exact s.net metric s.k) s.merged limit s.log
+
+-- The greatest error over all inputs, an input that has it, and a log that refutes the miter at it; with at most eight inputs the input is the
+-- first in counting order.
+pub record IsMaximum (metric : Metric) (exact approx : NetValue) (most : ℕ) (witness : List Bool) (log : List LogItem) : Type 0 where
+  pub width : length witness ≡ input_count exact
+  pub attained : net_error metric exact approx witness ≡ most
+  pub never : IsNever metric exact approx most log
+  pub first : input_count exact ≤ 8 → IsFirstGreatestAt (input_count exact) (net_error metric exact approx) most witness
+
+-- the search for the greatest error was spent at a level within the bound
+pub record IsSpentLevel (metric : Metric) (exact approx : NetValue) (bound limit : ℕ) (s : SpentValue) : Type 0 where
+  pub query : IsSpentQuery metric exact limit s
+  pub net : s.net ≡ approx
+  pub level : s.k ≤ bound

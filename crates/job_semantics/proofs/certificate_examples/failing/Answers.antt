@@ -125,7 +125,4 @@ returns c = record {
       let net = verified_law.one_net both_constant_texts h.0 both_constant h.1 the.netlist_read in
       let report = the.the_one the.literal_report h.2.0 (the.the_report 2 1 false) h.2.1 the.literal_read in
       let one : ◌≡◌ {A = ℕ} 1 0 = sym (ap (λ r. r.new_literals) report) ∙ h.2.2.new_literals ∙ ap literal_count net in omega arith;
-  said_minimal = λ h.
-      let report = the.the_one the.minimal_report h.0 (the.the_report 2 0 true) h.1 the.minimal_read in
-      let bad : true ≡ false = sym (ap (λ r. r.minimal) report) ∙ h.2 in cc;
 }
