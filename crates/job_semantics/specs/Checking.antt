@@ -1,8 +1,8 @@
--- What a check job comes to once IN was read as a net of few inputs, by its answer; what is answered to IN itself is as in a synth job.
+-- What a check job comes to once IN was read as a net, by its answer; what is answered to IN itself is as in a synth job.
 -- Source: this tool's own bundles.
 use Rattle.std.specs.Prelude.{◌≡◌, ◌⊎◌, ℕ, ◌^◌, ◌≤◌, false, IsTrue, length}
 use Rattle.semantics.specs.Texts.{Bytes}
-use Rattle.semantics.specs.Net.{NetValue, input_count}
+use Rattle.semantics.specs.Net.{NetValue}
 use Rattle.semantics.specs.Error.{Metric}
 use Rattle.outside_semantics.specs.Outside.{FilesTold, SinkTold, Goes, Rose, WhereTold, bytes_of}
 use Rattle.job_semantics.specs.declared.clause.Clause.{Clause}
@@ -12,12 +12,7 @@ use Rattle.job_semantics.specs.CertificateLaws.{IsVerified}
 use Rattle.job_semantics.specs.Endings.{bundle_name}
 use Rattle.job_semantics.specs.Input.{IsReadAs}
 use Rattle.job_semantics.specs.Report.{Report}
-use Rattle.job_semantics.specs.Synthesis.{OfInput, IsQuiet, most_inputs}
-
--- IN was read as the original net
-pub record IsOriginal (input : Bytes) (old new : FilesTold) (exact : NetValue) : Type 0 where
-  pub read : OfInput old new input (λ text. IsReadAs text exact)
-  pub few_inputs : input_count exact ≤ most_inputs
+use Rattle.job_semantics.specs.Synthesis.{OfInput, IsQuiet}
 
 -- no file changed, no count fell and no steady name was lost, and the sink tells what it told; files that are not held may have been opened,
 -- so nothing says that what was told is told still
@@ -39,7 +34,7 @@ pub record ShowsItsBound (exact : NetValue) (metric : Metric) (bound : ℕ) (tex
 pub record CheckVerified (metric : Metric) (bound : ℕ) (input stem : Bytes) (old new : FilesTold) (said says : SinkTold) : Type 0 where
   pub untouched : IsLeftAlone old new said says
   pub exact : NetValue
-  pub original : IsOriginal input old new exact
+  pub read : OfInput old new input (λ text. IsReadAs text exact)
   pub certificate : OfBundle old new stem (Certifies exact metric bound)
   pub shows : OfBundle old new stem (ShowsItsBound exact metric bound)
 
@@ -47,15 +42,14 @@ pub record CheckVerified (metric : Metric) (bound : ℕ) (input stem : Bytes) (o
 pub record CheckRefuted (number : ℕ) (metric : Metric) (bound : ℕ) (input stem : Bytes) (old new : FilesTold) (said says : SinkTold) : Type 0 where
   pub untouched : IsLeftAlone old new said says
   pub exact : NetValue
-  pub original : IsOriginal input old new exact
+  pub read : OfInput old new input (λ text. IsReadAs text exact)
   pub failing : OfBundle old new stem (λ texts. (c : Clause) × (clause_number c ≡ number) × IsFirstFailing exact metric bound texts c)
 
 -- A check job needs the file of this ending: IN is accepted, and the file is needed for the verdict. Where the files are not told both at
--- entry and at exit, IN counts as accepted and no clause as failing. Larger nets are not checked so far.
+-- entry and at exit, IN counts as accepted and no clause as failing.
 abbrev pub IsNeeded : Metric → ℕ → Bytes → Bytes → FilesTold → FilesTold → Ending → Type 0
 IsNeeded metric bound input stem old new ending =
-    WhereTold old new (λ a b. (exact : NetValue) × IsReadAs (bytes_of a input) exact × (input_count exact ≤ most_inputs)
-    × IsNeededFor exact metric bound (texts_of b stem) ending)
+    WhereTold old new (λ a b. (exact : NetValue) × IsReadAs (bytes_of a input) exact × IsNeededFor exact metric bound (texts_of b stem) ending)
 
 -- a fault came while a needed file was read, and that file is not steady
 pub record CheckReadFault (metric : Metric) (bound : ℕ) (input stem : Bytes) (old new : FilesTold) (said says : SinkTold) : Type 0 where
@@ -69,7 +63,7 @@ pub record CheckReadFault (metric : Metric) (bound : ℕ) (input stem : Bytes) (
 pub record CheckEndless (metric : Metric) (bound : ℕ) (input stem : Bytes) (old new : FilesTold) (said says : SinkTold) : Type 0 where
   pub untouched : IsLeftAlone old new said says
   pub exact : NetValue
-  pub original : IsOriginal input old new exact
+  pub read : OfInput old new input (λ text. IsReadAs text exact)
   pub ending : Ending
   pub needed : IsNeeded metric bound input stem old new ending
   pub long : OfBundle old new stem (λ texts. 2 ^ 40 ≤ length (texts ending))

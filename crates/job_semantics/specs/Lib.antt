@@ -10,4 +10,6 @@ pub mod Examples
 pub mod Certificate
 pub mod CertificateLaws
 pub mod Checking
+pub mod Demo
+pub mod Demonstration
 pub mod CertificateExamples

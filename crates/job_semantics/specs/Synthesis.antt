@@ -1,38 +1,42 @@
--- What a synth job comes to, by its answer. Source: SALSA, simplification within a bound on the error.
-use Rattle.std.specs.Prelude.{◌≡◌, ◌⊎◌, ℕ, ◌<◌, ◌≤◌, Bool, true, false, IsTrue, Some, List}
+-- What a synth or a demo job comes to, by its answer. Source: SALSA, simplification within a bound on the error.
+use Rattle.std.specs.Prelude.{◌≡◌, ◌⊎◌, ℕ, ◌≤◌, Bool, false, IsTrue, Option, Some, is_none, List}
 use Rattle.std.specs.FinMap.{contains_key}
 use Rattle.semantics.specs.Texts.{Bytes}
-use Rattle.semantics.specs.Net.{NetValue, input_count, table_count, literal_count}
-use Rattle.semantics.specs.Error.{Metric, net_error, IsWithin}
-use Rattle.semantics.specs.Vectors.{all_vectors, IsFirstGreatestAt}
+use Rattle.semantics.specs.Net.{NetValue, table_count, literal_count}
+use Rattle.semantics.specs.Error.{Metric}
 use Rattle.blif_semantics.specs.Reading.{Refusal}
-use Rattle.chain_semantics.specs.Simplification.{IsSimplificationEnd}
 use Rattle.proof_semantics.specs.Clauses.{IsUnsatisfiable}
 use Rattle.proof_semantics.specs.Formula.{Formula}
 use Rattle.proof_semantics.specs.Miter.{miter}
 use Rattle.proof_semantics.specs.Logs.{LogItem, Refutes, IsDerivation}
+use Rattle.proof_semantics.specs.Queries.{SpentValue, IsMaximum, IsSpentLevel}
 use Rattle.outside_semantics.specs.Outside.{Held, FilesTold, SinkTold, Goes, Rose, WhereTold, Took, TakeFailed, bytes_of}
 use Rattle.outside_semantics.specs.WrittenFiles.{File, FilesWritten, FilesCutShort}
 use Rattle.job_semantics.specs.declared.ending.Ending.TheVariants.{Report}
 use Rattle.job_semantics.specs.Endings.{bundle_files, are_bundle_names_steady}
 use Rattle.job_semantics.specs.Bundle.{BundleValue, bundle_text}
 use Rattle.job_semantics.specs.Certificate.{OfBundle, Certifies}
+use Rattle.job_semantics.specs.Shrinking.{Shrinking, IsShrinking}
 use Rattle.job_semantics.specs.Input.{IsReadAs, IsAccepted, IsRefusedFor}
 
--- a simplified net, its exact maximum error, and an input that attains it
+-- What a net is simplified to within a limit of conflicts for each query: the member of the chain that was reached, the vectors that broke
+-- moves, the query that was spent, where one was, the exact maximum error, and an input that attains it.
 pub record Simplified : Type 0 where
   pub net : NetValue
+  pub pool : List (List Bool)
+  pub spent : Option SpentValue
   pub maximum : ℕ
   pub witness : List Bool
 
--- The net is the end of the chain of simplifications: no single move of it keeps the bound. On every input the error is at most the maximum,
--- which is within the bound and attained at the witness, the first such input in counting order; nothing grew.
-pub record IsSimplifiedFrom (exact : NetValue) (metric : Metric) (bound : ℕ) (s : Simplified) : Type 0 where
-  pub chain_end : IsSimplificationEnd metric exact bound s.net
-  pub safe : IsWithin metric exact s.maximum s.net
+abbrev pub shrinking_of : Simplified → Shrinking
+shrinking_of s = record { net = s.net; pool = s.pool; spent = s.spent }
+
+-- The net is a member of the chain, and its end unless a query was spent; the maximum is the greatest error, attained at the witness, and
+-- within the bound, and the log shows that no error exceeds it; nothing grew.
+pub record IsSimplifiedFrom (exact : NetValue) (metric : Metric) (bound limit : ℕ) (s : Simplified) (log : List LogItem) : Type 0 where
+  pub search : IsShrinking metric exact bound limit (shrinking_of s)
+  pub most : IsMaximum metric exact s.net s.maximum s.witness log
   pub within : s.maximum ≤ bound
-  pub attained : net_error metric exact s.net s.witness ≡ s.maximum
-  pub first : IsFirstGreatestAt (input_count exact) (net_error metric exact s.net) s.maximum s.witness
   pub tables : table_count s.net ≤ table_count exact
   pub literals : literal_count s.net ≤ literal_count exact
 
@@ -42,7 +46,8 @@ pub record IsRefutedBy (f : Formula) (log : List LogItem) : Type 0 where
   pub derivation : IsDerivation f log
   pub unsatisfiable : IsUnsatisfiable f.clauses
 
--- The formula says that some error exceeds the maximum; behind the witness stand all vectors, which break each further move.
+-- The formula says that some error exceeds the maximum; behind the witness stand the vectors that break moves; that no further move is allowed
+-- is said exactly where no query was spent.
 abbrev pub synth_bundle : NetValue → Metric → ℕ → Simplified → List LogItem → BundleValue
 synth_bundle exact metric bound s log = record {
   exact = exact;
@@ -51,8 +56,8 @@ synth_bundle exact metric bound s log = record {
   bound = bound;
   maximum = s.maximum;
   witness = s.witness;
-  pool = all_vectors (input_count exact);
-  minimal = true;
+  pool = s.pool;
+  minimal = is_none s.spent;
   goal = miter exact s.net metric s.maximum;
   log = log;
 }
@@ -73,16 +78,6 @@ pub record OfInput (old new : FilesTold) (input : Bytes) (P : Bytes → Type 0) 
   pub told : WhereTold old new (λ a b. P (bytes_of a input))
   pub at_entry : WhereHeld old input (λ a. P (bytes_of a input))
 
--- the most inputs of a net that is simplified so far
-abbrev pub most_inputs : ℕ
-most_inputs = 8
-
--- IN was read as the exact net, and this is what it is simplified to
-pub record IsSimplifiedInput (metric : Metric) (bound : ℕ) (input : Bytes) (old new : FilesTold) (exact : NetValue) (s : Simplified) : Type 0 where
-  pub read : OfInput old new input (λ text. IsReadAs text exact)
-  pub few_inputs : input_count exact ≤ most_inputs
-  pub simplified : IsSimplifiedFrom exact metric bound s
-
 -- no file changed, no count fell and no steady name was lost, what was told of a held IN is told still, and the sink tells
 -- what it told
 pub record IsUntouched (input : Bytes) (old new : FilesTold) (said says : SinkTold) : Type 0 where
@@ -91,23 +86,46 @@ pub record IsUntouched (input : Bytes) (old new : FilesTold) (said says : SinkTo
   pub still_told : WhereHeld old input (λ a. new.held ≡ Some a)
   pub sink : says ≡ said
 
--- done: the files were written, and then the report was put; the texts of the files are a certificate
-pub record SynthDone (metric : Metric) (bound : ℕ) (input stem : Bytes) (old new : FilesTold) (said says : SinkTold) : Type 0 where
-  pub exact : NetValue
+-- The net was simplified, the files were written, and then the report was put; the texts of the files are a certificate.
+pub record BundleWritten (metric : Metric) (bound limit : ℕ) (exact : NetValue) (stem : Bytes) (spent : Option SpentValue) (old new : FilesTold) (said says : SinkTold) : Type 0 where
   pub result : Simplified
   pub log : List LogItem
-  pub right : IsSimplifiedInput metric bound input old new exact result
+  pub right : IsSimplifiedFrom exact metric bound limit result log
+  pub is_spent : spent ≡ result.spent
   pub refuted : IsRefutedBy (miter exact result.net metric result.maximum) log
   pub files : FilesWritten old new (synth_files exact metric bound stem result log)
   pub report : Took said says (synth_report exact metric bound result log)
   pub certificate : OfBundle old new stem (Certifies exact metric bound)
 
--- IN was read as a net that has more inputs than are tried so far
-pub record InputNotYet (input : Bytes) (old new : FilesTold) (said says : SinkTold) : Type 0 where
+-- The net was simplified; a file could not be written whole, and nothing was put; or all were, and a first part of the report was put.
+pub record BundleCutShort (metric : Metric) (bound limit : ℕ) (exact : NetValue) (stem : Bytes) (old new : FilesTold) (said says : SinkTold) : Type 0 where
+  pub result : Simplified
+  pub log : List LogItem
+  pub right : IsSimplifiedFrom exact metric bound limit result log
+  pub refuted : IsRefutedBy (miter exact result.net metric result.maximum) log
+  pub left :
+      (FilesCutShort old new (synth_files exact metric bound stem result log) × (says ≡ said))
+      ⊎ (FilesWritten old new (synth_files exact metric bound stem result log) × TakeFailed said says (synth_report exact metric bound result log))
+
+-- A member of the chain was reached, and the search for its maximum was spent at a level within the bound.
+pub record MaximumSpent (metric : Metric) (bound limit : ℕ) (exact : NetValue) (spent : Option SpentValue) (level : SpentValue) : Type 0 where
+  pub result : Shrinking
+  pub search : IsShrinking metric exact bound limit result
+  pub is_spent : spent ≡ result.spent
+  pub query : IsSpentLevel metric exact result.net bound limit level
+
+-- done: IN was read as the net whose bundle was written
+pub record SynthDone (metric : Metric) (bound limit : ℕ) (input stem : Bytes) (spent : Option SpentValue) (old new : FilesTold) (said says : SinkTold) : Type 0 where
+  pub exact : NetValue
+  pub read : OfInput old new input (λ text. IsReadAs text exact)
+  pub written : BundleWritten metric bound limit exact stem spent old new said says
+
+-- conflicts spent: IN was read as the net whose maximum was sought, and nothing was touched
+pub record SynthBudget (metric : Metric) (bound limit : ℕ) (input : Bytes) (spent : Option SpentValue) (level : SpentValue) (old new : FilesTold) (said says : SinkTold) : Type 0 where
   pub untouched : IsUntouched input old new said says
   pub exact : NetValue
   pub read : OfInput old new input (λ text. IsReadAs text exact)
-  pub many_inputs : most_inputs < input_count exact
+  pub search : MaximumSpent metric bound limit exact spent level
 
 -- IN is held and is refused
 pub record InputRefused (refusal : Refusal) (input : Bytes) (old new : FilesTold) (said says : SinkTold) : Type 0 where
@@ -121,16 +139,11 @@ pub record SynthReadFault (input : Bytes) (old new : FilesTold) (said says : Sin
   pub rose : Rose old.faults new.faults
   pub not_steady : old.steady_read input ≡ false
 
--- a file could not be written whole, and nothing was put; or all were, and a first part of the report was put
-pub record SynthWriteFault (metric : Metric) (bound : ℕ) (input stem : Bytes) (old new : FilesTold) (said says : SinkTold) : Type 0 where
+-- a file or the report could not be written
+pub record SynthWriteFault (metric : Metric) (bound limit : ℕ) (input stem : Bytes) (old new : FilesTold) (said says : SinkTold) : Type 0 where
   pub exact : NetValue
-  pub result : Simplified
-  pub log : List LogItem
-  pub right : IsSimplifiedInput metric bound input old new exact result
-  pub refuted : IsRefutedBy (miter exact result.net metric result.maximum) log
-  pub left :
-      (FilesCutShort old new (synth_files exact metric bound stem result log) × (says ≡ said))
-      ⊎ (FilesWritten old new (synth_files exact metric bound stem result log) × TakeFailed said says (synth_report exact metric bound result log))
+  pub read : OfInput old new input (λ text. IsReadAs text exact)
+  pub left : BundleCutShort metric bound limit exact stem old new said says
 
 -- IN is accepted; where the files are not told both at entry and at exit, it counts as accepted
 abbrev pub CountsAsAccepted : FilesTold → FilesTold → Bytes → Type 0

@@ -1,40 +1,60 @@
 -- What each answer of a run says.
-use Rattle.std.specs.Prelude.{◌≡◌, ◌≢◌, ℕ, ◌<◌, ◌≤◌, Some, Result, Ok, Err}
+use Rattle.std.specs.Prelude.{◌≡◌, ◌≢◌, ℕ, Option, Some, None, Result, Ok, Err}
 use Rattle.semantics.specs.Texts.{Bytes}
 use Rattle.semantics.specs.Net.{NetValue, input_count}
 use Rattle.semantics.specs.Error.{Metric}
 use Rattle.outside_semantics.specs.Outside.{FilesTold, SinkTold, bytes_of}
 use Rattle.blif_semantics.specs.Reading.{input_limit, Refusal, blif_reading}
-use Rattle.job_semantics.specs.Job.{Job, synth, check, demo}
-use Rattle.job_semantics.specs.Synthesis.{WhereHeld, most_inputs, IsUntouched, InputRefused, InputNotYet, SynthDone, SynthReadFault, SynthWriteFault}
+use Rattle.proof_semantics.specs.Conflicts.{IsEnough}
+use Rattle.proof_semantics.specs.Queries.{SpentValue}
+use Rattle.job_semantics.specs.Synthesis.{WhereHeld, IsUntouched, InputRefused, BundleWritten, BundleCutShort, MaximumSpent, SynthDone, SynthBudget, SynthReadFault, SynthWriteFault}
 use Rattle.job_semantics.specs.Checking.{IsLeftAlone, CheckVerified, CheckRefuted, CheckReadFault, CheckEndless}
 use Rattle.blif_text.specs.Refusals.{refusal_of}
 use Rattle.blif_text.specs.declared.refusal.BlifRefusal.{BlifRefusal}
 use Rattle.salsa_cli.specs.declared.status.Status.{Status}
-use Rattle.salsa_cli.specs.declared.status.Status.TheVariants.{Done, Verified, Refuted, Usage, Text, NotYet, NoMemory, ReadFault, WriteFault, Endless}
-
--- the jobs that are not carried out so far: demonstrations
-abbrev pub IsLaterJob : Job → Type 0
-IsLaterJob (synth metric bound conflicts input stem) = ⊥
-IsLaterJob (check metric bound input stem) = ⊥
-IsLaterJob (demo width bound conflicts) = Unit {0}
+use Rattle.salsa_cli.specs.declared.status.Status.TheVariants.{Done, Verified, Refuted, Usage, Text, NoMemory, Budget, ReadFault, WriteFault, Endless}
+use Rattle.salsa_cli.specs.declared.status.Outcome.{Outcome}
+use Rattle.salsa_cli.specs.Status.{told_query, NothingSpent}
 
 -- IN is refused for the reason that is told, which is not want of memory
 abbrev pub IsToldRefused : BlifRefusal → Bytes → FilesTold → FilesTold → SinkTold → SinkTold → Type 0
 IsToldRefused reason input old new said says = (refusal : Refusal) × (refusal_of reason ≡ Some refusal) × InputRefused refusal input old new said says
 
--- what a synth job comes to, by its answer
-abbrev pub SynthAnswer : Metric → ℕ → Bytes → Bytes → FilesTold → FilesTold → SinkTold → SinkTold → Status → Type 0
-SynthAnswer metric bound input stem old new said says Done = SynthDone metric bound input stem old new said says
-SynthAnswer metric bound input stem old new said says Verified = ⊥
-SynthAnswer metric bound input stem old new said says (Refuted number) = ⊥
-SynthAnswer metric bound input stem old new said says Usage = ⊥
-SynthAnswer metric bound input stem old new said says (Text reason) = IsToldRefused reason input old new said says
-SynthAnswer metric bound input stem old new said says NotYet = InputNotYet input old new said says
-SynthAnswer metric bound input stem old new said says NoMemory = IsUntouched input old new said says
-SynthAnswer metric bound input stem old new said says ReadFault = SynthReadFault input old new said says
-SynthAnswer metric bound input stem old new said says WriteFault = SynthWriteFault metric bound input stem old new said says
-SynthAnswer metric bound input stem old new said says Endless = ⊥
+-- what a synth job comes to, by its answer and the queries that are told as spent
+abbrev pub SynthAnswerAt : Metric → ℕ → ℕ → Bytes → Bytes → FilesTold → FilesTold → SinkTold → SinkTold → Option SpentValue → Option SpentValue → Status → Type 0
+SynthAnswerAt metric bound limit input stem old new said says spent level Done = SynthDone metric bound limit input stem spent old new said says × (level ≡ None)
+SynthAnswerAt metric bound limit input stem old new said says spent level Budget =
+    (q : SpentValue) × (level ≡ Some q) × SynthBudget metric bound limit input spent q old new said says
+SynthAnswerAt metric bound limit input stem old new said says spent level (Text reason) = IsToldRefused reason input old new said says × NothingSpent spent level
+SynthAnswerAt metric bound limit input stem old new said says spent level NoMemory = IsUntouched input old new said says × NothingSpent spent level
+SynthAnswerAt metric bound limit input stem old new said says spent level ReadFault = SynthReadFault input old new said says × NothingSpent spent level
+SynthAnswerAt metric bound limit input stem old new said says spent level WriteFault = SynthWriteFault metric bound limit input stem old new said says × NothingSpent spent level
+SynthAnswerAt metric bound limit input stem old new said says spent level Verified = ⊥
+SynthAnswerAt metric bound limit input stem old new said says spent level (Refuted number) = ⊥
+SynthAnswerAt metric bound limit input stem old new said says spent level Usage = ⊥
+SynthAnswerAt metric bound limit input stem old new said says spent level Endless = ⊥
+
+abbrev pub SynthAnswer : Metric → ℕ → ℕ → Bytes → Bytes → FilesTold → FilesTold → SinkTold → SinkTold → Outcome → Type 0
+SynthAnswer metric bound limit input stem old new said says o =
+    SynthAnswerAt metric bound limit input stem old new said says (told_query o.spent) (told_query o.level) o.status
+
+-- what a job on a net that is at hand comes to: nothing was touched, or its bundle was written under the stem, whole or in part
+abbrev pub BundleAnswerAt : Metric → ℕ → ℕ → NetValue → Bytes → FilesTold → FilesTold → SinkTold → SinkTold → Option SpentValue → Option SpentValue → Status → Type 0
+BundleAnswerAt metric bound limit exact stem old new said says spent level Done = BundleWritten metric bound limit exact stem spent old new said says × (level ≡ None)
+BundleAnswerAt metric bound limit exact stem old new said says spent level Budget =
+    (new ≡ old) × (says ≡ said) × (q : SpentValue) × (level ≡ Some q) × MaximumSpent metric bound limit exact spent q
+BundleAnswerAt metric bound limit exact stem old new said says spent level NoMemory = (new ≡ old) × (says ≡ said) × NothingSpent spent level
+BundleAnswerAt metric bound limit exact stem old new said says spent level WriteFault = BundleCutShort metric bound limit exact stem old new said says × NothingSpent spent level
+BundleAnswerAt metric bound limit exact stem old new said says spent level Verified = ⊥
+BundleAnswerAt metric bound limit exact stem old new said says spent level (Refuted number) = ⊥
+BundleAnswerAt metric bound limit exact stem old new said says spent level Usage = ⊥
+BundleAnswerAt metric bound limit exact stem old new said says spent level (Text reason) = ⊥
+BundleAnswerAt metric bound limit exact stem old new said says spent level ReadFault = ⊥
+BundleAnswerAt metric bound limit exact stem old new said says spent level Endless = ⊥
+
+abbrev pub BundleAnswer : Metric → ℕ → ℕ → NetValue → Bytes → FilesTold → FilesTold → SinkTold → SinkTold → Outcome → Type 0
+BundleAnswer metric bound limit exact stem old new said says o =
+    BundleAnswerAt metric bound limit exact stem old new said says (told_query o.spent) (told_query o.level) o.status
 
 -- what a check job comes to, by its answer
 abbrev pub CheckAnswer : Metric → ℕ → Bytes → Bytes → FilesTold → FilesTold → SinkTold → SinkTold → Status → Type 0
@@ -43,44 +63,54 @@ CheckAnswer metric bound input stem old new said says Verified = CheckVerified m
 CheckAnswer metric bound input stem old new said says (Refuted number) = CheckRefuted number metric bound input stem old new said says
 CheckAnswer metric bound input stem old new said says Usage = ⊥
 CheckAnswer metric bound input stem old new said says (Text reason) = IsToldRefused reason input old new said says
-CheckAnswer metric bound input stem old new said says NotYet = InputNotYet input old new said says
 CheckAnswer metric bound input stem old new said says NoMemory = IsLeftAlone old new said says
+CheckAnswer metric bound input stem old new said says Budget = ⊥
 CheckAnswer metric bound input stem old new said says ReadFault = CheckReadFault metric bound input stem old new said says
 CheckAnswer metric bound input stem old new said says WriteFault = ⊥
 CheckAnswer metric bound input stem old new said says Endless = CheckEndless metric bound input stem old new said says
 
--- the reading gives a net of few inputs, one of more, or this refusal
-abbrev pub GivesSmall : Result NetValue Refusal → Type 0
-GivesSmall reading = (N : NetValue) × (reading ≡ Ok N) × (input_count N ≤ most_inputs)
-
-abbrev pub GivesLarge : Result NetValue Refusal → Type 0
-GivesLarge reading = (N : NetValue) × (reading ≡ Ok N) × (most_inputs < input_count N)
-
 abbrev pub Refuses : Result NetValue Refusal → BlifRefusal → Type 0
 Refuses reading reason = (refusal : Refusal) × (reading ≡ Err refusal) × (refusal_of reason ≡ Some refusal)
 
+-- Where the conflicts are enough for so many inputs, a bundle is written and no query is spent.
+abbrev pub IsWorkOf : ℕ → ℕ → Option SpentValue → Status → Type 0
+IsWorkOf limit inputs spent Done = IsEnough limit inputs → spent ≡ None
+IsWorkOf limit inputs spent Budget = ¬ IsEnough limit inputs
+IsWorkOf limit inputs spent NoMemory = Unit {0}
+IsWorkOf limit inputs spent Verified = ⊥
+IsWorkOf limit inputs spent (Refuted number) = ⊥
+IsWorkOf limit inputs spent Usage = ⊥
+IsWorkOf limit inputs spent (Text reason) = ⊥
+IsWorkOf limit inputs spent ReadFault = ⊥
+IsWorkOf limit inputs spent WriteFault = ⊥
+IsWorkOf limit inputs spent Endless = ⊥
+
+-- the reading gives a net of which P holds
+abbrev pub GivesNet : Result NetValue Refusal → (NetValue → Type 0) → Type 0
+GivesNet reading P = (N : NetValue) × (reading ≡ Ok N) × P N
+
 -- the answer that the reading of IN asks a synth job for, unless memory is wanting
-abbrev pub IsAnswerTo : Result NetValue Refusal → Status → Type 0
-IsAnswerTo reading Done = GivesSmall reading
-IsAnswerTo reading NotYet = GivesLarge reading
-IsAnswerTo reading (Text reason) = Refuses reading reason
-IsAnswerTo reading NoMemory = Unit {0}
-IsAnswerTo reading Verified = ⊥
-IsAnswerTo reading (Refuted number) = ⊥
-IsAnswerTo reading Usage = ⊥
-IsAnswerTo reading ReadFault = ⊥
-IsAnswerTo reading WriteFault = ⊥
-IsAnswerTo reading Endless = ⊥
+abbrev pub IsAnswerTo : ℕ → Option SpentValue → Result NetValue Refusal → Status → Type 0
+IsAnswerTo limit spent reading Done = GivesNet reading (λ N. IsWorkOf limit (input_count N) spent Done)
+IsAnswerTo limit spent reading Budget = GivesNet reading (λ N. IsWorkOf limit (input_count N) spent Budget)
+IsAnswerTo limit spent reading (Text reason) = Refuses reading reason
+IsAnswerTo limit spent reading NoMemory = Unit {0}
+IsAnswerTo limit spent reading Verified = ⊥
+IsAnswerTo limit spent reading (Refuted number) = ⊥
+IsAnswerTo limit spent reading Usage = ⊥
+IsAnswerTo limit spent reading ReadFault = ⊥
+IsAnswerTo limit spent reading WriteFault = ⊥
+IsAnswerTo limit spent reading Endless = ⊥
 
 -- and a check job
 abbrev pub IsCheckAnswerTo : Result NetValue Refusal → Status → Type 0
-IsCheckAnswerTo reading Verified = GivesSmall reading
-IsCheckAnswerTo reading (Refuted number) = GivesSmall reading
-IsCheckAnswerTo reading Endless = GivesSmall reading
-IsCheckAnswerTo reading NotYet = GivesLarge reading
+IsCheckAnswerTo reading Verified = (N : NetValue) × (reading ≡ Ok N)
+IsCheckAnswerTo reading (Refuted number) = (N : NetValue) × (reading ≡ Ok N)
+IsCheckAnswerTo reading Endless = (N : NetValue) × (reading ≡ Ok N)
 IsCheckAnswerTo reading (Text reason) = Refuses reading reason
 IsCheckAnswerTo reading NoMemory = Unit {0}
 IsCheckAnswerTo reading Done = ⊥
+IsCheckAnswerTo reading Budget = ⊥
 IsCheckAnswerTo reading Usage = ⊥
 IsCheckAnswerTo reading ReadFault = ⊥
 IsCheckAnswerTo reading WriteFault = ⊥

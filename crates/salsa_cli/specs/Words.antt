@@ -1,5 +1,5 @@
 -- The job of the definitions that a command of this crate stands for.
-use Rattle.std.specs.Prelude.{ℕ}
+use Rattle.std.specs.Prelude.{◌^◌, ◌<◌, ◌≤◌}
 use Rattle.joint_net.specs.Metric.{meaning}
 use Rattle.salsa_cli.specs.declared.words.Command.{Command}
 use Rattle.salsa_cli.specs.declared.words.Command.TheVariants.{Synth, Check, Demo}
@@ -10,7 +10,8 @@ job_meaning (Synth metric bound conflicts input stem) = words.synth (meaning met
 job_meaning (Check metric bound input stem) = words.check (meaning metric) bound input.now stem.now
 job_meaning (Demo width bound conflicts) = words.demo width bound conflicts
 
-abbrev pub bound_in : Command → ℕ
-bound_in (Synth metric bound conflicts input stem) = bound
-bound_in (Check metric bound input stem) = bound
-bound_in (Demo width bound conflicts) = bound
+-- the numbers of a job are in their ranges
+abbrev pub HasRanges : Command → Type 0
+HasRanges (Synth metric bound conflicts input stem) = (bound < 2 ^ 84) × (1 ≤ conflicts)
+HasRanges (Check metric bound input stem) = bound < 2 ^ 84
+HasRanges (Demo width bound conflicts) = (bound < 2 ^ 84) × (1 ≤ conflicts) × (1 ≤ width) × (width ≤ 32)

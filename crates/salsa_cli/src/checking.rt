@@ -4,7 +4,7 @@ ghost use Rattle.outside_semantics.specs.Outside.{SinkTold};
 ghost use Rattle.joint_net.specs.Metric.{meaning};
 ghost use Rattle.salsa_cli.specs.Run.{CheckAnswer};
 
-use crate::input::{MOST_INPUTS, NoNet, read_net};
+use crate::input::{NoNet, read_net};
 use crate::status::Status;
 use bundle::check::check_bundle;
 use bundle::stem::Stem;
@@ -40,9 +40,6 @@ pub fn check<F: Files>(
         Err(NoNet::Fault) => return Status::ReadFault,
         Err(NoNet::OutOfMemory) => return Status::NoMemory,
     };
-    if exact.inputs() > MOST_INPUTS {
-        return Status::NotYet;
-    }
     let Ok(names) = Stem::new(alloc, stem) else {
         return Status::NoMemory;
     };

@@ -14,9 +14,6 @@ use std::alloc::Global;
 /// The most bytes of a netlist that is read.
 const TEXT_LIMIT: usize = 4_194_304;
 
-/// The most inputs of a net that is carried out so far.
-pub const MOST_INPUTS: u32 = 8;
-
 /// Why there is no net.
 #[derive(Debug, Drop)]
 pub enum NoNet {

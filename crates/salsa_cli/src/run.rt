@@ -4,15 +4,21 @@ ghost use Rattle.std.specs.FinMap.{contains_key};
 ghost use Rattle.outside_semantics.specs.Outside.{bytes_of};
 ghost use Rattle.blif_semantics.specs.Reading.{input_limit, blif_reading};
 ghost use Rattle.semantics.specs.Texts.{Bytes};
-ghost use Rattle.semantics.specs.Error.{Metric};
-ghost use Rattle.job_semantics.specs.Job.{Job, synth, check, job_of};
+ghost use Rattle.semantics.specs.Net.{input_count};
+ghost use Rattle.semantics.specs.Error.{Metric, abs};
+ghost use Rattle.job_semantics.specs.Job.{synth, check, demo, job_of};
 ghost use Rattle.job_semantics.specs.Synthesis.{IsQuietSynth};
 ghost use Rattle.job_semantics.specs.Checking.{IsQuietCheck};
+ghost use Rattle.job_semantics.specs.Demo.{demo_net};
+ghost use Rattle.job_semantics.specs.Demonstration.{demo_stem, IsQuietDemo};
 ghost use Rattle.file_core.specs.Sure.{sure_told, sure_sink_told};
-ghost use Rattle.salsa_cli.specs.Run.{IsLaterJob, SynthAnswer, CheckAnswer, IsAnswerTo, IsCheckAnswerTo, EndsWell};
+ghost use Rattle.salsa_cli.specs.Status.{told_query, SpendsAsTold};
+ghost use Rattle.salsa_cli.specs.Run.{SynthAnswer, CheckAnswer, BundleAnswer, IsAnswerTo, IsCheckAnswerTo, IsWorkOf, EndsWell};
 
 use crate::checking::check;
-use crate::status::{Outcome, Status};
+use crate::demonstration::demonstrate;
+use crate::preparing::Constraint;
+use crate::status::{Outcome, Status, only};
 use crate::synthesis::synthesize;
 use crate::words::{Command, command_named};
 use file_core::files::Files;
@@ -28,45 +34,56 @@ pub fn run<F: Files, K: Sink>(alloc: Global, words: &[Word], files: &mut F, say:
     ensures usage { (result.status ≡ Status.Usage) ↔ (job_of words.now ≡ None) }
     ensures usage_touches_nothing { result.status ≡ Status.Usage → (files.new ≡ files.old) × (say.new ≡ say.old) }
 
-    // A demonstration is `NotYet`, and then nothing is touched.
-    ensures later_job { (job : Job) → job_of words.now ≡ Some job → IsLaterJob job
-        → (result.status ≡ Status.NotYet) × (files.new ≡ files.old) × (say.new ≡ say.old) }
+    // A spent query is told with `Budget` and with `Done` alone, that of the search for the greatest error exactly with `Budget`.
+    ensures spent { SpendsAsTold result }
 
     // What each answer to a synthesis says.
     ensures synthesis { (metric : Metric) (bound conflicts : ℕ) (input stem : Bytes)
         → job_of words.now ≡ Some (synth metric bound conflicts input stem)
-        → SynthAnswer metric bound input stem (F.told files.old) (F.told files.new) (K.told say.old) (K.told say.new) result.status }
+        → SynthAnswer metric bound conflicts input stem (F.told files.old) (F.told files.new) (K.told say.old) (K.told say.new) result }
 
     // What each answer to a check job says.
     ensures checking { (metric : Metric) (bound : ℕ) (input stem : Bytes)
         → job_of words.now ≡ Some (check metric bound input stem)
         → CheckAnswer metric bound input stem (F.told files.old) (F.told files.new) (K.told say.old) (K.told say.new) result.status }
 
-    // A quiet call has no fault, and ends as the reading of IN asks, unless memory is wanting.
+    // What each answer to a demonstration says.
+    ensures demonstration { (width bound conflicts : ℕ)
+        → job_of words.now ≡ Some (demo width bound conflicts)
+        → BundleAnswer abs bound conflicts (demo_net width) demo_stem (F.told files.old) (F.told files.new) (K.told say.old) (K.told say.new) result }
+
+    // A quiet call has no fault, and ends as the reading of IN and the conflicts ask, unless memory is wanting.
     ensures complete { (metric : Metric) (bound conflicts : ℕ) (input stem : Bytes)
         → job_of words.now ≡ Some (synth metric bound conflicts input stem)
         → IsQuietSynth input stem (F.told files.old) (F.told files.new) (K.told say.old) (K.told say.new)
-        → EndsWell IsAnswerTo input (F.told files.old) result.status }
+        → EndsWell (IsAnswerTo conflicts (told_query result.spent)) input (F.told files.old) result.status }
     ensures check_complete { (metric : Metric) (bound : ℕ) (input stem : Bytes)
         → job_of words.now ≡ Some (check metric bound input stem)
         → IsQuietCheck metric bound input stem (F.told files.old) (F.told files.new) (K.told say.old) (K.told say.new)
         → EndsWell IsCheckAnswerTo input (F.told files.old) result.status }
+    ensures demo_complete { (width bound conflicts : ℕ)
+        → job_of words.now ≡ Some (demo width bound conflicts)
+        → IsQuietDemo (F.told files.old) (F.told files.new) (K.told say.old) (K.told say.new)
+        → IsWorkOf conflicts (input_count (demo_net width)) (told_query result.spent) result.status }
 {
     match command_named(words) {
-        None => Outcome {
-            status: Status::Usage,
-        },
+        None => only(Status::Usage),
         Some(
             Command::Synth {
                 metric,
                 bound,
+                conflicts,
                 input,
                 stem,
-                ..
             },
-        ) => Outcome {
-            status: synthesize(alloc, metric, bound, input, stem, files, say),
-        },
+        ) => {
+            let aim = Constraint {
+                metric,
+                bound,
+                limit: u64::from(conflicts),
+            };
+            synthesize(alloc, aim, input, stem, files, say)
+        }
         Some(
             Command::Check {
                 metric,
@@ -74,16 +91,18 @@ pub fn run<F: Files, K: Sink>(alloc: Global, words: &[Word], files: &mut F, say:
                 input,
                 stem,
             },
-        ) => Outcome {
-            status: check(alloc, metric, bound, input, stem, files),
-        },
-        Some(Command::Demo { .. }) => Outcome {
-            status: Status::NotYet,
-        },
+        ) => only(check(alloc, metric, bound, input, stem, files)),
+        Some(
+            Command::Demo {
+                width,
+                bound,
+                conflicts,
+            },
+        ) => demonstrate(alloc, width, bound, u64::from(conflicts), files, say),
     }
 }
 
-/// A run over files and a sink that never fail: no fault is answered, and a job on a given netlist ends as its reading asks.
+/// A run over files and a sink that never fail: no fault is answered, and each job ends as its net and its conflicts ask.
 pub fn run_surely(
     alloc: Global,
     words: &[Word],
@@ -92,24 +111,29 @@ pub fn run_surely(
 ) -> Outcome
     ensures usage { (result.status ≡ Status.Usage) ↔ (job_of words.now ≡ None) }
     ensures usage_touches_nothing { result.status ≡ Status.Usage → (files.new ≡ files.old) × (say.new ≡ say.old) }
-    ensures later_job { (job : Job) → job_of words.now ≡ Some job → IsLaterJob job
-        → (result.status ≡ Status.NotYet) × (files.new ≡ files.old) × (say.new ≡ say.old) }
+    ensures spent { SpendsAsTold result }
     ensures synthesis { (metric : Metric) (bound conflicts : ℕ) (input stem : Bytes)
         → job_of words.now ≡ Some (synth metric bound conflicts input stem)
-        → SynthAnswer metric bound input stem (sure_told files.old) (sure_told files.new) sure_sink_told sure_sink_told result.status }
+        → SynthAnswer metric bound conflicts input stem (sure_told files.old) (sure_told files.new) sure_sink_told sure_sink_told result }
     ensures checking { (metric : Metric) (bound : ℕ) (input stem : Bytes)
         → job_of words.now ≡ Some (check metric bound input stem)
         → CheckAnswer metric bound input stem (sure_told files.old) (sure_told files.new) sure_sink_told sure_sink_told result.status }
+    ensures demonstration { (width bound conflicts : ℕ)
+        → job_of words.now ≡ Some (demo width bound conflicts)
+        → BundleAnswer abs bound conflicts (demo_net width) demo_stem (sure_told files.old) (sure_told files.new) sure_sink_told sure_sink_told result }
     ensures read { result.status ≢ Status.ReadFault }
     ensures write { result.status ≢ Status.WriteFault }
     ensures answers { (metric : Metric) (bound conflicts : ℕ) (input stem : Bytes)
         → job_of words.now ≡ Some (synth metric bound conflicts input stem)
         → files.old.told ≡ true → IsTrue (contains_key files.old.given input)
-        → IsAnswerTo (blif_reading (bytes_of files.old.given input) input_limit) result.status }
+        → IsAnswerTo conflicts (told_query result.spent) (blif_reading (bytes_of files.old.given input) input_limit) result.status }
     ensures check_answers { (metric : Metric) (bound : ℕ) (input stem : Bytes)
         → job_of words.now ≡ Some (check metric bound input stem)
         → files.old.told ≡ true → IsTrue (contains_key files.old.given input)
         → IsCheckAnswerTo (blif_reading (bytes_of files.old.given input) input_limit) result.status }
+    ensures demo_answers { (width bound conflicts : ℕ)
+        → job_of words.now ≡ Some (demo width bound conflicts)
+        → IsWorkOf conflicts (input_count (demo_net width)) (told_query result.spent) result.status }
 {
     run(alloc, words, files, say)
 }

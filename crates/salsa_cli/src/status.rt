@@ -1,9 +1,10 @@
 //! What a run comes to.
-ghost use Rattle.std.specs.Prelude.{◌≡◌};
+ghost use Rattle.std.specs.Prelude.{◌≡◌, None};
 ghost use Rattle.salsa_cli.specs.Status.{exit_number};
 
 use blif_text::refusal::BlifRefusal;
 use std::fmt;
+use worst_case::exceed::Spent;
 
 /// The answer of a run.
 #[derive(Debug, Drop)]
@@ -18,10 +19,10 @@ pub enum Status {
     Usage,
     /// The input is refused.
     Text(BlifRefusal),
-    /// The job or its input is not of the kind that is carried out so far.
-    NotYet,
     /// Want of memory.
     NoMemory,
+    /// The search for the greatest error spent its conflicts.
+    Budget,
     /// A file that is needed could not be read.
     ReadFault,
     /// A file or the report could not be written.
@@ -40,11 +41,11 @@ impl Status {
             Status::Usage => 1,
             Status::Text(_) => 2,
             Status::NoMemory => 3,
+            Status::Budget => 4,
             Status::ReadFault => 5,
             Status::WriteFault => 6,
             Status::Refuted(_) => 7,
             Status::Endless => 8,
-            Status::NotYet => 9,
         }
     }
 }
@@ -61,8 +62,8 @@ impl fmt::Display for Status {
                 "usage: synth METRIC BOUND CONFLICTS IN STEM, check METRIC BOUND IN STEM, or demo WIDTH BOUND CONFLICTS",
             ),
             Status::Text(reason) => reason.fmt(f),
-            Status::NotYet => f.write_str("not yet"),
             Status::NoMemory => f.write_str("out of memory"),
+            Status::Budget => f.write_str("conflicts spent"),
             Status::ReadFault => f.write_str("read fault"),
             Status::WriteFault => f.write_str("write fault"),
         }
@@ -70,7 +71,22 @@ impl fmt::Display for Status {
 }
 
 /// What a run answers.
-#[derive(Debug, Drop)]
+#[derive(Drop)]
 pub struct Outcome {
     pub status: Status,
+    /// The query of the chain that was spent: with `Budget`, or with `Done` where the report says `minimal no`.
+    pub spent: Option<Spent>,
+    /// The query of the search for the greatest error that was spent: with `Budget` alone.
+    pub level: Option<Spent>,
+}
+
+/// An answer without a spent query.
+pub fn only(status: Status) -> Outcome
+    ensures { result ≡ record { status = status; spent = None; level = None } }
+{
+    Outcome {
+        status,
+        spent: None,
+        level: None,
+    }
 }

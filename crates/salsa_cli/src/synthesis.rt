@@ -1,64 +1,32 @@
-//! A synth job: IN is read, everything is computed, and only then a file is touched.
-ghost use Rattle.std.specs.Prelude.{◌≤◌, ◌<◌, ◌^◌, IfOk};
-ghost use Rattle.semantics.specs.Net.{input_count, IsSmall};
+//! A synth job: IN is read and simplified, and its bundle is written.
+ghost use Rattle.std.specs.Prelude.{◌≤◌, ◌<◌, ◌^◌};
 ghost use Rattle.joint_net.specs.Metric.{meaning};
-ghost use Rattle.salsa_cli.specs.Prepared.{IsPrepared};
 ghost use Rattle.salsa_cli.specs.Run.{SynthAnswer};
 
-use crate::input::{MOST_INPUTS, NoNet, read_net};
-use crate::miter::{refuted_miter, see_sound};
-use crate::status::Status;
-use bundle::bundle::Bundle;
+use crate::delivery::finish;
+use crate::input::{NoNet, read_net};
+use crate::preparing::Constraint;
+use crate::status::{Outcome, Status, only};
 use bundle::stem::Stem;
-use bundle::writing::{put_report, write_bundle};
 use file_core::files::Files;
 use file_core::sink::Sink;
-use joint_net::metric::Metric;
-use lane_bits::patterns::Patterns;
-use net_core::net::Net;
-use std::alloc::{AllocError, Global};
-use synth_core::simplify::simplify;
-
-/// The bundle of the simplification of a net.
-pub fn prepare(alloc: Global, exact: Net, metric: Metric, bound: u128) -> Result<Bundle, AllocError>
-    requires few_inputs { input_count exact ≤ 8 }
-    requires small { IsSmall exact }
-    requires bound { bound < 2 ^ 84 }
-    ensures { IfOk result (IsPrepared exact (meaning metric) bound) }
-{
-    see_sound(&exact);
-    let simple = simplify(alloc, &exact, metric, bound)?;
-    see_sound(&simple.net);
-    let miter = refuted_miter(alloc, &exact, &simple.net, metric, simple.maximum)?;
-    let pool = Patterns::exhaustive(alloc, exact.inputs())?;
-    Ok(Bundle {
-        exact,
-        approx: simple.net,
-        metric,
-        bound,
-        maximum: simple.maximum,
-        witness: simple.witness,
-        pool,
-        minimal: false,
-        goal: miter.formula,
-        log: miter.log,
-    })
-}
+use std::alloc::Global;
 
 /// Carries out a synth job.
 pub fn synthesize<F: Files, K: Sink>(
     alloc: Global,
-    metric: Metric,
-    bound: u128,
+    aim: Constraint,
     input: &[u8],
     stem: &[u8],
     files: &mut F,
     say: &mut K,
-) -> Status
-    requires { bound < 2 ^ 84 }
+) -> Outcome
+    requires bound { aim.bound < 2 ^ 84 }
+    requires limit { 1 ≤ aim.limit }
     ensures { SynthAnswer
-        (meaning metric)
-        bound
+        (meaning aim.metric)
+        aim.bound
+        aim.limit
         input.now
         stem.now
         (F.told files.old)
@@ -69,24 +37,12 @@ pub fn synthesize<F: Files, K: Sink>(
 {
     let exact = match read_net(alloc, files, input) {
         Ok(net) => net,
-        Err(NoNet::Refused(reason)) => return Status::Text(reason),
-        Err(NoNet::Fault) => return Status::ReadFault,
-        Err(NoNet::OutOfMemory) => return Status::NoMemory,
+        Err(NoNet::Refused(reason)) => return only(Status::Text(reason)),
+        Err(NoNet::Fault) => return only(Status::ReadFault),
+        Err(NoNet::OutOfMemory) => return only(Status::NoMemory),
     };
-    if exact.inputs() > MOST_INPUTS {
-        return Status::NotYet;
-    }
     let Ok(names) = Stem::new(alloc, stem) else {
-        return Status::NoMemory;
+        return only(Status::NoMemory);
     };
-    let Ok(bundle) = prepare(alloc, exact, metric, bound) else {
-        return Status::NoMemory;
-    };
-    let Ok(()) = write_bundle(&bundle, &names, files) else {
-        return Status::WriteFault;
-    };
-    let Ok(()) = put_report(&bundle, say) else {
-        return Status::WriteFault;
-    };
-    Status::Done
+    finish(alloc, exact, aim, &names, files, say)
 }

@@ -1,8 +1,8 @@
 //! The words of the command line, and the job that they name.
-ghost use Rattle.std.specs.Prelude.{◌≡◌, ◌<◌, ◌^◌, option_map, IfSome};
+ghost use Rattle.std.specs.Prelude.{◌≡◌, option_map, IfSome};
 ghost use Rattle.job_semantics.specs.Job.{job_of, synth_of, check_of, demo_of, metric_of, bound_of, conflicts_of, are_file_words};
 ghost use Rattle.joint_net.specs.Metric.{meaning};
-ghost use Rattle.salsa_cli.specs.Words.{job_meaning, bound_in};
+ghost use Rattle.salsa_cli.specs.Words.{job_meaning, HasRanges};
 
 use crate::bundle_names::is_bundle_name;
 use bundle::decimal::number_from_to;
@@ -57,7 +57,7 @@ fn are_file_words(input: &[u8], stem: &[u8]) -> bool
 #[tactic(auto, using(crate::proofs::JobWords::number_within))]
 fn synth(words: &[Word]) -> Option<Command<'_>>
     ensures job { option_map job_meaning result ≡ synth_of words.now }
-    ensures bound { IfSome result (λ c. bound_in c < 2 ^ 84) }
+    ensures ranges { IfSome result HasRanges }
 {
     let [metric_word, bound_word, conflicts_word, input, stem] = words else {
         return None;
@@ -82,7 +82,7 @@ fn synth(words: &[Word]) -> Option<Command<'_>>
 #[tactic(auto, using(crate::proofs::JobWords::number_within))]
 fn check(words: &[Word]) -> Option<Command<'_>>
     ensures job { option_map job_meaning result ≡ check_of words.now }
-    ensures bound { IfSome result (λ c. bound_in c < 2 ^ 84) }
+    ensures ranges { IfSome result HasRanges }
 {
     let [metric_word, bound_word, input, stem] = words else {
         return None;
@@ -105,7 +105,7 @@ fn check(words: &[Word]) -> Option<Command<'_>>
 #[tactic(auto, using(crate::proofs::JobWords::number_within))]
 fn demo(words: &[Word]) -> Option<Command<'_>>
     ensures job { option_map job_meaning result ≡ demo_of words.now }
-    ensures bound { IfSome result (λ c. bound_in c < 2 ^ 84) }
+    ensures ranges { IfSome result HasRanges }
 {
     let [width_word, bound_word, conflicts_word] = words else {
         return None;
@@ -124,7 +124,7 @@ fn demo(words: &[Word]) -> Option<Command<'_>>
 #[tactic(auto, unfolding(job_semantics::specs::Job::job_of))]
 pub fn command_named(words: &[Word]) -> Option<Command<'_>>
     ensures job { option_map job_meaning result ≡ job_of words.now }
-    ensures bound { IfSome result (λ c. bound_in c < 2 ^ 84) }
+    ensures ranges { IfSome result HasRanges }
 {
     let (command, rest) = words.split_first()?;
     let command = command.bytes();
