@@ -97,7 +97,7 @@ verified_law = record {
 -- ---- which bundles are written as certificates
 
 module _ (b : BundleValue) (h : IsRightBundle b) where
-  net_read : IsNetlist (bundle_text b) b.approx
+  pub net_read : IsNetlist (bundle_text b) b.approx
   net_read = read b.approx h.approx_sound h.approx_small
 
   few_tables : (N : NetValue) → IsSmall N → table_count N < 2 ^ 32

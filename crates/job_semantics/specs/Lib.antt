@@ -13,3 +13,4 @@ pub mod Checking
 pub mod Demo
 pub mod Demonstration
 pub mod CertificateExamples
+pub mod Headline

@@ -15,7 +15,7 @@ use Rattle.outside_semantics.specs.WrittenFiles.{File, FilesWritten, FilesCutSho
 use Rattle.job_semantics.specs.declared.ending.Ending.TheVariants.{Report}
 use Rattle.job_semantics.specs.Endings.{bundle_files, are_bundle_names_steady}
 use Rattle.job_semantics.specs.Bundle.{BundleValue, bundle_text}
-use Rattle.job_semantics.specs.Certificate.{OfBundle, Certifies}
+use Rattle.job_semantics.specs.Certificate.{OfBundle, IsNetlist, Certifies}
 use Rattle.job_semantics.specs.Shrinking.{Shrinking, IsShrinking}
 use Rattle.job_semantics.specs.Input.{IsReadAs, IsAccepted, IsRefusedFor}
 
@@ -95,6 +95,7 @@ pub record BundleWritten (metric : Metric) (bound limit : ℕ) (exact : NetValue
   pub refuted : IsRefutedBy (miter exact result.net metric result.maximum) log
   pub files : FilesWritten old new (synth_files exact metric bound stem result log)
   pub report : Took said says (synth_report exact metric bound result log)
+  pub netlist : OfBundle old new stem (λ texts. IsNetlist texts result.net)
   pub certificate : OfBundle old new stem (Certifies exact metric bound)
 
 -- The net was simplified; a file could not be written whole, and nothing was put; or all were, and a first part of the report was put.

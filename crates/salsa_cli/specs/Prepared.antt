@@ -4,7 +4,7 @@ use Rattle.semantics.specs.Net.{NetValue}
 use Rattle.semantics.specs.Error.{Metric}
 use Rattle.proof_semantics.specs.Miter.{miter}
 use Rattle.job_semantics.specs.Bundle.{bundle_text}
-use Rattle.job_semantics.specs.Certificate.{Certifies}
+use Rattle.job_semantics.specs.Certificate.{IsNetlist, Certifies}
 use Rattle.job_semantics.specs.Synthesis.{Simplified, IsSimplifiedFrom, IsRefutedBy, MaximumSpent, synth_bundle}
 use Rattle.worst_case.specs.declared.exceed.Spent as spent
 use Rattle.worst_case.specs.Exceeds.{spent_value}
@@ -22,6 +22,7 @@ pub record IsReady (exact : NetValue) (metric : Metric) (bound limit : ℕ) (b :
   pub refuted : IsRefutedBy (miter exact result.net metric result.maximum) b.log
   pub is : bundle_value b ≡ synth_bundle exact metric bound result b.log
   pub fits : FitsReport b
+  pub netlist : IsNetlist (bundle_text (bundle_value b)) result.net
   pub certificate : Certifies exact metric bound (bundle_text (bundle_value b))
 
 abbrev pub IsPrepared : NetValue → Metric → ℕ → ℕ → Prepared → Type 0
