@@ -11,3 +11,6 @@ pub mod Certificate
 pub mod CertificateLaws
 pub mod Checking
 pub mod CertificateExamples
+pub mod Demo
+pub mod DemoLaws
+pub mod DemoExamples
