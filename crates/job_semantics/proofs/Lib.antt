@@ -6,3 +6,6 @@ pub mod MinimalNets
 pub mod VectorsTexts
 pub mod Certificates
 pub mod CertificateTexts
+pub mod DemoTables
+pub mod DemoSum
+pub mod DemoSound

@@ -10,7 +10,9 @@ pub mod Examples
 pub mod Certificate
 pub mod CertificateLaws
 pub mod Checking
-pub mod Demo
-pub mod Demonstration
 pub mod CertificateExamples
+pub mod Demo
+pub mod DemoLaws
+pub mod DemoExamples
+pub mod Demonstration
 pub mod Headline

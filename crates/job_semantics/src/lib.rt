@@ -4,6 +4,8 @@
 pub mod certificate_examples;
 pub mod certificate_laws;
 pub mod clause;
+pub mod demo_examples;
+pub mod demo_laws;
 pub mod ending;
 pub mod examples;
 pub mod laws;
