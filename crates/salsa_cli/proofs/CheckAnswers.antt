@@ -5,7 +5,7 @@ use Rattle.std.specs.List.{AllByRecursion}
 use Rattle.std.specs.FinMap.{contains_key}
 use Rattle.std.proofs.lemmas.Bool.{false_from_ne_true}
 use Rattle.semantics.specs.Texts.{Bytes}
-use Rattle.semantics.specs.Net.{NetValue, IsSound, input_count}
+use Rattle.semantics.specs.Net.{NetValue, IsSound}
 use Rattle.semantics.specs.Error.{Metric}
 use Rattle.outside_semantics.specs.Outside.{Held, FilesTold, SinkTold, Goes, Rose, WhereTold, bytes_of}
 use Rattle.blif_semantics.specs.Reading.{input_limit, blif_reading}
@@ -19,14 +19,14 @@ use Rattle.job_semantics.specs.Endings.{bundle_endings, bundle_name}
 use Rattle.job_semantics.specs.Input.{IsReadAs}
 use Rattle.job_semantics.specs.Certificate.{Texts, texts_of, OfBundle, Certifies, IsFirstFailing, IsNeededFor, clause_number}
 use Rattle.job_semantics.proofs.Certificates.{verified_law}
-use Rattle.job_semantics.specs.Synthesis.{WhereHeld, most_inputs}
-use Rattle.job_semantics.specs.Checking.{IsOriginal, IsLeftAlone, ShowsItsBound, CheckVerified, CheckRefuted, IsNeeded, CheckReadFault, CheckEndless, IsQuietCheck}
+use Rattle.job_semantics.specs.Synthesis.{OfInput, WhereHeld}
+use Rattle.job_semantics.specs.Checking.{IsLeftAlone, ShowsItsBound, CheckVerified, CheckRefuted, IsNeeded, CheckReadFault, CheckEndless, IsQuietCheck}
 use Rattle.bundle.specs.declared.verdict.Verdict.{Verdict}
 use Rattle.bundle.specs.declared.verdict.Verdict.TheVariants as verdict
 use Rattle.file_reading.specs.declared.unread.Unread.{Unread}
 use Rattle.bundle.specs.Judging.{FilesKept, IsJudged, IsCause, NothingKnown}
 use Rattle.salsa_cli.specs.declared.status.Status.{Status}
-use Rattle.salsa_cli.specs.declared.status.Status.TheVariants.{Done, Verified, Refuted, Usage, Text, NotYet, NoMemory, ReadFault, WriteFault, Endless}
+use Rattle.salsa_cli.specs.declared.status.Status.TheVariants.{Done, Verified, Refuted, Usage, Text, NoMemory, Budget, ReadFault, WriteFault, Endless}
 use Rattle.salsa_cli.specs.Input.{NetRead}
 use Rattle.salsa_cli.specs.Run.{CheckAnswer, IsCheckAnswerTo, EndsWell}
 use Rattle.salsa_cli.proofs.InputReadings.{OfInput-later}
@@ -47,8 +47,8 @@ left_alone {input} {old} {mid} {new} stay kept = record {
   sink = refl;
 }
 
-original : {input : Bytes} {old mid new : FilesTold} {N : NetValue} → NetRead old mid input N → input_count N ≤ most_inputs → FilesKept mid new → IsOriginal input old new N
-original {N = N} read few kept = record { read = OfInput-later (λ text. IsReadAs text N) kept.goes read.read; few_inputs = few }
+original : {input : Bytes} {old mid new : FilesTold} {N : NetValue} → NetRead old mid input N → FilesKept mid new → OfInput old new input (λ text. IsReadAs text N)
+original {N = N} read kept = OfInput-later (λ text. IsReadAs text N) kept.goes read.read
 
 -- what is said of the bundle's texts from the reading of IN on
 since : (stem : Bytes) (old : FilesTold) {mid new : FilesTold} (P : Texts → Type 0) → FilesKept mid new → OfBundle mid new stem P → OfBundle old new stem P
@@ -66,68 +66,68 @@ shows N metric bound texts sound c =
     }
 
 pub CheckVerified-from : {metric : Metric} {bound : ℕ} {input stem names : Bytes} {old mid new : FilesTold} {said : SinkTold} {N : NetValue} (v : Verdict) → v ≡ verdict.Verified
-    → names ≡ stem → IsSound N → NetRead old mid input N → input_count N ≤ most_inputs → FilesKept mid new
+    → names ≡ stem → IsSound N → NetRead old mid input N → FilesKept mid new
     → OfBundle mid new names (λ texts. IsJudged N metric bound texts v) → CheckVerified metric bound input stem old new said said
-CheckVerified-from {metric} {bound} {input} {stem} {names} {old} {mid} {new} {said} {N} v is same sound read few kept judged =
+CheckVerified-from {metric} {bound} {input} {stem} {names} {old} {mid} {new} {said} {N} v is same sound read kept judged =
     let at_stem : OfBundle mid new stem (λ texts. IsJudged N metric bound texts v) = subst (λ s. OfBundle mid new s (λ texts. IsJudged N metric bound texts v)) same judged in
     let certifies : OfBundle mid new stem (Certifies N metric bound) = subst (λ u. OfBundle mid new stem (λ texts. IsJudged N metric bound texts u)) is at_stem in
     let certified : OfBundle old new stem (Certifies N metric bound) = since stem old (Certifies N metric bound) kept certifies in
     record {
       untouched = left_alone read.stay kept;
       exact = N;
-      original = original read few kept;
+      read = original read kept;
       certificate = certified;
       shows = λ a b told tells. shows N metric bound (texts_of b stem) sound (certified a b told tells);
     }
 
 pub CheckRefuted-from : (number : ℕ) {metric : Metric} {bound : ℕ} {input stem names : Bytes} {old mid new : FilesTold} {said : SinkTold} {N : NetValue} (v : Verdict) → v ≡ verdict.Refuted number
-    → names ≡ stem → NetRead old mid input N → input_count N ≤ most_inputs → FilesKept mid new
+    → names ≡ stem → NetRead old mid input N → FilesKept mid new
     → OfBundle mid new names (λ texts. IsJudged N metric bound texts v) → CheckRefuted number metric bound input stem old new said said
-CheckRefuted-from number {metric} {bound} {input} {stem} {names} {old} {mid} {new} {said} {N} v is same read few kept judged =
+CheckRefuted-from number {metric} {bound} {input} {stem} {names} {old} {mid} {new} {said} {N} v is same read kept judged =
     let at_stem : OfBundle mid new stem (λ texts. IsJudged N metric bound texts v) = subst (λ s. OfBundle mid new s (λ texts. IsJudged N metric bound texts v)) same judged in
     let failing : OfBundle mid new stem (λ texts. IsJudged N metric bound texts (verdict.Refuted number)) = subst (λ u. OfBundle mid new stem (λ texts. IsJudged N metric bound texts u)) is at_stem in
     record {
       untouched = left_alone read.stay kept;
       exact = N;
-      original = original read few kept;
+      read = original read kept;
       failing = since stem old (λ texts. IsJudged N metric bound texts (verdict.Refuted number)) kept failing;
     }
 
 -- a file that is needed for the verdict is needed by the job
-needed_by_job : {metric : Metric} {bound : ℕ} {input : Bytes} (stem : Bytes) {old mid new : FilesTold} {N : NetValue} (ending : Ending) → NetRead old mid input N → input_count N ≤ most_inputs
+needed_by_job : {metric : Metric} {bound : ℕ} {input : Bytes} (stem : Bytes) {old mid new : FilesTold} {N : NetValue} (ending : Ending) → NetRead old mid input N
     → FilesKept mid new → OfBundle mid new stem (λ texts. NothingKnown texts → IsNeededFor N metric bound texts ending) → IsNeeded metric bound input stem old new ending
-needed_by_job {metric} {bound} {input} stem {old} {mid} {new} {N} ending read few kept needed =
+needed_by_job {metric} {bound} {input} stem {old} {mid} {new} {N} ending read kept needed =
     λ a b told tells.
     let m = held_before mid new kept.goes b tells in
-    (N, read.read.told a m.0 told m.1, few, needed m.0 b m.1 tells tt)
+    (N, read.read.told a m.0 told m.1, needed m.0 b m.1 tells tt)
 
 not_steady_before : {old mid : FilesTold} {name : Bytes} → Goes old mid → mid.steady_read name ≡ false → old.steady_read name ≡ false
 not_steady_before goes h = false_from_ne_true _ (λ steady. cc (goes.steady_read _ steady, h))
 
 pub CheckReadFault-bundle : {metric : Metric} {bound : ℕ} {input stem names : Bytes} {old mid new : FilesTold} {said : SinkTold} {N : NetValue} (reason : Unread) → reason ≡ unread.Fault
-    → names ≡ stem → NetRead old mid input N → input_count N ≤ most_inputs → FilesKept mid new
+    → names ≡ stem → NetRead old mid input N → FilesKept mid new
     → IsCause N metric bound names NothingKnown mid new reason → CheckReadFault metric bound input stem old new said said
-CheckReadFault-bundle {metric} {bound} {input} {stem} {names} {old} {mid} {new} {said} {N} reason is same read few keeps caused =
+CheckReadFault-bundle {metric} {bound} {input} {stem} {names} {old} {mid} {new} {said} {N} reason is same read keeps caused =
     let kept : FilesKept mid new = keeps in
     let cause : IsCause N metric bound stem NothingKnown mid new unread.Fault = subst (λ r. IsCause N metric bound stem NothingKnown mid new r) is (subst (λ s. IsCause N metric bound s NothingKnown mid new reason) same caused) in
     record {
       untouched = left_alone read.stay kept;
       rose = omega (arith, read.stay.goes.counts, cause.0);
-      not_steady = inr (cause.1.0, needed_by_job stem cause.1.0 read few kept cause.1.1, not_steady_before read.stay.goes cause.1.2);
+      not_steady = inr (cause.1.0, needed_by_job stem cause.1.0 read kept cause.1.1, not_steady_before read.stay.goes cause.1.2);
     }
 
 pub CheckEndless-from : {metric : Metric} {bound : ℕ} {input stem names : Bytes} {old mid new : FilesTold} {said : SinkTold} {N : NetValue} (reason : Unread) → reason ≡ unread.Endless
-    → names ≡ stem → NetRead old mid input N → input_count N ≤ most_inputs → FilesKept mid new
+    → names ≡ stem → NetRead old mid input N → FilesKept mid new
     → IsCause N metric bound names NothingKnown mid new reason → CheckEndless metric bound input stem old new said said
-CheckEndless-from {metric} {bound} {input} {stem} {names} {old} {mid} {new} {said} {N} reason is same read few keeps caused =
+CheckEndless-from {metric} {bound} {input} {stem} {names} {old} {mid} {new} {said} {N} reason is same read keeps caused =
     let kept : FilesKept mid new = keeps in
     let cause : IsCause N metric bound stem NothingKnown mid new unread.Endless = subst (λ r. IsCause N metric bound stem NothingKnown mid new r) is (subst (λ s. IsCause N metric bound s NothingKnown mid new reason) same caused) in
     record {
       untouched = left_alone read.stay kept;
       exact = N;
-      original = original read few kept;
+      read = original read kept;
       ending = cause.0;
-      needed = needed_by_job stem cause.0 read few kept cause.1;
+      needed = needed_by_job stem cause.0 read kept cause.1;
       long = since stem old (λ texts. 2 ^ 40 ≤ length (texts cause.0)) kept cause.2;
     }
 
@@ -159,15 +159,15 @@ check_answers_reading : (metric : Metric) (bound : ℕ) (input stem : Bytes) (ol
     → CheckAnswer metric bound input stem old new said says status → status ≢ ReadFault
     → WhereHeld old input (λ a. IsCheckAnswerTo (blif_reading (bytes_of a input) input_limit) status)
 check_answers_reading metric bound input stem old new said says Done answer read = absurd answer
-check_answers_reading metric bound input stem old new said says Verified answer read = λ a told has. (answer.exact, answer.original.read.at_entry a told has, answer.original.few_inputs)
-check_answers_reading metric bound input stem old new said says (Refuted number) answer read = λ a told has. (answer.exact, answer.original.read.at_entry a told has, answer.original.few_inputs)
+check_answers_reading metric bound input stem old new said says Verified answer read = λ a told has. (answer.exact, answer.read.at_entry a told has)
+check_answers_reading metric bound input stem old new said says (Refuted number) answer read = λ a told has. (answer.exact, answer.read.at_entry a told has)
 check_answers_reading metric bound input stem old new said says Usage answer read = absurd answer
 check_answers_reading metric bound input stem old new said says (Text reason) answer read = λ a told has. (answer.0, answer.2.refused.at_entry a told has, answer.1)
-check_answers_reading metric bound input stem old new said says NotYet answer read = λ a told has. (answer.exact, answer.read.at_entry a told has, answer.many_inputs)
+check_answers_reading metric bound input stem old new said says Budget answer read = absurd answer
 check_answers_reading metric bound input stem old new said says NoMemory answer read = λ a told has. tt
 check_answers_reading metric bound input stem old new said says ReadFault answer read = absurd (read refl)
 check_answers_reading metric bound input stem old new said says WriteFault answer read = absurd answer
-check_answers_reading metric bound input stem old new said says Endless answer read = λ a told has. (answer.exact, answer.original.read.at_entry a told has, answer.original.few_inputs)
+check_answers_reading metric bound input stem old new said says Endless answer read = λ a told has. (answer.exact, answer.read.at_entry a told has)
 
 -- a quiet call has no fault, and is answered as the reading of IN asks
 pub quiet_check_ends : (metric : Metric) (bound : ℕ) (input stem : Bytes) (old new : FilesTold) (said says : SinkTold) (status : Status)

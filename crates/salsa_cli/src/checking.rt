@@ -5,6 +5,7 @@ ghost use Rattle.joint_net.specs.Metric.{meaning};
 ghost use Rattle.salsa_cli.specs.Run.{CheckAnswer};
 
 use crate::input::{NoNet, read_net};
+use crate::miter::see_sound;
 use crate::status::Status;
 use bundle::check::check_bundle;
 use bundle::stem::Stem;
@@ -40,6 +41,7 @@ pub fn check<F: Files>(
         Err(NoNet::Fault) => return Status::ReadFault,
         Err(NoNet::OutOfMemory) => return Status::NoMemory,
     };
+    see_sound(&exact);
     let Ok(names) = Stem::new(alloc, stem) else {
         return Status::NoMemory;
     };

@@ -1,9 +1,9 @@
 //! A net is simplified, and then its bundle is written and its report put: what a synth and a demo job have in common.
-ghost use Rattle.std.specs.Prelude.{◌≤◌, ◌<◌, ◌^◌};
+ghost use Rattle.std.specs.Prelude.{◌≤◌, ◌<◌, ◌^◌, OnOk, OnErr};
 ghost use Rattle.semantics.specs.Net.{IsSmall};
 ghost use Rattle.joint_net.specs.Metric.{meaning};
 ghost use Rattle.bundle.specs.Value.{FitsReport};
-ghost use Rattle.salsa_cli.specs.Delivered.{Delivered};
+ghost use Rattle.salsa_cli.specs.Delivered.{IsDelivered, IsDeliveredInPart};
 ghost use Rattle.salsa_cli.specs.Run.{BundleAnswer};
 
 use crate::preparing::{Constraint, Prepared, prepare};
@@ -11,6 +11,7 @@ use crate::status::{Outcome, Status, only};
 use bundle::bundle::Bundle;
 use bundle::stem::Stem;
 use bundle::writing::{put_report, write_bundle};
+use file_core::fault::FileFault;
 use file_core::files::Files;
 use file_core::sink::Sink;
 use net_core::net::Net;
@@ -22,17 +23,15 @@ fn deliver<F: Files, K: Sink>(
     names: &Stem,
     files: &mut F,
     say: &mut K,
-) -> Status
+) -> Result<(), FileFault>
     requires { FitsReport bundle.now }
-    ensures { Delivered bundle.now names.now (F.told files.old) (F.told files.new) (K.told say.old) (K.told say.new) result }
+    ensures ok { OnOk result (IsDelivered bundle.now names.now (F.told files.old) (F.told files.new) (K.told say.old) (K.told say.new)) }
+    ensures err { OnErr result (IsDeliveredInPart bundle.now names.now (F.told files.old) (F.told files.new) (K.told say.old) (K.told say.new)) }
 {
     let Ok(()) = write_bundle(bundle, names, files) else {
-        return Status::WriteFault;
+        return Err(FileFault);
     };
-    let Ok(()) = put_report(bundle, say) else {
-        return Status::WriteFault;
-    };
-    Status::Done
+    put_report(bundle, say)
 }
 
 /// Simplifies a net, writes its bundle under the names, and puts the report. Everything is computed before a file is touched.
@@ -67,12 +66,12 @@ pub fn finish<F: Files, K: Sink>(
             level: Some(level),
         },
         Ok(Prepared::Ready { bundle, spent }) => match deliver(&bundle, names, files, say) {
-            Status::Done => Outcome {
+            Ok(()) => Outcome {
                 status: Status::Done,
                 spent,
                 level: None,
             },
-            fault => only(fault),
+            Err(FileFault) => only(Status::WriteFault),
         },
     }
 }

@@ -9,6 +9,7 @@ mod counted;
 mod delivery;
 mod demonstration;
 mod input;
+mod jobs;
 mod miter;
 mod preparing;
 mod real_files;

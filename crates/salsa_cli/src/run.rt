@@ -6,6 +6,7 @@ ghost use Rattle.blif_semantics.specs.Reading.{input_limit, blif_reading};
 ghost use Rattle.semantics.specs.Texts.{Bytes};
 ghost use Rattle.semantics.specs.Net.{input_count};
 ghost use Rattle.semantics.specs.Error.{Metric, abs};
+ghost use Rattle.job_semantics.specs.Headline.{Headline};
 ghost use Rattle.job_semantics.specs.Job.{synth, check, demo, job_of};
 ghost use Rattle.job_semantics.specs.Synthesis.{IsQuietSynth};
 ghost use Rattle.job_semantics.specs.Checking.{IsQuietCheck};
@@ -15,12 +16,8 @@ ghost use Rattle.file_core.specs.Sure.{sure_told, sure_sink_told};
 ghost use Rattle.salsa_cli.specs.Status.{told_query, SpendsAsTold};
 ghost use Rattle.salsa_cli.specs.Run.{SynthAnswer, CheckAnswer, BundleAnswer, IsAnswerTo, IsCheckAnswerTo, IsWorkOf, EndsWell};
 
-use crate::checking::check;
-use crate::demonstration::demonstrate;
-use crate::preparing::Constraint;
-use crate::status::{Outcome, Status, only};
-use crate::synthesis::synthesize;
-use crate::words::{Command, command_named};
+use crate::jobs::carry_out;
+use crate::status::{Outcome, Status};
 use file_core::files::Files;
 use file_core::sink::Sink;
 use file_core::sure_files::SureFiles;
@@ -30,6 +27,19 @@ use std::alloc::Global;
 
 /// Carries out the job that the words name.
 pub fn run<F: Files, K: Sink>(alloc: Global, words: &[Word], files: &mut F, say: &mut K) -> Outcome
+    // When `check` verifies a bundle it keeps its promise; unless conflicts were spent, an accepted netlist gets a bundle that does.
+    ensures headline { Headline
+        (job_of words.now)
+        (result.status ≡ Status.Verified)
+        (result.status ≡ Status.Done)
+        (result.status ≡ Status.NoMemory)
+        (told_query result.spent)
+        (told_query result.level)
+        (F.told files.old)
+        (F.told files.new)
+        (K.told say.old)
+        (K.told say.new) }
+
     // Words that are no job, and only those, are `Usage`, and then nothing is touched.
     ensures usage { (result.status ≡ Status.Usage) ↔ (job_of words.now ≡ None) }
     ensures usage_touches_nothing { result.status ≡ Status.Usage → (files.new ≡ files.old) × (say.new ≡ say.old) }
@@ -66,40 +76,7 @@ pub fn run<F: Files, K: Sink>(alloc: Global, words: &[Word], files: &mut F, say:
         → IsQuietDemo (F.told files.old) (F.told files.new) (K.told say.old) (K.told say.new)
         → IsWorkOf conflicts (input_count (demo_net width)) (told_query result.spent) result.status }
 {
-    match command_named(words) {
-        None => only(Status::Usage),
-        Some(
-            Command::Synth {
-                metric,
-                bound,
-                conflicts,
-                input,
-                stem,
-            },
-        ) => {
-            let aim = Constraint {
-                metric,
-                bound,
-                limit: u64::from(conflicts),
-            };
-            synthesize(alloc, aim, input, stem, files, say)
-        }
-        Some(
-            Command::Check {
-                metric,
-                bound,
-                input,
-                stem,
-            },
-        ) => only(check(alloc, metric, bound, input, stem, files)),
-        Some(
-            Command::Demo {
-                width,
-                bound,
-                conflicts,
-            },
-        ) => demonstrate(alloc, width, bound, u64::from(conflicts), files, say),
-    }
+    carry_out(alloc, words, files, say)
 }
 
 /// A run over files and a sink that never fail: no fault is answered, and each job ends as its net and its conflicts ask.
