@@ -1,0 +1,6 @@
+//! The net of the demonstration: a generated ripple-carry adder.
+#![tactic(auto)]
+
+pub mod adder;
+mod names;
+mod stage;

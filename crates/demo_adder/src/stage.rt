@@ -1,0 +1,140 @@
+//! The two tables of each stage: those of a half adder, and then those of full adders.
+ghost use Rattle.std.specs.Prelude.{◌≡◌, ◌+◌, ◌≤◌, ◌<◌, [], ◌∷◌, ◌++◌, length, codes, All, IfOk, OnOk};
+ghost use Rattle.quality_semantics.specs.Forms.{form};
+ghost use Rattle.job_semantics.specs.Demo.{demo_name, demo_table, sum_signal, carry_signal, sum_form, carry_form, stage_tables};
+
+use crate::names::numbered_name;
+use net_core::items::{RowList, Signal, SignalList, TableList};
+use net_core::mark::Mark;
+use net_core::name::Name;
+use net_core::row::Row;
+use net_core::table::Table;
+use std::alloc::{AllocError, Global};
+
+const HALF_SUM: [[Mark; 2]; 2] = [[Mark::One, Mark::Zero], [Mark::Zero, Mark::One]];
+
+const HALF_CARRY: [[Mark; 2]; 1] = [[Mark::One, Mark::One]];
+
+const FULL_SUM: [[Mark; 3]; 4] = [
+    [Mark::One, Mark::Zero, Mark::Zero],
+    [Mark::Zero, Mark::One, Mark::Zero],
+    [Mark::Zero, Mark::Zero, Mark::One],
+    [Mark::One, Mark::One, Mark::One],
+];
+
+const FULL_CARRY: [[Mark; 3]; 3] = [
+    [Mark::One, Mark::One, Mark::Dash],
+    [Mark::One, Mark::Dash, Mark::One],
+    [Mark::Dash, Mark::One, Mark::One],
+];
+
+/// The signal of a stage's bit of the sum.
+pub fn sum_signal(width: u32, stage: u32) -> Signal
+    requires narrow { width ≤ 32 }
+    requires within { stage < width }
+    ensures { result ≡ sum_signal width stage }
+{
+    2 * width + 2 * stage
+}
+
+/// The signal of a stage's carry.
+pub fn carry_signal(width: u32, stage: u32) -> Signal
+    requires narrow { width ≤ 32 }
+    requires within { stage < width }
+    ensures { result ≡ carry_signal width stage }
+{
+    2 * width + 2 * stage + 1
+}
+
+/// The marks as a row.
+fn row_of(alloc: Global, marks: &[Mark]) -> Result<Row, AllocError>
+    ensures { IfOk result (λ row. row ≡ marks.now) }
+{
+    let mut row = Row::new(alloc);
+    for mark in marks {
+        row.push(*mark)?;
+    }
+    Ok(row)
+}
+
+/// Rows of N marks as a list.
+fn rows_of<const N: usize>(alloc: Global, rows: &[[Mark; N]]) -> Result<RowList, AllocError>
+    ensures { IfOk result (λ list. list ≡ rows.now) }
+{
+    let mut list = RowList::new(alloc);
+    for row in rows {
+        list.push(row_of(alloc, row)?)?;
+    }
+    Ok(list)
+}
+
+/// The signals as a list.
+fn pins_of(alloc: Global, signals: &[Signal]) -> Result<SignalList, AllocError>
+    ensures { IfOk result (λ pins. pins ≡ signals.now) }
+{
+    let mut pins = SignalList::new(alloc);
+    for signal in signals {
+        pins.push(*signal)?;
+    }
+    Ok(pins)
+}
+
+/// The table of N pins with these rows, of plane 1.
+fn table_of<const N: usize>(
+    alloc: Global,
+    name: Name,
+    signals: &[Signal; N],
+    rows: &[[Mark; N]],
+) -> Result<Table, AllocError>
+    requires { All (λ marks. length marks ≡ length signals.now) rows.now }
+    ensures { IfOk result (λ t. t ≡ demo_table name (form signals.now rows.now)) }
+{
+    let pins = pins_of(alloc, signals)?;
+    let rows = rows_of(alloc, rows)?;
+    Ok(Table::new(name, pins, rows, true))
+}
+
+/// The table of a stage's bit of the sum.
+fn sum_table(alloc: Global, width: u32, stage: u32) -> Result<Table, AllocError>
+    requires narrow { width ≤ 32 }
+    requires within { stage < width }
+    ensures { IfOk result (λ t. t ≡ demo_table (demo_name (codes "s") stage) (sum_form width stage)) }
+{
+    let name = numbered_name(alloc, b's', stage)?;
+    if stage == 0 {
+        table_of(alloc, name, &[0, width], &HALF_SUM)
+    } else {
+        let carry = carry_signal(width, stage - 1);
+        table_of(alloc, name, &[stage, width + stage, carry], &FULL_SUM)
+    }
+}
+
+/// The table of a stage's carry.
+fn carry_table(alloc: Global, width: u32, stage: u32) -> Result<Table, AllocError>
+    requires narrow { width ≤ 32 }
+    requires within { stage < width }
+    ensures { IfOk result (λ t. t ≡ demo_table (demo_name (codes "c") (stage + 1)) (carry_form width stage)) }
+{
+    let name = numbered_name(alloc, b'c', stage + 1)?;
+    if stage == 0 {
+        table_of(alloc, name, &[0, width], &HALF_CARRY)
+    } else {
+        let carry = carry_signal(width, stage - 1);
+        table_of(alloc, name, &[stage, width + stage, carry], &FULL_CARRY)
+    }
+}
+
+/// Adds the tables of a stage at the end.
+pub fn push_stage(
+    alloc: Global,
+    tables: &mut TableList,
+    width: u32,
+    stage: u32,
+) -> Result<(), AllocError>
+    requires narrow { width ≤ 32 }
+    requires within { stage < width }
+    ensures { OnOk result (tables.new ≡ tables.old ++ stage_tables width stage) }
+{
+    tables.push(sum_table(alloc, width, stage)?)?;
+    tables.push(carry_table(alloc, width, stage)?)
+}
