@@ -1,11 +1,9 @@
 -- A chain has one end, since the move after each member is the first allowed one.
-use Rattle.std.proofs.Common.{◌≡◌, ◌⊎◌, ℕ, List, [], ◌∷◌, ◌++◌, refl, sym, subst, ◌∙◌, inl, inr}
+use Rattle.std.proofs.Common.{◌≡◌, ◌⊎◌, ◌<◌, List, [], ◌∷◌, ◌++◌, length, All, refl, sym, subst, ◌∙◌, inl, inr, arith}
 use Rattle.std.specs.List.{AllByRecursion}
-use Rattle.semantics.specs.Net.{NetValue}
-use Rattle.semantics.specs.Error.{Metric}
-use Rattle.chain_semantics.specs.Chain.{IsFirstAllowed, IsInChain, IsChainEnd, IsStepBy}
+use Rattle.std.proofs.lemmas.List.{length-append, get_or_at}
+use Rattle.chain_semantics.specs.Chain.{IsFirstAllowed, IsInChain, IsChainEnd}
 use Rattle.chain_semantics.specs.Chain.IsInChain.{first, next}
-use Rattle.chain_semantics.specs.ConstantChain.{constant_moves, made_constant, IsAllowedConstant, IsConstantChainEnd}
 
 -- two splits of one list, each at an allowed move after moves that are not, are at the same move
 firsts_agree : {M : Type 0} (Allowed : M → Type 0) (b c : List M) (m n : M) (x y : List M) → b ++ m ∷ x ≡ c ++ n ∷ y
@@ -35,6 +33,13 @@ pub IsFirstAllowed-none : {M : Type 0} (Allowed : M → Type 0) (moves : List M)
     → AllByRecursion (λ k. ¬ Allowed k) moves → ¬ IsFirstAllowed Allowed moves m
 IsFirstAllowed-none Allowed moves m none f =
     none_at Allowed f.before m f.after (subst (AllByRecursion (λ k. ¬ Allowed k)) f.stands none) f.allowed
+
+-- what holds of all moves holds of the first allowed
+pub first_allowed_at : {M : Type 0} (Allowed P : M → Type 0) (moves : List M) (move : M) → IsFirstAllowed Allowed moves move → All P moves → P move
+first_allowed_at Allowed P moves move h all =
+    let whole : All P (h.before ++ move ∷ h.after) = subst (All P) h.stands all in
+    let within : length h.before < length (h.before ++ move ∷ h.after) = omega (arith, length-append h.before (move ∷ h.after)) in
+    subst P (get_or_at h.before move h.after move (length h.before) refl) (whole (length h.before) move within)
 
 -- where a step has one outcome
 abbrev pub HasOneStep : {S M : Type 0} → (S → M → S → Type 0) → Type 0
@@ -85,9 +90,3 @@ module _ {S M : Type 0} (moves : S → List M) (Allowed : S → M → Type 0) (S
         | inl e ↦ sym e
         | inr g ↦ absurd (IsFirstAllowed-none (Allowed a) (moves a) g.move end.none_allowed g.is_first)
       ]
-
--- a net is simplified to one net
-pub IsConstantChainEnd-only : (metric : Metric) (exact : NetValue) (bound : ℕ) (N M : NetValue)
-    → IsConstantChainEnd metric exact bound N → IsConstantChainEnd metric exact bound M → N ≡ M
-IsConstantChainEnd-only metric exact bound N M =
-    IsChainEnd-only constant_moves (IsAllowedConstant metric exact bound) (IsStepBy made_constant) (λ s move a b e f. e ∙ sym f) exact N M

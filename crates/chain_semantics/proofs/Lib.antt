@@ -1,4 +1,4 @@
-pub mod Chains
+pub mod SameNets
 pub mod ChainEnds
 pub mod TidyRows
 pub mod TidyMeasure

@@ -18,8 +18,8 @@ use Rattle.chain_semantics.specs.Tidy.{IsTidy, IsTidiedFrom}
 use Rattle.chain_semantics.specs.TidyLaws.{KeepsNet, DoesNotGrow, HasLiterals}
 use Rattle.chain_semantics.specs.Simplification.{IsAllowedMove, IsTidiedMove, IsInSimplification, IsSimplificationEnd}
 use Rattle.chain_semantics.specs.SimplificationLaws.{IsSimplifiedNet}
-use Rattle.chain_semantics.proofs.Chains.{IsWithin-same, first_allowed_at}
-use Rattle.chain_semantics.proofs.ChainEnds.{IsChainEnd-only}
+use Rattle.chain_semantics.proofs.SameNets.{IsWithin-same}
+use Rattle.chain_semantics.proofs.ChainEnds.{first_allowed_at, IsChainEnd-only}
 use Rattle.chain_semantics.proofs.MoveMembers.{move_is}
 use Rattle.chain_semantics.proofs.MovedNets.{move-within, narrowed, moved-keeps, moved-lowers}
 use Rattle.chain_semantics.proofs.TidyNets.{small, tidy-literals}

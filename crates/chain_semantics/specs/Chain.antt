@@ -20,7 +20,3 @@ pub data IsInChain {S M : Type 0} (moves : S → List M) (Allowed : S → M → 
 pub record IsChainEnd {S M : Type 0} (moves : S → List M) (Allowed : S → M → Type 0) (Step : S → M → S → Type 0) (start end : S) : Type 0 where
   pub member : IsInChain moves Allowed Step start end
   pub none_allowed : AllByRecursion (λ m. ¬ Allowed end m) (moves end)
-
--- the step by a function
-abbrev pub IsStepBy : {S M : Type 0} → (S → M → S) → S → M → S → Type 0
-IsStepBy step s move t = t ≡ step s move

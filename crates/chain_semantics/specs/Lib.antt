@@ -1,7 +1,4 @@
 pub mod Chain
-pub mod ConstantChain
-pub mod Laws
-pub mod Examples
 pub mod TidyRules
 pub mod Tidy
 pub mod TidyLevels

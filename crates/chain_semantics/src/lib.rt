@@ -1,8 +1,6 @@
 //! Chains of simplifications, tidying, moves and flips, and the laws about them. It has no code but the type `Move`.
 #![tactic(auto)]
 
-pub mod examples;
-pub mod laws;
 pub mod move_examples;
 pub mod move_laws;
 pub mod moves;

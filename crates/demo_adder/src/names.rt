@@ -9,7 +9,7 @@ use net_core::items::NameList;
 use net_core::name::{Name, NameRefusal};
 use std::alloc::{AllocError, Global};
 
-/// The name of these bytes.
+/// The name of these bytes, which are one.
 fn name_of(alloc: Global, text: &[u8]) -> Result<Name, AllocError>
     requires { IsName text.now }
     ensures { IfOk result (λ name. name ≡ text.now) }
@@ -39,8 +39,13 @@ pub fn numbered_name(alloc: Global, letter: u8, number: u32) -> Result<Name, All
     name_of(alloc, &text)
 }
 
-/// Adds the names of one word's inputs at the end.
-fn push_word_names(alloc: Global, names: &mut NameList, letter: u8, width: u32) -> Result<(), AllocError>
+/// Adds the names of a word's inputs, a letter and the numbers from 0, at the end.
+fn push_word_names(
+    alloc: Global,
+    names: &mut NameList,
+    letter: u8,
+    width: u32,
+) -> Result<(), AllocError>
     requires { IsNameByte letter }
     ensures { OnOk result (names.new ≡ names.old ++ map (demo_name (letter ∷ [])) (range_with_len 0 width)) }
 {
@@ -50,7 +55,7 @@ fn push_word_names(alloc: Global, names: &mut NameList, letter: u8, width: u32) 
     Ok(())
 }
 
-/// The names of the inputs of two words.
+/// The names `a0`, `a1` and so on, and then `b0`, `b1` and so on.
 pub fn input_names(alloc: Global, width: u32) -> Result<NameList, AllocError>
     ensures { IfOk result (λ names. names
         ≡ map (demo_name (codes "a")) (range_with_len 0 width) ++ map (demo_name (codes "b")) (range_with_len 0 width)) }

@@ -79,7 +79,7 @@ fn pins_of(alloc: Global, signals: &[Signal]) -> Result<SignalList, AllocError>
     Ok(pins)
 }
 
-/// The table of N pins with these rows.
+/// The table of N pins with these rows, of plane 1.
 fn table_of<const N: usize>(
     alloc: Global,
     name: Name,
@@ -125,7 +125,12 @@ fn carry_table(alloc: Global, width: u32, stage: u32) -> Result<Table, AllocErro
 }
 
 /// Adds the tables of a stage at the end.
-pub fn push_stage(alloc: Global, tables: &mut TableList, width: u32, stage: u32) -> Result<(), AllocError>
+pub fn push_stage(
+    alloc: Global,
+    tables: &mut TableList,
+    width: u32,
+    stage: u32,
+) -> Result<(), AllocError>
     requires narrow { width ≤ 32 }
     requires within { stage < width }
     ensures { OnOk result (tables.new ≡ tables.old ++ stage_tables width stage) }

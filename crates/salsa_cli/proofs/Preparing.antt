@@ -1,68 +1,125 @@
 -- What is ready before the first file is touched, from its parts.
-use Rattle.std.proofs.Common.{◌≡◌, ◌^◌, ◌<◌, ◌≤◌, ℕ, false, List, [], ◌∷◌, map, length, refl, ap, sym, subst, arith}
-use Rattle.std.specs.List.{AllByRecursion, range_with_len}
+use Rattle.std.proofs.Common.{◌≡◌, ◌^◌, ◌<◌, ◌≤◌, ℕ, true, Option, Some, None, is_none, MatchOption, List, [], ◌∷◌, length, refl, ap, sym, subst, ◌∙◌, arith}
+use Rattle.std.specs.Prelude.{Bool, IsTrue}
+use Rattle.std.specs.List.{AllByRecursion}
 use Rattle.semantics.specs.Net.{NetValue, IsSound, IsSmall, HasSamePorts, input_count, literal_count}
-use Rattle.semantics.specs.Error.{Metric}
-use Rattle.semantics.specs.Vectors.{bits_of, all_vectors}
-use Rattle.semantics.proofs.Vectors.{length-bits_of}
+use Rattle.semantics.specs.Error.{Metric, net_error, IsWithin}
+use Rattle.chain_semantics.specs.declared.moves.Move.{Move}
+use Rattle.chain_semantics.specs.Moves.{moves_of}
+use Rattle.chain_semantics.specs.Minimality.{AreBrokenBySome, IsMinimalBy}
+use Rattle.chain_semantics.specs.SimplificationLaws.{IsSimplifiedNet}
+use Rattle.chain_semantics.proofs.MoveLists.{Contains-later}
+use Rattle.chain_semantics.proofs.Simplifications.{simplified, simplified-small}
 use Rattle.proof_semantics.specs.Miter.{miter}
 use Rattle.proof_semantics.specs.Formula.{Formula}
+use Rattle.proof_semantics.specs.Logs.{LogItem}
+use Rattle.proof_semantics.specs.Queries.{SpentValue, IsMaximum}
+use Rattle.proof_semantics.proofs.Refutations.{refutes_sound}
 use Rattle.job_semantics.specs.Bundle.{bundle_text}
-use Rattle.job_semantics.specs.Certificate.{Certifies}
+use Rattle.job_semantics.specs.Certificate.{IsNetlist, Certifies}
 use Rattle.job_semantics.specs.CertificateLaws.{IsRightBundle}
-use Rattle.job_semantics.proofs.Certificates.{written_certifies}
+use Rattle.job_semantics.proofs.Certificates.{net_read, written_certifies}
 use Rattle.job_semantics.proofs.SmallNets.{literals_at_most}
-use Rattle.job_semantics.specs.Synthesis.{Simplified, IsSimplifiedFrom, IsRefutedBy, synth_bundle}
+use Rattle.job_semantics.specs.Shrinking.{IsSpentMove, IsShownEnd, IsShrinking}
+use Rattle.job_semantics.specs.Synthesis.{Simplified, shrinking_of, IsSimplifiedFrom, IsRefutedBy, synth_bundle}
 use Rattle.joint_net.specs.Metric.{meaning}
+use Rattle.worst_case.specs.declared.exceed.Spent as spent
 use Rattle.bundle.specs.declared.bundle.Bundle.{Bundle}
 use Rattle.bundle.specs.Value.{FitsReport, bundle_value}
-use Rattle.salsa_cli.specs.Prepared.{IsPrepared}
+use Rattle.salsa_cli.specs.Status.{told_query}
+use Rattle.salsa_cli.specs.Prepared.{IsReady}
 
-widths_of : (n : ℕ) (numbers : List ℕ) → AllByRecursion (λ x. length x ≡ n) (map (bits_of n) numbers)
-widths_of n [] = tt
-widths_of n (j ∷ numbers) = (length-bits_of n j, widths_of n numbers)
+-- one vector more breaks no fewer moves
+minimal-with : (metric : Metric) (exact : NetValue) (bound : ℕ) (N : NetValue) (x : List Bool) (vectors : List (List Bool)) (moves : List Move)
+    → AreBrokenBySome metric exact bound N vectors moves → AreBrokenBySome metric exact bound N (x ∷ vectors) moves
+minimal-with metric exact bound N x vectors [] broken = tt
+minimal-with metric exact bound N x vectors (m ∷ moves) broken =
+    ((broken.0.0, Contains-later x vectors broken.0.0 broken.0.1, broken.0.2), minimal-with metric exact bound N x vectors moves broken.1)
 
--- each vector has a bit for each input
-vector_widths : (n : ℕ) → AllByRecursion (λ x. length x ≡ n) (all_vectors n)
-unfolding all_vectors
-vector_widths n = widths_of n (range_with_len 0 (2 ^ n))
+-- where no query was spent, the net is shown to be the end
+shown_end : {metric : Metric} {exact : NetValue} {bound limit : ℕ} (N : NetValue) (pool : List (List Bool)) (spent : Option SpentValue) → IsTrue (is_none spent)
+    → MatchOption spent (IsShownEnd metric exact bound N pool) (IsSpentMove metric exact bound limit N pool) → IsShownEnd metric exact bound N pool
+shown_end N pool None yes h = h
+shown_end N pool (Some q) yes h = cc
 
 -- what the parts of a bundle are
-pub record AreParts (exact : NetValue) (bound : ℕ) (s : Simplified) (goal : Formula) : Type 0 where
+pub record AreParts (exact : NetValue) (metric : Metric) (bound limit : ℕ) (s : Simplified) (log : List LogItem) (goal : Formula) : Type 0 where
   pub exact_sound : IsSound exact
   pub exact_small : IsSmall exact
   pub approx_sound : IsSound s.net
-  pub approx_small : IsSmall s.net
-  pub ports : HasSamePorts exact s.net
+  pub search : IsShrinking metric exact bound limit (shrinking_of s)
+  pub most : IsMaximum metric exact s.net s.maximum s.witness log
   pub few_bits : bound < 2 ^ 84
+  pub goal_is : goal ≡ miter exact s.net metric s.maximum
   pub variables : goal.variables < 2 ^ 31
 
-right_bundle : {exact : NetValue} {metric : Metric} {bound : ℕ} {s : Simplified} (b : Bundle) → AreParts exact bound s b.goal → IsSimplifiedFrom exact metric bound s
-    → IsRefutedBy (miter exact s.net metric s.maximum) b.log → b.goal ≡ miter exact s.net metric s.maximum
-    → IsRightBundle (synth_bundle exact metric bound s b.log)
-right_bundle {exact = exact} b parts simple refuted goal = record {
-  exact_sound = parts.exact_sound;
-  exact_small = parts.exact_small;
-  approx_sound = parts.approx_sound;
-  approx_small = parts.approx_small;
-  ports = parts.ports;
-  bound = parts.few_bits;
-  within = simple.within;
-  width = simple.first.width;
-  attained = simple.attained;
-  pool = vector_widths (input_count exact);
-  goal = refl;
-  variables = subst (λ f. f.variables < 2 ^ 31) goal parts.variables;
-  refutes = refuted.refutes;
-  derivation = refuted.derivation;
-  tables = simple.tables;
-  literals = simple.literals;
-  minimal = refl;
-}
+module _ {exact : NetValue} {metric : Metric} {bound limit : ℕ} {s : Simplified} {log : List LogItem} {goal : Formula} (parts : AreParts exact metric bound limit s log goal) where
+  member : IsSimplifiedNet metric exact bound s.net
+  member = simplified metric exact bound parts.exact_sound s.net parts.search.member
+
+  within : s.maximum ≤ bound
+  within = subst (λ k. k ≤ bound) parts.most.attained (member.within s.witness parts.most.width)
+
+  pub right : IsSimplifiedFrom exact metric bound limit s log
+  right = record { search = parts.search; most = parts.most; within = within; tables = member.no_growth.tables; literals = member.no_growth.literals }
+
+  pub refuted : IsRefutedBy (miter exact s.net metric s.maximum) log
+  refuted = record {
+    refutes = parts.most.never.refutes;
+    derivation = parts.most.never.derivation;
+    unsatisfiable = refutes_sound (miter exact s.net metric s.maximum).clauses log parts.most.never.refutes;
+  }
+
+  right_bundle : IsRightBundle (synth_bundle exact metric bound s log)
+  right_bundle = record {
+    exact_sound = parts.exact_sound;
+    exact_small = parts.exact_small;
+    approx_sound = parts.approx_sound;
+    approx_small = simplified-small metric exact bound parts.exact_sound s.net parts.exact_small parts.search.member;
+    ports = member.ports;
+    bound = parts.few_bits;
+    within = within;
+    width = parts.most.width;
+    attained = parts.most.attained;
+    pool = parts.search.widths;
+    goal = refl;
+    variables = subst (λ f. f.variables < 2 ^ 31) parts.goal_is parts.variables;
+    refutes = parts.most.never.refutes;
+    derivation = parts.most.never.derivation;
+    tables = member.no_growth.tables;
+    literals = member.no_growth.literals;
+    minimal = λ yes.
+        minimal-with metric exact bound s.net s.witness s.pool (moves_of s.net)
+        (shown_end {limit = limit} s.net s.pool s.spent yes parts.search.outcome).minimal;
+  }
+
+  FitsReport-from : (b : Bundle) → b.exact ≡ exact → b.approx ≡ s.net → b.witness ≡ s.witness → FitsReport b
+  FitsReport-from b is_exact is_approx is_witness =
+      let most = literals_at_most exact parts.exact_small parts.exact_sound.tables_formed in
+      record {
+        witness = omega (arith, ap length is_witness, parts.most.width, parts.exact_small.inputs);
+        exact = omega (arith, ap literal_count is_exact, most);
+        approx = omega (arith, ap literal_count is_approx, member.no_growth.literals, most);
+      }
+
+  pub ready : (b : Bundle) (spent : Option spent.Spent) → b.exact ≡ exact → b.approx ≡ s.net → b.witness ≡ s.witness → b.log ≡ log → told_query spent ≡ s.spent
+      → bundle_value b ≡ synth_bundle exact metric bound s b.log → IsReady exact metric bound limit b spent
+  ready b spent is_exact is_approx is_witness same_log is_spent is =
+      let whole : bundle_value b ≡ synth_bundle exact metric bound s log = is ∙ ap (λ l. synth_bundle exact metric bound s l) same_log in
+      record {
+        result = s;
+        right = subst (IsSimplifiedFrom exact metric bound limit s) (sym same_log) right;
+        is_spent = is_spent;
+        refuted = subst (IsRefutedBy (miter exact s.net metric s.maximum)) (sym same_log) refuted;
+        is = is;
+        fits = FitsReport-from b is_exact is_approx is_witness;
+        netlist = subst (λ v. IsNetlist (bundle_text v) s.net) (sym whole) (net_read (synth_bundle exact metric bound s log) right_bundle);
+        certificate = subst (λ v. Certifies exact metric bound (bundle_text v)) (sym whole) (written_certifies (synth_bundle exact metric bound s log) right_bundle);
+      }
 
 -- a bundle whose parts are known by other terms
 pub bundle_is : {exact : NetValue} {metric : Metric} {bound : ℕ} {s : Simplified} (b : Bundle) → b.exact ≡ exact → b.approx ≡ s.net → meaning b.metric ≡ metric → b.bound ≡ bound
-    → b.maximum ≡ s.maximum → b.witness ≡ s.witness → b.pool.vectors ≡ all_vectors (input_count exact) → b.minimal ≡ false → b.goal ≡ miter exact s.net metric s.maximum
+    → b.maximum ≡ s.maximum → b.witness ≡ s.witness → b.pool.vectors ≡ s.pool → b.minimal ≡ is_none s.spent → b.goal ≡ miter exact s.net metric s.maximum
     → bundle_value b ≡ synth_bundle exact metric bound s b.log
 bundle_is b exact approx metric bound maximum witness pool minimal goal = λ i. record {
   exact = exact i;
@@ -75,27 +132,4 @@ bundle_is b exact approx metric bound maximum witness pool minimal goal = λ i. 
   minimal = minimal i;
   goal = goal i;
   log = b.log;
-}
-
-pub FitsReport-from : {exact : NetValue} {metric : Metric} {bound : ℕ} {s : Simplified} (b : Bundle) → IsSound exact → IsSmall exact → input_count exact ≤ 8 → IsSimplifiedFrom exact metric bound s
-    → b.exact ≡ exact → b.approx ≡ s.net → b.witness ≡ s.witness → FitsReport b
-FitsReport-from {exact = exact} b sound small few simple is_exact is_approx is_witness =
-    let most = literals_at_most exact small sound.tables_formed in
-    record {
-      witness = omega (arith, ap length is_witness, simple.first.width, few);
-      exact = omega (arith, ap literal_count is_exact, most);
-      approx = omega (arith, ap literal_count is_approx, simple.literals, most);
-    }
-
-pub IsPrepared-from : {exact : NetValue} {metric : Metric} {bound : ℕ} {s : Simplified} (b : Bundle) → AreParts exact bound s b.goal → IsSimplifiedFrom exact metric bound s
-    → IsRefutedBy (miter exact s.net metric s.maximum) b.log → b.goal ≡ miter exact s.net metric s.maximum
-    → bundle_value b ≡ synth_bundle exact metric bound s b.log → FitsReport b
-    → IsPrepared exact metric bound b
-IsPrepared-from {exact} {metric} {bound} {s} b parts simple refuted goal is fits = record {
-  result = s;
-  simplified = simple;
-  refuted = refuted;
-  is = is;
-  fits = fits;
-  certificate = subst (λ v. Certifies exact metric bound (bundle_text v)) (sym is) (written_certifies (synth_bundle exact metric bound s b.log) (right_bundle b parts simple refuted goal));
 }

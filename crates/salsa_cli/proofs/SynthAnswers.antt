@@ -1,128 +1,115 @@
--- What a synth job comes to, from what its steps say.
-use Rattle.std.proofs.Common.{◌≡◌, ◌≢◌, ◌≤◌, ℕ, true, false, [], inl, inr, refl, ap, sym, subst, ◌∙◌}
-use Rattle.std.specs.Prelude.{unwrap_or}
+-- What a synth job comes to, from the reading of IN and what is made of its net.
+use Rattle.std.proofs.Common.{◌≡◌, ◌≢◌, ℕ, true, false, Option, Some, None, [], inl, inr, refl, ap, sym, subst, ◌∙◌}
 use Rattle.semantics.specs.Texts.{Bytes}
 use Rattle.semantics.specs.Net.{NetValue, input_count}
 use Rattle.semantics.specs.Error.{Metric}
-use Rattle.outside_semantics.specs.Outside.{Held, FilesTold, SinkTold, Goes, Took, TakeFailed, bytes_of}
+use Rattle.outside_semantics.specs.Outside.{FilesTold, SinkTold, Goes, bytes_of}
+use Rattle.outside_semantics.specs.WrittenFiles.{FilesWritten}
 use Rattle.blif_semantics.specs.Reading.{input_limit, blif_reading}
-use Rattle.outside_semantics.specs.WrittenFiles.{with_files, FilesWritten, FilesCutShort}
-use Rattle.job_semantics.specs.declared.ending.Ending.{Ending}
-use Rattle.job_semantics.specs.declared.ending.Ending.TheVariants as file
-use Rattle.job_semantics.specs.Endings.{bundle_files, are_bundle_names_steady}
-use Rattle.job_semantics.specs.Bundle.{bundle_text}
-use Rattle.job_semantics.specs.Certificate.{Texts, texts_of, OfBundle, Certifies}
-use Rattle.job_semantics.proofs.BundleFiles.{bundle_files-holds}
-use Rattle.job_semantics.specs.Synthesis.{WhereHeld, most_inputs, IsSimplifiedInput, SynthDone, SynthReadFault, SynthWriteFault, CountsAsAccepted, IsQuietSynth}
+use Rattle.file_core.proofs.Told.{held_before}
+use Rattle.file_reading.specs.Reading.{FilesStay}
+use Rattle.proof_semantics.specs.Conflicts.{IsEnough}
+use Rattle.proof_semantics.specs.Queries.{SpentValue}
+use Rattle.job_semantics.specs.Certificate.{Texts, OfBundle}
+use Rattle.job_semantics.specs.Synthesis.{WhereHeld, OfInput, IsUntouched, BundleWritten, BundleCutShort, SynthDone, SynthReadFault, SynthWriteFault, CountsAsAccepted, IsQuietSynth}
 use Rattle.job_semantics.specs.Input.{IsReadAs}
-use Rattle.bundle.specs.declared.bundle.Bundle.{Bundle}
-use Rattle.bundle.specs.Value.{bundle_value, files_of, report_of_bundle}
 use Rattle.bundle.proofs.FilesInOrder.{FilesWritten-then, FilesCutShort-after}
 use Rattle.salsa_cli.specs.declared.status.Status.{Status}
-use Rattle.salsa_cli.specs.declared.status.Status.TheVariants.{Done, Verified, Refuted, Usage, Text, NotYet, NoMemory, ReadFault, WriteFault, Endless}
+use Rattle.salsa_cli.specs.declared.status.Status.TheVariants.{Done, Verified, Refuted, Usage, Text, NoMemory, Budget, ReadFault, WriteFault, Endless}
 use Rattle.salsa_cli.specs.Input.{NetRead}
-use Rattle.salsa_cli.specs.Prepared.{IsPrepared}
-use Rattle.salsa_cli.specs.Run.{SynthAnswer, IsAnswerTo, EndsWell}
+use Rattle.salsa_cli.specs.Run.{SynthAnswerAt, BundleAnswerAt, IsAnswerTo, EndsWell}
 use Rattle.salsa_cli.proofs.InputReadings.{OfInput-later}
+use Rattle.salsa_cli.proofs.BundleAnswers.{enough_spends_nothing, not_quiet_cut}
 
 -- nothing was written while IN was read
 none_written : {old mid : FilesTold} {input : Bytes} {N : NetValue} → NetRead old mid input N → FilesWritten old mid []
 none_written was = record { goes = was.stay.goes; held = was.stay.stays }
 
-simplified_input : {metric : Metric} {bound : ℕ} {input : Bytes} {old mid new : FilesTold} {N : NetValue} {b : Bundle} (goes : Goes mid new) → NetRead old mid input N
-    → input_count N ≤ most_inputs → (ready : IsPrepared N metric bound b) → IsSimplifiedInput metric bound input old new N ready.result
-simplified_input {N = N} goes was few ready = record {
-  read = OfInput-later (λ text. IsReadAs text N) goes was.read;
-  few_inputs = few;
-  simplified = ready.simplified;
+untouched : {old mid : FilesTold} {input : Bytes} {N : NetValue} {said : SinkTold} → NetRead old mid input N → (new : FilesTold) (says : SinkTold) → new ≡ mid → says ≡ said
+    → IsUntouched input old new said says
+untouched {old} {mid} {input} {N} {said} was new says same quiet =
+    subst (λ n. IsUntouched input old n said says) (sym same) (record {
+      goes = was.stay.goes;
+      files = was.stay.stays;
+      still_told = was.stay.still_told;
+      sink = quiet;
+    })
+
+read_later : {old mid new : FilesTold} {input : Bytes} {N : NetValue} → NetRead old mid input N → Goes mid new → OfInput old new input (λ text. IsReadAs text N)
+read_later {N = N} was goes = OfInput-later (λ text. IsReadAs text N) goes was.read
+
+-- what is said of the bundle's texts from the reading of IN on
+since : (stem : Bytes) {old mid new : FilesTold} (P : Texts → Type 0) → Goes mid new → OfBundle mid new stem P → OfBundle old new stem P
+since stem {old} {mid} {new} P goes h = λ a b told tells. let m = held_before mid new goes b tells in h m.0 b m.1 tells
+
+written_since : {metric : Metric} {bound limit : ℕ} {input stem : Bytes} {old mid new : FilesTold} {said says : SinkTold} {N : NetValue} {spent : Option SpentValue}
+    → NetRead old mid input N → BundleWritten metric bound limit N stem spent mid new said says → BundleWritten metric bound limit N stem spent old new said says
+written_since {stem = stem} read w = record {
+  result = w.result;
+  log = w.log;
+  right = w.right;
+  is_spent = w.is_spent;
+  refuted = w.refuted;
+  files = FilesWritten-then (none_written read) w.files;
+  report = w.report;
+  netlist = since stem _ w.files.goes w.netlist;
+  certificate = since stem _ w.files.goes w.certificate;
 }
 
--- the texts of a bundle's files, once they were written
-text_is : (held : Held) (stem : Bytes) (text : Texts) (ending : Ending) → texts_of (with_files held (bundle_files stem text)) stem ending ≡ text ending
-text_is held stem text file.Netlist = ap (λ found. unwrap_or found []) (bundle_files-holds held stem text).0
-text_is held stem text file.Formula = ap (λ found. unwrap_or found []) (bundle_files-holds held stem text).1.0
-text_is held stem text file.Log = ap (λ found. unwrap_or found []) (bundle_files-holds held stem text).1.1.0
-text_is held stem text file.Vectors = ap (λ found. unwrap_or found []) (bundle_files-holds held stem text).1.1.1.0
-text_is held stem text file.Report = ap (λ found. unwrap_or found []) (bundle_files-holds held stem text).1.1.1.1.0
-
-texts_are : (held : Held) (stem : Bytes) (text : Texts) → texts_of (with_files held (bundle_files stem text)) stem ≡ text
-texts_are held stem text = λ i ending. text_is held stem text ending i
-
-certificate_written : {exact : NetValue} {metric : Metric} {bound : ℕ} (stem : Bytes) {old new : FilesTold} {b : Bundle} → IsPrepared exact metric bound b
-    → FilesWritten old new (files_of stem b) → OfBundle old new stem (Certifies exact metric bound)
-certificate_written {exact} {metric} {bound} stem {old} {new} {b} ready written =
-    λ a held told tells.
-    let texts = ap (λ h. texts_of h stem) (written.held a held told tells) ∙ texts_are a stem (bundle_text (bundle_value b)) in
-    subst (Certifies exact metric bound) (sym texts) ready.certificate
-
-pub SynthDone-from : {metric : Metric} {bound : ℕ} {input stem names : Bytes} {old mid new : FilesTold} {said says : SinkTold} {N : NetValue} {b : Bundle}
-    → names ≡ stem → NetRead old mid input N → input_count N ≤ most_inputs → IsPrepared N metric bound b → FilesWritten mid new (files_of names b) → Took said says (report_of_bundle b)
-    → SynthDone metric bound input stem old new said says
-SynthDone-from {metric} {bound} {input} {stem} {names} {old} {mid} {new} {said} {says} {N} {b} same read few ready written put =
-    let all = subst (λ s. FilesWritten old new (files_of s b)) same (FilesWritten-then (none_written read) written) in
-    record {
-      exact = N;
-      result = ready.result;
-      log = b.log;
-      right = simplified_input written.goes read few ready;
-      refuted = ready.refuted;
-      files = subst (λ v. FilesWritten old new (bundle_files stem (bundle_text v))) ready.is all;
-      report = subst (λ v. Took said says (bundle_text v file.Report)) ready.is put;
-      certificate = certificate_written stem ready all;
-    }
-
--- a file could not be written whole
-pub SynthWriteFault-cut : {metric : Metric} {bound : ℕ} {input stem names : Bytes} {old mid new : FilesTold} {said : SinkTold} {N : NetValue} {b : Bundle}
-    → names ≡ stem → NetRead old mid input N → input_count N ≤ most_inputs → IsPrepared N metric bound b → FilesCutShort mid new (files_of names b)
-    → SynthWriteFault metric bound input stem old new said said
-SynthWriteFault-cut {metric} {bound} {input} {stem} {names} {old} {mid} {new} {said} {N} {b} same read few ready short = record {
-  exact = N;
-  result = ready.result;
-  log = b.log;
-  right = simplified_input short.goes read few ready;
-  refuted = ready.refuted;
-  left =
-      let cut = subst (λ s. FilesCutShort old new (files_of s b)) same (FilesCutShort-after (none_written read) short) in
-      inl (subst (λ v. FilesCutShort old new (bundle_files stem (bundle_text v))) ready.is cut, refl);
+cut_since : {metric : Metric} {bound limit : ℕ} {input stem : Bytes} {old mid new : FilesTold} {said says : SinkTold} {N : NetValue}
+    → NetRead old mid input N → BundleCutShort metric bound limit N stem mid new said says → BundleCutShort metric bound limit N stem old new said says
+cut_since read c = record {
+  result = c.result;
+  log = c.log;
+  right = c.right;
+  refuted = c.refuted;
+  left = elim c.left [
+    | inl cut ↦ inl (FilesCutShort-after (none_written read) cut.0, cut.1)
+    | inr put ↦ inr (FilesWritten-then (none_written read) put.0, put.1)
+  ];
 }
 
--- the files are whole, and the report was not put whole
-pub SynthWriteFault-put : {metric : Metric} {bound : ℕ} {input stem names : Bytes} {old mid new : FilesTold} {said says : SinkTold} {N : NetValue} {b : Bundle}
-    → names ≡ stem → NetRead old mid input N → input_count N ≤ most_inputs → IsPrepared N metric bound b → FilesWritten mid new (files_of names b)
-    → TakeFailed said says (report_of_bundle b)
-    → SynthWriteFault metric bound input stem old new said says
-SynthWriteFault-put {metric} {bound} {input} {stem} {names} {old} {mid} {new} {said} {says} {N} {b} same read few ready written failed = record {
-  exact = N;
-  result = ready.result;
-  log = b.log;
-  right = simplified_input written.goes read few ready;
-  refuted = ready.refuted;
-  left =
-      let all = subst (λ s. FilesWritten old new (files_of s b)) same (FilesWritten-then (none_written read) written) in
-      inr (
-        subst (λ v. FilesWritten old new (bundle_files stem (bundle_text v))) ready.is all,
-        subst (λ v. TakeFailed said says (bundle_text v file.Report)) ready.is failed,
-      );
-}
+goes_cut : {metric : Metric} {bound limit : ℕ} {stem : Bytes} {mid new : FilesTold} {said says : SinkTold} {N : NetValue} → BundleCutShort metric bound limit N stem mid new said says → Goes mid new
+goes_cut c = elim c.left [ | inl cut ↦ cut.0.goes | inr put ↦ put.0.goes ]
+
+pub SynthAnswer-from : (metric : Metric) (bound limit : ℕ) (input stem : Bytes) (old mid new : FilesTold) (said says : SinkTold) (N : NetValue) (spent level : Option SpentValue) (status : Status)
+    → NetRead old mid input N → BundleAnswerAt metric bound limit N stem mid new said says spent level status
+    → SynthAnswerAt metric bound limit input stem old new said says spent level status
+SynthAnswer-from metric bound limit input stem old mid new said says N spent level Done read answer =
+    (record { exact = N; read = read_later read answer.0.files.goes; written = written_since read answer.0 }, answer.1)
+SynthAnswer-from metric bound limit input stem old mid new said says N spent level Budget read answer =
+    (
+      answer.2.0,
+      answer.2.1,
+      record {
+        untouched = untouched read new says answer.0 answer.1;
+        exact = N;
+        read = subst (λ n. OfInput old n input (λ text. IsReadAs text N)) (sym answer.0) read.read;
+        search = answer.2.2;
+      },
+    )
+SynthAnswer-from metric bound limit input stem old mid new said says N spent level NoMemory read answer = (untouched read new says answer.0 answer.1, answer.2)
+SynthAnswer-from metric bound limit input stem old mid new said says N spent level WriteFault read answer =
+    (record { exact = N; read = read_later read (goes_cut answer.0); left = cut_since read answer.0 }, answer.1)
+SynthAnswer-from metric bound limit input stem old mid new said says N spent level Verified read answer = answer
+SynthAnswer-from metric bound limit input stem old mid new said says N spent level (Refuted number) read answer = answer
+SynthAnswer-from metric bound limit input stem old mid new said says N spent level Usage read answer = answer
+SynthAnswer-from metric bound limit input stem old mid new said says N spent level (Text reason) read answer = absurd answer
+SynthAnswer-from metric bound limit input stem old mid new said says N spent level ReadFault read answer = absurd answer
+SynthAnswer-from metric bound limit input stem old mid new said says N spent level Endless read answer = answer
 
 -- what could not be written is read as some net
-accepted_at_fault : {metric : Metric} {bound : ℕ} {input stem : Bytes} {old new : FilesTold} {said says : SinkTold}
-    → SynthWriteFault metric bound input stem old new said says → CountsAsAccepted old new input
-accepted_at_fault fault = λ a b told tells. (fault.exact, fault.right.read.told a b told tells)
+accepted_at_fault : {metric : Metric} {bound limit : ℕ} {input stem : Bytes} {old new : FilesTold} {said says : SinkTold}
+    → SynthWriteFault metric bound limit input stem old new said says → CountsAsAccepted old new input
+accepted_at_fault fault = λ a b told tells. (fault.exact, fault.read.told a b told tells)
 
 -- a call with a fault in writing is not quiet
-not_quiet : {metric : Metric} {bound : ℕ} {input stem : Bytes} {old new : FilesTold} {said says : SinkTold}
-    → SynthWriteFault metric bound input stem old new said says → IsQuietSynth input stem old new said says → ⊥
-not_quiet {metric} {bound} {input} {stem} {old} {new} fault quiet =
-    elim fault.left [
-      | inl cut ↦ elim quiet.files [
-        | inl calm ↦ calm cut.0.rose
-        | inr steady ↦
-            let yes : are_bundle_names_steady old stem ≡ true = steady.written (accepted_at_fault fault) in
-            let no : are_bundle_names_steady old stem ≡ false = cut.0.not_steady in
-            cc
-      ]
-      | inr put ↦ quiet.sink put.1.rose
+not_quiet : {metric : Metric} {bound limit : ℕ} {input stem : Bytes} {old new : FilesTold} {said says : SinkTold}
+    → SynthWriteFault metric bound limit input stem old new said says → IsQuietSynth input stem old new said says → ⊥
+not_quiet {metric} {bound} {limit} {input} {stem} {old} {new} fault quiet =
+    elim quiet.files [
+      | inl calm ↦ not_quiet_cut fault.left (inl calm) quiet.sink
+      | inr steady ↦ not_quiet_cut fault.left (inr (steady.written (accepted_at_fault fault))) quiet.sink
     ]
 
 -- nor is one with a fault in reading
@@ -134,25 +121,28 @@ not_quiet_read {input} {stem} {old} fault quiet =
       | inr steady ↦ let yes : old.steady_read input ≡ true = steady.read in let no : old.steady_read input ≡ false = fault.not_steady in cc
     ]
 
--- an answer without a fault is the one that the reading of IN asks for
-answers_reading : (metric : Metric) (bound : ℕ) (input stem : Bytes) (old new : FilesTold) (said says : SinkTold) (status : Status)
-    → SynthAnswer metric bound input stem old new said says status → status ≢ ReadFault → status ≢ WriteFault
-    → WhereHeld old input (λ a. IsAnswerTo (blif_reading (bytes_of a input) input_limit) status)
-answers_reading metric bound input stem old new said says Done answer read written = λ a told has. (answer.exact, answer.right.read.at_entry a told has, answer.right.few_inputs)
-answers_reading metric bound input stem old new said says Verified answer read written = absurd answer
-answers_reading metric bound input stem old new said says (Refuted number) answer read written = absurd answer
-answers_reading metric bound input stem old new said says Endless answer read written = absurd answer
-answers_reading metric bound input stem old new said says Usage answer read written = absurd answer
-answers_reading metric bound input stem old new said says (Text reason) answer read written = λ a told has. (answer.0, answer.2.refused.at_entry a told has, answer.1)
-answers_reading metric bound input stem old new said says NotYet answer read written = λ a told has. (answer.exact, answer.read.at_entry a told has, answer.many_inputs)
-answers_reading metric bound input stem old new said says NoMemory answer read written = λ a told has. tt
-answers_reading metric bound input stem old new said says ReadFault answer read written = absurd (read refl)
-answers_reading metric bound input stem old new said says WriteFault answer read written = absurd (written refl)
+-- an answer without a fault is the one that the reading of IN and the conflicts ask for
+answers_reading : (metric : Metric) (bound limit : ℕ) (input stem : Bytes) (old new : FilesTold) (said says : SinkTold) (spent level : Option SpentValue) (status : Status)
+    → SynthAnswerAt metric bound limit input stem old new said says spent level status → status ≢ ReadFault → status ≢ WriteFault
+    → WhereHeld old input (λ a. IsAnswerTo limit spent (blif_reading (bytes_of a input) input_limit) status)
+answers_reading metric bound limit input stem old new said says spent level Done answer read written =
+    λ a told has. (answer.0.exact, answer.0.read.at_entry a told has, enough_spends_nothing answer.0.written)
+answers_reading metric bound limit input stem old new said says spent level Budget answer read written =
+    λ a told has. (answer.2.exact, answer.2.read.at_entry a told has, answer.2.search.query.query.not_enough)
+answers_reading metric bound limit input stem old new said says spent level (Text reason) answer read written =
+    λ a told has. (answer.0.0, answer.0.2.refused.at_entry a told has, answer.0.1)
+answers_reading metric bound limit input stem old new said says spent level NoMemory answer read written = λ a told has. tt
+answers_reading metric bound limit input stem old new said says spent level ReadFault answer read written = absurd (read refl)
+answers_reading metric bound limit input stem old new said says spent level WriteFault answer read written = absurd (written refl)
+answers_reading metric bound limit input stem old new said says spent level Verified answer read written = absurd answer
+answers_reading metric bound limit input stem old new said says spent level (Refuted number) answer read written = absurd answer
+answers_reading metric bound limit input stem old new said says spent level Usage answer read written = absurd answer
+answers_reading metric bound limit input stem old new said says spent level Endless answer read written = absurd answer
 
--- a quiet call has no fault, and is answered as the reading of IN asks
-pub quiet_ends : (metric : Metric) (bound : ℕ) (input stem : Bytes) (old new : FilesTold) (said says : SinkTold) (status : Status)
-    → SynthAnswer metric bound input stem old new said says status → IsQuietSynth input stem old new said says → EndsWell IsAnswerTo input old status
-quiet_ends metric bound input stem old new said says status answer quiet =
-    let no_read : status ≢ ReadFault = λ is. not_quiet_read (subst (SynthAnswer metric bound input stem old new said says) is answer) quiet in
-    let no_write : status ≢ WriteFault = λ is. not_quiet (subst (SynthAnswer metric bound input stem old new said says) is answer) quiet in
-    record { read = no_read; written = no_write; answers = answers_reading metric bound input stem old new said says status answer no_read no_write }
+-- a quiet call has no fault, and is answered as the reading of IN and the conflicts ask
+pub quiet_ends : (metric : Metric) (bound limit : ℕ) (input stem : Bytes) (old new : FilesTold) (said says : SinkTold) (spent level : Option SpentValue) (status : Status)
+    → SynthAnswerAt metric bound limit input stem old new said says spent level status → IsQuietSynth input stem old new said says → EndsWell (IsAnswerTo limit spent) input old status
+quiet_ends metric bound limit input stem old new said says spent level status answer quiet =
+    let no_read : status ≢ ReadFault = λ is. not_quiet_read (subst (SynthAnswerAt metric bound limit input stem old new said says spent level) is answer).0 quiet in
+    let no_write : status ≢ WriteFault = λ is. not_quiet (subst (SynthAnswerAt metric bound limit input stem old new said says spent level) is answer).0 quiet in
+    record { read = no_read; written = no_write; answers = answers_reading metric bound limit input stem old new said says spent level status answer no_read no_write }

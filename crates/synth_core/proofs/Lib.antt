@@ -1,6 +1,4 @@
-pub mod Constants
 pub mod WordLists
 pub mod FirstGreatest
-pub mod MoveLists
-pub mod Members
 pub mod Shrinkings
+pub mod Simplified

@@ -1,4 +1,3 @@
 pub mod Words
 pub mod Widths
-pub mod Step
 pub mod Shrinking

@@ -4,11 +4,10 @@
 //! member without making the moved net. Only an allowed move is made; then the moved net is tidied, and the moves begin again, since
 //! one that was broken before may be allowed now. The chain ends, since each step removes literals.
 ghost use Rattle.std.specs.Prelude.{◌≡◌, ◌≤◌, length, IfOk, MatchOption};
-ghost use Rattle.std.specs.List.{AllByRecursion};
 ghost use Rattle.semantics.specs.Net.{input_count, IsSmall, HasSamePorts};
 ghost use Rattle.semantics.specs.Vectors.{all_vectors};
-ghost use Rattle.chain_semantics.specs.Moves.{moves_of};
-ghost use Rattle.chain_semantics.specs.Simplification.{IsAllowedMove, IsSimplificationEnd};
+ghost use Rattle.chain_semantics.specs.Minimality.{IsMinimalBy};
+ghost use Rattle.chain_semantics.specs.Simplification.{IsSimplificationEnd};
 ghost use Rattle.joint_net.specs.Metric.{meaning};
 ghost use Rattle.synth_core.specs.Shrinking.{FindsFirstUnbroken, IsNextMember};
 
@@ -59,7 +58,7 @@ fn next_member(
     requires small { IsSmall net.now }
     requires pool { pool.now ≡ record { inputs = input_count exact.now; vectors = all_vectors (input_count exact.now) } }
     ensures { IfOk result (λ next. MatchOption next
-        (AllByRecursion (λ m. ¬ IsAllowedMove (meaning metric) exact.now bound net.now m) (moves_of net.now))
+        (IsMinimalBy (meaning metric) exact.now bound net.now pool.now.vectors)
         (IsNextMember (meaning metric) exact.now bound net.now)) }
 {
     let adc = Adc::new(alloc, exact, net, metric, bound, pool)?;
@@ -75,6 +74,7 @@ pub fn shrink(alloc: Global, net: &Net, metric: Metric, bound: u128) -> Result<S
     requires few_outputs { length net.now.outputs ≤ 64 }
     requires small { IsSmall net.now }
     ensures end { IfOk result (λ s. IsSimplificationEnd (meaning metric) net.now bound s.net) }
+    ensures minimal { IfOk result (λ s. IsMinimalBy (meaning metric) net.now bound s.net s.pool.vectors) }
     ensures pool { IfOk result (λ s. s.pool
         ≡ record { inputs = input_count net.now; vectors = all_vectors (input_count net.now) }) }
 {

@@ -1,0 +1,22 @@
+-- A net has no error against itself.
+use Rattle.std.proofs.Common.{◌≡◌, ℕ, ◌*◌, max, Bool, List, [], ◌∷◌, refl, ap, ◌∙◌, arith}
+use Rattle.std.proofs.Math.Nat.{zero-div, zero-mod}
+use Rattle.semantics.specs.Net.{NetValue}
+use Rattle.semantics.specs.Value.{outputs_of}
+use Rattle.semantics.specs.Error.{Metric, abs, rel, ham, number_of, distance, rounded_up, differing, error_of, net_error, IsWithin}
+
+differing-same : (bits : List Bool) → differing bits bits ≡ 0
+differing-same [] = refl
+differing-same (b ∷ bits) = omega (arith, differing-same bits)
+
+error_of-same : (metric : Metric) (bits : List Bool) → error_of metric bits bits ≡ 0
+error_of-same abs bits = omega arith
+error_of-same rel bits =
+    let k : ℕ = max 1 (number_of bits) in
+    let none : distance (number_of bits) (number_of bits) * 1000000 ≡ 0 = omega arith in
+    ap (λ d. rounded_up d k) none ∙ omega (arith, zero-div k, zero-mod k)
+error_of-same ham bits = differing-same bits
+
+pub IsWithin-same : (metric : Metric) (N : NetValue) (level : ℕ) → IsWithin metric N level N
+unfolding net_error
+IsWithin-same metric N level x width = omega (arith, error_of-same metric (outputs_of N x))
