@@ -1,5 +1,7 @@
 pub mod InputReadings
 pub mod JobWords
+pub mod Preparing
+pub mod BundleAnswers
 pub mod SynthAnswers
 pub mod CheckAnswers
-pub mod Preparing
+pub mod Headlines

@@ -9,7 +9,7 @@ use crate::delivery::finish;
 use crate::preparing::Constraint;
 use crate::status::{Outcome, Status, only};
 use bundle::stem::Stem;
-use demo_adder::demo_net;
+use demo_adder::adder::demo_net;
 use file_core::files::Files;
 use file_core::sink::Sink;
 use joint_net::metric::Metric;
