@@ -1,10 +1,15 @@
 -- What is ready before the first file is touched, from its parts.
-use Rattle.std.proofs.Common.{◌≡◌, ◌^◌, ◌<◌, ◌≤◌, ℕ, false, List, [], ◌∷◌, map, length, refl, ap, sym, subst, arith}
+use Rattle.std.proofs.Common.{◌≡◌, ◌^◌, ◌<◌, ◌≤◌, ℕ, true, List, [], ◌∷◌, map, length, refl, ap, sym, subst, arith}
 use Rattle.std.specs.List.{AllByRecursion, range_with_len}
 use Rattle.semantics.specs.Net.{NetValue, IsSound, IsSmall, HasSamePorts, input_count, literal_count}
 use Rattle.semantics.specs.Error.{Metric}
 use Rattle.semantics.specs.Vectors.{bits_of, all_vectors}
 use Rattle.semantics.proofs.Vectors.{length-bits_of}
+use Rattle.std.specs.Prelude.{Bool}
+use Rattle.chain_semantics.specs.declared.moves.Move.{Move}
+use Rattle.chain_semantics.specs.Moves.{moves_of}
+use Rattle.chain_semantics.specs.Minimality.{AreBrokenBySome, IsMinimalBy}
+use Rattle.chain_semantics.proofs.MoveLists.{Contains-later}
 use Rattle.proof_semantics.specs.Miter.{miter}
 use Rattle.proof_semantics.specs.Formula.{Formula}
 use Rattle.job_semantics.specs.Bundle.{bundle_text}
@@ -28,7 +33,7 @@ unfolding all_vectors
 vector_widths n = widths_of n (range_with_len 0 (2 ^ n))
 
 -- what the parts of a bundle are
-pub record AreParts (exact : NetValue) (bound : ℕ) (s : Simplified) (goal : Formula) : Type 0 where
+pub record AreParts (exact : NetValue) (metric : Metric) (bound : ℕ) (s : Simplified) (goal : Formula) : Type 0 where
   pub exact_sound : IsSound exact
   pub exact_small : IsSmall exact
   pub approx_sound : IsSound s.net
@@ -36,11 +41,19 @@ pub record AreParts (exact : NetValue) (bound : ℕ) (s : Simplified) (goal : Fo
   pub ports : HasSamePorts exact s.net
   pub few_bits : bound < 2 ^ 84
   pub variables : goal.variables < 2 ^ 31
+  pub minimal : IsMinimalBy metric exact bound s.net (all_vectors (input_count exact))
 
-right_bundle : {exact : NetValue} {metric : Metric} {bound : ℕ} {s : Simplified} (b : Bundle) → AreParts exact bound s b.goal → IsSimplifiedFrom exact metric bound s
+-- one vector more breaks no fewer moves
+minimal-with : (metric : Metric) (exact : NetValue) (bound : ℕ) (N : NetValue) (x : List Bool) (vectors : List (List Bool)) (moves : List Move)
+    → AreBrokenBySome metric exact bound N vectors moves → AreBrokenBySome metric exact bound N (x ∷ vectors) moves
+minimal-with metric exact bound N x vectors [] broken = tt
+minimal-with metric exact bound N x vectors (m ∷ moves) broken =
+    ((broken.0.0, Contains-later x vectors broken.0.0 broken.0.1, broken.0.2), minimal-with metric exact bound N x vectors moves broken.1)
+
+right_bundle : {exact : NetValue} {metric : Metric} {bound : ℕ} {s : Simplified} (b : Bundle) → AreParts exact metric bound s b.goal → IsSimplifiedFrom exact metric bound s
     → IsRefutedBy (miter exact s.net metric s.maximum) b.log → b.goal ≡ miter exact s.net metric s.maximum
     → IsRightBundle (synth_bundle exact metric bound s b.log)
-right_bundle {exact = exact} b parts simple refuted goal = record {
+right_bundle {exact} {metric} {bound} {s} b parts simple refuted goal = record {
   exact_sound = parts.exact_sound;
   exact_small = parts.exact_small;
   approx_sound = parts.approx_sound;
@@ -57,12 +70,12 @@ right_bundle {exact = exact} b parts simple refuted goal = record {
   derivation = refuted.derivation;
   tables = simple.tables;
   literals = simple.literals;
-  minimal = refl;
+  minimal = λ yes. minimal-with metric exact bound s.net s.witness (all_vectors (input_count exact)) (moves_of s.net) parts.minimal;
 }
 
 -- a bundle whose parts are known by other terms
 pub bundle_is : {exact : NetValue} {metric : Metric} {bound : ℕ} {s : Simplified} (b : Bundle) → b.exact ≡ exact → b.approx ≡ s.net → meaning b.metric ≡ metric → b.bound ≡ bound
-    → b.maximum ≡ s.maximum → b.witness ≡ s.witness → b.pool.vectors ≡ all_vectors (input_count exact) → b.minimal ≡ false → b.goal ≡ miter exact s.net metric s.maximum
+    → b.maximum ≡ s.maximum → b.witness ≡ s.witness → b.pool.vectors ≡ all_vectors (input_count exact) → b.minimal ≡ true → b.goal ≡ miter exact s.net metric s.maximum
     → bundle_value b ≡ synth_bundle exact metric bound s b.log
 bundle_is b exact approx metric bound maximum witness pool minimal goal = λ i. record {
   exact = exact i;
@@ -87,7 +100,7 @@ FitsReport-from {exact = exact} b sound small few simple is_exact is_approx is_w
       approx = omega (arith, ap literal_count is_approx, simple.literals, most);
     }
 
-pub IsPrepared-from : {exact : NetValue} {metric : Metric} {bound : ℕ} {s : Simplified} (b : Bundle) → AreParts exact bound s b.goal → IsSimplifiedFrom exact metric bound s
+pub IsPrepared-from : {exact : NetValue} {metric : Metric} {bound : ℕ} {s : Simplified} (b : Bundle) → AreParts exact metric bound s b.goal → IsSimplifiedFrom exact metric bound s
     → IsRefutedBy (miter exact s.net metric s.maximum) b.log → b.goal ≡ miter exact s.net metric s.maximum
     → bundle_value b ≡ synth_bundle exact metric bound s b.log → FitsReport b
     → IsPrepared exact metric bound b

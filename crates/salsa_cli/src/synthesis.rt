@@ -14,7 +14,6 @@ use bundle::writing::{put_report, write_bundle};
 use file_core::files::Files;
 use file_core::sink::Sink;
 use joint_net::metric::Metric;
-use lane_bits::patterns::Patterns;
 use net_core::net::Net;
 use std::alloc::{AllocError, Global};
 use synth_core::simplify::simplify;
@@ -30,7 +29,6 @@ pub fn prepare(alloc: Global, exact: Net, metric: Metric, bound: u128) -> Result
     let simple = simplify(alloc, &exact, metric, bound)?;
     see_sound(&simple.net);
     let miter = refuted_miter(alloc, &exact, &simple.net, metric, simple.maximum)?;
-    let pool = Patterns::exhaustive(alloc, exact.inputs())?;
     Ok(Bundle {
         exact,
         approx: simple.net,
@@ -38,8 +36,8 @@ pub fn prepare(alloc: Global, exact: Net, metric: Metric, bound: u128) -> Result
         bound,
         maximum: simple.maximum,
         witness: simple.witness,
-        pool,
-        minimal: false,
+        pool: simple.pool,
+        minimal: true,
         goal: miter.formula,
         log: miter.log,
     })
