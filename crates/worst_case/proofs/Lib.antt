@@ -1,2 +1,4 @@
 pub mod Vectors
 pub mod Queries
+pub mod FirstGreatest
+pub mod Ranges
