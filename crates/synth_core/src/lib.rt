@@ -10,5 +10,7 @@ pub mod outputs;
 mod scratch;
 pub mod shrink;
 pub mod simplify;
+mod step;
+mod trial;
 mod vectors;
 pub mod worst;
