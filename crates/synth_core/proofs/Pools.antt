@@ -1,5 +1,5 @@
 -- The pool at the start, and as it grows by vectors that are new to it.
-use Rattle.std.proofs.Common.{◌≡◌, ℕ, ◌^◌, ◌<◌, ◌≤◌, Bool, List, [], ◌∷◌, ◌++◌, length, get_or, sym, ap, ◌∙◌, subst, inl, inr, arith}
+use Rattle.std.proofs.Common.{◌≡◌, ℕ, ◌^◌, ◌<◌, Bool, List, [], ◌∷◌, ◌++◌, length, get_or, sym, ap, ◌∙◌, subst, inl, inr, arith}
 use Rattle.std.specs.List.{AllByRecursion, Contains}
 use Rattle.std.proofs.lemmas.Bool.{cases_lt}
 use Rattle.std.proofs.lemmas.List.{get_or_append_left, length_push}
@@ -57,16 +57,6 @@ IsPool-all exact s n is count =
       widths = subst (AllByRecursion (λ x. length x ≡ input_count exact)) (sym vectors) (all_vectors-wide (input_count exact));
       apart = subst AreApart (sym vectors) (all_vectors-apart (input_count exact));
       counting = λ few. vectors;
-    }
-
-pub IsPool-none : (exact : NetValue) (s : PatternSet) (n : ℕ) → s ≡ record { inputs = n; vectors = [] } → n ≡ input_count exact → 8 < n → IsPool exact s
-IsPool-none exact s n is count many =
-    let none : s.vectors ≡ [] = ap (λ t. t.vectors) is in
-    record {
-      inputs = ap (λ t. t.inputs) is ∙ count;
-      widths = subst (AllByRecursion (λ x. length x ≡ input_count exact)) (sym none) tt;
-      apart = subst AreApart (sym none) (λ i j before within. absurd (omega arith));
-      counting = λ few. absurd (omega (arith, many, count, few));
     }
 
 pub IsPool-more : (exact : NetValue) (s t : PatternSet) (x : List Bool) → IsPool exact s → t ≡ record s { vectors = s.vectors ++ x ∷ [] } → 8 < input_count exact

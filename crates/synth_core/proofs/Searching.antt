@@ -7,10 +7,8 @@ use Rattle.semantics.specs.Net.{NetValue, input_count}
 use Rattle.semantics.specs.Error.{Metric}
 use Rattle.chain_semantics.specs.declared.moves.Move.{Move}
 use Rattle.chain_semantics.specs.Care.{IsBrokenAt}
-use Rattle.chain_semantics.specs.Chain.{IsFirstAllowed}
 use Rattle.chain_semantics.specs.Minimality.{IsBrokenBySome, AreBrokenBySome, IsMinimalBy}
 use Rattle.chain_semantics.specs.Moves.{moves_of, moved}
-use Rattle.chain_semantics.specs.Simplification.{IsAllowedMove}
 use Rattle.chain_semantics.specs.Tidy.{IsTidiedFrom}
 use Rattle.chain_semantics.proofs.MoveLists.{Contains-here}
 use Rattle.job_semantics.specs.Shrinking.{IsSpentMove}

@@ -1,6 +1,5 @@
 -- The members of the chain, and what its search comes to.
-use Rattle.std.proofs.Common.{◌≡◌, ℕ, ◌≤◌, Option, Some, None, MatchOption, List, length, inl}
-use Rattle.std.specs.List.{AllByRecursion}
+use Rattle.std.proofs.Common.{ℕ, ◌≤◌, Option, Some, None, MatchOption, inl}
 use Rattle.semantics.specs.Net.{NetValue, input_count}
 use Rattle.semantics.specs.Error.{Metric}
 use Rattle.chain_semantics.specs.Chain.IsInChain.{next}

@@ -11,7 +11,7 @@ use Rattle.worst_case.specs.Exceeds.{IsSpentOn}
 use Rattle.synth_core.specs.declared.trial.Trial.{Trial}
 use Rattle.synth_core.specs.declared.trial.Trial.TheVariants.{Broken, New, Allowed, Spent}
 
--- the vector breaks the move and is none of those at hand, which are not all
+-- the vector breaks the move and is none of those at hand; with at most eight inputs none is missing
 pub record IsNewVector (metric : Metric) (exact : NetValue) (bound : ℕ) (N : NetValue) (vectors : List (List Bool)) (move : Move) (x : List Bool) : Type 0 where
   pub many : 8 < input_count exact
   pub width : length x ≡ input_count exact
