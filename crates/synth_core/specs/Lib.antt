@@ -1,3 +1,4 @@
 pub mod Words
 pub mod Widths
+pub mod Trials
 pub mod Shrinking
