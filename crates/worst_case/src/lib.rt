@@ -5,3 +5,4 @@ mod bits;
 pub mod exceed;
 pub mod exceeds;
 mod first_true;
+mod truth;
