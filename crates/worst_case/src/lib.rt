@@ -8,3 +8,4 @@ mod first_true;
 pub mod maximum;
 mod range;
 mod trial;
+mod truth;
