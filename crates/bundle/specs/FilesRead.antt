@@ -1,15 +1,14 @@
 -- What is read of a bundle's files.
-use Rattle.std.specs.Prelude.{◌≡◌, ℕ, Bool, List, Option, None, Some}
+use Rattle.std.specs.Prelude.{◌≡◌, ℕ, Bool, List, Option, None, Some, Ok}
 use Rattle.semantics.specs.Texts.{Bytes}
 use Rattle.semantics.specs.Net.{NetValue}
 use Rattle.semantics.specs.Error.{Metric}
 use Rattle.blif_semantics.specs.Reading.{bundle_limit, blif_reading}
 use Rattle.job_semantics.specs.Report.{Report}
 use Rattle.job_semantics.specs.Certificate.{IsReportText, IsVectorsText}
-use Rattle.bundle.specs.declared.report_reading.ReportRead.{ReportRead}
 use Rattle.lane_bits.specs.Patterns.{PatternSet}
+use Rattle.bundle.specs.declared.report_reading.ReportRead.{ReportRead}
 use Rattle.bundle.specs.Reading.{HoldsVectors, report_read}
-use Rattle.std.specs.Prelude.{Ok}
 
 -- the text is the net's, or that of no net
 abbrev pub IsNetIn : Option NetValue → Bytes → Type 0

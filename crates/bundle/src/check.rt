@@ -3,8 +3,7 @@ ghost use Rattle.std.specs.Prelude.{◌≡◌, ◌↔◌, length, IsTrue, IfOk, 
 ghost use Rattle.semantics.specs.Net.{HasSamePorts, IsSmall, input_count};
 ghost use Rattle.chain_semantics.specs.Minimality.{IsMinimalBy};
 ghost use Rattle.proof_semantics.specs.Miter.{miter};
-ghost use Rattle.job_semantics.specs.Certificate.{Texts};
-ghost use Rattle.job_semantics.specs.Certificate.{OfBundle};
+ghost use Rattle.job_semantics.specs.Certificate.{Texts, OfBundle};
 ghost use Rattle.joint_net.specs.Metric.{meaning};
 ghost use Rattle.bundle.specs.Reading.{report_read};
 ghost use Rattle.bundle.specs.Judging.{Answers, FilesKept, IsCause, IsJudged, NothingKnown, NetKnown, ReportKnown, WitnessKnown, FormulaKnown, LogKnown};
