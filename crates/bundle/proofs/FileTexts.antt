@@ -1,9 +1,9 @@
 -- What the front of a file's text says of the whole.
-use Rattle.std.proofs.Common.{◌≡◌, ℕ, ◌+◌, ◌-◌, ◌<◌, ◌≤◌, Bool, false, not, if◌then◌else◌, List, [], ◌∷◌, ◌++◌, append_assoc, length, nat_le, Option, Some, None, Err, inl, inr, refl, sym, ap, subst, ◌∙◌, arith}
-use Rattle.std.specs.Prelude.{◌↔◌, IsTrue, IfSome, MatchOption, slice_index_or}
-use Rattle.std.specs.Bool.{Decides}
+use Rattle.std.proofs.Common.{◌≡◌, ◌≢◌, ℕ, ◌+◌, ◌-◌, ◌<◌, ◌≤◌, Bool, false, not, if◌then◌else◌, List, [], ◌∷◌, ◌++◌, append_assoc, length, nat_le, Option, Some, None, Err, inl, inr, refl, sym, ap, subst, ◌∙◌, arith}
+use Rattle.std.specs.Prelude.{IfSome, MatchOption, slice_index_or}
 use Rattle.std.proofs.lemmas.List.{length-take}
 use Rattle.std.proofs.lemmas.Bool.{cases_lt}
+use Rattle.std.proofs.lemmas.Option.{MatchOption-at_some, MatchOption-at_none}
 use Rattle.std.proofs.lemmas.Bool.Decides.{nat_tests}
 use Rattle.semantics.specs.Texts.{Bytes}
 use Rattle.semantics.specs.Net.{NetValue, input_count}
@@ -25,7 +25,7 @@ use Rattle.bundle.specs.declared.report_reading.ReportRead.{ReportRead}
 use Rattle.bundle.specs.Reading.{HoldsVectors, report_read}
 use Rattle.bundle.specs.VectorLines.{vector_lines}
 use Rattle.bundle.proofs.VectorTexts.{vectors_text-is}
-use Rattle.bundle.specs.FilesRead.{IsNetIn, IsReportIn, BeginsVectors}
+use Rattle.bundle.specs.FilesRead.{IsNetIn, IsReportIn, AreVectorsIn}
 
 pub FilesStay-same : (a : FilesTold) (name : Bytes) → FilesStay a a name
 FilesStay-same a name = record { goes = Goes-same a; stays = λ h k told tells. cc; still_told = λ h told has. told }
@@ -102,36 +102,42 @@ one_witness inputs text w v p q h k =
     ∙ append_assoc (bits_word v) (10 ∷ []) (vector_lines q) in
     (bits-cut w v (10 ∷ vector_lines p) (10 ∷ vector_lines q) (h.widths.0 ∙ sym k.widths.0) lines).0
 
--- the first vector is the witness, or another
-pub first_decides : (inputs : ℕ) (text : Bytes) (set : PatternSet) (first witness : List Bool) (same : Bool) → HoldsVectors inputs text set → first ≡ slice_index_or set.vectors 0 []
-    → Decides same (witness ≡ first) → IsTrue same ↔ BeginsVectors inputs witness text
-first_decides inputs text set first witness same holds is decides =
-    let here : first ≡ holds.witness = is ∙ ap (λ vs. slice_index_or vs 0 []) holds.vectors_are in (
-      (λ h. (holds.pool, subst (λ w. IsVectorsText inputs text w holds.pool) (sym (decides.0 h ∙ here)) holds.read)),
-      λ begins. decides.1 (one_witness inputs text witness holds.witness begins.0 holds.pool begins.1 holds.read ∙ sym here),
-    )
+-- the set holds the vectors of the text
+abbrev pub HoldsSome : ℕ → Bytes → PatternSet → Type 0
+HoldsSome inputs text set = (witness : List Bool) × HoldsVectors inputs text witness set
+
+module _ (inputs : ℕ) (text : Bytes) (o : Option PatternSet)
+    (h : MatchOption o ((witness : List Bool) (pool : List (List Bool)) → ¬ IsVectorsText inputs text witness pool) (HoldsSome inputs text)) where
+  pub vectors_some : (set : PatternSet) → o ≡ Some set → HoldsSome inputs text set
+  vectors_some set is = MatchOption-at_some ((witness : List Bool) (pool : List (List Bool)) → ¬ IsVectorsText inputs text witness pool) (HoldsSome inputs text) set is h
+
+  pub vectors_none : o ≡ None → (witness : List Bool) (pool : List (List Bool)) → ¬ IsVectorsText inputs text witness pool
+  vectors_none is = MatchOption-at_none ((witness : List Bool) (pool : List (List Bool)) → ¬ IsVectorsText inputs text witness pool) (HoldsSome inputs text) is h
+
+pub holds_first : (inputs : ℕ) (text : Bytes) (set : PatternSet) → HoldsSome inputs text set → 0 < length set.vectors
+holds_first inputs text set (witness, holds) = omega (arith, ap length holds.vectors_are)
+
+-- the first vector is the witness, and the set holds the vectors of the text, or another, and the text has none with the witness first
+pub first_same : (inputs : ℕ) (text : Bytes) (set : PatternSet) (first witness : List Bool) → HoldsSome inputs text set → first ≡ slice_index_or set.vectors 0 [] → witness ≡ first
+    → HoldsVectors inputs text witness set
+first_same inputs text set first witness (held, holds) is same =
+    subst (λ w. HoldsVectors inputs text w set) (sym (same ∙ is ∙ ap (λ vs. slice_index_or vs 0 []) holds.vectors_are)) holds
+
+pub first_other : (inputs : ℕ) (text : Bytes) (set : PatternSet) (first witness : List Bool) → HoldsSome inputs text set → first ≡ slice_index_or set.vectors 0 [] → witness ≢ first
+    → (pool : List (List Bool)) → ¬ IsVectorsText inputs text witness pool
+first_other inputs text set first witness (held, holds) is other pool vectors =
+    other (one_witness inputs text witness held pool holds.pool vectors holds.read ∙ sym (is ∙ ap (λ vs. slice_index_or vs 0 []) holds.vectors_are))
 
 -- the vectors of a text, for the witness that the code holds
-pub vectors_known : (exact : NetValue) (texts : Texts) (held witness : List Bool) → held ≡ witness → length witness ≡ input_count exact → BeginsVectors (length held) held (texts file.Vectors)
-    → (pool : List (List Bool)) × AreVectors exact texts witness pool
-vectors_known exact texts held witness same width begins =
-    (begins.0, subst (λ n. IsVectorsText n (texts file.Vectors) witness begins.0) (ap length same ∙ width) (subst (λ w. IsVectorsText (length held) (texts file.Vectors) w begins.0) same begins.1))
+module _ (exact : NetValue) (texts : Texts) (held witness : List Bool) (same : held ≡ witness) (width : length witness ≡ input_count exact) where
+  pub vectors_held : (set : PatternSet) → HoldsVectors (length held) (texts file.Vectors) held set → HoldsVectors (input_count exact) (texts file.Vectors) witness set
+  vectors_held set holds =
+      subst (λ n. HoldsVectors n (texts file.Vectors) witness set) (ap length same ∙ width) (subst (λ w. HoldsVectors (length held) (texts file.Vectors) w set) same holds)
 
-pub vectors_begin : (exact : NetValue) (texts : Texts) (held witness : List Bool) (pool : List (List Bool)) → held ≡ witness → length witness ≡ input_count exact → AreVectors exact texts witness pool
-    → BeginsVectors (length held) held (texts file.Vectors)
-vectors_begin exact texts held witness pool same width vectors =
-    (pool, subst (λ w. IsVectorsText (length held) (texts file.Vectors) w pool) (sym same) (subst (λ n. IsVectorsText n (texts file.Vectors) witness pool) (sym (ap length same ∙ width)) vectors))
+  pub vectors_read : (pool : List (List Bool)) → AreVectors exact texts witness pool → IsVectorsText (length held) (texts file.Vectors) held pool
+  vectors_read pool vectors =
+      subst (λ w. IsVectorsText (length held) (texts file.Vectors) w pool) (sym same) (subst (λ n. IsVectorsText n (texts file.Vectors) witness pool) (sym (ap length same ∙ width)) vectors)
 
-pub vectors_some : (inputs : ℕ) (text : Bytes) (o : Option PatternSet) (set : PatternSet)
-    → MatchOption o ((witness : List Bool) (pool : List (List Bool)) → ¬ IsVectorsText inputs text witness pool) (HoldsVectors inputs text) → o ≡ Some set → HoldsVectors inputs text set
-vectors_some inputs text None set h is = cc
-vectors_some inputs text (Some held) set h is = let same : held ≡ set = cc in subst (HoldsVectors inputs text) same h
-
-pub vectors_none : (inputs : ℕ) (text : Bytes) (o : Option PatternSet)
-    → MatchOption o ((witness : List Bool) (pool : List (List Bool)) → ¬ IsVectorsText inputs text witness pool) (HoldsVectors inputs text) → o ≡ None
-    → (witness : List Bool) → ¬ BeginsVectors inputs witness text
-vectors_none inputs text None h is = λ witness begins. h witness begins.0 begins.1
-vectors_none inputs text (Some held) h is = cc
-
-pub holds_some : (inputs : ℕ) (text : Bytes) (set : PatternSet) → HoldsVectors inputs text set → 0 < length set.vectors
-holds_some inputs text set holds = omega (arith, ap length holds.vectors_are)
+pub vectors_inputs : (inputs : ℕ) (text : Bytes) (witness : List Bool) (o : Option PatternSet) → AreVectorsIn inputs witness o text → IfSome o (λ set. set.inputs ≡ inputs)
+vectors_inputs inputs text witness None h = tt
+vectors_inputs inputs text witness (Some set) h = h.inputs_are

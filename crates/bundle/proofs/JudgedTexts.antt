@@ -1,15 +1,17 @@
 -- Which clause fails first, and which files are needed, by what is known of the texts.
-use Rattle.std.proofs.Common.{◌≡◌, ◌≢◌, ℕ, ◌≤◌, Bool, true, false, List, [], ◌∷◌, refl, subst, arith}
+use Rattle.std.proofs.Common.{◌≡◌, ◌≢◌, ℕ, ◌≤◌, Bool, IsTrue, List, [], ◌∷◌, refl, sym, ap, subst, ◌∙◌, arith}
 use Rattle.semantics.specs.Net.{NetValue, HasSamePorts}
 use Rattle.semantics.specs.Error.{Metric, net_error}
+use Rattle.chain_semantics.specs.Minimality.{IsMinimalBy}
 use Rattle.proof_semantics.specs.Formula.{dimacs_text}
 use Rattle.proof_semantics.specs.Logs.{LogItem}
 use Rattle.proof_semantics.specs.Miter.{miter}
 use Rattle.job_semantics.specs.declared.ending.Ending.TheVariants as file
 use Rattle.job_semantics.specs.declared.clause.Clause.TheVariants as clause
 use Rattle.job_semantics.specs.Report.{Report}
-use Rattle.job_semantics.specs.Certificate.{IsNeededFor, Texts, IsNetlist, IsReport, AreVectors, IsRefutation, AreCounts, OfNet, OfReport, OfBoth, Holds, Certifies, IsFirstFailing}
+use Rattle.job_semantics.specs.Certificate.{IsNeededFor, Texts, IsNetlist, IsReport, AreVectors, IsRefutation, AreCounts, OfNet, OfReport, IsShownMinimal, OfBoth, Holds, Certifies, IsFirstFailing}
 use Rattle.job_semantics.proofs.Certificates.{verified_law}
+use Rattle.lane_bits.specs.Patterns.{PatternSet}
 use Rattle.bundle.specs.LogTold.{IsRefutingText}
 use Rattle.bundle.specs.Judging.{NetKnown, ReportKnown, WitnessKnown, FormulaKnown, LogKnown}
 
@@ -82,113 +84,126 @@ module _ (exact : NetValue) (metric : Metric) (bound : ℕ) (texts : Texts) wher
         fails = λ some. other (of_both (λ N s. net_error metric exact N s.witness ≡ s.maximum) M r known.net.netlist known.report some);
       }
 
-      pub other_formula : WitnessKnown exact metric bound M r texts → texts file.Formula ≢ dimacs_text (miter exact M metric r.maximum) → IsFirstFailing exact metric bound texts clause.Formula
-      other_formula known other =
-          let k = known.report in
-          record {
-            before = clause.Netlist ∷ clause.Ports ∷ clause.ReportForm ∷ clause.MaximumWithin ∷ clause.Witness ∷ clause.Attained ∷ [];
-            after = clause.Log ∷ clause.Counts ∷ clause.Minimal ∷ [];
+      module _ (set : PatternSet) where
+        pub other_formula : WitnessKnown exact metric bound M r set texts → texts file.Formula ≢ dimacs_text (miter exact M metric r.maximum) → IsFirstFailing exact metric bound texts clause.Formula
+        other_formula known other =
+            let k = known.report in
+            record {
+              before = clause.Netlist ∷ clause.Ports ∷ clause.ReportForm ∷ clause.MaximumWithin ∷ clause.Witness ∷ clause.Attained ∷ [];
+              after = clause.Log ∷ clause.Counts ∷ clause.Minimal ∷ [];
+              order = refl;
+              hold = (
+                (M, k.net.netlist),
+                ((M, k.net.netlist, k.net.ports), ((r, k.report), ((r, k.report, k.within), ((r, k.report, (known.vectors.pool, known.vectors.read)), ((M, k.net.netlist, (r, k.report, known.attained)), tt))))),
+              );
+              fails = λ some. other (of_both (λ N s. texts file.Formula ≡ dimacs_text (miter exact N metric s.maximum)) M r k.net.netlist k.report some);
+            }
+
+        pub no_refutation : FormulaKnown exact metric bound M r set texts → ¬ IsRefutingText (miter exact M metric r.maximum).clauses (texts file.Log) → IsFirstFailing exact metric bound texts clause.Log
+        no_refutation known other =
+            let w = known.witness in
+            let k = w.report in
+            record {
+              before = clause.Netlist ∷ clause.Ports ∷ clause.ReportForm ∷ clause.MaximumWithin ∷ clause.Witness ∷ clause.Attained ∷ clause.Formula ∷ [];
+              after = clause.Counts ∷ clause.Minimal ∷ [];
+              order = refl;
+              hold = (
+                (M, k.net.netlist),
+                (
+                  (M, k.net.netlist, k.net.ports),
+                  (
+                    (r, k.report),
+                    (
+                      (r, k.report, k.within),
+                      ((r, k.report, (w.vectors.pool, w.vectors.read)), ((M, k.net.netlist, (r, k.report, w.attained)), ((M, k.net.netlist, (r, k.report, known.formula)), tt))),
+                    ),
+                  ),
+                ),
+              );
+              fails = λ some.
+                  let here = of_both (λ N s. (log : List LogItem) × IsRefutation exact N metric s.maximum texts log) M r k.net.netlist k.report some in
+                  other (here.0, here.1.read, here.1.refutes);
+            }
+
+        module _ (known : LogKnown exact metric bound M r set texts) where
+          n : IsNetlist texts M
+          n = known.formula.witness.report.net.netlist
+
+          k : ReportKnown exact metric bound M r texts
+          k = known.formula.witness.report
+
+          w : WitnessKnown exact metric bound M r set texts
+          w = known.formula.witness
+
+          log_holds : Holds exact metric bound texts clause.Log
+          log_holds = (M, n, (r, k.report, (known.refutation.0, record { read = known.refutation.1; refutes = known.refutation.2 })))
+
+          formula_holds : Holds exact metric bound texts clause.Formula
+          formula_holds = (M, n, (r, k.report, known.formula.formula))
+
+          attained_holds : Holds exact metric bound texts clause.Attained
+          attained_holds = (M, n, (r, k.report, w.attained))
+
+          pub other_counts : ¬ AreCounts exact M r → IsFirstFailing exact metric bound texts clause.Counts
+          other_counts other = record {
+            before = clause.Netlist ∷ clause.Ports ∷ clause.ReportForm ∷ clause.MaximumWithin ∷ clause.Witness ∷ clause.Attained ∷ clause.Formula ∷ clause.Log ∷ [];
+            after = clause.Minimal ∷ [];
             order = refl;
             hold = (
-              (M, k.net.netlist),
-              ((M, k.net.netlist, k.net.ports), ((r, k.report), ((r, k.report, k.within), ((r, k.report, (known.pool, known.vectors)), ((M, k.net.netlist, (r, k.report, known.attained)), tt))))),
+              (M, n),
+              ((M, n, k.net.ports), ((r, k.report), ((r, k.report, k.within), ((r, k.report, (w.vectors.pool, w.vectors.read)), (attained_holds, (formula_holds, (log_holds, tt))))))),
             );
-            fails = λ some. other (of_both (λ N s. texts file.Formula ≡ dimacs_text (miter exact N metric s.maximum)) M r k.net.netlist k.report some);
+            fails = λ some. other (of_both (AreCounts exact) M r n k.report some);
           }
 
-      pub no_refutation : FormulaKnown exact metric bound M r texts → ¬ IsRefutingText (miter exact M metric r.maximum).clauses (texts file.Log) → IsFirstFailing exact metric bound texts clause.Log
-      no_refutation known other =
-          let w = known.witness in
-          let k = w.report in
-          record {
-            before = clause.Netlist ∷ clause.Ports ∷ clause.ReportForm ∷ clause.MaximumWithin ∷ clause.Witness ∷ clause.Attained ∷ clause.Formula ∷ [];
-            after = clause.Counts ∷ clause.Minimal ∷ [];
+          -- the vectors that were read are those of the text, which has no others
+          held_minimal : ((pool : List (List Bool)) × AreVectors exact texts r.witness pool × IsMinimalBy metric exact bound M (r.witness ∷ pool)) → IsMinimalBy metric exact bound M set.vectors
+          held_minimal (pool, vectors, minimal) =
+              subst (IsMinimalBy metric exact bound M)
+              (ap (λ others. r.witness ∷ others) (verified_law.one_pool exact texts r.witness pool w.vectors.pool vectors w.vectors.read) ∙ sym w.vectors.vectors_are) minimal
+
+          shown_minimal : (IsTrue r.minimal → IsMinimalBy metric exact bound M set.vectors) → IsShownMinimal exact metric bound texts M r
+          shown_minimal shown minimal = (w.vectors.pool, w.vectors.read, subst (IsMinimalBy metric exact bound M) w.vectors.vectors_are (shown minimal))
+
+          pub not_shown : AreCounts exact M r → ¬ (IsTrue r.minimal → IsMinimalBy metric exact bound M set.vectors) → IsFirstFailing exact metric bound texts clause.Minimal
+          not_shown counts other = record {
+            before =
+                clause.Netlist ∷ clause.Ports ∷ clause.ReportForm ∷ clause.MaximumWithin ∷ clause.Witness ∷ clause.Attained ∷ clause.Formula ∷ clause.Log ∷ clause.Counts ∷ [];
+            after = [];
             order = refl;
             hold = (
-              (M, k.net.netlist),
+              (M, n),
               (
-                (M, k.net.netlist, k.net.ports),
+                (M, n, k.net.ports),
                 (
                   (r, k.report),
                   (
                     (r, k.report, k.within),
-                    ((r, k.report, (w.pool, w.vectors)), ((M, k.net.netlist, (r, k.report, w.attained)), ((M, k.net.netlist, (r, k.report, known.formula)), tt))),
+                    ((r, k.report, (w.vectors.pool, w.vectors.read)), (attained_holds, (formula_holds, (log_holds, ((M, n, (r, k.report, counts)), tt))))),
                   ),
                 ),
               ),
             );
-            fails = λ some.
-                let here = of_both (λ N s. (log : List LogItem) × IsRefutation exact N metric s.maximum texts log) M r k.net.netlist k.report some in
-                other (here.0, here.1.read, here.1.refutes);
+            fails = λ some. other (λ minimal. held_minimal (of_both (IsShownMinimal exact metric bound texts) M r n k.report some minimal));
           }
 
-      module _ (known : LogKnown exact metric bound M r texts) where
-        n : IsNetlist texts M
-        n = known.formula.witness.report.net.netlist
-
-        k : ReportKnown exact metric bound M r texts
-        k = known.formula.witness.report
-
-        w : WitnessKnown exact metric bound M r texts
-        w = known.formula.witness
-
-        log_holds : Holds exact metric bound texts clause.Log
-        log_holds = (M, n, (r, k.report, (known.refutation.0, record { read = known.refutation.1; refutes = known.refutation.2 })))
-
-        formula_holds : Holds exact metric bound texts clause.Formula
-        formula_holds = (M, n, (r, k.report, known.formula.formula))
-
-        attained_holds : Holds exact metric bound texts clause.Attained
-        attained_holds = (M, n, (r, k.report, w.attained))
-
-        pub other_counts : ¬ AreCounts exact M r → IsFirstFailing exact metric bound texts clause.Counts
-        other_counts other = record {
-          before = clause.Netlist ∷ clause.Ports ∷ clause.ReportForm ∷ clause.MaximumWithin ∷ clause.Witness ∷ clause.Attained ∷ clause.Formula ∷ clause.Log ∷ [];
-          after = clause.Minimal ∷ [];
-          order = refl;
-          hold = (
-            (M, n),
-            ((M, n, k.net.ports), ((r, k.report), ((r, k.report, k.within), ((r, k.report, (w.pool, w.vectors)), (attained_holds, (formula_holds, (log_holds, tt))))))),
-          );
-          fails = λ some. other (of_both (AreCounts exact) M r n k.report some);
-        }
-
-        pub says_more : AreCounts exact M r → r.minimal ≡ true → IsFirstFailing exact metric bound texts clause.Minimal
-        says_more counts minimal = record {
-          before =
-              clause.Netlist ∷ clause.Ports ∷ clause.ReportForm ∷ clause.MaximumWithin ∷ clause.Witness ∷ clause.Attained ∷ clause.Formula ∷ clause.Log ∷ clause.Counts ∷ [];
-          after = [];
-          order = refl;
-          hold = (
+          pub all_hold : AreCounts exact M r → (IsTrue r.minimal → IsMinimalBy metric exact bound M set.vectors) → Certifies exact metric bound texts
+          all_hold counts shown = (
             (M, n),
             (
               (M, n, k.net.ports),
               (
                 (r, k.report),
-                ((r, k.report, k.within), ((r, k.report, (w.pool, w.vectors)), (attained_holds, (formula_holds, (log_holds, ((M, n, (r, k.report, counts)), tt)))))),
-              ),
-            ),
-          );
-          fails = λ some. let no : r.minimal ≡ false = of_report (λ s. s.minimal ≡ false) r k.report some in cc;
-        }
-
-        pub all_hold : AreCounts exact M r → r.minimal ≡ false → Certifies exact metric bound texts
-        all_hold counts minimal = (
-          (M, n),
-          (
-            (M, n, k.net.ports),
-            (
-              (r, k.report),
-              (
-                (r, k.report, k.within),
                 (
-                  (r, k.report, (w.pool, w.vectors)),
-                  (attained_holds, (formula_holds, (log_holds, ((M, n, (r, k.report, counts)), ((r, k.report, minimal), tt))))),
+                  (r, k.report, k.within),
+                  (
+                    (r, k.report, (w.vectors.pool, w.vectors.read)),
+                    (attained_holds, (formula_holds, (log_holds, ((M, n, (r, k.report, counts)), ((M, n, (r, k.report, shown_minimal shown)), tt))))),
+                  ),
                 ),
               ),
             ),
-          ),
-        )
+          )
 
   -- ---- which clauses need a file
 
@@ -228,26 +243,26 @@ module _ (exact : NetValue) (metric : Metric) (bound : ℕ) (texts : Texts) wher
   vectors_needed M r known clause.Counts f = (3, omega arith, refl)
   vectors_needed M r known clause.Minimal f = (3, omega arith, refl)
 
-  pub formula_needed : (M : NetValue) (r : Report) → WitnessKnown exact metric bound M r texts → IsNeededFor exact metric bound texts file.Formula
-  formula_needed M r known clause.Netlist f = absurd (f.fails (M, known.report.net.netlist))
-  formula_needed M r known clause.Ports f = absurd (f.fails (M, known.report.net.netlist, known.report.net.ports))
-  formula_needed M r known clause.ReportForm f = absurd (f.fails (r, known.report.report))
-  formula_needed M r known clause.MaximumWithin f = absurd (f.fails (r, known.report.report, known.report.within))
-  formula_needed M r known clause.Witness f = absurd (f.fails (r, known.report.report, (known.pool, known.vectors)))
-  formula_needed M r known clause.Attained f = absurd (f.fails (M, known.report.net.netlist, (r, known.report.report, known.attained)))
-  formula_needed M r known clause.Formula f = (1, omega arith, refl)
-  formula_needed M r known clause.Log f = (1, omega arith, refl)
-  formula_needed M r known clause.Counts f = (1, omega arith, refl)
-  formula_needed M r known clause.Minimal f = (1, omega arith, refl)
+  pub formula_needed : (M : NetValue) (r : Report) (set : PatternSet) → WitnessKnown exact metric bound M r set texts → IsNeededFor exact metric bound texts file.Formula
+  formula_needed M r set known clause.Netlist f = absurd (f.fails (M, known.report.net.netlist))
+  formula_needed M r set known clause.Ports f = absurd (f.fails (M, known.report.net.netlist, known.report.net.ports))
+  formula_needed M r set known clause.ReportForm f = absurd (f.fails (r, known.report.report))
+  formula_needed M r set known clause.MaximumWithin f = absurd (f.fails (r, known.report.report, known.report.within))
+  formula_needed M r set known clause.Witness f = absurd (f.fails (r, known.report.report, (known.vectors.pool, known.vectors.read)))
+  formula_needed M r set known clause.Attained f = absurd (f.fails (M, known.report.net.netlist, (r, known.report.report, known.attained)))
+  formula_needed M r set known clause.Formula f = (1, omega arith, refl)
+  formula_needed M r set known clause.Log f = (1, omega arith, refl)
+  formula_needed M r set known clause.Counts f = (1, omega arith, refl)
+  formula_needed M r set known clause.Minimal f = (1, omega arith, refl)
 
-  pub log_needed : (M : NetValue) (r : Report) → FormulaKnown exact metric bound M r texts → IsNeededFor exact metric bound texts file.Log
-  log_needed M r known clause.Netlist f = absurd (f.fails (M, known.witness.report.net.netlist))
-  log_needed M r known clause.Ports f = absurd (f.fails (M, known.witness.report.net.netlist, known.witness.report.net.ports))
-  log_needed M r known clause.ReportForm f = absurd (f.fails (r, known.witness.report.report))
-  log_needed M r known clause.MaximumWithin f = absurd (f.fails (r, known.witness.report.report, known.witness.report.within))
-  log_needed M r known clause.Witness f = absurd (f.fails (r, known.witness.report.report, (known.witness.pool, known.witness.vectors)))
-  log_needed M r known clause.Attained f = absurd (f.fails (M, known.witness.report.net.netlist, (r, known.witness.report.report, known.witness.attained)))
-  log_needed M r known clause.Formula f = absurd (f.fails (M, known.witness.report.net.netlist, (r, known.witness.report.report, known.formula)))
-  log_needed M r known clause.Log f = (2, omega arith, refl)
-  log_needed M r known clause.Counts f = (2, omega arith, refl)
-  log_needed M r known clause.Minimal f = (2, omega arith, refl)
+  pub log_needed : (M : NetValue) (r : Report) (set : PatternSet) → FormulaKnown exact metric bound M r set texts → IsNeededFor exact metric bound texts file.Log
+  log_needed M r set known clause.Netlist f = absurd (f.fails (M, known.witness.report.net.netlist))
+  log_needed M r set known clause.Ports f = absurd (f.fails (M, known.witness.report.net.netlist, known.witness.report.net.ports))
+  log_needed M r set known clause.ReportForm f = absurd (f.fails (r, known.witness.report.report))
+  log_needed M r set known clause.MaximumWithin f = absurd (f.fails (r, known.witness.report.report, known.witness.report.within))
+  log_needed M r set known clause.Witness f = absurd (f.fails (r, known.witness.report.report, (known.witness.vectors.pool, known.witness.vectors.read)))
+  log_needed M r set known clause.Attained f = absurd (f.fails (M, known.witness.report.net.netlist, (r, known.witness.report.report, known.witness.attained)))
+  log_needed M r set known clause.Formula f = absurd (f.fails (M, known.witness.report.net.netlist, (r, known.witness.report.report, known.formula)))
+  log_needed M r set known clause.Log f = (2, omega arith, refl)
+  log_needed M r set known clause.Counts f = (2, omega arith, refl)
+  log_needed M r set known clause.Minimal f = (2, omega arith, refl)

@@ -7,3 +7,4 @@ pub mod FormulaChecks
 pub mod JudgedTexts
 pub mod ToldAnswers
 pub mod FileTexts
+pub mod BrokenMoves

@@ -51,20 +51,22 @@ other_vectors inputs text rest us wide read some none witness pool h =
 
 -- all lines were read
 pub held_vectors : (inputs : ℕ) (text rest : Bytes) (set : PatternSet) → set.inputs ≡ inputs → AllByRecursion (λ x. length x ≡ inputs) set.vectors → text ≡ vector_lines set.vectors ++ rest
-    → rest ≡ [] → text ≢ [] → HoldsVectors inputs text set
+    → rest ≡ [] → text ≢ [] → (witness : List Bool) × HoldsVectors inputs text witness set
 held_vectors inputs text rest set same wide read none some = go set.vectors refl wide where
   whole : text ≡ vector_lines set.vectors
   whole = read ∙ ap (λ r. vector_lines set.vectors ++ r) none ∙ append-nil (vector_lines set.vectors)
 
-  go : (vectors : List (List Bool)) → set.vectors ≡ vectors → AllByRecursion (λ x. length x ≡ inputs) set.vectors → HoldsVectors inputs text set
+  go : (vectors : List (List Bool)) → set.vectors ≡ vectors → AllByRecursion (λ x. length x ≡ inputs) set.vectors → (witness : List Bool) × HoldsVectors inputs text witness set
   go [] is all = absurd (some (whole ∙ ap vector_lines is))
-  go (witness ∷ pool) is all = record {
-    inputs_are = same;
-    witness = witness;
-    pool = pool;
-    vectors_are = is;
-    read = record {
-      spelled = whole ∙ ap vector_lines is ∙ vectors_text-is witness pool;
-      widths = subst (AllByRecursion (λ x. length x ≡ inputs)) is all;
-    };
-  }
+  go (witness ∷ pool) is all = (
+    witness,
+    record {
+      inputs_are = same;
+      pool = pool;
+      vectors_are = is;
+      read = record {
+        spelled = whole ∙ ap vector_lines is ∙ vectors_text-is witness pool;
+        widths = subst (AllByRecursion (λ x. length x ≡ inputs)) is all;
+      };
+    },
+  )

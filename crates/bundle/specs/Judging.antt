@@ -1,7 +1,7 @@
 -- What the check of a bundle's files comes to.
-use Rattle.std.specs.Prelude.{◌≡◌, ℕ, ◌^◌, ◌≤◌, Bool, false, List, length, Result, Ok, Err}
+use Rattle.std.specs.Prelude.{◌≡◌, ℕ, ◌^◌, ◌≤◌, false, length, Result, Ok, Err}
 use Rattle.semantics.specs.Texts.{Bytes}
-use Rattle.semantics.specs.Net.{NetValue, HasSamePorts}
+use Rattle.semantics.specs.Net.{NetValue, input_count, HasSamePorts}
 use Rattle.semantics.specs.Error.{Metric, net_error}
 use Rattle.outside_semantics.specs.Outside.{FilesTold, Goes, Rose, WhereTold, bytes_of}
 use Rattle.file_reading.specs.declared.unread.Unread.{Unread}
@@ -14,8 +14,10 @@ use Rattle.job_semantics.specs.declared.ending.Ending.TheVariants as file
 use Rattle.job_semantics.specs.declared.clause.Clause.{Clause}
 use Rattle.job_semantics.specs.Endings.{bundle_name}
 use Rattle.job_semantics.specs.Report.{Report}
-use Rattle.job_semantics.specs.Certificate.{Texts, OfBundle, IsNetlist, IsReport, AreVectors, Certifies, IsFirstFailing, IsNeededFor, clause_number}
+use Rattle.job_semantics.specs.Certificate.{Texts, OfBundle, IsNetlist, IsReport, Certifies, IsFirstFailing, IsNeededFor, clause_number}
+use Rattle.lane_bits.specs.Patterns.{PatternSet}
 use Rattle.bundle.specs.LogTold.{IsRefutingText}
+use Rattle.bundle.specs.Reading.{HoldsVectors}
 use Rattle.bundle.specs.declared.verdict.Verdict.{Verdict}
 use Rattle.bundle.specs.declared.verdict.Verdict.TheVariants.{Verified, Refuted}
 
@@ -69,16 +71,15 @@ pub record ReportKnown (exact : NetValue) (metric : Metric) (bound : ℕ) (M : N
   pub report : IsReport exact metric bound texts r
   pub within : r.maximum ≤ bound
 
-pub record WitnessKnown (exact : NetValue) (metric : Metric) (bound : ℕ) (M : NetValue) (r : Report) (texts : Texts) : Type 0 where
+pub record WitnessKnown (exact : NetValue) (metric : Metric) (bound : ℕ) (M : NetValue) (r : Report) (set : PatternSet) (texts : Texts) : Type 0 where
   pub report : ReportKnown exact metric bound M r texts
-  pub pool : List (List Bool)
-  pub vectors : AreVectors exact texts r.witness pool
+  pub vectors : HoldsVectors (input_count exact) (texts file.Vectors) r.witness set
   pub attained : net_error metric exact M r.witness ≡ r.maximum
 
-pub record FormulaKnown (exact : NetValue) (metric : Metric) (bound : ℕ) (M : NetValue) (r : Report) (texts : Texts) : Type 0 where
-  pub witness : WitnessKnown exact metric bound M r texts
+pub record FormulaKnown (exact : NetValue) (metric : Metric) (bound : ℕ) (M : NetValue) (r : Report) (set : PatternSet) (texts : Texts) : Type 0 where
+  pub witness : WitnessKnown exact metric bound M r set texts
   pub formula : texts file.Formula ≡ dimacs_text (miter exact M metric r.maximum)
 
-pub record LogKnown (exact : NetValue) (metric : Metric) (bound : ℕ) (M : NetValue) (r : Report) (texts : Texts) : Type 0 where
-  pub formula : FormulaKnown exact metric bound M r texts
+pub record LogKnown (exact : NetValue) (metric : Metric) (bound : ℕ) (M : NetValue) (r : Report) (set : PatternSet) (texts : Texts) : Type 0 where
+  pub formula : FormulaKnown exact metric bound M r set texts
   pub refutation : IsRefutingText (miter exact M metric r.maximum).clauses (texts file.Log)

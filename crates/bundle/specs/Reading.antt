@@ -7,10 +7,9 @@ use Rattle.lane_bits.specs.Patterns.{PatternSet}
 use Rattle.bundle.specs.declared.report_reading.ReportRead.{ReportRead}
 use Rattle.job_semantics.specs.Certificate.{IsVectorsText}
 
--- the set holds the vectors of the text, the witness first
-pub record HoldsVectors (inputs : ℕ) (text : Bytes) (set : PatternSet) : Type 0 where
+-- the set holds the vectors of the text, of which the witness is the first
+pub record HoldsVectors (inputs : ℕ) (text : Bytes) (witness : List Bool) (set : PatternSet) : Type 0 where
   pub inputs_are : set.inputs ≡ inputs
-  pub witness : List Bool
   pub pool : List (List Bool)
   pub vectors_are : set.vectors ≡ witness ∷ pool
   pub read : IsVectorsText inputs text witness pool

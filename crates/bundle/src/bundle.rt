@@ -8,9 +8,9 @@ use net_core::items::Bits;
 use net_core::net::Net;
 
 /// A simplified net with all that shows what it is. `exact` is the net as it was read and `approx` the simplified one;
-/// `maximum` is the greatest error, which `witness` attains, and `bound` what was allowed. `pool` are the vectors that
-/// break every further move, where `minimal` says that there is no other. `log` refutes `goal`, which says that some
-/// error exceeds `maximum`.
+/// `maximum` is the greatest error, which `witness` attains, and `bound` what was allowed. `pool` are further input vectors:
+/// where `minimal` says that no further move is allowed, `witness` or one of them breaks each. `log` refutes `goal`, which
+/// says that some error exceeds `maximum`.
 #[derive(Drop)]
 pub struct Bundle {
     pub exact: Net,

@@ -1,15 +1,18 @@
 //! A bundle's files are checked clause by clause, and each is opened when a clause first needs it.
-ghost use Rattle.std.specs.Prelude.{◌≡◌, length, IfOk, IfErr};
+ghost use Rattle.std.specs.Prelude.{◌≡◌, ◌↔◌, length, IsTrue, IfOk, IfErr};
 ghost use Rattle.semantics.specs.Net.{HasSamePorts, IsSmall, input_count};
+ghost use Rattle.chain_semantics.specs.Minimality.{IsMinimalBy};
 ghost use Rattle.proof_semantics.specs.Miter.{miter};
-ghost use Rattle.job_semantics.specs.Certificate.{Texts};
-ghost use Rattle.job_semantics.specs.Certificate.{OfBundle};
+ghost use Rattle.job_semantics.specs.Certificate.{Texts, OfBundle};
 ghost use Rattle.joint_net.specs.Metric.{meaning};
 ghost use Rattle.bundle.specs.Reading.{report_read};
 ghost use Rattle.bundle.specs.Judging.{Answers, FilesKept, IsCause, IsJudged, NothingKnown, NetKnown, ReportKnown, WitnessKnown, FormulaKnown, LogKnown};
 
-use crate::claim::{Claim, are_counts, error_at, miter};
-use crate::file_texts::{begins_vectors, is_formula, is_refuted, read_netlist, read_report_file};
+use crate::claim::{Claim, Contents, are_counts, error_at, miter};
+use crate::file_texts::{
+    is_formula, is_refuted, read_netlist, read_report_file, read_vectors_file,
+};
+use crate::minimality::is_minimal;
 use crate::report_reading::ReportRead;
 use crate::stem::Stem;
 use crate::verdict::Verdict;
@@ -20,70 +23,98 @@ use job_semantics::ending::Ending;
 use joint_net::metric::Metric;
 use joint_net::ports::same_ports;
 use net_core::net::Net;
-use std::alloc::Global;
+use std::alloc::{AllocError, Global};
+
+/// Whether the vectors show that the net is minimal, where the report says that it is.
+fn is_shown_minimal(alloc: Global, claim: &Claim, contents: &Contents) -> Result<bool, AllocError>
+    requires exact { IsSmall claim.now.exact.now }
+    requires approx { IsSmall contents.now.approx.now }
+    requires ports { HasSamePorts claim.now.exact.now contents.now.approx.now }
+    requires inputs { contents.now.vectors.now.inputs ≡ input_count claim.now.exact.now }
+    ensures { IfOk result (λ yes. IsTrue yes ↔ (IsTrue contents.now.report.now.counts.minimal
+        → IsMinimalBy (meaning claim.now.metric) claim.now.exact.now claim.now.bound contents.now.approx.now
+        contents.now.vectors.now.vectors)) }
+{
+    if !contents.report.counts.minimal {
+        return Ok(true);
+    }
+    is_minimal(
+        alloc,
+        claim.exact,
+        contents.approx,
+        claim.metric,
+        claim.bound,
+        contents.vectors,
+    )
+}
 
 /// The clauses on the counts and on the report's last line, which need no further file.
-fn check_counts(claim: &Claim, approx: &Net, report: &ReportRead) -> Verdict
+fn check_counts(alloc: Global, claim: &Claim, contents: &Contents) -> Result<Verdict, AllocError>
     requires exact { IsSmall claim.now.exact.now }
-    requires approx { IsSmall approx.now }
-    ensures { (texts : Texts)
-        → LogKnown claim.now.exact.now (meaning claim.now.metric) claim.now.bound approx.now
-        (report_read (meaning claim.now.metric) claim.now.bound report.now) texts
-        → IsJudged claim.now.exact.now (meaning claim.now.metric) claim.now.bound texts result }
+    requires approx { IsSmall contents.now.approx.now }
+    requires ports { HasSamePorts claim.now.exact.now contents.now.approx.now }
+    requires inputs { contents.now.vectors.now.inputs ≡ input_count claim.now.exact.now }
+    ensures { IfOk result (λ verdict. (texts : Texts)
+        → LogKnown claim.now.exact.now (meaning claim.now.metric) claim.now.bound contents.now.approx.now
+        (report_read (meaning claim.now.metric) claim.now.bound contents.now.report.now) contents.now.vectors.now texts
+        → IsJudged claim.now.exact.now (meaning claim.now.metric) claim.now.bound texts verdict) }
 {
-    if !are_counts(claim.exact, approx, report) {
-        return Verdict::Refuted(9);
+    if !are_counts(claim.exact, contents.approx, contents.report) {
+        return Ok(Verdict::Refuted(9));
     }
-    if report.counts.minimal {
-        return Verdict::Refuted(10);
+    if !is_shown_minimal(alloc, claim, contents)? {
+        return Ok(Verdict::Refuted(10));
     }
-    Verdict::Verified
+    Ok(Verdict::Verified)
 }
 
 /// The clauses from the log's on.
 fn check_log<F: Files>(
     alloc: Global,
     claim: &Claim,
-    approx: &Net,
-    report: &ReportRead,
+    contents: &Contents,
     formula: &Cnf,
     files: &mut F,
 ) -> Result<Verdict, Unread>
     requires exact { IsSmall claim.now.exact.now }
-    requires approx { IsSmall approx.now }
-    requires formula { formula.now ≡ miter claim.now.exact.now approx.now (meaning claim.now.metric) report.now.maximum }
+    requires approx { IsSmall contents.now.approx.now }
+    requires ports { HasSamePorts claim.now.exact.now contents.now.approx.now }
+    requires inputs { contents.now.vectors.now.inputs ≡ input_count claim.now.exact.now }
+    requires formula { formula.now ≡ miter claim.now.exact.now contents.now.approx.now (meaning claim.now.metric)
+        contents.now.report.now.maximum }
     ensures { Answers claim.now.exact.now (meaning claim.now.metric) claim.now.bound claim.now.stem.now
-        (FormulaKnown claim.now.exact.now (meaning claim.now.metric) claim.now.bound approx.now
-        (report_read (meaning claim.now.metric) claim.now.bound report.now))
+        (FormulaKnown claim.now.exact.now (meaning claim.now.metric) claim.now.bound contents.now.approx.now
+        (report_read (meaning claim.now.metric) claim.now.bound contents.now.report.now) contents.now.vectors.now)
         (F.told files.old) (F.told files.new) result }
 {
     if !is_refuted(alloc, files, claim.stem.name(Ending::Log), formula)? {
         return Ok(Verdict::Refuted(8));
     }
-    Ok(check_counts(claim, approx, report))
+    Ok(check_counts(alloc, claim, contents)?)
 }
 
 /// The clauses from the formula's on.
 fn check_formula<F: Files>(
     alloc: Global,
     claim: &Claim,
-    approx: &Net,
-    report: &ReportRead,
+    contents: &Contents,
     files: &mut F,
 ) -> Result<Verdict, Unread>
     requires exact { IsSmall claim.now.exact.now }
-    requires approx { IsSmall approx.now }
-    requires ports { HasSamePorts claim.now.exact.now approx.now }
+    requires approx { IsSmall contents.now.approx.now }
+    requires ports { HasSamePorts claim.now.exact.now contents.now.approx.now }
+    requires inputs { contents.now.vectors.now.inputs ≡ input_count claim.now.exact.now }
     ensures { Answers claim.now.exact.now (meaning claim.now.metric) claim.now.bound claim.now.stem.now
-        (WitnessKnown claim.now.exact.now (meaning claim.now.metric) claim.now.bound approx.now
-        (report_read (meaning claim.now.metric) claim.now.bound report.now))
+        (WitnessKnown claim.now.exact.now (meaning claim.now.metric) claim.now.bound contents.now.approx.now
+        (report_read (meaning claim.now.metric) claim.now.bound contents.now.report.now) contents.now.vectors.now)
         (F.told files.old) (F.told files.new) result }
 {
-    let formula = miter(alloc, claim.exact, approx, claim.metric, report.maximum)?;
+    let level = contents.report.maximum;
+    let formula = miter(alloc, claim.exact, contents.approx, claim.metric, level)?;
     if !is_formula(files, claim.stem.name(Ending::Formula), &formula)? {
         return Ok(Verdict::Refuted(7));
     }
-    check_log(alloc, claim, approx, report, &formula, files)
+    check_log(alloc, claim, contents, &formula, files)
 }
 
 /// The clauses from the witness's on.
@@ -104,13 +135,19 @@ fn check_witness<F: Files>(
         (F.told files.old) (F.told files.new) result }
 {
     let witness = report.witness.as_slice();
-    if !begins_vectors(alloc, files, claim.stem.name(Ending::Vectors), witness)? {
+    let name = claim.stem.name(Ending::Vectors);
+    let Some(vectors) = read_vectors_file(alloc, files, name, witness)? else {
         return Ok(Verdict::Refuted(5));
-    }
+    };
     if error_at(alloc, claim.exact, approx, claim.metric, witness)? != report.maximum {
         return Ok(Verdict::Refuted(6));
     }
-    check_formula(alloc, claim, approx, report, files)
+    let contents = Contents {
+        approx,
+        report,
+        vectors: &vectors,
+    };
+    check_formula(alloc, claim, &contents, files)
 }
 
 /// The clauses from the report's on.

@@ -15,6 +15,7 @@ use cnf_core::of_net::of_goal;
 use joint_net::error::error;
 use joint_net::joint::joint;
 use joint_net::metric::Metric;
+use lane_bits::patterns::Patterns;
 use net_core::items::Bits;
 use net_core::net::Net;
 use std::alloc::{AllocError, Global};
@@ -26,6 +27,14 @@ pub(crate) struct Claim<'a> {
     pub metric: Metric,
     pub bound: u128,
     pub stem: &'a Stem,
+}
+
+/// What was read of the files that a claim speaks of.
+#[derive(Clone, Copy)]
+pub(crate) struct Contents<'a> {
+    pub approx: &'a Net,
+    pub report: &'a ReportRead,
+    pub vectors: &'a Patterns,
 }
 
 /// Shows that a net is sound, which its type holds.

@@ -4,7 +4,7 @@ ghost use Rattle.semantics.specs.Net.{IsSmall};
 ghost use Rattle.proof_semantics.specs.Formula.{dimacs_text};
 ghost use Rattle.joint_net.specs.Metric.{meaning};
 ghost use Rattle.bundle.specs.LogTold.{IsRefutingText};
-ghost use Rattle.bundle.specs.FilesRead.{IsNetIn, IsReportIn, BeginsVectors};
+ghost use Rattle.bundle.specs.FilesRead.{IsNetIn, IsReportIn, AreVectorsIn};
 ghost use Rattle.bundle.specs.Judging.{TextRead, TextUnread};
 
 use crate::formula_check::FormulaCheck;
@@ -19,6 +19,7 @@ use file_reading::front::Front;
 use file_reading::reading::read_file;
 use file_reading::unread::Unread;
 use joint_net::metric::Metric;
+use lane_bits::patterns::Patterns;
 use net_core::net::Net;
 use std::alloc::{AllocError, Global};
 
@@ -82,35 +83,43 @@ pub(crate) fn read_report_file<F: Files>(
     Ok(read_report(alloc, text.bytes(), metric, bound, inputs)?)
 }
 
-/// Whether the text is lines of vectors, of which the witness is the first.
-fn is_first_vector(alloc: Global, text: &[u8], witness: &[bool]) -> Result<bool, AllocError>
+/// The vectors of a text, if the witness is the first of them.
+fn vectors_from(
+    alloc: Global,
+    text: &[u8],
+    witness: &[bool],
+) -> Result<Option<Patterns>, AllocError>
     requires { length witness.now ≤ 256 }
-    ensures { IfOk result (λ yes. IsTrue yes ↔ BeginsVectors (length witness.now) witness.now text.now) }
+    ensures { IfOk result (λ vectors. AreVectorsIn (length witness.now) witness.now vectors text.now) }
 {
     let Some(set) = read_vectors(alloc, text, witness.len() as u32)? else {
-        return Ok(false);
+        return Ok(None);
     };
     let mut buffer = [false; 256];
     let first = &mut buffer[..witness.len()];
     set.get(0, first);
-    Ok(witness == &*first)
+    if witness == &*first {
+        Ok(Some(set))
+    } else {
+        Ok(None)
+    }
 }
 
-/// Whether a file is lines of vectors, of which the witness is the first.
-pub(crate) fn begins_vectors<F: Files>(
+/// The vectors of a file, if its text is lines of vectors of which the witness is the first.
+pub(crate) fn read_vectors_file<F: Files>(
     alloc: Global,
     files: &mut F,
     name: &[u8],
     witness: &[bool],
-) -> Result<bool, Unread>
+) -> Result<Option<Patterns>, Unread>
     requires { length witness.now ≤ 256 }
     ensures ok { IfOk result
-        (λ yes. TextRead (F.told files.old) (F.told files.new) name.now
-        (λ content. IsTrue yes ↔ BeginsVectors (length witness.now) witness.now content)) }
+        (λ vectors. TextRead (F.told files.old) (F.told files.new) name.now (AreVectorsIn (length witness.now) witness.now vectors)) }
+    ensures inputs { IfOk result (λ vectors. IfSome vectors (λ set. set.inputs ≡ length witness.now)) }
     ensures err { IfErr result (TextUnread (F.told files.old) (F.told files.new) name.now) }
 {
     let text = read_whole(alloc, files, name)?;
-    Ok(is_first_vector(alloc, text.bytes(), witness)?)
+    Ok(vectors_from(alloc, text.bytes(), witness)?)
 }
 
 /// Whether a file is the formula's text.

@@ -8,6 +8,7 @@ pub mod decimal;
 mod file_texts;
 pub mod formula_check;
 pub mod log_check;
+mod minimality;
 mod pieces;
 mod report;
 pub mod report_reading;

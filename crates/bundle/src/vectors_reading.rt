@@ -12,7 +12,7 @@ pub fn read_vectors(alloc: Global, text: &[u8], inputs: u32) -> Result<Option<Pa
     requires { inputs ≤ 256 }
     ensures { IfOk result (λ read. MatchOption read
         ((witness : List Bool) (pool : List (List Bool)) → ¬ IsVectorsText inputs text.now witness pool)
-        (HoldsVectors inputs text.now)) }
+        (λ set. (witness : List Bool) × HoldsVectors inputs text.now witness set)) }
 {
     let mut set = Patterns::new(alloc, inputs);
     let mut rest = text;

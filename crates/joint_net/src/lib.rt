@@ -5,4 +5,5 @@ mod copies;
 pub mod error;
 pub mod joint;
 pub mod metric;
+pub mod net_error;
 pub mod ports;

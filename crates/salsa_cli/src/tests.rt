@@ -28,13 +28,13 @@ const HALF_ADDER: &[u8] =
 
 const BOTH_CONSTANT: &[u8] = b".model ha\n.inputs a b\n.outputs s c\n.names s\n.names c\n.end\n";
 
-const SUM_CONSTANT: &[u8] =
-    b".model ha\n.inputs a b\n.outputs s c\n.names s\n.names a b c\n11 1\n.end\n";
+const CARRY_COPIED: &[u8] =
+    b".model ha\n.inputs a b\n.outputs s c\n.names s\n.names b c\n1 1\n.end\n";
 
 const VECTORS: &[u8] = b"10\n00\n10\n01\n11\n";
 
 const REPORT: &[u8] =
-    b"salsa 1\nmetric abs\nbound 1\nmaximum 1\nwitness 10\ntables 2 2\nliterals 6 2\nminimal no\n";
+    b"salsa 1\nmetric abs\nbound 1\nmaximum 1\nwitness 10\ntables 2 2\nliterals 6 1\nminimal yes\n";
 
 /// The names of the bundle, in the order in which they are written.
 const NAMES: [&[u8]; 5] = [b"out.blif", b"out.cnf", b"out.lrat", b"out.wit", b"out.txt"];
@@ -123,20 +123,20 @@ fn run_on(
 
 #[test]
 fn netlists_that_are_simplified(rt: HostRuntime) -> Result<(), Fail> {
-    let rows: [(&[u8], &[u8], &[u8], &[u8], &[u8], &[u8]); 9] = [
+    let rows: [(&[u8], &[u8], &[u8], &[u8], &[u8], &[u8]); 10] = [
         (
             b"synth abs 3 1 ha.blif out",
             HALF_ADDER,
             BOTH_CONSTANT,
             b"p cnf 75 242\n",
             b"11\n00\n10\n01\n11\n",
-            b"salsa 1\nmetric abs\nbound 3\nmaximum 2\nwitness 11\ntables 2 2\nliterals 6 0\nminimal no\n",
+            b"salsa 1\nmetric abs\nbound 3\nmaximum 2\nwitness 11\ntables 2 2\nliterals 6 0\nminimal yes\n",
         ),
         (
             b"synth abs 1 1 ha.blif out",
             HALF_ADDER,
-            SUM_CONSTANT,
-            b"p cnf 76 246\n",
+            CARRY_COPIED,
+            b"p cnf 76 245\n",
             VECTORS,
             REPORT,
         ),
@@ -146,7 +146,7 @@ fn netlists_that_are_simplified(rt: HostRuntime) -> Result<(), Fail> {
             HALF_ADDER,
             b"p cnf 78 254\n",
             b"00\n00\n10\n01\n11\n",
-            b"salsa 1\nmetric abs\nbound 0\nmaximum 0\nwitness 00\ntables 2 2\nliterals 6 6\nminimal no\n",
+            b"salsa 1\nmetric abs\nbound 0\nmaximum 0\nwitness 00\ntables 2 2\nliterals 6 6\nminimal yes\n",
         ),
         (
             b"synth ham 1 1 ha.blif out",
@@ -154,15 +154,15 @@ fn netlists_that_are_simplified(rt: HostRuntime) -> Result<(), Fail> {
             BOTH_CONSTANT,
             b"p cnf 30 71\n",
             VECTORS,
-            b"salsa 1\nmetric ham\nbound 1\nmaximum 1\nwitness 10\ntables 2 2\nliterals 6 0\nminimal no\n",
+            b"salsa 1\nmetric ham\nbound 1\nmaximum 1\nwitness 10\ntables 2 2\nliterals 6 0\nminimal yes\n",
         ),
         (
             b"synth rel 999999 1 ha.blif out",
             HALF_ADDER,
-            HALF_ADDER,
-            b"p cnf 1829 6760\n",
-            b"00\n00\n10\n01\n11\n",
-            b"salsa 1\nmetric rel\nbound 999999\nmaximum 0\nwitness 00\ntables 2 2\nliterals 6 6\nminimal no\n",
+            b".model ha\n.inputs a b\n.outputs s c\n.names a b s\n1- 1\n-1 1\n.names c\n.end\n",
+            b"p cnf 2377 8828\n",
+            b"11\n00\n10\n01\n11\n",
+            b"salsa 1\nmetric rel\nbound 999999\nmaximum 500000\nwitness 11\ntables 2 2\nliterals 6 2\nminimal yes\n",
         ),
         (
             b"synth rel 1000000 1 ha.blif out",
@@ -170,7 +170,7 @@ fn netlists_that_are_simplified(rt: HostRuntime) -> Result<(), Fail> {
             BOTH_CONSTANT,
             b"p cnf 2375 8822\n",
             VECTORS,
-            b"salsa 1\nmetric rel\nbound 1000000\nmaximum 1000000\nwitness 10\ntables 2 2\nliterals 6 0\nminimal no\n",
+            b"salsa 1\nmetric rel\nbound 1000000\nmaximum 1000000\nwitness 10\ntables 2 2\nliterals 6 0\nminimal yes\n",
         ),
         (
             b"synth abs 0 1 ha.blif out",
@@ -178,7 +178,7 @@ fn netlists_that_are_simplified(rt: HostRuntime) -> Result<(), Fail> {
             b".model k\n.inputs\n.outputs y\n.names y\n1\n.end\n",
             b"p cnf 44 138\n",
             b"\n\n",
-            b"salsa 1\nmetric abs\nbound 0\nmaximum 0\nwitness \ntables 1 1\nliterals 0 0\nminimal no\n",
+            b"salsa 1\nmetric abs\nbound 0\nmaximum 0\nwitness \ntables 1 1\nliterals 0 0\nminimal yes\n",
         ),
         (
             b"synth abs 0 1 ha.blif out",
@@ -186,7 +186,15 @@ fn netlists_that_are_simplified(rt: HostRuntime) -> Result<(), Fail> {
             b".model w\n.inputs a\n.outputs a\n.end\n",
             b"p cnf 41 132\n",
             b"0\n0\n1\n",
-            b"salsa 1\nmetric abs\nbound 0\nmaximum 0\nwitness 0\ntables 0 0\nliterals 0 0\nminimal no\n",
+            b"salsa 1\nmetric abs\nbound 0\nmaximum 0\nwitness 0\ntables 0 0\nliterals 0 0\nminimal yes\n",
+        ),
+        (
+            b"synth abs 0 1 ha.blif out",
+            b".model m\n.inputs a b\n.outputs y z\n.names a b y\n00 0\n.names a b z\n1- 1\n-1 1\n.end\n",
+            b".model m\n.inputs a b\n.outputs y z\n.names z y\n1 1\n.names a b z\n1- 1\n-1 1\n.end\n",
+            b"p cnf 78 249\n",
+            b"00\n00\n10\n01\n11\n",
+            b"salsa 1\nmetric abs\nbound 0\nmaximum 0\nwitness 00\ntables 2 2\nliterals 4 3\nminimal yes\n",
         ),
         (
             b"synth abs 0 1 ha.blif out",
@@ -194,7 +202,7 @@ fn netlists_that_are_simplified(rt: HostRuntime) -> Result<(), Fail> {
             b".model t\n.inputs a b\n.outputs y\n.names a b y\n11 1\n.end\n",
             b"p cnf 46 142\n",
             b"00\n00\n10\n01\n11\n",
-            b"salsa 1\nmetric abs\nbound 0\nmaximum 0\nwitness 00\ntables 1 1\nliterals 2 2\nminimal no\n",
+            b"salsa 1\nmetric abs\nbound 0\nmaximum 0\nwitness 00\ntables 1 1\nliterals 2 2\nminimal yes\n",
         ),
     ];
     for (line, text, netlist, header, vectors, report) in rows {

@@ -1,3 +1,2 @@
-pub mod Words
-pub mod Widths
+pub mod Trials
 pub mod Shrinking

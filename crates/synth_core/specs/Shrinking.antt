@@ -1,35 +1,34 @@
--- One step of the chain of simplifications, decided by patterns.
-use Rattle.std.specs.Prelude.{◌≡◌, ℕ, ◌<◌, Bool, Option, MatchOption, List, [], ◌∷◌, ◌++◌, length, slice_index_or}
-use Rattle.semantics.specs.Net.{NetValue}
+-- One step of the chain of simplifications, with the vectors that broke moves so far.
+use Rattle.std.specs.Prelude.{◌≡◌, ℕ, ◌≤◌, Bool, List, length}
+use Rattle.std.specs.List.{AllByRecursion}
+use Rattle.semantics.specs.Net.{NetValue, input_count}
 use Rattle.semantics.specs.Error.{Metric}
+use Rattle.semantics.specs.Vectors.{all_vectors}
 use Rattle.chain_semantics.specs.declared.moves.Move.{Move}
-use Rattle.chain_semantics.specs.Care.{IsBrokenAt}
 use Rattle.chain_semantics.specs.Chain.{IsFirstAllowed}
 use Rattle.chain_semantics.specs.Moves.{moves_of}
-use Rattle.chain_semantics.specs.Minimality.{AreBrokenBySome, IsMinimalBy}
+use Rattle.chain_semantics.specs.Minimality.{IsMinimalBy}
 use Rattle.chain_semantics.specs.Simplification.{IsAllowedMove, IsTidiedMove}
-use Rattle.adc_core.specs.Masks.{Masks, AreMasksOf}
+use Rattle.job_semantics.specs.Shrinking.{AreApart, IsSpentMove}
+use Rattle.lane_bits.specs.Patterns.{PatternSet}
+use Rattle.worst_case.specs.Exceeds.{spent_value}
+use Rattle.synth_core.specs.declared.step.Step.{Step}
+use Rattle.synth_core.specs.declared.step.Step.TheVariants.{End, Next, Spent}
 
--- no pattern breaks the move
-abbrev pub IsUnbroken : Metric → NetValue → ℕ → NetValue → List (List Bool) → Move → Type 0
-IsUnbroken metric exact bound N vectors move = (p : ℕ) → p < length vectors → ¬ IsBrokenAt metric exact bound N move (slice_index_or vectors p [])
-
--- no pattern breaks the move, and some pattern breaks each move before it
-pub record IsFirstUnbroken (metric : Metric) (exact : NetValue) (bound : ℕ) (N : NetValue) (vectors : List (List Bool)) (move : Move) : Type 0 where
-  pub before : List Move
-  pub after : List Move
-  pub stands : moves_of N ≡ before ++ move ∷ after
-  pub broken : AreBrokenBySome metric exact bound N vectors before
-  pub unbroken : IsUnbroken metric exact bound N vectors move
-
--- the first move that no pattern of the masks breaks was found, or none where each is broken
-abbrev pub FindsFirstUnbroken : NetValue → Masks → Option Move → Type 0
-FindsFirstUnbroken N masks found =
-    (metric : Metric) (exact : NetValue) (bound : ℕ) → AreMasksOf metric exact bound masks
-    → MatchOption found (IsMinimalBy metric exact bound N masks.vectors) (IsFirstUnbroken metric exact bound N masks.vectors)
+-- vectors for the exact net, no two alike; with at most eight inputs they are all vectors in counting order
+pub record IsPool (exact : NetValue) (s : PatternSet) : Type 0 where
+  pub inputs : s.inputs ≡ input_count exact
+  pub widths : AllByRecursion (λ x. length x ≡ input_count exact) s.vectors
+  pub apart : AreApart s.vectors
+  pub counting : input_count exact ≤ 8 → s.vectors ≡ all_vectors (input_count exact)
 
 -- M is what N after its first allowed move is tidied to
 pub record IsNextMember (metric : Metric) (exact : NetValue) (bound : ℕ) (N M : NetValue) : Type 0 where
   pub move : Move
   pub first : IsFirstAllowed (IsAllowedMove metric exact bound N) (moves_of N) move
   pub tidied : IsTidiedMove N move M
+
+abbrev pub IsStep : Metric → NetValue → ℕ → ℕ → NetValue → List (List Bool) → Step → Type 0
+IsStep metric exact bound limit N vectors End = IsMinimalBy metric exact bound N vectors
+IsStep metric exact bound limit N vectors (Next M) = IsNextMember metric exact bound N M
+IsStep metric exact bound limit N vectors (Spent s) = IsSpentMove metric exact bound limit N vectors (spent_value s)

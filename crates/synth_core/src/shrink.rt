@@ -1,87 +1,86 @@
 //! The chain of simplifications, from the tidied net to the member of which no move is allowed.
 //!
-//! Every input vector is a pattern, so a move is allowed exactly where no pattern breaks it, and that is told by the masks of the
-//! member without making the moved net. Only an allowed move is made; then the moved net is tidied, and the moves begin again, since
-//! one that was broken before may be allowed now. The chain ends, since each step removes literals.
-ghost use Rattle.std.specs.Prelude.{◌≡◌, ◌≤◌, length, IfOk, MatchOption};
-ghost use Rattle.semantics.specs.Net.{input_count, IsSmall, HasSamePorts};
-ghost use Rattle.semantics.specs.Vectors.{all_vectors};
-ghost use Rattle.chain_semantics.specs.Minimality.{IsMinimalBy};
-ghost use Rattle.chain_semantics.specs.Simplification.{IsSimplificationEnd};
+//! A move that some known input vector breaks is refused by the masks of the member, without making the moved net. With few inputs
+//! every vector is known, so the others are allowed. With more the known vectors are those that answered earlier queries, and each
+//! other move costs a query. An allowed move is made; then the moved net is tidied, and the moves begin again, since one that was
+//! refused before may be allowed now. The chain ends, since each step removes literals, or with the first query that is spent.
+ghost use Rattle.std.specs.Prelude.{◌≡◌, ◌≤◌, length, option_map, IfOk};
+ghost use Rattle.semantics.specs.Net.{input_count, IsSmall};
+ghost use Rattle.job_semantics.specs.Shrinking.{IsShrinking};
 ghost use Rattle.joint_net.specs.Metric.{meaning};
-ghost use Rattle.synth_core.specs.Shrinking.{FindsFirstUnbroken, IsNextMember};
+ghost use Rattle.worst_case.specs.Exceeds.{spent_value};
+ghost use Rattle.synth_core.specs.Shrinking.{IsPool};
 
-use adc_core::adc::Adc;
-use chain_semantics::moves::Move;
+use crate::step::{Step, find_step};
+use crate::trial::{FEW_INPUTS, Terms};
 use joint_net::metric::Metric;
 use lane_bits::patterns::Patterns;
 use net_core::net::Net;
-use net_moves::apply::apply;
-use net_moves::moves::moves;
 use net_tidy::tidy::tidy;
 use std::alloc::{AllocError, Global};
+use worst_case::exceed::Spent;
 
-/// The last member of the chain, and the vectors that break each of its moves.
+/// The last member of the chain that was reached, the vectors that break moves, and the query that was spent, if one was.
 #[derive(Drop)]
 pub struct Shrunk {
     pub net: Net,
     pub pool: Patterns,
+    pub spent: Option<Spent>,
 }
 
-/// The first move of the net that no pattern breaks.
-fn first_unbroken(alloc: Global, net: &Net, adc: &Adc) -> Result<Option<Move>, AllocError>
-    requires small { IsSmall net.now }
-    requires same { adc.now.net ≡ net.now }
-    ensures { IfOk result (FindsFirstUnbroken net.now adc.now) }
+/// The vectors to begin with: all of them where there are few inputs, and else none.
+fn first_pool(alloc: Global, net: &Net) -> Result<Patterns, AllocError>
+    requires { IsSmall net.now }
+    ensures { IfOk result (IsPool net.now) }
 {
-    let mut moves = moves(alloc, net)?;
-    while let Some(step) = moves.next() {
-        let None = adc.breaks(step) else {
-            continue;
-        };
-        return Ok(Some(step));
+    let inputs = net.inputs();
+    if inputs <= FEW_INPUTS {
+        return Patterns::exhaustive(alloc, inputs);
     }
-    Ok(None)
+    Ok(Patterns::new(alloc, inputs))
 }
 
-/// The member of the chain after `net`, if a move of it is allowed.
-fn next_member(
+/// Follows the chain of simplifications of a net within a bound, where each query may cost so many conflicts.
+pub fn shrink(
     alloc: Global,
-    exact: &Net,
     net: &Net,
     metric: Metric,
     bound: u128,
-    pool: &Patterns,
-) -> Result<Option<Net>, AllocError>
-    requires few_outputs { length exact.now.outputs ≤ 64 }
-    requires ports { HasSamePorts exact.now net.now }
-    requires small { IsSmall net.now }
-    requires pool { pool.now ≡ record { inputs = input_count exact.now; vectors = all_vectors (input_count exact.now) } }
-    ensures { IfOk result (λ next. MatchOption next
-        (IsMinimalBy (meaning metric) exact.now bound net.now pool.now.vectors)
-        (IsNextMember (meaning metric) exact.now bound net.now)) }
-{
-    let adc = Adc::new(alloc, exact, net, metric, bound, pool)?;
-    match first_unbroken(alloc, net, &adc)? {
-        None => Ok(None),
-        Some(step) => Ok(Some(tidy(alloc, apply(alloc, net, step)?)?)),
-    }
-}
-
-/// The end of the chain of simplifications of a net, with all input vectors in counting order.
-pub fn shrink(alloc: Global, net: &Net, metric: Metric, bound: u128) -> Result<Shrunk, AllocError>
-    requires few_inputs { input_count net.now ≤ 8 }
+    limit: u64,
+) -> Result<Shrunk, AllocError>
     requires few_outputs { length net.now.outputs ≤ 64 }
     requires small { IsSmall net.now }
-    ensures end { IfOk result (λ s. IsSimplificationEnd (meaning metric) net.now bound s.net) }
-    ensures minimal { IfOk result (λ s. IsMinimalBy (meaning metric) net.now bound s.net s.pool.vectors) }
-    ensures pool { IfOk result (λ s. s.pool
-        ≡ record { inputs = input_count net.now; vectors = all_vectors (input_count net.now) }) }
+    requires limit { 1 ≤ limit }
+    ensures shrinking { IfOk result (λ s. IsShrinking (meaning metric) net.now bound limit
+        (record { net = s.net; pool = s.pool.vectors; spent = option_map spent_value s.spent })) }
+    ensures pool { IfOk result (λ s. s.pool.inputs ≡ input_count net.now) }
 {
-    let pool = Patterns::exhaustive(alloc, net.inputs())?;
+    // A net is sound by its type: the call brings that fact here.
+    let _ = net.inputs();
+    let terms = Terms {
+        metric,
+        bound,
+        limit,
+    };
+    let mut pool = first_pool(alloc, net)?;
     let mut shrunk = tidy(alloc, net.copy()?)?;
-    while let Some(next) = next_member(alloc, net, &shrunk, metric, bound, &pool)? {
-        shrunk = next;
+    loop {
+        match find_step(alloc, net, &shrunk, terms, &mut pool)? {
+            Step::Next(next) => shrunk = next,
+            Step::End => {
+                return Ok(Shrunk {
+                    net: shrunk,
+                    pool,
+                    spent: None,
+                });
+            }
+            Step::Spent(spent) => {
+                return Ok(Shrunk {
+                    net: shrunk,
+                    pool,
+                    spent: Some(spent),
+                });
+            }
+        }
     }
-    Ok(Shrunk { net: shrunk, pool })
 }

@@ -1,2 +1,5 @@
 pub mod Vectors
+pub mod Goals
 pub mod Queries
+pub mod FirstGreatest
+pub mod Ranges

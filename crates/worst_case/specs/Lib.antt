@@ -1,2 +1,4 @@
 pub mod Outputs
 pub mod Exceeds
+pub mod Trial
+pub mod Maximum

@@ -1,4 +1,4 @@
-//! What a query answers.
+//! What a query answers, and the search for the greatest error.
 use cnf_core::log::Log;
 use net_core::items::Bits;
 use net_core::net::Net;
@@ -23,5 +23,14 @@ pub enum Exceed {
     /// A log that refutes the miter: no error exceeds the level.
     Never(Log),
     /// The conflicts that were allowed are spent.
+    Spent(Spent),
+}
+
+/// The greatest error, or what was spent on the search for it.
+#[derive(Drop)]
+pub enum Maximum {
+    /// The greatest error, an input vector that has it, and a log that refutes the miter at it.
+    Found { max: u128, witness: Bits, log: Log },
+    /// The conflicts of a query are spent.
     Spent(Spent),
 }

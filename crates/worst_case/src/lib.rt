@@ -5,3 +5,7 @@ mod bits;
 pub mod exceed;
 pub mod exceeds;
 mod first_true;
+pub mod maximum;
+mod range;
+mod trial;
+mod truth;

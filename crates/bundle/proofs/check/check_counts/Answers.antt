@@ -6,7 +6,7 @@ use Rattle.job_semantics.specs.declared.clause.Clause.TheVariants as clause
 use Rattle.job_semantics.specs.Certificate.{AreCounts}
 use Rattle.bundle.specs.declared.report_reading.ReportRead.{ReportRead}
 use Rattle.bundle.specs.Reading.{report_read}
-use Rattle.bundle.proofs.JudgedTexts.{other_counts, says_more, all_hold}
+use Rattle.bundle.proofs.JudgedTexts.{other_counts, not_shown, all_hold}
 use Rattle.bundle.proofs.check.check_counts.Goals as goal
 
 -- the counts do not depend on the metric and the bound
@@ -23,35 +23,39 @@ counts_at N M read m k a b h = record {
 pub returns-then-not-are_counts : goal.returns-then-not-are_counts
 returns-then-not-are_counts c texts known =
     let claim = c.args.claim.now in
+    let contents = c.args.contents.now in
     let metric = meaning claim.metric in
-    let read = c.args.report.now in
+    let read = contents.report.now in
     let N = claim.exact.now in
-    let M = c.args.approx.now in (
+    let M = contents.approx.now in (
       clause.Counts,
       refl,
-      other_counts N metric claim.bound texts M (report_read metric claim.bound read) known
+      other_counts N metric claim.bound texts M (report_read metric claim.bound read) contents.vectors.now known
           (λ counts. let yes : c.are_counts.result ≡ true = c.are_counts.ensures.1 (counts_at N M read metric abs claim.bound 0 counts) in cc),
     )
 
-pub returns-then-report : goal.returns-then-report
-returns-then-report c texts known =
+pub returns-then-not-branch : goal.returns-then-not-branch
+returns-then-not-branch c texts known =
     let claim = c.args.claim.now in
+    let contents = c.args.contents.now in
     let metric = meaning claim.metric in
-    let read = c.args.report.now in
+    let read = contents.report.now in
     let N = claim.exact.now in
-    let M = c.args.approx.now in (
+    let M = contents.approx.now in (
       clause.Minimal,
       refl,
-      says_more N metric claim.bound texts M (report_read metric claim.bound read) known
-          (counts_at N M read abs metric 0 claim.bound (c.are_counts.ensures.0 c.if-not-are_counts.false)) c.if-report.true,
+      not_shown N metric claim.bound texts M (report_read metric claim.bound read) contents.vectors.now known
+          (counts_at N M read abs metric 0 claim.bound (c.are_counts.ensures.0 c.if-not-are_counts.false))
+          (λ shown. let yes : c.in_ok-is_shown_minimal.field-0 ≡ true = c.in_ok-is_shown_minimal.ensures.1 shown in cc),
     )
 
 pub returns : goal.returns
 returns c texts known =
     let claim = c.args.claim.now in
+    let contents = c.args.contents.now in
     let metric = meaning claim.metric in
-    let read = c.args.report.now in
+    let read = contents.report.now in
     let N = claim.exact.now in
-    let M = c.args.approx.now in
-    all_hold N metric claim.bound texts M (report_read metric claim.bound read) known
-    (counts_at N M read abs metric 0 claim.bound (c.are_counts.ensures.0 c.if-not-are_counts.false)) c.if-report.false
+    let M = contents.approx.now in
+    all_hold N metric claim.bound texts M (report_read metric claim.bound read) contents.vectors.now known
+    (counts_at N M read abs metric 0 claim.bound (c.are_counts.ensures.0 c.if-not-are_counts.false)) (c.in_ok-is_shown_minimal.ensures.0 c.if-not-branch.false)

@@ -1,11 +1,15 @@
 use Rattle.semantics.specs.Net.{literal_count}
 use Rattle.chain_semantics.specs.Simplification.{IsInSimplification}
 use Rattle.joint_net.specs.Metric.{meaning}
+use Rattle.synth_core.specs.Shrinking.{IsPool}
 use Rattle.synth_core.proofs.shrink.shrink.Given as goal
 
 -- the net is a member of the chain
 abbrev pub invariant-loop-shrunk : goal.invariant-loop-shrunk
-invariant-loop-shrunk l = IsInSimplification (meaning l.metric) l.net l.bound l.shrunk
+invariant-loop-shrunk l = record {
+  member : IsInSimplification (meaning l.fn.metric) l.net l.bound l.shrunk;
+  pool : IsPool l.net l.pool;
+}
 
 -- each step removes literals
 abbrev pub decreases-loop-shrunk : goal.decreases-loop-shrunk

@@ -1,0 +1,32 @@
+-- What the search for the greatest error answers.
+use Rattle.std.specs.Prelude.{◌≡◌, ℕ, ◌<◌, ◌≤◌, ◌^◌, ◌-◌, MatchOption, length}
+use Rattle.semantics.specs.Net.{NetValue, input_count}
+use Rattle.semantics.specs.Error.{Metric, net_error, IsWithin}
+use Rattle.semantics.specs.Vectors.{IsFirstGreatestAt}
+use Rattle.proof_semantics.specs.Queries.{IsNever, IsMaximum, IsSpentLevel}
+use Rattle.worst_case.specs.Exceeds.{spent_value}
+use Rattle.worst_case.specs.declared.exceed.Maximum.{Maximum}
+use Rattle.worst_case.specs.declared.exceed.Maximum.TheVariants.{Found, Spent}
+use Rattle.worst_case.specs.declared.range.Range.{Range}
+use Rattle.worst_case.specs.declared.range.Turn.{Turn}
+use Rattle.worst_case.specs.declared.range.Turn.TheVariants as turn
+
+abbrev pub IsMaximumAnswer : Metric → NetValue → NetValue → ℕ → ℕ → Maximum → Type 0
+IsMaximumAnswer metric exact approx bound limit (Found most witness log) = IsMaximum metric exact approx most witness log
+IsMaximumAnswer metric exact approx bound limit (Spent s) = IsSpentLevel metric exact approx bound limit (spent_value s)
+
+-- The greatest error is at least `low`, which the witness attains, and at most `high`, within the bound; a log that is held refutes that any error
+-- exceeds `high`. With at most eight inputs the witness is the first vector that has the greatest error.
+pub record IsRange (metric : Metric) (exact approx : NetValue) (bound : ℕ) (r : Range) : Type 0 where
+  pub width : length r.witness ≡ input_count exact
+  pub attained : net_error metric exact approx r.witness ≡ r.low
+  pub within : IsWithin metric exact r.high approx
+  pub bounded : r.high ≤ bound
+  pub small : r.high < 2 ^ 84
+  pub refuted : MatchOption r.log (Unit {0}) (IsNever metric exact approx r.high)
+  pub first : input_count exact ≤ 8 → IsFirstGreatestAt (input_count exact) (net_error metric exact approx) r.low r.witness
+
+-- one query makes the range smaller, or is spent
+abbrev pub IsTurn : Metric → NetValue → NetValue → ℕ → ℕ → Range → Turn → Type 0
+IsTurn metric exact approx bound limit r (turn.Narrowed next) = IsRange metric exact approx bound next × (next.high - next.low < r.high - r.low)
+IsTurn metric exact approx bound limit r (turn.Spent s) = IsSpentLevel metric exact approx bound limit (spent_value s)
