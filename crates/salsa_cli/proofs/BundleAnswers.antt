@@ -22,10 +22,11 @@ use Rattle.bundle.specs.declared.bundle.Bundle.{Bundle}
 use Rattle.bundle.specs.Value.{bundle_value, files_of, report_of_bundle}
 use Rattle.salsa_cli.specs.declared.status.Status.{Status}
 use Rattle.salsa_cli.specs.declared.status.Status.TheVariants.{Done, Verified, Refuted, Usage, Text, NoMemory, Budget, ReadFault, WriteFault, Endless}
+use Rattle.salsa_cli.specs.declared.status.Outcome.{Outcome}
 use Rattle.salsa_cli.specs.Status.{told_query}
 use Rattle.salsa_cli.specs.Prepared.{IsReady}
 use Rattle.salsa_cli.specs.Delivered.{IsDelivered, IsDeliveredInPart}
-use Rattle.salsa_cli.specs.Run.{BundleAnswerAt, IsWorkOf}
+use Rattle.salsa_cli.specs.Run.{BundleAnswerAt, BundleAnswer, IsWorkOf}
 
 -- the texts of a bundle's files, once they were written
 text_is : (held : Held) (stem : Bytes) (text : Texts) (ending : Ending) → texts_of (with_files held (bundle_files stem text)) stem ending ≡ text ending
@@ -82,16 +83,22 @@ BundleCutShort-from {metric} {bound} {limit} {exact} {stem} {names} {old} {new} 
   ];
 }
 
+pub BundleAnswer-cut : {metric : Metric} {bound limit : ℕ} {exact : NetValue} {stem : Bytes} {old new : FilesTold} {said says : SinkTold} (o : Outcome)
+    → o ≡ record { status = WriteFault; spent = None; level = None } → BundleCutShort metric bound limit exact stem old new said says
+    → BundleAnswer metric bound limit exact stem old new said says o
+BundleAnswer-cut {metric} {bound} {limit} {exact} {stem} {old} {new} {said} {says} o is cut =
+    subst (BundleAnswer metric bound limit exact stem old new said says) (sym is) (cut, (refl, refl))
+
 -- where the conflicts are enough, no query of the chain is spent
-nothing_spent : {metric : Metric} {exact : NetValue} {bound limit : ℕ} (N : NetValue) (pool : List (List Bool)) (spent : Option SpentValue)
+nothing_spent : (metric : Metric) (exact : NetValue) (bound limit : ℕ) (N : NetValue) (pool : List (List Bool)) (spent : Option SpentValue)
     → MatchOption spent (IsShownEnd metric exact bound N pool) (IsSpentMove metric exact bound limit N pool) → IsEnough limit (input_count exact) → spent ≡ None
-nothing_spent N pool None h enough = refl
-nothing_spent N pool (Some q) h enough = absurd (h.query.not_enough enough)
+nothing_spent metric exact bound limit N pool None h enough = refl
+nothing_spent metric exact bound limit N pool (Some q) h enough = absurd (h.query.not_enough enough)
 
 pub enough_spends_nothing : {metric : Metric} {bound limit : ℕ} {exact : NetValue} {stem : Bytes} {old new : FilesTold} {said says : SinkTold} {spent : Option SpentValue}
     → BundleWritten metric bound limit exact stem spent old new said says → IsEnough limit (input_count exact) → spent ≡ None
 enough_spends_nothing {metric} {bound} {limit} {exact} written enough =
-    written.is_spent ∙ nothing_spent {metric} {exact} {bound} {limit} written.result.net written.result.pool written.result.spent written.right.search.outcome enough
+    written.is_spent ∙ nothing_spent metric exact bound limit written.result.net written.result.pool written.result.spent written.right.search.outcome enough
 
 -- a call with a fault in writing is not quiet, where the names are steady
 pub not_quiet_cut : {metric : Metric} {bound limit : ℕ} {exact : NetValue} {stem : Bytes} {old new : FilesTold} {said says : SinkTold}
@@ -109,7 +116,7 @@ not_quiet_cut {stem = stem} {old = old} fault files sink =
 pub quiet_demo_ends : (metric : Metric) (bound limit : ℕ) (exact : NetValue) (old new : FilesTold) (said says : SinkTold) (spent level : Option SpentValue) (status : Status)
     → BundleAnswerAt metric bound limit exact demo_stem old new said says spent level status → IsQuietDemo old new said says → IsWorkOf limit (input_count exact) spent status
 quiet_demo_ends metric bound limit exact old new said says spent level Done answer quiet = enough_spends_nothing answer.0
-quiet_demo_ends metric bound limit exact old new said says spent level Budget answer quiet = answer.2.2.2.query.query.not_enough
+quiet_demo_ends metric bound limit exact old new said says spent level Budget answer quiet = answer.4.query.query.not_enough
 quiet_demo_ends metric bound limit exact old new said says spent level NoMemory answer quiet = tt
 quiet_demo_ends metric bound limit exact old new said says spent level WriteFault answer quiet = absurd (not_quiet_cut answer.0 quiet.files quiet.sink)
 quiet_demo_ends metric bound limit exact old new said says spent level Verified answer quiet = answer

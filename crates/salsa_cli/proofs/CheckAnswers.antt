@@ -1,5 +1,5 @@
 -- What a check job comes to, from what its steps say.
-use Rattle.std.proofs.Common.{◌≡◌, ◌≢◌, ◌≤◌, ◌<◌, ◌+◌, ◌^◌, ℕ, min, true, false, ◌∷◌, map, length, inl, inr, refl, ap, sym, subst, ◌∙◌, Some, arith}
+use Rattle.std.proofs.Common.{◌≡◌, ◌≢◌, ◌≤◌, ◌<◌, ◌+◌, ◌^◌, ℕ, min, true, false, ◌∷◌, map, length, inl, inr, refl, ap, sym, subst, ◌∙◌, Some, None, arith}
 use Rattle.std.specs.Prelude.{IsTrue}
 use Rattle.std.specs.List.{AllByRecursion}
 use Rattle.std.specs.FinMap.{contains_key}
@@ -27,6 +27,8 @@ use Rattle.file_reading.specs.declared.unread.Unread.{Unread}
 use Rattle.bundle.specs.Judging.{FilesKept, IsJudged, IsCause, NothingKnown}
 use Rattle.salsa_cli.specs.declared.status.Status.{Status}
 use Rattle.salsa_cli.specs.declared.status.Status.TheVariants.{Done, Verified, Refuted, Usage, Text, NoMemory, Budget, ReadFault, WriteFault, Endless}
+use Rattle.salsa_cli.specs.declared.status.Outcome.{Outcome}
+use Rattle.salsa_cli.specs.Status.{SpendsAs, SpendsAsTold}
 use Rattle.salsa_cli.specs.Input.{NetRead}
 use Rattle.salsa_cli.specs.Run.{CheckAnswer, IsCheckAnswerTo, EndsWell}
 use Rattle.salsa_cli.proofs.InputReadings.{OfInput-later}
@@ -138,6 +140,36 @@ NoMemory-bundle {input} {old} {mid} {new} read keeps = left_alone read.stay keep
 pub CheckReadFault-input : {metric : Metric} {bound : ℕ} {input stem : Bytes} {old new : FilesTold} {said : SinkTold} → FileFailed old new input
     → CheckReadFault metric bound input stem old new said said
 CheckReadFault-input {input = input} {stem = stem} failed = record { untouched = left_at_input failed.stay; rose = failed.rose; not_steady = inl failed.not_steady }
+
+-- no query is asked
+pub check_spends_nothing : (metric : Metric) (bound : ℕ) (input stem : Bytes) (old new : FilesTold) (said says : SinkTold) (status : Status)
+    → CheckAnswer metric bound input stem old new said says status → SpendsAs None None status
+check_spends_nothing metric bound input stem old new said says Done answer = absurd answer
+check_spends_nothing metric bound input stem old new said says Verified answer = (refl, refl)
+check_spends_nothing metric bound input stem old new said says (Refuted number) answer = (refl, refl)
+check_spends_nothing metric bound input stem old new said says Usage answer = absurd answer
+check_spends_nothing metric bound input stem old new said says (Text reason) answer = (refl, refl)
+check_spends_nothing metric bound input stem old new said says NoMemory answer = (refl, refl)
+check_spends_nothing metric bound input stem old new said says Budget answer = absurd answer
+check_spends_nothing metric bound input stem old new said says ReadFault answer = (refl, refl)
+check_spends_nothing metric bound input stem old new said says WriteFault answer = absurd answer
+check_spends_nothing metric bound input stem old new said says Endless answer = (refl, refl)
+
+pub check_tells : (metric : Metric) (bound : ℕ) (input stem : Bytes) (old new : FilesTold) (said says : SinkTold) (status : Status) (o : Outcome)
+    → o ≡ record { status = status; spent = None; level = None } → CheckAnswer metric bound input stem old new said says status → SpendsAsTold o
+check_tells metric bound input stem old new said says status o is answer = subst SpendsAsTold (sym is) (check_spends_nothing metric bound input stem old new said says status answer)
+
+pub check_answer : (metric : Metric) (bound : ℕ) (input stem : Bytes) (old new : FilesTold) (said says : SinkTold) (status : Status) (o : Outcome)
+    → o ≡ record { status = status; spent = None; level = None } → CheckAnswer metric bound input stem old new said says status
+    → CheckAnswer metric bound input stem old new said says o.status
+check_answer metric bound input stem old new said says status o is answer =
+    subst (CheckAnswer metric bound input stem old new said says) (sym (ap (λ (a : Outcome). a.status) is)) answer
+
+-- a check is no usage
+pub check_is_no_usage : (metric : Metric) (bound : ℕ) (input stem : Bytes) (old new : FilesTold) (said says : SinkTold) (status : Status) (o : Outcome)
+    → o ≡ record { status = status; spent = None; level = None } → CheckAnswer metric bound input stem old new said says status → o.status ≢ Usage
+check_is_no_usage metric bound input stem old new said says status o is answer usage =
+    subst (CheckAnswer metric bound input stem old new said says) (sym (ap (λ (a : Outcome). a.status) is) ∙ usage) answer
 
 -- a call with a fault is not quiet
 not_quiet_check : {metric : Metric} {bound : ℕ} {input stem : Bytes} {old new : FilesTold} {said says : SinkTold}

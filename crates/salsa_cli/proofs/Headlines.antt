@@ -37,10 +37,10 @@ one_net : (text : Bytes) (N M : NetValue) → IsReadAs text N → IsReadAs text 
 one_net text N M n m = let both : ◌≡◌ {A = Result NetValue Refusal} (Ok N) (Ok M) = sym n ∙ m in cc
 
 -- where no query of the chain was spent, its end was reached
-end_reached : {metric : Metric} {exact : NetValue} {bound limit : ℕ} (N : NetValue) (pool : List (List Bool)) (spent : Option SpentValue) → spent ≡ None
+end_reached : (metric : Metric) (exact : NetValue) (bound limit : ℕ) (N : NetValue) (pool : List (List Bool)) (spent : Option SpentValue) → spent ≡ None
     → MatchOption spent (IsShownEnd metric exact bound N pool) (IsSpentMove metric exact bound limit N pool) → IsSimplificationEnd metric exact bound N
-end_reached N pool None is h = h.end
-end_reached N pool (Some q) is h = cc
+end_reached metric exact bound limit N pool None is h = h.end
+end_reached metric exact bound limit N pool (Some q) is h = cc
 
 admits : {metric : Metric} {bound limit : ℕ} {exact : NetValue} {stem : Bytes} {old new : FilesTold} {said says : SinkTold} {spent : Option SpentValue} (a b : Held)
     → BundleWritten metric bound limit exact stem spent old new said says → spent ≡ None → old.held ≡ Some a → new.held ≡ Some b
@@ -49,7 +49,7 @@ admits {metric} {bound} {limit} {exact} a b w none told tells = record {
   certificate = w.certificate a b told tells;
   approx = w.result.net;
   netlist = w.netlist a b told tells;
-  end_of_the_chain = end_reached {limit = limit} w.result.net w.result.pool w.result.spent (sym w.is_spent ∙ none) w.right.search.outcome;
+  end_of_the_chain = end_reached metric exact bound limit w.result.net w.result.pool w.result.spent (sym w.is_spent ∙ none) w.right.search.outcome;
 }
 
 module _ (metric : Metric) (bound limit : ℕ) (input stem : Bytes) (old new : FilesTold) (said says : SinkTold) (spent level : Option SpentValue) where

@@ -1,6 +1,6 @@
 pub mod InputReadings
 pub mod JobWords
-pub mod Preparing
+pub mod Parts
 pub mod BundleAnswers
 pub mod SynthAnswers
 pub mod CheckAnswers

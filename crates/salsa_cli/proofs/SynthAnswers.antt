@@ -10,14 +10,16 @@ use Rattle.file_core.proofs.Told.{held_before}
 use Rattle.file_reading.specs.Reading.{FilesStay}
 use Rattle.proof_semantics.specs.Conflicts.{IsEnough}
 use Rattle.proof_semantics.specs.Queries.{SpentValue}
-use Rattle.job_semantics.specs.Certificate.{Texts, OfBundle}
+use Rattle.job_semantics.specs.Certificate.{Texts, OfBundle, IsNetlist, Certifies}
 use Rattle.job_semantics.specs.Synthesis.{WhereHeld, OfInput, IsUntouched, BundleWritten, BundleCutShort, SynthDone, SynthReadFault, SynthWriteFault, CountsAsAccepted, IsQuietSynth}
 use Rattle.job_semantics.specs.Input.{IsReadAs}
 use Rattle.bundle.proofs.FilesInOrder.{FilesWritten-then, FilesCutShort-after}
 use Rattle.salsa_cli.specs.declared.status.Status.{Status}
 use Rattle.salsa_cli.specs.declared.status.Status.TheVariants.{Done, Verified, Refuted, Usage, Text, NoMemory, Budget, ReadFault, WriteFault, Endless}
+use Rattle.salsa_cli.specs.declared.status.Outcome.{Outcome}
+use Rattle.salsa_cli.specs.Status.{told_query}
 use Rattle.salsa_cli.specs.Input.{NetRead}
-use Rattle.salsa_cli.specs.Run.{SynthAnswerAt, BundleAnswerAt, IsAnswerTo, EndsWell}
+use Rattle.salsa_cli.specs.Run.{SynthAnswerAt, SynthAnswer, BundleAnswerAt, BundleAnswer, IsAnswerTo, EndsWell}
 use Rattle.salsa_cli.proofs.InputReadings.{OfInput-later}
 use Rattle.salsa_cli.proofs.BundleAnswers.{enough_spends_nothing, not_quiet_cut}
 
@@ -39,12 +41,12 @@ read_later : {old mid new : FilesTold} {input : Bytes} {N : NetValue} → NetRea
 read_later {N = N} was goes = OfInput-later (λ text. IsReadAs text N) goes was.read
 
 -- what is said of the bundle's texts from the reading of IN on
-since : (stem : Bytes) {old mid new : FilesTold} (P : Texts → Type 0) → Goes mid new → OfBundle mid new stem P → OfBundle old new stem P
-since stem {old} {mid} {new} P goes h = λ a b told tells. let m = held_before mid new goes b tells in h m.0 b m.1 tells
+since : (stem : Bytes) (old mid new : FilesTold) (P : Texts → Type 0) → Goes mid new → OfBundle mid new stem P → OfBundle old new stem P
+since stem old mid new P goes h = λ a b told tells. let m = held_before mid new goes b tells in h m.0 b m.1 tells
 
 written_since : {metric : Metric} {bound limit : ℕ} {input stem : Bytes} {old mid new : FilesTold} {said says : SinkTold} {N : NetValue} {spent : Option SpentValue}
     → NetRead old mid input N → BundleWritten metric bound limit N stem spent mid new said says → BundleWritten metric bound limit N stem spent old new said says
-written_since {stem = stem} read w = record {
+written_since {metric} {bound} {limit} {input} {stem} {old} {mid} {new} {said} {says} {N} {spent} read w = record {
   result = w.result;
   log = w.log;
   right = w.right;
@@ -52,8 +54,8 @@ written_since {stem = stem} read w = record {
   refuted = w.refuted;
   files = FilesWritten-then (none_written read) w.files;
   report = w.report;
-  netlist = since stem _ w.files.goes w.netlist;
-  certificate = since stem _ w.files.goes w.certificate;
+  netlist = since stem old mid new (λ texts. IsNetlist texts w.result.net) w.files.goes w.netlist;
+  certificate = since stem old mid new (Certifies N metric bound) w.files.goes w.certificate;
 }
 
 cut_since : {metric : Metric} {bound limit : ℕ} {input stem : Bytes} {old mid new : FilesTold} {said says : SinkTold} {N : NetValue}
@@ -79,13 +81,13 @@ SynthAnswer-from metric bound limit input stem old mid new said says N spent lev
     (record { exact = N; read = read_later read answer.0.files.goes; written = written_since read answer.0 }, answer.1)
 SynthAnswer-from metric bound limit input stem old mid new said says N spent level Budget read answer =
     (
-      answer.2.0,
-      answer.2.1,
+      answer.2,
+      answer.3,
       record {
         untouched = untouched read new says answer.0 answer.1;
         exact = N;
         read = subst (λ n. OfInput old n input (λ text. IsReadAs text N)) (sym answer.0) read.read;
-        search = answer.2.2;
+        search = answer.4;
       },
     )
 SynthAnswer-from metric bound limit input stem old mid new said says N spent level NoMemory read answer = (untouched read new says answer.0 answer.1, answer.2)
@@ -97,6 +99,12 @@ SynthAnswer-from metric bound limit input stem old mid new said says N spent lev
 SynthAnswer-from metric bound limit input stem old mid new said says N spent level (Text reason) read answer = absurd answer
 SynthAnswer-from metric bound limit input stem old mid new said says N spent level ReadFault read answer = absurd answer
 SynthAnswer-from metric bound limit input stem old mid new said says N spent level Endless read answer = answer
+
+pub SynthAnswer-of : (metric : Metric) (bound limit : ℕ) (input stem : Bytes) {names : Bytes} {old mid : FilesTold} (new : FilesTold) (said says : SinkTold) {N : NetValue} (o : Outcome)
+    → names ≡ stem → NetRead old mid input N → BundleAnswer metric bound limit N names mid new said says o → SynthAnswer metric bound limit input stem old new said says o
+SynthAnswer-of metric bound limit input stem {names} {old} {mid} new said says {N} o same read answer =
+    SynthAnswer-from metric bound limit input stem old mid new said says N (told_query o.spent) (told_query o.level) o.status read
+    (subst (λ s. BundleAnswer metric bound limit N s mid new said says o) same answer)
 
 -- what could not be written is read as some net
 accepted_at_fault : {metric : Metric} {bound limit : ℕ} {input stem : Bytes} {old new : FilesTold} {said says : SinkTold}

@@ -10,8 +10,8 @@ use joint_net::metric::Metric;
 use net_core::net::Net;
 use std::alloc::{AllocError, Global};
 use synth_core::shrink::shrink;
-use worst_case::exceed::Spent;
-use worst_case::maximum::{Maximum, maximum};
+use worst_case::exceed::{Maximum, Spent};
+use worst_case::maximum::maximum;
 
 /// The error's measure, the most that it may be, and the most conflicts of each query.
 #[derive(Clone, Copy)]

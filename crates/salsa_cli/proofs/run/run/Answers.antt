@@ -1,23 +1,24 @@
-use Rattle.std.proofs.Common.{rules}
-use Rattle.salsa_cli.proofs.SynthAnswers.{quiet_ends}
+use Rattle.salsa_cli.specs.Status.{told_query}
+use Rattle.salsa_cli.proofs.BundleAnswers.{quiet_demo_ends}
 use Rattle.salsa_cli.proofs.CheckAnswers.{quiet_check_ends}
+use Rattle.salsa_cli.proofs.Headlines.{headline-from}
+use Rattle.salsa_cli.proofs.SynthAnswers.{quiet_ends}
 use Rattle.salsa_cli.proofs.run.run.Goals as goal
 
-pub returns-in-Some-Synth-clause-complete :
-    goal.returns-in-Some-Synth-clause-complete
-returns-in-Some-Synth-clause-complete g c =
-    λ metric bound conflicts input stem named quiet. quiet_ends metric bound input stem _ _ _ _ c.synthesize.result (search rules) quiet
+pub returns-clause-headline : goal.returns-clause-headline
+returns-clause-headline g c =
+    headline-from _ c.carry_out.result.status (told_query c.carry_out.result.spent) (told_query c.carry_out.result.level) _ _ _ _ c.carry_out.ensures.checking c.carry_out.ensures.synthesis
 
-pub returns-in-Some-Check-clause-usage : goal.returns-in-Some-Check-clause-usage
-returns-in-Some-Check-clause-usage g c = let answer = c.check.ensures (g.K.Sink.told c.args.say.now) in search rules
+pub returns-clause-complete : goal.returns-clause-complete
+returns-clause-complete g c =
+    λ metric bound conflicts input stem named quiet.
+    quiet_ends metric bound conflicts input stem _ _ _ _ _ (told_query c.carry_out.result.level) c.carry_out.result.status (c.carry_out.ensures.synthesis metric bound conflicts input stem named) quiet
 
-pub returns-in-Some-Check-clause-usage_touches_nothing : goal.returns-in-Some-Check-clause-usage_touches_nothing
-returns-in-Some-Check-clause-usage_touches_nothing g c = let answer = c.check.ensures (g.K.Sink.told c.args.say.now) in search rules
+pub returns-clause-check_complete : goal.returns-clause-check_complete
+returns-clause-check_complete g c =
+    λ metric bound input stem named quiet. quiet_check_ends metric bound input stem _ _ _ _ c.carry_out.result.status (c.carry_out.ensures.checking metric bound input stem named) quiet
 
-pub returns-in-Some-Check-clause-checking : goal.returns-in-Some-Check-clause-checking
-returns-in-Some-Check-clause-checking g c = let answer = c.check.ensures (g.K.Sink.told c.args.say.now) in search rules
-
-pub returns-in-Some-Check-clause-check_complete :
-    goal.returns-in-Some-Check-clause-check_complete
-returns-in-Some-Check-clause-check_complete g c =
-    λ metric bound input stem named quiet. let answer = c.check.ensures (g.K.Sink.told c.args.say.now) in quiet_check_ends metric bound input stem _ _ _ _ c.check.result (search rules) quiet
+pub returns-clause-demo_complete : goal.returns-clause-demo_complete
+returns-clause-demo_complete g c =
+    λ width bound conflicts named quiet.
+    quiet_demo_ends _ bound conflicts _ _ _ _ _ _ (told_query c.carry_out.result.level) c.carry_out.result.status (c.carry_out.ensures.demonstration width bound conflicts named) quiet

@@ -37,10 +37,10 @@ minimal-with metric exact bound N x vectors (m ∷ moves) broken =
     ((broken.0.0, Contains-later x vectors broken.0.0 broken.0.1, broken.0.2), minimal-with metric exact bound N x vectors moves broken.1)
 
 -- where no query was spent, the net is shown to be the end
-shown_end : {metric : Metric} {exact : NetValue} {bound limit : ℕ} (N : NetValue) (pool : List (List Bool)) (spent : Option SpentValue) → IsTrue (is_none spent)
+shown_end : (metric : Metric) (exact : NetValue) (bound limit : ℕ) (N : NetValue) (pool : List (List Bool)) (spent : Option SpentValue) → IsTrue (is_none spent)
     → MatchOption spent (IsShownEnd metric exact bound N pool) (IsSpentMove metric exact bound limit N pool) → IsShownEnd metric exact bound N pool
-shown_end N pool None yes h = h
-shown_end N pool (Some q) yes h = cc
+shown_end metric exact bound limit N pool None none h = h
+shown_end metric exact bound limit N pool (Some q) none h = cc
 
 -- what the parts of a bundle are
 pub record AreParts (exact : NetValue) (metric : Metric) (bound limit : ℕ) (s : Simplified) (log : List LogItem) (goal : Formula) : Type 0 where
@@ -88,9 +88,9 @@ module _ {exact : NetValue} {metric : Metric} {bound limit : ℕ} {s : Simplifie
     derivation = parts.most.never.derivation;
     tables = member.no_growth.tables;
     literals = member.no_growth.literals;
-    minimal = λ yes.
+    minimal = λ none.
         minimal-with metric exact bound s.net s.witness s.pool (moves_of s.net)
-        (shown_end {limit = limit} s.net s.pool s.spent yes parts.search.outcome).minimal;
+        (shown_end metric exact bound limit s.net s.pool s.spent none parts.search.outcome).minimal;
   }
 
   FitsReport-from : (b : Bundle) → b.exact ≡ exact → b.approx ≡ s.net → b.witness ≡ s.witness → FitsReport b
@@ -118,10 +118,10 @@ module _ {exact : NetValue} {metric : Metric} {bound limit : ℕ} {s : Simplifie
       }
 
 -- a bundle whose parts are known by other terms
-pub bundle_is : {exact : NetValue} {metric : Metric} {bound : ℕ} {s : Simplified} (b : Bundle) → b.exact ≡ exact → b.approx ≡ s.net → meaning b.metric ≡ metric → b.bound ≡ bound
+pub bundle_is : {exact : NetValue} {metric : Metric} {bound : ℕ} (s : Simplified) (b : Bundle) → b.exact ≡ exact → b.approx ≡ s.net → meaning b.metric ≡ metric → b.bound ≡ bound
     → b.maximum ≡ s.maximum → b.witness ≡ s.witness → b.pool.vectors ≡ s.pool → b.minimal ≡ is_none s.spent → b.goal ≡ miter exact s.net metric s.maximum
     → bundle_value b ≡ synth_bundle exact metric bound s b.log
-bundle_is b exact approx metric bound maximum witness pool minimal goal = λ i. record {
+bundle_is s b exact approx metric bound maximum witness pool minimal goal = λ i. record {
   exact = exact i;
   approx = approx i;
   metric = metric i;
