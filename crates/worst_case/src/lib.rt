@@ -1,4 +1,4 @@
-//! Queries whether the error of an approximate net exceeds a level at some input.
+//! Queries whether the error of an approximate net exceeds a level at some input, and the search for its greatest error.
 #![tactic(auto)]
 
 mod bits;
@@ -7,5 +7,7 @@ pub mod exceeds;
 mod first_true;
 pub mod maximum;
 mod range;
+#[cfg(test)]
+mod tests;
 mod trial;
 mod truth;
