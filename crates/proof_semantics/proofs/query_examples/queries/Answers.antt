@@ -21,6 +21,23 @@ right_before (false ∷ true ∷ []) width low = absurd (omega (arith, low))
 right_before (true ∷ b ∷ []) width low = absurd (omega (arith, low))
 right_before (a ∷ b ∷ d ∷ bits) width low = absurd (omega (arith, width))
 
+wrong_at_2 : net_error abs half_adder constant_sum (false ∷ true ∷ []) ≡ 1
+unfolding after_rounds value_of outputs_of net_error
+wrong_at_2 = refl
+
+right_at_3 : net_error abs half_adder constant_sum (true ∷ true ∷ []) ≡ 0
+unfolding after_rounds value_of outputs_of net_error
+right_at_3 = refl
+
+at_most_1 : (y : List Bool) → length y ≡ 2 → net_error abs half_adder constant_sum y ≤ 1
+at_most_1 [] width = absurd (omega (arith, width))
+at_most_1 (a ∷ []) width = absurd (omega (arith, width))
+at_most_1 (false ∷ false ∷ []) width = omega (arith, right_at_0)
+at_most_1 (true ∷ false ∷ []) width = omega (arith, wrong_at_1)
+at_most_1 (false ∷ true ∷ []) width = omega (arith, wrong_at_2)
+at_most_1 (true ∷ true ∷ []) width = omega (arith, right_at_3)
+at_most_1 (a ∷ b ∷ d ∷ bits) width = absurd (omega (arith, width))
+
 pub returns : goal.returns
 returns c = record {
   first = record { width = refl; exceeds = omega (arith, wrong_at_1); first = λ few y width before. right_before y width before };
@@ -28,4 +45,13 @@ returns c = record {
   not_above = λ h. omega (arith, h.exceeds, wrong_at_1);
   too_short = λ h. omega (arith, h.width);
   few_inputs = λ s h. h.not_enough (inl (omega arith));
+  greatest = record {
+    width = refl;
+    attained = wrong_at_1;
+    greatest = at_most_1;
+    first = λ y width before. let low = right_before y width before in omega (arith, low);
+  };
+  not_the_first_greatest = λ log h. let earlier = (h.first (omega arith)).first (true ∷ false ∷ []) refl (omega arith) in omega (arith, earlier, wrong_at_1);
+  maximum_too_low = λ log h. let within = h.never.within (true ∷ false ∷ []) refl in omega (arith, within, wrong_at_1);
+  maximum_too_high = λ log h. omega (arith, h.attained, wrong_at_1);
 }
