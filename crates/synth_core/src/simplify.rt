@@ -44,6 +44,7 @@ pub fn simplify(
 {
     // A net is sound by its type: the call brings that fact here.
     let _ = exact.inputs();
+    // With so few inputs no query is asked, so the limit does not matter.
     let shrunk = shrink(alloc, exact, metric, bound, 1)?;
     let worst = find_worst(alloc, exact, &shrunk.net, metric)?;
     Ok(Simplification {
