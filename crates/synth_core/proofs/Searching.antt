@@ -9,7 +9,6 @@ use Rattle.chain_semantics.specs.declared.moves.Move.{Move}
 use Rattle.chain_semantics.specs.Care.{IsBrokenAt}
 use Rattle.chain_semantics.specs.Minimality.{IsBrokenBySome, AreBrokenBySome, IsMinimalBy}
 use Rattle.chain_semantics.specs.Moves.{moves_of, moved}
-use Rattle.chain_semantics.specs.Tidy.{IsTidiedFrom}
 use Rattle.chain_semantics.proofs.MoveLists.{Contains-here}
 use Rattle.job_semantics.specs.Shrinking.{IsSpentMove}
 use Rattle.job_semantics.proofs.MinimalNets.{minimal-none_allowed}
@@ -18,7 +17,7 @@ use Rattle.worst_case.specs.declared.exceed.Spent as spent
 use Rattle.worst_case.specs.Exceeds.{spent_value, IsSpentOn}
 use Rattle.synth_core.specs.declared.trial.Trial.{Trial}
 use Rattle.synth_core.specs.Trials.{IsAllowedTo, IsTrial}
-use Rattle.synth_core.specs.Shrinking.{IsNextMember}
+use Rattle.synth_core.specs.Shrinking.{IsFirstMoved}
 use Rattle.synth_core.proofs.Pools.{each_more}
 
 -- the masks are those of the net over the pool
@@ -71,9 +70,8 @@ module _ (metric : Metric) (exact : NetValue) (bound : ℕ) (N : NetValue) where
     pub searched-member : Contains (moves_of N) move
     searched-member = subst (λ l. Contains l move) (sym stands_at) (Contains-append_right so_far.before (move ∷ rest) move (Contains-here move rest))
 
-    pub searched-next : AllByRecursion (λ x. length x ≡ input_count exact) vectors → (M K : NetValue) → IsAllowedTo metric exact bound N move M → IsTidiedFrom M K
-        → IsNextMember metric exact bound N K
-    searched-next widths M K allowed tidied = record {
+    pub searched-first : AllByRecursion (λ x. length x ≡ input_count exact) vectors → (M : NetValue) → IsAllowedTo metric exact bound N move M → IsFirstMoved metric exact bound N M
+    searched-first widths M allowed = record {
       move = move;
       first = record {
         before = so_far.before;
@@ -82,7 +80,7 @@ module _ (metric : Metric) (exact : NetValue) (bound : ℕ) (N : NetValue) where
         none_before = minimal-none_allowed metric exact bound N vectors so_far.before widths so_far.broken;
         allowed = allowed.allowed;
       };
-      tidied = subst (λ L. IsTidiedFrom L K) allowed.net tidied;
+      net = allowed.net;
     }
 
     pub searched-spent : (limit : ℕ) (s : spent.Spent) → IsSpentOn metric exact (moved N move) bound limit s → IsSpentMove metric exact bound limit N vectors (spent_value s)

@@ -1,22 +1,28 @@
 -- The members of the chain, and what its search comes to.
-use Rattle.std.proofs.Common.{ℕ, ◌≤◌, Option, Some, None, MatchOption, inl}
+use Rattle.std.proofs.Common.{ℕ, ◌≤◌, Option, Some, None, MatchOption, subst, inl}
 use Rattle.semantics.specs.Net.{NetValue, input_count}
 use Rattle.semantics.specs.Error.{Metric}
 use Rattle.chain_semantics.specs.Chain.IsInChain.{next}
 use Rattle.chain_semantics.specs.Minimality.{IsMinimalBy}
 use Rattle.chain_semantics.specs.Moves.{moves_of}
-use Rattle.chain_semantics.specs.Simplification.{IsInSimplification}
+use Rattle.chain_semantics.specs.Simplification.{IsTidiedMove, IsInSimplification}
+use Rattle.chain_semantics.specs.Tidy.{IsTidiedFrom}
 use Rattle.proof_semantics.specs.Queries.{SpentValue}
 use Rattle.job_semantics.specs.Shrinking.{Shrinking, IsSpentMove, IsShownEnd, IsShrinking}
 use Rattle.job_semantics.proofs.MinimalNets.{minimal-none_allowed}
 use Rattle.lane_bits.specs.Patterns.{PatternSet}
 use Rattle.worst_case.specs.declared.exceed.Spent as spent
 use Rattle.worst_case.specs.Exceeds.{spent_value}
-use Rattle.synth_core.specs.Shrinking.{IsPool, IsNextMember}
+use Rattle.synth_core.specs.Shrinking.{IsPool, IsFirstMoved}
 
 module _ (metric : Metric) (exact : NetValue) (bound : ℕ) where
-  pub next-in_simplification : (N M : NetValue) → IsInSimplification metric exact bound N → IsNextMember metric exact bound N M → IsInSimplification metric exact bound M
-  next-in_simplification N M h step = record { start = h.start; tidied = h.tidied; member = next N M step.move h.member step.first step.tidied }
+  -- what the net after the first allowed move is tidied to
+  pub tidied_move : (N M K : NetValue) (step : IsFirstMoved metric exact bound N M) → IsTidiedFrom M K → IsTidiedMove N step.move K
+  tidied_move N M K step tidied = subst (λ L. IsTidiedFrom L K) step.net tidied
+
+  pub next-in_simplification : (N M K : NetValue) → IsInSimplification metric exact bound N → IsFirstMoved metric exact bound N M → IsTidiedFrom M K → IsInSimplification metric exact bound K
+  next-in_simplification N M K h step tidied =
+      record { start = h.start; tidied = h.tidied; member = next N K step.move h.member step.first (tidied_move N M K step tidied) }
 
   -- each move is broken, so none is allowed
   pub shrinking-end : (limit : ℕ) (N : NetValue) (pool : PatternSet) → IsInSimplification metric exact bound N → IsPool exact pool → IsMinimalBy metric exact bound N pool.vectors

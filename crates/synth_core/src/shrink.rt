@@ -66,7 +66,7 @@ pub fn shrink(
     let mut shrunk = tidy(alloc, net.copy()?)?;
     loop {
         match find_step(alloc, net, &shrunk, terms, &mut pool)? {
-            Step::Next(next) => shrunk = next,
+            Step::Moved(moved) => shrunk = tidy(alloc, moved)?,
             Step::End => {
                 return Ok(Shrunk {
                     net: shrunk,

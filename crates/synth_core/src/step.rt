@@ -9,17 +9,16 @@ use adc_core::adc::Adc;
 use lane_bits::patterns::Patterns;
 use net_core::net::Net;
 use net_moves::moves::moves;
-use net_tidy::tidy::tidy;
 use std::alloc::{AllocError, Global};
 use worst_case::exceed::Spent;
 
-/// What comes after a member of the chain.
+/// What is found out about the moves of a member of the chain.
 #[derive(Drop)]
 pub(crate) enum Step {
     /// No move is allowed.
     End,
-    /// The next member.
-    Next(Net),
+    /// The first allowed move makes this net.
+    Moved(Net),
     /// A query was spent before an allowed move was found.
     Spent(Spent),
 }
@@ -50,7 +49,7 @@ pub(crate) fn find_step(
                 pool.push(x.as_slice())?;
                 adc = Adc::new(alloc, exact, net, terms.metric, terms.bound, pool)?;
             }
-            Trial::Allowed(moved) => return Ok(Step::Next(tidy(alloc, moved)?)),
+            Trial::Allowed(moved) => return Ok(Step::Moved(moved)),
             Trial::Spent(spent) => return Ok(Step::Spent(spent)),
         }
     }

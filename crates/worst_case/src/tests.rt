@@ -22,12 +22,7 @@ use std::test::Fail;
 use word_nets::multiplier::mul_net;
 
 /// The net of these tables with the inputs x0, x1 and so on.
-fn net_of(
-    alloc: Global,
-    inputs: u32,
-    tables: TableList,
-    outputs: SignalList,
-) -> Result<Net, Fail> {
+fn net_of(alloc: Global, inputs: u32, tables: TableList, outputs: SignalList) -> Result<Net, Fail> {
     let mut names = Items::new(alloc);
     for place in 0..inputs {
         let text = format!(in alloc; "x{place}")?;
@@ -122,10 +117,8 @@ fn miter(alloc: Global, exact: &Net, approx: &Net, metric: Metric) -> Result<Cnf
 /// Whether the bits are those of the pattern, in which `-` stands for both.
 fn fits(bits: &[bool], pattern: &[u8]) -> bool {
     bits.len() == pattern.len()
-        && bits
-            .iter()
-            .zip(pattern)
-            .all(|(bit, wanted)| *wanted == b'-' || *bit == (*wanted == b'1'))
+        && bits.iter().zip(pattern).all(|(bit, wanted)| *wanted == b'-'
+            || *bit == (*wanted == b'1'))
 }
 
 /// Whether the query at level 0 is answered as wanted: by an input that fits the pattern, or never where it is empty, or spent where
@@ -157,13 +150,24 @@ fn a_multiplier(rt: HostRuntime) -> Result<(), Fail> {
     let alloc = rt.alloc();
     let product = mul_net(alloc, 5)?;
     let even = without_first_output(alloc, &product)?;
-    let cases: [(&Net, u64, &[u8], bool); 3] = [
+    let cases: [(&Net, u64, &[u8], bool); 4] = [
         (&even, 1, b"1----1----", true),
         (&even, 2048, b"1----1----", false),
         (&product, 1, b"", true),
+        (&product, 2048, b"", false),
     ];
     for (approx, limit, over, may_be_spent) in cases {
-        assert!(rt; answers(alloc, &product, approx, Metric::Abs, limit, over, may_be_spent)?);
+        assert!(rt;
+            answers(
+                alloc,
+                &product,
+                approx,
+                Metric::Abs,
+                limit,
+                over,
+                may_be_spent
+            )?
+        );
     }
     Ok(())
 }

@@ -1,7 +1,7 @@
 use Rattle.std.proofs.Common.{◌≡◌, ◌∷◌, ◌++◌, [], sym, ap, subst, ◌∙◌}
 use Rattle.joint_net.specs.Metric.{meaning}
 use Rattle.synth_core.proofs.Pools.{IsPool-more}
-use Rattle.synth_core.proofs.Searching.{IsSearched, trial_over, searched-none, searched-more, searched-new, searched-member, searched-next, searched-spent, searched-all}
+use Rattle.synth_core.proofs.Searching.{IsSearched, trial_over, searched-none, searched-more, searched-new, searched-member, searched-first, searched-spent, searched-all}
 use Rattle.synth_core.proofs.step.find_step.Goals as goal
 
 pub loop-step-init : goal.loop-step-init
@@ -58,8 +58,8 @@ returns-in-Allowed-clause-step c =
     trial_over (meaning c.args.terms.metric) c.args.exact.now c.args.terms.bound c.args.terms.limit c.args.net.now c.loop-step.pool.vectors c.loop-step.adc c.in-Some.step c.in_ok-try_move.field-0 c.loop-step.invariant.masks
     c.in_ok-try_move.ensures in
     let allowed = rw c.in-Allowed.is at found in
-    searched-next (meaning c.args.terms.metric) c.args.exact.now c.args.terms.bound c.args.net.now c.loop-step.pool.vectors c.loop-step.moves c.next.new.self c.in-Some.step c.in-Some.ensures c.loop-step.invariant.searched
-    c.loop-step.invariant.pool.widths c.in-Allowed.moved c.in_ok-tidy-in-Allowed.field-0 allowed c.in_ok-tidy-in-Allowed.ensures
+    searched-first (meaning c.args.terms.metric) c.args.exact.now c.args.terms.bound c.args.net.now c.loop-step.pool.vectors c.loop-step.moves c.next.new.self c.in-Some.step c.in-Some.ensures c.loop-step.invariant.searched
+    c.loop-step.invariant.pool.widths c.in-Allowed.moved allowed
 
 pub returns-in-Spent-clause-step : goal.returns-in-Spent-clause-step
 returns-in-Spent-clause-step c =
