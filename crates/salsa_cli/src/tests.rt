@@ -3,11 +3,11 @@ ghost use Rattle.std.specs.Prelude.{◌<◌};
 
 use crate::arguments;
 use crate::input::read_net;
+use crate::preparing::{Constraint, Prepared, prepare};
 use crate::real_files::RealFiles;
 use crate::real_sink::RealSink;
 use crate::run::{run, run_surely};
 use crate::status::Status;
-use crate::synthesis::prepare;
 use cnf_core::log::Item;
 use file_core::files::Files;
 use file_core::lists::{CallList, FileList};
@@ -223,8 +223,14 @@ fn the_log_is_accepted(rt: HostRuntime) -> Result<(), Fail> {
     let alloc = rt.alloc();
     let mut files = MemFiles::new(holding(alloc, HALF_ADDER)?, failing_at(alloc, 0)?, 64);
     let exact = read_net(alloc, &mut files, b"ha.blif")?;
-    assert!(rt; exact.inputs() <= 8);
-    let bundle = prepare(alloc, exact, Metric::Abs, 1)?;
+    let aim = Constraint {
+        metric: Metric::Abs,
+        bound: 1,
+        limit: 1,
+    };
+    let Prepared::Ready { bundle, .. } = prepare(alloc, exact, aim)? else {
+        return Err(Fail::new("with two inputs nothing is spent"));
+    };
     let mut checker = Checker::new(alloc, &bundle.goal)?;
     for item in bundle.log.as_slice() {
         match item {
@@ -238,7 +244,7 @@ fn the_log_is_accepted(rt: HostRuntime) -> Result<(), Fail> {
 
 #[test]
 fn words_and_their_answers(rt: HostRuntime) -> Result<(), Fail> {
-    let rows: [(&[u8], u8); 19] = [
+    let rows: [(&[u8], u8); 18] = [
         (b"", 1),
         (b" ", 1),
         (b"--help", 1),
@@ -256,7 +262,6 @@ fn words_and_their_answers(rt: HostRuntime) -> Result<(), Fail> {
         (b"synth abs 19342813113834066795298815 1 ha.blif b", 0),
         (b"synth rel 1 1 ha.blif b", 0),
         (b"check abs 1 ha.blif out", 5),
-        (b"demo 1 1 1", 9),
         (b"synth abs 1 1 other.blif b", 5),
     ];
     for (line, exit) in rows {
@@ -319,10 +324,6 @@ fn texts_that_are_refused(rt: HostRuntime) -> Result<(), Fail> {
         assert!(rt; holds(&ended.files, b"out.blif", None));
         assert!(rt; ended.sink.bytes().is_empty());
     }
-    let nine = b".inputs a b c d e f g h i\n.outputs a\n";
-    let ended = run_on(&rt, b"synth abs 3 1 ha.blif out", nine, 64, 0, 0)?;
-    assert_eq!(rt; ended.status.exit(), 9);
-    assert!(rt; holds(&ended.files, b"out.blif", None));
     Ok(())
 }
 
@@ -471,7 +472,7 @@ fn exit_numbers_and_lines(rt: HostRuntime) -> Result<(), Fail> {
         (Status::NoMemory, 3, "out of memory"),
         (Status::ReadFault, 5, "read fault"),
         (Status::WriteFault, 6, "write fault"),
-        (Status::NotYet, 9, "not yet"),
+        (Status::Budget, 4, "conflicts spent"),
         (
             Status::Usage,
             1,
