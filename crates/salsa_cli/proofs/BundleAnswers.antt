@@ -1,5 +1,5 @@
 -- What a job on a net that is at hand comes to, from what its steps say; and that a quiet call has no fault.
-use Rattle.std.proofs.Common.{◌≡◌, ◌⊎◌, ℕ, true, false, Bool, List, [], Option, Some, None, MatchOption, inl, inr, refl, ap, sym, subst, ◌∙◌}
+use Rattle.std.proofs.Common.{◌≡◌, ◌⊎◌, ℕ, false, Bool, List, [], Option, Some, None, MatchOption, inl, inr, refl, ap, sym, subst, ◌∙◌}
 use Rattle.std.specs.Prelude.{unwrap_or, IsTrue}
 use Rattle.semantics.specs.Texts.{Bytes}
 use Rattle.semantics.specs.Net.{NetValue, input_count}
@@ -15,11 +15,11 @@ use Rattle.job_semantics.specs.Bundle.{bundle_text}
 use Rattle.job_semantics.specs.Certificate.{Texts, texts_of, OfBundle, IsNetlist, Certifies}
 use Rattle.job_semantics.proofs.BundleFiles.{bundle_files-holds}
 use Rattle.job_semantics.specs.Shrinking.{IsShownEnd, IsSpentMove}
-use Rattle.job_semantics.specs.Synthesis.{BundleWritten, BundleCutShort, MaximumSpent}
+use Rattle.job_semantics.specs.Synthesis.{BundleWritten, BundleCutShort}
 use Rattle.job_semantics.specs.Demonstration.{demo_stem, IsQuietDemo}
 use Rattle.worst_case.specs.declared.exceed.Spent as spent
 use Rattle.bundle.specs.declared.bundle.Bundle.{Bundle}
-use Rattle.bundle.specs.Value.{bundle_value, files_of, report_of_bundle}
+use Rattle.bundle.specs.Value.{bundle_value, files_of}
 use Rattle.salsa_cli.specs.declared.status.Status.{Status}
 use Rattle.salsa_cli.specs.declared.status.Status.TheVariants.{Done, Verified, Refuted, Usage, Text, NoMemory, Budget, ReadFault, WriteFault, Endless}
 use Rattle.salsa_cli.specs.declared.status.Outcome.{Outcome}

@@ -1,23 +1,18 @@
 -- What a check job comes to, from what its steps say.
-use Rattle.std.proofs.Common.{◌≡◌, ◌≢◌, ◌≤◌, ◌<◌, ◌+◌, ◌^◌, ℕ, min, true, false, ◌∷◌, map, length, inl, inr, refl, ap, sym, subst, ◌∙◌, Some, None, arith}
-use Rattle.std.specs.Prelude.{IsTrue}
-use Rattle.std.specs.List.{AllByRecursion}
-use Rattle.std.specs.FinMap.{contains_key}
+use Rattle.std.proofs.Common.{◌≡◌, ◌≢◌, ◌≤◌, ◌^◌, ℕ, true, false, length, inl, inr, refl, ap, sym, subst, ◌∙◌, None, arith}
 use Rattle.std.proofs.lemmas.Bool.{false_from_ne_true}
 use Rattle.semantics.specs.Texts.{Bytes}
 use Rattle.semantics.specs.Net.{NetValue, IsSound}
 use Rattle.semantics.specs.Error.{Metric}
-use Rattle.outside_semantics.specs.Outside.{Held, FilesTold, SinkTold, Goes, Rose, WhereTold, bytes_of}
+use Rattle.outside_semantics.specs.Outside.{FilesTold, SinkTold, Goes, bytes_of}
 use Rattle.blif_semantics.specs.Reading.{input_limit, blif_reading}
-use Rattle.blif_semantics.proofs.ReadNet.{read_sound}
 use Rattle.file_core.proofs.Told.{Goes-Goes, held_before}
 use Rattle.file_reading.specs.declared.unread.Unread.TheVariants as unread
 use Rattle.file_reading.specs.Reading.{FilesStay, FileFailed}
 use Rattle.job_semantics.specs.declared.ending.Ending.{Ending}
-use Rattle.job_semantics.specs.declared.clause.Clause.{Clause}
-use Rattle.job_semantics.specs.Endings.{bundle_endings, bundle_name}
+use Rattle.job_semantics.specs.Endings.{bundle_name}
 use Rattle.job_semantics.specs.Input.{IsReadAs}
-use Rattle.job_semantics.specs.Certificate.{Texts, texts_of, OfBundle, Certifies, IsFirstFailing, IsNeededFor, clause_number}
+use Rattle.job_semantics.specs.Certificate.{Texts, texts_of, OfBundle, Certifies, IsNeededFor}
 use Rattle.job_semantics.proofs.Certificates.{verified_law}
 use Rattle.job_semantics.specs.Synthesis.{OfInput, WhereHeld}
 use Rattle.job_semantics.specs.Checking.{IsLeftAlone, ShowsItsBound, CheckVerified, CheckRefuted, IsNeeded, CheckReadFault, CheckEndless, IsQuietCheck}

@@ -1,10 +1,10 @@
 -- The headline, from what each answer says.
-use Rattle.std.proofs.Common.{◌≡◌, ◌≢◌, ℕ, Bool, List, Option, Some, None, MatchOption, Result, Ok, Err, refl, ap, sym, subst, ◌∙◌}
+use Rattle.std.proofs.Common.{◌≡◌, ◌≢◌, ℕ, Bool, List, Option, Some, None, MatchOption, Result, Ok, Err, refl, sym, subst, ◌∙◌}
 use Rattle.semantics.specs.Texts.{Bytes}
 use Rattle.semantics.specs.Net.{NetValue}
 use Rattle.semantics.specs.Error.{Metric}
 use Rattle.outside_semantics.specs.Outside.{Held, FilesTold, SinkTold, bytes_of}
-use Rattle.blif_semantics.specs.Reading.{input_limit, Refusal, blif_reading}
+use Rattle.blif_semantics.specs.Reading.{Refusal}
 use Rattle.chain_semantics.specs.Simplification.{IsSimplificationEnd}
 use Rattle.proof_semantics.specs.Queries.{SpentValue}
 use Rattle.job_semantics.specs.Job.{Job, synth, check}
@@ -12,7 +12,7 @@ use Rattle.job_semantics.specs.Input.{IsReadAs}
 use Rattle.job_semantics.specs.Certificate.{Texts, texts_of}
 use Rattle.job_semantics.specs.Checking.{ShowsItsBound}
 use Rattle.job_semantics.specs.Shrinking.{IsShownEnd, IsSpentMove}
-use Rattle.job_semantics.specs.Synthesis.{BundleWritten, SynthDone, IsQuietSynth}
+use Rattle.job_semantics.specs.Synthesis.{BundleWritten}
 use Rattle.job_semantics.specs.Headline.{KeepsItsPromise, AdmitsNoMore, Headline}
 use Rattle.salsa_cli.specs.declared.status.Status.{Status}
 use Rattle.salsa_cli.specs.declared.status.Status.TheVariants.{Done, Verified, Refuted, Usage, Text, NoMemory, Budget, ReadFault, WriteFault, Endless}

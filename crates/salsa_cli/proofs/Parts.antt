@@ -1,12 +1,11 @@
 -- What is ready before the first file is touched, from its parts.
-use Rattle.std.proofs.Common.{◌≡◌, ◌^◌, ◌<◌, ◌≤◌, ℕ, true, Option, Some, None, is_none, MatchOption, List, [], ◌∷◌, length, refl, ap, sym, subst, ◌∙◌, arith}
+use Rattle.std.proofs.Common.{◌≡◌, ◌^◌, ◌<◌, ◌≤◌, ℕ, Option, Some, None, is_none, MatchOption, List, [], ◌∷◌, length, refl, ap, sym, subst, ◌∙◌, arith}
 use Rattle.std.specs.Prelude.{Bool, IsTrue}
-use Rattle.std.specs.List.{AllByRecursion}
-use Rattle.semantics.specs.Net.{NetValue, IsSound, IsSmall, HasSamePorts, input_count, literal_count}
-use Rattle.semantics.specs.Error.{Metric, net_error, IsWithin}
+use Rattle.semantics.specs.Net.{NetValue, IsSound, IsSmall, literal_count}
+use Rattle.semantics.specs.Error.{Metric}
 use Rattle.chain_semantics.specs.declared.moves.Move.{Move}
 use Rattle.chain_semantics.specs.Moves.{moves_of}
-use Rattle.chain_semantics.specs.Minimality.{AreBrokenBySome, IsMinimalBy}
+use Rattle.chain_semantics.specs.Minimality.{AreBrokenBySome}
 use Rattle.chain_semantics.specs.SimplificationLaws.{IsSimplifiedNet}
 use Rattle.chain_semantics.proofs.MoveLists.{Contains-later}
 use Rattle.chain_semantics.proofs.Simplifications.{simplified, simplified-small}

@@ -1,17 +1,15 @@
 -- What a synth job comes to, from the reading of IN and what is made of its net.
-use Rattle.std.proofs.Common.{◌≡◌, ◌≢◌, ℕ, true, false, Option, Some, None, [], inl, inr, refl, ap, sym, subst, ◌∙◌}
+use Rattle.std.proofs.Common.{◌≡◌, ◌≢◌, ℕ, true, false, Option, [], inl, inr, refl, sym, subst}
 use Rattle.semantics.specs.Texts.{Bytes}
-use Rattle.semantics.specs.Net.{NetValue, input_count}
+use Rattle.semantics.specs.Net.{NetValue}
 use Rattle.semantics.specs.Error.{Metric}
 use Rattle.outside_semantics.specs.Outside.{FilesTold, SinkTold, Goes, bytes_of}
 use Rattle.outside_semantics.specs.WrittenFiles.{FilesWritten}
 use Rattle.blif_semantics.specs.Reading.{input_limit, blif_reading}
 use Rattle.file_core.proofs.Told.{held_before}
-use Rattle.file_reading.specs.Reading.{FilesStay}
-use Rattle.proof_semantics.specs.Conflicts.{IsEnough}
 use Rattle.proof_semantics.specs.Queries.{SpentValue}
 use Rattle.job_semantics.specs.Certificate.{Texts, OfBundle, IsNetlist, Certifies}
-use Rattle.job_semantics.specs.Synthesis.{WhereHeld, OfInput, IsUntouched, BundleWritten, BundleCutShort, SynthDone, SynthReadFault, SynthWriteFault, CountsAsAccepted, IsQuietSynth}
+use Rattle.job_semantics.specs.Synthesis.{WhereHeld, OfInput, IsUntouched, BundleWritten, BundleCutShort, SynthReadFault, SynthWriteFault, CountsAsAccepted, IsQuietSynth}
 use Rattle.job_semantics.specs.Input.{IsReadAs}
 use Rattle.bundle.proofs.FilesInOrder.{FilesWritten-then, FilesCutShort-after}
 use Rattle.salsa_cli.specs.declared.status.Status.{Status}
@@ -72,24 +70,23 @@ cut_since read c = record {
 }
 
 goes_cut : {metric : Metric} {bound limit : ℕ} {stem : Bytes} {mid new : FilesTold} {said says : SinkTold} {N : NetValue} → BundleCutShort metric bound limit N stem mid new said says → Goes mid new
-goes_cut c = elim c.left [ | inl cut ↦ cut.0.goes | inr put ↦ put.0.goes ]
+goes_cut c = elim c.left [ inl cut ↦ cut.0.goes | inr put ↦ put.0.goes ]
 
 pub SynthAnswer-from : (metric : Metric) (bound limit : ℕ) (input stem : Bytes) (old mid new : FilesTold) (said says : SinkTold) (N : NetValue) (spent level : Option SpentValue) (status : Status)
     → NetRead old mid input N → BundleAnswerAt metric bound limit N stem mid new said says spent level status
     → SynthAnswerAt metric bound limit input stem old new said says spent level status
 SynthAnswer-from metric bound limit input stem old mid new said says N spent level Done read answer =
     (record { exact = N; read = read_later read answer.0.files.goes; written = written_since read answer.0 }, answer.1)
-SynthAnswer-from metric bound limit input stem old mid new said says N spent level Budget read answer =
-    (
-      answer.2,
-      answer.3,
-      record {
-        untouched = untouched read new says answer.0 answer.1;
-        exact = N;
-        read = subst (λ n. OfInput old n input (λ text. IsReadAs text N)) (sym answer.0) read.read;
-        search = answer.4;
-      },
-    )
+SynthAnswer-from metric bound limit input stem old mid new said says N spent level Budget read answer = (
+  answer.2,
+  answer.3,
+  record {
+    untouched = untouched read new says answer.0 answer.1;
+    exact = N;
+    read = subst (λ n. OfInput old n input (λ text. IsReadAs text N)) (sym answer.0) read.read;
+    search = answer.4;
+  },
+)
 SynthAnswer-from metric bound limit input stem old mid new said says N spent level NoMemory read answer = (untouched read new says answer.0 answer.1, answer.2)
 SynthAnswer-from metric bound limit input stem old mid new said says N spent level WriteFault read answer =
     (record { exact = N; read = read_later read (goes_cut answer.0); left = cut_since read answer.0 }, answer.1)

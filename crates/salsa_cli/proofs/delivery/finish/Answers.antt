@@ -5,11 +5,10 @@ use Rattle.salsa_cli.proofs.BundleAnswers.{BundleWritten-from, BundleCutShort-fr
 use Rattle.salsa_cli.proofs.delivery.finish.Goals as goal
 
 pub returns-in-Ok : goal.returns-in-Ok
-returns-in-Ok g c =
-    (
-      BundleWritten-from refl (subst (IsPrepared c.args.exact (meaning c.args.aim.metric) c.args.aim.bound c.args.aim.limit) c.in-Ok-Ready.field-0-is c.in-Ok-Ready.ensures) c.in-Ok.ensures.ok,
-      refl,
-    )
+returns-in-Ok g c = (
+  BundleWritten-from refl (subst (IsPrepared c.args.exact (meaning c.args.aim.metric) c.args.aim.bound c.args.aim.limit) c.in-Ok-Ready.field-0-is c.in-Ok-Ready.ensures) c.in-Ok.ensures.ok,
+  refl,
+)
 
 pub returns : goal.returns
 returns g c =
