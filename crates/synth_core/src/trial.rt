@@ -1,6 +1,6 @@
 //! Whether a move keeps the bound: by the masks, and where they tell nothing, by a query.
 ghost use Rattle.std.specs.Prelude.{◌≡◌, ◌≤◌, length, IfOk, Contains};
-ghost use Rattle.semantics.specs.Net.{input_count, IsSound, HasSamePorts};
+ghost use Rattle.semantics.specs.Net.{input_count, HasSamePorts};
 ghost use Rattle.semantics.specs.Vectors.{all_vectors};
 ghost use Rattle.chain_semantics.specs.Moves.{moves_of};
 ghost use Rattle.joint_net.specs.Metric.{meaning};
