@@ -15,7 +15,7 @@ use Rattle.chain_semantics.specs.Simplification.{IsAllowedMove}
 use Rattle.chain_semantics.specs.MoveLaws.{IsMovedFrom}
 use Rattle.chain_semantics.proofs.MoveMembers.{move_is}
 use Rattle.chain_semantics.proofs.MovedNets.{moved-keeps}
-use Rattle.proof_semantics.specs.Queries.{IsOver}
+use Rattle.worst_case.specs.Trial.{IsExceededAt}
 use Rattle.adc_core.specs.Masks.{FindsFirstBroken}
 use Rattle.synth_core.specs.Trials.{IsNewVector}
 use Rattle.synth_core.proofs.Pools.{vector_at}
@@ -47,7 +47,7 @@ module _ (metric : Metric) (exact : NetValue) (bound : ℕ) (N : NetValue) (vect
 
   -- none was found, and a query gave a vector
   pub found_new : (found : Option ℕ) → found ≡ None → FindsFirstBroken metric exact bound N vectors move found → (M : NetValue) (x : List Bool) → M ≡ moved N move
-      → 8 < input_count exact → IsOver metric exact M bound x → IsNewVector metric exact bound N vectors move x
+      → 8 < input_count exact → IsExceededAt metric exact M bound x → IsNewVector metric exact bound N vectors move x
   found_new found is h M x made many over =
       let broken : IsBrokenAt metric exact bound N move x = subst (λ K. bound < net_error metric exact K x) made over.exceeds in
       record {

@@ -1,8 +1,8 @@
 //! The chain of simplifications, from the tidied net to the member of which no move is allowed.
 //!
 //! A move that some known input vector breaks is refused by the masks of the member, without making the moved net. With few inputs
-//! every vector is known, so the others are allowed. With more the known vectors are those that answered earlier queries, and each
-//! other move costs a query. An allowed move is made; then the moved net is tidied, and the moves begin again, since one that was
+//! every vector is known, so the others are allowed. With more the known vectors are those that broke earlier moves, and each other
+//! move is made and asked about: with at most fifteen inputs by a trial of every vector, with more by a query. An allowed move is made; then the moved net is tidied, and the moves begin again, since one that was
 //! refused before may be allowed now. The chain ends, since each step removes literals, or with the first query that is spent.
 ghost use Rattle.std.specs.Prelude.{◌≡◌, ◌≤◌, length, option_map, IfOk};
 ghost use Rattle.semantics.specs.Net.{input_count, IsSmall};

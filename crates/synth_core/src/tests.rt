@@ -1,4 +1,4 @@
-//! A multiplier whose error never exceeds the bound: every move is allowed, and each costs a query.
+//! A multiplier whose error never exceeds the bound: every move is allowed.
 ghost use Rattle.std.specs.Prelude.{IfOk};
 ghost use Rattle.semantics.specs.Net.{IsSmall};
 

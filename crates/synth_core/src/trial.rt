@@ -1,4 +1,4 @@
-//! Whether a move keeps the bound: by the masks, and where they tell nothing, by a query.
+//! Whether a move keeps the bound: by the masks, and where they tell nothing, by a trial of every vector or by a query.
 ghost use Rattle.std.specs.Prelude.{◌≡◌, ◌≤◌, length, IfOk, Contains};
 ghost use Rattle.semantics.specs.Net.{input_count, HasSamePorts};
 ghost use Rattle.semantics.specs.Vectors.{all_vectors};
@@ -14,8 +14,8 @@ use net_core::items::Bits;
 use net_core::net::Net;
 use net_moves::apply::apply;
 use std::alloc::{AllocError, Global};
-use worst_case::exceed::{Exceed, Spent};
-use worst_case::exceeds::exceeds;
+use worst_case::exceed::Spent;
+use worst_case::margin::{Margin, within_level};
 
 /// The most inputs of a net for which every vector is a pattern.
 pub(crate) const FEW_INPUTS: u32 = 8;
@@ -41,7 +41,7 @@ pub(crate) enum Trial {
     Spent(Spent),
 }
 
-/// Tries a move of `net`. With few inputs every vector is a pattern, so no query is asked.
+/// Tries a move of `net`. With few inputs every vector is a pattern, so nothing more is asked.
 pub(crate) fn try_move(
     alloc: Global,
     exact: &Net,
@@ -69,9 +69,9 @@ pub(crate) fn try_move(
     if exact.inputs() <= FEW_INPUTS {
         return Ok(Trial::Allowed(moved));
     }
-    match exceeds(alloc, exact, &moved, terms.metric, terms.bound, terms.limit)? {
-        Exceed::Over(x) => Ok(Trial::New(x)),
-        Exceed::Never(_) => Ok(Trial::Allowed(moved)),
-        Exceed::Spent(spent) => Ok(Trial::Spent(spent)),
+    match within_level(alloc, exact, &moved, terms.metric, terms.bound, terms.limit)? {
+        Margin::Over(x) => Ok(Trial::New(x)),
+        Margin::Within => Ok(Trial::Allowed(moved)),
+        Margin::Spent(spent) => Ok(Trial::Spent(spent)),
     }
 }

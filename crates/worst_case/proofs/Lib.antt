@@ -3,3 +3,4 @@ pub mod Goals
 pub mod Queries
 pub mod FirstGreatest
 pub mod Ranges
+pub mod Tried

@@ -41,7 +41,7 @@ smaller bound high is =
 -- what the trial vectors and the bound make of it
 pub IsRange-first : (metric : Metric) (N M : NetValue) (bound high most : ℕ) (x : List Bool) (s : PatternSet) → HasSamePorts N M → length N.outputs ≤ 64 → IsWithin metric N bound M
     → IsTrial (input_count N) s → IsFirstGreatestOf (net_error metric N M) s.vectors most x → length x ≡ input_count N
-    → ((input_count N ≤ 8) × (high ≡ most)) ⊎ ((8 < input_count N) × (high ≤ bound) × (high < 2 ^ 84) × ((high ≡ bound) ⊎ (high + 1 ≡ 2 ^ 84)))
+    → ((input_count N ≤ 15) × (high ≡ most)) ⊎ ((15 < input_count N) × (high ≤ bound) × (high < 2 ^ 84) × ((high ≡ bound) ⊎ (high + 1 ≡ 2 ^ 84)))
     → IsRange metric N M bound (record { low = most; witness = x; high = high; log = None })
 IsRange-first metric N M bound high most x s ports few within trial best width (inl small) =
     let first = IsFirstGreatestAt-all (input_count N) (net_error metric N M) s.vectors most x (trial.all small.0) best in

@@ -2,3 +2,4 @@ pub mod Outputs
 pub mod Exceeds
 pub mod Trial
 pub mod Maximum
+pub mod Levels

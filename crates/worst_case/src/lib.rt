@@ -5,6 +5,7 @@ mod bits;
 pub mod exceed;
 pub mod exceeds;
 mod first_true;
+pub mod margin;
 pub mod maximum;
 mod range;
 #[cfg(test)]

@@ -7,16 +7,13 @@ ghost use Rattle.worst_case.specs.Maximum.{IsRange, IsTurn};
 
 use crate::exceed::{Exceed, Spent};
 use crate::exceeds::exceeds;
-use crate::trial::{greatest_of, trial_vectors};
+use crate::trial::{TRIED_INPUTS, greatest_of, trial_vectors};
 use cnf_core::log::Log;
 use joint_net::metric::Metric;
 use joint_net::net_error::error_at;
 use net_core::items::Bits;
 use net_core::net::Net;
 use std::alloc::{AllocError, Global};
-
-/// The most inputs of a net of which every vector is tried.
-const FEW_INPUTS: u32 = 8;
 
 /// No error of at most 64 outputs is greater.
 const LARGEST_ERROR: u128 = 19342813113834066795298815;
@@ -53,7 +50,7 @@ pub fn first_range(
 {
     let vectors = trial_vectors(alloc, exact.inputs())?;
     let best = greatest_of(alloc, exact, approx, metric, &vectors)?;
-    let high = if exact.inputs() <= FEW_INPUTS {
+    let high = if exact.inputs() <= TRIED_INPUTS {
         best.error
     } else {
         bound.min(LARGEST_ERROR)

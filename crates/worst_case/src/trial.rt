@@ -3,7 +3,7 @@ ghost use Rattle.std.specs.Prelude.{◌≡◌, ◌≤◌, ◌<◌, length, IfOk}
 ghost use Rattle.semantics.specs.Net.{HasSamePorts, input_count};
 ghost use Rattle.semantics.specs.Error.{net_error};
 ghost use Rattle.joint_net.specs.Metric.{meaning};
-ghost use Rattle.worst_case.specs.Trial.{IsTrial, IsFirstGreatestOf};
+ghost use Rattle.worst_case.specs.Trial.{IsTrial, IsFirstGreatestOf, FindsOver};
 
 use crate::bits::copied;
 use joint_net::metric::Metric;
@@ -14,7 +14,7 @@ use net_core::net::Net;
 use std::alloc::{AllocError, Global};
 
 /// The most inputs of a net of which every vector is tried.
-const FEW_INPUTS: u32 = 8;
+pub const TRIED_INPUTS: u32 = 15;
 
 /// How many vectors of a net with more inputs are tried.
 const TRIALS: u32 = 256;
@@ -41,12 +41,12 @@ fn set_trial(j: u32, x: &mut [bool]) {
     }
 }
 
-/// The vectors that are tried: with few inputs all in counting order, with more a fixed choice.
+/// The vectors that are tried: with at most fifteen inputs all in counting order, with more a fixed choice.
 pub fn trial_vectors(alloc: Global, inputs: u32) -> Result<Patterns, AllocError>
     requires { inputs ≤ 256 }
     ensures { IfOk result (IsTrial inputs) }
 {
-    if inputs <= FEW_INPUTS {
+    if inputs <= TRIED_INPUTS {
         return Patterns::exhaustive(alloc, inputs);
     }
     let mut set = Patterns::new(alloc, inputs);
@@ -91,4 +91,29 @@ pub fn greatest_of(
         error: most,
         witness: copied(alloc, x)?,
     })
+}
+
+/// The first of the vectors whose error exceeds `k`.
+pub fn first_over(
+    alloc: Global,
+    exact: &Net,
+    approx: &Net,
+    metric: Metric,
+    k: u128,
+    vectors: &Patterns,
+) -> Result<Option<Bits>, AllocError>
+    requires ports { HasSamePorts exact.now approx.now }
+    requires few_outputs { length exact.now.outputs ≤ 64 }
+    requires inputs { vectors.now.inputs ≡ input_count exact.now }
+    ensures { IfOk result (FindsOver (meaning metric) exact.now approx.now k vectors.now.vectors) }
+{
+    let mut vector = vec![in alloc; false; exact.inputs() as usize]?;
+    let x = vector.as_mut_slice();
+    for j in 0..vectors.count() {
+        vectors.get(j, x);
+        if error_at(alloc, exact, approx, metric, x)? > k {
+            return Ok(Some(copied(alloc, x)?));
+        }
+    }
+    Ok(None)
 }

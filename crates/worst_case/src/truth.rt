@@ -1,5 +1,5 @@
-//! Whether the one output of a net is ever 1. With at most eight inputs every vector is tried; with more the solver is asked, and
-//! where its conflicts are spent although they were enough for the inputs, every vector is tried after all.
+//! Whether the one output of a net is ever 1. With at most eight inputs every vector is tried; with more the solver is asked. Where the
+//! conflicts are enough for the inputs it gets few of them, and then every vector is tried after all.
 ghost use Rattle.std.specs.Prelude.{◌≡◌, ◌↔◌, ◌<◌, ◌≤◌, ◌^◌, length, take, IfOk, IsTrue};
 ghost use Rattle.semantics.specs.Net.{input_count, IsSound};
 ghost use Rattle.proof_semantics.specs.Formula.{goal_of};
@@ -22,6 +22,9 @@ pub const FEW_INPUTS: u32 = 8;
 
 /// The most inputs of a net that can be refuted by cases.
 const MOST_INPUTS: u32 = 15;
+
+/// The most conflicts of the solver where every vector can be tried instead.
+const FEW_CONFLICTS: u64 = 3000;
 
 /// Where the one output of a net is 1.
 #[derive(Drop)]
@@ -103,8 +106,11 @@ pub fn ever_true(alloc: Global, net: &Net, goal: &Cnf, limit: u64) -> Result<Tru
     if net.inputs() <= FEW_INPUTS {
         return try_all(alloc, net, goal);
     }
-    match ask_solver(alloc, net, goal, limit)? {
-        Truth::Spent(_) if is_enough(limit, net.inputs()) => try_all(alloc, net, goal),
+    if !is_enough(limit, net.inputs()) {
+        return ask_solver(alloc, net, goal, limit);
+    }
+    match ask_solver(alloc, net, goal, limit.min(FEW_CONFLICTS))? {
+        Truth::Spent(_) => try_all(alloc, net, goal),
         truth => Ok(truth),
     }
 }

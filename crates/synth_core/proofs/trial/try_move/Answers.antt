@@ -21,8 +21,8 @@ returns-then-inputs-le-FEW_INPUTS c =
       net = c.in_ok-moved.ensures;
     }
 
-pub exceeds-requires-clause-ports : goal.exceeds-requires-clause-ports
-exceeds-requires-clause-ports c =
+pub within_level-requires-clause-ports : goal.within_level-requires-clause-ports
+within_level-requires-clause-ports c =
     moved-ports c.args.exact.now c.args.net.now c.args.step c.in_ok-moved.moved c.in_ok-moved.ensures c.inputs.ensures.built.sound c.requires.step c.requires.ports
 
 pub returns-in-Over : goal.returns-in-Over
