@@ -29,7 +29,7 @@ pub record KeepsItsPromise (metric : Metric) (bound : ℕ) (exact : NetValue) (t
   pub no_more_tables : table_count approx ≤ table_count exact
   pub no_more_literals : literal_count approx ≤ literal_count exact
 
--- The texts are a certificate, so that `check` verifies them, and no single simplification of their circuit keeps the bound.
+-- The texts are a certificate, so that `check` verifies them where each has fewer than 2^40 bytes, and no single simplification of their circuit keeps the bound.
 pub record AdmitsNoMore (metric : Metric) (bound : ℕ) (exact : NetValue) (texts : Texts) : Type 0 where
   pub certificate : Certifies exact metric bound texts
   pub approx : NetValue

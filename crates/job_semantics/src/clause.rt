@@ -21,6 +21,6 @@ pub enum Clause {
     Log,
     /// The counts are those of the two nets, and none grew.
     Counts,
-    /// The report says `minimal no`: not all moves are there yet.
+    /// Where the report says `minimal yes`, each move of the net as it was read is broken by some line of the vectors.
     Minimal,
 }

@@ -27,9 +27,11 @@ pub record SpentValue : Type 0 where
   pub merged : ℕ
   pub log : List LogItem
 
--- The limit is not enough for the inputs, and the log has spent it: exactly so many conflicts over the miter after the merged steps.
+-- The limit is not enough for the inputs, and the log has spent it: exactly so many conflicts over the miter after the merged steps, of
+-- which there are none so far.
 pub record IsSpentQuery (metric : Metric) (exact : NetValue) (limit : ℕ) (s : SpentValue) : Type 0 where
   pub not_enough : ¬ IsEnough limit (input_count exact)
+  pub merged : s.merged ≡ 0
   pub chain : IsConflictChain (miter exact s.net metric s.k) s.merged limit s.log
 
 -- The greatest error over all inputs, an input that has it, and a log that refutes the miter at it; with at most eight inputs the input is the

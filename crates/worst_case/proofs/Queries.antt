@@ -1,5 +1,5 @@
 -- What the joint net's output and the miter say of the two nets.
-use Rattle.std.proofs.Common.{◌≡◌, ℕ, Bool, true, false, ltb, List, [], ◌∷◌, get_or, ap, sym, subst, ◌∙◌, arith}
+use Rattle.std.proofs.Common.{refl, ◌≡◌, ℕ, Bool, true, false, ltb, List, [], ◌∷◌, get_or, ap, sym, subst, ◌∙◌, arith}
 use Rattle.std.proofs.lemmas.Bool.{ltb-true, ltb-false}
 use Rattle.semantics.specs.Net.{NetValue, input_count}
 use Rattle.semantics.specs.Value.{outputs_of}
@@ -48,6 +48,7 @@ IsNever-from metric N M k h J is log refuted = never_joint metric N M k h log (s
 spent_joint : (metric : Metric) (N M : NetValue) (k limit : ℕ) (log : List LogItem) → IsExhausted (joint_net N M metric k) limit log
     → IsSpentQuery metric N limit (record { net = M; k = k; merged = 0; log = log })
 spent_joint metric N M k limit log spent = record {
+  merged = refl;
   not_enough = λ enough. spent.not_enough (subst (IsEnough limit) (sym (joint_inputs N M metric k)) enough);
   chain = spent.chain;
 }

@@ -93,7 +93,7 @@ pub fn greatest_of(
     })
 }
 
-/// The first of the vectors whose error exceeds `k`.
+/// One of the vectors whose error exceeds `k`.
 pub fn first_over(
     alloc: Global,
     exact: &Net,
