@@ -8,7 +8,7 @@ ghost use Rattle.joint_net.specs.Metric.{meaning};
 ghost use Rattle.bundle.specs.Reading.{report_read};
 ghost use Rattle.bundle.specs.Judging.{Answers, FilesKept, IsCause, IsJudged, NothingKnown, NetKnown, ReportKnown, WitnessKnown, FormulaKnown, LogKnown};
 
-use crate::claim::{Claim, Contents, are_counts, error_at, miter};
+use crate::claim::{Claim, Contents, are_counts, miter};
 use crate::file_texts::{
     is_formula, is_refuted, read_netlist, read_report_file, read_vectors_file,
 };
@@ -21,6 +21,7 @@ use file_core::files::Files;
 use file_reading::unread::Unread;
 use job_semantics::ending::Ending;
 use joint_net::metric::Metric;
+use joint_net::net_error::error_at;
 use joint_net::ports::same_ports;
 use net_core::net::Net;
 use std::alloc::{AllocError, Global};

@@ -1,8 +1,7 @@
 //! What a bundle is checked for, and the nets in it.
 ghost use Rattle.std.specs.Prelude.{◌≡◌, ◌≤◌, ◌↔◌, length, IsTrue, IfOk};
-ghost use Rattle.semantics.specs.Net.{HasSamePorts, IsSmall, IsSound, input_count};
-ghost use Rattle.semantics.specs.Value.{outputs_of};
-ghost use Rattle.semantics.specs.Error.{abs, net_error};
+ghost use Rattle.semantics.specs.Net.{HasSamePorts, IsSmall, IsSound};
+ghost use Rattle.semantics.specs.Error.{abs};
 ghost use Rattle.proof_semantics.specs.Miter.{miter};
 ghost use Rattle.job_semantics.specs.Certificate.{AreCounts};
 ghost use Rattle.joint_net.specs.Metric.{meaning};
@@ -12,11 +11,9 @@ use crate::report_reading::ReportRead;
 use crate::stem::Stem;
 use cnf_core::cnf::Cnf;
 use cnf_core::of_net::of_goal;
-use joint_net::error::error;
 use joint_net::joint::joint;
 use joint_net::metric::Metric;
 use lane_bits::patterns::Patterns;
-use net_core::items::Bits;
 use net_core::net::Net;
 use std::alloc::{AllocError, Global};
 
@@ -58,38 +55,6 @@ pub(crate) fn miter(
 {
     let net = joint(alloc, exact, approx, metric, level)?;
     of_goal(alloc, &net)
-}
-
-/// The outputs at an input vector.
-fn outputs(alloc: Global, net: &Net, x: &[bool]) -> Result<Bits, AllocError>
-    requires { length x.now ≡ input_count net.now }
-    ensures { IfOk result (λ word. word ≡ outputs_of net.now x.now) }
-{
-    let mut vals = vec![in alloc; false; net.signals() as usize]?;
-    net.eval(x, &mut vals);
-    let mut word = Bits::new(alloc);
-    for i in 0..net.outputs() {
-        word.push(vals[net.output(i) as usize])?;
-    }
-    Ok(word)
-}
-
-/// The error of the approximate net at an input vector.
-pub(crate) fn error_at(
-    alloc: Global,
-    exact: &Net,
-    approx: &Net,
-    metric: Metric,
-    x: &[bool],
-) -> Result<u128, AllocError>
-    requires ports { HasSamePorts exact.now approx.now }
-    requires few_outputs { length exact.now.outputs ≤ 64 }
-    requires width { length x.now ≡ input_count exact.now }
-    ensures { IfOk result (λ e. e ≡ net_error (meaning metric) exact.now approx.now x.now) }
-{
-    let right = outputs(alloc, exact, x)?;
-    let word = outputs(alloc, approx, x)?;
-    Ok(error(metric, right.as_slice(), word.as_slice()))
 }
 
 /// Whether the report's counts are those of the two nets, and none grew.
