@@ -1,5 +1,6 @@
 -- Worked examples, computed from the definitions. Their counts and outputs are those of a program that was written apart from them.
 use Rattle.std.specs.Prelude.{◌≡◌, ℕ, ◌+◌, List, [], ◌∷◌, map, length, take, codes}
+use Rattle.std.specs.List.{range_with_len}
 use Rattle.semantics.specs.Net.{TableValue, row_count}
 use Rattle.semantics.specs.Error.{abs, rel, ham}
 use Rattle.semantics.specs.Blif.{blif_text}
@@ -7,7 +8,7 @@ use Rattle.semantics.specs.Examples.{text, half_adder, constant_sum, wire}
 use Rattle.quality_semantics.specs.Forms.{Form, zero_form, one_form, or2, xor2, xor3, maj, gt, grow, low}
 use Rattle.quality_semantics.specs.WordNets.{table_of, started}
 use Rattle.quality_semantics.specs.Buses.{binary, constant, add, times, not_zero_low, at_least}
-use Rattle.quality_semantics.specs.Multiply.{multiplier, multiplier_net}
+use Rattle.quality_semantics.specs.Multiply.{product_rows, sum_of_rows, multiplier, multiplier_net}
 use Rattle.quality_semantics.specs.Quality.{quality, quality_net}
 use Rattle.quality_semantics.specs.Joint.{joint_net}
 
@@ -47,10 +48,18 @@ pub record OtherExamples : Type 0 where
   pub not_zero : (not_zero_low (started 4) (0 ∷ 1 ∷ [])).bus ≡ 6 ∷ 1 ∷ []
   pub tripled : (times (started 4) (0 ∷ 1 ∷ []) 3).bus ≡ 6 ∷ 8 ∷ 10 ∷ 11 ∷ []
 
+-- how many bits the sum of the first k rows has, in the multiplier of two words of w bits
+abbrev pub sum_width : ℕ → ℕ → ℕ
+sum_width w k =
+    let partial = product_rows (started (w + w)) (range_with_len 0 w) (range_with_len w w) in
+    length (sum_of_rows partial.net (take k partial.rows)).bus
+
 pub record MultiplierExamples : Type 0 where
   pub tables : (length (multiplier 1).net.tables ≡ 3) × (length (multiplier 2).net.tables ≡ 12) × (length (multiplier 4).net.tables ≡ 54)
   pub bits : (length (multiplier 1).bus ≡ 1) × (length (multiplier 2).bus ≡ 4) × (length (multiplier 4).bus ≡ 8)
   pub outputs : (multiplier_net 2).outputs ≡ 10 ∷ 12 ∷ 14 ∷ 15 ∷ []
+  pub widths_of_four : map (sum_width 4) (1 ∷ 2 ∷ 3 ∷ 4 ∷ []) ≡ 4 ∷ 6 ∷ 7 ∷ 8 ∷ []
+  pub widths_of_five : map (sum_width 5) (1 ∷ 2 ∷ 3 ∷ 4 ∷ 5 ∷ []) ≡ 5 ∷ 7 ∷ 8 ∷ 9 ∷ 10 ∷ []
 
 pub record JointExamples : Type 0 where
   -- an output that is an input: the quality network's tables alone, over one signal twice

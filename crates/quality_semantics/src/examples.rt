@@ -11,7 +11,7 @@ pub fn others()
     ensures { OtherExamples }
 {}
 
-/// Multipliers of one, two and four bits.
+/// Multipliers of one, two, four and five bits.
 pub fn multipliers()
     ensures { MultiplierExamples }
 {}
