@@ -73,7 +73,7 @@ FileRead-from {old} {opened} {before} {now} {name} {front} {text} {room} was sof
 pub FileEndless-from : {old opened now : FilesTold} {name text : Bytes} → Opened old opened name → SoFar opened now text → 2 ^ 40 ≤ length text → FileEndless old now name text
 FileEndless-from {old} {opened} {now} {name} {text} was sofar turns = record {
   stay = FilesStay-from was sofar.keeps;
-  turns = turns;
+  taken = turns;
   long = λ a b told tells.
       let opened_told = (stays_since was sofar.keeps a b told tells).0 in
       let has = sofar.reads a name opened_told (HasRead-none was a told opened_told) in

@@ -47,8 +47,8 @@ pub record FileFailed (old new : FilesTold) (name : Bytes) : Type 0 where
   pub rose : Rose old.faults new.faults
   pub not_steady : old.steady_read name ≡ false
 
--- each of 2 ^ 40 turns gave a byte, and so many bytes the file has
+-- the budget of turns was spent: each gave a byte, so as many bytes were taken in, and so many the file has
 pub record FileEndless (old new : FilesTold) (name text : Bytes) : Type 0 where
   pub stay : FilesStay old new name
-  pub turns : 2 ^ 40 ≤ length text
+  pub taken : 2 ^ 40 ≤ length text
   pub long : WhereTold old new (λ a b. 2 ^ 40 ≤ length (bytes_of a name))
