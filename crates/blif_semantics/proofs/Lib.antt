@@ -8,6 +8,7 @@ pub mod Accepted
 pub mod WrittenNet
 pub mod WrittenLength
 pub mod Written
+pub mod Lengths
 pub mod ReadNet
 pub mod Comments
 pub mod LineEnds

@@ -1,5 +1,5 @@
 -- Names looked up among those of the signals.
-use Rattle.std.proofs.Common.{◌≡◌, ◌≢◌, ℕ, ◌<◌, Bool, true, false, not, List, [], ◌∷◌, map, length, get_or, find, bytes_eq, AllPairs, Some, None, refl, ap, sym, ◌∙◌, inl, inr, arith}
+use Rattle.std.proofs.Common.{◌≡◌, ◌≢◌, ℕ, ◌<◌, Bool, true, false, not, List, [], ◌∷◌, length, get_or, find, bytes_eq, AllPairs, Some, None, refl, ap, sym, ◌∙◌, inl, inr, arith}
 use Rattle.std.specs.List.{AllByRecursion, position, position_or_len}
 use Rattle.std.proofs.lemmas.Bool.{not-false, false_from_ne_true, lt-ltb, cases_lt, both_ways}
 use Rattle.std.proofs.lemmas.List.Folds.{list_any_at, Any-from_list_any}

@@ -1,5 +1,5 @@
 -- Worked examples, computed from the definitions.
-use Rattle.std.specs.Prelude.{◌≡◌, ℕ, true, false, List, [], ◌∷◌, ◌++◌, map, flat_map, replicate, codes, Option, Some, None, Result, Ok, Err}
+use Rattle.std.specs.Prelude.{◌↔◌, ◌≡◌, ℕ, ◌^◌, ◌<◌, true, false, List, [], ◌∷◌, ◌++◌, map, flat_map, length, replicate, codes, Option, Some, None, Result, Ok, Err}
 use Rattle.semantics.specs.declared.mark.Mark.TheVariants.{Zero, One}
 use Rattle.semantics.specs.declared.which.Which.TheVariants as which
 use Rattle.semantics.specs.Texts.{Bytes, Line}
@@ -8,7 +8,7 @@ use Rattle.semantics.specs.Examples.{half_adder, out_of_order, wire, constant_on
 use Rattle.semantics.specs.Blif.{blif_text}
 use Rattle.blif_semantics.specs.Lines.{logical_lines, words_of, statements}
 use Rattle.blif_semantics.specs.Statements.{Wrong, bad_byte, command, stray_row, bad_row, mixed_plane, second_model, after_end, names_empty, bad_name, WrongLine, first_wrong}
-use Rattle.blif_semantics.specs.Reading.{Refusal, text_long, wrong_line, doubled, no_output, undriven, cycle, limit, input_limit, blif_reading}
+use Rattle.blif_semantics.specs.Reading.{Refusal, text_long, wrong_line, doubled, no_output, undriven, cycle, limit, input_limit, bundle_limit, blif_reading}
 
 -- a line and its number, as words
 pub record NumberedWords : Type 0 where
@@ -136,6 +136,8 @@ pub record ReadingExamples : Type 0 where
   pub a_stray_row_before_what_is_driven_twice : blif_reading (lf (codes ".inputs a a" ∷ codes ".outputs a" ∷ codes "1 1" ∷ [])) input_limit ≡ Err (wrong_line 3 stray_row)
   pub too_long : blif_reading (codes ".end") 3 ≡ Err text_long
   pub as_long_as_may_be : blif_reading (codes ".end") 4 ≡ Err no_output
+  pub too_long_an_input : (text : Bytes) → (blif_reading text input_limit ≡ Err text_long) ↔ (2 ^ 22 < length text)
+  pub too_long_for_a_bundle : (text : Bytes) → (blif_reading text bundle_limit ≡ Err text_long) ↔ (2 ^ 28 < length text)
   pub empty_text : blif_reading [] input_limit ≡ Err no_output
   pub comments : blif_reading (35 ∷ 35 ∷ 35 ∷ []) 3 ≡ Err no_output
   pub many_outputs : blif_reading (outputs_line 65) input_limit ≡ Err (limit which.Outputs)

@@ -10,7 +10,7 @@ use Rattle.blif_semantics.specs.declared.kind.Kind.TheVariants as kind
 use Rattle.blif_semantics.specs.Lines.{Statement, logical_lines, statements}
 use Rattle.blif_semantics.specs.Statements.{kind_of, arguments, WrongLine, first_wrong}
 use Rattle.blif_semantics.specs.Tables.{last_word, is_one, named, with_rows, rows_first}
-use Rattle.blif_semantics.specs.Reading.{bundle_limit, Refusal, doubled, no_output, undriven, cycle, limit, NamedNet, names_of, names_read, first_undriven_name, numbered, single, blif_reading}
+use Rattle.blif_semantics.specs.Reading.{bundle_limit, Refusal, text_long, doubled, no_output, undriven, cycle, limit, NamedNet, names_of, names_read, first_undriven_name, numbered, single, blif_reading}
 use Rattle.blif_semantics.specs.FirstRefusals.{IsFirstWrong, IsFirstDoubled, IsFirstUndriven}
 
 -- with a CR before each LF
@@ -26,11 +26,12 @@ pub record TextLaw : Type 0 where
   pub same : (text other : Bytes) (most : ℕ) → length text ≤ most → length other ≤ most → statements (logical_lines text) ≡ statements (logical_lines other)
       → blif_reading text most ≡ blif_reading other most
 
--- what is read is a small sound net, from a text that keeps the limit
+-- what is read is a small sound net, from a text that keeps the limit; exactly the texts beyond it are refused for their length
 pub record ReadingLaw : Type 0 where
   pub sound : (text : Bytes) (most : ℕ) (N : NetValue) → blif_reading text most ≡ Ok N → IsSound N
   pub small : (text : Bytes) (most : ℕ) (N : NetValue) → blif_reading text most ≡ Ok N → IsSmall N
   pub short : (text : Bytes) (most : ℕ) (N : NetValue) → blif_reading text most ≡ Ok N → length text ≤ most
+  pub long : (text : Bytes) (most : ℕ) → (blif_reading text most ≡ Err text_long) ↔ (most < length text)
 
 -- a small sound net is read back from the text that is written for it, which is the text of no other, and that text keeps the limit
 -- of a bundle's netlist

@@ -88,22 +88,17 @@ impl<'a> Draft<'a> {
     }
 
     /// Adds a row to the table that may get more rows.
-    fn add_row(&mut self, alloc: Global, words: &[&'a [u8]]) -> Result<(), AllocError>
+    fn add_row(&mut self, words: &[&'a [u8]]) -> Result<(), AllocError>
         ensures { OnOk result (self.new ≡ row_added self.old (texts words.now)) }
     {
         if let Some(table) = &mut self.begun {
-            table.push(alloc, words)?;
+            table.push(words)?;
         }
         Ok(())
     }
 
     /// Adds a line that is no row, after which no table gets more rows but one that it begins.
-    fn add_statement(
-        &mut self,
-        alloc: Global,
-        kind: Kind,
-        words: &[&'a [u8]],
-    ) -> Result<(), AllocError>
+    fn add_statement(&mut self, kind: Kind, words: &[&'a [u8]]) -> Result<(), AllocError>
         ensures { OnOk result (self.new ≡ added kind self.old (texts words.now)) }
     {
         match kind {
@@ -114,21 +109,21 @@ impl<'a> Draft<'a> {
             }
             Kind::Inputs => self.inputs.extend_from_slice(words)?,
             Kind::Outputs => self.outputs.extend_from_slice(words)?,
-            Kind::Names => self.begun = Some(NamedTable::new(alloc, words)?),
+            Kind::Names => self.begun = Some(NamedTable::new(*self.tables.allocator(), words)?),
             _ => {}
         }
         Ok(())
     }
 
     /// Adds a line.
-    fn add_line(&mut self, alloc: Global, words: &[&'a [u8]]) -> Result<(), AllocError>
+    fn add_line(&mut self, words: &[&'a [u8]]) -> Result<(), AllocError>
         ensures { OnOk result ((rest : List Line) → after_draft self.new rest ≡ after_draft self.old (texts words.now ∷ rest)) }
     {
         match kind_of(words) {
-            Kind::Row => self.add_row(alloc, words),
+            Kind::Row => self.add_row(words),
             kind => {
                 self.end_table()?;
-                self.add_statement(alloc, kind, arguments(words))
+                self.add_statement(kind, arguments(words))
             }
         }
     }
@@ -165,7 +160,7 @@ pub fn named_net<'a>(
     let mut draft = Draft::new(alloc);
     for line in lines {
         let words = words_of(alloc, line.bytes())?;
-        draft.add_line(alloc, &words)?;
+        draft.add_line(&words)?;
     }
     draft.finish()
 }

@@ -107,10 +107,10 @@ impl<'a> NamedTable<'a> {
     }
 
     /// Adds a row.
-    pub fn push(&mut self, alloc: Global, words: &[&[u8]]) -> Result<(), AllocError>
+    pub fn push(&mut self, words: &[&[u8]]) -> Result<(), AllocError>
         ensures { OnOk result (self.new ≡ with_row self.old (texts words.now)) }
     {
-        self.rows.push(marks_of(alloc, words)?)?;
+        self.rows.push(marks_of(*self.pins.allocator(), words)?)?;
         self.plane = is_one(last_word(words));
         Ok(())
     }
@@ -122,7 +122,7 @@ impl<'a> NamedTable<'a> {
     }
 
     /// The table with signals in the place of names, or the refusal of its first pin that is no signal.
-    pub fn numbered(self, alloc: Global, names: &Names) -> Result<Table, BlifRefusal>
+    pub fn numbered(self, names: &Names) -> Result<Table, BlifRefusal>
         requires { IsNamedTable self }
         ensures ok { IfOk result (λ t. t ≡ with_signals names.now self.entry) }
         ensures known { OnOk result (first_unknown names.now self.entry.pins ≡ None) }
@@ -135,8 +135,8 @@ impl<'a> NamedTable<'a> {
             rows,
             plane,
         } = self;
-        let pins = names.numbers(alloc, &pins)?;
-        let name = name_of(alloc, name)?;
-        Ok(Table::new(name, pins, rows, plane))
+        let signals = names.numbers(&pins)?;
+        let name = name_of(*pins.allocator(), name)?;
+        Ok(Table::new(name, signals, rows, plane))
     }
 }

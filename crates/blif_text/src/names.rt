@@ -99,13 +99,14 @@ impl<'a> Names<'a> {
     }
 
     /// The numbers of these names, or the refusal of the first that is none of these.
-    pub fn numbers(&self, alloc: Global, words: &[&[u8]]) -> Result<SignalList, BlifRefusal>
+    pub fn numbers(&self, words: &[&[u8]]) -> Result<SignalList, BlifRefusal>
         requires { All IsName (texts words.now) }
         ensures ok { IfOk result (λ signals. signals ≡ map (signal_named self.now) (texts words.now)) }
         ensures known { OnOk result (first_unknown self.now (texts words.now) ≡ None) }
         ensures err { IfErr result (λ told. (rest : Result NetValue Refusal)
             → Tells told (unless_refused (first_unknown self.now (texts words.now)) undriven rest)) }
     {
+        let alloc = *self.names.allocator();
         let mut signals = Items::new(alloc);
         for word in words {
             let Some(signal) = self.number(word) else {

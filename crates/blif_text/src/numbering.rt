@@ -49,7 +49,7 @@ fn numbered_tables(
 {
     let mut list = Items::new(alloc);
     for table in tables {
-        list.push(table.numbered(alloc, names)?)?;
+        list.push(table.numbered(names)?)?;
     }
     Ok(list)
 }
@@ -99,7 +99,7 @@ fn driven_net(alloc: Global, names: &Names, named: NamedNet) -> Result<Net, Blif
     let model = name_of(alloc, model)?;
     let inputs = name_list(alloc, &inputs)?;
     let tables = numbered_tables(alloc, names, tables)?;
-    let outputs = names.numbers(alloc, &outputs)?;
+    let outputs = names.numbers(&outputs)?;
     ordered_net(alloc, model, inputs, tables, outputs)
 }
 

@@ -36,6 +36,11 @@ impl<T> Draft<T> {
         }
     }
 
+    /// The allocator of the lists.
+    pub fn allocator(&self) -> &Global {
+        self.items.allocator()
+    }
+
     pub fn len(&self) -> usize
         ensures { result ≡ length self.now.at_hand }
     {

@@ -93,20 +93,20 @@ impl ItemDraft {
     }
 
     /// The step of the lists at hand.
-    pub fn step(&self, alloc: Global, id: u64) -> Result<Step, AllocError>
+    pub fn step(&self, id: u64) -> Result<Step, AllocError>
         ensures { IfOk result (λ s. s
             ≡ record { id = id; literals = self.now.literals.at_hand; hints = self.now.numbers.at_hand }) }
     {
-        let literals = Lits::from_slice(alloc, self.literals.as_slice())?;
-        let hints = ids(alloc, self.numbers.as_slice())?;
+        let literals = Lits::from_slice(*self.literals.allocator(), self.literals.as_slice())?;
+        let hints = self.ids()?;
         Ok(Step::new(id, literals, hints))
     }
 
     /// The ids at hand.
-    pub fn ids(&self, alloc: Global) -> Result<Ids, AllocError>
+    pub fn ids(&self) -> Result<Ids, AllocError>
         ensures { IfOk result (λ ids. ids ≡ self.now.numbers.at_hand) }
     {
-        ids(alloc, self.numbers.as_slice())
+        ids(*self.numbers.allocator(), self.numbers.as_slice())
     }
 
     pub fn lengths(&self) -> Lengths

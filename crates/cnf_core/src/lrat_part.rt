@@ -11,7 +11,7 @@ use crate::literal::Literal;
 use crate::log::Item;
 use proof_semantics::lrat_refusal::LratRefusal;
 use proof_semantics::lrat_word::LratWord;
-use std::alloc::{AllocError, Global};
+use std::alloc::AllocError;
 use std::collections::VecDeque;
 
 /// Where the next token stands; the lists of the item at hand are kept elsewhere.
@@ -89,7 +89,6 @@ fn after_id(id: u64, word: LratWord, place: u64, draft: &mut ItemDraft) -> Resul
 }
 
 fn after_hints(
-    alloc: Global,
     id: u64,
     word: LratWord,
     place: u64,
@@ -103,7 +102,7 @@ fn after_hints(
 {
     match word {
         LratWord::Number { size: 0, .. } => {
-            let step = draft.step(alloc, id)?;
+            let step = draft.step(id)?;
             items.push_back(Item::Add(step))?;
             Ok(Part::BetweenItems)
         }
@@ -119,7 +118,6 @@ fn after_hints(
 }
 
 fn after_deletion(
-    alloc: Global,
     word: LratWord,
     place: u64,
     draft: &mut ItemDraft,
@@ -132,7 +130,7 @@ fn after_deletion(
 {
     match word {
         LratWord::Number { size: 0, .. } => {
-            let ids = draft.ids(alloc)?;
+            let ids = draft.ids()?;
             items.push_back(Item::Remove(ids))?;
             Ok(Part::BetweenItems)
         }
@@ -151,7 +149,6 @@ impl Part {
     /// Behind one more token, which is at this place. The item that ends with the token is put behind the others.
     pub fn after(
         self,
-        alloc: Global,
         word: LratWord,
         place: u64,
         draft: &mut ItemDraft,
@@ -166,8 +163,8 @@ impl Part {
             Part::BetweenItems => Ok(after_outside(word, place, draft)),
             Part::AfterId(id) => after_id(id, word, place, draft),
             Part::InLiterals(id) => after_literals(id, word, place, draft),
-            Part::InHints(id) => after_hints(alloc, id, word, place, draft, items),
-            Part::InDeletion => after_deletion(alloc, word, place, draft, items),
+            Part::InHints(id) => after_hints(id, word, place, draft, items),
+            Part::InDeletion => after_deletion(word, place, draft, items),
             Part::AfterRefusal(refusal) => Ok(Part::AfterRefusal(refusal)),
         }
     }

@@ -17,7 +17,6 @@ use std::marker::Model;
 /// text itself is not kept: the memory goes with the items that wait and the one at hand.
 #[derive(Drop)]
 pub struct LratReader {
-    alloc: Global,
     scanner: Scanner,
     draft: ItemDraft,
     /// Whole items that were not given yet.
@@ -44,7 +43,6 @@ impl LratReader {
         ensures { result ≡ nothing_read }
     {
         LratReader {
-            alloc,
             scanner: Scanner::new(),
             draft: ItemDraft::new(alloc),
             waiting: VecDeque::new(alloc),
@@ -71,7 +69,7 @@ impl LratReader {
         let count = self.waiting.len();
         match self
             .scanner
-            .with_bytes(self.alloc, piece, &mut self.draft, &mut self.waiting)
+            .with_bytes(piece, &mut self.draft, &mut self.waiting)
         {
             Ok(scanner) => self.scanner = scanner,
             Err(error) => {
@@ -127,10 +125,7 @@ impl LratReader {
             return Err(refusal);
         }
         let lengths = self.draft.lengths();
-        let Ok(scanner) = self
-            .scanner
-            .close(self.alloc, &mut self.draft, &mut self.waiting)
-        else {
+        let Ok(scanner) = self.scanner.close(&mut self.draft, &mut self.waiting) else {
             self.draft.take_back(lengths);
             return Err(LratRefusal::OutOfMemory);
         };

@@ -9,7 +9,7 @@ use crate::item_draft::ItemDraft;
 use crate::log::Item;
 use crate::lrat_part::Part;
 use proof_semantics::lrat_refusal::LratRefusal;
-use std::alloc::{AllocError, Global};
+use std::alloc::AllocError;
 use std::collections::VecDeque;
 
 /// What is kept of a text to read on, besides the lists of the item at hand.
@@ -39,7 +39,6 @@ impl Scanner {
     /// Ends the token at hand.
     pub fn close(
         self,
-        alloc: Global,
         draft: &mut ItemDraft,
         items: &mut VecDeque<Item>,
     ) -> Result<Scanner, AllocError>
@@ -50,7 +49,7 @@ impl Scanner {
         ensures grows { Grows draft.old draft.new }
     {
         let part = match self.word.ended() {
-            Some(word) => self.part.after(alloc, word, self.start, draft, items)?,
+            Some(word) => self.part.after(word, self.start, draft, items)?,
             None => self.part,
         };
         let at = self.at + 1;
@@ -65,7 +64,6 @@ impl Scanner {
     /// Behind one more byte. The item that ends with it is put behind the others.
     pub fn with_byte(
         self,
-        alloc: Global,
         byte: u8,
         draft: &mut ItemDraft,
         items: &mut VecDeque<Item>,
@@ -80,7 +78,7 @@ impl Scanner {
             return Ok(self);
         }
         if is_blank(byte) {
-            return self.close(alloc, draft, items);
+            return self.close(draft, items);
         }
         if !is_log_byte(byte) {
             let part = Part::AfterRefusal(LratRefusal::BadByte(self.at));
@@ -96,7 +94,6 @@ impl Scanner {
     /// Behind these bytes. The items that end within them are put behind the others.
     pub fn with_bytes(
         self,
-        alloc: Global,
         bytes: &[u8],
         draft: &mut ItemDraft,
         items: &mut VecDeque<Item>,
@@ -109,7 +106,7 @@ impl Scanner {
     {
         let mut scanner = self;
         for &byte in bytes {
-            scanner = scanner.with_byte(alloc, byte, draft, items)?;
+            scanner = scanner.with_byte(byte, draft, items)?;
         }
         Ok(scanner)
     }

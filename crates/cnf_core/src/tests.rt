@@ -1,12 +1,8 @@
-//! Texts in pieces: logs that are read, and a formula that is given.
+//! Logs whose text comes in pieces.
 ghost use Rattle.std.specs.Prelude.{◌≡◌, ◌+◌, ◌^◌, ◌<◌, false, length};
 
-use crate::clause::{ClauseList, Lits};
-use crate::cnf::Cnf;
-use crate::dimacs_text::DimacsText;
 use crate::lrat_reader::LratReader;
 use proof_semantics::lrat_refusal::LratRefusal;
-use std::alloc::{AllocError, Global};
 use std::test::Fail;
 
 fn read_two(reader: &mut LratReader, first: &[u8], second: &[u8]) -> Result<(), LratRefusal>
@@ -64,37 +60,6 @@ fn logs_in_pieces(rt: HostRuntime) -> Result<(), Fail> {
             assert_eq!(rt; read_two(&mut reader, &text[..cut], &text[cut..]), answer);
             assert_eq!(rt; count(&mut reader), items);
         }
-    }
-    Ok(())
-}
-
-fn three_clauses(alloc: Global) -> Result<Cnf, AllocError> {
-    let mut clauses = ClauseList::new(alloc);
-    clauses.push(Lits::from_slice(alloc, &[1])?)?;
-    clauses.push(Lits::from_slice(alloc, &[-1, 2])?)?;
-    clauses.push(Lits::from_slice(alloc, &[-2])?)?;
-    Ok(Cnf::new(2, clauses))
-}
-
-/// The formula's text, given by way of the buffer.
-fn gathered(alloc: Global, cnf: &Cnf, buf: &mut [u8]) -> Result<Vec<u8>, AllocError> {
-    let mut text = DimacsText::new(cnf);
-    let mut bytes = Vec::new(alloc);
-    for _ in 0..100u64 {
-        let count = text.fill(buf);
-        bytes.extend_from_slice(&buf[..count])?;
-    }
-    Ok(bytes)
-}
-
-#[test]
-fn a_formula_in_pieces(rt: HostRuntime) -> Result<(), Fail> {
-    let cnf = three_clauses(rt.alloc())?;
-    let wanted: &[u8] = b"p cnf 2 3\n1 0\n-1 2 0\n-2 0\n";
-    let mut buf = [0; 64];
-    for size in [1, 7, 64] {
-        let bytes = gathered(rt.alloc(), &cnf, &mut buf[..size])?;
-        assert_eq!(rt; bytes.as_slice(), wanted);
     }
     Ok(())
 }

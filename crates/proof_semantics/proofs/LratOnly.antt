@@ -10,13 +10,13 @@ use Rattle.proof_semantics.specs.declared.lrat_word.LratWord.TheVariants.{Letter
 use Rattle.proof_semantics.specs.Logs.{LogItem}
 use Rattle.proof_semantics.specs.LratTokens.{Token, token_word}
 use Rattle.proof_semantics.specs.LratMatching.{Stage, Outside, Begun, Literals, Hints, Deletion, Refused, signed, bad_number, stage_after, item_given, after_literals, stage_after_all, items_given}
-use Rattle.proof_semantics.specs.LratGrammar.{SignedNumber, signed_word, plain_word, SpelledItem, addition, deletion, item_words, spelled_item, literal_of, AreLiteralSizes, ArePositive, AreSpelled, words_of}
+use Rattle.proof_semantics.specs.LratGrammar.{SignedNumber, signed_word, plain_word, SpelledItem, addition, deletion, item_words, spelled_item, literal_of, AreLiteralSizes, ArePositive, AreSpelled, token_words}
 
 -- tokens whose words spell items, and that give these items
 pub record Reads (ts : List Token) : Type 0 where
   pub items : List SpelledItem
   pub are_spelled : AreSpelled items
-  pub words_are : words_of ts ≡ flat_map item_words items
+  pub words_are : token_words ts ≡ flat_map item_words items
   pub items_are : items_given Outside ts ≡ map spelled_item items
 
 abbrev later_words : List SpelledItem → List LratWord
@@ -28,7 +28,7 @@ record Hinted (id : ℕ) (literals : List ℤ) (acc : List ℕ) (ts : List Token
   items : List SpelledItem
   positive : ArePositive hints
   later : AreSpelled items
-  words_are : words_of ts ≡ map plain_word hints ++ (Number last_end 0 ∷ later_words items)
+  words_are : token_words ts ≡ map plain_word hints ++ (Number last_end 0 ∷ later_words items)
   items_are : items_given (Hints id literals acc) ts ≡ Add (record { id = id; literals = literals; hints = acc ++ hints }) ∷ map spelled_item items
 
 record Removed (acc : List ℕ) (ts : List Token) : Type 0 where
@@ -37,7 +37,7 @@ record Removed (acc : List ℕ) (ts : List Token) : Type 0 where
   items : List SpelledItem
   positive : ArePositive ids
   later : AreSpelled items
-  words_are : words_of ts ≡ map plain_word ids ++ (Number last_end 0 ∷ later_words items)
+  words_are : token_words ts ≡ map plain_word ids ++ (Number last_end 0 ∷ later_words items)
   items_are : items_given (Deletion acc) ts ≡ Remove (acc ++ ids) ∷ map spelled_item items
 
 record Added (st : Stage) (id : ℕ) (acc : List ℤ) (ts : List Token) : Type 0 where
@@ -49,7 +49,7 @@ record Added (st : Stage) (id : ℕ) (acc : List ℤ) (ts : List Token) : Type 0
   sizes : AreLiteralSizes literals
   positive : ArePositive hints
   later : AreSpelled items
-  words_are : words_of ts ≡ map signed_word literals ++ (Number first_end 0 ∷ (map plain_word hints ++ (Number last_end 0 ∷ later_words items)))
+  words_are : token_words ts ≡ map signed_word literals ++ (Number first_end 0 ∷ (map plain_word hints ++ (Number last_end 0 ∷ later_words items)))
   items_are : items_given st ts ≡ Add (record { id = id; literals = acc ++ map literal_of literals; hints = hints }) ∷ map spelled_item items
 
 record Deleted (id : ℕ) (ts : List Token) : Type 0 where
@@ -58,7 +58,7 @@ record Deleted (id : ℕ) (ts : List Token) : Type 0 where
   items : List SpelledItem
   positive : ArePositive ids
   later : AreSpelled items
-  words_are : words_of ts ≡ Letter ∷ (map plain_word ids ++ (Number last_end 0 ∷ later_words items))
+  words_are : token_words ts ≡ Letter ∷ (map plain_word ids ++ (Number last_end 0 ∷ later_words items))
   items_are : items_given (Begun id) ts ≡ Remove ids ∷ map spelled_item items
 
 abbrev Sound : Stage → List Token → Type 0
@@ -74,7 +74,7 @@ took st next t ts w items h s g =
     let m : stage_after st (token_word t.bytes) t.place ≡ next = ap (λ (u : LratWord). stage_after st u t.place) h ∙ s in
     ap (λ (xs : List LogItem). xs ++ items_given (stage_after st (token_word t.bytes) t.place) ts) (ap (item_given st) h ∙ g) ∙ ap (λ (u : Stage). items ++ items_given u ts) m
 
-said : (t : Token) (ts : List Token) (w : LratWord) (ws : List LratWord) → token_word t.bytes ≡ w → words_of ts ≡ ws → words_of (t ∷ ts) ≡ w ∷ ws
+said : (t : Token) (ts : List Token) (w : LratWord) (ws : List LratWord) → token_word t.bytes ≡ w → token_words ts ≡ ws → token_words (t ∷ ts) ≡ w ∷ ws
 said t ts w ws h e = cc
 
 zero_from : (n : ℕ) → (n == 0) ≡ true → n ≡ 0

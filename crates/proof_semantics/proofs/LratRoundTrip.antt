@@ -18,7 +18,7 @@ use Rattle.proof_semantics.specs.Logs.{StepValue, LogItem}
 use Rattle.proof_semantics.specs.Lrat.{addition_line, removal_line, item_line, greatest_with, log_lines, lrat_text}
 use Rattle.proof_semantics.specs.LratTokens.{is_blank, is_log_byte, Token, token_at, ended, ended_tokens, digits_word, token_word}
 use Rattle.proof_semantics.specs.LratReading.{with_end}
-use Rattle.proof_semantics.specs.LratGrammar.{SignedNumber, signed_word, plain_word, literal_of, SpelledItem, addition, deletion, item_words, spelled_item, AreLiteralSizes, ArePositive, IsSpelled, AreSpelled, words_of}
+use Rattle.proof_semantics.specs.LratGrammar.{SignedNumber, signed_word, plain_word, literal_of, SpelledItem, addition, deletion, item_words, spelled_item, AreLiteralSizes, ArePositive, IsSpelled, AreSpelled, token_words}
 use Rattle.proof_semantics.specs.LratLaws.{Spells, IsId, IsWritable, RoundTripLaw}
 use Rattle.proof_semantics.proofs.LratTexts.{grammar_law}
 
@@ -38,11 +38,11 @@ ended_words [] = []
 ended_words (part ∷ []) = []
 ended_words (part ∷ next ∷ parts) = word_at part ++ ended_words (next ∷ parts)
 
-words_at : (place : ℕ) (part : Bytes) (ts : List Token) → words_of (token_at place part ++ ts) ≡ word_at part ++ words_of ts
+words_at : (place : ℕ) (part : Bytes) (ts : List Token) → token_words (token_at place part ++ ts) ≡ word_at part ++ token_words ts
 words_at place [] ts = refl
 words_at place (c ∷ cs) ts = refl
 
-words_ended : (place : ℕ) (parts : List Bytes) → words_of (ended place parts) ≡ ended_words parts
+words_ended : (place : ℕ) (parts : List Bytes) → token_words (ended place parts) ≡ ended_words parts
 words_ended place [] = refl
 words_ended place (part ∷ []) = refl
 words_ended place (part ∷ next ∷ parts) =

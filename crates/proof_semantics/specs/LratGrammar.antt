@@ -53,9 +53,9 @@ abbrev pub AreSpelled : List SpelledItem → Type 0
 AreSpelled [] = Unit {0}
 AreSpelled (x ∷ xs) = IsSpelled x × AreSpelled xs
 
-abbrev pub words_of : List Token → List LratWord
-words_of tokens = map (λ t. token_word t.bytes) tokens
+abbrev pub token_words : List Token → List LratWord
+token_words tokens = map (λ t. token_word t.bytes) tokens
 
 -- the words of the tokens that have ended in a text
 abbrev pub text_words : Bytes → List LratWord
-text_words text = words_of (ended_tokens text)
+text_words text = token_words (ended_tokens text)
