@@ -36,16 +36,6 @@ pub struct Lengths {
     pub numbers: usize,
 }
 
-fn ids(alloc: Global, numbers: &[u64]) -> Result<Ids, AllocError>
-    ensures { IfOk result (λ ids. ids ≡ numbers.now) }
-{
-    let mut ids = Ids::new(alloc);
-    for number in numbers {
-        ids.push(*number)?;
-    }
-    Ok(ids)
-}
-
 impl ItemDraft {
     /// No lists. It takes no memory.
     pub fn new(alloc: Global) -> ItemDraft
@@ -98,7 +88,7 @@ impl ItemDraft {
             ≡ record { id = id; literals = self.now.literals.at_hand; hints = self.now.numbers.at_hand }) }
     {
         let literals = Lits::from_slice(alloc, self.literals.as_slice())?;
-        let hints = ids(alloc, self.numbers.as_slice())?;
+        let hints = self.ids(alloc)?;
         Ok(Step::new(id, literals, hints))
     }
 
@@ -106,7 +96,7 @@ impl ItemDraft {
     pub fn ids(&self, alloc: Global) -> Result<Ids, AllocError>
         ensures { IfOk result (λ ids. ids ≡ self.now.numbers.at_hand) }
     {
-        ids(alloc, self.numbers.as_slice())
+        Ids::from_slice(alloc, self.numbers.as_slice())
     }
 
     pub fn lengths(&self) -> Lengths
