@@ -36,16 +36,6 @@ pub struct Lengths {
     pub numbers: usize,
 }
 
-fn ids(alloc: Global, numbers: &[u64]) -> Result<Ids, AllocError>
-    ensures { IfOk result (λ ids. ids ≡ numbers.now) }
-{
-    let mut ids = Ids::new(alloc);
-    for number in numbers {
-        ids.push(*number)?;
-    }
-    Ok(ids)
-}
-
 impl ItemDraft {
     /// No lists. It takes no memory.
     pub fn new(alloc: Global) -> ItemDraft
@@ -106,7 +96,7 @@ impl ItemDraft {
     pub fn ids(&self) -> Result<Ids, AllocError>
         ensures { IfOk result (λ ids. ids ≡ self.now.numbers.at_hand) }
     {
-        ids(*self.numbers.allocator(), self.numbers.as_slice())
+        Ids::from_slice(*self.numbers.allocator(), self.numbers.as_slice())
     }
 
     pub fn lengths(&self) -> Lengths

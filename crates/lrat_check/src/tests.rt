@@ -15,14 +15,6 @@ fn three_clauses(alloc: Global) -> Result<Cnf, AllocError> {
     Ok(Cnf::new(2, clauses))
 }
 
-fn ids(alloc: Global, numbers: &[u64]) -> Result<Ids, AllocError> {
-    let mut ids = Ids::new(alloc);
-    for number in numbers {
-        ids.push(*number)?;
-    }
-    Ok(ids)
-}
-
 #[test]
 fn steps_of_the_empty_clause(rt: HostRuntime) -> Result<(), Fail> {
     let cases: [(&[u64], u64, &[u64], Result<(), StepRefusal>); 8] = [
@@ -38,8 +30,8 @@ fn steps_of_the_empty_clause(rt: HostRuntime) -> Result<(), Fail> {
     for (removed, id, hints, wanted) in cases {
         let alloc = rt.alloc();
         let mut checker = Checker::new(alloc, &three_clauses(alloc)?)?;
-        checker.remove(&ids(alloc, removed)?);
-        let step = Step::new(id, Lits::new(alloc), ids(alloc, hints)?);
+        checker.remove(&Ids::from_slice(alloc, removed)?);
+        let step = Step::new(id, Lits::new(alloc), Ids::from_slice(alloc, hints)?);
         assert_eq!(rt; checker.step(&step), wanted);
         assert_eq!(rt; checker.done(), wanted.is_ok());
     }

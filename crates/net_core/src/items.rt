@@ -34,6 +34,12 @@ impl Duplicate for u32 {
     }
 }
 
+impl Duplicate for u64 {
+    fn duplicate(&self) -> Result<u64, AllocError> {
+        Ok(*self)
+    }
+}
+
 impl Duplicate for bool {
     fn duplicate(&self) -> Result<bool, AllocError> {
         Ok(*self)
@@ -103,8 +109,17 @@ impl<T: Drop> Items<T> {
 }
 
 impl<T: Duplicate> Items<T> {
+    /// Copies of these items as a list.
+    pub fn from_slice(alloc: Global, items: &[T]) -> Result<Items<T>, AllocError>
+        ensures { IfOk result (λ list. list ≡ items.now) }
+    {
+        let mut list = Items::new(alloc);
+        list.push_copies(items)?;
+        Ok(list)
+    }
+
     /// Adds copies of these items at the end; where there is no memory, of the first of them.
-    fn push_copies(&mut self, more: &[T]) -> Result<(), AllocError>
+    pub fn push_copies(&mut self, more: &[T]) -> Result<(), AllocError>
         ensures { OnOk result (self.new ≡ self.old ++ more.now) }
     {
         for item in more {
@@ -117,9 +132,7 @@ impl<T: Duplicate> Items<T> {
     pub fn copy(&self) -> Result<Items<T>, AllocError>
         ensures { IfOk result (λ c. c ≡ self.now) }
     {
-        let mut copy = Items::new(*self.items.allocator());
-        copy.push_copies(&self.items)?;
-        Ok(copy)
+        Items::from_slice(*self.items.allocator(), &self.items)
     }
 
     /// The list with another item in the place of item `i`, which is not copied.

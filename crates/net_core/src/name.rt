@@ -79,6 +79,18 @@ impl Name {
         Ok(Name { bytes })
     }
 
+    /// The name of these bytes, which are known to be one.
+    pub fn known(alloc: Global, text: &[u8]) -> Result<Name, AllocError>
+        requires { IsName text.now }
+        ensures { IfOk result (λ n. n ≡ text.now) }
+    {
+        match Name::new(alloc, text) {
+            Ok(name) => Ok(name),
+            Err(NameRefusal::OutOfMemory) => Err(AllocError),
+            Err(NameRefusal::Bad) => unreachable!(),
+        }
+    }
+
     pub fn bytes(&self) -> &[u8]
         ensures value { result.now ≡ self.now }
         ensures named { IsName self.now }

@@ -232,6 +232,20 @@ impl Net {
         *self.outputs.get(i as usize)
     }
 
+    /// The signals of the outputs.
+    pub fn output_signals(&self) -> &[Signal]
+        ensures { result.now ≡ self.now.outputs }
+    {
+        self.outputs.as_slice()
+    }
+
+    /// The names of the inputs.
+    pub fn input_names(&self) -> &[Name]
+        ensures { result.now ≡ self.now.inputs }
+    {
+        self.inputs.as_slice()
+    }
+
     /// The name of an input or of a table.
     pub fn signal_name(&self, s: Signal) -> &Name
         requires { s < signal_count self.now }

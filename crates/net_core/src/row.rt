@@ -1,7 +1,7 @@
 //! A row of marks, one for each pin of its table. Source: BLIF's cover lines.
 ghost use Rattle.std.specs.Prelude.{◌≡◌, ◌<◌, ◌==◌, [], ◌∷◌, ◌++◌, length, slice_index_or, IfOk, OnOk, OnErr};
 
-use crate::items::Duplicate;
+use crate::items::{Duplicate, Items, RowList};
 use crate::mark::Mark;
 use smallvec::SmallVec;
 use std::alloc::{AllocError, Global};
@@ -30,6 +30,14 @@ impl Row {
         Row {
             marks: SmallVec::new(alloc),
         }
+    }
+
+    /// The row of these marks.
+    pub fn from_slice(alloc: Global, marks: &[Mark]) -> Result<Row, AllocError>
+        ensures { IfOk result (λ r. r ≡ marks.now) }
+    {
+        let marks = SmallVec::from_slice(alloc, marks)?;
+        Ok(Row { marks })
     }
 
     /// Adds a mark at the end.
@@ -71,8 +79,7 @@ impl Row {
     pub fn copy(&self) -> Result<Row, AllocError>
         ensures { IfOk result (λ r. r ≡ self.now) }
     {
-        let marks = SmallVec::from_slice(*self.marks.allocator(), self.marks.as_slice())?;
-        Ok(Row { marks })
+        Row::from_slice(*self.marks.allocator(), self.marks.as_slice())
     }
 }
 
@@ -80,4 +87,15 @@ impl Duplicate for Row {
     fn duplicate(&self) -> Result<Row, AllocError> {
         self.copy()
     }
+}
+
+/// Rows of N marks as a list.
+pub fn rows_of<const N: usize>(alloc: Global, rows: &[[Mark; N]]) -> Result<RowList, AllocError>
+    ensures { IfOk result (λ list. list ≡ rows.now) }
+{
+    let mut list = Items::new(alloc);
+    for row in rows {
+        list.push(Row::from_slice(alloc, row)?)?;
+    }
+    Ok(list)
 }

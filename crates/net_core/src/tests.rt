@@ -4,19 +4,15 @@ use crate::mark::Mark;
 use crate::name::{Name, NameRefusal};
 use crate::net::Net;
 use crate::refusal::NetRefusal;
-use crate::row::Row;
+use crate::row::rows_of;
 use crate::table::Table;
 use std::alloc::{AllocError, Global};
 use std::test::Fail;
 
 /// A table with the value of its pin.
 fn buffer(alloc: Global, name: Name, pin: u32) -> Result<Table, AllocError> {
-    let mut pins = Items::new(alloc);
-    pins.push(pin)?;
-    let mut row = Row::new(alloc);
-    row.push(Mark::One)?;
-    let mut rows = Items::new(alloc);
-    rows.push(row)?;
+    let pins = Items::from_slice(alloc, &[pin])?;
+    let rows = rows_of(alloc, &[[Mark::One]])?;
     Ok(Table::new(name, pins, rows, true))
 }
 

@@ -1,5 +1,5 @@
 //! The net after a move: one table is made anew, and the others are copied.
-ghost use Rattle.std.specs.Prelude.{◌≡◌, ◌<◌, [], ◌∷◌, ◌++◌, true, length, remove, slice_set, IfOk, OnOk, All, Contains};
+ghost use Rattle.std.specs.Prelude.{◌≡◌, ◌<◌, [], ◌∷◌, true, length, remove, slice_set, IfOk, All, Contains};
 ghost use Rattle.semantics.specs.declared.mark.Mark.TheVariants.{Dash};
 ghost use Rattle.chain_semantics.specs.Moves.{moves_of, table_of, moved_table, moved, copy_mark, row_at};
 ghost use Rattle.net_moves.specs.Fitting.{Fits};
@@ -9,28 +9,17 @@ use net_core::items::{Items, RowList, Signal};
 use net_core::mark::Mark;
 use net_core::name::Name;
 use net_core::net::Net;
-use net_core::row::Row;
+use net_core::row::{Row, rows_of};
 use net_core::table::{Table, constant_table};
 use std::alloc::{AllocError, Global};
-
-/// Adds copies of these rows at the end.
-fn push_rows(list: &mut RowList, rows: &[Row]) -> Result<(), AllocError>
-    ensures { OnOk result (list.new ≡ list.old ++ rows.now) }
-{
-    for row in rows {
-        list.push(row.copy()?)?;
-    }
-    Ok(())
-}
 
 /// Copies of all rows but one.
 fn without_row(alloc: Global, rows: &[Row], row: usize) -> Result<RowList, AllocError>
     requires { row < length rows.now }
     ensures { IfOk result (λ kept. kept ≡ remove rows.now row) }
 {
-    let mut kept = Items::new(alloc);
-    push_rows(&mut kept, &rows[..row])?;
-    push_rows(&mut kept, &rows[row + 1..])?;
+    let mut kept = Items::from_slice(alloc, &rows[..row])?;
+    kept.push_copies(&rows[row + 1..])?;
     Ok(kept)
 }
 
@@ -51,12 +40,9 @@ fn copy_table(alloc: Global, name: Name, s: Signal, flip: bool) -> Result<Table,
     ensures { IfOk result
         (λ t. t ≡ record { name = name; pins = s ∷ []; rows = (copy_mark flip ∷ []) ∷ []; plane = true }) }
 {
-    let mut pins = Items::new(alloc);
-    pins.push(s)?;
-    let mut row = Row::new(alloc);
-    row.push(if flip { Mark::Zero } else { Mark::One })?;
-    let mut rows = Items::new(alloc);
-    rows.push(row)?;
+    let pins = Items::from_slice(alloc, &[s])?;
+    let mark = if flip { Mark::Zero } else { Mark::One };
+    let rows = rows_of(alloc, &[[mark]])?;
     Ok(Table::new(name, pins, rows, true))
 }
 

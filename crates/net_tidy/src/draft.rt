@@ -8,8 +8,7 @@ ghost use Rattle.chain_semantics.specs.TidyRules.{has, mark_at, clash, pin_at, w
 
 use crate::marks::{Marked, Marks, clash, mark_at};
 use crate::rules::has;
-use net_core::items::{Items, RowList, Signal, SignalList};
-use net_core::mark::Mark;
+use net_core::items::{Items, RowList, Signal};
 use net_core::name::Name;
 use net_core::row::Row;
 use net_core::table::{Table, mark_matches};
@@ -44,35 +43,13 @@ fn copied_rows(alloc: Global, rows: &[Row]) -> Result<Vec<Marks>, AllocError>
     Ok(copies)
 }
 
-/// These signals as a list.
-pub(crate) fn signal_list(alloc: Global, signals: &[Signal]) -> Result<SignalList, AllocError>
-    ensures { IfOk result (λ list. list ≡ signals.now) }
-{
-    let mut list = Items::new(alloc);
-    for signal in signals {
-        list.push(*signal)?;
-    }
-    Ok(list)
-}
-
-/// A row of these marks.
-pub(crate) fn row_of(alloc: Global, marks: &[Mark]) -> Result<Row, AllocError>
-    ensures { IfOk result (λ row. row ≡ marks.now) }
-{
-    let mut row = Row::new(alloc);
-    for mark in marks {
-        row.push(*mark)?;
-    }
-    Ok(row)
-}
-
 /// The rows of a table with these marks.
 fn row_list(alloc: Global, rows: &[Marks]) -> Result<RowList, AllocError>
     ensures { IfOk result (λ list. list ≡ rows.now) }
 {
     let mut list = Items::new(alloc);
     for row in rows {
-        list.push(row_of(alloc, row.marks())?)?;
+        list.push(Row::from_slice(alloc, row.marks())?)?;
     }
     Ok(list)
 }
@@ -283,7 +260,7 @@ impl Draft {
         ensures { IfOk result (λ t. t ≡ self.now) }
     {
         let name = self.name.copy()?;
-        let pins = signal_list(alloc, &self.pins)?;
+        let pins = Items::from_slice(alloc, &self.pins)?;
         let rows = row_list(alloc, &self.rows)?;
         Ok(Table::new(name, pins, rows, self.plane))
     }

@@ -12,7 +12,7 @@ ghost use Rattle.net_core.specs.Built.{IsBuilt};
 ghost use Rattle.net_tidy.specs.Rule.{rule_at, made_by};
 ghost use Rattle.net_tidy.specs.Flags.{IsFirstRule};
 
-use crate::draft::{Draft, lower, signal_list};
+use crate::draft::{Draft, lower};
 use crate::flags::Flags;
 use crate::rule::Rule;
 use crate::rules::{first_place, has, rule_by};
@@ -45,17 +45,6 @@ impl Model for NetDraft {
         × (length a.inputs + length a.tables.items < 2 ^ 31) };
 }
 
-/// The names of a net's inputs.
-fn copied_inputs(alloc: Global, net: &Net) -> Result<NameList, AllocError>
-    ensures { IfOk result (λ names. names ≡ net.now.inputs) }
-{
-    let mut names = Items::new(alloc);
-    for s in 0..net.inputs() {
-        names.push(net.signal_name(s).copy()?)?;
-    }
-    Ok(names)
-}
-
 /// The tables of a net.
 fn copied_tables(alloc: Global, net: &Net) -> Result<Vec<Draft>, AllocError>
     ensures { IfOk result (λ tables. tables.items ≡ net.now.tables) }
@@ -65,17 +54,6 @@ fn copied_tables(alloc: Global, net: &Net) -> Result<Vec<Draft>, AllocError>
         tables.push(Draft::from_table(alloc, net.table(t))?)?;
     }
     Ok(tables)
-}
-
-/// The outputs of a net.
-fn copied_outputs(alloc: Global, net: &Net) -> Result<Vec<Signal>, AllocError>
-    ensures { IfOk result (λ outputs. outputs.items ≡ net.now.outputs) }
-{
-    let mut outputs = Vec::new(alloc);
-    for i in 0..net.outputs() {
-        outputs.push(net.output(i))?;
-    }
-    Ok(outputs)
 }
 
 /// These tables as a list.
@@ -160,9 +138,9 @@ impl NetDraft {
     {
         Ok(NetDraft {
             model: net.model().copy()?,
-            inputs: copied_inputs(alloc, net)?,
+            inputs: Items::from_slice(alloc, net.input_names())?,
             tables: copied_tables(alloc, net)?,
-            outputs: copied_outputs(alloc, net)?,
+            outputs: Vec::from_slice(alloc, net.output_signals())?,
             flags: Flags::raised(alloc, net.tables() as usize)?,
         })
     }
@@ -399,7 +377,7 @@ impl NetDraft {
         ensures { IfOk result (λ n. n ≡ self) }
     {
         let tables = table_list(alloc, &self.tables)?;
-        let outputs = signal_list(alloc, &self.outputs)?;
+        let outputs = Items::from_slice(alloc, &self.outputs)?;
         Net::from_sound(alloc, self.model, self.inputs, tables, outputs)
     }
 }

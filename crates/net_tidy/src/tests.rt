@@ -1,12 +1,12 @@
 //! One net for each rule, as its tables, and the tidy net.
 ghost use Rattle.std.specs.Prelude.{◌≡◌, All, length, IfOk, take};
 
-use crate::draft::{row_of, signal_list};
 use crate::tidy::{is_tidy, tidy};
 use net_core::items::{Items, NameList, RowList, Signal, TableList};
 use net_core::mark::Mark;
 use net_core::name::Name;
 use net_core::net::Net;
+use net_core::row::Row;
 use net_core::table::Table;
 use std::alloc::{AllocError, Global};
 use std::process::Abort;
@@ -37,7 +37,7 @@ fn rows(
     let mut rows = Items::new(alloc);
     for marks in covers {
         assert!(rt; marks.len() == width);
-        rows.push(row_of(alloc, marks)?)?;
+        rows.push(Row::from_slice(alloc, marks)?)?;
     }
     Ok(rows)
 }
@@ -48,7 +48,7 @@ fn table(rt: &impl Abort, alloc: Global, cover: Cover) -> Result<Table, AllocErr
     assert!(rt; plane || !rows.is_empty());
     Ok(Table::new(
         name(rt, alloc, bytes),
-        signal_list(alloc, pins)?,
+        Items::from_slice(alloc, pins)?,
         rows,
         plane,
     ))
@@ -68,7 +68,7 @@ fn net(
     for cover in covers {
         tables.push(table(rt, alloc, *cover)?)?;
     }
-    let outputs = signal_list(alloc, &[output])?;
+    let outputs = Items::from_slice(alloc, &[output])?;
     assert!(rt; inputs.len() < 9 && tables.len() < 9);
     match Net::from_parts(alloc, name(rt, alloc, b"m"), inputs, tables, outputs) {
         Ok(net) => Ok(net),

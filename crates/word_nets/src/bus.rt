@@ -7,26 +7,13 @@ use std::alloc::{AllocError, Global};
 /// A list of signals, bit 0 first.
 pub type Bus = SignalList;
 
-/// The signals as a list.
-pub fn bus_of(alloc: Global, signals: &[Signal]) -> Result<Bus, AllocError>
-    ensures { IfOk result (λ b. b ≡ signals.now) }
-{
-    let mut bus = Bus::new(alloc);
-    for signal in signals {
-        bus.push(*signal)?;
-    }
-    Ok(bus)
-}
-
 /// One bit, and then the others.
 pub fn with_front(alloc: Global, first: Signal, rest: &[Signal]) -> Result<Bus, AllocError>
     ensures { IfOk result (λ b. b ≡ first ∷ rest.now) }
 {
     let mut bus = Bus::new(alloc);
     bus.push(first)?;
-    for signal in rest {
-        bus.push(*signal)?;
-    }
+    bus.push_copies(rest)?;
     Ok(bus)
 }
 

@@ -42,28 +42,6 @@ pub const GROW: [[Mark; 3]; 2] = [
     [Mark::Dash, Mark::One, Mark::One],
 ];
 
-/// The marks as a row.
-fn row_of(alloc: Global, marks: &[Mark]) -> Result<Row, AllocError>
-    ensures { IfOk result (λ r. r ≡ marks.now) }
-{
-    let mut row = Row::new(alloc);
-    for mark in marks {
-        row.push(*mark)?;
-    }
-    Ok(row)
-}
-
-/// Rows of N marks as a list.
-pub fn rows_of<const N: usize>(alloc: Global, rows: &[[Mark; N]]) -> Result<RowList, AllocError>
-    ensures { IfOk result (λ r. r ≡ rows.now) }
-{
-    let mut list = Items::new(alloc);
-    for row in rows {
-        list.push(row_of(alloc, row)?)?;
-    }
-    Ok(list)
-}
-
 /// One mark, and then another so many times.
 fn row_with_front(alloc: Global, first: Mark, rest: Mark, count: usize) -> Result<Row, AllocError>
     ensures { IfOk result (λ r. r ≡ first ∷ replicate count rest) }
@@ -93,10 +71,7 @@ fn table_name(alloc: Global, place: usize) -> Result<Name, AllocError>
     ensures { IfOk result (λ n. n ≡ 116 ∷ decimal place) }
 {
     let text = format!(in alloc; "t{place}")?;
-    match Name::new(alloc, text.as_bytes()) {
-        Ok(name) => Ok(name),
-        Err(_) => Err(AllocError),
-    }
+    Name::new(alloc, text.as_bytes()).map_err(|_| AllocError)
 }
 
 /// The table at a place, from 0, with these pins and rows.
@@ -118,10 +93,7 @@ fn input_name(alloc: Global, place: u32) -> Result<Name, AllocError>
     ensures { IfOk result (λ n. n ≡ 120 ∷ decimal place) }
 {
     let text = format!(in alloc; "x{place}")?;
-    match Name::new(alloc, text.as_bytes()) {
-        Ok(name) => Ok(name),
-        Err(_) => Err(AllocError),
-    }
+    Name::new(alloc, text.as_bytes()).map_err(|_| AllocError)
 }
 
 /// The names of the inputs, in order.
@@ -139,8 +111,5 @@ pub fn input_names(alloc: Global, count: u32) -> Result<NameList, AllocError>
 pub fn model_name(alloc: Global) -> Result<Name, AllocError>
     ensures { IfOk result (λ n. n ≡ codes "word") }
 {
-    match Name::new(alloc, b"word") {
-        Ok(name) => Ok(name),
-        Err(_) => Err(AllocError),
-    }
+    Name::known(alloc, b"word")
 }

@@ -14,9 +14,7 @@ fn doubled(alloc: Global, zero: Signal, times: usize, bus: &Bus) -> Result<Bus, 
     ensures { IfOk result (λ b. b ≡ replicate times zero ++ bus.now) }
 {
     let mut doubled = repeated(alloc, zero, times)?;
-    for signal in bus.as_slice() {
-        doubled.push(*signal)?;
-    }
+    doubled.push_copies(bus.as_slice())?;
     Ok(doubled)
 }
 

@@ -6,14 +6,14 @@ ghost use Rattle.quality_semantics.specs.WordNets.{signals, appended, started, n
 ghost use Rattle.quality_semantics.specs.Multiply.{products};
 ghost use Rattle.quality_semantics.specs.Buses.{add, greater, exceed, constant, times, not_zero_low, differ, growers, at_least};
 
-use crate::bus::{Bus, bus_of, repeated, with_front};
+use crate::bus::{Bus, repeated, with_front};
 use crate::forms::{
     AND2, GROW, GT, MAJ, OR2, XOR2, XOR3, input_names, low_rows, model_name, numbered_table,
-    rows_of,
 };
 use net_core::items::{Items, RowList, Signal, SignalList, TableList};
 use net_core::mark::Mark;
 use net_core::net::Net;
+use net_core::row::rows_of;
 use std::alloc::{AllocError, Global};
 use std::marker::Model;
 
@@ -69,7 +69,7 @@ impl WordNet {
         }
         let model = model_name(self.alloc)?;
         let names = input_names(self.alloc, self.inputs)?;
-        let outputs = bus_of(self.alloc, outputs)?;
+        let outputs = Bus::from_slice(self.alloc, outputs)?;
         Net::from_sound(self.alloc, model, names, self.tables, outputs)
     }
 
@@ -123,7 +123,7 @@ impl WordNet {
         ensures signal { IfOk result (λ s. s ≡ signals self.old) }
         ensures begins { BeginsWith self.new self.old }
     {
-        let pins = bus_of(self.alloc, &pins)?;
+        let pins = Bus::from_slice(self.alloc, &pins)?;
         let rows = rows_of(self.alloc, rows)?;
         self.append(pins, rows)
     }
