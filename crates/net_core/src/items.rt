@@ -1,5 +1,5 @@
 //! A list of one kind of item, in the order in which they were pushed.
-ghost use Rattle.std.specs.Prelude.{◌≡◌, ◌<◌, ◌==◌, [], ◌∷◌, ◌++◌, length, slice_index_or, slice_set, IfOk, OnOk, OnErr};
+ghost use Rattle.std.specs.Prelude.{◌≡◌, ℕ, ◌<◌, ◌≤◌, ◌==◌, [], ◌∷◌, ◌++◌, length, take, slice_index_or, slice_set, IfOk, OnOk, OnErr};
 
 use crate::name::Name;
 use crate::row::Row;
@@ -120,7 +120,8 @@ impl<T: Duplicate> Items<T> {
 
     /// Adds copies of these items at the end; where there is no memory, of the first of them.
     pub fn push_copies(&mut self, more: &[T]) -> Result<(), AllocError>
-        ensures { OnOk result (self.new ≡ self.old ++ more.now) }
+        ensures ok { OnOk result (self.new ≡ self.old ++ more.now) }
+        ensures err { OnErr result ((n : ℕ) × (n ≤ length more.now) × (self.new ≡ self.old ++ take n more.now)) }
     {
         for item in more {
             self.push(item.duplicate()?)?;
