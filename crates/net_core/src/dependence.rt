@@ -8,7 +8,7 @@ ghost use Rattle.net_core.specs.Built.{IsBuilt};
 
 use crate::items::Signal;
 use crate::net::Net;
-use std::alloc::{AllocError, Global};
+use std::alloc::AllocError;
 
 /// Takes all marks away.
 fn clear(marks: &mut [bool])
@@ -53,13 +53,13 @@ impl Net {
     }
 
     /// Whether signal `s` is table `t` or reads it through any number of tables.
-    pub fn depends(&self, alloc: Global, s: Signal, t: u32) -> Result<bool, AllocError>
+    pub fn depends(&self, s: Signal, t: u32) -> Result<bool, AllocError>
         requires signal { s < signal_count self.now }
         requires table { t < table_count self.now }
         ensures { IfOk result
             (λ depends. IsTrue depends ↔ DependsOn (input_count self.now) self.now.tables t s) }
     {
-        let mut marks = vec![in alloc; false; self.signals() as usize]?;
+        let mut marks = vec![in *self.allocator(); false; self.signals() as usize]?;
         self.mark_dependents(t, &mut marks);
         Ok(marks[s as usize])
     }

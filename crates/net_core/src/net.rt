@@ -232,6 +232,11 @@ impl Net {
         *self.outputs.get(i as usize)
     }
 
+    /// The allocator of the net.
+    pub(crate) fn allocator(&self) -> &Global {
+        self.order.allocator()
+    }
+
     /// The signals of the outputs.
     pub fn output_signals(&self) -> &[Signal]
         ensures { result.now ≡ self.now.outputs }

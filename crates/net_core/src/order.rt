@@ -97,12 +97,13 @@ impl Sorting {
 
     /// Takes those that wait for a table.
     #[tactic(auto, using(crate::proofs::Views::of_view))]
-    fn take_waiters(&mut self, alloc: Global, t: u32) -> Vec<u32>
+    fn take_waiters(&mut self, t: u32) -> Vec<u32>
         requires { t < length self.old.waiters }
         ensures taken { result.items ≡ waiters_of self.old t }
         ensures rest { self.new ≡ without_waiters self.old t }
     {
-        mem::replace(&mut self.waiters[t as usize], Vec::new(alloc))
+        let none = Vec::new(*self.order.allocator());
+        mem::replace(&mut self.waiters[t as usize], none)
     }
 
     /// Whether a signal is an input or that of a table with a place.
@@ -180,7 +181,6 @@ impl Sorting {
     /// Visits those that wait for the next member of the order.
     fn step(
         &mut self,
-        alloc: Global,
         inputs: u32,
         tables: &[Table],
         head: usize,
@@ -193,7 +193,7 @@ impl Sorting {
         ensures settled { OnOk result (IsSettled inputs tables.now self.new (head + 1) []) }
     {
         let t = self.member(head);
-        let waiters = self.take_waiters(alloc, t);
+        let waiters = self.take_waiters(t);
         self.visit_all(inputs, tables, &waiters)
     }
 
@@ -232,7 +232,7 @@ fn settle(alloc: Global, inputs: u32, tables: &[Table], count: u32) -> Result<So
     }
     let mut head = 0;
     while head < sorting.count() {
-        sorting.step(alloc, inputs, tables, head)?;
+        sorting.step(inputs, tables, head)?;
         head += 1;
     }
     Ok(sorting)

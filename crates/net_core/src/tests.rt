@@ -41,10 +41,22 @@ fn outputs(alloc: Global, count: usize) -> Result<SignalList, AllocError> {
     Ok(outputs)
 }
 
+/// What is told of a net: whether its first table reads its second, where it has two.
+fn told(net: &Net) -> Result<&str, AllocError> {
+    if net.tables() == 2 && net.inputs() == 2 && net.depends(2, 1)? && !net.depends(3, 0)? {
+        return Ok("a net whose first table reads its second");
+    }
+    Ok("a net")
+}
+
 #[test]
 fn parts_of_nets(rt: HostRuntime) -> Result<(), Fail> {
     let cases: [(&[(&str, u32)], usize, &str); 7] = [
-        (&[("y", 3), ("z", 0)], 1, "a net"),
+        (
+            &[("y", 3), ("z", 0)],
+            1,
+            "a net whose first table reads its second",
+        ),
         (&[("y", 3), ("z", 2)], 1, "signal 2 depends on a cycle"),
         (&[("y", 3), ("z", 2), ("r", 9)], 1, "signal 9 is not there"),
         (&[("y", 3), ("z", 2), ("r", 9)], 0, "no output"),
@@ -63,7 +75,7 @@ fn parts_of_nets(rt: HostRuntime) -> Result<(), Fail> {
         assert!(rt; inputs.len() + tables.len() < 9);
         let model = Name::new(alloc, b"m")?;
         let answer = match Net::from_parts(alloc, model, inputs, tables, outputs(alloc, count)?) {
-            Ok(_) => format!(in alloc; "a net")?,
+            Ok(net) => format!(in alloc; "{}", told(&net)?)?,
             Err(refusal) => format!(in alloc; "{refusal}")?,
         };
         assert_eq!(rt; answer.as_str(), wanted);

@@ -255,10 +255,11 @@ impl Draft {
     }
 
     /// The table of these parts, with a copy of its name.
-    pub(crate) fn to_table(&self, alloc: Global) -> Result<Table, AllocError>
+    pub(crate) fn to_table(&self) -> Result<Table, AllocError>
         requires { IsTable self.now }
         ensures { IfOk result (λ t. t ≡ self.now) }
     {
+        let alloc = *self.pins.allocator();
         let name = self.name.copy()?;
         let pins = Items::from_slice(alloc, &self.pins)?;
         let rows = row_list(alloc, &self.rows)?;

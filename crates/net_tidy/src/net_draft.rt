@@ -63,7 +63,7 @@ fn table_list(alloc: Global, tables: &[Draft]) -> Result<TableList, AllocError>
 {
     let mut list = Items::new(alloc);
     for table in tables {
-        list.push(table.to_table(alloc)?)?;
+        list.push(table.to_table()?)?;
     }
     Ok(list)
 }
@@ -371,11 +371,12 @@ impl NetDraft {
     }
 
     /// The net of these parts.
-    pub(crate) fn into_net(self, alloc: Global) -> Result<Net, AllocError>
+    pub(crate) fn into_net(self) -> Result<Net, AllocError>
         requires sound { IsSound self }
         requires few_outputs { length self.outputs < 2 ^ 31 }
         ensures { IfOk result (λ n. n ≡ self) }
     {
+        let alloc = *self.outputs.allocator();
         let tables = table_list(alloc, &self.tables)?;
         let outputs = Items::from_slice(alloc, &self.outputs)?;
         Net::from_sound(alloc, self.model, self.inputs, tables, outputs)

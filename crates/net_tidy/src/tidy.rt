@@ -15,7 +15,7 @@ pub fn tidy(alloc: Global, net: Net) -> Result<Net, AllocError>
     while let Some((t, rule)) = draft.first_rule() {
         draft.apply(t, rule);
     }
-    draft.into_net(alloc)
+    draft.into_net()
 }
 
 /// Whether no rule applies to a net. It takes no memory.
