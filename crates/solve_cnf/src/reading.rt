@@ -1,87 +1,33 @@
-//! Formulas as texts. Source: DIMACS: lines that begin with `c` are comments, the line `p cnf` tells the number of variables, and
-//! each clause ends with the number 0.
-ghost use Rattle.std.specs.Prelude.{◌<◌, ◌^◌, [], length, All, IfOk};
-ghost use Rattle.proof_semantics.specs.Clauses.{IsLiteralOf, AreClausesOf};
+//! A text is read as the formula that it means. Source: DIMACS.
+ghost use Rattle.std.specs.Prelude.{◌≡◌, [], Ok, IfOk, IfErr};
 ghost use Rattle.proof_semantics.specs.Logs.{IsDerivation};
+ghost use Rattle.solve_cnf.specs.Reading.{formula_of_text};
+ghost use Rattle.solve_cnf.specs.Refusals.{Tells};
 
-use anyhow::{anyhow, bail};
-use cnf_core::clause::{ClauseList, Lits};
+use crate::draft::Draft;
+use crate::error::ReadError;
+use crate::header::header_of;
+use crate::lines::{line_number, lines_of, words_of};
 use cnf_core::cnf::Cnf;
 use std::alloc::Global;
 
-/// The number of variables, of a line `p cnf ..`.
-fn variables_of(line: &str) -> anyhow::Result<u32>
-    ensures { IfOk result (λ vars. vars < 2 ^ 31) }
+/// The formula of a text. Each refusal but want of memory is the one that the definition gives.
+#[tactic(auto, unfolding(crate::specs::Reading::formula_of_text))]
+pub fn read_formula(alloc: Global, text: &[u8]) -> Result<Cnf, ReadError>
+    ensures ok { IfOk result (λ cnf. formula_of_text text.now ≡ Ok cnf) }
+    ensures err { IfErr result (λ told. Tells told (formula_of_text text.now)) }
+    ensures derivation { IfOk result (λ cnf. IsDerivation cnf []) }
 {
-    let number = line.split_whitespace().nth(2);
-    let vars: u32 = number.ok_or(anyhow!("no number of variables"))?.parse()?;
-    if vars >= 0x8000_0000 {
-        bail!("too many variables");
-    }
-    Ok(vars)
-}
-
-/// Takes the next number: a literal of the clause, or 0 after its last. Answers the clause that goes on.
-fn take(
-    alloc: Global,
-    vars: u32,
-    clauses: &mut ClauseList,
-    mut clause: Lits,
-    number: i32,
-) -> anyhow::Result<Lits>
-    requires vars { vars < 2 ^ 31 }
-    requires clauses { AreClausesOf vars clauses.old }
-    requires clause { All (IsLiteralOf vars) clause }
-    ensures clauses { AreClausesOf vars clauses.new }
-    ensures clause { IfOk result (All (IsLiteralOf vars)) }
-{
-    if number == 0 {
-        clauses.push(clause)?;
-        return Ok(Lits::new(alloc));
-    }
-    if number.unsigned_abs() > vars {
-        bail!("a literal of no variable");
-    }
-    clause.push(number)?;
-    Ok(clause)
-}
-
-/// Takes the numbers of a line.
-fn take_line(
-    alloc: Global,
-    vars: u32,
-    clauses: &mut ClauseList,
-    mut clause: Lits,
-    line: &str,
-) -> anyhow::Result<Lits>
-    requires vars { vars < 2 ^ 31 }
-    requires clauses { AreClausesOf vars clauses.old }
-    requires clause { All (IsLiteralOf vars) clause }
-    ensures clauses { AreClausesOf vars clauses.new }
-    ensures clause { IfOk result (All (IsLiteralOf vars)) }
-{
-    for word in line.split_whitespace() {
-        clause = take(alloc, vars, clauses, clause, word.parse()?)?;
-    }
-    Ok(clause)
-}
-
-/// The formula of a text.
-pub fn read_formula(alloc: Global, text: &str) -> anyhow::Result<Cnf>
-    ensures { IfOk result (λ cnf. IsDerivation cnf []) }
-{
-    let mut vars = 0;
-    let mut clauses = ClauseList::new(alloc);
-    let mut clause = Lits::new(alloc);
-    for line in text.lines() {
-        if line.starts_with('p') {
-            vars = variables_of(line)?;
-            clauses = ClauseList::new(alloc);
-            clause = Lits::new(alloc);
-        } else if !line.starts_with('c') {
-            clause = take_line(alloc, vars, &mut clauses, clause, line)?;
-        }
-    }
-    let _count = clauses.as_slice().len();
-    Ok(Cnf::new(vars, clauses))
+    let lines = lines_of(alloc, text)?;
+    let Some((first, rest)) = lines.as_slice().split_first() else {
+        return Err(ReadError::NoHeader);
+    };
+    let words = words_of(alloc, first.1)?;
+    let Some(header) = header_of(&words) else {
+        let line = line_number(first);
+        return Err(ReadError::BadHeader { line });
+    };
+    let mut draft = Draft::new(alloc, header.vars);
+    draft.take_lines(rest)?;
+    draft.finish(header.clauses)
 }

@@ -1,0 +1,9 @@
+pub mod Reading
+pub mod Slices
+pub mod Header
+pub mod Draft
+pub mod Refusals
+pub mod Writing
+pub mod Run
+pub mod Examples
+pub mod Laws

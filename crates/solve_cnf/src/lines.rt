@@ -1,0 +1,65 @@
+//! Lines and words, as slices of the text. Source: DIMACS.
+ghost use Rattle.std.specs.Prelude.{◌≡◌, ◌==◌, ◌&&◌, ◌+◌, ◌-◌, ◌^◌, min, not, IfOk};
+ghost use Rattle.std.specs.List.{list_all};
+ghost use Rattle.blif_semantics.specs.Lines.{is_blank, words_of};
+ghost use Rattle.solve_cnf.specs.Reading.{is_comment, lines_of};
+ghost use Rattle.solve_cnf.specs.Slices.{texts, line_texts};
+
+use std::alloc::{AllocError, Global};
+
+/// How many lines stand before a line, and its bytes.
+pub type Line<'a> = (usize, &'a [u8]);
+
+/// The number of a line, from 1.
+pub fn line_number(line: &Line) -> usize
+    ensures { result ≡ min (line.now.0 + 1) (2 ^ 64 - 1) }
+{
+    line.0.saturating_add(1)
+}
+
+/// A space, a tab or a CR.
+fn is_blank(byte: u8) -> bool
+    ensures { result ≡ is_blank byte }
+{
+    matches!(byte, b' ' | b'\t' | b'\r')
+}
+
+/// Whether the line begins with `c`.
+fn is_comment(line: &[u8]) -> bool
+    ensures { result ≡ is_comment line.now }
+{
+    !line.is_empty() && line[0] == b'c'
+}
+
+/// Whether the line has no byte but blanks.
+fn is_empty(line: &[u8]) -> bool
+    ensures { result ≡ list_all is_blank line.now }
+{
+    line.iter().all(|b| is_blank(*b))
+}
+
+/// Whether the line is no comment and has more than blanks.
+fn has_words(line: &[u8]) -> bool
+    ensures { result ≡ (not (is_comment line.now) && not (list_all is_blank line.now)) }
+{
+    !is_comment(line) && !is_empty(line)
+}
+
+/// The lines that are no comments and have more than blanks.
+pub fn lines_of<'a>(alloc: Global, text: &'a [u8]) -> Result<Vec<Line<'a>>, AllocError>
+    ensures { IfOk result (λ v. line_texts v.items ≡ lines_of text.now) }
+{
+    text.split(|b| *b == b'\n')
+        .enumerate()
+        .filter(|line| has_words(line.1))
+        .collect(alloc)
+}
+
+/// The words between blanks.
+pub fn words_of<'a>(alloc: Global, line: &'a [u8]) -> Result<Vec<&'a [u8]>, AllocError>
+    ensures { IfOk result (λ v. texts v.items ≡ words_of line.now) }
+{
+    line.split(|b| is_blank(*b))
+        .filter(|w| !w.is_empty())
+        .collect(alloc)
+}
