@@ -1,3 +1,4 @@
 pub mod Words
 pub mod Masks
 pub mod Blocks
+pub mod Lending

@@ -1,5 +1,6 @@
 //! The masks of an approximate net over a set of patterns, and what they say of moves.
 ghost use Rattle.std.specs.Prelude.{◌≡◌, ◌<◌, ◌≤◌, ℕ, length, IfOk, Contains};
+ghost use Rattle.std.specs.Borrow.{sem};
 ghost use Rattle.semantics.specs.Net.{NetValue, input_count, table_count, HasSamePorts};
 ghost use Rattle.semantics.specs.Error.{Metric as ErrorMetric};
 ghost use Rattle.chain_semantics.specs.Moves.{moves_of};
@@ -7,6 +8,7 @@ ghost use Rattle.chain_semantics.specs.Care.{Changes};
 ghost use Rattle.joint_net.specs.Metric.{meaning};
 ghost use Rattle.adc_core.specs.Masks.{row_at, IsRowWhere, AreMasksOf, FindsFirstBroken};
 ghost use Rattle.adc_core.specs.Blocks.{vectors_in, AreFilled};
+ghost use Rattle.adc_core.specs.Lending.{StayTheSame};
 
 use crate::blocks::blocks;
 use crate::differences::{first_broken, set_differences};
@@ -115,7 +117,8 @@ impl Adc {
     /// The row of the patterns at which the move changes its table's value.
     pub fn differs(&mut self, step: Move) -> &[u64]
         requires { Contains (moves_of self.old.net) step }
-        ensures { IsRowWhere self.old.vectors (Changes self.old.net step) result.now }
+        ensures* masks { sem 𝓛 (StayTheSame self.entry) }
+        ensures row { IsRowWhere self.old.vectors (Changes self.old.net step) result.now }
     {
         set_differences(
             &self.net,

@@ -1,7 +1,9 @@
-//! Where a constant breaks the bound of a half adder: the bits past the last pattern of a block are no patterns.
-ghost use Rattle.std.specs.Prelude.{◌≡◌, [], ◌∷◌, IfOk};
+//! The masks of a half adder, and where a constant breaks its bound: the bits past the last pattern of a block are no patterns.
+ghost use Rattle.std.specs.Prelude.{◌≡◌, [], ◌∷◌, false, IfOk, Contains};
 ghost use Rattle.semantics.specs.Examples.{half_adder};
-ghost use Rattle.semantics.specs.Net.{table_at};
+ghost use Rattle.semantics.specs.Net.{table_at, table_count, HasSamePorts};
+ghost use Rattle.chain_semantics.specs.declared.moves.Move.TheVariants.{Const};
+ghost use Rattle.chain_semantics.specs.Moves.{moves_of};
 
 use crate::adc::Adc;
 use chain_semantics::moves::Move;
@@ -13,6 +15,7 @@ use net_core::name::{Name, NameRefusal};
 use net_core::net::Net;
 use net_core::row::Row;
 use net_core::table::Table;
+use net_moves::apply::apply;
 use std::alloc::{AllocError, Global};
 use std::test::Fail;
 
@@ -78,24 +81,62 @@ fn patterns(alloc: Global, zeros: u32, ones: bool) -> Result<Patterns, AllocErro
     Ok(patterns)
 }
 
-/// Where the carry as constant 0 breaks the bound 1.
-fn first_break(alloc: Global, zeros: u32, ones: bool) -> Result<Option<u64>, NameRefusal> {
-    let net = half_adder(alloc)?;
-    let patterns = patterns(alloc, zeros, ones)?;
-    let adc = Adc::new(alloc, &net, &net, Metric::Abs, 1, &patterns)?;
-    Ok(adc.breaks(Move::Const { t: 1, value: false }))
+/// The half adder, or the net in which its sum is a table that reads the carry, as its opposite.
+fn approximate(alloc: Global, exact: &Net, reads_carry: bool) -> Result<Net, AllocError>
+    requires { exact.now ≡ half_adder }
+    ensures ports { IfOk result (λ n. HasSamePorts half_adder n) }
+    ensures step { IfOk result (λ n. Contains (moves_of n) (Const 1 false)) }
+    ensures tables { IfOk result (λ n. table_count n ≡ 2) }
+{
+    if reads_carry {
+        let step = Move::Signal {
+            t: 0,
+            s: 3,
+            flip: true,
+        };
+        return apply(alloc, exact, step);
+    }
+    exact.copy()
 }
 
+fn last_word(row: &[u64]) -> Option<u64> {
+    row.last().copied()
+}
+
+/// Within 1 of the half adder: the last words of the carry's care and of where the constant 0 differs from it, and where this
+/// constant breaks the bound.
+fn carry_as_zero(
+    alloc: Global,
+    reads_carry: bool,
+    zeros: u32,
+    ones: bool,
+) -> Result<(Option<u64>, Option<u64>, Option<u64>), NameRefusal> {
+    let exact = half_adder(alloc)?;
+    let approx = approximate(alloc, &exact, reads_carry)?;
+    let patterns = patterns(alloc, zeros, ones)?;
+    let mut adc = Adc::new(alloc, &exact, &approx, Metric::Abs, 1, &patterns)?;
+    let step = Move::Const { t: 1, value: false };
+    let care = last_word(adc.care(1));
+    let differs = last_word(adc.differs(step));
+    Ok((care, differs, adc.breaks(step)))
+}
+
+/// The flipped carry of the half adder errs by 2 everywhere; where the sum reads it, by 2 at zeros and by 1 at ones, since the sum
+/// turns too. The constant differs at ones alone.
 #[test]
 fn constant_carry(rt: HostRuntime) -> Result<(), Fail> {
     let cases = [
-        (512, true, Some(512)),
-        (512, false, None),
-        (511, true, Some(511)),
-        (0, false, None),
+        (false, 512, true, (Some(1), Some(1), Some(512))),
+        (false, 512, false, (Some(u64::MAX), Some(0), None)),
+        (false, 511, true, (Some(u64::MAX), Some(1 << 63), Some(511))),
+        (false, 0, false, (None, None, None)),
+        (true, 1, true, (Some(0b01), Some(0b10), None)),
     ];
-    for (zeros, ones, wanted) in cases {
-        assert_eq!(rt; first_break(rt.alloc(), zeros, ones)?, wanted);
+    for (reads_carry, zeros, ones, wanted) in cases {
+        assert_eq!(rt;
+            carry_as_zero(rt.alloc(), reads_carry, zeros, ones)?,
+            wanted
+        );
     }
     Ok(())
 }

@@ -1,4 +1,4 @@
-use Rattle.std.proofs.Common.{◌≡◌, length, ap, sym, subst, ◌∙◌, arith}
+use Rattle.std.proofs.Common.{◌≡◌, refl, length, ap, sym, subst, ◌∙◌, arith}
 use Rattle.std.proofs.lemmas.List.{with_items_is}
 use Rattle.chain_semantics.specs.Care.{Changes}
 use Rattle.lane_bits.specs.Rows.{word_count}
@@ -15,9 +15,14 @@ set_differences-requires-clause-count c =
 pub returns : goal.returns
 returns c =
     let row : c.deref.result.now ≡ c.set_differences.new.row =
-    c.deref.ensures.value ∙ with_items_is c.self.inside.differs c.set_differences.new.row (omega (arith, c.set_differences.auto.row, c.deref_mut.ensures.len)) in
-    rw row
-    (subst (λ (m : Masks). IsRowWhere m.vectors (Changes m.net c.args.step) c.set_differences.new.row) c.self.view_is
-    (c.set_differences.ensures (vectors_in (input_count c.self.inside.net) c.self.inside.count c.self.inside.blocks)
-    (vectors-count c.self.inside.net c.self.inside.count c.self.inside.blocks)
-    (subst (AreBlocksOf c.self.inside.net (vectors_in (input_count c.self.inside.net) c.self.inside.count c.self.inside.blocks)) (sym c.as_slice.ensures) c.self.invariant.blocks)))
+    c.deref.ensures.value ∙ with_items_is c.self.inside.differs c.set_differences.new.row (omega (arith, c.set_differences.auto.row, c.deref_mut.ensures.len)) in (
+      (refl, (λ _. tt), c.self.view_is),
+      record {
+        masks = tt;
+        row = rw row
+            (subst (λ (m : Masks). IsRowWhere m.vectors (Changes m.net c.args.step) c.set_differences.new.row) c.self.view_is
+            (c.set_differences.ensures (vectors_in (input_count c.self.inside.net) c.self.inside.count c.self.inside.blocks)
+            (vectors-count c.self.inside.net c.self.inside.count c.self.inside.blocks)
+            (subst (AreBlocksOf c.self.inside.net (vectors_in (input_count c.self.inside.net) c.self.inside.count c.self.inside.blocks)) (sym c.as_slice.ensures) c.self.invariant.blocks)));
+      },
+    )
