@@ -11,21 +11,11 @@ use net_core::net::Net;
 use net_core::table::Table;
 use std::alloc::{AllocError, Global};
 
-/// A name that is one, or want of memory.
-fn name_of(alloc: Global, text: &[u8]) -> Result<Name, AllocError>
-    ensures { IfOk result (λ name. name ≡ text.now) }
-{
-    match Name::new(alloc, text) {
-        Ok(name) => Ok(name),
-        Err(_) => Err(AllocError),
-    }
-}
-
 /// The name of the model.
 pub fn model_name(alloc: Global) -> Result<Name, AllocError>
     ensures { IfOk result (λ name. name ≡ codes "joint") }
 {
-    name_of(alloc, b"joint")
+    Name::known(alloc, b"joint")
 }
 
 /// A letter, and a number without leading zeros.
@@ -35,7 +25,7 @@ fn numbered_name(alloc: Global, letter: u8, number: u32) -> Result<Name, AllocEr
     let mut buffer = Buffer::new();
     let mut text = Vec::from_slice(alloc, &[letter])?;
     text.extend_from_slice(buffer.format(number).as_bytes())?;
-    name_of(alloc, &text)
+    Name::new(alloc, &text).map_err(|_| AllocError)
 }
 
 /// The names `x0`, `x1` and so on of so many inputs.
