@@ -4,7 +4,6 @@ ghost use Rattle.semantics.specs.Net.{input_count, signal_count};
 ghost use Rattle.semantics.specs.Value.{value_of};
 ghost use Rattle.worst_case.specs.Outputs.{IsAlwaysFalse, IsFirstTrue};
 
-use crate::bits::copied;
 use lane_bits::patterns::Patterns;
 use net_core::items::{Bits, Signal};
 use net_core::net::Net;
@@ -36,7 +35,7 @@ pub fn first_true(alloc: Global, net: &Net) -> Result<Option<Bits>, AllocError>
     for j in 0..vectors.count() {
         vectors.get(j, x);
         if value_at(net, output, x, vals) {
-            return Ok(Some(copied(alloc, x)?));
+            return Ok(Some(Bits::from_slice(alloc, x)?));
         }
     }
     Ok(None)

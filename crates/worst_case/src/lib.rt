@@ -1,7 +1,6 @@
 //! Queries whether the error of an approximate net exceeds a level at some input, and the search for its greatest error.
 #![tactic(auto)]
 
-mod bits;
 pub mod exceed;
 pub mod exceeds;
 mod first_true;

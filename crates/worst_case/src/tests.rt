@@ -38,10 +38,7 @@ fn net_of(alloc: Global, inputs: u32, tables: TableList, outputs: SignalList) ->
 /// The net with its first output 0.
 fn without_first_output(alloc: Global, net: &Net) -> Result<Net, Fail> {
     let mut tables = Items::new(alloc);
-    let mut outputs = Items::new(alloc);
-    for i in 0..net.outputs() {
-        outputs.push(net.output(i))?;
-    }
+    let outputs = Items::from_slice(alloc, net.output_signals())?;
     for t in 0..net.tables() {
         let table = net.table(t);
         if outputs.as_slice().first() == Some(&(net.inputs() + t)) {
@@ -55,10 +52,9 @@ fn without_first_output(alloc: Global, net: &Net) -> Result<Net, Fail> {
 
 /// A table that is 1 where all its pins are.
 fn conjunction(alloc: Global, name: &[u8], signals: &[u32]) -> Result<Table, Fail> {
-    let mut pins = Items::new(alloc);
+    let pins = Items::from_slice(alloc, signals)?;
     let mut row = Row::new(alloc);
-    for signal in signals {
-        pins.push(*signal)?;
+    for _signal in signals {
         row.push(Mark::One)?;
     }
     if row.len() != pins.len() {
@@ -75,9 +71,7 @@ fn tree(alloc: Global, others: &[u32]) -> Result<Net, Fail> {
     tables.push(conjunction(alloc, b"p", &[0, 1, 2, 3, 4, 5, 6, 7])?)?;
     tables.push(conjunction(alloc, b"q", others)?)?;
     tables.push(conjunction(alloc, b"y", &[16, 17])?)?;
-    let mut outputs = Items::new(alloc);
-    outputs.push(18)?;
-    net_of(alloc, 16, tables, outputs)
+    net_of(alloc, 16, tables, Items::from_slice(alloc, &[18])?)
 }
 
 /// The same conjunction as one table.
@@ -85,9 +79,7 @@ fn flat(alloc: Global) -> Result<Net, Fail> {
     let mut tables = Items::new(alloc);
     let all = [0, 1, 2, 3, 4, 5, 6, 7, 8, 9, 10, 11, 12, 13, 14, 15];
     tables.push(conjunction(alloc, b"y", &all)?)?;
-    let mut outputs = Items::new(alloc);
-    outputs.push(16)?;
-    net_of(alloc, 16, tables, outputs)
+    net_of(alloc, 16, tables, Items::from_slice(alloc, &[16])?)
 }
 
 /// Whether the checker accepts the log as a refutation.

@@ -5,7 +5,6 @@ ghost use Rattle.semantics.specs.Error.{net_error};
 ghost use Rattle.joint_net.specs.Metric.{meaning};
 ghost use Rattle.worst_case.specs.Trial.{IsTrial, IsFirstGreatestOf, FindsOver};
 
-use crate::bits::copied;
 use joint_net::metric::Metric;
 use joint_net::net_error::error_at;
 use lane_bits::patterns::Patterns;
@@ -89,7 +88,7 @@ pub fn greatest_of(
     vectors.get(at, x);
     Ok(Attained {
         error: most,
-        witness: copied(alloc, x)?,
+        witness: Bits::from_slice(alloc, x)?,
     })
 }
 
@@ -112,7 +111,7 @@ pub fn first_over(
     for j in 0..vectors.count() {
         vectors.get(j, x);
         if error_at(alloc, exact, approx, metric, x)? > k {
-            return Ok(Some(copied(alloc, x)?));
+            return Ok(Some(Bits::from_slice(alloc, x)?));
         }
     }
     Ok(None)

@@ -6,7 +6,6 @@ ghost use Rattle.proof_semantics.specs.Formula.{goal_of};
 ghost use Rattle.proof_semantics.specs.Conflicts.{IsEnough};
 ghost use Rattle.worst_case.specs.Outputs.{IsTruth, IsAsked, IsSettled};
 
-use crate::bits::copied;
 use crate::first_true::first_true;
 use case_tree::refute::refute;
 use cdcl_core::answer::Answer;
@@ -63,7 +62,7 @@ fn input_bits(alloc: Global, net: &Net, values: &Bits) -> Result<Bits, AllocErro
     requires { input_count net.now ≤ length values.now }
     ensures { IfOk result (λ x. x ≡ take (input_count net.now) values.now) }
 {
-    copied(alloc, &values.as_slice()[..net.inputs() as usize])
+    Bits::from_slice(alloc, &values.as_slice()[..net.inputs() as usize])
 }
 
 /// Tries every input vector, and refutes the goal where the output is 0 at all of them.

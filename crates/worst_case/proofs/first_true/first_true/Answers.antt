@@ -12,8 +12,8 @@ returns-then-value_at c =
     let below : c.loop-j.j < length c.in_ok-vectors.vectors.vectors = omega (arith, c.loop-j-test.true, c.count-j-end.ensures.value) in
     let here = c.get.ensures ∙ AreAll-at c.in_ok-vectors.vectors n c.loop-j.j all below in
     let bit = sym c.if-value_at.true ∙ c.value_at.ensures ∙ ap (value_of n net.tables c.get.new.x) c.output-output.ensures.value in
-    IsFirstTrue-at net c.loop-j.j c.in_ok-copied.field-0 c.loop-j.invariant.before (omega (arith, below, AreAll-count c.in_ok-vectors.vectors n all)) (c.in_ok-copied.ensures ∙ here)
-    (ap (outputs_of net) c.in_ok-copied.ensures ∙ one_output net c.get.new.x true c.requires.one_output bit)
+    IsFirstTrue-at net c.loop-j.j c.in_ok-from_slice.field-0 c.loop-j.invariant.before (omega (arith, below, AreAll-count c.in_ok-vectors.vectors n all)) (c.in_ok-from_slice.ensures ∙ here)
+    (ap (outputs_of net) c.in_ok-from_slice.ensures ∙ one_output net c.get.new.x true c.requires.one_output bit)
 
 pub loop-j-preserved : goal.loop-j-preserved
 loop-j-preserved c =
