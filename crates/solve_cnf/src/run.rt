@@ -1,6 +1,7 @@
 //! The solver over a text, and the words of the command line.
 ghost use Rattle.std.specs.Prelude.{◌≡◌, ◌≤◌, OnOk, IfErr};
 ghost use Rattle.solve_cnf.specs.Run.{limit_of, IsAnswered, HasFailed};
+ghost use Rattle.solve_cnf.specs.declared.run.RunError.TheVariants.{Refused as RefusedText, OutOfMemory as NoMemory, Write as NotWritten};
 
 use crate::error::ReadError;
 use crate::numbers::digits_number;
@@ -8,7 +9,7 @@ use crate::reading::read_formula;
 use crate::writing::write_answer;
 use cdcl_core::solve::solve;
 use cnf_core::log::Log;
-use std::alloc::Global;
+use std::alloc::{AllocError, Global};
 use std::io::{self, Write};
 use thiserror::Error;
 
@@ -21,6 +22,30 @@ pub enum RunError {
     OutOfMemory,
     #[error("the answer cannot be written: {0}")]
     Write(io::Error),
+}
+
+impl From<ReadError> for RunError {
+    ghost from_gives = { λ told e. e ≡ RefusedText told };
+
+    fn from(told: ReadError) -> RunError {
+        RunError::Refused(told)
+    }
+}
+
+impl From<AllocError> for RunError {
+    ghost from_gives = { λ _ e. e ≡ NoMemory };
+
+    fn from(_: AllocError) -> RunError {
+        RunError::OutOfMemory
+    }
+}
+
+impl From<io::Error> for RunError {
+    ghost from_gives = { λ error e. e ≡ NotWritten error };
+
+    fn from(error: io::Error) -> RunError {
+        RunError::Write(error)
+    }
 }
 
 /// The conflicts that a word allows.
@@ -39,8 +64,9 @@ pub fn run<W: Write>(alloc: Global, text: &[u8], limit: u64, out: &mut W) -> Res
     ensures ok { OnOk result (IsAnswered text.now limit (W.contents out.old) (W.contents out.new)) }
     ensures err { IfErr result (HasFailed text.now (W.contents out.old) (W.contents out.new)) }
 {
-    let cnf = read_formula(alloc, text).map_err(RunError::Refused)?;
-    let answer = solve(alloc, &cnf, &Log::new(alloc), limit).map_err(|_| RunError::OutOfMemory)?;
-    write_answer(out, &answer).map_err(RunError::Write)?;
-    out.flush().map_err(RunError::Write)
+    let cnf = read_formula(alloc, text)?;
+    let answer = solve(alloc, &cnf, &Log::new(alloc), limit)?;
+    write_answer(out, &answer)?;
+    out.flush()?;
+    Ok(())
 }
