@@ -8,10 +8,11 @@ ghost use Rattle.blif_text.specs.Refusals.{Tells};
 ghost use Rattle.blif_text.specs.Names.{first_unknown};
 ghost use Rattle.blif_text.specs.Words.{texts};
 
-use crate::names::{Names, name_of};
+use crate::names::Names;
 use crate::refusal::BlifRefusal;
 use net_core::items::{Items, RowList};
 use net_core::mark::Mark;
+use net_core::name::Name;
 use net_core::row::Row;
 use net_core::table::Table;
 use std::alloc::{AllocError, Global};
@@ -136,7 +137,7 @@ impl<'a> NamedTable<'a> {
             plane,
         } = self;
         let signals = names.numbers(&pins)?;
-        let name = name_of(*pins.allocator(), name)?;
+        let name = Name::known(*pins.allocator(), name)?;
         Ok(Table::new(name, signals, rows, plane))
     }
 }

@@ -14,14 +14,6 @@ use net_core::name::Name;
 use std::alloc::{AllocError, Global};
 use std::marker::Model;
 
-/// The name that a word is known to be.
-pub fn name_of(alloc: Global, word: &[u8]) -> Result<Name, AllocError>
-    requires { IsName word.now }
-    ensures { IfOk result (λ n. n ≡ word.now) }
-{
-    Name::new(alloc, word).map_err(|_| AllocError)
-}
-
 /// The names that words are known to be.
 pub fn name_list(alloc: Global, words: &[&[u8]]) -> Result<NameList, AllocError>
     requires { All IsName (texts words.now) }
@@ -29,7 +21,7 @@ pub fn name_list(alloc: Global, words: &[&[u8]]) -> Result<NameList, AllocError>
 {
     let mut names = Items::new(alloc);
     for word in words {
-        names.push(name_of(alloc, word)?)?;
+        names.push(Name::known(alloc, word)?)?;
     }
     Ok(names)
 }
@@ -83,7 +75,7 @@ impl<'a> Names<'a> {
         let mut all = Names::new(alloc);
         for name in names {
             if !all.add(name)? {
-                let name = name_of(alloc, name)?;
+                let name = Name::known(alloc, name)?;
                 return Err(BlifRefusal::Doubled { name });
             }
         }
@@ -110,7 +102,7 @@ impl<'a> Names<'a> {
         let mut signals = Items::new(alloc);
         for word in words {
             let Some(signal) = self.number(word) else {
-                let name = name_of(alloc, word)?;
+                let name = Name::known(alloc, word)?;
                 return Err(BlifRefusal::Undriven { name });
             };
             signals.push(signal)?;

@@ -11,7 +11,7 @@ ghost use Rattle.blif_text.specs.Words.{texts};
 
 use crate::named_net::NamedNet;
 use crate::named_table::NamedTable;
-use crate::names::{Names, name_list, name_of};
+use crate::names::{Names, name_list};
 use crate::refusal::BlifRefusal;
 use net_core::items::{Items, NameList, SignalList, TableList};
 use net_core::limits::first_limit;
@@ -96,7 +96,7 @@ fn driven_net(alloc: Global, names: &Names, named: NamedNet) -> Result<Net, Blif
         outputs,
         tables,
     } = named;
-    let model = name_of(alloc, model)?;
+    let model = Name::known(alloc, model)?;
     let inputs = name_list(alloc, &inputs)?;
     let tables = numbered_tables(alloc, names, tables)?;
     let outputs = names.numbers(&outputs)?;

@@ -1,31 +1,19 @@
 //! The names of the demonstration's net: a letter and a number.
 ghost use Rattle.std.specs.Prelude.{◌≡◌, [], ◌∷◌, ◌++◌, map, codes, IfOk, OnOk};
 ghost use Rattle.std.specs.List.{range_with_len};
-ghost use Rattle.semantics.specs.Net.{IsName, IsNameByte};
+ghost use Rattle.semantics.specs.Net.{IsNameByte};
 ghost use Rattle.job_semantics.specs.Demo.{demo_name};
 
 use itoa::Buffer;
 use net_core::items::NameList;
-use net_core::name::{Name, NameRefusal};
+use net_core::name::Name;
 use std::alloc::{AllocError, Global};
-
-/// The name of these bytes, which are one.
-fn name_of(alloc: Global, text: &[u8]) -> Result<Name, AllocError>
-    requires { IsName text.now }
-    ensures { IfOk result (λ name. name ≡ text.now) }
-{
-    match Name::new(alloc, text) {
-        Ok(name) => Ok(name),
-        Err(NameRefusal::OutOfMemory) => Err(AllocError),
-        Err(NameRefusal::Bad) => unreachable!(),
-    }
-}
 
 /// The name of the model.
 pub fn model_name(alloc: Global) -> Result<Name, AllocError>
     ensures { IfOk result (λ name. name ≡ codes "demo") }
 {
-    name_of(alloc, b"demo")
+    Name::known(alloc, b"demo")
 }
 
 /// A letter and a number.
@@ -36,7 +24,7 @@ pub fn numbered_name(alloc: Global, letter: u8, number: u32) -> Result<Name, All
     let mut buffer = Buffer::new();
     let mut text = Vec::from_slice(alloc, &[letter])?;
     text.extend_from_slice(buffer.format(number).as_bytes())?;
-    name_of(alloc, &text)
+    Name::known(alloc, &text)
 }
 
 /// Adds the names of a word's inputs, a letter and the numbers from 0, at the end.

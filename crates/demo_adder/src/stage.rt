@@ -4,10 +4,10 @@ ghost use Rattle.quality_semantics.specs.Forms.{form};
 ghost use Rattle.job_semantics.specs.Demo.{demo_name, demo_table, sum_signal, carry_signal, sum_form, carry_form, stage_tables};
 
 use crate::names::numbered_name;
-use net_core::items::{RowList, Signal, SignalList, TableList};
+use net_core::items::{Signal, SignalList, TableList};
 use net_core::mark::Mark;
 use net_core::name::Name;
-use net_core::row::Row;
+use net_core::row::rows_of;
 use net_core::table::Table;
 use std::alloc::{AllocError, Global};
 
@@ -46,39 +46,6 @@ pub fn carry_signal(width: u32, stage: u32) -> Signal
     2 * width + 2 * stage + 1
 }
 
-/// The marks as a row.
-fn row_of(alloc: Global, marks: &[Mark]) -> Result<Row, AllocError>
-    ensures { IfOk result (λ row. row ≡ marks.now) }
-{
-    let mut row = Row::new(alloc);
-    for mark in marks {
-        row.push(*mark)?;
-    }
-    Ok(row)
-}
-
-/// Rows of N marks as a list.
-fn rows_of<const N: usize>(alloc: Global, rows: &[[Mark; N]]) -> Result<RowList, AllocError>
-    ensures { IfOk result (λ list. list ≡ rows.now) }
-{
-    let mut list = RowList::new(alloc);
-    for row in rows {
-        list.push(row_of(alloc, row)?)?;
-    }
-    Ok(list)
-}
-
-/// The signals as a list.
-fn pins_of(alloc: Global, signals: &[Signal]) -> Result<SignalList, AllocError>
-    ensures { IfOk result (λ pins. pins ≡ signals.now) }
-{
-    let mut pins = SignalList::new(alloc);
-    for signal in signals {
-        pins.push(*signal)?;
-    }
-    Ok(pins)
-}
-
 /// The table of N pins with these rows, of plane 1.
 fn table_of<const N: usize>(
     alloc: Global,
@@ -89,7 +56,7 @@ fn table_of<const N: usize>(
     requires { All (λ marks. length marks ≡ length signals.now) rows.now }
     ensures { IfOk result (λ t. t ≡ demo_table name (form signals.now rows.now)) }
 {
-    let pins = pins_of(alloc, signals)?;
+    let pins = SignalList::from_slice(alloc, signals)?;
     let rows = rows_of(alloc, rows)?;
     Ok(Table::new(name, pins, rows, true))
 }

@@ -2,8 +2,8 @@ use Rattle.std.proofs.Common.{sym, ◌∙◌}
 use Rattle.blif_text.proofs.Places.{named_at, signals-next, unknown-next, unknown-here, unknown_told}
 use Rattle.blif_text.proofs.names.Names.numbers.Goals as goal
 
-pub name_of-requires : goal.name_of-requires
-name_of-requires c = named_at c.args.words.now c.loop-word.word-index _ c.loop-word-test.true c.requires
+pub known-requires : goal.known-requires
+known-requires c = named_at c.args.words.now c.loop-word.word-index _ c.loop-word-test.true c.requires
 
 pub returns-in_default-clause-err : goal.returns-in_default-clause-err
 returns-in_default-clause-err c =
