@@ -11,7 +11,7 @@ use net_core::items::Items;
 use net_core::mark::Mark;
 use net_core::name::{Name, NameRefusal};
 use net_core::net::Net;
-use net_core::row::Row;
+use net_core::row::rows_of;
 use net_core::table::Table;
 use std::alloc::{AllocError, Global};
 use std::test::Fail;
@@ -25,32 +25,21 @@ fn pair<T: Drop>(alloc: Global, first: T, second: T) -> Result<Items<T>, AllocEr
     Ok(items)
 }
 
-fn row(alloc: Global, first: Mark, second: Mark) -> Result<Row, AllocError>
-    ensures { IfOk result (λ r. r ≡ first ∷ second ∷ []) }
-{
-    let mut row = Row::new(alloc);
-    row.push(first)?;
-    row.push(second)?;
-    Ok(row)
-}
-
 fn sum_table(alloc: Global) -> Result<Table, NameRefusal>
     ensures { IfOk result (λ t. t ≡ table_at half_adder.tables 0) }
 {
     let name = Name::new(alloc, b"s")?;
-    let pins = pair(alloc, 0, 1)?;
-    let first = row(alloc, Mark::One, Mark::Zero)?;
-    let second = row(alloc, Mark::Zero, Mark::One)?;
-    Ok(Table::new(name, pins, pair(alloc, first, second)?, true))
+    let pins = Items::from_slice(alloc, &[0, 1])?;
+    let rows = rows_of(alloc, &[[Mark::One, Mark::Zero], [Mark::Zero, Mark::One]])?;
+    Ok(Table::new(name, pins, rows, true))
 }
 
 fn carry_table(alloc: Global) -> Result<Table, NameRefusal>
     ensures { IfOk result (λ t. t ≡ table_at half_adder.tables 1) }
 {
     let name = Name::new(alloc, b"c")?;
-    let pins = pair(alloc, 0, 1)?;
-    let mut rows = Items::new(alloc);
-    rows.push(row(alloc, Mark::One, Mark::One)?)?;
+    let pins = Items::from_slice(alloc, &[0, 1])?;
+    let rows = rows_of(alloc, &[[Mark::One, Mark::One]])?;
     Ok(Table::new(name, pins, rows, true))
 }
 
@@ -60,7 +49,7 @@ fn half_adder(alloc: Global) -> Result<Net, NameRefusal>
     let model = Name::new(alloc, b"ha")?;
     let inputs = pair(alloc, Name::new(alloc, b"a")?, Name::new(alloc, b"b")?)?;
     let tables = pair(alloc, sum_table(alloc)?, carry_table(alloc)?)?;
-    let outputs = pair(alloc, 2, 3)?;
+    let outputs = Items::from_slice(alloc, &[2, 3])?;
     Ok(Net::from_sound(alloc, model, inputs, tables, outputs)?)
 }
 
