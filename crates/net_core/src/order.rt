@@ -179,12 +179,7 @@ impl Sorting {
     }
 
     /// Visits those that wait for the next member of the order.
-    fn step(
-        &mut self,
-        inputs: u32,
-        tables: &[Table],
-        head: usize,
-    ) -> Result<(), AllocError>
+    fn step(&mut self, inputs: u32, tables: &[Table], head: usize) -> Result<(), AllocError>
         requires sorting { IsSorting inputs tables.now self.old }
         requires settled { IsSettled inputs tables.now self.old head [] }
         requires within { head < length self.old.order }
