@@ -1,14 +1,25 @@
 //! The adder of two words, table by table.
-ghost use Rattle.std.specs.Prelude.{◌≡◌, ◌-◌, ◌≤◌, [], ◌∷◌, ◌++◌, map, flat_map, IfOk};
+ghost use Rattle.std.specs.Prelude.{◌≡◌, ◌-◌, ◌≤◌, [], ◌∷◌, ◌++◌, map, flat_map, codes, IfOk};
 ghost use Rattle.std.specs.List.{range_with_len};
 ghost use Rattle.semantics.specs.Net.{IsSmall};
-ghost use Rattle.job_semantics.specs.Demo.{sum_signal, carry_signal, stage_tables, demo_net, Adds};
+ghost use Rattle.job_semantics.specs.Demo.{demo_name, sum_signal, carry_signal, stage_tables, demo_net, Adds};
 
-use crate::names::{input_names, model_name};
 use crate::stage::{carry_signal, push_stage, sum_signal};
-use net_core::items::{SignalList, TableList};
+use net_core::items::{NameList, SignalList, TableList};
+use net_core::name::{Name, numbered_names};
 use net_core::net::Net;
 use std::alloc::{AllocError, Global};
+
+/// The names `a0`, `a1` and so on, and then `b0`, `b1` and so on.
+fn input_names(alloc: Global, width: u32) -> Result<NameList, AllocError>
+    ensures { IfOk result (λ names. names
+        ≡ map (demo_name (codes "a")) (range_with_len 0 width) ++ map (demo_name (codes "b")) (range_with_len 0 width)) }
+{
+    let mut names = numbered_names(alloc, b'a', width)?;
+    let second = numbered_names(alloc, b'b', width)?;
+    names.push_copies(second.as_slice())?;
+    Ok(names)
+}
 
 /// The tables of every stage.
 fn adder_tables(alloc: Global, width: u32) -> Result<TableList, AllocError>
@@ -46,7 +57,7 @@ pub fn demo_net(alloc: Global, width: u32) -> Result<Net, AllocError>
     ensures adds { IfOk result (λ net. Adds width net) }
     ensures small { IfOk result (λ net. IsSmall net) }
 {
-    let model = model_name(alloc)?;
+    let model = Name::known(alloc, b"demo")?;
     let inputs = input_names(alloc, width)?;
     let tables = adder_tables(alloc, width)?;
     let outputs = adder_outputs(alloc, width)?;

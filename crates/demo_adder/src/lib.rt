@@ -2,5 +2,4 @@
 #![tactic(auto)]
 
 pub mod adder;
-mod names;
 mod stage;

@@ -3,7 +3,6 @@ ghost use Rattle.std.specs.Prelude.{◌≡◌, ◌+◌, ◌≤◌, ◌<◌, [], 
 ghost use Rattle.quality_semantics.specs.Forms.{form};
 ghost use Rattle.job_semantics.specs.Demo.{demo_name, demo_table, sum_signal, carry_signal, sum_form, carry_form, stage_tables};
 
-use crate::names::numbered_name;
 use net_core::items::{Signal, SignalList, TableList};
 use net_core::mark::Mark;
 use net_core::name::Name;
@@ -67,7 +66,7 @@ fn sum_table(alloc: Global, width: u32, stage: u32) -> Result<Table, AllocError>
     requires within { stage < width }
     ensures { IfOk result (λ t. t ≡ demo_table (demo_name (codes "s") stage) (sum_form width stage)) }
 {
-    let name = numbered_name(alloc, b's', stage)?;
+    let name = Name::numbered(alloc, b's', u64::from(stage))?;
     if stage == 0 {
         table_of(alloc, name, &[0, width], &HALF_SUM)
     } else {
@@ -82,7 +81,7 @@ fn carry_table(alloc: Global, width: u32, stage: u32) -> Result<Table, AllocErro
     requires within { stage < width }
     ensures { IfOk result (λ t. t ≡ demo_table (demo_name (codes "c") (stage + 1)) (carry_form width stage)) }
 {
-    let name = numbered_name(alloc, b'c', stage + 1)?;
+    let name = Name::numbered(alloc, b'c', u64::from(stage + 1))?;
     if stage == 0 {
         table_of(alloc, name, &[0, width], &HALF_CARRY)
     } else {

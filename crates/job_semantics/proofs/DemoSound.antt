@@ -10,7 +10,7 @@ use Rattle.std.proofs.lemmas.List.FromFn.{length-range_with_len, get_or-range_wi
 use Rattle.semantics.specs.Texts.{Bytes}
 use Rattle.semantics.specs.Net.{TableValue, NetValue, no_table, table_at, input_count, table_count, signal_count, signal_names, IsNameByte, IsName, IsTable, IsInOrder, IsAcyclic, IsSound, IsSmall}
 use Rattle.semantics.proofs.Order.{IsAcyclic-in_order}
-use Rattle.quality_semantics.proofs.Sound.{IsName-numbered}
+use Rattle.semantics.proofs.NumberedNames.{IsName-numbered}
 use Rattle.job_semantics.specs.Demo.{demo_name, sum_signal, carry_signal, sum_form, carry_form, demo_net}
 use Rattle.job_semantics.proofs.DemoTables.{sum_table, carry_table, demo_inputs, demo_outputs, demo_tables, each_table}
 
@@ -29,7 +29,7 @@ record IsNamed (w s : ℕ) (name : Bytes) : Type 0 where
   signal : signal_named w letter number ≡ s
 
 named-is_name : (w s : ℕ) (name : Bytes) → IsNamed w s name → IsName name
-named-is_name w s name h = subst IsName (sym h.is) (IsName-numbered h.letter h.number h.byte h.small)
+named-is_name w s name h = subst IsName (sym h.is) (IsName-numbered h.letter h.number h.byte (omega (arith, h.small)))
 
 names_apart : (w s t : ℕ) (a b : Bytes) → s < t → IsNamed w s a → IsNamed w t b → a ≢ b
 names_apart w s t a b below h g e =
@@ -123,7 +123,7 @@ demo_model w = record {
 
 sum_formed : (w k : ℕ) → k < 2 ^ 32 → IsTable (sum_table w k)
 sum_formed w k small =
-    record { named = IsName-numbered 115 k (omega arith, omega arith, λ e. omega (arith, e)) small; widths = widths k; plane = λ _. refl }
+    record { named = IsName-numbered 115 k (omega arith, omega arith, λ e. omega (arith, e)) (omega (arith, small)); widths = widths k; plane = λ _. refl }
   where
     widths : (k : ℕ) → All (λ marks. length marks ≡ length (sum_form w k).pins) (sum_form w k).rows
     widths zero = All-from_recursion (λ marks. length marks ≡ 2) (sum_form w zero).rows (refl, (refl, tt))
@@ -131,7 +131,7 @@ sum_formed w k small =
 
 carry_formed : (w k : ℕ) → k + 1 < 2 ^ 32 → IsTable (carry_table w k)
 carry_formed w k small =
-    record { named = IsName-numbered 99 (k + 1) (omega arith, omega arith, λ e. omega (arith, e)) small; widths = widths k; plane = λ _. refl }
+    record { named = IsName-numbered 99 (k + 1) (omega arith, omega arith, λ e. omega (arith, e)) (omega (arith, small)); widths = widths k; plane = λ _. refl }
   where
     widths : (k : ℕ) → All (λ marks. length marks ≡ length (carry_form w k).pins) (carry_form w k).rows
     widths zero = All-from_recursion (λ marks. length marks ≡ 2) (carry_form w zero).rows (refl, tt)

@@ -1,11 +1,11 @@
 //! Copies of the tables of a net, with other names and other pins.
 ghost use Rattle.std.specs.Prelude.{◌≡◌, ℕ, ◌+◌, ◌<◌, ◌^◌, ◌∷◌, ◌++◌, map, codes, All, IfOk, OnOk};
 ghost use Rattle.std.specs.List.{range_with_len};
-ghost use Rattle.quality_semantics.specs.Joint.{numbered_name, copied};
+ghost use Rattle.semantics.specs.Net.{IsNameByte};
+ghost use Rattle.quality_semantics.specs.Joint.{copied};
 ghost use Rattle.joint_net.specs.Copies.{placed, copy_at};
 
-use itoa::Buffer;
-use net_core::items::{NameList, Signal, SignalList, TableList};
+use net_core::items::{Signal, SignalList, TableList};
 use net_core::name::Name;
 use net_core::net::Net;
 use net_core::table::Table;
@@ -16,27 +16,6 @@ pub fn model_name(alloc: Global) -> Result<Name, AllocError>
     ensures { IfOk result (λ name. name ≡ codes "joint") }
 {
     Name::known(alloc, b"joint")
-}
-
-/// A letter, and a number without leading zeros.
-fn numbered_name(alloc: Global, letter: u8, number: u32) -> Result<Name, AllocError>
-    ensures { IfOk result (λ name. name ≡ numbered_name letter number) }
-{
-    let mut buffer = Buffer::new();
-    let mut text = Vec::from_slice(alloc, &[letter])?;
-    text.extend_from_slice(buffer.format(number).as_bytes())?;
-    Name::new(alloc, &text).map_err(|_| AllocError)
-}
-
-/// The names `x0`, `x1` and so on of so many inputs.
-pub fn input_names(alloc: Global, count: u32) -> Result<NameList, AllocError>
-    ensures { IfOk result (λ names. names ≡ map (numbered_name 120) (range_with_len 0 count)) }
-{
-    let mut names = NameList::new(alloc);
-    for i in 0..count {
-        names.push(numbered_name(alloc, b'x', i)?)?;
-    }
-    Ok(names)
 }
 
 /// The numbers of so many signals, from 0.
@@ -101,10 +80,11 @@ fn copied_table(
     first: Signal,
     table: &Table,
 ) -> Result<Table, AllocError>
-    requires { All (λ s. first + s < 2 ^ 32) table.now.pins }
+    requires letter { IsNameByte letter }
+    requires room { All (λ s. first + s < 2 ^ 32) table.now.pins }
     ensures { IfOk result (λ t. t ≡ copy_at number letter (placed inputs.now first) table.now) }
 {
-    let name = numbered_name(alloc, letter, number)?;
+    let name = Name::numbered(alloc, letter, u64::from(number))?;
     let pins = placed_signals(alloc, inputs, first, table.pins().as_slice())?;
     let rows = table.rows().copy()?;
     Ok(Table::new(name, pins, rows, table.plane()))
@@ -119,7 +99,8 @@ pub fn push_copies(
     first: Signal,
     net: &Net,
 ) -> Result<(), AllocError>
-    requires { first < 2 ^ 31 }
+    requires letter { IsNameByte letter }
+    requires room { first < 2 ^ 31 }
     ensures { OnOk result (tables.new ≡ tables.old ++ copied letter (placed inputs.now first) net.now.tables) }
 {
     for t in 0..net.tables() {

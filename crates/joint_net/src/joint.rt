@@ -8,9 +8,10 @@ ghost use Rattle.quality_semantics.specs.Joint.{both_outputs, quality_signal, jo
 ghost use Rattle.joint_net.specs.Copies.{all_copies};
 ghost use Rattle.joint_net.specs.Metric.{meaning};
 
-use crate::copies::{first_signals, input_names, model_name, push_copies, push_outputs};
+use crate::copies::{first_signals, model_name, push_copies, push_outputs};
 use crate::metric::Metric;
 use net_core::items::{Signal, SignalList, TableList};
+use net_core::name::numbered_names;
 use net_core::net::Net;
 use std::alloc::{AllocError, Global};
 
@@ -125,7 +126,7 @@ pub fn joint(
         return Err(AllocError);
     }
     let model = model_name(alloc)?;
-    let inputs = input_names(alloc, exact.inputs())?;
+    let inputs = numbered_names(alloc, b'x', exact.inputs())?;
     let own = first_signals(alloc, exact.inputs())?;
     let read = signals_read(alloc, &own, exact, approx)?;
     let tables = joint_tables(alloc, &own, read.as_slice(), exact, approx, &quality)?;

@@ -1,9 +1,11 @@
 //! Names of models and signals. Source: the words of BLIF, with the limits of this tool.
-ghost use Rattle.std.specs.Prelude.{◌≡◌, ◌≤◌, ◌≢◌, ◌↔◌, IsTrue, IfOk, OnOk};
+ghost use Rattle.std.specs.Prelude.{◌≡◌, ◌≤◌, ◌≢◌, ◌↔◌, ◌∷◌, map, decimal, IsTrue, IfOk, OnOk};
+ghost use Rattle.std.specs.List.{range_with_len};
 ghost use Rattle.semantics.specs.Net.{IsName, IsNameByte};
 ghost use Rattle.net_core.specs.declared.name.NameRefusal.TheVariants.{OutOfMemory};
 
-use crate::items::Duplicate;
+use crate::items::{Duplicate, NameList};
+use itoa::Buffer;
 use std::alloc::{AllocError, Global};
 use std::marker::Model;
 use thiserror::Error;
@@ -91,6 +93,17 @@ impl Name {
         }
     }
 
+    /// A letter, and a number in decimal without leading zeros.
+    pub fn numbered(alloc: Global, letter: u8, number: u64) -> Result<Name, AllocError>
+        requires { IsNameByte letter }
+        ensures { IfOk result (λ n. n ≡ letter ∷ decimal number) }
+    {
+        let mut buffer = Buffer::new();
+        let mut bytes = Vec::from_slice(alloc, &[letter])?;
+        bytes.extend_from_slice(buffer.format(number).as_bytes())?;
+        Ok(Name { bytes })
+    }
+
     pub fn bytes(&self) -> &[u8]
         ensures value { result.now ≡ self.now }
         ensures named { IsName self.now }
@@ -105,6 +118,18 @@ impl Name {
         let bytes = Vec::from_slice(*self.bytes.allocator(), self.bytes.as_slice())?;
         Ok(Name { bytes })
     }
+}
+
+/// The names of a letter and each number from 0, so many, in order.
+pub fn numbered_names(alloc: Global, letter: u8, count: u32) -> Result<NameList, AllocError>
+    requires { IsNameByte letter }
+    ensures { IfOk result (λ names. names ≡ map (λ i. letter ∷ decimal i) (range_with_len 0 count)) }
+{
+    let mut names = NameList::new(alloc);
+    for number in 0..count {
+        names.push(Name::numbered(alloc, letter, u64::from(number))?)?;
+    }
+    Ok(names)
 }
 
 impl Duplicate for Name {

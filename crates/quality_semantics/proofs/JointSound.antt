@@ -13,7 +13,7 @@ use Rattle.quality_semantics.specs.WordNets.{WordNetValue, signals, IsWordNet}
 use Rattle.quality_semantics.specs.Quality.{quality}
 use Rattle.quality_semantics.specs.Joint.{numbered_name, copied_from, copied, approximate_signal, quality_signal, joint_net, AreComparable}
 use Rattle.quality_semantics.proofs.Quality.{quality_formed, quality_output}
-use Rattle.quality_semantics.proofs.Sound.{IsName-numbered}
+use Rattle.semantics.proofs.NumberedNames.{IsName-numbered}
 use Rattle.quality_semantics.proofs.Joint.{length-copied, copy_of, table_at-copied, exact_copies, approximate_copies, quality_copies, both_copies, joint_tables, joint_inputs, joint_outputs, whole_length, length-both_copies, approximate_below, quality_below, joint_acyclic}
 
 -- ---- names
@@ -110,7 +110,7 @@ record IsShaped (t : TableValue) : Type 0 where
 
 copy_formed : (i letter : ℕ) (f : ℕ → ℕ) (t : TableValue) → IsNameByte letter → i < 2 ^ 32 → IsShaped t → IsTable (copy_of i letter f t)
 copy_formed i letter f t byte small h = record {
-  named = IsName-numbered letter i byte small;
+  named = IsName-numbered letter i byte (omega (arith, small));
   widths = rw (length-map t.pins f) h.widths;
   plane = h.plane;
 }

@@ -1,7 +1,7 @@
 -- A network under construction makes a sound net.
 use Rattle.std.proofs.Common.{◌≡◌, ◌≢◌, ℕ, suc, ◌+◌, ◌-◌, ◌^◌, ◌<◌, ◌≤◌, List, [], ◌∷◌, map, length, get_or, All, decimal, codes, cond, ltb, inl, inr, refl, ap, sym, subst, arith, length-append}
 use Rattle.std.specs.List.{range_with_len}
-use Rattle.std.proofs.lemmas.Fmt.{decimal_by_steps, decimal_injective, decimal_nonempty, length-decimal-le}
+use Rattle.std.proofs.lemmas.Fmt.{decimal_injective}
 use Rattle.std.proofs.lemmas.Bool.{cases_lt, lt-ltb, le-ltb}
 use Rattle.std.proofs.lemmas.List.{get_or_append_left, get_or-append_right, length-map, get_or-map, get_or_default}
 use Rattle.std.proofs.lemmas.List.Elements.{All-nil, All-cons, All-push, All-from_recursion}
@@ -10,35 +10,10 @@ use Rattle.semantics.specs.Net.{TableValue, NetValue, no_table, input_count, sig
 use Rattle.semantics.specs.Value.{outputs_of}
 use Rattle.semantics.specs.Error.{Metric}
 use Rattle.semantics.proofs.Order.{IsAcyclic-in_order}
+use Rattle.semantics.proofs.NumberedNames.{IsName-numbered}
 use Rattle.quality_semantics.specs.WordNets.{WordNetValue, signals, net_of, AreSignalsOf, IsWordTable, IsWordNet}
 use Rattle.quality_semantics.specs.Quality.{quality, quality_net, TellsExcess}
 use Rattle.quality_semantics.proofs.Quality.{quality_inputs, quality_formed, quality_output, quality_value}
-
-AreDigits : List ℕ → Type 0
-AreDigits ds = All (λ b. (48 ≤ b) × (b ≤ 57)) ds
-
-digits_decimal : (n : ℕ) → n < 2 ^ 64 → AreDigits (decimal n)
-unfolding AreDigits
-digits_decimal = decimal_by_steps (λ n ds. All (λ b. (48 ≤ b) × (b ≤ 57)) ds)
-    (λ n small. All-cons (λ b. (48 ≤ b) × (b ≤ 57)) (48 + n) [] (omega arith, omega arith) (All-nil _))
-    (λ n ds large before. All-push (λ b. (48 ≤ b) × (b ≤ 57)) ds _ before (omega arith, omega arith))
-
--- a letter and a number are a name
-pub IsName-numbered : (p n : ℕ) → IsNameByte p → n < 2 ^ 32 → IsName (p ∷ decimal n)
-unfolding AreDigits
-IsName-numbered p n byte small =
-    let digits : All (λ b. (48 ≤ b) × (b ≤ 57)) (decimal n) = digits_decimal n (omega arith) in
-    let some : 0 < length (decimal n) = decimal_nonempty n (omega arith) in
-    record {
-      not_empty = omega arith;
-      short = omega (arith, length-decimal-le 10 n (omega arith) (omega arith) (omega arith));
-      printable = All-cons IsNameByte p (decimal n) byte (λ k d within. let h = digits k d within in (omega (arith, h), omega (arith, h), omega (arith, h)));
-      ending = λ e.
-          let place : suc (length (decimal n)) - 1 ≡ suc (length (decimal n) - 1) = omega arith in
-          let last : get_or (decimal n) (length (decimal n) - 1) 0 ≡ 92 = rw place at e in
-          let digit = digits (length (decimal n) - 1) 0 (omega arith) in
-          omega (arith, last, digit);
-    }
 
 pub IsName-word : IsName (codes "word")
 IsName-word = record {
@@ -83,7 +58,7 @@ names_count W outputs =
     omega (arith, length-append (net_of W outputs).inputs (map (λ t. t.name) W.tables), length-map W.tables (λ (t : TableValue). t.name), input_count-net_of W outputs)
 
 IsTable-formed : (i : ℕ) (t : TableValue) → i < 2 ^ 32 → IsWordTable i t → IsTable t
-IsTable-formed i t small h = record { named = rw h.name (IsName-numbered 116 i (omega arith, omega arith, omega arith) small); widths = h.widths; plane = λ _. h.plane }
+IsTable-formed i t small h = record { named = rw h.name (IsName-numbered 116 i (omega arith, omega arith, omega arith) (omega (arith, small))); widths = h.widths; plane = λ _. h.plane }
 
 pub IsSound-net_of : (W : WordNetValue) (outputs : List ℕ) → IsWordNet W → signals W ≤ 2 ^ 30 → 0 < length outputs → AreSignalsOf W outputs → IsSound (net_of W outputs)
 IsSound-net_of W outputs h few some outputs_in =

@@ -13,3 +13,4 @@ pub mod Refused
 pub mod Vectors
 pub mod Sizes
 pub mod Numerals
+pub mod NumberedNames

@@ -66,14 +66,6 @@ pub fn low_rows(alloc: Global, width: usize) -> Result<RowList, AllocError>
     Ok(rows)
 }
 
-/// The name of the table at a place, from 0.
-fn table_name(alloc: Global, place: usize) -> Result<Name, AllocError>
-    ensures { IfOk result (λ n. n ≡ 116 ∷ decimal place) }
-{
-    let text = format!(in alloc; "t{place}")?;
-    Name::new(alloc, text.as_bytes()).map_err(|_| AllocError)
-}
-
 /// The table at a place, from 0, with these pins and rows.
 pub fn numbered_table(
     alloc: Global,
@@ -84,27 +76,8 @@ pub fn numbered_table(
     requires { All (λ marks. length marks ≡ length pins) rows }
     ensures { IfOk result (λ t. t ≡ table_of place (form pins rows)) }
 {
-    let name = table_name(alloc, place)?;
+    let name = Name::numbered(alloc, b't', place as u64)?;
     Ok(Table::new(name, pins, rows, true))
-}
-
-/// The name of an input, from 0.
-fn input_name(alloc: Global, place: u32) -> Result<Name, AllocError>
-    ensures { IfOk result (λ n. n ≡ 120 ∷ decimal place) }
-{
-    let text = format!(in alloc; "x{place}")?;
-    Name::new(alloc, text.as_bytes()).map_err(|_| AllocError)
-}
-
-/// The names of the inputs, in order.
-pub fn input_names(alloc: Global, count: u32) -> Result<NameList, AllocError>
-    ensures { IfOk result (λ names. names ≡ map (λ i. 120 ∷ decimal i) (range_with_len 0 count)) }
-{
-    let mut names = Items::new(alloc);
-    for place in 0..count {
-        names.push(input_name(alloc, place)?)?;
-    }
-    Ok(names)
 }
 
 /// The name of the model.

@@ -7,11 +7,10 @@ ghost use Rattle.quality_semantics.specs.Multiply.{products};
 ghost use Rattle.quality_semantics.specs.Buses.{add, greater, exceed, constant, times, not_zero_low, differ, growers, at_least};
 
 use crate::bus::{Bus, repeated, with_front};
-use crate::forms::{
-    AND2, GROW, GT, MAJ, OR2, XOR2, XOR3, input_names, low_rows, model_name, numbered_table,
-};
+use crate::forms::{AND2, GROW, GT, MAJ, OR2, XOR2, XOR3, low_rows, model_name, numbered_table};
 use net_core::items::{Items, RowList, Signal, SignalList, TableList};
 use net_core::mark::Mark;
+use net_core::name::numbered_names;
 use net_core::net::Net;
 use net_core::row::rows_of;
 use std::alloc::{AllocError, Global};
@@ -68,7 +67,7 @@ impl WordNet {
             return Err(AllocError);
         }
         let model = model_name(self.alloc)?;
-        let names = input_names(self.alloc, self.inputs)?;
+        let names = numbered_names(self.alloc, b'x', self.inputs)?;
         let outputs = Bus::from_slice(self.alloc, outputs)?;
         Net::from_sound(self.alloc, model, names, self.tables, outputs)
     }
