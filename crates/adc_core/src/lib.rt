@@ -14,8 +14,6 @@ mod errors;
 mod moved;
 mod outputs;
 mod rows;
-#[cfg(test)]
-mod tests;
 mod values;
 mod word_list;
 mod words;

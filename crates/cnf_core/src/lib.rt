@@ -18,6 +18,4 @@ mod lrat_scanner;
 mod numbers;
 pub mod of_net;
 mod table_clauses;
-#[cfg(test)]
-mod tests;
 mod word;

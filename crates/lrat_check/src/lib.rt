@@ -5,5 +5,3 @@ pub mod checker;
 mod held_clauses;
 mod hints;
 mod literal_set;
-#[cfg(test)]
-mod tests;

@@ -12,6 +12,4 @@ pub mod order;
 pub mod refusal;
 pub mod row;
 pub mod table;
-#[cfg(test)]
-mod tests;
 mod undriven;

@@ -8,6 +8,4 @@ mod net_draft;
 mod net_rules;
 mod rule;
 mod rules;
-#[cfg(test)]
-mod tests;
 pub mod tidy;

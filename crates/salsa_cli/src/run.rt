@@ -86,6 +86,17 @@ pub fn run_surely(
     files: &mut SureFiles,
     say: &mut SureSink,
 ) -> Outcome
+    ensures headline { Headline
+        (job_of words.now)
+        (result.status ≡ Status.Verified)
+        (result.status ≡ Status.Done)
+        (result.status ≡ Status.NoMemory)
+        (told_query result.spent)
+        (told_query result.level)
+        (sure_told files.old)
+        (sure_told files.new)
+        sure_sink_told
+        sure_sink_told }
     ensures usage { (result.status ≡ Status.Usage) ↔ (job_of words.now ≡ None) }
     ensures usage_touches_nothing { result.status ≡ Status.Usage → (files.new ≡ files.old) × (say.new ≡ say.old) }
     ensures spent { SpendsAsTold result }

@@ -2,13 +2,11 @@
 ghost use Rattle.std.specs.Prelude.{◌<◌};
 
 use crate::arguments;
-use crate::input::read_net;
-use crate::preparing::{Constraint, Prepared, prepare};
 use crate::real_files::RealFiles;
 use crate::real_sink::RealSink;
 use crate::run::{run, run_surely};
 use crate::status::Status;
-use cnf_core::log::Item;
+use file_core::fault::FileFault;
 use file_core::files::Files;
 use file_core::lists::{CallList, FileList};
 use file_core::memory_files::MemFiles;
@@ -17,8 +15,6 @@ use file_core::sink::Sink;
 use file_core::sure_files::SureFiles;
 use file_core::sure_sink::SureSink;
 use file_core::word::Word;
-use joint_net::metric::Metric;
-use lrat_check::checker::Checker;
 use std::alloc::{AllocError, Global};
 use std::fs;
 use std::test::Fail;
@@ -35,6 +31,9 @@ const VECTORS: &[u8] = b"10\n00\n10\n01\n11\n";
 
 const REPORT: &[u8] =
     b"salsa 1\nmetric abs\nbound 1\nmaximum 1\nwitness 10\ntables 2 2\nliterals 6 1\nminimal yes\n";
+
+/// The words of a run on the half adder within bound 1.
+const LINE: &[u8] = b"synth abs 1 1 ha.blif out";
 
 /// The names of the bundle, in the order in which they are written.
 const NAMES: [&[u8]; 5] = [b"out.blif", b"out.cnf", b"out.lrat", b"out.wit", b"out.txt"];
@@ -121,125 +120,128 @@ fn run_on(
     })
 }
 
+/// A run that is done: its words, the text of IN, and the files that it leaves, of the formula the first line.
+#[derive(Clone, Copy)]
+struct Simplified<'a> {
+    line: &'a [u8],
+    text: &'a [u8],
+    netlist: &'a [u8],
+    header: &'a [u8],
+    vectors: &'a [u8],
+    report: &'a [u8],
+}
+
+fn is_simplified(rt: &HostRuntime, row: &Simplified) -> Result<bool, Fail> {
+    let done = run_on(rt, row.line, row.text, 64, 0, 0)?;
+    Ok(
+        done.status.exit() == 0
+            && holds(&done.files, b"out.blif", Some(row.netlist))
+            && begins(&done.files, b"out.cnf", row.header)
+            && holds(&done.files, b"out.wit", Some(row.vectors))
+            && holds(&done.files, b"out.txt", Some(row.report))
+            && holds(&done.files, b"ha.blif", Some(row.text))
+            && done.sink.bytes() == row.report,
+    )
+}
+
 #[test]
 fn netlists_that_are_simplified(rt: HostRuntime) -> Result<(), Fail> {
-    let rows: [(&[u8], &[u8], &[u8], &[u8], &[u8], &[u8]); 10] = [
-        (
-            b"synth abs 3 1 ha.blif out",
-            HALF_ADDER,
-            BOTH_CONSTANT,
-            b"p cnf 75 242\n",
-            b"11\n00\n10\n01\n11\n",
-            b"salsa 1\nmetric abs\nbound 3\nmaximum 2\nwitness 11\ntables 2 2\nliterals 6 0\nminimal yes\n",
-        ),
-        (
-            b"synth abs 1 1 ha.blif out",
-            HALF_ADDER,
-            CARRY_COPIED,
-            b"p cnf 76 245\n",
-            VECTORS,
-            REPORT,
-        ),
-        (
-            b"synth abs 0 1 ha.blif out",
-            HALF_ADDER,
-            HALF_ADDER,
-            b"p cnf 78 254\n",
-            b"00\n00\n10\n01\n11\n",
-            b"salsa 1\nmetric abs\nbound 0\nmaximum 0\nwitness 00\ntables 2 2\nliterals 6 6\nminimal yes\n",
-        ),
-        (
-            b"synth ham 1 1 ha.blif out",
-            HALF_ADDER,
-            BOTH_CONSTANT,
-            b"p cnf 30 71\n",
-            VECTORS,
-            b"salsa 1\nmetric ham\nbound 1\nmaximum 1\nwitness 10\ntables 2 2\nliterals 6 0\nminimal yes\n",
-        ),
-        (
-            b"synth rel 999999 1 ha.blif out",
-            HALF_ADDER,
-            b".model ha\n.inputs a b\n.outputs s c\n.names a b s\n1- 1\n-1 1\n.names c\n.end\n",
-            b"p cnf 2377 8828\n",
-            b"11\n00\n10\n01\n11\n",
-            b"salsa 1\nmetric rel\nbound 999999\nmaximum 500000\nwitness 11\ntables 2 2\nliterals 6 2\nminimal yes\n",
-        ),
-        (
-            b"synth rel 1000000 1 ha.blif out",
-            HALF_ADDER,
-            BOTH_CONSTANT,
-            b"p cnf 2375 8822\n",
-            VECTORS,
-            b"salsa 1\nmetric rel\nbound 1000000\nmaximum 1000000\nwitness 10\ntables 2 2\nliterals 6 0\nminimal yes\n",
-        ),
-        (
-            b"synth abs 0 1 ha.blif out",
-            b".model k\n.outputs y\n.names y\n1\n.end\n",
-            b".model k\n.inputs\n.outputs y\n.names y\n1\n.end\n",
-            b"p cnf 44 138\n",
-            b"\n\n",
-            b"salsa 1\nmetric abs\nbound 0\nmaximum 0\nwitness \ntables 1 1\nliterals 0 0\nminimal yes\n",
-        ),
-        (
-            b"synth abs 0 1 ha.blif out",
-            b".model w\n.inputs a\n.outputs a\n.end\n",
-            b".model w\n.inputs a\n.outputs a\n.end\n",
-            b"p cnf 41 132\n",
-            b"0\n0\n1\n",
-            b"salsa 1\nmetric abs\nbound 0\nmaximum 0\nwitness 0\ntables 0 0\nliterals 0 0\nminimal yes\n",
-        ),
-        (
-            b"synth abs 0 1 ha.blif out",
-            b".model m\n.inputs a b\n.outputs y z\n.names a b y\n00 0\n.names a b z\n1- 1\n-1 1\n.end\n",
-            b".model m\n.inputs a b\n.outputs y z\n.names z y\n1 1\n.names a b z\n1- 1\n-1 1\n.end\n",
-            b"p cnf 78 249\n",
-            b"00\n00\n10\n01\n11\n",
-            b"salsa 1\nmetric abs\nbound 0\nmaximum 0\nwitness 00\ntables 2 2\nliterals 4 3\nminimal yes\n",
-        ),
-        (
-            b"synth abs 0 1 ha.blif out",
-            b".model t # note \\\r\n.inputs a \\\r\n b\r\n.outputs y\r\n.names a b y\r\n11 1\r\n.end\r\n",
-            b".model t\n.inputs a b\n.outputs y\n.names a b y\n11 1\n.end\n",
-            b"p cnf 46 142\n",
-            b"00\n00\n10\n01\n11\n",
-            b"salsa 1\nmetric abs\nbound 0\nmaximum 0\nwitness 00\ntables 1 1\nliterals 2 2\nminimal yes\n",
-        ),
+    let rows = [
+        Simplified {
+            line: b"synth abs 3 1 ha.blif out",
+            text: HALF_ADDER,
+            netlist: BOTH_CONSTANT,
+            header: b"p cnf 75 242\n",
+            vectors: b"11\n00\n10\n01\n11\n",
+            report: b"salsa 1\nmetric abs\nbound 3\nmaximum 2\nwitness 11\ntables 2 2\nliterals 6 0\nminimal yes\n",
+        },
+        Simplified {
+            line: b"synth abs 1 1 ha.blif out",
+            text: HALF_ADDER,
+            netlist: CARRY_COPIED,
+            header: b"p cnf 76 245\n",
+            vectors: VECTORS,
+            report: REPORT,
+        },
+        Simplified {
+            line: b"synth abs 0 1 ha.blif out",
+            text: HALF_ADDER,
+            netlist: HALF_ADDER,
+            header: b"p cnf 78 254\n",
+            vectors: b"00\n00\n10\n01\n11\n",
+            report: b"salsa 1\nmetric abs\nbound 0\nmaximum 0\nwitness 00\ntables 2 2\nliterals 6 6\nminimal yes\n",
+        },
+        Simplified {
+            line: b"synth ham 1 1 ha.blif out",
+            text: HALF_ADDER,
+            netlist: BOTH_CONSTANT,
+            header: b"p cnf 30 71\n",
+            vectors: VECTORS,
+            report: b"salsa 1\nmetric ham\nbound 1\nmaximum 1\nwitness 10\ntables 2 2\nliterals 6 0\nminimal yes\n",
+        },
+        Simplified {
+            line: b"synth rel 999999 1 ha.blif out",
+            text: HALF_ADDER,
+            netlist: b".model ha\n.inputs a b\n.outputs s c\n.names a b s\n1- 1\n-1 1\n.names c\n.end\n",
+            header: b"p cnf 2377 8828\n",
+            vectors: b"11\n00\n10\n01\n11\n",
+            report: b"salsa 1\nmetric rel\nbound 999999\nmaximum 500000\nwitness 11\ntables 2 2\nliterals 6 2\nminimal yes\n",
+        },
+        Simplified {
+            line: b"synth rel 1000000 1 ha.blif out",
+            text: HALF_ADDER,
+            netlist: BOTH_CONSTANT,
+            header: b"p cnf 2375 8822\n",
+            vectors: VECTORS,
+            report: b"salsa 1\nmetric rel\nbound 1000000\nmaximum 1000000\nwitness 10\ntables 2 2\nliterals 6 0\nminimal yes\n",
+        },
+        Simplified {
+            line: b"synth abs 0 1 ha.blif out",
+            text: b".model k\n.outputs y\n.names y\n1\n.end\n",
+            netlist: b".model k\n.inputs\n.outputs y\n.names y\n1\n.end\n",
+            header: b"p cnf 44 138\n",
+            vectors: b"\n\n",
+            report: b"salsa 1\nmetric abs\nbound 0\nmaximum 0\nwitness \ntables 1 1\nliterals 0 0\nminimal yes\n",
+        },
+        Simplified {
+            line: b"synth abs 0 1 ha.blif out",
+            text: b".model w\n.inputs a\n.outputs a\n.end\n",
+            netlist: b".model w\n.inputs a\n.outputs a\n.end\n",
+            header: b"p cnf 41 132\n",
+            vectors: b"0\n0\n1\n",
+            report: b"salsa 1\nmetric abs\nbound 0\nmaximum 0\nwitness 0\ntables 0 0\nliterals 0 0\nminimal yes\n",
+        },
+        Simplified {
+            line: b"synth abs 0 1 ha.blif out",
+            text: b".model m\n.inputs a b\n.outputs y z\n.names a b y\n00 0\n.names a b z\n1- 1\n-1 1\n.end\n",
+            netlist: b".model m\n.inputs a b\n.outputs y z\n.names z y\n1 1\n.names a b z\n1- 1\n-1 1\n.end\n",
+            header: b"p cnf 78 249\n",
+            vectors: b"00\n00\n10\n01\n11\n",
+            report: b"salsa 1\nmetric abs\nbound 0\nmaximum 0\nwitness 00\ntables 2 2\nliterals 4 3\nminimal yes\n",
+        },
+        Simplified {
+            line: b"synth abs 0 1 ha.blif out",
+            text: b".model t # note \\\r\n.inputs a \\\r\n b\r\n.outputs y\r\n.names a b y\r\n11 1\r\n.end\r\n",
+            netlist: b".model t\n.inputs a b\n.outputs y\n.names a b y\n11 1\n.end\n",
+            header: b"p cnf 46 142\n",
+            vectors: b"00\n00\n10\n01\n11\n",
+            report: b"salsa 1\nmetric abs\nbound 0\nmaximum 0\nwitness 00\ntables 1 1\nliterals 2 2\nminimal yes\n",
+        },
     ];
-    for (line, text, netlist, header, vectors, report) in rows {
-        let done = run_on(&rt, line, text, 64, 0, 0)?;
-        assert_eq!(rt; done.status.exit(), 0);
-        assert!(rt; holds(&done.files, b"out.blif", Some(netlist)));
-        assert!(rt; begins(&done.files, b"out.cnf", header));
-        assert!(rt; holds(&done.files, b"out.wit", Some(vectors)));
-        assert!(rt; holds(&done.files, b"out.txt", Some(report)));
-        assert!(rt; holds(&done.files, b"ha.blif", Some(text)));
-        assert!(rt; done.sink.bytes() == report);
+    for (place, row) in rows.iter().enumerate() {
+        assert!(rt; is_simplified(&rt, row)?, "row {place}");
     }
     Ok(())
 }
 
-#[test]
-fn the_log_is_accepted(rt: HostRuntime) -> Result<(), Fail> {
-    let alloc = rt.alloc();
-    let mut files = MemFiles::new(holding(alloc, HALF_ADDER)?, failing_at(alloc, 0)?, 64);
-    let exact = read_net(alloc, &mut files, b"ha.blif")?;
-    let aim = Constraint {
-        metric: Metric::Abs,
-        bound: 1,
-        limit: 1,
-    };
-    let Prepared::Ready { bundle, .. } = prepare(alloc, exact, aim)? else {
-        return Err(Fail::new("with two inputs nothing is spent"));
-    };
-    let mut checker = Checker::new(alloc, &bundle.goal)?;
-    for item in bundle.log.as_slice() {
-        match item {
-            Item::Add(step) => assert_eq!(rt; checker.step(step), Ok(())),
-            Item::Remove(ids) => checker.remove(ids),
-        }
-    }
-    assert!(rt; checker.done());
-    Ok(())
+/// Whether the words end with this number, and make `b.blif` exactly where they are done.
+fn ends_with(rt: &HostRuntime, line: &[u8], exit: u8) -> Result<bool, Fail> {
+    let ended = run_on(rt, line, HALF_ADDER, 64, 0, 0)?;
+    Ok(
+        ended.status.exit() == exit
+            && ended.files.bytes(b"b.blif").is_some() == (exit == 0)
+            && holds(&ended.files, b"out.blif", None),
+    )
 }
 
 #[test]
@@ -264,11 +266,8 @@ fn words_and_their_answers(rt: HostRuntime) -> Result<(), Fail> {
         (b"check abs 1 ha.blif out", 5),
         (b"synth abs 1 1 other.blif b", 5),
     ];
-    for (line, exit) in rows {
-        let ended = run_on(&rt, line, HALF_ADDER, 64, 0, 0)?;
-        assert_eq!(rt; ended.status.exit(), exit);
-        assert_eq!(rt; ended.files.bytes(b"b.blif").is_some(), exit == 0);
-        assert!(rt; holds(&ended.files, b"out.blif", None));
+    for (place, (line, exit)) in rows.into_iter().enumerate() {
+        assert!(rt; ends_with(&rt, line, exit)?, "row {place}");
     }
     Ok(())
 }
@@ -278,6 +277,19 @@ fn joined(alloc: Global, first: &[u8], second: &[u8]) -> Result<Vec<u8>, AllocEr
     let mut text = Vec::from_slice(alloc, first)?;
     text.extend_from_slice(second)?;
     Ok(text)
+}
+
+/// Whether the text of the two parts is refused with this line, and nothing is made.
+fn is_refused(rt: &HostRuntime, first: &[u8], second: &[u8], line: &str) -> Result<bool, Fail> {
+    let text = joined(rt.alloc(), first, second)?;
+    let ended = run_on(rt, b"synth abs 3 1 ha.blif out", &text, 64, 0, 0)?;
+    let said = ended.status.to_string(rt.alloc())?;
+    Ok(
+        ended.status.exit() == 2
+            && said.as_str() == line
+            && holds(&ended.files, b"out.blif", None)
+            && ended.sink.bytes().is_empty(),
+    )
 }
 
 #[test]
@@ -317,12 +329,7 @@ fn texts_that_are_refused(rt: HostRuntime) -> Result<(), Fail> {
         (b"# \x80\n", b".inputs a\n", "no output"),
     ];
     for (first, second, line) in rows {
-        let text = joined(rt.alloc(), first, second)?;
-        let ended = run_on(&rt, b"synth abs 3 1 ha.blif out", &text, 64, 0, 0)?;
-        assert_eq!(rt; ended.status.exit(), 2);
-        assert_eq!(rt; ended.status.to_string(rt.alloc())?.as_str(), line);
-        assert!(rt; holds(&ended.files, b"out.blif", None));
-        assert!(rt; ended.sink.bytes().is_empty());
+        assert!(rt; is_refused(&rt, first, second, line)?, "{line}");
     }
     Ok(())
 }
@@ -362,33 +369,36 @@ fn is_cut_in_turn(files: &MemFiles, late: u64) -> bool {
     }
 }
 
+/// Whether a run that is done follows those in which each call on files, in chunks of this size, failed alone: first those that read,
+/// and then those that write.
+fn files_fail_in_turn(rt: &HostRuntime, whole: &MemFiles, chunk: usize) -> Result<bool, Fail>
+    requires { 0 < chunk }
+{
+    let mut first = 1000;
+    for call in 1..1000 {
+        let ended = run_on(rt, LINE, HALF_ADDER, chunk, call, 0)?;
+        if ended.status.exit() == 0 {
+            return Ok(first < 1000);
+        }
+        let is_read = ended.status.exit() == 5;
+        if !is_read {
+            first = call.min(first);
+        }
+        if !is_left_by_a_fault(&ended, whole)
+            || is_read && first < 1000
+            || !is_read && !is_cut_in_turn(&ended.files, call - first)
+        {
+            return Ok(false);
+        }
+    }
+    Ok(false)
+}
+
 #[test]
 fn each_call_on_files_fails_in_turn(rt: HostRuntime) -> Result<(), Fail> {
-    let line = b"synth abs 1 1 ha.blif out";
-    let whole = run_on(&rt, line, HALF_ADDER, 64, 0, 0)?;
-    for chunk in [7, 64] {
-        assert!(rt; 0 < chunk);
-        let mut first = 1000;
-        let mut done = false;
-        for call in 1..1000 {
-            let ended = run_on(&rt, line, HALF_ADDER, chunk, call, 0)?;
-            if ended.status.exit() == 0 {
-                done = true;
-                break;
-            }
-            assert!(rt;
-                is_left_by_a_fault(&ended, &whole.files),
-                "call {call} of chunks of {chunk}"
-            );
-            if ended.status.exit() == 6 {
-                first = call.min(first);
-                assert!(rt; is_cut_in_turn(&ended.files, call - first));
-            } else {
-                assert_eq!(rt; first, 1000, "what is read is read first");
-            }
-        }
-        assert!(rt; first < 1000 && done, "after the last call nothing fails");
-    }
+    let whole = run_on(&rt, LINE, HALF_ADDER, 64, 0, 0)?;
+    assert!(rt; files_fail_in_turn(&rt, &whole.files, 7)?);
+    assert!(rt; files_fail_in_turn(&rt, &whole.files, 64)?);
     Ok(())
 }
 
@@ -402,27 +412,28 @@ fn is_left_by_the_sink(ended: &Run, whole: &MemFiles) -> bool {
     ended.status.exit() == 6 && REPORT.starts_with(ended.sink.bytes())
 }
 
+/// Whether a run that is done follows those in which each call on the sink, in chunks of this size, failed alone.
+fn sink_fails_in_turn(rt: &HostRuntime, whole: &MemFiles, chunk: usize) -> Result<bool, Fail>
+    requires { 0 < chunk }
+{
+    for call in 1..1000 {
+        let ended = run_on(rt, LINE, HALF_ADDER, chunk, 0, call)?;
+        if ended.status.exit() == 0 {
+            return Ok(call > 1);
+        }
+        if !is_left_by_the_sink(&ended, whole) {
+            return Ok(false);
+        }
+    }
+    Ok(false)
+}
+
 #[test]
 fn each_call_on_the_sink_fails_in_turn(rt: HostRuntime) -> Result<(), Fail> {
-    let line = b"synth abs 1 1 ha.blif out";
-    let whole = run_on(&rt, line, HALF_ADDER, 64, 0, 0)?;
-    for chunk in [1, 3, 64] {
-        assert!(rt; 0 < chunk);
-        let mut done = false;
-        for call in 1..1000 {
-            let ended = run_on(&rt, line, HALF_ADDER, chunk, 0, call)?;
-            if ended.status.exit() == 0 {
-                assert!(rt; call > 1);
-                done = true;
-                break;
-            }
-            assert!(rt;
-                is_left_by_the_sink(&ended, &whole.files),
-                "call {call} of chunks of {chunk}"
-            );
-        }
-        assert!(rt; done, "after the last call nothing fails");
-    }
+    let whole = run_on(&rt, LINE, HALF_ADDER, 64, 0, 0)?;
+    assert!(rt; sink_fails_in_turn(&rt, &whole.files, 1)?);
+    assert!(rt; sink_fails_in_turn(&rt, &whole.files, 3)?);
+    assert!(rt; sink_fails_in_turn(&rt, &whole.files, 64)?);
     Ok(())
 }
 
@@ -431,35 +442,47 @@ fn no_fault_over_files_that_never_fail(rt: HostRuntime) -> Result<(), Fail> {
     let alloc = rt.alloc();
     let mut files = SureFiles::new(holding(alloc, HALF_ADDER)?);
     let mut sink = SureSink::new();
-    let line = b"synth abs 1 1 ha.blif out";
-    let done = run_surely(alloc, &words(alloc, line)?, &mut files, &mut sink);
+    let done = run_surely(alloc, &words(alloc, LINE)?, &mut files, &mut sink);
     assert_eq!(rt; done.status.exit(), 0);
     Ok(())
+}
+
+/// Whether calls with nothing open, and on files that cannot be there, fail.
+fn fail_with_nothing_open<F: Files>(files: &mut F) -> bool {
+    files.read(&mut [0; 4]).is_err()
+        && files.append(b"x").is_err()
+        && files.open_file(b"no/such/file").is_err()
+        && files.create(b"no/such/file").is_err()
+}
+
+/// Whether a text that is written to a file is read back to its end, while another file is being written.
+fn are_read_back<F: Files>(files: &mut F) -> Result<bool, FileFault> {
+    files.create(b"text")?;
+    let count = files.append(b"abc")?;
+    files.create(b"other")?;
+    files.open_file(b"text")?;
+    let mut buffer = [0; 4];
+    let taken = files.read(&mut buffer)?;
+    let rest = files.read(&mut [0; 4])?;
+    Ok(count == 3 && taken == 3 && rest == 0 && buffer == *b"abc\0")
 }
 
 #[test]
 fn real_files_and_standard_output(rt: HostRuntime) -> Result<(), Fail> {
     let mut files = RealFiles::new(&rt);
-    assert!(rt; files.read(&mut [0; 4]).is_err(), "nothing is open");
-    assert!(rt; files.append(b"x").is_err(), "nothing is open");
-    assert!(rt; files.open_file(b"no/such/file").is_err());
-    assert!(rt; files.create(b"no/such/file").is_err());
-    files.create(b"text")?;
-    assert_eq!(rt; files.append(b"abc")?, 3);
-    assert_eq!(rt; files.append(b"")?, 0);
-    files.create(b"other")?;
-    files.open_file(b"text")?;
-    let mut buffer = [0; 4];
-    assert_eq!(rt; files.read(&mut buffer)?, 3);
-    assert_eq!(rt; buffer, *b"abc\0");
-    assert_eq!(rt; files.read(&mut buffer)?, 0);
+    assert!(rt; fail_with_nothing_open(&mut files));
+    assert!(rt; are_read_back(&mut files)?);
     let mut say = RealSink::new(&rt);
     assert_eq!(rt; say.put(b"put\n")?, 4);
     arguments::words(&rt)?;
-    for path in ["text", "other"] {
-        fs::remove_file(&rt, path)?;
-    }
+    fs::remove_file(&rt, "text")?;
+    fs::remove_file(&rt, "other")?;
     Ok(())
+}
+
+fn says(alloc: Global, status: &Status, exit: u8, line: &str) -> Result<bool, AllocError> {
+    let said = status.to_string(alloc)?;
+    Ok(status.exit() == exit && said.as_str() == line)
 }
 
 #[test]
@@ -480,8 +503,7 @@ fn exit_numbers_and_lines(rt: HostRuntime) -> Result<(), Fail> {
         ),
     ];
     for (status, exit, line) in rows {
-        assert_eq!(rt; status.exit(), exit);
-        assert_eq!(rt; status.to_string(rt.alloc())?.as_str(), line);
+        assert!(rt; says(rt.alloc(), &status, exit, line)?, "{line}");
     }
     Ok(())
 }

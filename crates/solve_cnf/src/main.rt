@@ -11,8 +11,6 @@ mod lines;
 mod numbers;
 mod reading;
 mod run;
-#[cfg(test)]
-mod tests;
 mod writing;
 
 use anyhow::bail;

@@ -7,6 +7,4 @@
 
 pub mod shrink;
 mod step;
-#[cfg(test)]
-mod tests;
 mod trial;

@@ -7,7 +7,5 @@ mod first_true;
 pub mod margin;
 pub mod maximum;
 mod range;
-#[cfg(test)]
-mod tests;
 mod trial;
 mod truth;

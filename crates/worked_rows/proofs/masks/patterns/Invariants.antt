@@ -1,5 +1,5 @@
 use Rattle.std.proofs.Common.{◌≡◌}
-use Rattle.adc_core.proofs.tests.patterns.Given as goal
+use Rattle.worked_rows.proofs.masks.patterns.Given as goal
 
 abbrev pub invariant-loop-zero : goal.invariant-loop-zero
 invariant-loop-zero l = l.patterns.inputs ≡ 2

@@ -1,0 +1,78 @@
+//! The masks of a half adder, and where a constant breaks its bound: the bits past the last pattern of a block are no patterns.
+ghost use Rattle.std.specs.Prelude.{◌≡◌, IfOk};
+
+use crate::nets::{HALF_ADDER, move_of, net};
+use adc_core::adc::Adc;
+use chain_semantics::moves::Move;
+use joint_net::metric::Metric;
+use joint_net::ports::same_ports;
+use lane_bits::patterns::Patterns;
+use std::alloc::{AllocError, Global};
+use std::test::Fail;
+
+/// The half adder with a sum that reads the carry, as its opposite.
+const READS_CARRY: &[u8] =
+    b".model ha\n.inputs a b\n.outputs s c\n.names c s\n0 1\n.names a b c\n11 1\n.end\n";
+
+/// So many vectors of two zeros, and then one of two ones.
+fn patterns(alloc: Global, zeros: u32, ones: bool) -> Result<Patterns, AllocError>
+    ensures { IfOk result (λ p. p.inputs ≡ 2) }
+{
+    let mut patterns = Patterns::new(alloc, 2);
+    for _zero in 0..zeros {
+        patterns.push(&[false, false])?;
+    }
+    if ones {
+        patterns.push(&[true, true])?;
+    }
+    Ok(patterns)
+}
+
+fn last_word(row: &[u64]) -> Option<u64> {
+    row.last().copied()
+}
+
+/// Within 1 of the half adder: the last words of the carry's care and of where the constant 0 differs from it, and where this
+/// constant breaks the bound.
+fn carry_as_zero(
+    alloc: Global,
+    text: &[u8],
+    zeros: u32,
+    ones: bool,
+) -> Result<(Option<u64>, Option<u64>, Option<u64>), Fail> {
+    let exact = net(alloc, HALF_ADDER)?;
+    let approx = net(alloc, text)?;
+    let patterns = patterns(alloc, zeros, ones)?;
+    let Some(step) = move_of(alloc, &approx, Move::Const { t: 1, value: false })? else {
+        return Err(Fail::new("no move of the net"));
+    };
+    if exact.inputs() != 2 || approx.tables() != 2 || !same_ports(&exact, &approx) {
+        return Err(Fail::new("no approximation of the half adder"));
+    }
+    let mut adc = Adc::new(alloc, &exact, &approx, Metric::Abs, 1, &patterns)?;
+    let care = last_word(adc.care(1));
+    let differs = last_word(adc.differs(step));
+    Ok((care, differs, adc.breaks(step)))
+}
+
+/// The flipped carry of the half adder errs by 2 everywhere; where the sum reads it, by 2 at zeros and by 1 at ones, since the sum
+/// turns too. The constant differs at ones alone.
+#[test]
+fn constant_carry(rt: HostRuntime) -> Result<(), Fail> {
+    let cases: [(&[u8], u32, bool, (Option<u64>, Option<u64>, Option<u64>)); 5] = [
+        (HALF_ADDER, 512, true, (Some(1), Some(1), Some(512))),
+        (HALF_ADDER, 512, false, (Some(u64::MAX), Some(0), None)),
+        (
+            HALF_ADDER,
+            511,
+            true,
+            (Some(u64::MAX), Some(1 << 63), Some(511)),
+        ),
+        (HALF_ADDER, 0, false, (None, None, None)),
+        (READS_CARRY, 1, true, (Some(0b01), Some(0b10), None)),
+    ];
+    for (text, zeros, ones, wanted) in cases {
+        assert_eq!(rt; carry_as_zero(rt.alloc(), text, zeros, ones)?, wanted);
+    }
+    Ok(())
+}

@@ -1,0 +1,163 @@
+//! Queries on a multiplier and on a conjunction, each against an approximation of it.
+ghost use Rattle.std.specs.Prelude.{◌≤◌, length, IfOk};
+ghost use Rattle.semantics.specs.Net.{HasSamePorts, IsSmall};
+
+use crate::nets::{move_of, net};
+use chain_semantics::moves::Move;
+use cnf_core::cnf::Cnf;
+use cnf_core::log::{Item, Log};
+use cnf_core::of_net::of_goal;
+use joint_net::joint::joint;
+use joint_net::metric::Metric;
+use joint_net::ports::same_ports;
+use lrat_check::checker::Checker;
+use net_core::net::Net;
+use net_moves::apply::apply;
+use std::alloc::{AllocError, Global};
+use std::test::Fail;
+use word_nets::multiplier::mul_net;
+use worst_case::exceed::Exceed;
+use worst_case::exceeds::exceeds;
+
+/// The conjunction of 16 inputs as one table.
+const CONJUNCTION: &[u8] =
+    b".model conj\n.inputs x0 x1 x2 x3 x4 x5 x6 x7 x8 x9 x10 x11 x12 x13 x14 x15\n.outputs y\n\
+    .names x0 x1 x2 x3 x4 x5 x6 x7 x8 x9 x10 x11 x12 x13 x14 x15 y\n1111111111111111 1\n.end\n";
+
+/// The same conjunction over two halves.
+const TREE: &[u8] =
+    b".model tree\n.inputs x0 x1 x2 x3 x4 x5 x6 x7 x8 x9 x10 x11 x12 x13 x14 x15\n.outputs y\n\
+    .names x0 x1 x2 x3 x4 x5 x6 x7 p\n11111111 1\n.names x8 x9 x10 x11 x12 x13 x14 x15 q\n11111111 1\n\
+    .names p q y\n11 1\n.end\n";
+
+/// The tree without the last input.
+const SHORT: &[u8] =
+    b".model short\n.inputs x0 x1 x2 x3 x4 x5 x6 x7 x8 x9 x10 x11 x12 x13 x14 x15\n.outputs y\n\
+    .names x0 x1 x2 x3 x4 x5 x6 x7 p\n11111111 1\n.names x8 x9 x10 x11 x12 x13 x14 q\n1111111 1\n\
+    .names p q y\n11 1\n.end\n";
+
+/// The net, or the one with the constant 0 in the place of its first output's table.
+fn approximation(alloc: Global, net: &Net, is_even: bool) -> Result<Net, Fail>
+    requires { IsSmall net.now }
+{
+    if !is_even {
+        return Ok(net.copy()?);
+    }
+    let first = net.output_signals().first().copied().unwrap_or(0);
+    let t = first.saturating_sub(net.inputs());
+    match move_of(alloc, net, Move::Const { t, value: false })? {
+        Some(step) => Ok(apply(alloc, net, step)?),
+        None => Err(Fail::new("no move of the net")),
+    }
+}
+
+/// The product of two words of five bits.
+fn product(alloc: Global) -> Result<Net, AllocError>
+    ensures { IfOk result IsSmall }
+{
+    mul_net(alloc, 5)
+}
+
+/// The miter at level 0.
+fn miter(alloc: Global, exact: &Net, approx: &Net, metric: Metric) -> Result<Cnf, Fail>
+    requires ports { HasSamePorts exact.now approx.now }
+    requires few { length exact.now.outputs ≤ 64 }
+{
+    let net = joint(alloc, exact, approx, metric, 0)?;
+    if net.outputs() != 1 {
+        return Err(Fail::new("not one output"));
+    }
+    Ok(of_goal(alloc, &net)?)
+}
+
+/// Whether the checker accepts the log as a refutation.
+fn accepts(alloc: Global, goal: &Cnf, log: &Log) -> Result<bool, Fail> {
+    let mut checker = Checker::new(alloc, goal)?;
+    for item in log.as_slice() {
+        match item {
+            Item::Add(step) => {
+                if checker.step(step).is_err() {
+                    return Ok(false);
+                }
+            }
+            Item::Remove(ids) => checker.remove(ids),
+        }
+    }
+    Ok(checker.done())
+}
+
+/// Whether the bits are those of the pattern, in which `-` stands for both.
+fn fits(bits: &[bool], pattern: &[u8]) -> bool {
+    bits.len() == pattern.len()
+        && bits.iter().zip(pattern).all(|(bit, wanted)| *wanted == b'-'
+            || *bit == (*wanted == b'1'))
+}
+
+/// Whether the query at level 0 is answered as wanted: by an input that fits the pattern, or never where it is empty, or spent where
+/// that may be.
+fn is_answered(
+    alloc: Global,
+    nets: (&Net, &Net),
+    metric: Metric,
+    limit: u64,
+    over: &[u8],
+    may_be_spent: bool,
+) -> Result<bool, Fail> {
+    let (exact, approx) = nets;
+    if limit == 0 || exact.outputs() > 64 || !same_ports(exact, approx) {
+        return Ok(false);
+    }
+    match exceeds(alloc, exact, approx, metric, 0, limit)? {
+        Exceed::Over(x) => Ok(fits(x.as_slice(), over)),
+        Exceed::Never(log) => {
+            let goal = miter(alloc, exact, approx, metric)?;
+            Ok(over.is_empty() && accepts(alloc, &goal, &log)?)
+        }
+        Exceed::Spent(spent) => Ok(may_be_spent && spent.log.len() as u64 == limit),
+    }
+}
+
+/// Whether the query on the multiplier against itself, or against the even one, is answered as wanted.
+fn multiplier_is_answered(
+    alloc: Global,
+    is_even: bool,
+    limit: u64,
+    over: &[u8],
+    may_be_spent: bool,
+) -> Result<bool, Fail> {
+    let exact = product(alloc)?;
+    let approx = approximation(alloc, &exact, is_even)?;
+    is_answered(
+        alloc,
+        (&exact, &approx),
+        Metric::Abs,
+        limit,
+        over,
+        may_be_spent,
+    )
+}
+
+#[test]
+fn a_multiplier(rt: HostRuntime) -> Result<(), Fail> {
+    let cases: [(bool, u64, &[u8], bool); 4] = [
+        (true, 1, b"1----1----", true),
+        (true, 2048, b"1----1----", false),
+        (false, 1, b"", true),
+        (false, 2048, b"", false),
+    ];
+    for (is_even, limit, over, may_be_spent) in cases {
+        assert!(rt; multiplier_is_answered(rt.alloc(), is_even, limit, over, may_be_spent)?);
+    }
+    Ok(())
+}
+
+#[test]
+fn a_conjunction(rt: HostRuntime) -> Result<(), Fail> {
+    let whole = net(rt.alloc(), CONJUNCTION)?;
+    let cases: [(&[u8], &[u8]); 2] = [(TREE, b""), (SHORT, b"1111111111111110")];
+    for (text, over) in cases {
+        let nets = (&whole, &net(rt.alloc(), text)?);
+        assert!(rt; is_answered(rt.alloc(), nets, Metric::Ham, 1000, over, false)?);
+    }
+    Ok(())
+}
