@@ -1,5 +1,7 @@
 //! The masks of a half adder, and where a constant breaks its bound: the bits past the last pattern of a block are no patterns.
-ghost use Rattle.std.specs.Prelude.{◌≡◌, IfOk};
+ghost use Rattle.std.specs.Prelude.{◌≡◌, ◌<◌, IfOk, Contains};
+ghost use Rattle.semantics.specs.Net.{IsSmall, table_count};
+ghost use Rattle.chain_semantics.specs.Moves.{moves_of};
 
 use crate::nets::{HALF_ADDER, move_of, net};
 use adc_core::adc::Adc;
@@ -7,6 +9,7 @@ use chain_semantics::moves::Move;
 use joint_net::metric::Metric;
 use joint_net::ports::same_ports;
 use lane_bits::patterns::Patterns;
+use net_core::net::Net;
 use std::alloc::{AllocError, Global};
 use std::test::Fail;
 
@@ -32,34 +35,54 @@ fn last_word(row: &[u64]) -> Option<u64> {
     row.last().copied()
 }
 
-/// Within 1 of the half adder: the last words of the carry's care and of where the constant 0 differs from it, and where this
-/// constant breaks the bound.
+/// The last words of the carry's care and of where the move differs from it, and where the move breaks the bound.
+type Told = (Option<u64>, Option<u64>, Option<u64>);
+
+fn told(adc: &mut Adc, step: Move) -> Told
+    requires carry { 1 < table_count adc.old.net }
+    requires step { Contains (moves_of adc.old.net) step }
+{
+    let care = last_word(adc.care(1));
+    let differs = last_word(adc.differs(step));
+    (care, differs, adc.breaks(step))
+}
+
+/// What the masks of the net within 1 of the half adder tell of the constant 0 as its carry.
 fn carry_as_zero(
     alloc: Global,
-    text: &[u8],
-    zeros: u32,
-    ones: bool,
-) -> Result<(Option<u64>, Option<u64>, Option<u64>), Fail> {
+    exact: &Net,
+    approx: &Net,
+    patterns: &Patterns,
+) -> Result<Told, Fail>
+    requires small { IsSmall approx.now }
+    requires inputs { patterns.now.inputs ≡ 2 }
+{
+    let Some(step) = move_of(alloc, approx, Move::Const { t: 1, value: false })? else {
+        return Err(Fail::new("no move of the net"));
+    };
+    if exact.inputs() != 2 || exact.outputs() != 2 || approx.tables() != 2 {
+        return Err(Fail::new("no half adder"));
+    }
+    if !same_ports(exact, approx) {
+        return Err(Fail::new("no approximation of the half adder"));
+    }
+    let mut adc = Adc::new(alloc, exact, approx, Metric::Abs, 1, patterns)?;
+    Ok(told(&mut adc, step))
+}
+
+/// The same of the net of a text, at these patterns.
+fn read_and_told(alloc: Global, text: &[u8], zeros: u32, ones: bool) -> Result<Told, Fail> {
     let exact = net(alloc, HALF_ADDER)?;
     let approx = net(alloc, text)?;
     let patterns = patterns(alloc, zeros, ones)?;
-    let Some(step) = move_of(alloc, &approx, Move::Const { t: 1, value: false })? else {
-        return Err(Fail::new("no move of the net"));
-    };
-    if exact.inputs() != 2 || approx.tables() != 2 || !same_ports(&exact, &approx) {
-        return Err(Fail::new("no approximation of the half adder"));
-    }
-    let mut adc = Adc::new(alloc, &exact, &approx, Metric::Abs, 1, &patterns)?;
-    let care = last_word(adc.care(1));
-    let differs = last_word(adc.differs(step));
-    Ok((care, differs, adc.breaks(step)))
+    carry_as_zero(alloc, &exact, &approx, &patterns)
 }
 
 /// The flipped carry of the half adder errs by 2 everywhere; where the sum reads it, by 2 at zeros and by 1 at ones, since the sum
 /// turns too. The constant differs at ones alone.
 #[test]
 fn constant_carry(rt: HostRuntime) -> Result<(), Fail> {
-    let cases: [(&[u8], u32, bool, (Option<u64>, Option<u64>, Option<u64>)); 5] = [
+    let cases: [(&[u8], u32, bool, Told); 5] = [
         (HALF_ADDER, 512, true, (Some(1), Some(1), Some(512))),
         (HALF_ADDER, 512, false, (Some(u64::MAX), Some(0), None)),
         (
@@ -72,7 +95,7 @@ fn constant_carry(rt: HostRuntime) -> Result<(), Fail> {
         (READS_CARRY, 1, true, (Some(0b01), Some(0b10), None)),
     ];
     for (text, zeros, ones, wanted) in cases {
-        assert_eq!(rt; carry_as_zero(rt.alloc(), text, zeros, ones)?, wanted);
+        assert_eq!(rt; read_and_told(rt.alloc(), text, zeros, ones)?, wanted);
     }
     Ok(())
 }

@@ -39,6 +39,20 @@ fn net_of_parts(
     Ok(Net::from_parts(alloc, model, inputs, tables, outputs))
 }
 
+/// Whether the parts make a net, or are refused with this text.
+fn is_told(
+    alloc: Global,
+    buffers: &[(&[u8], u32)],
+    outputs: usize,
+    wanted: &str,
+) -> Result<bool, Fail> {
+    let told = match net_of_parts(alloc, buffers, outputs)? {
+        Ok(_) => return Ok(wanted == "a net"),
+        Err(refusal) => refusal.to_string(alloc)?,
+    };
+    Ok(told.as_str() == wanted)
+}
+
 #[test]
 fn parts_of_nets(rt: HostRuntime) -> Result<(), Fail> {
     let cases: [(&[(&[u8], u32)], usize, &str); 7] = [
@@ -59,20 +73,23 @@ fn parts_of_nets(rt: HostRuntime) -> Result<(), Fail> {
         (&[(b"y", 0)], 65, "too many"),
     ];
     for (buffers, outputs, wanted) in cases {
-        let told = match net_of_parts(rt.alloc(), buffers, outputs)? {
-            Ok(_) => format!(in rt.alloc(); "a net")?,
-            Err(refusal) => format!(in rt.alloc(); "{refusal}")?,
-        };
-        assert_eq!(rt; told.as_str(), wanted);
+        assert!(rt; is_told(rt.alloc(), buffers, outputs, wanted)?, "{wanted}");
     }
     Ok(())
 }
 
+/// Whether a signal of the half adder depends on its sum.
+fn reads_the_sum(alloc: Global, s: u32) -> Result<bool, Fail> {
+    let half_adder = net(alloc, HALF_ADDER)?;
+    if s >= half_adder.signals() || half_adder.tables() == 0 {
+        return Err(Fail::new("no signal of the half adder"));
+    }
+    Ok(half_adder.depends(s, 0)?)
+}
+
 #[test]
 fn readers_of_the_sum(rt: HostRuntime) -> Result<(), Fail> {
-    let half_adder = net(rt.alloc(), HALF_ADDER)?;
-    assert!(rt; half_adder.inputs() == 2 && half_adder.tables() == 2);
-    assert!(rt; half_adder.depends(2, 0)?);
-    assert!(rt; !half_adder.depends(3, 0)?);
+    assert!(rt; reads_the_sum(rt.alloc(), 2)?);
+    assert!(rt; !reads_the_sum(rt.alloc(), 3)?);
     Ok(())
 }

@@ -151,13 +151,16 @@ fn a_multiplier(rt: HostRuntime) -> Result<(), Fail> {
     Ok(())
 }
 
+/// Whether the query on the conjunction against the net of a text is answered as wanted, and not spent.
+fn conjunction_is_answered(alloc: Global, text: &[u8], over: &[u8]) -> Result<bool, Fail> {
+    let exact = net(alloc, CONJUNCTION)?;
+    let approx = net(alloc, text)?;
+    is_answered(alloc, (&exact, &approx), Metric::Ham, 1000, over, false)
+}
+
 #[test]
 fn a_conjunction(rt: HostRuntime) -> Result<(), Fail> {
-    let whole = net(rt.alloc(), CONJUNCTION)?;
-    let cases: [(&[u8], &[u8]); 2] = [(TREE, b""), (SHORT, b"1111111111111110")];
-    for (text, over) in cases {
-        let nets = (&whole, &net(rt.alloc(), text)?);
-        assert!(rt; is_answered(rt.alloc(), nets, Metric::Ham, 1000, over, false)?);
-    }
+    assert!(rt; conjunction_is_answered(rt.alloc(), TREE, b"")?);
+    assert!(rt; conjunction_is_answered(rt.alloc(), SHORT, b"1111111111111110")?);
     Ok(())
 }
