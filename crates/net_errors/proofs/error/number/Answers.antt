@@ -3,7 +3,7 @@ use Rattle.std.specs.Int.{from_bool}
 use Rattle.std.proofs.Math.Nat.{pow-le-pow_right}
 use Rattle.semantics.specs.Error.{number_of}
 use Rattle.semantics.proofs.Vectors.{number_of-lt}
-use Rattle.joint_net.proofs.error.number.Goals as goal
+use Rattle.net_errors.proofs.error.number.Goals as goal
 
 -- at most 63 bits have a number below 2 ^ 63
 number_of-lt_63 : (bits : List Bool) → length bits ≤ 63 → number_of bits < 2 ^ 63

@@ -1,5 +1,5 @@
 use Rattle.std.proofs.Common.{◌≡◌, take}
-use Rattle.joint_net.proofs.ports.same_inputs.Given as goal
+use Rattle.net_errors.proofs.ports.same_inputs.Given as goal
 
 -- the first i are the same
 abbrev pub invariant-loop-i : goal.invariant-loop-i

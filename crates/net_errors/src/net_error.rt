@@ -1,10 +1,11 @@
 //! The error of an approximate net at one input vector.
-ghost use Rattle.std.specs.Prelude.{◌≡◌, ◌≤◌, length, IfOk};
-ghost use Rattle.semantics.specs.Net.{HasSamePorts, input_count};
+ghost use Rattle.std.specs.Prelude.{◌≡◌, length, IfOk};
+ghost use Rattle.semantics.specs.Net.{input_count};
 ghost use Rattle.semantics.specs.Value.{outputs_of};
 ghost use Rattle.semantics.specs.Error.{net_error};
-ghost use Rattle.joint_net.specs.Metric.{meaning};
+ghost use Rattle.net_errors.specs.Metric.{meaning};
 
+use crate::compared::Compared;
 use crate::error::error;
 use crate::metric::Metric;
 use net_core::items::Bits;
@@ -28,17 +29,14 @@ fn outputs(alloc: Global, net: &Net, x: &[bool]) -> Result<Bits, AllocError>
 /// The error of the approximate net at an input vector.
 pub fn error_at(
     alloc: Global,
-    exact: &Net,
-    approx: &Net,
+    nets: &Compared,
     metric: Metric,
     x: &[bool],
 ) -> Result<u128, AllocError>
-    requires ports { HasSamePorts exact.now approx.now }
-    requires few_outputs { length exact.now.outputs ≤ 64 }
-    requires width { length x.now ≡ input_count exact.now }
-    ensures { IfOk result (λ e. e ≡ net_error (meaning metric) exact.now approx.now x.now) }
+    requires { length x.now ≡ input_count nets.now.exact }
+    ensures { IfOk result (λ e. e ≡ net_error (meaning metric) nets.now.exact nets.now.approx x.now) }
 {
-    let right = outputs(alloc, exact, x)?;
-    let word = outputs(alloc, approx, x)?;
+    let right = outputs(alloc, nets.exact(), x)?;
+    let word = outputs(alloc, nets.approx(), x)?;
     Ok(error(metric, right.as_slice(), word.as_slice()))
 }

@@ -1,8 +1,8 @@
 use Rattle.std.proofs.Common.{◌∙◌, refl, arith}
 use Rattle.std.proofs.lemmas.List.{length-map}
 use Rattle.semantics.specs.Net.{signal_names, name_of}
-use Rattle.joint_net.proofs.PortNames.{output_names, output_name, same_whole, apart_at, same_more}
-use Rattle.joint_net.proofs.ports.same_outputs.Goals as goal
+use Rattle.net_errors.proofs.PortNames.{output_names, output_name, same_whole, apart_at, same_more}
+use Rattle.net_errors.proofs.ports.same_outputs.Goals as goal
 
 pub returns-then-ne : goal.returns-then-ne
 returns-then-ne c =

@@ -1,6 +1,6 @@
 use Rattle.std.proofs.Common.{◌≡◌, ◌≤◌, ◌+◌, drop}
 use Rattle.semantics.specs.Error.{differing}
-use Rattle.joint_net.proofs.error.differing.Given as goal
+use Rattle.net_errors.proofs.error.differing.Given as goal
 
 -- what was counted, and at most one for each bit
 abbrev pub invariant-loop-i : goal.invariant-loop-i

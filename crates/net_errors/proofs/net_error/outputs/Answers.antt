@@ -2,7 +2,7 @@ use Rattle.std.proofs.Common.{map, ap, ◌∙◌, arith}
 use Rattle.std.proofs.lemmas.List.{take_all}
 use Rattle.semantics.specs.Net.{input_count}
 use Rattle.semantics.specs.Value.{value_of, outputs_of}
-use Rattle.joint_net.proofs.net_error.outputs.Goals as goal
+use Rattle.net_errors.proofs.net_error.outputs.Goals as goal
 
 pub returns : goal.returns
 unfolding outputs_of

@@ -1,6 +1,6 @@
 use Rattle.std.proofs.Common.{◌∙◌, refl, arith}
-use Rattle.joint_net.proofs.PortNames.{input_name, same_whole, apart_at, same_more}
-use Rattle.joint_net.proofs.ports.same_inputs.Goals as goal
+use Rattle.net_errors.proofs.PortNames.{input_name, same_whole, apart_at, same_more}
+use Rattle.net_errors.proofs.ports.same_inputs.Goals as goal
 
 pub returns-then-ne : goal.returns-then-ne
 returns-then-ne c =

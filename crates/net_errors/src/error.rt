@@ -1,7 +1,7 @@
 //! The error of one pair of output words. The first output is bit 0.
 ghost use Rattle.std.specs.Prelude.{◌≡◌, ◌≤◌, ◌<◌, ◌+◌, ◌*◌, length};
 ghost use Rattle.semantics.specs.Error.{number_of, rounded_up, distance, differing, error_of};
-ghost use Rattle.joint_net.specs.Metric.{meaning};
+ghost use Rattle.net_errors.specs.Metric.{meaning};
 
 use crate::metric::Metric;
 

@@ -1,6 +1,6 @@
 use Rattle.std.proofs.Common.{◌≡◌, take}
-use Rattle.joint_net.proofs.PortNames.{output_names}
-use Rattle.joint_net.proofs.ports.same_outputs.Given as goal
+use Rattle.net_errors.proofs.PortNames.{output_names}
+use Rattle.net_errors.proofs.ports.same_outputs.Given as goal
 
 -- the first i are the same
 abbrev pub invariant-loop-i : goal.invariant-loop-i
