@@ -6,7 +6,7 @@ use Rattle.std.proofs.lemmas.List.FromFn.{length-map-range_with_len, get_or-map-
 use Rattle.std.proofs.lemmas.List.Elements.{All-from_recursion, All-from_get_or}
 use Rattle.semantics.specs.Net.{NetValue, input_count, table_count, signal_names, name_of, IsAcyclic, IsSound, HasSamePorts}
 use Rattle.semantics.specs.Value.{value_of, outputs_of}
-use Rattle.semantics.specs.Error.{Metric}
+use Rattle.semantics.specs.declared.metric.Metric.{Metric}
 use Rattle.semantics.proofs.Values.{value_law}
 use Rattle.chain_semantics.specs.Care.{IsCaredFor, Exceeds}
 use Rattle.lane_bits.specs.Rows.{word_count}

@@ -6,7 +6,8 @@ use Rattle.std.proofs.lemmas.Bool.{cases_eq, cases_lt, false_from_ne_true}
 use Rattle.std.proofs.lemmas.List.{get_or_past, get_or_push, get_or_append_left}
 use Rattle.semantics.specs.Net.{NetValue, input_count, IsSound}
 use Rattle.semantics.specs.Value.{value_of, outputs_of}
-use Rattle.semantics.specs.Error.{Metric, error_of, net_error}
+use Rattle.semantics.specs.Error.{error_of, net_error}
+use Rattle.semantics.specs.declared.metric.Metric.{Metric}
 use Rattle.chain_semantics.specs.Flips.{flipped_values, flipped_outputs}
 use Rattle.chain_semantics.specs.Care.{IsCaredFor, Exceeds}
 use Rattle.chain_semantics.proofs.MovedFlips.{map-same}

@@ -1,7 +1,7 @@
 -- Which patterns are cared for, as rows of bits. Source: SALSA's approximation don't-cares.
 use Rattle.std.specs.Prelude.{◌≡◌, ◌↔◌, ℕ, ◌<◌, ◌≤◌, Bool, false, Option, MatchOption, List, [], length, slice_index_or, IsTrue}
 use Rattle.semantics.specs.Net.{NetValue, table_count}
-use Rattle.semantics.specs.Error.{Metric}
+use Rattle.semantics.specs.declared.metric.Metric.{Metric}
 use Rattle.chain_semantics.specs.declared.moves.Move.{Move}
 use Rattle.chain_semantics.specs.Care.{IsCaredFor, Exceeds, IsBrokenAt}
 use Rattle.lane_bits.specs.Rows.{row_bit, word_count}

@@ -5,7 +5,6 @@ ghost use Rattle.semantics.specs.Net.{NetValue, input_count, table_count, HasSam
 ghost use Rattle.semantics.specs.Error.{Metric as ErrorMetric};
 ghost use Rattle.chain_semantics.specs.Moves.{moves_of};
 ghost use Rattle.chain_semantics.specs.Care.{Changes};
-ghost use Rattle.joint_net.specs.Metric.{meaning};
 ghost use Rattle.adc_core.specs.Masks.{row_at, IsRowWhere, AreMasksOf, FindsFirstBroken};
 ghost use Rattle.adc_core.specs.Blocks.{vectors_in, AreFilled};
 ghost use Rattle.adc_core.specs.Lending.{StayTheSame};
@@ -16,7 +15,7 @@ use crate::outputs::all_outputs;
 use crate::rows::{Limit, care_rows, exceeding_row};
 use crate::word_list::WordList;
 use chain_semantics::moves::Move;
-use joint_net::metric::Metric;
+use semantics::metric::Metric;
 use lane_bits::kernels::word_count;
 use lane_bits::patterns::Patterns;
 use net_core::items::Items;
@@ -91,7 +90,7 @@ impl Adc {
         requires inputs { patterns.now.inputs ≡ input_count exact.now }
         ensures net { IfOk result (λ adc. adc.net ≡ approx.now) }
         ensures vectors { IfOk result (λ adc. adc.vectors ≡ patterns.now.vectors) }
-        ensures masks { IfOk result (AreMasksOf (meaning metric) exact.now bound) }
+        ensures masks { IfOk result (AreMasksOf metric exact.now bound) }
     {
         let limit = Limit {
             outputs: all_outputs(alloc, exact, patterns)?,

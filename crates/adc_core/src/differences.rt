@@ -1,7 +1,7 @@
 //! At which patterns a move changes its table's value, and where that breaks the bound.
 ghost use Rattle.std.specs.Prelude.{◌≡◌, ◌↔◌, ◌+◌, ◌*◌, ◌<◌, ◌≤◌, ◌^◌, ℕ, Bool, List, true, false, length, nat_lt, IsTrue, MatchOption, Contains};
 ghost use Rattle.semantics.specs.Net.{NetValue, signal_count};
-ghost use Rattle.semantics.specs.Error.{Metric};
+ghost use Rattle.semantics.specs.declared.metric.Metric.{Metric};
 ghost use Rattle.chain_semantics.specs.Moves.{moves_of, table_of};
 ghost use Rattle.chain_semantics.specs.Care.{IsCaredFor, Exceeds, Changes};
 ghost use Rattle.lane_bits.specs.Rows.{word_count};

@@ -3,14 +3,13 @@ ghost use Rattle.std.specs.Prelude.{◌≡◌, ◌↔◌, ◌+◌, ◌*◌, ◌<
 ghost use Rattle.semantics.specs.Net.{signal_count};
 ghost use Rattle.semantics.specs.Error.{error_of};
 ghost use Rattle.lane_bits.specs.Rows.{word_count};
-ghost use Rattle.joint_net.specs.Metric.{meaning};
 ghost use Rattle.net_core.specs.Built.{IsBuilt};
 ghost use Rattle.adc_core.specs.Words.{word_bit, values_at};
 ghost use Rattle.adc_core.specs.Blocks.{IsChunkOf};
 
 use crate::outputs::set_outputs;
 use joint_net::error::error;
-use joint_net::metric::Metric;
+use semantics::metric::Metric;
 use net_core::items::Bits;
 use net_core::net::Net;
 
@@ -39,7 +38,7 @@ pub(crate) fn exceeding_word(
     requires few_patterns { length exact.now ≤ 64 }
     requires widths { All (λ e. length e ≡ length net.now.outputs) exact.now }
     ensures word { (b : ℕ) → b < 64 → IsTrue (word_bit result b) ↔ ((b < length exact.now)
-        × (bound < error_of (meaning metric) (slice_index_or exact.now b []) (map (values_at words.now b) net.now.outputs))) }
+        × (bound < error_of metric (slice_index_or exact.now b []) (map (values_at words.now b) net.now.outputs))) }
     ensures built { IsBuilt net.now }
 {
     // A net is sound by its type: the call brings that fact here.

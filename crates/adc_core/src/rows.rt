@@ -3,7 +3,6 @@ ghost use Rattle.std.specs.Prelude.{◌≡◌, ◌<◌, ◌≤◌, ℕ, Bool, Li
 ghost use Rattle.semantics.specs.Net.{NetValue, signal_count, table_count};
 ghost use Rattle.chain_semantics.specs.Care.{IsCaredFor, Exceeds};
 ghost use Rattle.lane_bits.specs.Rows.{word_count};
-ghost use Rattle.joint_net.specs.Metric.{meaning};
 ghost use Rattle.net_core.specs.Built.{IsBuilt};
 ghost use Rattle.adc_core.specs.Masks.{row_at, IsRowWhere};
 ghost use Rattle.adc_core.specs.Blocks.{AreBlocksOf, AreOutputsOf};
@@ -11,7 +10,7 @@ ghost use Rattle.adc_core.specs.Blocks.{AreBlocksOf, AreOutputsOf};
 use crate::errors::{chunk, exceeding_word};
 use crate::values::flip_words;
 use crate::word_list::WordList;
-use joint_net::metric::Metric;
+use semantics::metric::Metric;
 use net_core::items::{Bits, Items};
 use net_core::net::Net;
 use std::alloc::{AllocError, Global};
@@ -37,7 +36,7 @@ pub(crate) fn exceeding_row(
     requires blocks { (k : ℕ) → k < length blocks.now → length (row_at blocks.now k) ≡ signal_count net.now }
     ensures { IfOk result (λ row. (exact : NetValue) (vectors : List (List Bool))
         → AreOutputsOf exact vectors limit.now.outputs → AreBlocksOf net.now vectors blocks.now
-        → IsRowWhere vectors (Exceeds (meaning limit.now.metric) exact limit.now.bound net.now) row) }
+        → IsRowWhere vectors (Exceeds limit.now.metric exact limit.now.bound net.now) row) }
 {
     let mut outputs = vec![in alloc; false; net.outputs() as usize]?;
     let bits = outputs.as_mut_slice();
@@ -72,7 +71,7 @@ fn care_row(
     requires blocks { (k : ℕ) → k < length blocks.now → length (row_at blocks.now k) ≡ signal_count net.now }
     ensures { IfOk result (λ row. (exact : NetValue) (vectors : List (List Bool))
         → AreOutputsOf exact vectors limit.now.outputs → AreBlocksOf net.now vectors blocks.now
-        → IsRowWhere vectors (IsCaredFor (meaning limit.now.metric) exact limit.now.bound net.now t) row) }
+        → IsRowWhere vectors (IsCaredFor limit.now.metric exact limit.now.bound net.now t) row) }
 {
     let mut outputs = vec![in alloc; false; net.outputs() as usize]?;
     let bits = outputs.as_mut_slice();
@@ -107,7 +106,7 @@ pub(crate) fn care_rows(
     ensures rows { IfOk result (λ rows. (exact : NetValue) (vectors : List (List Bool))
         → AreOutputsOf exact vectors limit.now.outputs → AreBlocksOf net.now vectors blocks.now
         → (t : ℕ) → t < table_count net.now
-        → IsRowWhere vectors (IsCaredFor (meaning limit.now.metric) exact limit.now.bound net.now t) (row_at rows t)) }
+        → IsRowWhere vectors (IsCaredFor limit.now.metric exact limit.now.bound net.now t) (row_at rows t)) }
     ensures built { IsBuilt net.now }
 {
     let mut rows = Items::new(alloc);

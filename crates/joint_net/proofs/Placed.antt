@@ -7,7 +7,7 @@ use Rattle.std.proofs.lemmas.List.{append_assoc, length-append, length-map, map-
 use Rattle.std.proofs.lemmas.List.FromFn.{get_or-range_with_len, length-range_with_len}
 use Rattle.semantics.specs.Texts.{Bytes}
 use Rattle.semantics.specs.Net.{TableValue, NetValue, no_table, table_at, input_count, table_count, signal_count, IsAcyclic, IsSound, HasSamePorts}
-use Rattle.semantics.specs.Error.{Metric}
+use Rattle.semantics.specs.declared.metric.Metric.{Metric}
 use Rattle.net_core.specs.Built.{IsWired}
 use Rattle.quality_semantics.specs.Quality.{quality, quality_net}
 use Rattle.quality_semantics.specs.Joint.{numbered_name, copied_from, copied, moved, approximate_signal, both_outputs, quality_signal, joint_net}

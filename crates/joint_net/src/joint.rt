@@ -5,14 +5,13 @@ ghost use Rattle.std.specs.List.{range_with_len};
 ghost use Rattle.semantics.specs.Net.{input_count, table_count, signal_count, row_count, HasSamePorts, IsSound};
 ghost use Rattle.quality_semantics.specs.Quality.{quality_net};
 ghost use Rattle.quality_semantics.specs.Joint.{numbered_name, both_outputs, quality_signal, joint_net};
-ghost use Rattle.net_errors.specs.Metric.{meaning};
 ghost use Rattle.joint_net.specs.Copies.{all_copies, joined, IsJoinable};
 
 use crate::copies::{first_signals, model_name, push_copies, push_outputs};
 use net_core::items::{NameList, Signal, SignalList, TableList};
 use net_core::name::{Name, numbered_names};
 use net_core::net::Net;
-use net_errors::metric::Metric;
+use semantics::metric::Metric;
 use std::alloc::{AllocError, Global};
 
 /// What the signals and the rows of a joint net together are fewer than.
@@ -21,7 +20,7 @@ const ROOM: u32 = 1 << 31;
 /// The net whose output says whether the error of two words of so many bits exceeds `k`.
 fn quality(alloc: Global, metric: Metric, width: u32, k: u128) -> Result<Net, AllocError>
     requires { width ≤ 64 }
-    ensures { IfOk result (λ n. n ≡ quality_net (meaning metric) width k) }
+    ensures { IfOk result (λ n. n ≡ quality_net metric width k) }
 {
     match metric {
         Metric::Abs => quality_abs::quality(alloc, width, k),
@@ -170,7 +169,7 @@ pub fn joint(
 ) -> Result<Net, AllocError>
     requires ports { HasSamePorts exact.now approx.now }
     requires few { length exact.now.outputs ≤ 64 }
-    ensures net { IfOk result (λ n. n ≡ joint_net exact.now approx.now (meaning metric) k) }
+    ensures net { IfOk result (λ n. n ≡ joint_net exact.now approx.now metric k) }
     ensures room { IfOk result (λ n. signal_count n + row_count n < 2 ^ 31) }
 {
     let quality = quality(alloc, metric, exact.outputs(), k)?;

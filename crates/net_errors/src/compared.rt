@@ -1,11 +1,11 @@
 //! Two nets that are compared.
 ghost use Rattle.std.specs.Prelude.{◌≡◌};
-ghost use Rattle.net_errors.specs.Compared.{CanBeCompared};
+ghost use Rattle.semantics.specs.Error.{IsCandidate};
 
 use net_core::net::Net;
 use std::marker::Model;
 
-/// A net, and one that is to stand in its place: they have the same ports, and at most 64 outputs.
+/// A net, and one that may be judged against it: they have the same ports, and at most 64 outputs.
 #[derive(Drop)]
 pub struct Compared<'a> {
     exact: &'a Net,
@@ -13,19 +13,20 @@ pub struct Compared<'a> {
 }
 
 impl<'a> Model for Compared<'a> {
-    ghost use Rattle.net_errors.specs.Compared.{NetPair, CanBeCompared};
+    ghost use Rattle.semantics.specs.Error.{IsCandidate};
+    ghost use Rattle.net_errors.specs.Compared.{NetPair};
 
     ghost Value = { NetPair };
 
     ghost view = { λ p. record { exact = p.exact.now; approx = p.approx.now } };
 
-    ghost invariant = { λ p. CanBeCompared p.exact.now p.approx.now };
+    ghost invariant = { λ p. IsCandidate p.exact.now p.approx.now };
 }
 
 impl<'a> Compared<'a> {
     /// These two nets.
     pub fn new(exact: &'a Net, approx: &'a Net) -> Compared<'a>
-        requires { CanBeCompared exact.now approx.now }
+        requires { IsCandidate exact.now approx.now }
         ensures { result ≡ record { exact = exact.now; approx = approx.now } }
     {
         Compared { exact, approx }
@@ -34,7 +35,7 @@ impl<'a> Compared<'a> {
     /// The exact net.
     pub fn exact(&self) -> &'a Net
         ensures value { result.now ≡ self.now.exact }
-        ensures comparable { CanBeCompared self.now.exact self.now.approx }
+        ensures candidate { IsCandidate self.now.exact self.now.approx }
     {
         self.exact
     }
@@ -42,7 +43,7 @@ impl<'a> Compared<'a> {
     /// The approximate net.
     pub fn approx(&self) -> &'a Net
         ensures value { result.now ≡ self.now.approx }
-        ensures comparable { CanBeCompared self.now.exact self.now.approx }
+        ensures candidate { IsCandidate self.now.exact self.now.approx }
     {
         self.approx
     }

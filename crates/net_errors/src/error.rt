@@ -1,13 +1,13 @@
 //! The error of one pair of output words. The first output is bit 0.
 ghost use Rattle.std.specs.Prelude.{◌≡◌, ◌≤◌, ◌<◌, ◌+◌, ◌*◌, length};
-ghost use Rattle.semantics.specs.Error.{number_of, rounded_up, distance, differing, error_of};
-ghost use Rattle.net_errors.specs.Metric.{meaning};
+ghost use Rattle.semantics.specs.Error.{number_of, signed_number_of, rounded_up, distance, differing, error_of};
 
-use crate::metric::Metric;
+use semantics::limits::MOST_OUTPUTS;
+use semantics::metric::Metric;
 
 /// The number of a list of bits.
 fn number(bits: &[bool]) -> u64
-    requires { length bits.now ≤ 64 }
+    requires { length bits.now ≤ MOST_OUTPUTS }
     ensures { result ≡ number_of bits.now }
 {
     let mut number: u64 = 0;
@@ -15,6 +15,18 @@ fn number(bits: &[bool]) -> u64
         number = number * 2 + u64::from(bits[bits.len() - 1 - i]);
     }
     number
+}
+
+/// The number of a list of bits in two's complement: the last bit is the sign.
+fn signed_number(bits: &[bool]) -> i128
+    requires { length bits.now ≤ MOST_OUTPUTS }
+    ensures { result ≡ signed_number_of bits.now }
+{
+    let number = i128::from(number(bits));
+    match bits.last() {
+        Some(true) => number - (1 << bits.len()),
+        _ => number,
+    }
 }
 
 /// How many bits differ.
@@ -32,8 +44,8 @@ fn differing(exact: &[bool], approx: &[bool]) -> u64
 /// The error of the approximate outputs against the exact ones.
 pub fn error(metric: Metric, exact: &[bool], approx: &[bool]) -> u128
     requires width { length exact.now ≡ length approx.now }
-    requires few { length exact.now ≤ 64 }
-    ensures { result ≡ error_of (meaning metric) exact.now approx.now }
+    requires few { length exact.now ≤ MOST_OUTPUTS }
+    ensures { result ≡ error_of metric exact.now approx.now }
 {
     match metric {
         Metric::Abs => u128::from(number(exact).abs_diff(number(approx))),
@@ -43,5 +55,6 @@ pub fn error(metric: Metric, exact: &[bool], approx: &[bool]) -> u128
             (apart * 1_000_000).div_ceil(u128::from(whole.max(1)))
         }
         Metric::Ham => u128::from(differing(exact, approx)),
+        Metric::Sabs => signed_number(exact).abs_diff(signed_number(approx)),
     }
 }

@@ -3,6 +3,5 @@
 
 pub mod compared;
 pub mod error;
-pub mod metric;
 pub mod net_error;
 pub mod ports;

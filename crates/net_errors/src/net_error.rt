@@ -3,13 +3,12 @@ ghost use Rattle.std.specs.Prelude.{◌≡◌, length, IfOk};
 ghost use Rattle.semantics.specs.Net.{input_count};
 ghost use Rattle.semantics.specs.Value.{outputs_of};
 ghost use Rattle.semantics.specs.Error.{net_error};
-ghost use Rattle.net_errors.specs.Metric.{meaning};
 
 use crate::compared::Compared;
 use crate::error::error;
-use crate::metric::Metric;
 use net_core::items::Bits;
 use net_core::net::Net;
+use semantics::metric::Metric;
 use std::alloc::{AllocError, Global};
 
 /// The outputs at an input vector.
@@ -34,7 +33,7 @@ pub fn error_at(
     x: &[bool],
 ) -> Result<u128, AllocError>
     requires { length x.now ≡ input_count nets.now.exact }
-    ensures { IfOk result (λ e. e ≡ net_error (meaning metric) nets.now.exact nets.now.approx x.now) }
+    ensures { IfOk result (λ e. e ≡ net_error metric nets.now.exact nets.now.approx x.now) }
 {
     let right = outputs(alloc, nets.exact(), x)?;
     let word = outputs(alloc, nets.approx(), x)?;

@@ -1,6 +1,6 @@
 use Rattle.std.proofs.Common.{ℕ, ◌*◌, ◌<◌, Bool, List, length}
 use Rattle.semantics.specs.Net.{NetValue}
-use Rattle.semantics.specs.Error.{Metric}
+use Rattle.semantics.specs.declared.metric.Metric.{Metric}
 use Rattle.chain_semantics.specs.Moves.{table_of}
 use Rattle.chain_semantics.specs.Care.{IsCaredFor, Exceeds, IsBrokenAt}
 use Rattle.adc_core.specs.Masks.{vector_at, IsRowWhere}

@@ -1,7 +1,6 @@
 use Rattle.std.proofs.Common.{◌≡◌, ℕ, ◌<◌, [], map, slice_index_or, ◌∙◌, arith}
 use Rattle.std.proofs.lemmas.List.{get_or_default}
 use Rattle.semantics.specs.Error.{error_of}
-use Rattle.joint_net.specs.Metric.{meaning}
 use Rattle.adc_core.specs.Words.{values_at}
 use Rattle.adc_core.proofs.RowBits.{over_set, over_left}
 use Rattle.adc_core.proofs.errors.exceeding_word.Goals as goal
@@ -9,11 +8,11 @@ use Rattle.adc_core.proofs.errors.exceeding_word.Goals.{then-error-bound, else-e
 
 pub loop-b-preserved : goal.loop-b-preserved
 loop-b-preserved c =
-    let P : ℕ → Type 0 = λ b. c.args.bound < error_of (meaning c.args.metric) (slice_index_or c.args.exact.now b []) (map (values_at c.args.words.now b) c.args.net.now.outputs) in
+    let P : ℕ → Type 0 = λ b. c.args.bound < error_of c.args.metric (slice_index_or c.args.exact.now b []) (map (values_at c.args.words.now b) c.args.net.now.outputs) in
     let outputs : c.as_slice.result.now ≡ slice_index_or c.args.exact.now c.loop-b.b [] =
     c.as_slice.ensures ∙ c.index-exact-b.is ∙ get_or_default c.args.exact.now c.loop-b.b c.index-exact-b.result [] c.loop-b-test.true in
-    let error : c.error.result ≡ error_of (meaning c.args.metric) (slice_index_or c.args.exact.now c.loop-b.b []) (map (values_at c.args.words.now c.loop-b.b) c.args.net.now.outputs) =
-    c.error.ensures ∙ (λ j. error_of (meaning c.args.metric) (outputs j) (c.set_outputs.ensures.bits j)) in
+    let error : c.error.result ≡ error_of c.args.metric (slice_index_or c.args.exact.now c.loop-b.b []) (map (values_at c.args.words.now c.loop-b.b) c.args.net.now.outputs) =
+    c.error.ensures ∙ (λ j. error_of c.args.metric (outputs j) (c.set_outputs.ensures.bits j)) in
     elim c.if-error-bound.branch [
       | then-error-bound w ↦
           rw w.over-is (over_set P c.loop-b.over c.loop-b.b (omega (arith, c.requires.few_patterns)) (omega (arith, error, w.if-error-bound.true)) c.loop-b.invariant)

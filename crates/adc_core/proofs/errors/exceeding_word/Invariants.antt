@@ -1,6 +1,5 @@
 use Rattle.std.proofs.Common.{ℕ, ◌↔◌, ◌<◌, [], map, slice_index_or, IsTrue}
 use Rattle.semantics.specs.Error.{error_of}
-use Rattle.joint_net.specs.Metric.{meaning}
 use Rattle.adc_core.specs.Words.{word_bit, values_at}
 use Rattle.adc_core.proofs.errors.exceeding_word.Given as goal
 
@@ -8,4 +7,4 @@ abbrev pub invariant-loop-b : goal.invariant-loop-b
 invariant-loop-b l =
     (b : ℕ) → b < 64
     → IsTrue (word_bit l.over b)
-    ↔ ((b < l.b) × (l.bound < error_of (meaning l.metric) (slice_index_or l.exact b []) (map (values_at l.words b) l.net.outputs)))
+    ↔ ((b < l.b) × (l.bound < error_of l.metric (slice_index_or l.exact b []) (map (values_at l.words b) l.net.outputs)))

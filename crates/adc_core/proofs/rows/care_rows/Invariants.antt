@@ -1,7 +1,6 @@
 use Rattle.std.proofs.Common.{◌≡◌, ℕ, ◌<◌, Bool, List, length}
 use Rattle.semantics.specs.Net.{NetValue}
 use Rattle.chain_semantics.specs.Care.{IsCaredFor}
-use Rattle.joint_net.specs.Metric.{meaning}
 use Rattle.adc_core.specs.Masks.{row_at, IsRowWhere}
 use Rattle.adc_core.specs.Blocks.{AreBlocksOf, AreOutputsOf}
 use Rattle.adc_core.proofs.rows.care_rows.Given as goal
@@ -10,4 +9,4 @@ abbrev pub invariant-loop-t : goal.invariant-loop-t
 invariant-loop-t l =
     (length l.rows ≡ l.t)
     × ((exact : NetValue) (vectors : List (List Bool)) → AreOutputsOf exact vectors l.limit.outputs → AreBlocksOf l.net vectors l.blocks
-    → (t : ℕ) → t < l.t → IsRowWhere vectors (IsCaredFor (meaning l.limit.metric) exact l.limit.bound l.net t) (row_at l.rows t))
+    → (t : ℕ) → t < l.t → IsRowWhere vectors (IsCaredFor l.limit.metric exact l.limit.bound l.net t) (row_at l.rows t))

@@ -2,7 +2,6 @@ use Rattle.std.proofs.Common.{◌≡◌, List, Bool, [], length, ap, subst, ◌�
 use Rattle.std.proofs.lemmas.List.{get_or_default, length_push}
 use Rattle.semantics.specs.Net.{NetValue}
 use Rattle.chain_semantics.specs.Care.{Exceeds}
-use Rattle.joint_net.specs.Metric.{meaning}
 use Rattle.adc_core.specs.Masks.{row_at}
 use Rattle.adc_core.specs.Blocks.{IsChunkOf}
 use Rattle.adc_core.proofs.RowBits.{chunk-widths, exceeding_more, row_all}
@@ -26,13 +25,13 @@ loop-k-preserved c =
     subst (λ (l : List (List Bool)). IsChunkOf l c.loop-k.k c.chunk-exact.result.now) c.as_slice.ensures c.chunk-exact.ensures in (
       omega (arith, ap length c.in_ok-push.ensures.items, length_push c.loop-k.row.items c.exceeding_word-word.result, c.loop-k.invariant.0),
       rw c.in_ok-push.ensures.items
-          (exceeding_more (meaning c.args.limit.now.metric) c.args.net.now c.args.limit.now.bound c.args.limit.now.outputs c.args.blocks.now c.exceeding_word-word.ensures.built.sound
+          (exceeding_more c.args.limit.now.metric c.args.net.now c.args.limit.now.bound c.args.limit.now.outputs c.args.blocks.now c.exceeding_word-word.ensures.built.sound
           c.loop-k.row.items c.as_slice-in-loop-k.result.now c.chunk-exact.result.now c.loop-k.k c.exceeding_word-word.result c.loop-k.invariant.0 c.loop-k-test.true words chunk
           c.exceeding_word-word.ensures.word c.loop-k.invariant.1),
     )
 
 pub returns : goal.returns
 returns c =
-    row_all (meaning c.args.limit.now.metric) c.args.net.now c.args.limit.now.bound c.args.limit.now.outputs c.args.blocks.now c.outputs.ensures.built.sound
-    (λ (exact : NetValue). Exceeds (meaning c.args.limit.now.metric) exact c.args.limit.now.bound c.args.net.now) c.loop-k.row.items c.of.result c.loop-k.k c.of.ensures
+    row_all c.args.limit.now.metric c.args.net.now c.args.limit.now.bound c.args.limit.now.outputs c.args.blocks.now c.outputs.ensures.built.sound
+    (λ (exact : NetValue). Exceeds c.args.limit.now.metric exact c.args.limit.now.bound c.args.net.now) c.loop-k.row.items c.of.result c.loop-k.k c.of.ensures
     c.loop-k.invariant.0 c.loop-k-test.false c.loop-k.auto.k-end c.loop-k.invariant.1

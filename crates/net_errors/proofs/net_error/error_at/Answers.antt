@@ -2,7 +2,8 @@ use Rattle.std.proofs.Common.{◌≡◌, ℕ, Bool, List, length, sym, ap, ◌�
 use Rattle.std.proofs.lemmas.List.{length-map}
 use Rattle.semantics.specs.Net.{NetValue, HasSamePorts, input_count, name_of, signal_names}
 use Rattle.semantics.specs.Value.{outputs_of, value_of}
-use Rattle.semantics.specs.Error.{Metric, net_error, error_of}
+use Rattle.semantics.specs.declared.metric.Metric.{Metric}
+use Rattle.semantics.specs.Error.{net_error, error_of}
 use Rattle.net_errors.proofs.net_error.error_at.Goals as goal
 
 length-outputs_of : (N : NetValue) (x : List Bool) → length (outputs_of N x) ≡ length N.outputs
@@ -24,12 +25,12 @@ error_read metric N M N₀ M₀ x right word right₀ word₀ e en em eo eo' er 
 pub error-requires-clause-width : goal.error-requires-clause-width
 error-requires-clause-width c =
     length_read c.args.nets.now.exact _ _ _ _ c.exact.ensures.value c.in_ok-right.ensures c.as_slice.ensures
-    ∙ same_count c.args.nets.now.exact c.args.nets.now.approx c.exact.ensures.comparable.ports
+    ∙ same_count c.args.nets.now.exact c.args.nets.now.approx c.exact.ensures.candidate.ports
     ∙ sym (length_read c.args.nets.now.approx _ _ _ _ c.approx.ensures.value c.in_ok-word.ensures c.as_slice-2.ensures)
 
 pub error-requires-clause-few : goal.error-requires-clause-few
 error-requires-clause-few c =
-    omega (arith, c.exact.ensures.comparable.few_outputs, length_read c.args.nets.now.exact _ _ _ _ c.exact.ensures.value c.in_ok-right.ensures c.as_slice.ensures)
+    omega (arith, c.exact.ensures.candidate.few_outputs, length_read c.args.nets.now.exact _ _ _ _ c.exact.ensures.value c.in_ok-right.ensures c.as_slice.ensures)
 
 pub returns : goal.returns
 returns c =
