@@ -3,7 +3,8 @@ use Rattle.std.specs.List.{AllByRecursion}
 use Rattle.semantics.specs.Net.{NetValue, input_count}
 use Rattle.lane_bits.specs.Rows.{word_count}
 use Rattle.adc_core.specs.Masks.{Masks}
-use Rattle.adc_core.specs.Blocks.{AreBlocksOf, vectors_in}
+use Rattle.lane_nets.specs.Blocks.{AreBlocksOf}
+use Rattle.adc_core.specs.Filled.{vectors_in}
 use Rattle.adc_core.proofs.Filling.{same_inputs, output-widths, vectors_are, filled, masked}
 use Rattle.adc_core.proofs.adc.Adc.new.Goals as goal
 
