@@ -5,7 +5,8 @@ use Rattle.semantics.specs.Net.{NetValue}
 use Rattle.semantics.specs.Value.{outputs_of}
 use Rattle.semantics.specs.Error.{number_of, distance, rounded_up, differing, error_of, net_error, IsWithin}
 use Rattle.semantics.specs.declared.metric.Metric.{Metric}
-use Rattle.semantics.specs.declared.metric.Metric.TheVariants.{Abs, Rel, Ham}
+use Rattle.semantics.specs.declared.metric.Metric.TheVariants.{Abs, Rel, Ham, Sabs}
+use Rattle.semantics.proofs.Signed.{signed_error-naturals}
 
 differing-same : (bits : List Bool) → differing bits bits ≡ 0
 differing-same [] = refl
@@ -18,6 +19,7 @@ error_of-same Rel bits =
     let none : distance (number_of bits) (number_of bits) * 1000000 ≡ 0 = omega arith in
     ap (λ d. rounded_up d k) none ∙ omega (arith, zero-div k, zero-mod k)
 error_of-same Ham bits = differing-same bits
+error_of-same Sabs bits = omega (arith, signed_error-naturals bits bits)
 
 pub IsWithin-same : (metric : Metric) (N : NetValue) (level : ℕ) → IsWithin metric N level N
 unfolding net_error
