@@ -1,23 +1,18 @@
 -- The rows of the patterns that are cared for, bit by bit.
-use Rattle.std.proofs.Common.{◌≡◌, ◌↔◌, ℕ, ◌+◌, ◌*◌, ◌/◌, ◌%◌, ◌^◌, ◌<◌, ◌≤◌, Bool, true, List, [], ◌∷◌, ◌++◌, map, length, get_or, set, slice_index_or, IsTrue, w64, All, ap, sym, subst, ◌∙◌, inl, inr, arith, get_or-set_same, get_or-set_other}
-use Rattle.std.specs.Prelude.{bit_or, ◌==◌}
-use Rattle.std.proofs.lemmas.Nat.Bits.{bit_at_set_same, bit_at_set_other}
-use Rattle.std.proofs.lemmas.Bool.{cases_eq, cases_lt, false_from_ne_true}
-use Rattle.std.proofs.lemmas.List.{get_or_past, get_or_push, get_or_append_left}
+use Rattle.std.proofs.Common.{◌≡◌, ◌↔◌, ℕ, ◌+◌, ◌*◌, ◌<◌, Bool, List, [], ◌∷◌, ◌++◌, map, length, get_or, slice_index_or, IsTrue, sym, subst, ◌∙◌, inl, inr, arith}
+use Rattle.std.proofs.lemmas.Bool.{cases_eq}
+use Rattle.std.proofs.lemmas.List.{get_or_push, get_or_append_left}
 use Rattle.semantics.specs.Net.{NetValue, input_count, IsSound}
-use Rattle.semantics.specs.Value.{value_of, outputs_of}
-use Rattle.semantics.specs.Error.{error_of, net_error}
+use Rattle.semantics.specs.Value.{outputs_of}
+use Rattle.semantics.specs.Error.{error_of}
 use Rattle.semantics.specs.declared.metric.Metric.{Metric}
 use Rattle.chain_semantics.specs.Flips.{flipped_values, flipped_outputs}
-use Rattle.chain_semantics.specs.Care.{IsCaredFor, Exceeds}
+use Rattle.chain_semantics.specs.Care.{IsCaredFor}
 use Rattle.chain_semantics.proofs.MovedFlips.{map-same}
-use Rattle.lane_bits.specs.Rows.{row_bit, word_count}
-use Rattle.lane_bits.specs.Patterns.{pattern_bit}
 use Rattle.lane_nets.specs.Words.{word_bit, values_at, HasValues}
-use Rattle.lane_nets.specs.Blocks.{vector_at, row_at, IsRowWhere, IsBlock, AreBlocksOf, AreOutputsOf, IsWordWhere, IsChunkOf}
+use Rattle.lane_nets.specs.Blocks.{vector_at, row_at, IsBlock, AreBlocksOf, AreOutputsOf, IsWordWhere, IsChunkOf}
 use Rattle.lane_nets.proofs.RowBits.{word_where, words_more}
 use Rattle.adc_core.specs.Flips.{HasFlippedValues}
-use Rattle.std.proofs.lemmas.List.Elements.{All-from_get_or}
 
 pub outputs_from_flipped : (N : NetValue) (t : ℕ) (words : List ℕ) (b : ℕ) (x : List Bool) → IsSound N → HasFlippedValues N t words b x → map (values_at words b) N.outputs ≡ flipped_outputs N x t
 unfolding flipped_outputs

@@ -5,17 +5,16 @@ use Rattle.std.proofs.lemmas.Bool.{cases_eq, cases_lt, and_parts, and_cases, not
 use Rattle.std.proofs.lemmas.List.{take_all, take_more}
 use Rattle.std.proofs.lemmas.List.Elements.{Contains-push_cases}
 use Rattle.semantics.specs.Net.{TableValue, NetValue, table_at, input_count, table_count, signal_count, IsAcyclic}
-use Rattle.semantics.specs.Value.{table_value, value_of}
+use Rattle.semantics.specs.Value.{table_value}
 use Rattle.semantics.specs.Dependence.{DependsOn}
 use Rattle.semantics.specs.Order.{IsKnown, IsNext, IsOrderOf}
 use Rattle.semantics.proofs.Values.{value_law, table_value-same}
 use Rattle.semantics.proofs.Members.{each_member, member_holds}
 use Rattle.semantics.proofs.Depends.{pin_is_signal}
-use Rattle.semantics.proofs.Grounding.{next-value}
 use Rattle.chain_semantics.specs.Flips.{flipped_values, IsFlipped}
 use Rattle.chain_semantics.proofs.Flipped.{flipped-is, flipped-apart}
-use Rattle.net_core.proofs.InOrder.{HoldsBefore, next_at, holds_none, holds_more}
-use Rattle.lane_nets.specs.Words.{word_bit, values_at, HasInputs, HasValues}
+use Rattle.net_core.proofs.InOrder.{next_at}
+use Rattle.lane_nets.specs.Words.{word_bit, values_at, HasValues}
 
 pub found_again : (i t : ℕ) (mark found : Bool) → found ≡ (not (eqb i t) && mark) → found ≡ true → i ≢ t
 found_again i t mark found is holds e =

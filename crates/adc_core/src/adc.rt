@@ -9,20 +9,20 @@ ghost use Rattle.adc_core.specs.Masks.{AreMasksOf, FindsFirstBroken};
 ghost use Rattle.adc_core.specs.Filled.{vectors_in, AreFilled};
 ghost use Rattle.adc_core.specs.Lending.{StayTheSame};
 
-use lane_nets::blocks::blocks;
-use crate::differences::{first_broken, set_differences};
-use lane_nets::outputs::all_outputs;
 use crate::care::care_rows;
-use lane_nets::errors::{Limit, exceeding_row};
-use lane_nets::word_list::WordList;
+use crate::differences::{first_broken, set_differences};
 use chain_semantics::moves::Move;
-use semantics::metric::Metric;
 use lane_bits::kernels::word_count;
 use lane_bits::patterns::Patterns;
+use lane_nets::blocks::blocks;
+use lane_nets::errors::{Limit, exceeding_row};
+use lane_nets::outputs::all_outputs;
+use lane_nets::word_list::WordList;
 use net_core::items::Items;
 use net_core::net::Net;
 use net_moves::apply::table_of;
 use semantics::limits::MOST_OUTPUTS;
+use semantics::metric::Metric;
 use std::alloc::{AllocError, Global};
 use std::marker::Model;
 

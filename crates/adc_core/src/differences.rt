@@ -11,8 +11,8 @@ ghost use Rattle.lane_nets.specs.Blocks.{row_at, IsRowWhere, AreBlocksOf};
 ghost use Rattle.adc_core.specs.Masks.{FindsFirstBroken};
 
 use crate::moved::moved_word;
-use lane_nets::word_list::WordList;
 use chain_semantics::moves::Move;
+use lane_nets::word_list::WordList;
 use net_core::net::Net;
 use net_moves::apply::table_of;
 

@@ -3,7 +3,8 @@ use Rattle.std.proofs.Common.{◌≡◌, ◌⊎◌, ℕ, zero, suc, ◌+◌, ◌
 use Rattle.std.specs.List.{AllByRecursion}
 use Rattle.std.proofs.lemmas.Bool.{cases_lt}
 use Rattle.semantics.specs.Net.{NetValue, input_count, literal_count, IsSound}
-use Rattle.semantics.specs.Error.{Metric, net_error, IsWithin}
+use Rattle.semantics.specs.Error.{net_error, IsWithin}
+use Rattle.semantics.specs.declared.metric.Metric.{Metric}
 use Rattle.semantics.specs.Vectors.{bits_of}
 use Rattle.semantics.proofs.Vectors.{length-bits_of, each_vector}
 use Rattle.chain_semantics.specs.Chain.{IsFirstAllowed, IsInChain, step_count}

@@ -5,7 +5,8 @@ use Rattle.lane_bits.specs.Rows.{word_count}
 use Rattle.adc_core.specs.Masks.{Masks}
 use Rattle.lane_nets.specs.Blocks.{AreBlocksOf}
 use Rattle.adc_core.specs.Filled.{vectors_in}
-use Rattle.adc_core.proofs.Filling.{same_inputs, output-widths, vectors_are, filled, masked}
+use Rattle.lane_nets.proofs.FirstOver.{same_inputs, output-widths}
+use Rattle.adc_core.proofs.Filling.{vectors_are, filled, masked}
 use Rattle.adc_core.proofs.adc.Adc.new.Goals as goal
 
 pub exceeding_row-requires-clause-widths : goal.exceeding_row-requires-clause-widths
