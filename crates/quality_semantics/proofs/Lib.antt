@@ -5,6 +5,7 @@ pub mod Numbers
 pub mod Counts
 pub mod Rounding
 pub mod Formed
+pub mod Signed
 pub mod Quality
 pub mod Sound
 pub mod Multiply
