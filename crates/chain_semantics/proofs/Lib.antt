@@ -14,6 +14,8 @@ pub mod TidyUnread
 pub mod TidySteps
 pub mod TidyReached
 pub mod TidyNets
+pub mod TidyConditions
+pub mod TidyChoices
 pub mod Flipped
 pub mod MoveDependence
 pub mod MoveLists

@@ -3,6 +3,7 @@ pub mod TidyRules
 pub mod Tidy
 pub mod TidyLevels
 pub mod TidyLaws
+pub mod TidyChoices
 pub mod TidyExamples
 pub mod Moves
 pub mod Flips
