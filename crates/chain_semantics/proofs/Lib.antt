@@ -21,5 +21,6 @@ pub mod MoveDependence
 pub mod MoveLists
 pub mod MoveMembers
 pub mod MovedNets
+pub mod MovedValues
 pub mod MovedFlips
 pub mod Simplifications

@@ -10,6 +10,7 @@ pub mod Flips
 pub mod Care
 pub mod Minimality
 pub mod MoveLaws
+pub mod MoveValues
 pub mod MoveExamples
 pub mod Simplification
 pub mod SimplificationLaws
