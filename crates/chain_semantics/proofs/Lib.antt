@@ -20,6 +20,8 @@ pub mod Flipped
 pub mod MoveDependence
 pub mod MoveLists
 pub mod MoveMembers
+pub mod OrderedLists
+pub mod MoveOrder
 pub mod MovedNets
 pub mod MovedValues
 pub mod MovedFlips

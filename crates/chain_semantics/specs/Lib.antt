@@ -11,6 +11,7 @@ pub mod Care
 pub mod Minimality
 pub mod MoveLaws
 pub mod MoveValues
+pub mod MoveOrder
 pub mod MoveExamples
 pub mod Simplification
 pub mod SimplificationLaws

@@ -1,5 +1,6 @@
 //! The laws about moves, flips and cared-for inputs: each function's contract is a law.
 ghost use Rattle.chain_semantics.specs.MoveLaws.{MoveLaw, FlipLaw, FlippedMoveLaw};
+ghost use Rattle.chain_semantics.specs.MoveOrder.{MoveOrderLaw};
 ghost use Rattle.chain_semantics.specs.MoveValues.{MovedValueLaw};
 
 /// Which moves a net has, and what each keeps and lowers.
@@ -20,4 +21,9 @@ pub fn flipped_moves()
 /// What a move makes of its table, and the value of the moved table by kind.
 pub fn moved_values()
     ensures { MovedValueLaw }
+{}
+
+/// The order of the moves of a net, which with their conditions makes one list.
+pub fn order()
+    ensures { MoveOrderLaw }
 {}
