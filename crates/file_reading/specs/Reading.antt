@@ -1,5 +1,5 @@
 -- What the reading of a file comes to: from its first byte on, to its end or as far as it is wanted.
-use Rattle.std.specs.Prelude.{◌≡◌, ◌⊎◌, ℕ, ◌^◌, ◌<◌, ◌≤◌, Bool, false, IsTrue, [], length, take, Some}
+use Rattle.std.specs.Prelude.{◌≡◌, ◌⊎◌, ℕ, ◌+◌, ◌<◌, ◌≤◌, Bool, false, IsTrue, [], length, take, Some}
 use Rattle.std.specs.FinMap.{contains_key}
 use Rattle.semantics.specs.Texts.{Bytes}
 use Rattle.outside_semantics.specs.Outside.{Held, FilesTold, Goes, Rose, WhereTold, KeepsAtRead, IsReadOut, bytes_of, turns_on, turn_budget}
@@ -9,9 +9,11 @@ pub record HasRead (told : FilesTold) (held : Held) (name text : Bytes) : Type 0
   pub place : told.reading ≡ Some (record { name = name; at = length text })
   pub front : text ≡ take (length text) (bytes_of held name)
 
--- turns of reading, from the moment at which the file was opened
-pub record SoFar (opened now : FilesTold) (text : Bytes) : Type 0 where
+-- so many turns of reading, from the moment at which the file was opened
+pub record SoFar (opened now : FilesTold) (text : Bytes) (turns : ℕ) : Type 0 where
   pub keeps : KeepsAtRead opened now
+  pub taken : turns ≤ length text
+  pub counted : (name : Bytes) → opened.opened ≡ Some name → turns_on opened name + turns ≤ turns_on now name
   pub reads : (held : Held) (name : Bytes) → opened.held ≡ Some held → HasRead opened held name [] → HasRead now held name text
 
 -- the file has no more bytes
