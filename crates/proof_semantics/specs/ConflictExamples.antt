@@ -5,7 +5,8 @@ use Rattle.proof_semantics.specs.Clauses.{Clause}
 use Rattle.proof_semantics.specs.Formula.{Formula}
 use Rattle.proof_semantics.specs.Logs.{LogItem, IsDerivation}
 use Rattle.proof_semantics.specs.Conflicts.{IsConflictChain, IsEnough}
-use Rattle.proof_semantics.specs.Examples.{minus, step}
+use Rattle.semantics.specs.Examples.{minus}
+use Rattle.proof_semantics.specs.Examples.{step}
 
 -- the clauses 1 2, 1 -2, -1 2 and -1 -2, which have the ids 1 to 4, with a third variable that no clause has
 abbrev pub four_clauses : Formula

@@ -31,7 +31,7 @@ pub record VectorLaw : Type 0 where
   pub place : (n : ℕ) (x : List Bool) → length x ≡ n → number_of x < 2 ^ n
   pub each : (n : ℕ) (x : List Bool) → length x ≡ n → slice_get (all_vectors n) (number_of x) ≡ Some x
 
--- The least number of so many bits in two's complement is that of a 1 behind zeros, and the greatest that of a 0 behind ones.
+-- words of zeros and of ones
 abbrev pub zeros : ℕ → List Bool
 zeros width = replicate width false
 
@@ -60,7 +60,7 @@ pub record SignedLaw : Type 0 where
   pub flipped_error : (e a : List Bool) → length e ≡ length a → error_of Sabs e a ≡ error_of Abs (sign_flipped e) (sign_flipped a)
   pub naturals : (e a : List Bool) → error_of Sabs e a ≡ distance (number_of e + sign_weight a) (number_of a + sign_weight e)
 
--- a number is written as one decimal word, and no other decimal word reads as that number
+-- a number of at most 64 digits is written as one decimal word, and no other decimal word reads as that number
 pub record NumeralLaw : Type 0 where
   pub decimal_word : (n : ℕ) → n < 10 ^ 64 → is_decimal (decimal n) ≡ true
   pub number : (n : ℕ) → n < 10 ^ 64 → digits_number (decimal n) ≡ n
@@ -85,7 +85,7 @@ pub record ReplacedLaw : Type 0 where
   pub new : (n : ℕ) (tables : List TableValue) (t : ℕ) (new : TableValue) (x : List Bool) → IsAcyclic n tables → IsAcyclic n (replaced tables t new)
       → t < length tables → value_of n (replaced tables t new) x (n + t) ≡ table_value new (value_of n tables x)
 
--- no table depends on itself, and replacing a table changes nothing of what depends on it
+-- no pin of a table depends on that table, and what depends on a table depends on whatever stands in its place
 pub record DependenceLaw : Type 0 where
   pub no_cycle : (n : ℕ) (tables : List TableValue) (t : ℕ) → IsAcyclic n tables → t < length tables
       → (p : ℕ) → Contains (table_at tables t).pins p → ¬ DependsOn n tables t p
