@@ -1,7 +1,7 @@
 -- A backslash at the end of a line joins the next one to it.
-use Rattle.std.proofs.Common.{◌≡◌, ◌≢◌, ◌⊎◌, ℕ, ◌+◌, ◌-◌, ◌<◌, ◌≤◌, Bool, true, false, ◌==◌, cond, List, [], ◌∷◌, ◌++◌, map, length, take, get_or, All, Option, Some, None, refl, ap, sym, subst, ◌∙◌, inl, inr, append_assoc, append-nil, arith}
-use Rattle.std.specs.List.{slice_split, onto_first, suffix_len, prefix_len}
-use Rattle.std.proofs.lemmas.Bool.{cases_Bool, eqb-true, ne_eqb, false≢true}
+use Rattle.std.proofs.Common.{◌≡◌, ◌≢◌, ◌⊎◌, ℕ, ◌+◌, ◌-◌, ◌<◌, Bool, true, false, ◌==◌, cond, List, [], ◌∷◌, ◌++◌, length, take, get_or, All, Option, Some, None, refl, ap, sym, ◌∙◌, inl, inr, append_assoc, append-nil, arith}
+use Rattle.std.specs.List.{onto_first, suffix_len, prefix_len}
+use Rattle.std.proofs.lemmas.Bool.{cases_Bool, ne_eqb, false≢true}
 use Rattle.std.proofs.lemmas.List.{length_push, take-append-le, take_at, take_all, reverse-append, get_or_at}
 use Rattle.std.proofs.lemmas.List.Elements.{All-nil, All-cons, All-head, All-tail, All-append, All-weaker}
 use Rattle.std.proofs.lemmas.List.Splits.{slice_split_at, length-slice_split}

@@ -1,5 +1,5 @@
 -- How lines come together: lines that a backslash joins, lists of names in several lines, and the rows of a table.
-use Rattle.std.specs.Prelude.{◌≡◌, ◌≢◌, ◌⊎◌, true, List, [], ◌∷◌, ◌++◌, map, length, reverse, codes, Option, Some, None, All}
+use Rattle.std.specs.Prelude.{◌≡◌, ◌≢◌, ◌⊎◌, true, List, [], ◌∷◌, ◌++◌, map, length, reverse, codes, Some, None, All}
 use Rattle.std.specs.List.{AllByRecursion}
 use Rattle.semantics.specs.Texts.{Bytes, Line}
 use Rattle.blif_semantics.specs.declared.kind.Kind.TheVariants as kind
