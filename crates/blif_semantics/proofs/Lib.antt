@@ -19,3 +19,4 @@ pub mod Rows
 pub mod RefusalOrder
 pub mod ListLines
 pub mod RowTables
+pub mod JoinedLines

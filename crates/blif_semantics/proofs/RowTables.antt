@@ -1,5 +1,5 @@
 -- Each row belongs to the table of the nearest line before it that is no row.
-use Rattle.std.proofs.Common.{◌≡◌, ◌≢◌, ℕ, ◌+◌, ◌-◌, ◌≤◌, Bool, true, false, List, [], ◌∷◌, ◌++◌, map, length, take, reverse, Option, Some, None, refl, ap, sym, subst, ◌∙◌, append_assoc, append-nil, arith}
+use Rattle.std.proofs.Common.{◌≡◌, ℕ, ◌-◌, Bool, true, List, [], ◌∷◌, ◌++◌, map, length, reverse, Option, Some, None, refl, ap, sym, subst, ◌∙◌, append_assoc, append-nil, arith}
 use Rattle.std.specs.List.{AllByRecursion}
 use Rattle.std.proofs.lemmas.List.{map-append, reverse-append, reverse-reverse, length-take}
 use Rattle.std.proofs.lemmas.Option.{none-some, same_Some}
@@ -8,10 +8,10 @@ use Rattle.semantics.specs.Texts.{Bytes, Line}
 use Rattle.blif_semantics.specs.declared.kind.Kind.{Kind}
 use Rattle.blif_semantics.specs.declared.kind.Kind.TheVariants as kind
 use Rattle.blif_semantics.specs.Lines.{Statement}
-use Rattle.blif_semantics.specs.Statements.{kind_of, arguments, OpenTable, row_plane, table_before, with_plane, table_by, place_after, agrees, stray_row, wrong_row, wrong_by, first_wrong}
+use Rattle.blif_semantics.specs.Statements.{kind_of, arguments, OpenTable, row_plane, table_before, table_by, place_after, agrees, stray_row, wrong_row, wrong_by, first_wrong}
 use Rattle.blif_semantics.specs.Tables.{NamedTable, last_word, is_one, marks_of, named, with_row, with_rows, if_row, rows_first, table_first, tables_of}
 use Rattle.blif_semantics.specs.LineLaws.{opened, IsRowOfTable}
-use Rattle.blif_semantics.proofs.RightLines.{open_table, AllRight, all_right, right_by}
+use Rattle.blif_semantics.proofs.RightLines.{AllRight, all_right, right_by}
 use Rattle.blif_semantics.proofs.Rows.{row_right}
 use Rattle.blif_semantics.proofs.Planes.{row_plane-last, beq_true}
 

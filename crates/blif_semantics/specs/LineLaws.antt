@@ -1,12 +1,26 @@
--- How lines of words come together: lists of names in several lines, and the rows of a table.
-use Rattle.std.specs.Prelude.{◌≡◌, ◌≢◌, List, [], ◌∷◌, ◌++◌, map, length, reverse, codes, Option, Some, None}
+-- How lines come together: lines that a backslash joins, lists of names in several lines, and the rows of a table.
+use Rattle.std.specs.Prelude.{◌≡◌, ◌≢◌, ◌⊎◌, true, List, [], ◌∷◌, ◌++◌, map, length, reverse, codes, Some, None, All}
 use Rattle.std.specs.List.{AllByRecursion}
 use Rattle.semantics.specs.Texts.{Bytes, Line}
 use Rattle.blif_semantics.specs.declared.kind.Kind.TheVariants as kind
-use Rattle.blif_semantics.specs.Lines.{Statement}
+use Rattle.blif_semantics.specs.Lines.{is_blank, before_backslash, LogicalLine, logical_lines, Statement}
 use Rattle.blif_semantics.specs.Statements.{kind_of, arguments, OpenTable, table_before, first_wrong}
 use Rattle.blif_semantics.specs.Tables.{NamedTable, named, with_rows, rows_first, tables_of}
 use Rattle.blif_semantics.specs.Reading.{named_net}
+
+-- nothing, or lines each of which has its LF
+abbrev pub AreWholeLines : Bytes → Type 0
+AreWholeLines text = (text ≡ []) ⊎ ((lines : Bytes) × (text ≡ lines ++ 10 ∷ []))
+
+abbrev pub texts_of : List LogicalLine → List Bytes
+texts_of lines = map (λ l. l.bytes) lines
+
+-- A backslash behind a line, with the blanks behind it and the LF, means nothing: what follows goes on where the line stood, in the midst of a word if
+-- need be. So it is where the line has no comment and no backslash of its own at its end.
+abbrev pub JoinLaw : Type 0
+JoinLaw = (before line blanks after : Bytes) → AreWholeLines before → All (λ b. (b ≢ 10) × (b ≢ 35)) line → before_backslash line ≡ None
+    → All (λ b. is_blank b ≡ true) blanks
+    → texts_of (logical_lines (before ++ (line ++ 92 ∷ (blanks ++ 10 ∷ after)))) ≡ texts_of (logical_lines (before ++ (line ++ after)))
 
 -- the inputs are the names of all `.inputs` lines in order, and the outputs those of all `.outputs` lines
 pub record ListLaw : Type 0 where

@@ -1,5 +1,5 @@
 //! The laws about what a text means: each function's contract is a law.
-ghost use Rattle.blif_semantics.specs.LineLaws.{ListLaw, RowLaw};
+ghost use Rattle.blif_semantics.specs.LineLaws.{JoinLaw, ListLaw, RowLaw};
 ghost use Rattle.blif_semantics.specs.RefusalOrder.{RefusalOrderLaw};
 ghost use Rattle.blif_semantics.specs.Laws.{TextLaw, FirstRefusalLaw, PlaneLaw, NamedNetLaw, ReadingLaw, WrittenLaw};
 
@@ -16,6 +16,11 @@ pub fn first_refusals()
 /// Which refusal is told, where several hold, and what is read.
 pub fn refusal_order()
     ensures { RefusalOrderLaw }
+{}
+
+/// Lines that a backslash joins.
+pub fn joined_lines()
+    ensures { JoinLaw }
 {}
 
 /// Lists of names in several lines.

@@ -1,12 +1,11 @@
 -- Each member of a chain of simplifications is an end or has a next one, and so the chain ends.
-use Rattle.std.proofs.Common.{◌≡◌, ◌⊎◌, ℕ, zero, suc, ◌+◌, ◌-◌, ◌^◌, ◌<◌, ◌≤◌, Bool, List, [], ◌∷◌, ◌++◌, length, refl, ap, subst, inl, inr, arith}
+use Rattle.std.proofs.Common.{◌≡◌, ◌⊎◌, ℕ, zero, suc, ◌+◌, ◌^◌, ◌<◌, ◌≤◌, Bool, List, [], ◌∷◌, refl, ap, subst, inl, inr, arith}
 use Rattle.std.specs.List.{AllByRecursion}
 use Rattle.std.proofs.lemmas.Bool.{cases_lt}
 use Rattle.semantics.specs.Net.{NetValue, input_count, literal_count, IsSound}
 use Rattle.semantics.specs.Error.{Metric, net_error, IsWithin}
 use Rattle.semantics.specs.Vectors.{bits_of}
 use Rattle.semantics.proofs.Vectors.{length-bits_of, each_vector}
-use Rattle.chain_semantics.specs.declared.moves.Move.{Move}
 use Rattle.chain_semantics.specs.Chain.{IsFirstAllowed, IsInChain, step_count}
 use Rattle.chain_semantics.specs.Chain.IsInChain.{first, next}
 use Rattle.chain_semantics.specs.Moves.{moves_of, moved}
@@ -89,6 +88,8 @@ module _ (metric : Metric) (exact : NetValue) (bound : ℕ) (sound : IsSound exa
 
   pub steps : (N : NetValue) (h : IsInSimplification metric exact bound N) → step_count N h.member + literal_count N ≤ literal_count exact
   steps N h =
-      omega (arith,
-      steps_from h.start N h.member (λ s member. record { start = h.start; tidied = h.tidied; member = member }),
-      (reached-no_growth exact h.start sound h.tidied.reached).literals)
+      omega (
+        arith,
+        steps_from h.start N h.member (λ s member. record { start = h.start; tidied = h.tidied; member = member }),
+        (reached-no_growth exact h.start sound h.tidied.reached).literals,
+      )

@@ -1,6 +1,6 @@
 -- Where each of the six rules of tidying applies, in the subject's words, and which rule is chosen: at the first table at which one applies,
 -- the rule with the least number, and of that rule the least pin. Source: this tool's own.
-use Rattle.std.specs.Prelude.{◌≡◌, ◌≢◌, ◌⊎◌, ◌↔◌, ℕ, ◌+◌, ◌-◌, ◌<◌, ◌≤◌, Bool, true, List, [], ◌∷◌, length, Some, All, Any, AllPairs, Contains}
+use Rattle.std.specs.Prelude.{◌≡◌, ◌≢◌, ◌⊎◌, ◌↔◌, ℕ, ◌+◌, ◌-◌, ◌<◌, ◌≤◌, Bool, true, [], ◌∷◌, length, Some, All, Any, AllPairs, Contains}
 use Rattle.semantics.specs.declared.mark.Mark.{Mark}
 use Rattle.semantics.specs.declared.mark.Mark.TheVariants.{Dash}
 use Rattle.semantics.specs.Net.{TableValue, NetValue, table_at, input_count, table_count, is_literal, row_literals, constant_table, IsSound}
