@@ -4,8 +4,8 @@ use Rattle.std.specs.List.{Contains}
 use Rattle.proof_semantics.specs.Clauses.{Clause}
 use Rattle.cdcl_core.specs.Settled.{IsOpen, IsFalse, IsSettledAt}
 use Rattle.cdcl_core.specs.Explained.{Holds}
-use Rattle.cdcl_core.specs.declared.status.Status.{Status}
-use Rattle.cdcl_core.specs.declared.status.Status.TheVariants.{Settled, OneOpen, AllFalse}
+use Rattle.cdcl_core.specs.declared.clause_state.ClauseState.{ClauseState}
+use Rattle.cdcl_core.specs.declared.clause_state.ClauseState.TheVariants.{Settled, OneOpen, AllFalse}
 
 -- l is the one literal that is not false, and it is open
 pub record HasOneOpen (T : ℤ → Type 0) (C : Clause) (l : ℤ) : Type 0 where
@@ -13,10 +13,10 @@ pub record HasOneOpen (T : ℤ → Type 0) (C : Clause) (l : ℤ) : Type 0 where
   pub open_literal : IsOpen T l
   pub others : All (λ a. (a ≡ l) ⊎ T (neg_ℤ a)) C
 
-abbrev pub IsStatus : List ℤ → Clause → Status → Type 0
-IsStatus trail C Settled = IsSettledAt (Holds trail) C
-IsStatus trail C (OneOpen l) = HasOneOpen (Holds trail) C l
-IsStatus trail C AllFalse = IsFalse (Holds trail) C
+abbrev pub IsStateOf : List ℤ → Clause → ClauseState → Type 0
+IsStateOf trail C Settled = IsSettledAt (Holds trail) C
+IsStateOf trail C (OneOpen l) = HasOneOpen (Holds trail) C l
+IsStateOf trail C AllFalse = IsFalse (Holds trail) C
 
 -- the same of the literals so far
 abbrev pub IsSoFar : (ℤ → Type 0) → Clause → Option ℤ → Type 0

@@ -1,8 +1,8 @@
 use Rattle.std.proofs.Common.{ℤ, subst}
 use Rattle.cdcl_core.specs.Explained.{Holds}
-use Rattle.cdcl_core.specs.Status.{IsSoFar}
-use Rattle.cdcl_core.proofs.StatusSteps.{after_open, after_other, open_from, differ_from}
-use Rattle.cdcl_core.proofs.status.with_literal.Goals as goal
+use Rattle.cdcl_core.specs.ClauseState.{IsSoFar}
+use Rattle.cdcl_core.proofs.StateSteps.{after_open, after_other, open_from, differ_from}
+use Rattle.cdcl_core.proofs.clause_state.with_literal.Goals as goal
 
 pub returns-in-None : goal.returns-in-None
 returns-in-None c before h =

@@ -5,7 +5,7 @@ use Rattle.std.proofs.lemmas.List.{take-append-drop, take_more, take_all}
 use Rattle.std.proofs.lemmas.List.Elements.{All-weaker, All-push, Contains-append_left, Contains-push}
 use Rattle.proof_semantics.specs.Clauses.{Clause}
 use Rattle.cdcl_core.specs.Settled.{IsOpen, IsSettledAt}
-use Rattle.cdcl_core.specs.Status.{IsSoFar, IsAfter}
+use Rattle.cdcl_core.specs.ClauseState.{IsSoFar, IsAfter}
 
 pub after_true : (T : ℤ → Type 0) (C : Clause) (x : ℤ) → T x → IsSettledAt T (C ++ x ∷ [])
 after_true T C x h = inl (record { literal = x; inside = Contains-push C x; holds = h })
@@ -69,19 +69,19 @@ pub differ_from : (a b : ℤ) (t : Bool) → (IsTrue t ↔ (a ≡ b)) → t ≡ 
 differ_from a b t says e same = let h : t ≡ true = says.1 same in cc
 
 -- a step of the loop over a clause
-pub status_settled : (T : ℤ → Type 0) (C : Clause) (i : ℕ) (x : ℤ) (o : Option ℤ) (r : Option (Option ℤ)) → i < length C → x ≡ get_or C i x
+pub state_settled : (T : ℤ → Type 0) (C : Clause) (i : ℕ) (x : ℤ) (o : Option ℤ) (r : Option (Option ℤ)) → i < length C → x ≡ get_or C i x
     → ((before : List ℤ) → IsSoFar T before o → IsAfter T (before ++ x ∷ []) r) → IsSoFar T (take i C) o → r ≡ None → IsSettledAt T C
-status_settled T C i x o r within is step h e =
+state_settled T C i x o r within is step h e =
     let more : take (i + 1) C ≡ take i C ++ x ∷ [] = take_more C i x within ∙ ap (λ y. take i C ++ y ∷ []) (sym is) in
     let settled : IsAfter T (take i C ++ x ∷ []) None = subst (IsAfter T (take i C ++ x ∷ [])) e (step (take i C) h) in
     settled-take T C (i + 1) (rw more settled)
 
-pub status_next : (T : ℤ → Type 0) (C : Clause) (i : ℕ) (x : ℤ) (o n : Option ℤ) (r : Option (Option ℤ)) → i < length C → x ≡ get_or C i x
+pub state_next : (T : ℤ → Type 0) (C : Clause) (i : ℕ) (x : ℤ) (o n : Option ℤ) (r : Option (Option ℤ)) → i < length C → x ≡ get_or C i x
     → ((before : List ℤ) → IsSoFar T before o → IsAfter T (before ++ x ∷ []) r) → IsSoFar T (take i C) o → r ≡ Some n → IsSoFar T (take (i + 1) C) n
-status_next T C i x o n r within is step h e =
+state_next T C i x o n r within is step h e =
     let more : take (i + 1) C ≡ take i C ++ x ∷ [] = take_more C i x within ∙ ap (λ y. take i C ++ y ∷ []) (sym is) in
     let next : IsAfter T (take i C ++ x ∷ []) (Some n) = subst (IsAfter T (take i C ++ x ∷ [])) e (step (take i C) h) in
     rw more next
 
-pub status_done : (T : ℤ → Type 0) (C : Clause) (i : ℕ) (o p : Option ℤ) → length C ≤ i → IsSoFar T (take i C) o → o ≡ p → IsSoFar T C p
-status_done T C i o p past h e = subst (IsSoFar T C) e (subst (λ D. IsSoFar T D o) (take_all i C past) h)
+pub state_done : (T : ℤ → Type 0) (C : Clause) (i : ℕ) (o p : Option ℤ) → length C ≤ i → IsSoFar T (take i C) o → o ≡ p → IsSoFar T C p
+state_done T C i o p past h e = subst (IsSoFar T C) e (subst (λ D. IsSoFar T D o) (take_all i C past) h)

@@ -2,20 +2,20 @@
 ghost use Rattle.std.specs.Prelude.{◌≡◌, ◌<◌, ◌^◌, [], ◌∷◌, ◌++◌, List, ℤ, length, All};
 ghost use Rattle.proof_semantics.specs.Clauses.{IsLiteralOf};
 ghost use Rattle.cdcl_core.specs.Explained.{Holds};
-ghost use Rattle.cdcl_core.specs.Status.{IsStatus, IsSoFar, IsAfter};
+ghost use Rattle.cdcl_core.specs.ClauseState.{IsStateOf, IsSoFar, IsAfter};
 
 use crate::literal::Literal;
 use crate::trail::Trail;
 
 #[derive(Drop)]
-pub enum Status {
+pub enum ClauseState {
     Settled,
     OneOpen(Literal),
     AllFalse,
 }
 
 /// The single literal so far after one literal more, or None where the clause is settled.
-#[tactic(auto, using(crate::proofs::StatusSteps::after_true, crate::proofs::StatusSteps::after_false, crate::proofs::StatusSteps::after_open, crate::proofs::StatusSteps::after_same, crate::proofs::StatusSteps::after_other))]
+#[tactic(auto, using(crate::proofs::StateSteps::after_true, crate::proofs::StateSteps::after_false, crate::proofs::StateSteps::after_open, crate::proofs::StateSteps::after_same, crate::proofs::StateSteps::after_other))]
 fn with_literal(trail: &Trail, single: Option<Literal>, literal: Literal) -> Option<Option<Literal>>
     requires { IsLiteralOf trail.now.variables literal }
     ensures { (before : List ℤ) → IsSoFar (Holds trail.now.literals) before single
@@ -39,15 +39,15 @@ fn with_literal(trail: &Trail, single: Option<Literal>, literal: Literal) -> Opt
     }
 }
 
-pub fn status_of(trail: &Trail, clause: &[Literal]) -> Status
+pub fn state_of(trail: &Trail, clause: &[Literal]) -> ClauseState
     requires { All (IsLiteralOf trail.now.variables) clause.now }
-    ensures { IsStatus trail.now.literals clause.now result }
+    ensures { IsStateOf trail.now.literals clause.now result }
 {
     let mut single: Option<Literal> = None;
     for literal in clause {
         match with_literal(trail, single, *literal) {
             None => {
-                return Status::Settled;
+                return ClauseState::Settled;
             }
             Some(next) => {
                 single = next;
@@ -55,7 +55,7 @@ pub fn status_of(trail: &Trail, clause: &[Literal]) -> Status
         }
     }
     match single {
-        None => Status::AllFalse,
-        Some(literal) => Status::OneOpen(literal),
+        None => ClauseState::AllFalse,
+        Some(literal) => ClauseState::OneOpen(literal),
     }
 }
