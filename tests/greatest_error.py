@@ -110,7 +110,7 @@ def self_test():
     wrong = [it for it in wanted if error(it[0], it[1], it[2]) != it[3]]
     adder = ".inputs a b\n.outputs s c\n.names a b s\n10 1\n01 1\n.names a b c\n11 1\n.end\n"
     copied = ".inputs a b\n.outputs s \\\nc\n.names s\n.names b c\n0 0\n"
-    wrong += [it for it in [("abs", 1), ("ham", 1), ("sabs", 3)] if greatest(it[0], adder, copied) != it[1]]
+    wrong += [it for it in [("abs", 1), ("ham", 2), ("sabs", 3)] if greatest(it[0], adder, copied) != it[1]]
     print("%d judged wrong" % len(wrong), *wrong)
     return 1 if wrong else 0
 
