@@ -9,7 +9,8 @@ use Rattle.semantics.specs.Embedding.{IsEmbedded}
 use Rattle.semantics.specs.Order.{IsKnown, IsNext, IsOrderAfter, IsOrderOf}
 use Rattle.semantics.specs.Copies.{IsCopiedBehind}
 use Rattle.semantics.specs.Renamed.{renamed, redirect, raised, without}
-use Rattle.semantics.specs.Refusals.{first_doubled, first_undriven, first_ungrounded, IsFirstUngrounded, first_limit, net_refusal}
+use Rattle.semantics.specs.Refusals.{first_doubled, first_undriven, first_ungrounded, IsFirstUngrounded, first_limit, NetRefused, net_refusal}
+use Rattle.semantics.specs.RefusalOrder.{IsTold}
 use Rattle.semantics.specs.Value.{Assignment, table_value, value_of, HasOneValue}
 use Rattle.semantics.specs.declared.metric.Metric.{Metric}
 use Rattle.semantics.specs.declared.metric.Metric.TheVariants.{Abs, Rel, Ham, Sabs}
@@ -149,7 +150,8 @@ pub record WithoutLaw : Type 0 where
       → ((i : ℕ) → i < length tables → ¬ Contains (table_at tables i).pins (n + t))
       → (x : List Bool) (s : ℕ) → s + 1 < n + length tables → value_of n tables x (raised (n + t) s) ≡ value_of n (without n tables t) x s
 
--- each refusal is absent exactly where what it refuses is, and all of them exactly where well-formed parts are a small sound net
+-- Each refusal is absent exactly where what it refuses is, and all of them exactly where well-formed parts are a small sound net. The one
+-- that is told holds, and none that stands before it.
 pub record RefusalLaw : Type 0 where
   pub undoubled : (names : List Bytes) → (first_doubled names ≡ None) ↔ AllPairs ◌≢◌ names
   pub driven : (N : NetValue)
@@ -157,4 +159,5 @@ pub record RefusalLaw : Type 0 where
   pub grounded : (n : ℕ) (tables : List TableValue) → (first_ungrounded n tables ≡ None) ↔ IsAcyclic n tables
   pub ungrounded : (n : ℕ) (tables : List TableValue) (i : ℕ) → (first_ungrounded n tables ≡ Some i) ↔ IsFirstUngrounded n tables i
   pub small : (N : NetValue) → (first_limit N ≡ None) ↔ IsSmall N
+  pub told : (N : NetValue) (r : NetRefused) → net_refusal N ≡ Some r → IsTold N r
   pub whole : (N : NetValue) → IsName N.model → All IsName N.inputs → All IsTable N.tables → (net_refusal N ≡ None) ↔ (IsSound N × IsSmall N)
