@@ -6,14 +6,15 @@ use Rattle.std.proofs.lemmas.List.FromFn.{length-map-range_with_len, get_or-map-
 use Rattle.std.proofs.lemmas.List.Elements.{All-from_recursion, All-from_get_or}
 use Rattle.semantics.specs.Net.{NetValue, input_count, table_count, signal_names, name_of, IsAcyclic, IsSound, HasSamePorts}
 use Rattle.semantics.specs.Value.{value_of, outputs_of}
-use Rattle.semantics.specs.Error.{Metric}
+use Rattle.semantics.specs.declared.metric.Metric.{Metric}
 use Rattle.semantics.proofs.Values.{value_law}
 use Rattle.chain_semantics.specs.Care.{IsCaredFor, Exceeds}
 use Rattle.lane_bits.specs.Rows.{word_count}
-use Rattle.adc_core.specs.Words.{values_at}
-use Rattle.adc_core.specs.Masks.{vector_at, row_at, IsRowWhere, AreMasksOf}
-use Rattle.adc_core.specs.Blocks.{IsBlock, AreBlocksOf, AreOutputsOf, vectors_in, IsRowFor, AreFilled}
-use Rattle.adc_core.proofs.RowBits.{place_of}
+use Rattle.lane_nets.specs.Words.{values_at}
+use Rattle.lane_nets.specs.Blocks.{vector_at, row_at, IsRowWhere, IsBlock, AreBlocksOf, AreOutputsOf}
+use Rattle.adc_core.specs.Masks.{AreMasksOf}
+use Rattle.adc_core.specs.Filled.{vectors_in, IsRowFor, AreFilled}
+use Rattle.lane_nets.proofs.RowBits.{place_of}
 
 -- nets with the same ports have as many inputs and outputs
 pub same_inputs : (E N : NetValue) → HasSamePorts E N → input_count N ≡ input_count E
