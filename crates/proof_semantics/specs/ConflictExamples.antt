@@ -39,6 +39,7 @@ pub record ConflictExamples : Type 0 where
 
 pub record EnoughExamples : Type 0 where
   pub few_inputs : IsEnough 1 8
+  pub nine_inputs : IsEnough 1024 9 × ¬ IsEnough 1023 9
   pub ten_inputs : IsEnough 2048 10 × ¬ IsEnough 2047 10
   pub fifteen_inputs : IsEnough 65536 15 × ¬ IsEnough 65535 15
   pub many_inputs : ¬ IsEnough (2 ^ 63) 16
