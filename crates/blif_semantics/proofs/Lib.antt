@@ -16,3 +16,7 @@ pub mod Numbered
 pub mod FirstRefusals
 pub mod Planes
 pub mod Rows
+pub mod RefusalOrder
+pub mod ListLines
+pub mod RowTables
+pub mod JoinedLines

@@ -9,3 +9,5 @@ pub mod CertificateTexts
 pub mod DemoTables
 pub mod DemoSum
 pub mod DemoSound
+pub mod FileWords
+pub mod CheckedFiles

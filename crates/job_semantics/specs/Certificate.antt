@@ -2,6 +2,7 @@
 -- exceeds the maximum is shown by a refuted miter, as in equivalence checking by SAT.
 use Rattle.std.specs.Prelude.{◌≡◌, ℕ, ◌^◌, ◌<◌, ◌≤◌, Bool, IsTrue, nat_le, List, [], ◌∷◌, ◌++◌, length, filter, Contains, Ok}
 use Rattle.std.specs.List.{AllByRecursion}
+use Rattle.std.specs.FinMap.{contains_key}
 use Rattle.semantics.specs.Texts.{Bytes}
 use Rattle.semantics.specs.Net.{NetValue, input_count, table_count, literal_count, HasSamePorts}
 use Rattle.semantics.specs.Error.{Metric, net_error}
@@ -143,3 +144,8 @@ needed_endings c = filter (λ ending. nat_le (clause_number (first_needing endin
 -- the file is needed for the verdict: where some clause fails first, that clause needs it
 abbrev pub IsNeededFor : NetValue → Metric → ℕ → Texts → Ending → Type 0
 IsNeededFor exact metric bound texts ending = (c : Clause) → IsFirstFailing exact metric bound texts c → Contains (needed_endings c) ending
+
+-- each file that is needed for the verdict is held
+abbrev pub AreNeededHeld : NetValue → Metric → ℕ → Bytes → Held → Type 0
+AreNeededHeld exact metric bound stem held =
+    (ending : Ending) → IsNeededFor exact metric bound (texts_of held stem) ending → IsTrue (contains_key held (bundle_name stem ending))

@@ -1,24 +1,32 @@
 -- What a check job comes to once IN was read as a net, by its answer; what is answered to IN itself is as in a synth job.
 -- Source: this tool's own bundles.
-use Rattle.std.specs.Prelude.{◌≡◌, ◌⊎◌, ℕ, ◌^◌, ◌≤◌, false, IsTrue, length}
+use Rattle.std.specs.Prelude.{◌≡◌, ◌⊎◌, ℕ, ◌^◌, ◌<◌, ◌≤◌, false, IsTrue, length, Some}
+use Rattle.std.specs.FinMap.{contains_key}
 use Rattle.semantics.specs.Texts.{Bytes}
 use Rattle.semantics.specs.Net.{NetValue}
 use Rattle.semantics.specs.Error.{Metric}
-use Rattle.outside_semantics.specs.Outside.{FilesTold, SinkTold, Goes, Rose, WhereTold, bytes_of}
+use Rattle.blif_semantics.specs.Reading.{Refusal}
+use Rattle.outside_semantics.specs.Outside.{Held, FilesTold, SinkTold, Goes, Rose, WhereTold, bytes_of}
 use Rattle.job_semantics.specs.declared.clause.Clause.{Clause}
 use Rattle.job_semantics.specs.declared.ending.Ending.{Ending}
-use Rattle.job_semantics.specs.Certificate.{Texts, texts_of, OfBundle, IsNetlist, IsReport, Certifies, IsFirstFailing, IsNeededFor, clause_number}
+use Rattle.job_semantics.specs.Certificate.{Texts, texts_of, OfBundle, IsNetlist, IsReport, Certifies, IsFirstFailing, IsNeededFor, AreNeededHeld}
 use Rattle.job_semantics.specs.CertificateLaws.{IsVerified}
 use Rattle.job_semantics.specs.Endings.{bundle_name}
 use Rattle.job_semantics.specs.Input.{IsReadAs}
 use Rattle.job_semantics.specs.Report.{Report}
-use Rattle.job_semantics.specs.Synthesis.{OfInput, IsQuiet}
+use Rattle.job_semantics.specs.Synthesis.{OfInput, InputRefused, IsQuiet}
 
--- no file changed, no count fell and no steady name was lost, and the sink tells what it told; files that are not held may have been opened,
--- so nothing says that what was told is told still
-pub record IsLeftAlone (old new : FilesTold) (said says : SinkTold) : Type 0 where
+-- each file that a check job needs is held: IN and, where IN is accepted, those that are needed for the verdict
+pub record AreCheckFilesHeld (metric : Metric) (bound : ℕ) (input stem : Bytes) (held : Held) : Type 0 where
+  pub input_held : IsTrue (contains_key held input)
+  pub bundle_held : (exact : NetValue) → IsReadAs (bytes_of held input) exact → AreNeededHeld exact metric bound stem held
+
+-- no file changed, no count fell and no steady name was lost, and the sink tells what it told; where the files that are needed are held,
+-- what was told is told still, so no name was opened that is not held and not needed
+pub record IsLeftAlone (metric : Metric) (bound : ℕ) (input stem : Bytes) (old new : FilesTold) (said says : SinkTold) : Type 0 where
   pub goes : Goes old new
   pub files : WhereTold old new (λ a b. b ≡ a)
+  pub still_told : (a : Held) → old.held ≡ Some a → AreCheckFilesHeld metric bound input stem a → new.held ≡ Some a
   pub sink : says ≡ said
 
 -- on every input the error of the bundle's net against the original is at most the report's maximum, which is within the bound and
@@ -32,18 +40,18 @@ pub record ShowsItsBound (exact : NetValue) (metric : Metric) (bound : ℕ) (tex
 
 -- verified: the texts are a certificate, and this is what it shows
 pub record CheckVerified (metric : Metric) (bound : ℕ) (input stem : Bytes) (old new : FilesTold) (said says : SinkTold) : Type 0 where
-  pub untouched : IsLeftAlone old new said says
+  pub untouched : IsLeftAlone metric bound input stem old new said says
   pub exact : NetValue
   pub read : OfInput old new input (λ text. IsReadAs text exact)
   pub certificate : OfBundle old new stem (Certifies exact metric bound)
   pub shows : OfBundle old new stem (ShowsItsBound exact metric bound)
 
--- refuted: the clause of this number is the first that fails
-pub record CheckRefuted (number : ℕ) (metric : Metric) (bound : ℕ) (input stem : Bytes) (old new : FilesTold) (said says : SinkTold) : Type 0 where
-  pub untouched : IsLeftAlone old new said says
+-- refuted: this clause is the first that fails
+pub record CheckRefuted (c : Clause) (metric : Metric) (bound : ℕ) (input stem : Bytes) (old new : FilesTold) (said says : SinkTold) : Type 0 where
+  pub untouched : IsLeftAlone metric bound input stem old new said says
   pub exact : NetValue
   pub read : OfInput old new input (λ text. IsReadAs text exact)
-  pub failing : OfBundle old new stem (λ texts. (c : Clause) × (clause_number c ≡ number) × IsFirstFailing exact metric bound texts c)
+  pub failing : OfBundle old new stem (λ texts. IsFirstFailing exact metric bound texts c)
 
 -- A check job needs the file of this ending: IN is accepted, and the file is needed for the verdict. Where the files are not told both at
 -- entry and at exit, IN counts as accepted and no clause as failing.
@@ -53,7 +61,7 @@ IsNeeded metric bound input stem old new ending =
 
 -- a fault came while a needed file was read, and that file is not steady
 pub record CheckReadFault (metric : Metric) (bound : ℕ) (input stem : Bytes) (old new : FilesTold) (said says : SinkTold) : Type 0 where
-  pub untouched : IsLeftAlone old new said says
+  pub untouched : IsLeftAlone metric bound input stem old new said says
   pub rose : Rose old.faults new.faults
   pub not_steady :
       (old.steady_read input ≡ false)
@@ -61,7 +69,7 @@ pub record CheckReadFault (metric : Metric) (bound : ℕ) (input stem : Bytes) (
 
 -- a needed file goes on past the budget of turns
 pub record CheckEndless (metric : Metric) (bound : ℕ) (input stem : Bytes) (old new : FilesTold) (said says : SinkTold) : Type 0 where
-  pub untouched : IsLeftAlone old new said says
+  pub untouched : IsLeftAlone metric bound input stem old new said says
   pub exact : NetValue
   pub read : OfInput old new input (λ text. IsReadAs text exact)
   pub ending : Ending
@@ -75,3 +83,50 @@ pub record AreCheckFilesSteady (metric : Metric) (bound : ℕ) (input stem : Byt
 
 abbrev pub IsQuietCheck : Metric → ℕ → Bytes → Bytes → FilesTold → FilesTold → SinkTold → SinkTold → Type 0
 IsQuietCheck metric bound input stem old new said says = IsQuiet (AreCheckFilesSteady metric bound input stem old new) old new said says
+
+-- The answers of a check job, each with what it says.
+pub data CheckEnd (metric : Metric) (bound : ℕ) (input stem : Bytes) (old new : FilesTold) (said says : SinkTold) : Type 0 where
+  verified : CheckVerified metric bound input stem old new said says → CheckEnd metric bound input stem old new said says
+  refuted : (c : Clause) → CheckRefuted c metric bound input stem old new said says → CheckEnd metric bound input stem old new said says
+  refused : (refusal : Refusal) → InputRefused refusal input old new said says → CheckEnd metric bound input stem old new said says
+  out_of_memory : IsLeftAlone metric bound input stem old new said says → CheckEnd metric bound input stem old new said says
+  not_read : CheckReadFault metric bound input stem old new said says → CheckEnd metric bound input stem old new said says
+  endless : CheckEndless metric bound input stem old new said says → CheckEnd metric bound input stem old new said says
+
+-- each file of the bundle has fewer than 2^40 bytes
+abbrev pub AreShort : Bytes → Held → Type 0
+AreShort stem held = (ending : Ending) → length (texts_of held stem ending) < 2 ^ 40
+
+abbrev pub IsVerifiedEnd : {metric : Metric} {bound : ℕ} {input stem : Bytes} {old new : FilesTold} {said says : SinkTold}
+    → CheckEnd metric bound input stem old new said says → Type 0
+IsVerifiedEnd (verified v) = Unit {0}
+IsVerifiedEnd (refuted c r) = ⊥
+IsVerifiedEnd (refused refusal r) = ⊥
+IsVerifiedEnd (out_of_memory left) = ⊥
+IsVerifiedEnd (not_read fault) = ⊥
+IsVerifiedEnd (endless e) = ⊥
+
+abbrev pub IsEndlessEnd : {metric : Metric} {bound : ℕ} {input stem : Bytes} {old new : FilesTold} {said says : SinkTold}
+    → CheckEnd metric bound input stem old new said says → Type 0
+IsEndlessEnd (verified v) = ⊥
+IsEndlessEnd (refuted c r) = ⊥
+IsEndlessEnd (refused refusal r) = ⊥
+IsEndlessEnd (out_of_memory left) = ⊥
+IsEndlessEnd (not_read fault) = ⊥
+IsEndlessEnd (endless e) = Unit {0}
+
+-- verified, unless memory is wanting
+abbrev pub IsVerifiedOrNoMemory : {metric : Metric} {bound : ℕ} {input stem : Bytes} {old new : FilesTold} {said says : SinkTold}
+    → CheckEnd metric bound input stem old new said says → Type 0
+IsVerifiedOrNoMemory (verified v) = Unit {0}
+IsVerifiedOrNoMemory (refuted c r) = ⊥
+IsVerifiedOrNoMemory (refused refusal r) = ⊥
+IsVerifiedOrNoMemory (out_of_memory left) = Unit {0}
+IsVerifiedOrNoMemory (not_read fault) = ⊥
+IsVerifiedOrNoMemory (endless e) = ⊥
+
+-- A bundle that verifies: each check of these files that is quiet is verified, unless memory is wanting, where each file of the bundle has
+-- fewer than 2^40 bytes.
+abbrev pub Verifies : Metric → ℕ → Bytes → Bytes → Held → Type 0
+Verifies metric bound input stem held = (old new : FilesTold) (said says : SinkTold) → old.held ≡ Some held → AreShort stem held
+    → IsQuietCheck metric bound input stem old new said says → (end : CheckEnd metric bound input stem old new said says) → IsVerifiedOrNoMemory end

@@ -10,6 +10,7 @@ pub mod Examples
 pub mod Certificate
 pub mod CertificateLaws
 pub mod Checking
+pub mod CheckingLaws
 pub mod CertificateExamples
 pub mod Demo
 pub mod DemoLaws

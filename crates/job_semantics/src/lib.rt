@@ -3,6 +3,7 @@
 
 pub mod certificate_examples;
 pub mod certificate_laws;
+pub mod checking_laws;
 pub mod clause;
 pub mod demo_examples;
 pub mod demo_laws;

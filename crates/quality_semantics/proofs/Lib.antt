@@ -11,3 +11,4 @@ pub mod Sound
 pub mod Multiply
 pub mod Joint
 pub mod JointSound
+pub mod Room

@@ -1,0 +1,176 @@
+-- Which told files are verified, and what a check says of the files that a synthesis left.
+use Rattle.std.proofs.Common.{◌≡◌, ◌≢◌, ◌⊎◌, ◌<◌, ◌≤◌, ◌^◌, ℕ, Bool, true, false, not, ◌&&◌, ◌||◌, List, [], ◌∷◌, length, Option, Some, None, is_some, Result, Ok, Err, inl, inr, refl, ap, sym, subst, ◌∙◌, arith}
+use Rattle.std.specs.Prelude.{IsTrue, unwrap_or, bytes_eq}
+use Rattle.std.specs.List.{AllByRecursion, list_any}
+use Rattle.std.specs.FinMap.{get, contains_key}
+use Rattle.std.proofs.lemmas.Slice.Eq.{bytes_eq-Decides}
+use Rattle.semantics.specs.Texts.{Bytes}
+use Rattle.semantics.specs.Net.{NetValue}
+use Rattle.semantics.specs.Error.{Metric}
+use Rattle.outside_semantics.specs.Outside.{Held, FilesTold, SinkTold, bytes_of}
+use Rattle.outside_semantics.specs.WrittenFiles.{with_files}
+use Rattle.blif_semantics.specs.Reading.{input_limit, Refusal, no_output, named_net, blif_reading}
+use Rattle.blif_semantics.specs.Lines.{logical_lines}
+use Rattle.blif_semantics.specs.Statements.{first_wrong}
+use Rattle.proof_semantics.specs.Queries.{SpentValue}
+use Rattle.job_semantics.specs.declared.ending.Ending.{Ending}
+use Rattle.job_semantics.specs.declared.ending.Ending.TheVariants as file
+use Rattle.job_semantics.specs.declared.clause.Clause.{Clause}
+use Rattle.job_semantics.specs.Endings.{bundle_endings, bundle_name, bundle_files, is_bundle_name}
+use Rattle.job_semantics.specs.Job.{are_file_words, is_empty_word}
+use Rattle.job_semantics.specs.Input.{IsReadAs}
+use Rattle.job_semantics.specs.Certificate.{Texts, texts_of, Certifies, IsFirstFailing, AreNeededHeld}
+use Rattle.job_semantics.specs.Synthesis.{SynthDone, InputRefused, synth_bundle}
+use Rattle.job_semantics.specs.Bundle.{bundle_text}
+use Rattle.job_semantics.specs.Checking.{AreCheckFilesHeld, IsLeftAlone, CheckVerified, CheckRefuted, CheckReadFault, CheckEndless, CheckEnd, verified, refuted, refused, out_of_memory, not_read, endless, IsQuietCheck, AreShort, IsVerifiedEnd, IsEndlessEnd, IsVerifiedOrNoMemory, Verifies}
+use Rattle.job_semantics.specs.CheckingLaws.{CheckedFilesLaw, JoinedRunsLaw}
+use Rattle.job_semantics.proofs.BundleFiles.{bundle_files-holds, bundle_files-others}
+use Rattle.job_semantics.proofs.Certificates.{first_failing_law}
+
+-- a text is read as one net
+pub one_net : (text : Bytes) (N M : NetValue) → IsReadAs text N → IsReadAs text M → N ≡ M
+one_net text N M n m = let both : ◌≡◌ {A = Result NetValue Refusal} (Ok N) (Ok M) = sym n ∙ m in cc
+
+-- a call with a fault is not quiet
+pub not_quiet_check : {metric : Metric} {bound : ℕ} {input stem : Bytes} {old new : FilesTold} {said says : SinkTold}
+    → CheckReadFault metric bound input stem old new said says → IsQuietCheck metric bound input stem old new said says → ⊥
+not_quiet_check {metric} {bound} {input} {stem} {old} {new} fault quiet =
+    elim quiet.files [
+      | inl calm ↦ calm fault.rose
+      | inr steady ↦ elim fault.not_steady [
+        | inl unread ↦ let yes : old.steady_read input ≡ true = steady.read in let no : old.steady_read input ≡ false = unread in cc
+        | inr one ↦
+            let yes : old.steady_read (bundle_name stem one.0) ≡ true = steady.bundle one.0 one.1 in
+            let no : old.steady_read (bundle_name stem one.0) ≡ false = one.2 in
+            cc
+      ]
+    ]
+
+module _ {metric : Metric} {bound : ℕ} {input stem : Bytes} {old new : FilesTold} {said says : SinkTold} where
+  only_certificates : (end : CheckEnd metric bound input stem old new said says) → IsVerifiedEnd end → (a b : Held) → old.held ≡ Some a → new.held ≡ Some b
+      → (exact : NetValue) → IsReadAs (bytes_of a input) exact → Certifies exact metric bound (texts_of b stem)
+  only_certificates (verified v) is a b told tells exact reads =
+      subst (λ N. Certifies N metric bound (texts_of b stem)) (one_net (bytes_of a input) v.exact exact (v.read.told a b told tells) reads) (v.certificate a b told tells)
+  only_certificates (refuted c r) is a b told tells exact reads = absurd is
+  only_certificates (refused refusal r) is a b told tells exact reads = absurd is
+  only_certificates (out_of_memory m) is a b told tells exact reads = absurd is
+  only_certificates (not_read f) is a b told tells exact reads = absurd is
+  only_certificates (endless e) is a b told tells exact reads = absurd is
+
+  module _ (a : Held) (exact : NetValue) (told : old.held ≡ Some a) (held : AreCheckFilesHeld metric bound input stem a) where
+    stays_told : IsLeftAlone metric bound input stem old new said says → new.held ≡ Some a
+    stays_told left = left.still_told a told held
+
+    not_refused : (refusal : Refusal) → InputRefused refusal input old new said says → IsReadAs (bytes_of a input) exact → ⊥
+    not_refused refusal r reads =
+        let both : ◌≡◌ {A = Result NetValue Refusal} (Err refusal) (Ok exact) = sym (r.refused.at_entry a told held.input_held) ∙ reads in cc
+
+    not_refuted : (c : Clause) → CheckRefuted c metric bound input stem old new said says → IsReadAs (bytes_of a input) exact → Certifies exact metric bound (texts_of a stem) → ⊥
+    not_refuted c r reads certified =
+        let still = stays_told r.untouched in
+        let same = one_net (bytes_of a input) r.exact exact (r.read.told a a told still) reads in
+        first_failing_law.refuted exact metric bound (texts_of a stem) c
+        (subst (λ N. IsFirstFailing N metric bound (texts_of a stem) c) same (r.failing a a told still)) certified
+
+    each_certificate : (end : CheckEnd metric bound input stem old new said says) → IsReadAs (bytes_of a input) exact → Certifies exact metric bound (texts_of a stem)
+        → IsQuietCheck metric bound input stem old new said says → IsVerifiedOrNoMemory end ⊎ IsEndlessEnd end
+    each_certificate (verified v) reads certified quiet = inl tt
+    each_certificate (refuted c r) reads certified quiet = absurd (not_refuted c r reads certified)
+    each_certificate (refused refusal r) reads certified quiet = absurd (not_refused refusal r reads)
+    each_certificate (out_of_memory m) reads certified quiet = inl tt
+    each_certificate (not_read f) reads certified quiet = absurd (not_quiet_check f quiet)
+    each_certificate (endless e) reads certified quiet = inr tt
+
+  with_an_end : (end : CheckEnd metric bound input stem old new said says) (a : Held) → old.held ≡ Some a → AreCheckFilesHeld metric bound input stem a
+      → AreShort stem a → ¬ IsEndlessEnd end
+  with_an_end (endless e) a told held short is =
+      let still = e.untouched.still_told a told held in
+      omega (arith, short e.ending, e.long a a told still)
+  with_an_end (verified v) a told held short is = is
+  with_an_end (refuted c r) a told held short is = is
+  with_an_end (refused refusal r) a told held short is = is
+  with_an_end (out_of_memory m) a told held short is = is
+  with_an_end (not_read f) a told held short is = is
+
+pub checked_files_law : CheckedFilesLaw
+checked_files_law = record {
+  only_certificates = λ end is a b told tells. only_certificates end is a b told tells;
+  each_certificate = λ end a exact told held reads certified quiet. each_certificate a exact told held end reads certified quiet;
+  with_an_end = λ end a told held short. with_an_end end a told held short;
+}
+
+-- ---- two runs joined
+
+no_end : (metric : Metric) (bound : ℕ) (input stem : Bytes) (old new : FilesTold) (said says : SinkTold) (end : CheckEnd metric bound input stem old new said says)
+    → IsVerifiedOrNoMemory end ⊎ IsEndlessEnd end → ¬ IsEndlessEnd end → IsVerifiedOrNoMemory end
+no_end metric bound input stem old new said says end (inl well) ends = well
+no_end metric bound input stem old new said says end (inr is) ends = absurd (ends is)
+
+pub certificate-verifies : {metric : Metric} {bound : ℕ} {input stem : Bytes} (held : Held) (exact : NetValue) → AreCheckFilesHeld metric bound input stem held
+    → IsReadAs (bytes_of held input) exact → Certifies exact metric bound (texts_of held stem) → Verifies metric bound input stem held
+certificate-verifies {metric} {bound} {input} {stem} held exact files reads certified = λ old new said says told short quiet end.
+    no_end metric bound input stem old new said says end (each_certificate held exact told files end reads certified quiet) (with_an_end end held told files short)
+
+-- a name that is no file of the bundle is none of the five
+apart : (name stem : Bytes) (endings : List Ending) → list_any (λ ending. bytes_eq name (bundle_name stem ending)) endings ≡ false
+    → AllByRecursion (λ e. bundle_name stem e ≢ name) endings
+apart name stem [] none = tt
+apart name stem (e ∷ endings) none =
+    let parts = neither (bytes_eq name (bundle_name stem e)) _ none in (
+      (λ same. let yes = (bytes_eq-Decides name (bundle_name stem e)).1 (sym same) in let no = parts.0 in cc),
+      apart name stem endings parts.1,
+    )
+  where
+    neither : (p q : Bool) → (p || q) ≡ false → (p ≡ false) × (q ≡ false)
+    neither true q is = cc
+    neither false q is = (refl, is)
+
+other_word : (p q r : Bool) → (not p && (not q && not r)) ≡ true → r ≡ false
+other_word true q r is = cc
+other_word false true r is = cc
+other_word false false true is = cc
+other_word false false false is = refl
+
+-- no bytes are read as no net
+no_bytes : (N : NetValue) → ¬ IsReadAs [] N
+unfolding blif_reading first_wrong logical_lines named_net
+no_bytes N is =
+    let none : blif_reading [] input_limit ≡ Err no_output = refl in
+    let both : ◌≡◌ {A = Result NetValue Refusal} (Err no_output) (Ok N) = sym none ∙ is in cc
+
+is_held : (found : Option Bytes) (N : NetValue) → IsReadAs (unwrap_or found []) N → IsTrue (is_some found)
+is_held None N reads = absurd (no_bytes N reads)
+is_held (Some bytes) N reads = refl
+
+-- each file of the bundle is held, once all were written
+held_after : (held : Held) (stem : Bytes) (text : Texts) (ending : Ending) → IsTrue (contains_key (with_files held (bundle_files stem text)) (bundle_name stem ending))
+held_after held stem text file.Netlist = ap is_some (bundle_files-holds held stem text).0
+held_after held stem text file.Formula = ap is_some (bundle_files-holds held stem text).1.0
+held_after held stem text file.Log = ap is_some (bundle_files-holds held stem text).1.1.0
+held_after held stem text file.Vectors = ap is_some (bundle_files-holds held stem text).1.1.1.0
+held_after held stem text file.Report = ap is_some (bundle_files-holds held stem text).1.1.1.1.0
+
+-- files of a bundle were written, and IN is none of them
+module _ (metric : Metric) (bound : ℕ) (input stem : Bytes) (words : IsTrue (are_file_words input stem)) (a b : Held) (text : Texts) (exact : NetValue) (written : b ≡ with_files a (bundle_files stem text)) where
+  input_stays : get b input ≡ get a input
+  input_stays =
+      ap (λ h. get h input) written
+      ∙ bundle_files-others a stem text input
+      (apart input stem bundle_endings (other_word (is_empty_word input) (is_empty_word stem) (is_bundle_name stem input) words))
+
+  reads_after : IsReadAs (bytes_of a input) exact → IsReadAs (bytes_of b input) exact
+  reads_after reads = subst (λ found. IsReadAs (unwrap_or found []) exact) (sym input_stays) reads
+
+  files_after : IsReadAs (bytes_of a input) exact → AreCheckFilesHeld metric bound input stem b
+  files_after reads = record {
+    input_held = is_held (get b input) exact (reads_after reads);
+    bundle_held = λ N read ending needed. subst (λ h. IsTrue (contains_key h (bundle_name stem ending))) (sym written) (held_after a stem text ending);
+  }
+
+  pub written_verifies : IsReadAs (bytes_of a input) exact → Certifies exact metric bound (texts_of b stem) → Verifies metric bound input stem b
+  written_verifies reads certified = certificate-verifies b exact (files_after reads) (reads_after reads) certified
+
+pub joined_runs_law : JoinedRunsLaw
+joined_runs_law metric bound limit input stem spent old new said says words done a b told tells =
+    written_verifies metric bound input stem words a b (bundle_text (synth_bundle done.exact metric bound done.written.result done.written.log)) done.exact
+    (done.written.files.held a b told tells) (done.read.told a b told tells) (done.written.certificate a b told tells)

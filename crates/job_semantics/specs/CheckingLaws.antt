@@ -1,0 +1,39 @@
+-- The laws about the words of jobs and about checks of told files, each the contract of a function without parameters.
+use Rattle.std.specs.Prelude.{◌≡◌, ◌⊎◌, ℕ, IsTrue, Option, Some, List}
+use Rattle.semantics.specs.Texts.{Bytes}
+use Rattle.semantics.specs.Net.{NetValue}
+use Rattle.semantics.specs.Error.{Metric}
+use Rattle.outside_semantics.specs.Outside.{Held, FilesTold, SinkTold, WhereTold, bytes_of}
+use Rattle.proof_semantics.specs.Queries.{SpentValue}
+use Rattle.job_semantics.specs.Job.{synth, check, are_file_words, job_of}
+use Rattle.job_semantics.specs.Input.{IsReadAs}
+use Rattle.job_semantics.specs.Certificate.{texts_of, Certifies}
+use Rattle.job_semantics.specs.Synthesis.{SynthDone}
+use Rattle.job_semantics.specs.Checking.{AreCheckFilesHeld, CheckEnd, IsQuietCheck, AreShort, IsVerifiedEnd, IsEndlessEnd, IsVerifiedOrNoMemory, Verifies}
+
+-- where words are a synth or a check job, IN and STEM are not empty, and IN is no file of the bundle
+pub record FileWordsLaw : Type 0 where
+  pub synthesis : (words : List Bytes) (metric : Metric) (bound conflicts : ℕ) (input stem : Bytes)
+      → job_of words ≡ Some (synth metric bound conflicts input stem) → IsTrue (are_file_words input stem)
+  pub checking : (words : List Bytes) (metric : Metric) (bound : ℕ) (input stem : Bytes)
+      → job_of words ≡ Some (check metric bound input stem) → IsTrue (are_file_words input stem)
+
+-- A quiet check of files that are told, where IN is accepted and the files that are needed are held, is verified exactly where their texts are
+-- a certificate, unless memory is wanting or a file goes on without an end; that one does only if it has 2^40 bytes at least.
+pub record CheckedFilesLaw : Type 0 where
+  pub only_certificates : {metric : Metric} {bound : ℕ} {input stem : Bytes} {old new : FilesTold} {said says : SinkTold}
+      (end : CheckEnd metric bound input stem old new said says) → IsVerifiedEnd end
+      → WhereTold old new (λ a b. (exact : NetValue) → IsReadAs (bytes_of a input) exact → Certifies exact metric bound (texts_of b stem))
+  pub each_certificate : {metric : Metric} {bound : ℕ} {input stem : Bytes} {old new : FilesTold} {said says : SinkTold}
+      (end : CheckEnd metric bound input stem old new said says) (a : Held) (exact : NetValue) → old.held ≡ Some a → AreCheckFilesHeld metric bound input stem a
+      → IsReadAs (bytes_of a input) exact → Certifies exact metric bound (texts_of a stem) → IsQuietCheck metric bound input stem old new said says
+      → IsVerifiedOrNoMemory end ⊎ IsEndlessEnd end
+  pub with_an_end : {metric : Metric} {bound : ℕ} {input stem : Bytes} {old new : FilesTold} {said says : SinkTold}
+      (end : CheckEnd metric bound input stem old new said says) (a : Held) → old.held ≡ Some a → AreCheckFilesHeld metric bound input stem a
+      → AreShort stem a → ¬ IsEndlessEnd end
+
+-- Two runs joined: what a synthesis leaves that is done, over files that are told, is a bundle that verifies.
+abbrev pub JoinedRunsLaw : Type 0
+JoinedRunsLaw = (metric : Metric) (bound limit : ℕ) (input stem : Bytes) (spent : Option SpentValue) (old new : FilesTold) (said says : SinkTold)
+    → IsTrue (are_file_words input stem) → SynthDone metric bound limit input stem spent old new said says
+    → WhereTold old new (λ a b. Verifies metric bound input stem b)

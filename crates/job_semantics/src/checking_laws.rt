@@ -1,0 +1,17 @@
+//! The laws about the words of jobs and about checks of told files: each function's contract is a law.
+ghost use Rattle.job_semantics.specs.CheckingLaws.{FileWordsLaw, CheckedFilesLaw, JoinedRunsLaw};
+
+/// What IN and STEM of a job are.
+pub fn file_words()
+    ensures { FileWordsLaw }
+{}
+
+/// Which files are verified.
+pub fn checked_files()
+    ensures { CheckedFilesLaw }
+{}
+
+/// What a check says of the files that a synthesis left.
+pub fn joined_runs()
+    ensures { JoinedRunsLaw }
+{}
