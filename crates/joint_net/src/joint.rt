@@ -5,12 +5,13 @@ ghost use Rattle.std.specs.List.{range_with_len};
 ghost use Rattle.semantics.specs.Net.{input_count, table_count, signal_count, row_count, HasSamePorts, IsSound};
 ghost use Rattle.quality_semantics.specs.Quality.{quality_net};
 ghost use Rattle.quality_semantics.specs.Joint.{numbered_name, both_outputs, quality_signal, joint_net};
-ghost use Rattle.joint_net.specs.Copies.{all_copies, joined, IsJoinable};
+ghost use Rattle.joint_net.specs.Copies.{all_copies, joined, IsJoinable, TellsError};
 
 use crate::copies::{first_signals, model_name, push_copies, push_outputs};
 use net_core::items::{NameList, Signal, SignalList, TableList};
 use net_core::name::{Name, numbered_names};
 use net_core::net::Net;
+use semantics::limits::MOST_OUTPUTS;
 use semantics::metric::Metric;
 use std::alloc::{AllocError, Global};
 
@@ -19,13 +20,14 @@ const ROOM: u32 = 1 << 31;
 
 /// The net whose output says whether the error of two words of so many bits exceeds `k`.
 fn quality(alloc: Global, metric: Metric, width: u32, k: u128) -> Result<Net, AllocError>
-    requires { width ≤ 64 }
+    requires { width ≤ MOST_OUTPUTS }
     ensures { IfOk result (λ n. n ≡ quality_net metric width k) }
 {
     match metric {
         Metric::Abs => quality_abs::quality(alloc, width, k),
         Metric::Rel => quality_rel::quality(alloc, width, k),
         Metric::Ham => quality_ham::quality(alloc, width, k),
+        Metric::Sabs => quality_abs::quality_signed(alloc, width, k),
     }
 }
 
@@ -168,8 +170,9 @@ pub fn joint(
     k: u128,
 ) -> Result<Net, AllocError>
     requires ports { HasSamePorts exact.now approx.now }
-    requires few { length exact.now.outputs ≤ 64 }
+    requires few { length exact.now.outputs ≤ MOST_OUTPUTS }
     ensures net { IfOk result (λ n. n ≡ joint_net exact.now approx.now metric k) }
+    ensures output { IfOk result (λ n. TellsError metric exact.now approx.now k n) }
     ensures room { IfOk result (λ n. signal_count n + row_count n < 2 ^ 31) }
 {
     let quality = quality(alloc, metric, exact.outputs(), k)?;
