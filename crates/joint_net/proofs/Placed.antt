@@ -87,7 +87,7 @@ pub joined_is : (N M Q : NetValue) (metric : Metric) (w k : ℕ) → w ≡ lengt
 unfolding joined joint_net
 joined_is N M Q metric w k width eq = rw (eq, width) refl
 
-joint_signals : (N M : NetValue) (metric : Metric) (k : ℕ) → signal_count (joint_net N M metric k) ≡ signal_count N + table_count M + table_count (quality_net metric (length N.outputs) k)
+pub joint_signals : (N M : NetValue) (metric : Metric) (k : ℕ) → signal_count (joint_net N M metric k) ≡ signal_count N + table_count M + table_count (quality_net metric (length N.outputs) k)
 joint_signals N M metric k =
     omega (arith, whole_length N M metric k, length-both_copies N M, length-copied 113 (quality_signal N M) (quality metric (length N.outputs) k).net.tables)
 

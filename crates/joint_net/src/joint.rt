@@ -2,7 +2,7 @@
 //! Source: SALSA's quality function circuit, which the outputs of the exact and of the approximate circuit feed.
 ghost use Rattle.std.specs.Prelude.{◌≡◌, ◌↔◌, ℕ, ◌+◌, ◌<◌, ◌≤◌, ◌^◌, map, length, codes, IfOk, IsTrue};
 ghost use Rattle.std.specs.List.{range_with_len};
-ghost use Rattle.semantics.specs.Net.{input_count, table_count, signal_count, row_count, HasSamePorts, IsSound};
+ghost use Rattle.semantics.specs.Net.{input_count, table_count, signal_count, row_count, HasSamePorts, IsSmall, IsSound, NetValue};
 ghost use Rattle.quality_semantics.specs.Quality.{quality_net};
 ghost use Rattle.quality_semantics.specs.Joint.{numbered_name, both_outputs, quality_signal, joint_net};
 ghost use Rattle.joint_net.specs.Copies.{all_copies, joined, IsJoinable, TellsError};
@@ -90,10 +90,12 @@ fn joint_outputs(
     Ok(outputs)
 }
 
-/// Whether the signals of the joint net are few.
+/// Whether the signals of the joint net are few, as those of two nets that are read are.
 fn has_few_signals(exact: &Net, approx: &Net, quality: &Net) -> bool
     ensures value { IsTrue result
         ↔ (signal_count exact.now + table_count approx.now + table_count quality.now < 2 ^ 31) }
+    ensures small { (metric : Metric) (k : ℕ) → IsSmall exact.now → IsSmall approx.now
+        → quality.now ≡ quality_net metric (length exact.now.outputs) k → IsTrue result }
     ensures exact_sound { IsSound exact.now }
     ensures approximate_sound { IsSound approx.now }
 {
@@ -145,9 +147,11 @@ fn join(alloc: Global, exact: &Net, approx: &Net, quality: &Net) -> Result<Net, 
     Net::from_sound(alloc, model, inputs, tables, outputs)
 }
 
-/// Whether the signals and the rows together are few.
+/// Whether the signals and the rows together are few, as those of the joint net of two nets that are read are.
 fn has_room(net: &Net) -> bool
-    ensures { IsTrue result ↔ (signal_count net.now + row_count net.now < 2 ^ 31) }
+    ensures value { IsTrue result ↔ (signal_count net.now + row_count net.now < 2 ^ 31) }
+    ensures small { (exact approx : NetValue) (metric : Metric) (k : ℕ) → IsSmall exact → IsSmall approx
+        → net.now ≡ joint_net exact approx metric k → IsTrue result }
 {
     let mut left = ROOM - net.signals();
     for t in 0..net.tables() {
@@ -161,7 +165,7 @@ fn has_room(net: &Net) -> bool
 }
 
 /// The joint net, whose output says whether the error of the approximate net's outputs against the exact one's exceeds `k`.
-/// It answers want of memory also where its signals and rows would be 2^31 or more.
+/// It answers want of memory also where its signals and rows would be 2^31 or more, which those of two nets that are read never are.
 pub fn joint(
     alloc: Global,
     exact: &Net,

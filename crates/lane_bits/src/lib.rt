@@ -4,4 +4,4 @@
 pub mod examples;
 pub mod kernels;
 pub mod patterns;
-mod row;
+mod bit_row;

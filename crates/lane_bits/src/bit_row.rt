@@ -8,11 +8,11 @@ use std::marker::Model;
 
 /// The words of a row; bit p is bit p % 64 of word p / 64.
 #[derive(Drop)]
-pub(crate) struct Row {
+pub(crate) struct BitRow {
     words: Vec<u64>,
 }
 
-impl Model for Row {
+impl Model for BitRow {
     ghost use Rattle.std.specs.Prelude.{List, ℕ};
 
     ghost Value = { List ℕ };
@@ -20,12 +20,12 @@ impl Model for Row {
     ghost view = { λ r. r.words.items };
 }
 
-impl Row {
+impl BitRow {
     /// The row without words, which takes no memory.
-    pub(crate) fn new(alloc: Global) -> Row
+    pub(crate) fn new(alloc: Global) -> BitRow
         ensures { result ≡ [] }
     {
-        Row {
+        BitRow {
             words: Vec::new(alloc),
         }
     }

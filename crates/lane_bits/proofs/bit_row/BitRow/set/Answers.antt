@@ -1,5 +1,5 @@
 use Rattle.lane_bits.proofs.Bits.{bit-written}
-use Rattle.lane_bits.proofs.row.Row.set.Goals as goal
+use Rattle.lane_bits.proofs.bit_row.BitRow.set.Goals as goal
 
 pub returns-clause-bits : goal.returns-clause-bits
 returns-clause-bits c =
