@@ -103,13 +103,13 @@ is_joinable N M Q metric w k exact other ports width eq few =
       room = omega (arith, few);
       wired =
           subst IsWired e (
-            record {
-              names_differ = sound.names_differ;
-              has_output = sound.has_output;
-              outputs_are_signals = sound.outputs_are_signals;
-              few_signals = room;
-              few_outputs = rw (joint_outputs N M metric k) (omega arith);
-            }
+          record {
+            names_differ = sound.names_differ;
+            has_output = sound.has_output;
+            outputs_are_signals = sound.outputs_are_signals;
+            few_signals = room;
+            few_outputs = rw (joint_outputs N M metric k) (omega arith);
+          }
           );
       acyclic = subst (λ (P : NetValue). IsAcyclic (input_count P) P.tables) e sound.acyclic;
     }

@@ -5,8 +5,8 @@ ghost use Rattle.lane_bits.specs.Rows.{word_count};
 ghost use Rattle.lane_bits.specs.Patterns.{IsPatternSet, IsRowOf, vector_at};
 ghost use Rattle.lane_bits.specs.Store.{AreGrownFrom, AreReadied, AreSetAt, row_at};
 
-use crate::kernels::word_count;
 use crate::bit_row::BitRow;
+use crate::kernels::word_count;
 use std::alloc::{AllocError, Global};
 use std::marker::Model;
 
