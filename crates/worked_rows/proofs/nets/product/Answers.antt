@@ -5,7 +5,7 @@ use Rattle.std.proofs.lemmas.List.Elements.{All-from_recursion}
 use Rattle.std.proofs.lemmas.Result.{IfOk-weaker}
 use Rattle.semantics.specs.Net.{TableValue, IsSmall}
 use Rattle.quality_semantics.specs.Multiply.{multiplier, multiplier_net}
-use Rattle.worked_rows.proofs.queries.product.Goals as goal
+use Rattle.worked_rows.proofs.nets.product.Goals as goal
 
 few_pins : (tables : List TableValue) → list_all (λ t. nat_le (length t.pins) 256) tables ≡ true → AllByRecursion (λ t. length t.pins ≤ 256) tables
 few_pins [] few = tt
