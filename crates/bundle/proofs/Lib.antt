@@ -7,4 +7,6 @@ pub mod FormulaChecks
 pub mod JudgedTexts
 pub mod ToldAnswers
 pub mod FileTexts
+pub mod JudgedVectors
+pub mod ReportSizes
 pub mod BrokenMoves

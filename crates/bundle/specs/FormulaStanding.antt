@@ -1,13 +1,9 @@
 -- How the fields of a formula's check stand to what was taken.
-use Rattle.std.specs.Prelude.{◌≡◌, ◌≢◌, ℕ, Bool, true, false, ◌++◌, if◌then◌else◌}
+use Rattle.std.specs.Prelude.{◌≡◌, ◌≢◌, Bool, true, false, ◌++◌}
 use Rattle.semantics.specs.Texts.{Bytes}
 use Rattle.proof_semantics.specs.Formula.{Formula, dimacs_text}
 use Rattle.bundle.specs.declared.formula_check.FormulaCheck.TheInside.{Inside}
-use Rattle.bundle.specs.TextCheck.{TextCheck}
-
--- nothing more is wanted of a text that differs
-abbrev pub room_at : Bool → ℕ
-room_at is_same = if is_same then 65536 else 0
+use Rattle.bundle.specs.TextCheck.{TextCheck, room_at}
 
 abbrev pub check_view : Inside → TextCheck
 check_view a = record { formula = a.formula.now; text = a.text.bytes; room = room_at a.is_same }

@@ -8,5 +8,7 @@ pub mod TextCheck
 pub mod LogTold
 pub mod LogStanding
 pub mod FormulaStanding
+pub mod VectorsTaken
+pub mod VectorsStanding
 pub mod Judging
 pub mod FilesRead

@@ -1,12 +1,10 @@
 //! Pieces at the front of a text: each reader answers what it found and what stands behind.
-ghost use Rattle.std.specs.Prelude.{◌≡◌, ◌≢◌, ◌<◌, ◌^◌, ◌++◌, ◌∷◌, ℕ, Bool, List, false, length, MatchOption, IfOk};
-ghost use Rattle.std.specs.List.{list_all};
+ghost use Rattle.std.specs.Prelude.{◌≡◌, ◌≢◌, ◌<◌, ◌^◌, ◌++◌, ◌∷◌, ℕ, Bool, List, false, MatchOption};
 ghost use Rattle.semantics.specs.Decimal.{is_digit};
-ghost use Rattle.bundle.specs.Pieces.{Lacks, is_bit_digit, bits_in, IsNumberBefore, IsVectorBefore};
+ghost use Rattle.bundle.specs.Pieces.{Lacks, bits_in, IsNumberBefore, IsVectorBefore};
 
-use crate::decimal::number_from_to;
-use net_core::items::Bits;
-use std::alloc::{AllocError, Global};
+use crate::bits::are_bit_digits;
+use decimal_words::decimal::number_from_to;
 
 /// What stands behind the word.
 pub(crate) fn after<'a>(text: &'a [u8], word: &[u8]) -> Option<&'a [u8]>
@@ -40,42 +38,14 @@ pub(crate) fn number_before(text: &[u8], most: u128, end: u8) -> Option<(u128, &
     Some((number, rest))
 }
 
-/// Whether all bytes are the digits of bits.
-fn are_bits(digits: &[u8]) -> bool
-    ensures { result ≡ list_all is_bit_digit digits.now }
-{
-    digits.iter().all(|d| *d == b'0' || *d == b'1')
-}
-
 /// The digits of a vector of `width` bits that stands on a line.
 pub(crate) fn vector_before(text: &[u8], width: usize) -> Option<(&[u8], &[u8])>
     ensures { MatchOption result
         ((x : List Bool) (rest : List ℕ) → ¬ IsVectorBefore width text.now x rest)
         (λ p. IsVectorBefore width text.now (bits_in p.0.now) p.1.now) }
 {
-    if text.len() <= width || text[width] != b'\n' || !are_bits(&text[..width]) {
+    if text.len() <= width || text[width] != b'\n' || !are_bit_digits(&text[..width]) {
         return None;
     }
     Some((&text[..width], &text[width + 1..]))
-}
-
-/// The bits that digits say.
-pub(crate) fn bits_of(alloc: Global, digits: &[u8]) -> Result<Bits, AllocError>
-    ensures { IfOk result (λ bits. bits ≡ bits_in digits.now) }
-{
-    let mut bits = Bits::new(alloc);
-    for digit in digits {
-        bits.push(*digit == b'1')?;
-    }
-    Ok(bits)
-}
-
-/// Puts the bits that digits say into `x`.
-pub(crate) fn fill_bits(digits: &[u8], x: &mut [bool])
-    requires { length x.old ≡ length digits.now }
-    ensures { x.new ≡ bits_in digits.now }
-{
-    for (i, digit) in digits.iter().enumerate() {
-        x[i] = *digit == b'1';
-    }
 }

@@ -7,8 +7,9 @@ ghost use Rattle.bundle.specs.Pieces.{bits_in};
 ghost use Rattle.bundle.specs.ReportParts.{head_text, minimal_text, AreCountsBefore, IsFrontBefore, IsTail};
 ghost use Rattle.bundle.specs.Reading.{report_read};
 
-use crate::pieces::{after, bits_of, number_before, vector_before};
-use crate::report::{ReportText, add_number, add_word, metric_word};
+use crate::bits::bits_of;
+use crate::pieces::{after, number_before, vector_before};
+use crate::report_lines::{ReportText, add_number, add_word, metric_word};
 use joint_net::metric::Metric;
 use net_core::items::Bits;
 use std::alloc::{AllocError, Global};

@@ -27,12 +27,8 @@ returns-then-not-are_counts c texts known =
     let metric = meaning claim.metric in
     let read = contents.report.now in
     let N = claim.exact.now in
-    let M = contents.approx.now in (
-      clause.Counts,
-      refl,
-      other_counts N metric claim.bound texts M (report_read metric claim.bound read) contents.vectors.now known
-          (λ counts. let yes : c.are_counts.result ≡ true = c.are_counts.ensures.1 (counts_at N M read metric abs claim.bound 0 counts) in cc),
-    )
+    let M = contents.approx.now in other_counts N metric claim.bound texts M (report_read metric claim.bound read) contents.vectors.now known
+          (λ counts. let yes : c.are_counts.result ≡ true = c.are_counts.ensures.1 (counts_at N M read metric abs claim.bound 0 counts) in cc)
 
 pub returns-then-not-branch : goal.returns-then-not-branch
 returns-then-not-branch c texts known =
@@ -41,13 +37,9 @@ returns-then-not-branch c texts known =
     let metric = meaning claim.metric in
     let read = contents.report.now in
     let N = claim.exact.now in
-    let M = contents.approx.now in (
-      clause.Minimal,
-      refl,
-      not_shown N metric claim.bound texts M (report_read metric claim.bound read) contents.vectors.now known
+    let M = contents.approx.now in not_shown N metric claim.bound texts M (report_read metric claim.bound read) contents.vectors.now known
           (counts_at N M read abs metric 0 claim.bound (c.are_counts.ensures.0 c.if-not-are_counts.false))
-          (λ shown. let yes : c.in_ok-is_shown_minimal.field-0 ≡ true = c.in_ok-is_shown_minimal.ensures.1 shown in cc),
-    )
+          (λ shown. let yes : c.in_ok-is_shown_minimal.field-0 ≡ true = c.in_ok-is_shown_minimal.ensures.1 shown in cc)
 
 pub returns : goal.returns
 returns c texts known =

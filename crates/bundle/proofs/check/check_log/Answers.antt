@@ -5,7 +5,6 @@ use Rattle.semantics.specs.Texts.{Bytes}
 use Rattle.joint_net.specs.Metric.{meaning}
 use Rattle.job_semantics.specs.declared.ending.Ending.TheVariants as file
 use Rattle.job_semantics.specs.declared.clause.Clause.TheVariants as clause
-use Rattle.bundle.specs.declared.verdict.Verdict.TheVariants.{Refuted}
 use Rattle.bundle.specs.Reading.{report_read}
 use Rattle.bundle.specs.Judging.{TextRead, TextUnread, Answers, FormulaKnown}
 use Rattle.proof_semantics.specs.Formula.{Formula}
@@ -40,14 +39,11 @@ returns-then-not-branch g c =
     let new = g.F.Files.told c.is_refuted.new.files in
     let yes = c.in_ok-is_refuted.field-0 in
     let Q = λ (content : Bytes). IsTrue yes ↔ IsRefutingText c.args.formula.now.clauses content in
-    answers_now claim.exact.now metric claim.bound claim.stem.now old new file.Log Q K (Refuted 8)
+    answers_now claim.exact.now metric claim.bound claim.stem.now old new file.Log Q K (Some clause.Log)
     (subst (λ n. TextRead old new n Q) c.name.ensures c.in_ok-is_refuted.ensures.ok)
-    (λ texts known q. (
-      clause.Log,
-      refl,
-      no_refutation claim.exact.now metric claim.bound texts contents.approx.now r contents.vectors.now known
-          (λ refuting. let is : yes ≡ true = q.1 (subst (λ (f : Formula). IsRefutingText f.clauses (texts file.Log)) (sym c.requires.formula) refuting) in cc),
-    ))
+    (λ texts known. log_needed claim.exact.now metric claim.bound texts contents.approx.now r contents.vectors.now known)
+    (λ texts known q. no_refutation claim.exact.now metric claim.bound texts contents.approx.now r contents.vectors.now known
+          (λ refuting. let is : yes ≡ true = q.1 (subst (λ (f : Formula). IsRefutingText f.clauses (texts file.Log)) (sym c.requires.formula) refuting) in cc))
 
 pub returns-in_err-check_counts : goal.returns-in_err-check_counts
 returns-in_err-check_counts g c =
@@ -64,7 +60,7 @@ returns-in_err-check_counts g c =
     let p = err_from_is_err_and c.from_residual-in_err-check_counts.result c.from_residual-in_err-check_counts.ensures.1 in
     rw p.1
     (subst (λ e. Answers claim.exact.now metric claim.bound claim.stem.now K old new (Err e)) (sym p.2)
-    (answers_then_memory claim.exact.now metric claim.bound claim.stem.now old new file.Log Q K read))
+    (answers_then_memory claim.exact.now metric claim.bound claim.stem.now old new file.Log Q K read (λ texts known. log_needed claim.exact.now metric claim.bound texts contents.approx.now r contents.vectors.now known)))
 
 pub returns : goal.returns
 returns g c =
@@ -79,6 +75,7 @@ returns g c =
     let Q = λ (content : Bytes). IsTrue yes ↔ IsRefutingText c.args.formula.now.clauses content in
     answers_now claim.exact.now metric claim.bound claim.stem.now old new file.Log Q K c.in_ok-check_counts.field-0
     (subst (λ n. TextRead old new n Q) c.name.ensures c.in_ok-is_refuted.ensures.ok)
+    (λ texts known. log_needed claim.exact.now metric claim.bound texts contents.approx.now r contents.vectors.now known)
     (λ texts known q.
     c.in_ok-check_counts.ensures texts
     (record { formula = known; refutation = subst (λ (f : Formula). IsRefutingText f.clauses (texts file.Log)) c.requires.formula (q.0 c.if-not-branch.false) }))
