@@ -3,7 +3,8 @@ use Rattle.std.proofs.Common.{◌≡◌, ℕ, ◌+◌, ◌<◌, Bool, false, ltb
 use Rattle.std.proofs.lemmas.Bool.{cases_lt, lt-ltb, ltb-true}
 use Rattle.semantics.specs.Net.{NetValue, input_count, signal_count}
 use Rattle.semantics.specs.Value.{Assignment, value_of}
-use Rattle.semantics.specs.Error.{Metric, net_error, IsWithin}
+use Rattle.semantics.specs.declared.metric.Metric.{Metric}
+use Rattle.semantics.specs.Error.{net_error, IsWithin}
 use Rattle.quality_semantics.specs.Quality.{quality}
 use Rattle.quality_semantics.specs.Joint.{approximate_signal, quality_signal, joint_net, AreComparable}
 use Rattle.quality_semantics.proofs.Joint.{joint_inputs, joint_outputs, joint_acyclic, joint_exact, joint_approximate, joint_output as output_tells, outputs_are, quality_below, approximate_below, length-both_copies, whole_length}

@@ -3,6 +3,7 @@
 -- such; nothing here speaks of decisions, levels or watches.
 use Rattle.std.specs.Prelude.{◌≡◌, ◌⊎◌, ℕ, ◌+◌, ◌^◌, ◌<◌, ◌≤◌, List, [], ◌∷◌, ◌++◌, take, length, slice_index_or, ℤ, neg_ℤ, All}
 use Rattle.std.specs.List.{Contains}
+use Rattle.semantics.specs.declared.limits.TheConstants.{FEW_INPUTS, TRIED_INPUTS}
 use Rattle.proof_semantics.specs.declared.item.Item.TheVariants.{Add, Remove}
 use Rattle.proof_semantics.specs.Clauses.{Clause}
 use Rattle.proof_semantics.specs.Formula.{Formula}
@@ -40,4 +41,4 @@ pub record IsConflictChain (f : Formula) (merged conflicts : ℕ) (log : List Lo
 
 -- so many conflicts are enough for so many inputs: the inputs are few, or each input vector can be answered for twice
 abbrev pub IsEnough : ℕ → ℕ → Type 0
-IsEnough limit inputs = (inputs ≤ 8) ⊎ ((inputs ≤ 15) × (2 ^ (inputs + 1) ≤ limit))
+IsEnough limit inputs = (inputs ≤ FEW_INPUTS) ⊎ ((inputs ≤ TRIED_INPUTS) × (2 ^ (inputs + 1) ≤ limit))

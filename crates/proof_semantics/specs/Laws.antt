@@ -3,7 +3,8 @@ use Rattle.std.specs.Prelude.{◌≡◌, ℕ, suc, ◌+◌, ◌<◌, ◌≤◌, 
 use Rattle.std.specs.FinMap.{get}
 use Rattle.semantics.specs.Net.{TableValue, NetValue, input_count, signal_count, IsAcyclic, IsSmall}
 use Rattle.semantics.specs.Value.{Assignment, value_of}
-use Rattle.semantics.specs.Error.{Metric, net_error, IsWithin}
+use Rattle.semantics.specs.declared.metric.Metric.{Metric}
+use Rattle.semantics.specs.Error.{net_error, IsWithin}
 use Rattle.quality_semantics.specs.Joint.{approximate_signal, AreComparable}
 use Rattle.proof_semantics.specs.Clauses.{Clause, clause_value, Satisfies, IsUnsatisfiable, AreClausesOf}
 use Rattle.proof_semantics.specs.NetClauses.{net_clauses, goal_clauses}

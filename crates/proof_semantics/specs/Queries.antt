@@ -2,17 +2,19 @@
 -- function circuit, here answered by a witness, by a refutation, or by the conflicts that were spent.
 use Rattle.std.specs.Prelude.{◌≡◌, ℕ, ◌<◌, ◌≤◌, Bool, List, length}
 use Rattle.semantics.specs.Net.{NetValue, input_count}
-use Rattle.semantics.specs.Error.{Metric, number_of, net_error, IsWithin}
+use Rattle.semantics.specs.declared.metric.Metric.{Metric}
+use Rattle.semantics.specs.declared.limits.TheConstants.{FEW_INPUTS}
+use Rattle.semantics.specs.Error.{number_of, net_error, IsWithin}
 use Rattle.semantics.specs.Vectors.{IsFirstGreatestAt}
 use Rattle.proof_semantics.specs.Logs.{LogItem, Refutes, IsDerivation}
 use Rattle.proof_semantics.specs.Miter.{miter}
 use Rattle.proof_semantics.specs.Conflicts.{IsConflictChain, IsEnough}
 
--- an input vector whose error exceeds the level; with at most eight inputs the first in counting order
+-- an input vector whose error exceeds the level; with few inputs the first in counting order
 pub record IsOver (metric : Metric) (exact approx : NetValue) (k : ℕ) (x : List Bool) : Type 0 where
   pub width : length x ≡ input_count exact
   pub exceeds : k < net_error metric exact approx x
-  pub first : input_count exact ≤ 8 → (y : List Bool) → length y ≡ input_count exact → number_of y < number_of x → net_error metric exact approx y ≤ k
+  pub first : input_count exact ≤ FEW_INPUTS → (y : List Bool) → length y ≡ input_count exact → number_of y < number_of x → net_error metric exact approx y ≤ k
 
 -- the log refutes the miter, so no input's error exceeds the level
 pub record IsNever (metric : Metric) (exact approx : NetValue) (k : ℕ) (log : List LogItem) : Type 0 where
@@ -34,13 +36,13 @@ pub record IsSpentQuery (metric : Metric) (exact : NetValue) (limit : ℕ) (s : 
   pub merged : s.merged ≡ 0
   pub chain : IsConflictChain (miter exact s.net metric s.k) s.merged limit s.log
 
--- The greatest error over all inputs, an input that has it, and a log that refutes the miter at it; with at most eight inputs the input is the
--- first in counting order.
+-- The greatest error over all inputs, an input that has it, and a log that refutes the miter at it; with few inputs the input is the first in
+-- counting order.
 pub record IsMaximum (metric : Metric) (exact approx : NetValue) (most : ℕ) (witness : List Bool) (log : List LogItem) : Type 0 where
   pub width : length witness ≡ input_count exact
   pub attained : net_error metric exact approx witness ≡ most
   pub never : IsNever metric exact approx most log
-  pub first : input_count exact ≤ 8 → IsFirstGreatestAt (input_count exact) (net_error metric exact approx) most witness
+  pub first : input_count exact ≤ FEW_INPUTS → IsFirstGreatestAt (input_count exact) (net_error metric exact approx) most witness
 
 -- the search for the greatest error was spent at a level within the bound
 pub record IsSpentLevel (metric : Metric) (exact approx : NetValue) (bound limit : ℕ) (s : SpentValue) : Type 0 where

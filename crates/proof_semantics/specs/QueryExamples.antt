@@ -1,6 +1,7 @@
 -- Worked examples of what queries answer.
 use Rattle.std.specs.Prelude.{true, false, List, [], ◌∷◌}
-use Rattle.semantics.specs.Error.{abs, net_error}
+use Rattle.semantics.specs.declared.metric.Metric.TheVariants.{Abs}
+use Rattle.semantics.specs.Error.{net_error}
 use Rattle.semantics.specs.Vectors.{IsFirstGreatestAt}
 use Rattle.semantics.specs.Examples.{half_adder, constant_sum}
 use Rattle.proof_semantics.specs.Logs.{LogItem}
@@ -8,12 +9,12 @@ use Rattle.proof_semantics.specs.Queries.{IsOver, SpentValue, IsSpentQuery, IsMa
 
 -- a half adder with the sum 0 is wrong by 1 at 1 and 0, and at 0 and 1
 pub record QueryExamples : Type 0 where
-  pub first : IsOver abs half_adder constant_sum 0 (true ∷ false ∷ [])
-  pub not_the_first : ¬ IsOver abs half_adder constant_sum 0 (false ∷ true ∷ [])
-  pub not_above : ¬ IsOver abs half_adder constant_sum 1 (true ∷ false ∷ [])
-  pub too_short : ¬ IsOver abs half_adder constant_sum 0 (true ∷ [])
-  pub few_inputs : (s : SpentValue) → ¬ IsSpentQuery abs half_adder 1 s
-  pub greatest : IsFirstGreatestAt 2 (net_error abs half_adder constant_sum) 1 (true ∷ false ∷ [])
-  pub not_the_first_greatest : (log : List LogItem) → ¬ IsMaximum abs half_adder constant_sum 1 (false ∷ true ∷ []) log
-  pub maximum_too_low : (log : List LogItem) → ¬ IsMaximum abs half_adder constant_sum 0 (false ∷ false ∷ []) log
-  pub maximum_too_high : (log : List LogItem) → ¬ IsMaximum abs half_adder constant_sum 2 (true ∷ false ∷ []) log
+  pub first : IsOver Abs half_adder constant_sum 0 (true ∷ false ∷ [])
+  pub not_the_first : ¬ IsOver Abs half_adder constant_sum 0 (false ∷ true ∷ [])
+  pub not_above : ¬ IsOver Abs half_adder constant_sum 1 (true ∷ false ∷ [])
+  pub too_short : ¬ IsOver Abs half_adder constant_sum 0 (true ∷ [])
+  pub few_inputs : (s : SpentValue) → ¬ IsSpentQuery Abs half_adder 1 s
+  pub greatest : IsFirstGreatestAt 2 (net_error Abs half_adder constant_sum) 1 (true ∷ false ∷ [])
+  pub not_the_first_greatest : (log : List LogItem) → ¬ IsMaximum Abs half_adder constant_sum 1 (false ∷ true ∷ []) log
+  pub maximum_too_low : (log : List LogItem) → ¬ IsMaximum Abs half_adder constant_sum 0 (false ∷ false ∷ []) log
+  pub maximum_too_high : (log : List LogItem) → ¬ IsMaximum Abs half_adder constant_sum 2 (true ∷ false ∷ []) log

@@ -69,7 +69,7 @@ count_rows_count v W row (d ∷ ds) c h g =
     let one_more = count_more v d ds in
     subst (λ n. IsCount v 1 n (count_rows next.net next.bus ds).bus) (omega (arith, one_more)) rest
 
-length-growers : (W : WordNetValue) (d q : ℕ) (ps : List ℕ) → length (growers W d q ps).bus ≡ length ps
+pub length-growers : (W : WordNetValue) (d q : ℕ) (ps : List ℕ) → length (growers W d q ps).bus ≡ length ps
 length-growers W d q [] = refl
 length-growers W d q (p ∷ ps) = ap suc (length-growers (appended W (grow p d q)) d p ps)
 

@@ -7,7 +7,8 @@ use Rattle.std.proofs.lemmas.List.FromFn.{length-map-range_with_len}
 use Rattle.std.proofs.Math.Seq.{take-append_seam, drop-append_seam}
 use Rattle.semantics.specs.Net.{TableValue, NetValue, table_at, input_count, table_count, signal_count, signal_names, name_of, IsAcyclic, IsSound, HasSamePorts}
 use Rattle.semantics.specs.Value.{Assignment, value_of, outputs_of}
-use Rattle.semantics.specs.Error.{Metric, error_of, net_error}
+use Rattle.semantics.specs.declared.metric.Metric.{Metric}
+use Rattle.semantics.specs.Error.{error_of, net_error}
 use Rattle.semantics.specs.Copies.{IsCopiedBehind}
 use Rattle.semantics.proofs.Values.{value_law}
 use Rattle.semantics.proofs.Embedded.{appended-values}

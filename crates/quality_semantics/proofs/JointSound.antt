@@ -8,7 +8,7 @@ use Rattle.std.proofs.lemmas.List.FromFn.{get_or-map-range_with_len, length-map-
 use Rattle.std.proofs.lemmas.List.Kept.{AllPairs-cons}
 use Rattle.semantics.specs.Texts.{Bytes}
 use Rattle.semantics.specs.Net.{TableValue, NetValue, no_table, table_at, input_count, table_count, signal_count, signal_names, IsNameByte, IsName, IsTable, IsAcyclic, IsSound}
-use Rattle.semantics.specs.Error.{Metric}
+use Rattle.semantics.specs.declared.metric.Metric.{Metric}
 use Rattle.quality_semantics.specs.WordNets.{WordNetValue, signals, IsWordNet}
 use Rattle.quality_semantics.specs.Quality.{quality}
 use Rattle.quality_semantics.specs.Joint.{numbered_name, copied_from, copied, approximate_signal, quality_signal, joint_net, AreComparable}

@@ -5,8 +5,10 @@ pub mod Numbers
 pub mod Counts
 pub mod Rounding
 pub mod Formed
+pub mod Signed
 pub mod Quality
 pub mod Sound
 pub mod Multiply
 pub mod Joint
 pub mod JointSound
+pub mod Room

@@ -8,15 +8,19 @@ use Rattle.std.proofs.lemmas.List.FromFn.{length-map-range_with_len, length-rang
 use Rattle.std.proofs.lemmas.List.Elements.{All-from_get_or}
 use Rattle.semantics.specs.Net.{IsAcyclic}
 use Rattle.semantics.specs.Value.{Assignment, value_of}
-use Rattle.semantics.specs.Error.{Metric, abs, rel, ham, distance, error_of, greatest_error}
+use Rattle.semantics.specs.declared.metric.Metric.{Metric}
+use Rattle.semantics.specs.declared.metric.Metric.TheVariants.{Abs, Rel, Ham, Sabs}
+use Rattle.semantics.specs.Error.{distance, error_of, greatest_error}
 use Rattle.semantics.proofs.Order.{IsAcyclic-in_order}
 use Rattle.semantics.proofs.Sizes.{error_of-le}
+use Rattle.semantics.proofs.Signed.{flipped_error}
 use Rattle.quality_semantics.specs.WordNets.{signals, started, BeginsWith, AreSignalsOf, IsWordNet}
-use Rattle.quality_semantics.specs.Buses.{WithSignal, constant, times, not_zero_low, differ, binary, places}
-use Rattle.quality_semantics.specs.Quality.{exact_bus, approximate_bus, absolute_excess, relative_excess, differing_excess, excess, no_excess, quality}
+use Rattle.quality_semantics.specs.Buses.{WithSignal, constant, times, not_zero_low, flip_top, differ, binary, places}
+use Rattle.quality_semantics.specs.Quality.{exact_bus, approximate_bus, absolute_excess, relative_excess, differing_excess, signed_excess, excess, no_excess, quality}
 use Rattle.quality_semantics.specs.Laws.{Fits, number}
 use Rattle.quality_semantics.proofs.Growth.{begins_itself, begins_after, begins_times, begins_low, begins_differences, begins_exceed, begins_at_least, signals_kept, Fits-earlier, Fits-values}
 use Rattle.quality_semantics.proofs.Numbers.{exceed_value, constant_number, times_number, not_zero_number, input_bits}
+use Rattle.quality_semantics.proofs.Signed.{begins_flip_top, flip_top_formed, flip_top_bits}
 use Rattle.quality_semantics.proofs.Counts.{differ_count, at_least_value}
 use Rattle.quality_semantics.proofs.Formed.{HasSignal, IsWordNet-started, exceed_formed, constant_formed, times_formed, not_zero_formed, differ_formed, at_least_formed}
 use Rattle.quality_semantics.proofs.Rounding.{rounded_up_exceeds}
@@ -38,7 +42,7 @@ exact_in w = inputs_in (w + w) 0 w (omega arith)
 approximate_in : (w : ℕ) → AreSignalsOf (started (w + w)) (approximate_bus w)
 approximate_in w = inputs_in (w + w) w w (omega arith)
 
-absolute_is : (w k : ℕ) → IsExcess abs w k (absolute_excess w k)
+absolute_is : (w k : ℕ) → IsExcess Abs w k (absolute_excess w k)
 absolute_is w k =
     let start = started (w + w) in
     let bound = constant start k in
@@ -54,7 +58,7 @@ absolute_is w k =
 lt_as_le : (k n : ℕ) → leb (suc k) n ≡ ltb k n
 lt_as_le k n = grind (arith, nat_tests)
 
-differing_is : (w k : ℕ) → IsExcess ham w k (differing_excess w k)
+differing_is : (w k : ℕ) → IsExcess Ham w k (differing_excess w k)
 differing_is w k =
     let start = started (w + w) in
     let d = differ start (exact_bus w) (approximate_bus w) in
@@ -76,7 +80,7 @@ scaled e a = omega arith
 one_or_more : (e : ℕ) → 1 ≤ max 1 e
 one_or_more e = grind arith
 
-relative_is : (w k : ℕ) → 0 < w → IsExcess rel w k (relative_excess w k)
+relative_is : (w k : ℕ) → 0 < w → IsExcess Rel w k (relative_excess w k)
 relative_is w k some =
     let start = started (w + w) in
     let e = exact_bus w in
@@ -113,6 +117,35 @@ relative_is w k some =
           ∙ rw (exact, approximate, level, divisor, scaled (number v e) (number v a)) (sym (rounded_up_exceeds (distance (number v e) (number v a) * 1000000) (max 1 (number v e)) k (one_or_more (number v e))));
     }
 
+signed_is : (w k : ℕ) → 0 < w → IsExcess Sabs w k (signed_excess w k)
+signed_is w k some =
+    let start = started (w + w) in
+    let e = flip_top start (exact_bus w) in
+    let a = flip_top e.net (approximate_bus w) in
+    let bound = constant a.net k in
+    let to_e = begins_flip_top start (exact_bus w) in
+    let to_a = begins_flip_top e.net (approximate_bus w) in
+    let to_end = begins_exceed a.net e.bus a.bus bound in
+    let at_e = flip_top_formed start (exact_bus w) (IsWordNet-started (w + w)) (exact_in w) in
+    let at_a = flip_top_formed e.net (approximate_bus w) at_e.net (signals_kept start e.net (approximate_bus w) to_e (approximate_in w)) in
+    let e_in = signals_kept e.net a.net e.bus to_a at_e.bus in
+    record {
+      begins = begins_after start e.net _ (begins_after e.net a.net _ to_end to_a) to_e;
+      formed = exceed_formed a.net e.bus a.bus bound at_a.net e_in at_a.bus (constant_formed a.net k at_a.net);
+      value = λ v h.
+          let fits_a = Fits-earlier v _ a.net to_end h in
+          let fits_e = Fits-earlier v a.net e.net to_a fits_a in
+          let exact_width = length-range_with_len 0 w in
+          let approximate_width = length-range_with_len w w in
+          let exact = flip_top_bits v start (exact_bus w) (omega (arith, exact_width, some)) fits_e in
+          let approximate = flip_top_bits v e.net (approximate_bus w) (omega (arith, approximate_width, some)) fits_a in
+          let level = constant_number v a.net k fits_a in
+          let same = length-map-range_with_len v 0 w ∙ sym (length-map-range_with_len v w w) in
+          exceed_value v a.net e.bus a.bus bound h
+          ∙ rw (level, exact, approximate) refl
+          ∙ ap (ltb k) (sym (flipped_error (map v (exact_bus w)) (map v (approximate_bus w)) same));
+    }
+
 -- no error of two words exceeds a level from the greatest error on
 no_excess_is : (metric : Metric) (w k : ℕ) → greatest_error metric w ≤ k → IsExcess metric w k (no_excess w)
 no_excess_is metric w k high = record {
@@ -124,10 +157,12 @@ no_excess_is metric w k high = record {
 }
 
 excess_is : (metric : Metric) (w k : ℕ) → k < greatest_error metric w → IsExcess metric w k (excess metric w k)
-excess_is abs w k low = absolute_is w k
-excess_is rel zero k low = absurd (omega (arith, low))
-excess_is rel (suc w) k low = relative_is (suc w) k (omega arith)
-excess_is ham w k low = differing_is w k
+excess_is Abs w k low = absolute_is w k
+excess_is Rel zero k low = absurd (omega (arith, low))
+excess_is Rel (suc w) k low = relative_is (suc w) k (omega arith)
+excess_is Ham w k low = differing_is w k
+excess_is Sabs zero k low = absurd (omega (arith, low))
+excess_is Sabs (suc w) k low = signed_is (suc w) k (omega arith)
 
 pub quality_zero : (metric : Metric) (w k : ℕ) → greatest_error metric w ≤ k → quality metric w k ≡ no_excess w
 unfolding quality

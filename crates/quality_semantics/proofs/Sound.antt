@@ -1,14 +1,14 @@
 -- A network under construction makes a sound net.
-use Rattle.std.proofs.Common.{◌≡◌, ◌≢◌, ℕ, suc, ◌+◌, ◌-◌, ◌^◌, ◌<◌, ◌≤◌, List, [], ◌∷◌, map, length, get_or, All, decimal, codes, cond, ltb, inl, inr, refl, ap, sym, subst, arith, length-append}
+use Rattle.std.proofs.Common.{◌≡◌, ◌≢◌, ℕ, ◌-◌, ◌^◌, ◌<◌, ◌≤◌, List, [], ◌∷◌, map, length, get_or, decimal, codes, cond, ltb, inl, inr, refl, ap, sym, subst, arith, length-append}
 use Rattle.std.specs.List.{range_with_len}
 use Rattle.std.proofs.lemmas.Fmt.{decimal_injective}
 use Rattle.std.proofs.lemmas.Bool.{cases_lt, lt-ltb, le-ltb}
 use Rattle.std.proofs.lemmas.List.{get_or_append_left, get_or-append_right, length-map, get_or-map, get_or_default}
-use Rattle.std.proofs.lemmas.List.Elements.{All-nil, All-cons, All-push, All-from_recursion}
+use Rattle.std.proofs.lemmas.List.Elements.{All-from_recursion}
 use Rattle.std.proofs.lemmas.List.FromFn.{get_or-map-range_with_len, length-map-range_with_len}
 use Rattle.semantics.specs.Net.{TableValue, NetValue, no_table, input_count, signal_names, IsNameByte, IsName, IsTable, IsSound}
 use Rattle.semantics.specs.Value.{outputs_of}
-use Rattle.semantics.specs.Error.{Metric}
+use Rattle.semantics.specs.declared.metric.Metric.{Metric}
 use Rattle.semantics.proofs.Order.{IsAcyclic-in_order}
 use Rattle.semantics.proofs.NumberedNames.{IsName-numbered}
 use Rattle.quality_semantics.specs.WordNets.{WordNetValue, signals, net_of, AreSignalsOf, IsWordTable, IsWordNet}

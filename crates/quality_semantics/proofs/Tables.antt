@@ -4,7 +4,7 @@ use Rattle.std.proofs.lemmas.Bool.{cases_eq, ne_eqb}
 use Rattle.semantics.specs.declared.mark.Mark.TheVariants.{Zero, Dash}
 use Rattle.semantics.specs.Value.{Assignment, table_value, row_matches}
 use Rattle.semantics.specs.Error.{bit_number, number_of, distance}
-use Rattle.quality_semantics.specs.Forms.{Form, and2, or2, xor2, xor3, maj, gt, grow, low}
+use Rattle.quality_semantics.specs.Forms.{Form, inv, and2, or2, xor2, xor3, maj, gt, grow, low}
 use Rattle.quality_semantics.specs.WordNets.{table_of}
 
 -- the value of a table of a form, wherever it stands
@@ -42,6 +42,13 @@ comparator false false false = refl
 
 pub comparator_value : (v : Assignment) (x y g : ℕ) → form_value (gt x y g) v ≡ ltb (bit_number (v y)) (bit_number (v x) + bit_number (v g))
 comparator_value v x y g = comparator (v x) (v y) (v g)
+
+opposite : (a : Bool) → form_value (inv 0) (three a a a) ≡ not a
+opposite true = refl
+opposite false = refl
+
+pub inv_value : (v : Assignment) (x : ℕ) → form_value (inv x) v ≡ not (v x)
+inv_value v x = opposite (v x)
 
 both : (a b : Bool) → form_value (and2 0 1) (three a b b) ≡ (a && b)
 both true true = refl

@@ -1,7 +1,7 @@
 -- Networks on buses. A bus is a list of signals, bit 0 first; past its width it has the signal of 0. Each call appends tables to a network, in
 -- the order in which they stand here. Source: ripple-carry adders and comparators, multiplication by double-and-add, threshold counters.
-use Rattle.std.specs.Prelude.{ℕ, zero, suc, ◌/◌, ◌%◌, ◌==◌, Bool, true, false, cond, replicate, slice_index_or, List, [], ◌∷◌, map}
-use Rattle.quality_semantics.specs.Forms.{or2, xor2, xor3, maj, gt, grow, low}
+use Rattle.std.specs.Prelude.{ℕ, zero, suc, ◌-◌, ◌/◌, ◌%◌, ◌==◌, Bool, true, false, cond, replicate, slice_index_or, slice_set, List, [], ◌∷◌, length, map}
+use Rattle.quality_semantics.specs.Forms.{inv, or2, xor2, xor3, maj, gt, grow, low}
 use Rattle.quality_semantics.specs.WordNets.{WordNetValue, signals, appended}
 
 -- the network after a call, and the bus or the signal that is the call's result
@@ -81,6 +81,12 @@ times W x k = times_bits W x (binary k)
 abbrev pub not_zero_low : WordNetValue → List ℕ → WithBus
 not_zero_low W [] = record { net = W; bus = [] }
 not_zero_low W (x ∷ xs) = record { net = appended W (low x xs); bus = signals W ∷ xs }
+
+-- the word with its last bit, the sign, turned over; the bus is not empty
+abbrev pub flip_top : WordNetValue → List ℕ → WithBus
+flip_top W x =
+    let top = length x - 1 in
+    record { net = appended W (inv (slice_index_or x top W.inputs)); bus = slice_set x top (signals W) }
 
 -- a row of exclusive disjunctions
 abbrev pub differences : WordNetValue → List (ℕ × ℕ) → WithBus

@@ -2,12 +2,12 @@
 use Rattle.std.specs.Prelude.{◌≡◌, ℕ, ◌+◌, List, [], ◌∷◌, map, length, take, codes}
 use Rattle.std.specs.List.{range_with_len}
 use Rattle.semantics.specs.Net.{TableValue, row_count}
-use Rattle.semantics.specs.Error.{abs, rel, ham}
+use Rattle.semantics.specs.declared.metric.Metric.TheVariants.{Abs, Rel, Ham, Sabs}
 use Rattle.semantics.specs.Blif.{blif_text}
 use Rattle.semantics.specs.Examples.{text, half_adder, constant_sum, wire}
-use Rattle.quality_semantics.specs.Forms.{Form, zero_form, one_form, or2, xor2, xor3, maj, gt, grow, low}
+use Rattle.quality_semantics.specs.Forms.{Form, zero_form, one_form, or2, xor2, xor3, maj, gt, grow, low, inv}
 use Rattle.quality_semantics.specs.WordNets.{table_of, started}
-use Rattle.quality_semantics.specs.Buses.{binary, constant, add, times, not_zero_low, at_least}
+use Rattle.quality_semantics.specs.Buses.{binary, constant, add, times, not_zero_low, flip_top, at_least}
 use Rattle.quality_semantics.specs.Multiply.{product_rows, sum_of_rows, multiplier, multiplier_net}
 use Rattle.quality_semantics.specs.Quality.{quality, quality_net}
 use Rattle.quality_semantics.specs.Joint.{joint_net}
@@ -20,33 +20,49 @@ numbered i (f ∷ forms) = table_of i f ∷ numbered (i + 1) forms
 pub record AbsoluteExamples : Type 0 where
   -- over the inputs e, 0, and a, 1: the tables stand from signal 2 on
   pub one_bit :
-      (quality abs 1 0).net.tables
+      (quality Abs 1 0).net.tables
       ≡ numbered 0 (zero_form ∷ one_form ∷ xor3 1 2 2 ∷ maj 1 2 2 ∷ gt 0 4 2 ∷ gt 2 5 6 ∷ xor3 0 2 2 ∷ maj 0 2 2 ∷ gt 1 8 2 ∷ gt 2 9 10 ∷ or2 7 11 ∷ [])
-  pub one_bit_output : (quality_net abs 1 0).outputs ≡ 12 ∷ []
-  pub one_bit_rows : row_count (quality_net abs 1 0) ≡ 29
-  pub two_bits : (length (quality abs 2 1).net.tables ≡ 17) × (row_count (quality_net abs 2 1) ≡ 49) × ((quality abs 2 1).signal ≡ 20)
-  pub never : quality abs 2 3 ≡ record { net = started 4; signal = 4 }
+  pub one_bit_output : (quality_net Abs 1 0).outputs ≡ 12 ∷ []
+  pub one_bit_rows : row_count (quality_net Abs 1 0) ≡ 29
+  pub two_bits : (length (quality Abs 2 1).net.tables ≡ 17) × (row_count (quality_net Abs 2 1) ≡ 49) × ((quality Abs 2 1).signal ≡ 20)
+  pub never : quality Abs 2 3 ≡ record { net = started 4; signal = 4 }
   pub million : length (binary 1000000) ≡ 20
   pub constants : (constant (started 4) 0 ≡ []) × (constant (started 4) 6 ≡ 4 ∷ 5 ∷ 5 ∷ [])
   pub empty_sum : (add (started 4) [] []).bus ≡ 4 ∷ []
 
 pub record OtherExamples : Type 0 where
   -- whether the bits 0 and 1 differ, and whether that was so at least once
-  pub differing_bit : (quality ham 1 0).net.tables ≡ numbered 0 (zero_form ∷ one_form ∷ xor2 0 1 ∷ grow 2 4 3 ∷ [])
-  pub differing_output : (quality_net ham 1 0).outputs ≡ 5 ∷ []
+  pub differing_bit : (quality Ham 1 0).net.tables ≡ numbered 0 (zero_form ∷ one_form ∷ xor2 0 1 ∷ grow 2 4 3 ∷ [])
+  pub differing_output : (quality_net Ham 1 0).outputs ≡ 5 ∷ []
   pub two_differing_bits :
-      (quality ham 2 1).net.tables
+      (quality Ham 2 1).net.tables
       ≡ numbered 0 (zero_form ∷ one_form ∷ xor2 0 2 ∷ xor2 1 3 ∷ grow 4 6 5 ∷ grow 4 6 4 ∷ grow 8 7 5 ∷ grow 9 7 8 ∷ [])
-  pub two_differing_output : (quality ham 2 1).signal ≡ 11
+  pub two_differing_output : (quality Ham 2 1).signal ≡ 11
   pub at_least_none : at_least (started 4) (0 ∷ 1 ∷ []) 0 ≡ record { net = started 4; signal = 5 }
-  pub never_differing : quality ham 2 2 ≡ record { net = started 4; signal = 4 }
-  pub relative_begins : take 5 (quality rel 1 0).net.tables ≡ numbered 0 (zero_form ∷ one_form ∷ low 0 [] ∷ xor3 2 0 2 ∷ maj 2 0 2 ∷ [])
-  pub relative_tables : (length (quality rel 1 0).net.tables ≡ 382) × ((quality rel 1 0).signal ≡ 383)
-  pub relative_rows : row_count (quality_net rel 1 0) ≡ 1301
-  pub relative_half : (length (quality rel 1 500000).net.tables ≡ 492) × (row_count (quality_net rel 1 500000) ≡ 1686)
-  pub never_relative : quality rel 1 1000000 ≡ record { net = started 2; signal = 2 }
+  pub never_differing : quality Ham 2 2 ≡ record { net = started 4; signal = 4 }
+  pub relative_begins : take 5 (quality Rel 1 0).net.tables ≡ numbered 0 (zero_form ∷ one_form ∷ low 0 [] ∷ xor3 2 0 2 ∷ maj 2 0 2 ∷ [])
+  pub relative_tables : (length (quality Rel 1 0).net.tables ≡ 382) × ((quality Rel 1 0).signal ≡ 383)
+  pub relative_rows : row_count (quality_net Rel 1 0) ≡ 1301
+  pub relative_half : (length (quality Rel 1 500000).net.tables ≡ 492) × (row_count (quality_net Rel 1 500000) ≡ 1686)
+  pub never_relative : quality Rel 1 1000000 ≡ record { net = started 2; signal = 2 }
   pub not_zero : (not_zero_low (started 4) (0 ∷ 1 ∷ [])).bus ≡ 6 ∷ 1 ∷ []
   pub tripled : (times (started 4) (0 ∷ 1 ∷ []) 3).bus ≡ 6 ∷ 8 ∷ 10 ∷ 11 ∷ []
+
+pub record SignedExamples : Type 0 where
+  -- over the inputs 0 and 1, which are e, and 2 and 3, which are a: the tables stand from signal 4 on
+  pub two_bits :
+      (quality Sabs 2 1).net.tables
+      ≡ numbered 0 (zero_form ∷ one_form ∷ inv 1 ∷ inv 3
+      ∷ xor3 2 5 4 ∷ maj 2 5 4 ∷ xor3 7 4 9 ∷ maj 7 4 9 ∷ gt 0 8 4 ∷ gt 6 10 12 ∷ gt 4 11 13
+      ∷ xor3 0 5 4 ∷ maj 0 5 4 ∷ xor3 6 4 16 ∷ maj 6 4 16 ∷ gt 2 15 4 ∷ gt 7 17 19 ∷ gt 4 18 20 ∷ or2 14 21 ∷ [])
+  pub two_bits_output : (quality_net Sabs 2 1).outputs ≡ 22 ∷ []
+  pub two_bits_rows : row_count (quality_net Sabs 2 1) ≡ 51
+  -- at width 1 both words are signs
+  pub one_bit : take 4 (quality Sabs 1 0).net.tables ≡ numbered 0 (zero_form ∷ one_form ∷ inv 0 ∷ inv 1 ∷ [])
+  pub one_bit_counts : (length (quality Sabs 1 0).net.tables ≡ 13) × (row_count (quality_net Sabs 1 0) ≡ 31) × ((quality Sabs 1 0).signal ≡ 14)
+  pub one_bit_begins : quality Sabs 1 1 ≡ record { net = started 2; signal = 2 }
+  pub never : quality Sabs 2 3 ≡ record { net = started 4; signal = 4 }
+  pub flipped : (flip_top (started 6) (0 ∷ 1 ∷ 2 ∷ [])).bus ≡ 0 ∷ 1 ∷ 8 ∷ []
 
 -- how many bits the sum of the first k rows has, in the multiplier of two words of w bits
 abbrev pub sum_width : ℕ → ℕ → ℕ
@@ -64,7 +80,7 @@ pub record MultiplierExamples : Type 0 where
 pub record JointExamples : Type 0 where
   -- an output that is an input: the quality network's tables alone, over one signal twice
   pub of_wires :
-      blif_text (joint_net wire wire abs 0)
+      blif_text (joint_net wire wire Abs 0)
       ≡ text (codes ".model joint" ∷ codes ".inputs x0" ∷ codes ".outputs q10" ∷ codes ".names q0" ∷ codes ".names q1" ∷ codes "1"
       ∷ codes ".names x0 q0 q0 q2" ∷ codes "100 1" ∷ codes "010 1" ∷ codes "001 1" ∷ codes "111 1"
       ∷ codes ".names x0 q0 q0 q3" ∷ codes "11- 1" ∷ codes "1-1 1" ∷ codes "-11 1"
@@ -77,12 +93,17 @@ pub record JointExamples : Type 0 where
       ∷ codes ".names q5 q9 q10" ∷ codes "1- 1" ∷ codes "-1 1" ∷ codes ".end" ∷ [])
   -- 2 inputs and 2 + 2 + 17 tables, with 3 + 1 + 49 rows
   pub of_adders :
-      (length (joint_net half_adder constant_sum abs 1).tables ≡ 21)
-      × (row_count (joint_net half_adder constant_sum abs 1) ≡ 53)
-      × ((joint_net half_adder constant_sum abs 1).outputs ≡ 22 ∷ [])
+      (length (joint_net half_adder constant_sum Abs 1).tables ≡ 21)
+      × (row_count (joint_net half_adder constant_sum Abs 1) ≡ 53)
+      × ((joint_net half_adder constant_sum Abs 1).outputs ≡ 22 ∷ [])
+  -- with the carry left as it is, and signed words: 2 inputs and 2 + 2 + 19 tables, with 3 + 1 + 51 rows
+  pub of_signed_adders :
+      (length (joint_net half_adder constant_sum Sabs 1).tables ≡ 23)
+      × (row_count (joint_net half_adder constant_sum Sabs 1) ≡ 55)
+      × ((joint_net half_adder constant_sum Sabs 1).outputs ≡ 24 ∷ [])
   pub first_names :
-      map (λ t. t.name) (take 6 (joint_net half_adder constant_sum abs 1).tables)
+      map (λ t. t.name) (take 6 (joint_net half_adder constant_sum Abs 1).tables)
       ≡ codes "e0" ∷ codes "e1" ∷ codes "a0" ∷ codes "a1" ∷ codes "q0" ∷ codes "q1" ∷ []
   pub first_pins :
-      map (λ t. t.pins) (take 7 (joint_net half_adder constant_sum abs 1).tables)
+      map (λ t. t.pins) (take 7 (joint_net half_adder constant_sum Abs 1).tables)
       ≡ (0 ∷ 1 ∷ []) ∷ (0 ∷ 1 ∷ []) ∷ [] ∷ (0 ∷ 1 ∷ []) ∷ [] ∷ [] ∷ (4 ∷ 7 ∷ 6 ∷ []) ∷ []

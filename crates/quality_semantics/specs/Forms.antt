@@ -17,6 +17,10 @@ zero_form = form [] []
 abbrev pub one_form : Form
 one_form = form [] ([] ∷ [])
 
+-- the opposite
+abbrev pub inv : ℕ → Form
+inv x = form (x ∷ []) ((Zero ∷ []) ∷ [])
+
 abbrev pub and2 : ℕ → ℕ → Form
 and2 x y = form (x ∷ y ∷ []) ((One ∷ One ∷ []) ∷ [])
 

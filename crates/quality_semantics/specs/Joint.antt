@@ -4,7 +4,7 @@ use Rattle.std.specs.Prelude.{◌≡◌, ℕ, ◌+◌, ◌-◌, nat_lt, if◌the
 use Rattle.std.specs.List.{range_with_len}
 use Rattle.semantics.specs.Texts.{Bytes}
 use Rattle.semantics.specs.Net.{TableValue, NetValue, input_count, table_count, IsSound}
-use Rattle.semantics.specs.Error.{Metric}
+use Rattle.semantics.specs.declared.metric.Metric.{Metric}
 use Rattle.quality_semantics.specs.Quality.{quality}
 
 -- a letter and a number

@@ -1,11 +1,12 @@
 -- The laws about the networks, each the contract of a function without parameters.
-use Rattle.std.specs.Prelude.{◌≡◌, ℕ, suc, ◌+◌, ◌*◌, ◌^◌, ◌<◌, ◌≤◌, max, nat_lt, nat_le, count_by, Bool, true, false, List, [], ◌∷◌, ◌++◌, map, length, take, drop, ◌-◌, slice_index_or}
+use Rattle.std.specs.Prelude.{◌≡◌, ℕ, suc, ◌+◌, ◌*◌, ◌^◌, ◌<◌, ◌≤◌, max, nat_lt, nat_le, count_by, pos, ◌+ℤ◌, Bool, true, false, List, [], ◌∷◌, ◌++◌, map, length, take, drop, ◌-◌, slice_index_or}
 use Rattle.std.specs.List.{range_with_len}
 use Rattle.semantics.specs.Net.{NetValue, table_at, input_count, signal_count, IsAcyclic, IsSound, HasSamePorts}
 use Rattle.semantics.specs.Value.{Assignment, table_value, value_of, outputs_of}
-use Rattle.semantics.specs.Error.{Metric, number_of, distance, rounded_up, differing, error_of, net_error}
+use Rattle.semantics.specs.declared.metric.Metric.{Metric}
+use Rattle.semantics.specs.Error.{number_of, signed_number_of, distance, rounded_up, differing, error_of, net_error}
 use Rattle.quality_semantics.specs.WordNets.{WordNetValue, signals, started, BeginsWith, IsWordNet}
-use Rattle.quality_semantics.specs.Buses.{binary, constant, add, times, greater, exceed, not_zero_low, differ, at_least}
+use Rattle.quality_semantics.specs.Buses.{binary, constant, add, times, greater, exceed, not_zero_low, flip_top, differ, at_least}
 use Rattle.quality_semantics.specs.Multiply.{multiply, multiplier_net, Multiplies}
 use Rattle.quality_semantics.specs.Quality.{quality, quality_net, TellsExcess}
 use Rattle.quality_semantics.specs.Joint.{approximate_signal, quality_signal, joint_net, AreComparable}
@@ -33,6 +34,8 @@ pub record BusLaw : Type 0 where
       → v (exceed W x y z).signal ≡ nat_lt (number v z) (distance (number v x) (number v y))
   pub not_zero_low : (v : Assignment) (W : WordNetValue) (x : List ℕ) → 0 < length x → Fits v (not_zero_low W x).net
       → number v (not_zero_low W x).bus ≡ max 1 (number v x)
+  pub flip_top : (v : Assignment) (W : WordNetValue) (x : List ℕ) → 0 < length x → Fits v (flip_top W x).net
+      → pos (number v (flip_top W x).bus) ≡ signed_number_of (map v x) +ℤ pos (2 ^ (length x - 1))
   pub differ : (v : Assignment) (W : WordNetValue) (x y : List ℕ) → length x ≡ length y → Fits v (differ W x y).net
       → count_by v (differ W x y).bus ≡ differing (map v x) (map v y)
   pub at_least : (v : Assignment) (W : WordNetValue) (ds : List ℕ) (k : ℕ) → Fits v (at_least W ds k).net

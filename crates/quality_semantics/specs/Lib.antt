@@ -3,6 +3,7 @@ pub mod WordNets
 pub mod Buses
 pub mod Quality
 pub mod Joint
+pub mod Sizes
 pub mod Laws
 pub mod Examples
 pub mod Multiply

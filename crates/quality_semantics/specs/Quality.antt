@@ -4,9 +4,11 @@ use Rattle.std.specs.Prelude.{◌≡◌, ℕ, suc, ◌+◌, nat_lt, nat_le, if�
 use Rattle.std.specs.List.{range_with_len}
 use Rattle.semantics.specs.Net.{NetValue}
 use Rattle.semantics.specs.Value.{outputs_of}
-use Rattle.semantics.specs.Error.{Metric, abs, rel, ham, error_of, greatest_error}
+use Rattle.semantics.specs.declared.metric.Metric.{Metric}
+use Rattle.semantics.specs.declared.metric.Metric.TheVariants.{Abs, Rel, Ham, Sabs}
+use Rattle.semantics.specs.Error.{error_of, greatest_error}
 use Rattle.quality_semantics.specs.WordNets.{started, net_of}
-use Rattle.quality_semantics.specs.Buses.{WithSignal, exceed, constant, times, not_zero_low, differ, at_least}
+use Rattle.quality_semantics.specs.Buses.{WithSignal, exceed, constant, times, not_zero_low, flip_top, differ, at_least}
 
 -- the exact word and the approximate one, in a network of w + w inputs
 abbrev pub exact_bus : ℕ → List ℕ
@@ -36,10 +38,18 @@ differing_excess w k =
     let d = differ (started (w + w)) (exact_bus w) (approximate_bus w) in
     at_least d.net d.bus (suc k)
 
+-- the words with their signs turned over are more than k apart, as the numbers in two's complement are
+abbrev pub signed_excess : ℕ → ℕ → WithSignal
+signed_excess w k =
+    let e = flip_top (started (w + w)) (exact_bus w) in
+    let a = flip_top e.net (approximate_bus w) in
+    exceed a.net e.bus a.bus (constant a.net k)
+
 abbrev pub excess : Metric → ℕ → ℕ → WithSignal
-excess abs w k = absolute_excess w k
-excess rel w k = relative_excess w k
-excess ham w k = differing_excess w k
+excess Abs w k = absolute_excess w k
+excess Rel w k = relative_excess w k
+excess Ham w k = differing_excess w k
+excess Sabs w k = signed_excess w k
 
 -- the network whose output is the constant 0
 abbrev pub no_excess : ℕ → WithSignal

@@ -1,9 +1,14 @@
 //! Worked examples of the definitions, computed by the checker: each function's contract is its examples.
-ghost use Rattle.quality_semantics.specs.Examples.{AbsoluteExamples, OtherExamples, MultiplierExamples, JointExamples};
+ghost use Rattle.quality_semantics.specs.Examples.{AbsoluteExamples, SignedExamples, OtherExamples, MultiplierExamples, JointExamples};
 
 /// Networks of the absolute error.
 pub fn absolute()
     ensures { AbsoluteExamples }
+{}
+
+/// Networks of the error of signed words.
+pub fn signed()
+    ensures { SignedExamples }
 {}
 
 /// Networks of the other two errors.

@@ -1,5 +1,6 @@
 //! The laws about the networks: each function's contract is a law.
 ghost use Rattle.quality_semantics.specs.Laws.{BusLaw, FitsLaw, RoundingLaw, MultiplierLaw, QualityLaw, JointLaw, BinaryLaw};
+ghost use Rattle.quality_semantics.specs.Sizes.{RoomLaw};
 
 /// What the buses' numbers are.
 pub fn buses()
@@ -34,4 +35,9 @@ pub fn quality()
 /// What joint nets say.
 pub fn joint_nets()
     ensures { JointLaw }
+{}
+
+/// How large quality networks and joint nets are.
+pub fn room()
+    ensures { RoomLaw }
 {}

@@ -1,4 +1,4 @@
-//! Arithmetic networks and the three quality networks, and the laws about them. It has no code.
+//! Arithmetic networks and the four quality networks, and the laws about them. It has no code.
 #![tactic(auto)]
 
 pub mod examples;

@@ -11,6 +11,7 @@ pub mod Renamed
 pub mod Without
 pub mod Refused
 pub mod Vectors
+pub mod Signed
 pub mod Sizes
 pub mod Numerals
 pub mod NumberedNames

@@ -11,6 +11,7 @@ use Rattle.std.proofs.lemmas.List.Quantifiers.{all_pairs_push}
 use Rattle.std.proofs.lemmas.List.Sums.{position_or_len_is, passes_at_first, fails_before_first}
 use Rattle.std.proofs.lemmas.Option.{none-some, cond_some}
 use Rattle.std.proofs.lemmas.Slice.Eq.{bytes_eq-Decides}
+use Rattle.semantics.specs.declared.limits.TheConstants.{MOST_INPUTS, MOST_OUTPUTS, MOST_TABLES, MOST_TABLE_PINS, MOST_PINS, MOST_ROWS}
 use Rattle.semantics.specs.Texts.{Bytes}
 use Rattle.semantics.specs.Net.{TableValue, NetValue, table_at, input_count, signal_count, signal_names, pin_count, row_count, IsName, IsTable, IsGroundedIn, IsAcyclic, IsSound, IsSmall}
 use Rattle.semantics.specs.Refusals.{has_name, first_doubled_after, first_doubled, signals_read, first_undriven, is_grounded_in, is_ungrounded, first_ungrounded, IsFirstUngrounded, first_limit, or_else, net_refusal}
@@ -182,18 +183,18 @@ first-ungrounded n tables i f =
 not_passed : {X : Type 0} (kept : Bool) (refused : X) (rest : Option X) → cond (not kept) (Some refused) rest ≡ None → (kept ≡ true) × (rest ≡ None)
 not_passed kept refused rest none = let here = none_if (not kept) refused rest none in (not-false kept here.0, here.1)
 
-Decides-narrow : (tables : List TableValue) → Decides (list_all (λ t. leb (length t.pins) 256) tables) (All (λ t. length t.pins ≤ 256) tables)
+Decides-narrow : (tables : List TableValue) → Decides (list_all (λ t. leb (length t.pins) MOST_TABLE_PINS) tables) (All (λ t. length t.pins ≤ MOST_TABLE_PINS) tables)
 Decides-narrow tables =
-    Decides-by_and (λ t. leb (length t.pins) 256) (λ t. length t.pins ≤ 256) (list_all (λ t. leb (length t.pins) 256)) (λ t. (leb-true (length t.pins) 256, le-leb (length t.pins) 256)) refl (λ t ts. refl) tables
+    Decides-by_and (λ t. leb (length t.pins) MOST_TABLE_PINS) (λ t. length t.pins ≤ MOST_TABLE_PINS) (list_all (λ t. leb (length t.pins) MOST_TABLE_PINS)) (λ t. (leb-true (length t.pins) MOST_TABLE_PINS, le-leb (length t.pins) MOST_TABLE_PINS)) refl (λ t ts. refl) tables
 
 pub small : (N : NetValue) → first_limit N ≡ None → IsSmall N
 small N none =
-    let inputs = not_passed (leb (length N.inputs) 256) _ _ none in
-    let outputs = not_passed (leb (length N.outputs) 64) _ _ inputs.1 in
-    let tables = not_passed (leb (length N.tables) 4096) _ _ outputs.1 in
-    let pins = not_passed (list_all (λ t. leb (length t.pins) 256) N.tables) _ _ tables.1 in
-    let all = not_passed (leb (pin_count N) 131072) _ _ pins.1 in
-    let rows = not_passed (leb (row_count N) 32768) _ _ all.1 in
+    let inputs = not_passed (leb (length N.inputs) MOST_INPUTS) _ _ none in
+    let outputs = not_passed (leb (length N.outputs) MOST_OUTPUTS) _ _ inputs.1 in
+    let tables = not_passed (leb (length N.tables) MOST_TABLES) _ _ outputs.1 in
+    let pins = not_passed (list_all (λ t. leb (length t.pins) MOST_TABLE_PINS) N.tables) _ _ tables.1 in
+    let all = not_passed (leb (pin_count N) MOST_PINS) _ _ pins.1 in
+    let rows = not_passed (leb (row_count N) MOST_ROWS) _ _ all.1 in
     record {
       inputs = leb-true _ _ inputs.0;
       outputs = leb-true _ _ outputs.0;
@@ -206,12 +207,12 @@ small N none =
 pub limits-small : (N : NetValue) → IsSmall N → first_limit N ≡ None
 limits-small N h =
     rw (
-      le-leb (length N.inputs) 256 h.inputs,
-      le-leb (length N.outputs) 64 h.outputs,
-      le-leb (length N.tables) 4096 h.tables,
+      le-leb (length N.inputs) MOST_INPUTS h.inputs,
+      le-leb (length N.outputs) MOST_OUTPUTS h.outputs,
+      le-leb (length N.tables) MOST_TABLES h.tables,
       (Decides-narrow N.tables).1 h.table_pins,
-      le-leb (pin_count N) 131072 h.all_pins,
-      le-leb (row_count N) 32768 h.all_rows,
+      le-leb (pin_count N) MOST_PINS h.all_pins,
+      le-leb (row_count N) MOST_ROWS h.all_rows,
     ) refl
 
 -- ---- the whole

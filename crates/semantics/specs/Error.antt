@@ -1,12 +1,11 @@
--- The number of a list of bits, and the three errors. Source: SALSA's quality functions; the relative error is in parts per million, rounded up.
-use Rattle.std.specs.Prelude.{◌≡◌, ℕ, ◌+◌, ◌-◌, ◌*◌, ◌/◌, ◌%◌, ◌^◌, ◌≤◌, min, max, Bool, true, false, List, [], ◌∷◌, length}
-use Rattle.semantics.specs.Net.{NetValue, input_count}
+-- The number of a list of bits, and the four errors. Source: SALSA's quality functions; the relative error is in parts per million, rounded
+-- up; signed words are in two's complement.
+use Rattle.std.specs.Prelude.{◌≡◌, ℕ, ◌+◌, ◌-◌, ◌*◌, ◌/◌, ◌%◌, ◌^◌, ◌≤◌, min, max, ℤ, pos, ◌-ℤ◌, unsigned_abs, Bool, true, false, not, List, [], ◌∷◌, length, slice_index_or, slice_set}
+use Rattle.semantics.specs.declared.metric.Metric.{Metric}
+use Rattle.semantics.specs.declared.metric.Metric.TheVariants.{Abs, Rel, Ham, Sabs}
+use Rattle.semantics.specs.declared.limits.TheConstants.{MOST_OUTPUTS}
+use Rattle.semantics.specs.Net.{NetValue, input_count, HasSamePorts}
 use Rattle.semantics.specs.Value.{outputs_of}
-
-pub data Metric : Type 0 where
-  abs : Metric
-  rel : Metric
-  ham : Metric
 
 abbrev pub bit_number : Bool → ℕ
 bit_number false = 0
@@ -16,6 +15,22 @@ bit_number true = 1
 abbrev pub number_of : List Bool → ℕ
 number_of [] = 0
 number_of (b ∷ bits) = bit_number b + 2 * number_of bits
+
+-- the last bit is the sign; no bits have the sign 0
+abbrev pub sign_of : List Bool → Bool
+sign_of bits = slice_index_or bits (length bits - 1) false
+
+-- what two's complement takes off: 2 to the width where the sign is 1
+abbrev pub sign_weight : List Bool → ℕ
+sign_weight bits = bit_number (sign_of bits) * 2 ^ length bits
+
+-- the number in two's complement
+abbrev pub signed_number_of : List Bool → ℤ
+signed_number_of bits = pos (number_of bits) -ℤ pos (sign_weight bits)
+
+-- the word with its sign turned over
+abbrev pub sign_flipped : List Bool → List Bool
+sign_flipped bits = slice_set bits (length bits - 1) (not (sign_of bits))
 
 abbrev pub distance : ℕ → ℕ → ℕ
 distance a b = (a - b) + (b - a)
@@ -30,21 +45,24 @@ differing (a ∷ as') (b ∷ bs) = distance (bit_number a) (bit_number b) + diff
 
 -- the error of the approximate outputs (second) against the exact ones (first)
 abbrev pub error_of : Metric → List Bool → List Bool → ℕ
-error_of abs e a = distance (number_of e) (number_of a)
-error_of rel e a = rounded_up (distance (number_of e) (number_of a) * 1000000) (max 1 (number_of e))
-error_of ham e a = differing e a
+error_of Abs e a = distance (number_of e) (number_of a)
+error_of Rel e a = rounded_up (distance (number_of e) (number_of a) * 1000000) (max 1 (number_of e))
+error_of Ham e a = differing e a
+error_of Sabs e a = unsigned_abs (signed_number_of e -ℤ signed_number_of a)
 
 -- the greatest error of so many outputs
 abbrev pub greatest_error : Metric → ℕ → ℕ
-greatest_error abs width = 2 ^ width - 1
-greatest_error rel width = (2 ^ width - 1) * 1000000
-greatest_error ham width = width
+greatest_error Abs width = 2 ^ width - 1
+greatest_error Rel width = (2 ^ width - 1) * 1000000
+greatest_error Ham width = width
+greatest_error Sabs width = 2 ^ width - 1
 
 -- what every error of at most 64 outputs is below
 abbrev pub errors_below : Metric → ℕ
-errors_below abs = 2 ^ 64
-errors_below rel = 2 ^ 84
-errors_below ham = 65
+errors_below Abs = 2 ^ 64
+errors_below Rel = 2 ^ 84
+errors_below Ham = 65
+errors_below Sabs = 2 ^ 64
 
 unfoldable pub net_error : Metric → NetValue → NetValue → List Bool → ℕ
 net_error metric exact approx x = error_of metric (outputs_of exact x) (outputs_of approx x)
@@ -52,3 +70,9 @@ net_error metric exact approx x = error_of metric (outputs_of exact x) (outputs_
 -- on every input vector the error is at most the level
 abbrev pub IsWithin : Metric → NetValue → ℕ → NetValue → Type 0
 IsWithin metric exact level approx = (x : List Bool) → length x ≡ input_count exact → net_error metric exact approx x ≤ level
+
+-- the approximate net may be judged against the exact one: it has the same ports, and there are so few outputs that every error is a number
+-- of at most 84 bits
+pub record IsCandidate (exact approx : NetValue) : Type 0 where
+  pub ports : HasSamePorts exact approx
+  pub few_outputs : length exact.outputs ≤ MOST_OUTPUTS

@@ -1,5 +1,5 @@
 -- Worked examples, computed from the definitions.
-use Rattle.std.specs.Prelude.{◌≡◌, ℕ, true, false, List, [], ◌∷◌, ◌++◌, map, flat_map, length, replicate, slice_index_or, codes, Contains, Some, None}
+use Rattle.std.specs.Prelude.{◌≡◌, ℕ, true, false, List, [], ◌∷◌, ◌++◌, map, flat_map, length, replicate, slice_index_or, ◌^◌, ◌-◌, ℤ, pos, neg_ℤ, codes, Contains, Some, None}
 use Rattle.semantics.specs.declared.mark.Mark.TheVariants.{Zero, One, Dash}
 use Rattle.semantics.specs.declared.which.Which.TheVariants as which
 use Rattle.semantics.specs.Texts.{Bytes, bits_word}
@@ -11,7 +11,9 @@ use Rattle.semantics.specs.Embedding.{IsEmbedded}
 use Rattle.semantics.specs.Copies.{IsCopiedBehind}
 use Rattle.semantics.specs.Renamed.{renamed, redirect, without}
 use Rattle.semantics.specs.Refusals.{first_doubled, first_ungrounded, first_limit, doubled, no_output, undriven, cycle, limit, net_refusal}
-use Rattle.semantics.specs.Error.{abs, rel, ham, error_of, net_error}
+use Rattle.semantics.specs.declared.metric.Metric.TheVariants.{Abs, Rel, Ham, Sabs}
+use Rattle.semantics.specs.declared.limits.TheConstants.{LARGEST_ERROR}
+use Rattle.semantics.specs.Error.{signed_number_of, sign_flipped, error_of, net_error, greatest_error}
 use Rattle.semantics.specs.Vectors.{all_vectors}
 use Rattle.semantics.specs.Blif.{blif_text}
 
@@ -93,32 +95,60 @@ pub record ValueExamples : Type 0 where
 
 pub record ErrorExamples : Type 0 where
   pub three_and_two :
-      (error_of abs (true ∷ true ∷ []) (false ∷ true ∷ []) ≡ 1)
-      × (error_of ham (true ∷ true ∷ []) (false ∷ true ∷ []) ≡ 1)
-      × (error_of rel (true ∷ true ∷ []) (false ∷ true ∷ []) ≡ 333334)
+      (error_of Abs (true ∷ true ∷ []) (false ∷ true ∷ []) ≡ 1)
+      × (error_of Ham (true ∷ true ∷ []) (false ∷ true ∷ []) ≡ 1)
+      × (error_of Rel (true ∷ true ∷ []) (false ∷ true ∷ []) ≡ 333334)
   pub nothing_and_three :
-      (error_of abs (false ∷ false ∷ []) (true ∷ true ∷ []) ≡ 3)
-      × (error_of ham (false ∷ false ∷ []) (true ∷ true ∷ []) ≡ 2)
-      × (error_of rel (false ∷ false ∷ []) (true ∷ true ∷ []) ≡ 3000000)
+      (error_of Abs (false ∷ false ∷ []) (true ∷ true ∷ []) ≡ 3)
+      × (error_of Ham (false ∷ false ∷ []) (true ∷ true ∷ []) ≡ 2)
+      × (error_of Rel (false ∷ false ∷ []) (true ∷ true ∷ []) ≡ 3000000)
   pub equal :
-      (error_of abs (true ∷ true ∷ []) (true ∷ true ∷ []) ≡ 0)
-      × (error_of ham (true ∷ true ∷ []) (true ∷ true ∷ []) ≡ 0)
-      × (error_of rel (true ∷ true ∷ []) (true ∷ true ∷ []) ≡ 0)
+      (error_of Abs (true ∷ true ∷ []) (true ∷ true ∷ []) ≡ 0)
+      × (error_of Ham (true ∷ true ∷ []) (true ∷ true ∷ []) ≡ 0)
+      × (error_of Rel (true ∷ true ∷ []) (true ∷ true ∷ []) ≡ 0)
   pub largest :
-      (error_of abs (replicate 64 false) (replicate 64 true) ≡ 18446744073709551615)
-      × (error_of ham (replicate 64 false) (replicate 64 true) ≡ 64)
-      × (error_of rel (replicate 64 false) (replicate 64 true) ≡ 18446744073709551615000000)
-  pub unchanged : map (net_error abs half_adder half_adder) (all_vectors 2) ≡ 0 ∷ 0 ∷ 0 ∷ 0 ∷ []
-  pub same_or : map (net_error abs (or_twice by_zeros) (or_twice by_copy)) (all_vectors 2) ≡ 0 ∷ 0 ∷ 0 ∷ 0 ∷ []
+      (error_of Abs (replicate 64 false) (replicate 64 true) ≡ 18446744073709551615)
+      × (error_of Ham (replicate 64 false) (replicate 64 true) ≡ 64)
+      × (error_of Rel (replicate 64 false) (replicate 64 true) ≡ 18446744073709551615000000)
+  pub unchanged : map (net_error Abs half_adder half_adder) (all_vectors 2) ≡ 0 ∷ 0 ∷ 0 ∷ 0 ∷ []
+  pub same_or : map (net_error Abs (or_twice by_zeros) (or_twice by_copy)) (all_vectors 2) ≡ 0 ∷ 0 ∷ 0 ∷ 0 ∷ []
   pub other_metrics :
-      (map (net_error ham half_adder both_constant) (all_vectors 2) ≡ 0 ∷ 1 ∷ 1 ∷ 1 ∷ [])
-      × (map (net_error rel half_adder both_constant) (all_vectors 2) ≡ 0 ∷ 1000000 ∷ 1000000 ∷ 1000000 ∷ [])
-  pub sum_is_constant : map (net_error abs half_adder constant_sum) (all_vectors 2) ≡ 0 ∷ 1 ∷ 1 ∷ 0 ∷ []
+      (map (net_error Ham half_adder both_constant) (all_vectors 2) ≡ 0 ∷ 1 ∷ 1 ∷ 1 ∷ [])
+      × (map (net_error Rel half_adder both_constant) (all_vectors 2) ≡ 0 ∷ 1000000 ∷ 1000000 ∷ 1000000 ∷ [])
+  pub sum_is_constant : map (net_error Abs half_adder constant_sum) (all_vectors 2) ≡ 0 ∷ 1 ∷ 1 ∷ 0 ∷ []
   pub carry_too :
-      map (net_error abs half_adder both_constant) (all_vectors 2) ≡ 0 ∷ 1 ∷ 1 ∷ 2 ∷ []
+      map (net_error Abs half_adder both_constant) (all_vectors 2) ≡ 0 ∷ 1 ∷ 1 ∷ 2 ∷ []
   pub carry_to_one :
-      map (net_error abs half_adder (with_table constant_sum 1 (constant_table (codes "c") true))) (all_vectors 2)
+      map (net_error Abs half_adder (with_table constant_sum 1 (constant_table (codes "c") true))) (all_vectors 2)
       ≡ 2 ∷ 1 ∷ 1 ∷ 0 ∷ []
+
+abbrev pub buffer : Bytes → ℕ → TableValue
+buffer name s = record { name = name; pins = s ∷ []; rows = (One ∷ []) ∷ []; plane = true }
+
+-- the number -n
+abbrev pub minus : ℕ → ℤ
+minus n = neg_ℤ (pos n)
+
+pub record SignedExamples : Type 0 where
+  pub none : signed_number_of [] ≡ pos 0
+  pub one_bit : map signed_number_of (all_vectors 1) ≡ pos 0 ∷ minus 1 ∷ []
+  -- the outputs 00, 10, 01 and 11, bit 0 first
+  pub two_bits : map signed_number_of (all_vectors 2) ≡ pos 0 ∷ pos 1 ∷ minus 2 ∷ minus 1 ∷ []
+  pub ends : (signed_number_of (replicate 7 true ++ false ∷ []) ≡ pos 127) × (signed_number_of (replicate 7 false ++ true ∷ []) ≡ minus 128)
+  pub flipped : map sign_flipped (all_vectors 2) ≡ (false ∷ true ∷ []) ∷ (true ∷ true ∷ []) ∷ (false ∷ false ∷ []) ∷ (true ∷ false ∷ []) ∷ []
+  pub flipped_none : sign_flipped [] ≡ []
+  -- -2 for 1, and 0 for -1
+  pub two_against_one : error_of Sabs (false ∷ true ∷ []) (true ∷ false ∷ []) ≡ 3
+  pub one_against_none : error_of Sabs (true ∷ []) (false ∷ []) ≡ 1
+  pub no_bits : error_of Sabs [] [] ≡ 0
+  pub largest : error_of Sabs (replicate 63 true ++ false ∷ []) (replicate 63 false ++ true ∷ []) ≡ 18446744073709551615
+  pub sum_is_constant : map (net_error Sabs half_adder constant_sum) (all_vectors 2) ≡ 0 ∷ 1 ∷ 1 ∷ 0 ∷ []
+  pub carry_too : map (net_error Sabs half_adder both_constant) (all_vectors 2) ≡ 0 ∷ 1 ∷ 1 ∷ 2 ∷ []
+  pub carry_to_one :
+      map (net_error Sabs half_adder (with_table half_adder 1 (constant_table (codes "c") true))) (all_vectors 2) ≡ 2 ∷ 2 ∷ 2 ∷ 0 ∷ []
+  -- the sum 0, and the carry as b or as a, which is -2 in the place of 1
+  pub carry_as_b : map (net_error Sabs half_adder (with_table constant_sum 1 (buffer (codes "c") 1))) (all_vectors 2) ≡ 0 ∷ 1 ∷ 3 ∷ 0 ∷ []
+  pub carry_as_a : map (net_error Sabs half_adder (with_table constant_sum 1 (buffer (codes "c") 0))) (all_vectors 2) ≡ 0 ∷ 3 ∷ 1 ∷ 0 ∷ []
 
 pub record TextExamples : Type 0 where
   pub half_adder_text :
@@ -160,9 +190,6 @@ name_behind s = slice_index_or (3 ∷ 2 ∷ 5 ∷ 6 ∷ []) s 0
 
 abbrev pub half_adder_behind : List TableValue
 half_adder_behind = map (renamed name_behind) half_adder.tables
-
-abbrev pub buffer : Bytes → ℕ → TableValue
-buffer name s = record { name = name; pins = s ∷ []; rows = (One ∷ []) ∷ []; plane = true }
 
 -- a buffer, an inverter of it and a reader of the inverter; then each reader of the buffer reads the input; and then the buffer is left out
 abbrev pub buffered : List TableValue
@@ -248,6 +275,7 @@ pub record LimitExamples : Type 0 where
   pub all_pins : (first_limit (sized 1 1 512 256 0 []) ≡ None) × (first_limit (sized 1 1 512 256 65 (buffer (codes "y") 0 ∷ [])) ≡ Some which.AllPins)
   pub rows : (first_limit (sized 1 1 512 0 64 []) ≡ None) × (first_limit (sized 1 1 512 0 64 (buffer (codes "y") 0 ∷ [])) ≡ Some which.Rows)
   pub all_together : first_limit (sized 256 64 4096 32 8 []) ≡ None
+  pub largest_error : (LARGEST_ERROR ≡ 2 ^ 84 - 1) × (greatest_error Rel 64 ≡ 18446744073709551615000000)
 
 pub record NameExamples : Type 0 where
   pub longest : IsName (replicate 1023 97)

@@ -1,5 +1,5 @@
 -- The laws about the definitions, each the contract of a function without parameters.
-use Rattle.std.specs.Prelude.{◌≡◌, ◌≢◌, ◌↔◌, ℕ, ◌+◌, ◌^◌, ◌<◌, ◌≤◌, Bool, true, false, List, [], ◌∷◌, ◌++◌, map, length, replicate, slice_get, slice_index_or, Some, None, decimal, All, AllPairs, Contains}
+use Rattle.std.specs.Prelude.{◌≡◌, ◌≢◌, ◌↔◌, ℕ, ◌+◌, ◌-◌, ◌^◌, ◌<◌, ◌≤◌, pos, neg_ℤ, ◌+ℤ◌, ◌≤ℤ◌, ◌<ℤ◌, Bool, true, false, List, [], ◌∷◌, ◌++◌, map, length, replicate, slice_get, slice_index_or, Some, None, decimal, All, AllPairs, Contains}
 use Rattle.std.specs.List.{AllByRecursion}
 use Rattle.semantics.specs.Texts.{Bytes}
 use Rattle.semantics.specs.Net.{TableValue, NetValue, table_at, signal_count, IsName, IsTable, IsGroundedIn, IsAcyclic, IsSound, IsSmall}
@@ -11,7 +11,10 @@ use Rattle.semantics.specs.Copies.{IsCopiedBehind}
 use Rattle.semantics.specs.Renamed.{renamed, redirect, raised, without}
 use Rattle.semantics.specs.Refusals.{first_doubled, first_undriven, first_ungrounded, IsFirstUngrounded, first_limit, net_refusal}
 use Rattle.semantics.specs.Value.{Assignment, table_value, value_of, HasOneValue}
-use Rattle.semantics.specs.Error.{Metric, number_of, error_of, greatest_error, errors_below}
+use Rattle.semantics.specs.declared.metric.Metric.{Metric}
+use Rattle.semantics.specs.declared.metric.Metric.TheVariants.{Abs, Rel, Ham, Sabs}
+use Rattle.semantics.specs.declared.limits.TheConstants.{MOST_OUTPUTS, LARGEST_ERROR}
+use Rattle.semantics.specs.Error.{number_of, sign_weight, signed_number_of, sign_flipped, distance, error_of, greatest_error, errors_below, net_error, IsCandidate}
 use Rattle.semantics.specs.Vectors.{bits_of, all_vectors}
 use Rattle.semantics.specs.Decimal.{digits_number, is_decimal}
 
@@ -28,13 +31,34 @@ pub record VectorLaw : Type 0 where
   pub place : (n : ℕ) (x : List Bool) → length x ≡ n → number_of x < 2 ^ n
   pub each : (n : ℕ) (x : List Bool) → length x ≡ n → slice_get (all_vectors n) (number_of x) ≡ Some x
 
--- of words of one width: the number is below 2 to its power, and no error is above the greatest one, which zeros and ones have;
--- at most 64 bits have errors in 64, 84 and 7 bits
+-- The least number of so many bits in two's complement is that of a 1 behind zeros, and the greatest that of a 0 behind ones.
+abbrev pub zeros : ℕ → List Bool
+zeros width = replicate width false
+
+abbrev pub ones : ℕ → List Bool
+ones width = replicate width true
+
+-- of words of one width: the number is below 2 to its power, and no error is above the greatest one, which zeros and ones have, in two's
+-- complement with their signs turned over; at most 64 bits have errors in 64, 84, 7 and 64 bits, and none is above the largest error
 pub record SizeLaw : Type 0 where
   pub number : (bits : List Bool) → number_of bits < 2 ^ length bits
   pub at_most : (metric : Metric) (width : ℕ) (e a : List Bool) → length e ≡ width → length a ≡ width → error_of metric e a ≤ greatest_error metric width
-  pub attained : (metric : Metric) (width : ℕ) → error_of metric (replicate width false) (replicate width true) ≡ greatest_error metric width
-  pub below : (metric : Metric) (e a : List Bool) → length e ≡ length a → length e ≤ 64 → error_of metric e a < errors_below metric
+  pub attained_abs : (width : ℕ) → error_of Abs (zeros width) (ones width) ≡ greatest_error Abs width
+  pub attained_rel : (width : ℕ) → error_of Rel (zeros width) (ones width) ≡ greatest_error Rel width
+  pub attained_ham : (width : ℕ) → error_of Ham (zeros width) (ones width) ≡ greatest_error Ham width
+  pub attained_sabs : (width : ℕ) → error_of Sabs (sign_flipped (zeros width)) (sign_flipped (ones width)) ≡ greatest_error Sabs width
+  pub below : (metric : Metric) (e a : List Bool) → length e ≡ length a → length e ≤ MOST_OUTPUTS → error_of metric e a < errors_below metric
+  pub largest : (metric : Metric) (exact approx : NetValue) → IsCandidate exact approx → (x : List Bool) → net_error metric exact approx x ≤ LARGEST_ERROR
+
+-- In two's complement a word of some bits has a number from -2 ^ (width - 1) to 2 ^ (width - 1) - 1; to turn its sign over adds
+-- 2 ^ (width - 1), so words whose signs are turned over are as far apart as their numbers in two's complement were. The signed error is
+-- the distance of two natural numbers, each with what two's complement takes off the other word.
+pub record SignedLaw : Type 0 where
+  pub least : (bits : List Bool) → 0 < length bits → neg_ℤ (pos (2 ^ (length bits - 1))) ≤ℤ signed_number_of bits
+  pub greatest : (bits : List Bool) → 0 < length bits → signed_number_of bits <ℤ pos (2 ^ (length bits - 1))
+  pub flipped : (bits : List Bool) → 0 < length bits → pos (number_of (sign_flipped bits)) ≡ signed_number_of bits +ℤ pos (2 ^ (length bits - 1))
+  pub flipped_error : (e a : List Bool) → length e ≡ length a → error_of Sabs e a ≡ error_of Abs (sign_flipped e) (sign_flipped a)
+  pub naturals : (e a : List Bool) → error_of Sabs e a ≡ distance (number_of e + sign_weight a) (number_of a + sign_weight e)
 
 -- a number is written as one decimal word, and no other decimal word reads as that number
 pub record NumeralLaw : Type 0 where

@@ -4,6 +4,7 @@ use Rattle.std.specs.Prelude.{◌≡◌, ◌≢◌, ◌⊎◌, ℕ, zero, suc, �
 use Rattle.std.specs.List.{AllByRecursion}
 use Rattle.semantics.specs.declared.mark.Mark.{Mark}
 use Rattle.semantics.specs.declared.mark.Mark.TheVariants.{Zero, One, Dash}
+use Rattle.semantics.specs.declared.limits.TheConstants.{MOST_INPUTS, MOST_OUTPUTS, MOST_TABLES, MOST_TABLE_PINS, MOST_PINS, MOST_ROWS}
 use Rattle.semantics.specs.Texts.{Bytes}
 
 -- a `.names` table: its name, the signals of its pins, its rows of marks, and the output plane of all its rows
@@ -106,12 +107,12 @@ pub record IsSound (N : NetValue) : Type 0 where
 
 -- the limits of a netlist that is read
 pub record IsSmall (N : NetValue) : Type 0 where
-  pub inputs : length N.inputs ≤ 256
-  pub outputs : length N.outputs ≤ 64
-  pub tables : length N.tables ≤ 4096
-  pub table_pins : All (λ t. length t.pins ≤ 256) N.tables
-  pub all_pins : pin_count N ≤ 131072
-  pub all_rows : row_count N ≤ 32768
+  pub inputs : length N.inputs ≤ MOST_INPUTS
+  pub outputs : length N.outputs ≤ MOST_OUTPUTS
+  pub tables : length N.tables ≤ MOST_TABLES
+  pub table_pins : All (λ t. length t.pins ≤ MOST_TABLE_PINS) N.tables
+  pub all_pins : pin_count N ≤ MOST_PINS
+  pub all_rows : row_count N ≤ MOST_ROWS
 
 -- each pin of a table is an input or an earlier table
 abbrev pub IsInOrder : ℕ → List TableValue → Type 0

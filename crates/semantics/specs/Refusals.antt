@@ -3,6 +3,7 @@ use Rattle.std.specs.Prelude.{ℕ, zero, suc, ◌+◌, ◌-◌, ◌<◌, ◌==�
 use Rattle.std.specs.List.{list_any, list_all, find, range_with_len}
 use Rattle.semantics.specs.declared.which.Which.{Which}
 use Rattle.semantics.specs.declared.which.Which.TheVariants as which
+use Rattle.semantics.specs.declared.limits.TheConstants.{MOST_INPUTS, MOST_OUTPUTS, MOST_TABLES, MOST_TABLE_PINS, MOST_PINS, MOST_ROWS}
 use Rattle.semantics.specs.Texts.{Bytes}
 use Rattle.semantics.specs.Net.{TableValue, NetValue, table_at, input_count, signal_count, signal_names, pin_count, row_count, IsGroundedIn}
 
@@ -46,12 +47,12 @@ pub record IsFirstUngrounded (n : ℕ) (tables : List TableValue) (i : ℕ) : Ty
 -- the first limit that is passed
 abbrev pub first_limit : NetValue → Option Which
 first_limit N =
-    if not (nat_le (length N.inputs) 256) then Some which.Inputs
-    else (if not (nat_le (length N.outputs) 64) then Some which.Outputs
-    else (if not (nat_le (length N.tables) 4096) then Some which.Tables
-    else (if not (list_all (λ t. nat_le (length t.pins) 256) N.tables) then Some which.Pins
-    else (if not (nat_le (pin_count N) 131072) then Some which.AllPins
-    else (if not (nat_le (row_count N) 32768) then Some which.Rows
+    if not (nat_le (length N.inputs) MOST_INPUTS) then Some which.Inputs
+    else (if not (nat_le (length N.outputs) MOST_OUTPUTS) then Some which.Outputs
+    else (if not (nat_le (length N.tables) MOST_TABLES) then Some which.Tables
+    else (if not (list_all (λ t. nat_le (length t.pins) MOST_TABLE_PINS) N.tables) then Some which.Pins
+    else (if not (nat_le (pin_count N) MOST_PINS) then Some which.AllPins
+    else (if not (nat_le (row_count N) MOST_ROWS) then Some which.Rows
     else None)))))
 
 pub data NetRefused : Type 0 where

@@ -1,14 +1,19 @@
 //! Worked examples of the definitions, computed by the checker: each function's contract is its examples.
-ghost use Rattle.semantics.specs.Examples.{ValueExamples, ErrorExamples, TextExamples, ChangeExamples, RefusalExamples, LimitExamples, NameExamples};
+ghost use Rattle.semantics.specs.Examples.{ValueExamples, ErrorExamples, SignedExamples, TextExamples, ChangeExamples, RefusalExamples, LimitExamples, NameExamples};
 
 /// Values of tables in and out of order, and counts.
 pub fn values()
     ensures { ValueExamples }
 {}
 
-/// The three errors, and those of a half adder whose tables become constants.
+/// The errors of unsigned words, and those of a half adder whose tables become constants.
 pub fn errors()
     ensures { ErrorExamples }
+{}
+
+/// Numbers in two's complement, and the signed error.
+pub fn signed_errors()
+    ensures { SignedExamples }
 {}
 
 /// The texts of nets.

@@ -1,5 +1,5 @@
 //! The laws about the definitions: each function's contract is a law.
-ghost use Rattle.semantics.specs.Laws.{ValueLaw, EmbeddingLaw, CopyLaw, ReplacedLaw, DependenceLaw, AcyclicLaw, GroundedLaw, OrderLaw, EvaluationLaw, RenamedLaw, WithoutLaw, RefusalLaw, VectorLaw, SizeLaw, NumeralLaw};
+ghost use Rattle.semantics.specs.Laws.{ValueLaw, EmbeddingLaw, CopyLaw, ReplacedLaw, DependenceLaw, AcyclicLaw, GroundedLaw, OrderLaw, EvaluationLaw, RenamedLaw, WithoutLaw, RefusalLaw, VectorLaw, SizeLaw, SignedLaw, NumeralLaw};
 
 /// Acyclic tables give each signal one value at each input vector.
 pub fn values()
@@ -69,6 +69,11 @@ pub fn vectors()
 /// How large numbers and errors of words are.
 pub fn sizes()
     ensures { SizeLaw }
+{}
+
+/// Words in two's complement, and the signed error in natural numbers.
+pub fn signed_words()
+    ensures { SignedLaw }
 {}
 
 /// Decimal words and the numbers that they read as.

@@ -8,4 +8,4 @@ use Rattle.proof_semantics.proofs.examples.miters.Goals as goal
 
 pub returns : goal.returns
 unfolding binary quality joint_net net_clauses goal_clauses
-returns c = record { of_wires = (refl, refl); of_adders = (refl, refl) }
+returns c = record { of_wires = (refl, refl); of_adders = (refl, refl); of_signed_adders = (refl, refl) }

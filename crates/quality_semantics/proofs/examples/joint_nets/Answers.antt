@@ -10,4 +10,4 @@ use Rattle.quality_semantics.proofs.examples.joint_nets.Goals as goal
 
 pub returns : goal.returns
 unfolding text_of blif_text digits quality binary joint_net
-returns c = record { of_wires = refl; of_adders = (refl, refl, refl); first_names = refl; first_pins = refl }
+returns c = record { of_wires = refl; of_adders = (refl, refl, refl); of_signed_adders = (refl, refl, refl); first_names = refl; first_pins = refl }

@@ -11,4 +11,5 @@ returns c = record {
   all_pins = (refl, refl);
   rows = (refl, refl);
   all_together = refl;
+  largest_error = (refl, refl);
 }
