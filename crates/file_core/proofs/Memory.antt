@@ -6,11 +6,14 @@ use Rattle.std.specs.Bool.{⊤}
 use Rattle.std.specs.Option.{is_some, unwrap_or, IfSome}
 use Rattle.std.specs.Ordering.{nat_cmp, eq_by_cmp}
 use Rattle.std.specs.Cmp.Lexicographic.{slice_cmp, nat_list_cmp_total}
+use Rattle.std.specs.Prelude.{count_by, bytes_eq}
 use Rattle.std.specs.FinMap.{get, insert, contains_key, get-insert}
 use Rattle.semantics.specs.Texts.{Bytes}
-use Rattle.outside_semantics.specs.Outside.{Held, Place, Goes, StaysCalm, KeepsAtOpen, Opened, OpenFailed, KeepsAtRead, GaveNext, Gave, ReadFailed, Created, CreateFailed, Wrote, WriteFailed, bytes_of, added_to, appended}
+use Rattle.outside_semantics.specs.Outside.{Held, Place, Goes, KeepsTurns, StaysCalm, KeepsAtOpen, Opened, OpenFailed, KeepsAtRead, GaveNext, Gave, ReadFailed, Created, CreateFailed, Wrote, WriteFailed, bytes_of, turns_on, turns_after, added_to, appended}
+use Rattle.outside_semantics.proofs.ReadTurns.{turns_kept, turns_grow}
 use Rattle.file_core.specs.Calls.{one_more, is_listed, none_left}
 use Rattle.file_core.specs.Memory.{MemoryValue, memory_told, fails_next, faulted, opened, not_opened, left_of, moved, read_on, created, not_created, wrote}
+use Rattle.history.specs.declared.reads.Reads.{Reads}
 use Rattle.file_core.specs.Counting.{Rises}
 use Rattle.file_core.specs.declared.calls.Calls.{Calls}
 use Rattle.file_core.specs.declared.cursor.Cursor.{Cursor}
@@ -42,9 +45,10 @@ pub record Later (m n : MemoryValue) : Type 0 where
   pub calls : m.calls ≤ n.calls
   pub failing : n.failing ≡ m.failing
 
-Goes-memory : (m n : MemoryValue) → Later m n → ((name : Bytes) → contains_key m.held name ≡ true → contains_key n.held name ≡ true) → Goes (memory_told m) (memory_told n)
-Goes-memory m n later keeps = record {
+Goes-memory : (m n : MemoryValue) → Later m n → ((name : Bytes) → turns_on (memory_told m) name ≤ turns_on (memory_told n) name) → ((name : Bytes) → contains_key m.held name ≡ true → contains_key n.held name ≡ true) → Goes (memory_told m) (memory_told n)
+Goes-memory m n later turns keeps = record {
   counts = later.faults;
+  turns = turns;
   untold = λ e. absurd (none-some m.held (sym e));
   steady_read = λ name e.
       let parts = and_parts _ _ e in
@@ -80,9 +84,10 @@ contains_key-appended : (h : Held) (w : Option Bytes) (text q : Bytes) → conta
 contains_key-appended h None text q e = e
 contains_key-appended h (Some name) text q e = contains_key-added_to (get h name) h name text q e
 
-KeepsAtOpen-memory : (m n : MemoryValue) (name : Bytes) → Later m n → n.held ≡ m.held → KeepsAtOpen (memory_told m) (memory_told n) name
-KeepsAtOpen-memory m n name later same = record {
-  goes = Goes-memory m n later (λ q e. subst (λ x. contains_key x q ≡ true) (sym same) e);
+KeepsAtOpen-memory : (m n : MemoryValue) (name : Bytes) → Later m n → n.turns ≡ m.turns → n.held ≡ m.held → KeepsAtOpen (memory_told m) (memory_told n) name
+KeepsAtOpen-memory m n name later turns same = record {
+  goes = Goes-memory m n later (turns_kept turns) (λ q e. subst (λ x. contains_key x q ≡ true) (sym same) e);
+  turns = turns;
   stays = λ a b x y. sym (same_Some n.held b y) ∙ same ∙ same_Some m.held a x;
   still_told = λ a x held. ap Some same ∙ x;
 }
@@ -90,7 +95,8 @@ KeepsAtOpen-memory m n name later same = record {
 -- `open_file` found the name
 pub Opened-memory : (m n : MemoryValue) (name : Bytes) → Later m n → n ≡ opened m name → contains_key m.held name ≡ true → Opened (memory_told m) (memory_told n) name
 Opened-memory m n name later is held = record {
-  keeps = KeepsAtOpen-memory m n name later (ap (λ x. x.held) is);
+  keeps = KeepsAtOpen-memory m n name later (ap (λ x. x.turns) is) (ap (λ x. x.held) is);
+  opened = ap (λ x. x.opened) is;
   is_held = λ a b x y. subst (λ h. contains_key h name ≡ true) (same_Some m.held a x) held;
   reading = λ a b x y. ap (λ v. v.reading) is;
   calm = λ e.
@@ -103,18 +109,20 @@ rose_once m n e = omega arith
 -- `open_file` failed by its number or for a missing name
 pub OpenFailed-memory : (m n : MemoryValue) (name : Bytes) → Later m n → n ≡ not_opened m → (fails_next m ≡ true) ⊎ (contains_key m.held name ≡ false) → OpenFailed (memory_told m) (memory_told n) name
 OpenFailed-memory m n name later is why = record {
-  keeps = KeepsAtOpen-memory m n name later (ap (λ x. x.held) is);
+  keeps = KeepsAtOpen-memory m n name later (ap (λ x. x.turns) is) (ap (λ x. x.held) is);
   rose = rose_once m n (ap (λ x. x.faults) is);
   not_steady = ⊎_elim
       (λ (listed : fails_next m ≡ true). and_right _ _ (none_left-listed m.failing m.calls listed))
       (λ (missing : contains_key m.held name ≡ false). and_left _ _ missing)
       why;
   closed = ap (λ x. x.reading) is;
+  none_opened = ap (λ x. x.opened) is;
 }
 
-KeepsAtRead-memory : (m n : MemoryValue) → Later m n → n.held ≡ m.held → is_some n.reading ≡ is_some m.reading → KeepsAtRead (memory_told m) (memory_told n)
-KeepsAtRead-memory m n later same open_same = record {
-  goes = Goes-memory m n later (λ q e. subst (λ x. contains_key x q ≡ true) (sym same) e);
+KeepsAtRead-memory : (m n : MemoryValue) → Later m n → ((name : Bytes) → turns_on (memory_told m) name ≤ turns_on (memory_told n) name) → n.opened ≡ m.opened → n.held ≡ m.held → is_some n.reading ≡ is_some m.reading → KeepsAtRead (memory_told m) (memory_told n)
+KeepsAtRead-memory m n later turns opened same open_same = record {
+  goes = Goes-memory m n later turns (λ q e. subst (λ x. contains_key x q ≡ true) (sym same) e);
+  opened = opened;
   calm = StaysCalm-memory m n later (λ e. open_same ∙ e);
   stays = λ a x. ap Some same ∙ x;
 }
@@ -145,10 +153,15 @@ none_open held old k room none count =
     let left : left_of held old ≡ 0 = ap (left_of held) none in
     omega arith
 
+turns_read : (m n : MemoryValue) (asked k : ℕ) → n.turns ≡ turns_after m.opened asked k m.turns → (name : Bytes) → turns_on (memory_told m) name ≤ turns_on (memory_told n) name
+turns_read m n asked k is name =
+    subst (λ ts. turns_on (memory_told m) name ≤ count_by (bytes_eq name) ts) (sym is) (turns_grow m.opened asked k m.turns name)
+
 -- `read` gave k bytes
-pub Gave-memory : (m n : MemoryValue) (k : ℕ) (buffer : Bytes) → Later m n → n ≡ read_on m k → 0 < m.chunk → k ≡ min (min (length buffer) m.chunk) (left_of m.held m.reading) → ((place : Place) → m.reading ≡ Some place → take k buffer ≡ take k (drop place.at (bytes_of m.held place.name))) → Gave (memory_told m) (memory_told n) k buffer
+pub Gave-memory : (m n : MemoryValue) (k : ℕ) (buffer : Bytes) → Later m n → n ≡ read_on m (length buffer) k → 0 < m.chunk → k ≡ min (min (length buffer) m.chunk) (left_of m.held m.reading) → ((place : Place) → m.reading ≡ Some place → take k buffer ≡ take k (drop place.at (bytes_of m.held place.name))) → Gave (memory_told m) (memory_told n) k buffer
 Gave-memory m n k buffer later is some count bytes = record {
-  keeps = KeepsAtRead-memory m n later (ap (λ x. x.held) is) (ap (λ x. is_some x.reading) is ∙ is_some-moved k m.reading);
+  keeps = KeepsAtRead-memory m n later (turns_read m n (length buffer) k (ap (λ x. x.turns) is)) (ap (λ x. x.opened) is) (ap (λ x. x.held) is) (ap (λ x. is_some x.reading) is ∙ is_some-moved k m.reading);
+  turns = ap (λ x. x.turns) is;
   from_file = λ a place x reads.
       subst (λ h. GaveNext (bytes_of h place.name) place k buffer n.reading) (same_Some m.held a x)
       (GaveNext-given m.held m.reading n.reading place k m.chunk buffer reads (ap (λ v. v.reading) is) (λ _. some) count (bytes place reads));
@@ -159,7 +172,8 @@ Gave-memory m n k buffer later is some count bytes = record {
 -- `read` failed by its number or with nothing open
 pub ReadFailed-memory : (m n : MemoryValue) → Later m n → n ≡ faulted m → (fails_next m ≡ true) ⊎ (m.reading ≡ None) → ReadFailed (memory_told m) (memory_told n)
 ReadFailed-memory m n later is why = record {
-  keeps = KeepsAtRead-memory m n later (ap (λ x. x.held) is) (ap (λ x. is_some x.reading) is);
+  keeps = KeepsAtRead-memory m n later (turns_kept (ap (λ x. x.turns) is)) (ap (λ x. x.opened) is) (ap (λ x. x.held) is) (ap (λ x. is_some x.reading) is);
+  turns = ap (λ x. x.turns) is;
   rose = rose_once m n (ap (λ x. x.faults) is);
   not_calm = ⊎_elim
       (λ (listed : fails_next m ≡ true). and_right _ _ (none_left-listed m.failing m.calls listed))
@@ -171,7 +185,8 @@ ReadFailed-memory m n later is why = record {
 -- `create` made the file
 pub Created-memory : (m n : MemoryValue) (name : Bytes) → Later m n → n ≡ created m name → Created (memory_told m) (memory_told n) name
 Created-memory m n name later is = record {
-  goes = Goes-memory m n later (λ q e. subst (λ x. contains_key x.held q ≡ true) (sym is) (contains_key-insert m.held name [] q e));
+  goes = Goes-memory m n later (turns_kept (ap (λ x. x.turns) is)) (λ q e. subst (λ x. contains_key x.held q ≡ true) (sym is) (contains_key-insert m.held name [] q e));
+  turns = record { opened = ap (λ x. x.opened) is; turns = ap (λ x. x.turns) is };
   made = λ a b x y. sym (same_Some n.held b y) ∙ ap (λ v. v.held) is ∙ ap (λ h. insert h name []) (same_Some m.held a x);
   writing = λ a b x y. ap (λ v. v.writing) is;
   calm = λ e. e;
@@ -180,7 +195,8 @@ Created-memory m n name later is = record {
 -- `create` failed
 pub CreateFailed-memory : (m n : MemoryValue) (name : Bytes) → Later m n → n ≡ not_created m → CreateFailed (memory_told m) (memory_told n) name
 CreateFailed-memory m n name later is = record {
-  goes = Goes-memory m n later (λ q e. subst (λ x. contains_key x.held q ≡ true) (sym is) e);
+  goes = Goes-memory m n later (turns_kept (ap (λ x. x.turns) is)) (λ q e. subst (λ x. contains_key x.held q ≡ true) (sym is) e);
+  turns = record { opened = ap (λ x. x.opened) is; turns = ap (λ x. x.turns) is };
   rose = rose_once m n (ap (λ x. x.faults) is);
   not_steady = refl;
   stays = λ a b x y. sym (same_Some n.held b y) ∙ ap (λ v. v.held) is ∙ same_Some m.held a x;
@@ -190,7 +206,8 @@ CreateFailed-memory m n name later is = record {
 -- `append` added the text
 pub Wrote-memory : (m n : MemoryValue) (text : Bytes) → Later m n → n ≡ wrote m text → Wrote (memory_told m) (memory_told n) text
 Wrote-memory m n text later is = record {
-  goes = Goes-memory m n later (λ q e. subst (λ x. contains_key x.held q ≡ true) (sym is) (contains_key-appended m.held m.writing text q e));
+  goes = Goes-memory m n later (turns_kept (ap (λ x. x.turns) is)) (λ q e. subst (λ x. contains_key x.held q ≡ true) (sym is) (contains_key-appended m.held m.writing text q e));
+  turns = record { opened = ap (λ x. x.opened) is; turns = ap (λ x. x.turns) is };
   calm = StaysCalm-memory m n later (λ e. ap (λ x. is_some x.reading) is ∙ e);
   writing = ap (λ x. x.writing) is;
   held = λ a b x y. sym (same_Some n.held b y) ∙ ap (λ v. v.held) is ∙ ap (λ h. appended h m.writing text) (same_Some m.held a x);
@@ -199,7 +216,8 @@ Wrote-memory m n text later is = record {
 -- `append` failed
 pub WriteFailed-memory : (m n : MemoryValue) → Later m n → n ≡ faulted m → WriteFailed (memory_told m) (memory_told n) []
 WriteFailed-memory m n later is = record {
-  goes = Goes-memory m n later (λ q e. subst (λ x. contains_key x.held q ≡ true) (sym is) e);
+  goes = Goes-memory m n later (turns_kept (ap (λ x. x.turns) is)) (λ q e. subst (λ x. contains_key x.held q ≡ true) (sym is) e);
+  turns = record { opened = ap (λ x. x.opened) is; turns = ap (λ x. x.turns) is };
   calm = StaysCalm-memory m n later (λ e. ap (λ x. is_some x.reading) is ∙ e);
   rose = rose_once m n (ap (λ x. x.faults) is);
   not_calm = refl;
@@ -246,8 +264,8 @@ next_bytes-counted es reading c k given is at e place reads =
     e ∙ ap (λ x. take k (drop c.at x)) (sym (bytes_of-counted es c.file at))
     ∙ ap (λ (p : Place). take k (drop p.at (bytes_of (held_in es) p.name))) (same_Some _ _ (ap (place_of es) (sym is) ∙ reads))
 
-same_memory : {m n : MemoryValue} → m.held ≡ n.held → m.reading ≡ n.reading → m.writing ≡ n.writing → m.faults ≡ n.faults → m.calls ≡ n.calls → m.failing ≡ n.failing → m.chunk ≡ n.chunk → m ≡ n
-same_memory h r w f c l k = λ i. record { held = h i; reading = r i; writing = w i; faults = f i; calls = c i; failing = l i; chunk = k i }
+same_memory : {m n : MemoryValue} → m.held ≡ n.held → m.reading ≡ n.reading → m.writing ≡ n.writing → m.opened ≡ n.opened → m.turns ≡ n.turns → m.faults ≡ n.faults → m.calls ≡ n.calls → m.failing ≡ n.failing → m.chunk ≡ n.chunk → m ≡ n
+same_memory h r w o t f c l k = λ i. record { held = h i; reading = r i; writing = w i; opened = o i; turns = t i; faults = f i; calls = c i; failing = l i; chunk = k i }
 
 name_at-kept : {es fs : List Entry} {name bytes : Bytes} {i : ℕ} (k : ℕ) → SetsFile es fs name bytes i → IsCounted es k → name_at fs k ≡ name_at es k
 name_at-kept k sets at = (sets.keeps _ k at).named
@@ -260,11 +278,13 @@ appended-counted : (es : List Entry) (i : ℕ) (text : Bytes) → IsCounted es i
 appended-counted es i text at = ap (λ o. added_to o (held_in es) (name_at es i) text) (get-first at)
 
 -- the entry that is written got the text at its end
-pub wrote-extended : (es fs : List Entry) (reading : Option Cursor) (writing : Option ℕ) (cs ds : Calls) (chunk i : ℕ) (text : Bytes) → writing ≡ Some i → IfSome reading (λ c. IsCounted es c.file) → IsCounted es i → SetsFile es fs (name_at es i) (bytes_at es i ++ text) i → ds ≡ record cs { calls = one_more cs.calls } → memory_value fs reading writing ds chunk ≡ wrote (memory_value es reading writing cs chunk) text
-wrote-extended es fs reading writing cs ds chunk i text is reads at sets once = same_memory
+pub wrote-extended : (es fs : List Entry) (reading : Option Cursor) (writing : Option ℕ) (known : Reads) (cs ds : Calls) (chunk i : ℕ) (text : Bytes) → writing ≡ Some i → IfSome reading (λ c. IsCounted es c.file) → IsCounted es i → SetsFile es fs (name_at es i) (bytes_at es i ++ text) i → ds ≡ record cs { calls = one_more cs.calls } → memory_value fs reading writing known ds chunk ≡ wrote (memory_value es reading writing known cs chunk) text
+wrote-extended es fs reading writing known cs ds chunk i text is reads at sets once = same_memory
     (sets.held ∙ sym (appended-counted es i text at) ∙ ap (λ w. appended (held_in es) (name_of es w) text) (sym is))
     (place_of-kept reading sets reads)
     (ap (name_of fs) is ∙ ap Some (name_at-kept i sets at) ∙ ap (name_of es) (sym is))
+    refl
+    refl
     (ap (λ x. x.faults) once)
     (ap (λ x. x.calls) once)
     (ap (λ x. x.failing) once)

@@ -6,7 +6,7 @@ use Rattle.std.proofs.lemmas.Bool.{false_from_ne_true, both_ways}
 use Rattle.std.proofs.Math.Seq.{take-append-add}
 use Rattle.std.specs.FinMap.{get, insert}
 use Rattle.semantics.specs.Texts.{Bytes}
-use Rattle.outside_semantics.specs.Outside.{Held, FilesTold, SinkTold, Rose, Goes, StaysCalm, Wrote, WriteFailed, SinkGoes, Took, TakeFailed, added_to, appended}
+use Rattle.outside_semantics.specs.Outside.{Held, FilesTold, SinkTold, Rose, Goes, KeepsTurns, StaysCalm, Wrote, WriteFailed, SinkGoes, Took, TakeFailed, added_to, appended}
 use Rattle.outside_semantics.proofs.HeldFiles.{get-insert_same, insert-insert, insert-get}
 
 -- a rise that comes after other calls is a rise
@@ -15,7 +15,7 @@ rose_later a b c le rose = omega arith
 
 -- without a call all goes on
 pub Goes-same : (a : FilesTold) → Goes a a
-Goes-same a = record { counts = omega arith; untold = λ e. e; steady_read = λ name e. e; steady_write = λ name e. e }
+Goes-same a = record { counts = omega arith; turns = λ name. omega arith; untold = λ e. e; steady_read = λ name e. e; steady_write = λ name e. e }
 
 -- what goes on over two turns goes on over both
 pub Goes-Goes : {a b c : FilesTold} → Goes a b → Goes b c → Goes a c
@@ -24,10 +24,19 @@ Goes-Goes {a} {b} {c} p q =
     let second : b.faults ≤ c.faults = q.counts in
     record {
       counts = omega arith;
+      turns = λ name. omega (arith, p.turns name, q.turns name);
       untold = λ e. q.untold (p.untold e);
       steady_read = λ name e. q.steady_read name (p.steady_read name e);
       steady_write = λ name e. q.steady_write name (p.steady_write name e);
     }
+
+-- without a call there is no turn
+pub KeepsTurns-same : (a : FilesTold) → KeepsTurns a a
+KeepsTurns-same a = record { opened = refl; turns = refl }
+
+-- where there is no turn in either of two calls there is none in both
+pub KeepsTurns-KeepsTurns : {a b c : FilesTold} → KeepsTurns a b → KeepsTurns b c → KeepsTurns a c
+KeepsTurns-KeepsTurns p q = record { opened = q.opened ∙ p.opened; turns = q.turns ∙ p.turns }
 
 -- without a call all that is calm stays calm
 pub StaysCalm-same : (a : FilesTold) → StaysCalm a a
@@ -74,6 +83,7 @@ appended_after x m y v w s t same_open first then =
 pub Wrote-nil : (a : FilesTold) → Wrote a a []
 Wrote-nil a = record {
   goes = Goes-same a;
+  turns = KeepsTurns-same a;
   calm = StaysCalm-same a;
   writing = refl;
   held = λ x y at_x at_y. same_Some y x (sym at_y ∙ at_x) ∙ sym (appended-nil x a.writing);
@@ -83,6 +93,7 @@ Wrote-nil a = record {
 pub Wrote-Wrote : {a b c : FilesTold} {s t : Bytes} → Wrote a b s → Wrote b c t → Wrote a c (s ++ t)
 Wrote-Wrote {a} {b} {c} {s} {t} p q = record {
   goes = Goes-Goes p.goes q.goes;
+  turns = KeepsTurns-KeepsTurns p.turns q.turns;
   calm = StaysCalm-StaysCalm p.calm q.calm;
   writing = q.writing ∙ p.writing;
   held = λ x y at_x at_y.
@@ -94,6 +105,7 @@ Wrote-Wrote {a} {b} {c} {s} {t} p q = record {
 pub WriteFailed-after : {a b c : FilesTold} {s t : Bytes} → Wrote a b s → WriteFailed b c t → WriteFailed a c (s ++ t)
 WriteFailed-after {a} {b} {c} {s} {t} p q = record {
   goes = Goes-Goes p.goes q.goes;
+  turns = KeepsTurns-KeepsTurns p.turns q.turns;
   calm = StaysCalm-StaysCalm p.calm q.calm;
   rose = rose_later a.faults b.faults c.faults p.goes.counts q.rose;
   not_calm = false_from_ne_true _ (λ yes. both_ways _ q.not_calm (p.calm.write yes));
@@ -107,6 +119,7 @@ WriteFailed-after {a} {b} {c} {s} {t} p q = record {
 pub WriteFailed-more : {a b : FilesTold} {s : Bytes} (t : Bytes) → WriteFailed a b s → WriteFailed a b (s ++ t)
 WriteFailed-more {a} {b} {s} t p = record {
   goes = p.goes;
+  turns = p.turns;
   calm = p.calm;
   rose = p.rose;
   not_calm = p.not_calm;

@@ -3,15 +3,18 @@ use Rattle.std.specs.Prelude.{ℕ, ◌+◌, ◌-◌, Bool, false, ◌&&◌, List
 use Rattle.std.specs.Coded.{Coded, code_by, coded×, coded_ℕ, coded_list, coded_option}
 use Rattle.std.specs.FinMap as map
 use Rattle.semantics.specs.Texts.{Bytes}
-use Rattle.outside_semantics.specs.Outside.{Held, Place, FilesTold, bytes_of, appended}
+use Rattle.outside_semantics.specs.Outside.{Held, Place, FilesTold, bytes_of, turns_after, appended}
 use Rattle.file_core.specs.Calls.{one_more, is_listed, none_left}
 use Rattle.file_core.specs.Entries.{Entry, held_in}
 
--- `calls` and `faults` are counts, `failing` the numbers of the calls that fail, and `chunk` the most bytes of one call
+-- `opened` and `turns` are what is told of reading, `calls` and `faults` are counts, `failing` the numbers of the calls that fail, and
+-- `chunk` the most bytes of one call
 pub record MemoryValue : Type 0 where
   pub held : Held
   pub reading : Option Place
   pub writing : Option Bytes
+  pub opened : Option Bytes
+  pub turns : List Bytes
   pub faults : ℕ
   pub calls : ℕ
   pub failing : List ℕ
@@ -27,10 +30,10 @@ place_code =
 -- a value is stored as the tuple of its fields
 abbrev pub memory_code : Coded MemoryValue
 memory_code =
-    code_by (Held × (Option Place × (Option Bytes × (ℕ × (ℕ × (List ℕ × ℕ))))))
-    (coded× (map.code bytes_code bytes_code) (coded× (coded_option place_code) (coded× (coded_option bytes_code) (coded× coded_ℕ (coded× coded_ℕ (coded× (coded_list coded_ℕ) coded_ℕ))))))
-    (λ m. (m.held, (m.reading, (m.writing, (m.faults, (m.calls, (m.failing, m.chunk)))))))
-    (λ p. record { held = p.0; reading = p.1.0; writing = p.1.1.0; faults = p.1.1.1.0; calls = p.1.1.1.1.0; failing = p.1.1.1.1.1.0; chunk = p.1.1.1.1.1.1 })
+    code_by (Held × (Option Place × (Option Bytes × (Option Bytes × (List Bytes × (ℕ × (ℕ × (List ℕ × ℕ))))))))
+    (coded× (map.code bytes_code bytes_code) (coded× (coded_option place_code) (coded× (coded_option bytes_code) (coded× (coded_option bytes_code) (coded× (coded_list bytes_code) (coded× coded_ℕ (coded× coded_ℕ (coded× (coded_list coded_ℕ) coded_ℕ))))))))
+    (λ m. (m.held, (m.reading, (m.writing, (m.opened, (m.turns, (m.faults, (m.calls, (m.failing, m.chunk)))))))))
+    (λ p. record { held = p.0; reading = p.1.0; writing = p.1.1.0; opened = p.1.1.1.0; turns = p.1.1.1.1.0; faults = p.1.1.1.1.1.0; calls = p.1.1.1.1.1.1.0; failing = p.1.1.1.1.1.1.1.0; chunk = p.1.1.1.1.1.1.1.1 })
     (λ _. refl)
 
 -- files before the first call
@@ -39,6 +42,8 @@ files_at_first files failing chunk = record {
   held = held_in files;
   reading = None;
   writing = None;
+  opened = None;
+  turns = [];
   faults = 0;
   calls = 0;
   failing = failing;
@@ -51,6 +56,8 @@ memory_told m = record {
   held = Some m.held;
   reading = m.reading;
   writing = m.writing;
+  opened = m.opened;
+  turns = m.turns;
   faults = m.faults;
   steady_read = λ name. map.contains_key m.held name && none_left m.failing m.calls;
   steady_write = λ name. false;
@@ -70,10 +77,10 @@ faulted m = record m { calls = one_more m.calls; faults = one_more m.faults }
 
 -- after `open_file`
 abbrev pub opened : MemoryValue → Bytes → MemoryValue
-opened m name = record (counted m) { reading = Some (record { name = name; at = 0 }) }
+opened m name = record (counted m) { reading = Some (record { name = name; at = 0 }); opened = Some name }
 
 abbrev pub not_opened : MemoryValue → MemoryValue
-not_opened m = record (faulted m) { reading = None }
+not_opened m = record (faulted m) { reading = None; opened = None }
 
 -- the bytes that are left of the file that is read
 abbrev pub left_of : Held → Option Place → ℕ
@@ -84,9 +91,9 @@ left_of held (Some place) = length (bytes_of held place.name) - place.at
 abbrev pub moved : ℕ → Option Place → Option Place
 moved n reading = option_map (λ p. record { name = p.name; at = p.at + n }) reading
 
--- after `read`
-abbrev pub read_on : MemoryValue → ℕ → MemoryValue
-read_on m n = record (counted m) { reading = moved n m.reading }
+-- after `read` was asked for so many bytes and gave n
+abbrev pub read_on : MemoryValue → ℕ → ℕ → MemoryValue
+read_on m asked n = record (counted m) { reading = moved n m.reading; turns = turns_after m.opened asked n m.turns }
 
 -- after `create`
 abbrev pub created : MemoryValue → Bytes → MemoryValue

@@ -1,10 +1,26 @@
--- Text that is gathered in a page before it is appended.
-use Rattle.std.specs.Prelude.{◌≡◌, ◌++◌}
+-- Text that is gathered in a page before it is appended, and what a call that gathers or writes a text comes to.
+use Rattle.std.specs.Prelude.{◌≡◌, [], ◌++◌, Result, OnOk, OnErr}
 use Rattle.semantics.specs.Texts.{Bytes}
-use Rattle.outside_semantics.specs.Outside.{FilesTold, Wrote}
+use Rattle.outside_semantics.specs.Outside.{FilesTold, SinkTold, Wrote, WriteFailed, Took, TakeFailed}
 
 -- the text came behind what the page held, a first part of both was appended, and the page holds the rest
 pub record Gathered (old new : FilesTold) (before after text : Bytes) : Type 0 where
   pub sent : Bytes
   pub wrote : Wrote old new sent
   pub rest : before ++ text ≡ sent ++ after
+
+-- The text was gathered behind what the page held; or a fault came, a first part of both was appended, and the page is empty.
+pub record Gathers {T E : Type 0} (result : Result T E) (old new : FilesTold) (before after text : Bytes) : Type 0 where
+  pub ok : OnOk result (Gathered old new before after text)
+  pub err : OnErr result (WriteFailed old new (before ++ text))
+  pub emptied : OnErr result (after ≡ [])
+
+-- the text was appended; or a fault came, and a first part of it was
+pub record Writes {T E : Type 0} (result : Result T E) (old new : FilesTold) (text : Bytes) : Type 0 where
+  pub ok : OnOk result (Wrote old new text)
+  pub err : OnErr result (WriteFailed old new text)
+
+-- the same of a sink
+pub record Puts {T E : Type 0} (result : Result T E) (old new : SinkTold) (text : Bytes) : Type 0 where
+  pub ok : OnOk result (Took old new text)
+  pub err : OnErr result (TakeFailed old new text)

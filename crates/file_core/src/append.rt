@@ -1,6 +1,5 @@
 //! Whole texts over calls that may take a part.
-ghost use Rattle.std.specs.Prelude.{OnOk, OnErr};
-ghost use Rattle.outside_semantics.specs.Outside.{Wrote, WriteFailed, Took, TakeFailed};
+ghost use Rattle.file_core.specs.Page.{Writes, Puts};
 
 use crate::fault::FileFault;
 use crate::files::Files;
@@ -8,8 +7,7 @@ use crate::sink::Sink;
 
 /// Appends the whole text to the file that is being written. After a fault a first part of it was appended.
 pub fn append_all<F: Files>(files: &mut F, text: &[u8]) -> Result<(), FileFault>
-    ensures ok { OnOk result (Wrote (F.told files.old) (F.told files.new) text.now) }
-    ensures err { OnErr result (WriteFailed (F.told files.old) (F.told files.new) text.now) }
+    ensures { Writes result (F.told files.old) (F.told files.new) text.now }
 {
     let mut rest = text;
     while !rest.is_empty() {
@@ -21,8 +19,7 @@ pub fn append_all<F: Files>(files: &mut F, text: &[u8]) -> Result<(), FileFault>
 
 /// Puts the whole text. After a fault a first part of it was put.
 pub fn put_all<K: Sink>(say: &mut K, text: &[u8]) -> Result<(), FileFault>
-    ensures ok { OnOk result (Took (K.told say.old) (K.told say.new) text.now) }
-    ensures err { OnErr result (TakeFailed (K.told say.old) (K.told say.new) text.now) }
+    ensures { Puts result (K.told say.old) (K.told say.new) text.now }
 {
     let mut rest = text;
     while !rest.is_empty() {

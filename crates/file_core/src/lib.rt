@@ -13,4 +13,5 @@ pub mod page;
 pub mod sink;
 pub mod sure_files;
 pub mod sure_sink;
+pub mod turns;
 pub mod word;

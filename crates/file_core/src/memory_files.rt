@@ -9,6 +9,8 @@ use crate::cursor::{Cursor, copy_next};
 use crate::fault::FileFault;
 use crate::files::Files;
 use crate::lists::{CallList, FileList};
+use crate::turns::count_read;
+use history::reads::Reads;
 use std::marker::Model;
 
 /// Files in memory. A call fails where its number is listed, where a file to be opened is missing, and where nothing
@@ -18,6 +20,7 @@ pub struct MemFiles {
     files: FileList,
     reading: Option<Cursor>,
     writing: Option<usize>,
+    reads: Reads,
     calls: Calls,
     chunk: usize,
 }
@@ -31,7 +34,7 @@ impl Model for MemFiles {
 
     ghost use Rattle.file_core.specs.Cursor.{memory_value, IsMemory};
 
-    ghost view = { λ m. memory_value m.files m.reading m.writing m.calls m.chunk };
+    ghost view = { λ m. memory_value m.files m.reading m.writing m.reads m.calls m.chunk };
 
     ghost invariant = { λ m. IsMemory m.files m.reading m.writing m.chunk };
 }
@@ -45,6 +48,7 @@ impl MemFiles {
             files,
             reading: None,
             writing: None,
+            reads: Reads::new(),
             calls: Calls {
                 calls: 0,
                 faults: 0,
@@ -77,10 +81,12 @@ impl Files for MemFiles {
         ensures after_err { OnErr result (self.new ≡ not_opened self.old) }
     {
         self.reading = None;
+        self.reads = self.reads.close();
         self.calls.count()?;
         match self.files.find(name) {
             Some(file) => {
                 self.reading = Some(Cursor { file, at: 0 });
+                self.reads = self.reads.open(name);
                 Ok(())
             }
             None => Err(self.calls.fault()),
@@ -98,7 +104,7 @@ impl Files for MemFiles {
             ≡ min
             (min (length buffer.old) self.old.chunk)
             (left_of self.old.held self.old.reading)) }
-        ensures after_ok { IfOk result (λ n. self.new ≡ read_on self.old n) }
+        ensures after_ok { IfOk result (λ n. self.new ≡ read_on self.old (length buffer.old) n) }
         ensures after_err { OnErr result (self.new ≡ faulted self.old) }
     {
         self.calls.count()?;
@@ -106,6 +112,7 @@ impl Files for MemFiles {
             Some(cursor) => {
                 let content = self.files.bytes_at(cursor.file);
                 let count = copy_next(content, cursor.at, self.chunk, buffer);
+                count_read(&mut self.reads, buffer.len(), count);
                 self.reading = Some(Cursor {
                     file: cursor.file,
                     at: cursor.at + count,

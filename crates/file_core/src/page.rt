@@ -1,7 +1,6 @@
 //! Short pieces are gathered in a page of fixed size, so that few calls of `append` are made and nothing is allocated.
 ghost use Rattle.std.specs.Prelude.{◌≡◌, ◌+◌, ◌≤◌, ◌↔◌, ℕ, List, [], ◌++◌, length, take, IsTrue, IsOk, OnOk, OnErr};
-ghost use Rattle.outside_semantics.specs.Outside.{Wrote, WriteFailed};
-ghost use Rattle.file_core.specs.Page.{Gathered};
+ghost use Rattle.file_core.specs.Page.{Gathers, Writes};
 ghost use Rattle.file_core.specs.Pieces.{joined};
 
 use crate::append::append_all;
@@ -69,11 +68,7 @@ impl Page {
 
 /// Puts the piece into the page, and appends what does not fit. A fault empties the page.
 pub fn gather<F: Files>(files: &mut F, page: &mut Page, piece: &[u8]) -> Result<(), FileFault>
-    ensures ok { OnOk result
-        (Gathered (F.told files.old) (F.told files.new) page.old page.new piece.now) }
-    ensures err { OnErr result
-        (WriteFailed (F.told files.old) (F.told files.new) (page.old ++ piece.now)) }
-    ensures emptied { OnErr result (page.new ≡ []) }
+    ensures gathers { Gathers result (F.told files.old) (F.told files.new) page.old page.new piece.now }
 
     // A piece that fits makes no call.
     ensures fits { length page.old + length piece.now ≤ PAGE_BYTES
@@ -97,11 +92,7 @@ pub fn gather_pieces<F: Files>(
     page: &mut Page,
     pieces: &[&[u8]],
 ) -> Result<(), FileFault>
-    ensures ok { OnOk result
-        (Gathered (F.told files.old) (F.told files.new) page.old page.new (joined pieces.now)) }
-    ensures err { OnErr result
-        (WriteFailed (F.told files.old) (F.told files.new) (page.old ++ joined pieces.now)) }
-    ensures emptied { OnErr result (page.new ≡ []) }
+    ensures { Gathers result (F.told files.old) (F.told files.new) page.old page.new (joined pieces.now) }
 {
     for piece in pieces {
         gather(files, page, piece)?;
@@ -111,8 +102,7 @@ pub fn gather_pieces<F: Files>(
 
 /// Appends what was gathered, and empties the page.
 pub fn send<F: Files>(files: &mut F, page: &mut Page) -> Result<(), FileFault>
-    ensures ok { OnOk result (Wrote (F.told files.old) (F.told files.new) page.old) }
-    ensures err { OnErr result (WriteFailed (F.told files.old) (F.told files.new) page.old) }
+    ensures writes { Writes result (F.told files.old) (F.told files.new) page.old }
     ensures emptied { page.new ≡ [] }
 {
     let sent = append_all(files, page.bytes());

@@ -4,12 +4,14 @@ ghost use Rattle.std.specs.FinMap.{contains_key};
 ghost use Rattle.outside_semantics.specs.Outside.{Opened, OpenFailed, Gave, ReadFailed, Created, CreateFailed, Wrote, WriteFailed};
 ghost use Rattle.file_core.specs.Entries.{held_in};
 ghost use Rattle.file_core.specs.Memory.{left_of};
-ghost use Rattle.file_core.specs.Sure.{sure_told, found, not_found, went_on, IsNextOf};
+ghost use Rattle.file_core.specs.Sure.{sure_at_first, sure_told, found, not_found, went_on, IsNextOf};
 
 use crate::cursor::{Cursor, copy_next};
 use crate::fault::FileFault;
 use crate::files::Files;
 use crate::lists::FileList;
+use crate::turns::count_read;
+use history::reads::Reads;
 use std::marker::Model;
 
 /// The given files, which are told until a file is created or a name is opened that was not given; from then on
@@ -19,6 +21,7 @@ pub struct SureFiles {
     files: FileList,
     told: bool,
     reading: Option<Cursor>,
+    reads: Reads,
 }
 
 impl Model for SureFiles {
@@ -36,6 +39,8 @@ impl Model for SureFiles {
       given = held_in s.files;
       told = s.told;
       reading = place_of s.files s.reading;
+      opened = s.reads.opened;
+      turns = s.reads.turns;
     } };
 
     ghost invariant = { λ s. IfSome s.reading (λ c. IsCounted s.files c.file) };
@@ -43,12 +48,13 @@ impl Model for SureFiles {
 
 impl SureFiles {
     pub fn new(files: FileList) -> SureFiles
-        ensures { result ≡ record { given = held_in files; told = true; reading = None } }
+        ensures { result ≡ sure_at_first files }
     {
         SureFiles {
             files,
             told: true,
             reading: None,
+            reads: Reads::new(),
         }
     }
 }
@@ -64,8 +70,9 @@ impl Files for SureFiles {
         ensures given { IsTrue (contains_key self.old.given name.now)
             → self.new ≡ found self.old name.now }
         ensures not_given { IsFalse (contains_key self.old.given name.now)
-            → self.new ≡ not_found self.old }
+            → self.new ≡ not_found self.old name.now }
     {
+        self.reads = self.reads.open(name);
         match self.files.find(name) {
             Some(file) => self.reading = Some(Cursor { file, at: 0 }),
             None => {
@@ -85,13 +92,14 @@ impl Files for SureFiles {
         ensures count { IfOk result
             (λ n. n ≡ min (length buffer.old) (left_of self.old.given self.old.reading)) }
         ensures bytes { IfOk result (λ n. IsNextOf self.old n buffer.new) }
-        ensures place { IfOk result (λ n. self.new ≡ went_on self.old n) }
+        ensures place { IfOk result (λ n. self.new ≡ went_on self.old (length buffer.old) n) }
     {
         match self.reading {
             Some(cursor) => {
                 let limit = buffer.len();
                 let content = self.files.bytes_at(cursor.file);
                 let count = copy_next(content, cursor.at, limit, buffer);
+                count_read(&mut self.reads, limit, count);
                 self.reading = Some(Cursor {
                     file: cursor.file,
                     at: cursor.at + count,

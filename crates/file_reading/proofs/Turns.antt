@@ -1,9 +1,9 @@
 -- How turns of reading join, and what the text is once they end.
-use Rattle.std.proofs.Common.{◌≡◌, ℕ, ◌^◌, ◌≤◌, Bool, false, [], length, take, Some, refl, sym, ap, ◌∙◌, inl, inr, arith}
+use Rattle.std.proofs.Common.{◌≡◌, ℕ, ◌+◌, ◌≤◌, Bool, true, false, [], length, take, Some, refl, sym, ap, ◌∙◌, inl, inr, arith}
 use Rattle.std.proofs.lemmas.List.{take_all, length-take}
 use Rattle.std.proofs.lemmas.Bool.{false_from_ne_true}
 use Rattle.semantics.specs.Texts.{Bytes}
-use Rattle.outside_semantics.specs.Outside.{Held, FilesTold, KeepsAtRead, Opened, OpenFailed, ReadFailed, bytes_of}
+use Rattle.outside_semantics.specs.Outside.{Held, FilesTold, KeepsAtRead, Opened, OpenFailed, ReadFailed, bytes_of, turn_budget}
 use Rattle.file_core.proofs.Told.{Goes-Goes, Goes-same, StaysCalm-StaysCalm, StaysCalm-same, held_before}
 use Rattle.file_reading.specs.declared.unread.Unread.{Unread}
 use Rattle.file_reading.specs.declared.unread.Unread.TheVariants as unread
@@ -11,21 +11,25 @@ use Rattle.file_reading.specs.Refused.{TurnRefused, FileUnread}
 use Rattle.file_reading.specs.Reading.{HasRead, SoFar, TurnRead, FilesStay, FileRead, FileFailed, FileEndless}
 
 pub KeepsAtRead-same : (a : FilesTold) → KeepsAtRead a a
-KeepsAtRead-same a = record { goes = Goes-same a; calm = StaysCalm-same a; stays = λ h told. told }
+KeepsAtRead-same a = record { goes = Goes-same a; opened = refl; calm = StaysCalm-same a; stays = λ h told. told }
 
 KeepsAtRead-KeepsAtRead : {a b c : FilesTold} → KeepsAtRead a b → KeepsAtRead b c → KeepsAtRead a c
 KeepsAtRead-KeepsAtRead p q = record {
   goes = Goes-Goes p.goes q.goes;
+  opened = q.opened ∙ p.opened;
   calm = StaysCalm-StaysCalm p.calm q.calm;
   stays = λ h told. q.stays h (p.stays h told);
 }
 
-pub SoFar-none : (a : FilesTold) → SoFar a a []
-SoFar-none a = record { keeps = KeepsAtRead-same a; reads = λ held name told has. has }
+pub SoFar-none : (a : FilesTold) → SoFar a a [] 0
+SoFar-none a = record { keeps = KeepsAtRead-same a; taken = omega arith; counted = λ name opened. omega arith; reads = λ held name told has. has }
 
-pub SoFar-more : {o a b : FilesTold} {before after : Bytes} {room : ℕ} {more : Bool} → SoFar o a before → TurnRead a b before after room more → SoFar o b after
-SoFar-more s t = record {
+pub SoFar-more : {o a b : FilesTold} {before after : Bytes} {room turns : ℕ} {more : Bool} → SoFar o a before turns → TurnRead a b before after room more → more ≡ true
+    → SoFar o b after (turns + 1)
+SoFar-more s t goes_on = record {
   keeps = KeepsAtRead-KeepsAtRead s.keeps t.keeps;
+  taken = omega (arith, s.taken, t.grows goes_on);
+  counted = λ name opened. omega (arith, s.counted name opened, t.turn goes_on name (s.keeps.opened ∙ opened));
   reads = λ held name told has. t.reads held name (s.keeps.stays held told) (s.reads held name told has);
 }
 
@@ -51,10 +55,10 @@ FilesStay-from was keeps = record {
 }
 
 -- where the turns ended the text is all of the file, or all that is wanted
-pub FileRead-from : {old opened before now : FilesTold} {name front text : Bytes} {room : ℕ} {more : Bool} → Opened old opened name → SoFar opened before front
+pub FileRead-from : {old opened before now : FilesTold} {name front text : Bytes} {room turns : ℕ} {more : Bool} → Opened old opened name → SoFar opened before front turns
     → TurnRead before now front text room more → more ≡ false → FileRead old now name text room
 FileRead-from {old} {opened} {before} {now} {name} {front} {text} {room} was sofar turn last =
-    let keeps : KeepsAtRead opened now = (SoFar-more sofar turn).keeps in
+    let keeps : KeepsAtRead opened now = KeepsAtRead-KeepsAtRead sofar.keeps turn.keeps in
     let stopped = turn.stops last in
     record {
       stay = FilesStay-from was keeps;
@@ -70,14 +74,15 @@ FileRead-from {old} {opened} {before} {now} {name} {front} {text} {room} was sof
     }
 
 -- the text is a first part of the file, so the file is no shorter
-pub FileEndless-from : {old opened now : FilesTold} {name text : Bytes} → Opened old opened name → SoFar opened now text → 2 ^ 40 ≤ length text → FileEndless old now name text
-FileEndless-from {old} {opened} {now} {name} {text} was sofar turns = record {
+pub FileEndless-from : {old opened now : FilesTold} {name text : Bytes} {turns : ℕ} → Opened old opened name → SoFar opened now text turns → turn_budget ≤ turns → FileEndless old now name text
+FileEndless-from {old} {opened} {now} {name} {text} was sofar spent = record {
   stay = FilesStay-from was sofar.keeps;
-  taken = turns;
+  read_out = omega (arith, spent, was.keeps.goes.turns name, sofar.counted name was.opened);
+  taken = omega (arith, spent, sofar.taken);
   long = λ a b told tells.
       let opened_told = (stays_since was sofar.keeps a b told tells).0 in
       let has = sofar.reads a name opened_told (HasRead-none was a told opened_told) in
-      omega (arith, turns, ap length has.front, length-take (length text) (bytes_of a name));
+      omega (arith, spent, sofar.taken, ap length has.front, length-take (length text) (bytes_of a name));
 }
 
 pub FileFailed-open : {old now : FilesTold} {name : Bytes} → OpenFailed old now name → FileFailed old now name

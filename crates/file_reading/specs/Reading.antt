@@ -1,17 +1,19 @@
 -- What the reading of a file comes to: from its first byte on, to its end or as far as it is wanted.
-use Rattle.std.specs.Prelude.{◌≡◌, ◌⊎◌, ℕ, ◌^◌, ◌<◌, ◌≤◌, Bool, false, IsTrue, [], length, take, Some}
+use Rattle.std.specs.Prelude.{◌≡◌, ◌⊎◌, ℕ, ◌+◌, ◌<◌, ◌≤◌, Bool, false, IsTrue, [], length, take, Some}
 use Rattle.std.specs.FinMap.{contains_key}
 use Rattle.semantics.specs.Texts.{Bytes}
-use Rattle.outside_semantics.specs.Outside.{Held, FilesTold, Goes, Rose, WhereTold, KeepsAtRead, bytes_of}
+use Rattle.outside_semantics.specs.Outside.{Held, FilesTold, Goes, Rose, WhereTold, KeepsAtRead, IsReadOut, bytes_of, turns_on, turn_budget}
 
 -- the text is the first part of the file that is being read, up to its place
 pub record HasRead (told : FilesTold) (held : Held) (name text : Bytes) : Type 0 where
   pub place : told.reading ≡ Some (record { name = name; at = length text })
   pub front : text ≡ take (length text) (bytes_of held name)
 
--- turns of reading, from the moment at which the file was opened
-pub record SoFar (opened now : FilesTold) (text : Bytes) : Type 0 where
+-- so many turns of reading, from the moment at which the file was opened
+pub record SoFar (opened now : FilesTold) (text : Bytes) (turns : ℕ) : Type 0 where
   pub keeps : KeepsAtRead opened now
+  pub taken : turns ≤ length text
+  pub counted : (name : Bytes) → opened.opened ≡ Some name → turns_on opened name + turns ≤ turns_on now name
   pub reads : (held : Held) (name : Bytes) → opened.held ≡ Some held → HasRead opened held name [] → HasRead now held name text
 
 -- the file has no more bytes
@@ -23,6 +25,7 @@ pub record TurnRead (old new : FilesTold) (before after : Bytes) (room : ℕ) (m
   pub keeps : KeepsAtRead old new
   pub reads : (held : Held) (name : Bytes) → old.held ≡ Some held → HasRead old held name before → HasRead new held name after
   pub grows : IsTrue more → length before < length after
+  pub turn : IsTrue more → (name : Bytes) → old.opened ≡ Some name → turns_on old name < turns_on new name
   pub stops : more ≡ false → (after ≡ before) × ((room ≡ 0) ⊎ HasEnded old before)
 
 -- no file changed, and what was told of a held name is told still
@@ -47,8 +50,9 @@ pub record FileFailed (old new : FilesTold) (name : Bytes) : Type 0 where
   pub rose : Rose old.faults new.faults
   pub not_steady : old.steady_read name ≡ false
 
--- the budget of turns was spent: each gave a byte, so as many bytes were taken in, and so many the file has
+-- The budget of turns was spent on the file. Each gave a byte, so as many bytes were taken in, and so many the file has.
 pub record FileEndless (old new : FilesTold) (name text : Bytes) : Type 0 where
   pub stay : FilesStay old new name
-  pub taken : 2 ^ 40 ≤ length text
-  pub long : WhereTold old new (λ a b. 2 ^ 40 ≤ length (bytes_of a name))
+  pub read_out : IsReadOut old new name
+  pub taken : turn_budget ≤ length text
+  pub long : WhereTold old new (λ a b. turn_budget ≤ length (bytes_of a name))

@@ -6,9 +6,10 @@ ghost use Rattle.file_reading.specs.Refused.{TurnRefused, FileUnread};
 use crate::intake::Intake;
 use crate::unread::Unread;
 use file_core::files::Files;
+use file_core::turns::TURN_BYTES;
 use std::alloc::AllocError;
 
-/// How often a file is asked for more; each time that goes on gives a byte at least.
+/// How often a file is asked for more, at most `TURN_BYTES` at a time; each time that goes on gives a byte at least.
 const TURNS: u64 = 1 << 40;
 
 /// Hands on the first bytes of the buffer.
@@ -28,7 +29,7 @@ fn read_turn<F: Files, I: Intake>(files: &mut F, intake: &mut I) -> Result<bool,
     ensures aim { OnOk result (I.aim intake.new ≡ I.aim intake.old) }
     ensures err { IfErr result (TurnRefused (F.told files.old) (F.told files.new)) }
 {
-    let mut buffer = [0u8; 65536];
+    let mut buffer = [0u8; TURN_BYTES];
     let room = intake.wanted().min(buffer.len());
     if room == 0 {
         return Ok(false);

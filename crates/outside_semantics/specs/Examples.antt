@@ -1,10 +1,10 @@
 -- Worked examples, computed from the definitions.
-use Rattle.std.specs.Prelude.{◌≡◌, ℕ, ◌-◌, ◌^◌, ◌<◌, List, [], ◌∷◌, Option, Some, None, codes}
+use Rattle.std.specs.Prelude.{◌≡◌, ℕ, ◌-◌, ◌^◌, ◌<◌, false, List, [], ◌∷◌, Option, Some, None, codes}
 use Rattle.std.specs.Ordering.{nat_cmp}
 use Rattle.std.specs.Cmp.Lexicographic.{slice_cmp}
 use Rattle.std.specs.FinMap.{empty, get}
 use Rattle.semantics.specs.Texts.{Bytes}
-use Rattle.outside_semantics.specs.Outside.{Held, Rose, appended}
+use Rattle.outside_semantics.specs.Outside.{Held, FilesTold, Rose, turns_on, turns_after, IsReadOut, appended}
 use Rattle.outside_semantics.specs.WrittenFiles.{File, with_files, IsCutShort}
 
 -- one more fault is a rise and none is not, but at its end the count stands still
@@ -13,6 +13,36 @@ pub record CountExamples : Type 0 where
   pub none : Rose 3 3 → ⊥
   pub at_its_end : Rose (2 ^ 64 - 1) (2 ^ 64 - 1)
   pub before_its_end : (before now : ℕ) → before < 2 ^ 64 - 1 → Rose before now → before < now
+
+-- what files tell that tell nothing but their turns
+abbrev pub told_turns : List Bytes → FilesTold
+told_turns turns = record {
+  held = None;
+  reading = None;
+  writing = None;
+  opened = None;
+  turns = turns;
+  faults = 0;
+  steady_read = λ _. false;
+  steady_write = λ _. false;
+  calm_read = false;
+  calm_write = false;
+}
+
+abbrev pub a_turn_on_b : List Bytes
+a_turn_on_b = codes "b" ∷ []
+
+-- A read is a turn of the open file where it asked for 65,536 bytes or fewer and gave some; the turns on a name are counted, and one
+-- turn does not read a file out.
+pub record TurnExamples : Type 0 where
+  pub least_given : turns_after (Some (codes "a")) 65536 1 a_turn_on_b ≡ codes "a" ∷ codes "b" ∷ []
+  pub most_given : turns_after (Some (codes "b")) 10 10 a_turn_on_b ≡ codes "b" ∷ codes "b" ∷ []
+  pub asked_too_much : turns_after (Some (codes "a")) 65537 65537 a_turn_on_b ≡ a_turn_on_b
+  pub gave_nothing : turns_after (Some (codes "a")) 65536 0 a_turn_on_b ≡ a_turn_on_b
+  pub none_open : turns_after None 65536 1 a_turn_on_b ≡ a_turn_on_b
+  pub on_a : turns_on (told_turns (codes "a" ∷ codes "b" ∷ codes "a" ∷ [])) (codes "a") ≡ 2
+  pub on_ab : turns_on (told_turns (codes "a" ∷ codes "b" ∷ codes "a" ∷ [])) (codes "ab") ≡ 0
+  pub not_read_out : IsReadOut (told_turns []) (told_turns a_turn_on_b) (codes "b") → ⊥
 
 abbrev pub file : Bytes → Bytes → File
 file name text = record { name = name; text = text }

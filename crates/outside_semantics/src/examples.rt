@@ -1,9 +1,14 @@
 //! Worked examples of the definitions, computed by the checker: each function's contract is its examples.
-ghost use Rattle.outside_semantics.specs.Examples.{CountExamples, AppendExamples, WrittenExamples, CutExamples};
+ghost use Rattle.outside_semantics.specs.Examples.{CountExamples, TurnExamples, AppendExamples, WrittenExamples, CutExamples};
 
 /// A count of faults that rose, also at its end.
 pub fn counts()
     ensures { CountExamples }
+{}
+
+/// Read turns, and how many there were on a name.
+pub fn turns()
+    ensures { TurnExamples }
 {}
 
 /// Texts added to the file that is written.

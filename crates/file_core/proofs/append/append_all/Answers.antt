@@ -9,7 +9,7 @@ loop-rest-init g c = ([], refl, Wrote-nil _)
 pub loop-rest-preserved : goal.loop-rest-preserved
 loop-rest-preserved g c = Wrote-part _ _ _ c.loop-rest.invariant c.in_ok-count.ensures.ok
 
-pub returns-in_err-count-clause-err : goal.returns-in_err-count-clause-err
-returns-in_err-count-clause-err g c =
+pub returns-in_err-count : goal.returns-in_err-count
+returns-in_err-count g c =
     let p = err_from_is_err_and c.from_residual.result c.from_residual.ensures.1 in
-    rw p.1 (WriteFailed-part _ _ c.loop-rest.invariant c.in_err-count.ensures.err)
+    rw p.1 (record { ok = tt; err = WriteFailed-part _ _ c.loop-rest.invariant c.in_err-count.ensures.err })

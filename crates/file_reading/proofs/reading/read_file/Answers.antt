@@ -6,7 +6,7 @@ use Rattle.file_reading.proofs.Turns.{SoFar-none, SoFar-more, FileRead-from, Fil
 use Rattle.file_reading.proofs.reading.read_file.Goals as goal
 
 pub loop-turn-init : goal.loop-turn-init
-loop-turn-init g c = (subst (SoFar (g.F.Files.told c.open_file.new.self) (g.F.Files.told c.open_file.new.self)) (sym c.requires) (SoFar-none _), omega arith, refl)
+loop-turn-init g c = (subst (λ t. SoFar (g.F.Files.told c.open_file.new.self) (g.F.Files.told c.open_file.new.self) t 0) (sym c.requires) (SoFar-none _), refl)
 
 pub returns-in_err-read_turn-clause-err : goal.returns-in_err-read_turn-clause-err
 returns-in_err-read_turn-clause-err g c =
@@ -20,7 +20,7 @@ returns-then-not-branch-clause-ok g c = FileRead-from c.in_ok-open_file.ensures.
 pub loop-turn-preserved : goal.loop-turn-preserved
 loop-turn-preserved g c =
     let turn = c.in_ok-read_turn.ensures.ok in
-    (SoFar-more c.loop-turn.invariant.0 turn, omega (arith, c.loop-turn.invariant.1, turn.grows (search rules)), c.in_ok-read_turn.ensures.aim ∙ c.loop-turn.invariant.2)
+    (SoFar-more c.loop-turn.invariant.0 turn (search rules), c.in_ok-read_turn.ensures.aim ∙ c.loop-turn.invariant.1)
 
 pub returns-clause-err : goal.returns-clause-err
-returns-clause-err g c = FileEndless-from c.in_ok-open_file.ensures.ok c.loop-turn.invariant.0 (omega (arith, c.loop-turn.invariant.1))
+returns-clause-err g c = FileEndless-from c.in_ok-open_file.ensures.ok c.loop-turn.invariant.0 (omega arith)

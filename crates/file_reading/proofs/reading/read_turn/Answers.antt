@@ -2,7 +2,8 @@ use Rattle.std.proofs.Common.{◌≡◌, ℕ, ◌+◌, ◌<◌, ◌≤◌, false
 use Rattle.std.proofs.lemmas.List.{append-nil, length-take, length-replicate}
 use Rattle.std.proofs.Math.Seq.{take-add}
 use Rattle.semantics.specs.Texts.{Bytes}
-use Rattle.outside_semantics.specs.Outside.{Held, FilesTold, Gave, bytes_of}
+use Rattle.outside_semantics.specs.Outside.{Held, FilesTold, Gave, bytes_of, turn_bytes}
+use Rattle.outside_semantics.proofs.ReadTurns.{turn_counts}
 use Rattle.file_reading.specs.Reading.{HasRead, TurnRead}
 use Rattle.file_reading.proofs.reading.read_turn.Goals as goal
 
@@ -22,12 +23,13 @@ turn_reads old new before after buffer n within gave is held name told has =
     }
 
 -- bytes came
-turn_gave : (old new : FilesTold) (before after buffer : Bytes) (n room : ℕ) → 0 < n → n ≤ length buffer → Gave old new n buffer → after ≡ before ++ take n buffer
+turn_gave : (old new : FilesTold) (before after buffer : Bytes) (n room : ℕ) → 0 < n → n ≤ length buffer → length buffer ≤ turn_bytes → Gave old new n buffer → after ≡ before ++ take n buffer
     → TurnRead old new before after room true
-turn_gave old new before after buffer n room some within gave is = record {
+turn_gave old new before after buffer n room some within asked gave is = record {
   keeps = gave.keeps;
   reads = turn_reads old new before after buffer n within gave is;
   grows = λ _. omega (arith, ap length is, length-append before (take n buffer), length-take-le n buffer within);
+  turn = λ _ name opened. turn_counts old new name (length buffer) n gave.turns opened asked some;
   stops = λ e. cc;
 }
 
@@ -39,6 +41,7 @@ turn_ended old new before buffer n room none asked gave =
       keeps = gave.keeps;
       reads = turn_reads old new before before buffer n (omega arith) gave nothing;
       grows = λ e. cc;
+      turn = λ e. cc;
       stops = λ e. (refl, inr (record { ends = λ held name told has. (gave.from_file held (record { name = name; at = length before }) told has.place).ends asked none }));
     }
 
@@ -49,4 +52,5 @@ returns-then-count-eq0-clause-ok g c =
 
 pub returns-clause-ok : goal.returns-clause-ok
 returns-clause-ok g c =
-    turn_gave _ _ _ _ c.read.new.buffer c.in_ok-count.count _ (omega arith) c.in_ok-count.ensures.within c.in_ok-count.ensures.ok c.in_ok-take_front.ensures.text
+    let whole : length c.read.new.buffer ≡ c.min-room.result = omega (arith, length-replicate {A = ℕ}, length-take {A = ℕ}) in
+    turn_gave _ _ _ _ c.read.new.buffer c.in_ok-count.count _ (omega arith) c.in_ok-count.ensures.within (omega arith) c.in_ok-count.ensures.ok c.in_ok-take_front.ensures.text

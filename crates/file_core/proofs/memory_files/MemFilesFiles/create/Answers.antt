@@ -9,21 +9,21 @@ use Rattle.file_core.proofs.memory_files.MemFilesFiles.create.Goals as goal
 pub returns-in_err-count-clause-err : goal.returns-in_err-count-clause-err
 returns-in_err-count-clause-err c =
     let p = err_from_is_err_and c.from_residual.result c.from_residual.ensures.1 in
-    let n = memory_value c.self.inside.files c.self.inside.reading None c.count.new.self c.self.inside.chunk in
+    let n = memory_value c.self.inside.files c.self.inside.reading None c.self.inside.reads c.count.new.self c.self.inside.chunk in
     let is : n ≡ not_created c.args.self.now = search rules in
     let r = c.count.ensures.rises in
     rw p.1 (CreateFailed-memory c.args.self.now n _ (Later-from n c.self.view_is r.faults r.calls r.failing) is)
 
 pub returns-in-Ok-clause-ok : goal.returns-in-Ok-clause-ok
 returns-in-Ok-clause-ok c =
-    let n = memory_value c.make_empty.new.self c.self.inside.reading (Some c.in-Ok.file) c.count.new.self c.self.inside.chunk in
+    let n = memory_value c.make_empty.new.self c.self.inside.reading (Some c.in-Ok.file) c.self.inside.reads c.count.new.self c.self.inside.chunk in
     let is : n ≡ created c.args.self.now c.args.name.now = search rules in
     let r = c.count.ensures.rises in
     Created-memory c.args.self.now n _ (Later-from n c.self.view_is r.faults r.calls r.failing) is
 
 pub returns-in-Err-clause-err : goal.returns-in-Err-clause-err
 returns-in-Err-clause-err c =
-    let n = memory_value c.make_empty.new.self c.self.inside.reading None c.fault.new.self c.self.inside.chunk in
+    let n = memory_value c.make_empty.new.self c.self.inside.reading None c.self.inside.reads c.fault.new.self c.self.inside.chunk in
     let is : n ≡ not_created c.args.self.now = search rules in
     let r = Rises-Rises c.count.ensures.rises c.fault.ensures.rises in
     CreateFailed-memory c.args.self.now n _ (Later-from n c.self.view_is r.faults r.calls r.failing) is

@@ -9,7 +9,7 @@ use Rattle.file_core.proofs.memory_files.MemFilesFiles.read.Goals as goal
 pub returns-in_err-count-clause-err : goal.returns-in_err-count-clause-err
 returns-in_err-count-clause-err c =
     let p = err_from_is_err_and c.from_residual.result c.from_residual.ensures.1 in
-    let n = memory_value c.self.inside.files c.self.inside.reading c.self.inside.writing c.count.new.self c.self.inside.chunk in
+    let n = memory_value c.self.inside.files c.self.inside.reading c.self.inside.writing c.self.inside.reads c.count.new.self c.self.inside.chunk in
     let is : n ≡ faulted c.args.self.now = search rules in
     let r = c.count.ensures.rises in
     rw p.1 (ReadFailed-memory c.args.self.now n (Later-from n c.self.view_is r.faults r.calls r.failing) is (inl (subst (λ x. fails_next x ≡ true) c.self.view_is (sym c.in_err-count.ensures.fails))))
@@ -22,9 +22,9 @@ returns-in-Some-clause-count c =
 
 pub returns-in-Some-clause-ok : goal.returns-in-Some-clause-ok
 returns-in-Some-clause-ok c =
-    let n = memory_value c.self.inside.files (Some (record { file = c.in-Some.cursor.file; at = c.in-Some.cursor.at + c.copy_next-count.result })) c.self.inside.writing c.count.new.self c.self.inside.chunk in
+    let n = memory_value c.self.inside.files (Some (record { file = c.in-Some.cursor.file; at = c.in-Some.cursor.at + c.copy_next-count.result })) c.self.inside.writing c.count_read.new.reads c.count.new.self c.self.inside.chunk in
     let at = counted_reading c.self.inside.files c.in-Some.is c.self.invariant.reading_counts in
-    let is : n ≡ read_on c.args.self.now c.copy_next-count.result = search rules in
+    let is : n ≡ read_on c.args.self.now (length c.copy_next-count.new.buffer) c.copy_next-count.result = search rules in
     let r = c.count.ensures.rises in
     Gave-memory c.args.self.now n _ _ (Later-from n c.self.view_is r.faults r.calls r.failing) is
     (subst (λ (m : MemoryValue). 0 < m.chunk) c.self.view_is c.self.invariant.some_chunk)
@@ -34,7 +34,7 @@ returns-in-Some-clause-ok c =
 
 pub returns-in-None-clause-err : goal.returns-in-None-clause-err
 returns-in-None-clause-err c =
-    let n = memory_value c.self.inside.files c.self.inside.reading c.self.inside.writing c.fault.new.self c.self.inside.chunk in
+    let n = memory_value c.self.inside.files c.self.inside.reading c.self.inside.writing c.self.inside.reads c.fault.new.self c.self.inside.chunk in
     let is : n ≡ faulted c.args.self.now = search rules in
     let r = Rises-Rises c.count.ensures.rises c.fault.ensures.rises in
     ReadFailed-memory c.args.self.now n (Later-from n c.self.view_is r.faults r.calls r.failing) is (inr (subst (λ x. x.reading ≡ None) c.self.view_is (ap (place_of c.self.inside.files) c.in-None.is)))

@@ -16,9 +16,15 @@ given_as name is_held h m n same is e = ap (λ v. contains_key v.given name) (sy
 pub returns-in-Some-clause-ok : goal.returns-in-Some-clause-ok
 returns-in-Some-clause-ok c =
     let h = held_in c.self.inside.files in
-    let n : SureValue = record { given = h; told = c.self.inside.told; reading = Some (record { name = name_at c.self.inside.files c.in-Some.file; at = 0 }) } in
+    let n : SureValue = record {
+      given = h;
+      told = c.self.inside.told;
+      reading = Some (record { name = name_at c.self.inside.files c.in-Some.file; at = 0 });
+      opened = c.open-self-inside.result.opened;
+      turns = c.open-self-inside.result.turns;
+    } in
     let is : n ≡ found c.args.self.now c.args.name.now =
-    ap (λ x. record n { reading = Some (record { name = x; at = 0 }) }) c.in-Some.ensures.named
+    (λ i. record n { reading = Some (record { name = c.in-Some.ensures.named i; at = 0 }); opened = c.open-self-inside.ensures.0 i; turns = c.open-self-inside.ensures.1 i })
     ∙ ap (λ (m : SureValue). found m c.args.name.now) c.self.view_is in
     Opened-sure_given c.args.self.now n _ is (given_as c.args.name.now true h c.args.self.now _ c.self.view_is refl (contains_key-first c.in-Some.ensures))
 
@@ -28,7 +34,10 @@ returns-in-Some-clause-not_given c =
 
 pub returns-in-None-clause-ok : goal.returns-in-None-clause-ok
 returns-in-None-clause-ok c =
-    Opened-sure_missing c.args.self.now (record { given = held_in c.self.inside.files; told = false; reading = None }) _ (ap not_found c.self.view_is)
+    let n : SureValue = record { given = held_in c.self.inside.files; told = false; reading = None; opened = c.open-self-inside.result.opened; turns = c.open-self-inside.result.turns } in
+    let is : n ≡ not_found c.args.self.now c.args.name.now =
+    (λ i. record n { opened = c.open-self-inside.ensures.0 i; turns = c.open-self-inside.ensures.1 i }) ∙ ap (λ (m : SureValue). not_found m c.args.name.now) c.self.view_is in
+    Opened-sure_missing c.args.self.now n _ is
     (given_as c.args.name.now false (held_in c.self.inside.files) c.args.self.now _ c.self.view_is refl (contains_key-lacks _ _ c.in-None.ensures))
 
 pub returns-in-None-clause-given : goal.returns-in-None-clause-given

@@ -40,8 +40,8 @@ pub returns-in-Some-clause-ok : goal.returns-in-Some-clause-ok
 returns-in-Some-clause-ok c =
     let files = c.self.inside.files in
     let k = c.copy_next-count.result in
-    let n : SureValue = record { given = held_in files; told = c.self.inside.told; reading = Some (record { name = name_at files c.in-Some.cursor.file; at = c.in-Some.cursor.at + k }) } in
-    let is : n ≡ went_on c.args.self.now k = search rules in
+    let n : SureValue = record { given = held_in files; told = c.self.inside.told; reading = Some (record { name = name_at files c.in-Some.cursor.file; at = c.in-Some.cursor.at + k }); opened = c.count_read.new.reads.opened; turns = c.count_read.new.reads.turns } in
+    let is : n ≡ went_on c.args.self.now (length c.copy_next-count.new.buffer) k = search rules in
     Gave-sure c.args.self.now n k _ is
     (returns-in-Some-clause-count c ∙ ap (λ (l : ℕ). min l (left_of c.args.self.now.given c.args.self.now.reading)) (sym c.copy_next-count.auto.buffer))
     (returns-in-Some-clause-bytes c)
