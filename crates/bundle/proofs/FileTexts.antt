@@ -15,30 +15,21 @@ use Rattle.file_reading.specs.Reading.{IsAllWanted, FilesStay}
 use Rattle.file_core.proofs.Told.{Goes-same}
 use Rattle.outside_semantics.specs.Outside.{FilesTold}
 use Rattle.semantics.specs.Texts.{bits_word}
-use Rattle.semantics.specs.Error.{Metric}
+use Rattle.semantics.specs.declared.metric.Metric.{Metric}
 use Rattle.job_semantics.specs.Report.{Report}
 use Rattle.job_semantics.specs.declared.ending.Ending.TheVariants as file
 use Rattle.job_semantics.specs.Certificate.{Texts, AreVectors, IsReportText, IsVectorsText}
 use Rattle.job_semantics.proofs.ReportTexts.{bits-cut}
 use Rattle.lane_bits.specs.Patterns.{PatternSet}
-use Rattle.bundle.specs.declared.report_reading.ReportRead.{ReportRead}
-use Rattle.bundle.specs.Reading.{HoldsVectors, report_read}
-use Rattle.bundle.specs.VectorLines.{vector_lines}
-use Rattle.bundle.proofs.VectorTexts.{vectors_text-is}
-use Rattle.bundle.specs.FilesRead.{IsNetIn, IsReportIn, AreVectorsIn}
+use Rattle.bundle_texts.specs.declared.report_reading.ReportRead.{ReportRead}
+use Rattle.bundle_texts.specs.Reading.{HoldsVectors, report_read}
+use Rattle.bundle_texts.specs.VectorLines.{vector_lines}
+use Rattle.bundle_texts.proofs.VectorTexts.{vectors_text-is}
+use Rattle.bundle_texts.specs.FilesRead.{IsNetIn, IsReportIn, AreVectorsIn}
+use Rattle.bundle_texts.proofs.Fronts.{whole_front, front_at_most}
 
 pub FilesStay-same : (a : FilesTold) (name : Bytes) → FilesStay a a name
 FilesStay-same a name = record { goes = Goes-same a; stays = λ h k told tells. cc; still_told = λ h told has. told }
-
--- a front within the limit is the whole
-pub whole_front : (content text : Bytes) (limit : ℕ) → IsAllWanted content text (limit + 1 - length text) → length text ≤ limit → text ≡ content
-whole_front content text limit (inl whole) within = whole
-whole_front content text limit (inr (none, front)) within = absurd (omega (arith, none, within))
-
--- the whole is no shorter than the front
-pub front_at_most : (content text : Bytes) (room n : ℕ) → IsAllWanted content text room → n ≤ length text → n ≤ length content
-front_at_most content text room n (inl whole) h = subst (λ t. n ≤ length t) whole h
-front_at_most content text room n (inr (none, front)) h = omega (arith, h, ap length front, length-take (length text) content)
 
 if_false : {X : Type 0} (b : Bool) (x y : X) → b ≡ false → (if not b then x else y) ≡ x
 if_false b x y is = ap (λ t. if not t then x else y) is

@@ -1,12 +1,5 @@
 pub mod FilesInOrder
-pub mod VectorTexts
-pub mod CutTexts
-pub mod ReportCuts
-pub mod LogChecks
-pub mod FormulaChecks
 pub mod JudgedTexts
 pub mod ToldAnswers
 pub mod FileTexts
-pub mod JudgedVectors
-pub mod ReportSizes
 pub mod BrokenMoves

@@ -2,7 +2,8 @@
 use Rattle.std.specs.Prelude.{◌≡◌, ℕ, ◌^◌, ◌≤◌, false, length, Option, None, Some, Result, Ok, Err}
 use Rattle.semantics.specs.Texts.{Bytes}
 use Rattle.semantics.specs.Net.{NetValue, input_count, HasSamePorts}
-use Rattle.semantics.specs.Error.{Metric, net_error}
+use Rattle.semantics.specs.Error.{net_error}
+use Rattle.semantics.specs.declared.metric.Metric.{Metric}
 use Rattle.outside_semantics.specs.Outside.{Held, FilesTold, Goes, Rose, WhereTold, bytes_of}
 use Rattle.file_reading.specs.declared.unread.Unread.{Unread}
 use Rattle.file_reading.specs.declared.unread.Unread.TheVariants.{Fault, OutOfMemory, Endless}
@@ -16,8 +17,8 @@ use Rattle.job_semantics.specs.Endings.{bundle_name}
 use Rattle.job_semantics.specs.Report.{Report}
 use Rattle.job_semantics.specs.Certificate.{Texts, texts_of, OfBundle, AreNeededHeld, IsNetlist, IsReport, Certifies, IsFirstFailing, IsNeededFor, clause_number}
 use Rattle.lane_bits.specs.Patterns.{PatternSet}
-use Rattle.bundle.specs.LogTold.{IsRefutingText}
-use Rattle.bundle.specs.Reading.{HoldsVectors}
+use Rattle.bundle_texts.specs.LogTold.{IsRefutingText}
+use Rattle.bundle_texts.specs.Reading.{HoldsVectors}
 use Rattle.bundle.specs.declared.verdict.Verdict.{Verdict}
 use Rattle.bundle.specs.declared.verdict.Verdict.TheVariants.{Verified, Refuted}
 

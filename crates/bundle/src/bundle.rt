@@ -2,7 +2,7 @@
 
 use cnf_core::cnf::Cnf;
 use cnf_core::log::Log;
-use joint_net::metric::Metric;
+use semantics::metric::Metric;
 use lane_bits::patterns::Patterns;
 use net_core::items::Bits;
 use net_core::net::Net;

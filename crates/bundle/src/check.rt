@@ -4,8 +4,7 @@ ghost use Rattle.semantics.specs.Net.{HasSamePorts, IsSmall, input_count};
 ghost use Rattle.chain_semantics.specs.Minimality.{IsMinimalBy};
 ghost use Rattle.proof_semantics.specs.Miter.{miter};
 ghost use Rattle.job_semantics.specs.Certificate.{Texts};
-ghost use Rattle.joint_net.specs.Metric.{meaning};
-ghost use Rattle.bundle.specs.Reading.{report_read};
+ghost use Rattle.bundle_texts.specs.Reading.{report_read};
 ghost use Rattle.bundle.specs.Judging.{Answers, FilesKept, IsCause, IsFirstFault, IsVerdict, NothingKnown, NetKnown, ReportKnown, WitnessKnown, FormulaKnown, LogKnown};
 
 use crate::claim::{Claim, Contents, are_counts, miter};
@@ -13,7 +12,7 @@ use crate::file_texts::{
     is_formula, is_refuted, read_netlist, read_report_file, read_vectors_file,
 };
 use crate::minimality::is_minimal;
-use crate::report_reading::ReportRead;
+use bundle_texts::report_reading::ReportRead;
 use crate::stem::Stem;
 use crate::verdict::Verdict;
 use cnf_core::cnf::Cnf;
@@ -21,7 +20,7 @@ use file_core::files::Files;
 use file_reading::unread::Unread;
 use job_semantics::clause::Clause;
 use job_semantics::ending::Ending;
-use joint_net::metric::Metric;
+use semantics::metric::Metric;
 use joint_net::net_error::error_at;
 use joint_net::ports::same_ports;
 use net_core::net::Net;
@@ -34,7 +33,7 @@ fn is_shown_minimal(alloc: Global, claim: &Claim, contents: &Contents) -> Result
     requires ports { HasSamePorts claim.now.exact.now contents.now.approx.now }
     requires inputs { contents.now.vectors.now.inputs ≡ input_count claim.now.exact.now }
     ensures { IfOk result (λ yes. IsTrue yes ↔ (IsTrue contents.now.report.now.counts.minimal
-        → IsMinimalBy (meaning claim.now.metric) claim.now.exact.now claim.now.bound contents.now.approx.now
+        → IsMinimalBy claim.now.metric claim.now.exact.now claim.now.bound contents.now.approx.now
         contents.now.vectors.now.vectors)) }
 {
     if !contents.report.counts.minimal {
@@ -57,9 +56,9 @@ fn check_counts(alloc: Global, claim: &Claim, contents: &Contents) -> Result<Opt
     requires ports { HasSamePorts claim.now.exact.now contents.now.approx.now }
     requires inputs { contents.now.vectors.now.inputs ≡ input_count claim.now.exact.now }
     ensures { IfOk result (λ failing. (texts : Texts)
-        → LogKnown claim.now.exact.now (meaning claim.now.metric) claim.now.bound contents.now.approx.now
-        (report_read (meaning claim.now.metric) claim.now.bound contents.now.report.now) contents.now.vectors.now texts
-        → IsFirstFault claim.now.exact.now (meaning claim.now.metric) claim.now.bound texts failing) }
+        → LogKnown claim.now.exact.now claim.now.metric claim.now.bound contents.now.approx.now
+        (report_read claim.now.metric claim.now.bound contents.now.report.now) contents.now.vectors.now texts
+        → IsFirstFault claim.now.exact.now claim.now.metric claim.now.bound texts failing) }
 {
     if !are_counts(claim.exact, contents.approx, contents.report) {
         return Ok(Some(Clause::Counts));
@@ -82,11 +81,11 @@ fn check_log<F: Files>(
     requires approx { IsSmall contents.now.approx.now }
     requires ports { HasSamePorts claim.now.exact.now contents.now.approx.now }
     requires inputs { contents.now.vectors.now.inputs ≡ input_count claim.now.exact.now }
-    requires formula { formula.now ≡ miter claim.now.exact.now contents.now.approx.now (meaning claim.now.metric)
+    requires formula { formula.now ≡ miter claim.now.exact.now contents.now.approx.now claim.now.metric
         contents.now.report.now.maximum }
-    ensures { Answers claim.now.exact.now (meaning claim.now.metric) claim.now.bound claim.now.stem.now
-        (FormulaKnown claim.now.exact.now (meaning claim.now.metric) claim.now.bound contents.now.approx.now
-        (report_read (meaning claim.now.metric) claim.now.bound contents.now.report.now) contents.now.vectors.now)
+    ensures { Answers claim.now.exact.now claim.now.metric claim.now.bound claim.now.stem.now
+        (FormulaKnown claim.now.exact.now claim.now.metric claim.now.bound contents.now.approx.now
+        (report_read claim.now.metric claim.now.bound contents.now.report.now) contents.now.vectors.now)
         (F.told files.old) (F.told files.new) result }
 {
     if !is_refuted(alloc, files, claim.stem.name(Ending::Log), formula)? {
@@ -106,9 +105,9 @@ fn check_formula<F: Files>(
     requires approx { IsSmall contents.now.approx.now }
     requires ports { HasSamePorts claim.now.exact.now contents.now.approx.now }
     requires inputs { contents.now.vectors.now.inputs ≡ input_count claim.now.exact.now }
-    ensures { Answers claim.now.exact.now (meaning claim.now.metric) claim.now.bound claim.now.stem.now
-        (WitnessKnown claim.now.exact.now (meaning claim.now.metric) claim.now.bound contents.now.approx.now
-        (report_read (meaning claim.now.metric) claim.now.bound contents.now.report.now) contents.now.vectors.now)
+    ensures { Answers claim.now.exact.now claim.now.metric claim.now.bound claim.now.stem.now
+        (WitnessKnown claim.now.exact.now claim.now.metric claim.now.bound contents.now.approx.now
+        (report_read claim.now.metric claim.now.bound contents.now.report.now) contents.now.vectors.now)
         (F.told files.old) (F.told files.new) result }
 {
     let level = contents.report.maximum;
@@ -131,9 +130,9 @@ fn check_witness<F: Files>(
     requires approx { IsSmall approx.now }
     requires ports { HasSamePorts claim.now.exact.now approx.now }
     requires width { length report.now.witness ≡ input_count claim.now.exact.now }
-    ensures { Answers claim.now.exact.now (meaning claim.now.metric) claim.now.bound claim.now.stem.now
-        (ReportKnown claim.now.exact.now (meaning claim.now.metric) claim.now.bound approx.now
-        (report_read (meaning claim.now.metric) claim.now.bound report.now))
+    ensures { Answers claim.now.exact.now claim.now.metric claim.now.bound claim.now.stem.now
+        (ReportKnown claim.now.exact.now claim.now.metric claim.now.bound approx.now
+        (report_read claim.now.metric claim.now.bound report.now))
         (F.told files.old) (F.told files.new) result }
 {
     let witness = report.witness.as_slice();
@@ -162,7 +161,7 @@ fn check_report<F: Files>(
     requires exact { IsSmall claim.now.exact.now }
     requires approx { IsSmall approx.now }
     requires ports { HasSamePorts claim.now.exact.now approx.now }
-    ensures { Answers claim.now.exact.now (meaning claim.now.metric) claim.now.bound claim.now.stem.now
+    ensures { Answers claim.now.exact.now claim.now.metric claim.now.bound claim.now.stem.now
         (NetKnown claim.now.exact.now approx.now)
         (F.told files.old) (F.told files.new) result }
 {
@@ -188,7 +187,7 @@ fn check_netlist<F: Files>(
     files: &mut F,
 ) -> Result<Option<Clause>, Unread>
     requires { IsSmall net.now }
-    ensures { Answers net.now (meaning metric) bound stem.now NothingKnown (F.told files.old) (F.told files.new) result }
+    ensures { Answers net.now metric bound stem.now NothingKnown (F.told files.old) (F.told files.new) result }
 {
     let Some(approx) = read_netlist(alloc, files, stem.name(Ending::Netlist))? else {
         return Ok(Some(Clause::Netlist));
@@ -216,11 +215,11 @@ pub fn check_bundle<F: Files>(
     files: &mut F,
 ) -> Result<Verdict, Unread>
     requires { IsSmall net.now }
-    ensures kept { FilesKept net.now (meaning metric) bound stem.now NothingKnown (F.told files.old) (F.told files.new) }
+    ensures kept { FilesKept net.now metric bound stem.now NothingKnown (F.told files.old) (F.told files.new) }
     ensures verdict { IfOk result
-        (IsVerdict net.now (meaning metric) bound stem.now (F.told files.old) (F.told files.new)) }
+        (IsVerdict net.now metric bound stem.now (F.told files.old) (F.told files.new)) }
     ensures cause { IfErr result
-        (IsCause net.now (meaning metric) bound stem.now NothingKnown (F.told files.old) (F.told files.new)) }
+        (IsCause net.now metric bound stem.now NothingKnown (F.told files.old) (F.told files.new)) }
 {
     let failing = check_netlist(alloc, net, metric, bound, stem, files)?;
     Ok(Verdict::of(failing))

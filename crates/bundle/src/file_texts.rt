@@ -2,16 +2,15 @@
 ghost use Rattle.std.specs.Prelude.{◌≡◌, ◌↔◌, ◌≤◌, length, IsTrue, IfSome, IfOk, IfErr};
 ghost use Rattle.semantics.specs.Net.{IsSmall};
 ghost use Rattle.proof_semantics.specs.Formula.{dimacs_text};
-ghost use Rattle.joint_net.specs.Metric.{meaning};
-ghost use Rattle.bundle.specs.LogTold.{IsRefutingText};
-ghost use Rattle.bundle.specs.FilesRead.{IsNetIn, IsReportIn, AreVectorsIn};
+ghost use Rattle.bundle_texts.specs.LogTold.{IsRefutingText};
+ghost use Rattle.bundle_texts.specs.FilesRead.{IsNetIn, IsReportIn, AreVectorsIn};
 ghost use Rattle.bundle.specs.Judging.{TextRead, TextUnread};
 
-use crate::formula_check::FormulaCheck;
-use crate::log_check::LogCheck;
-use crate::report_lines::REPORT_LIMIT;
-use crate::report_reading::{ReportRead, read_report};
-use crate::vectors_check::VectorsCheck;
+use bundle_texts::formula_check::FormulaCheck;
+use bundle_texts::log_check::LogCheck;
+use bundle_texts::report_lines::REPORT_LIMIT;
+use bundle_texts::report_reading::{ReportRead, read_report};
+use bundle_texts::vectors_check::VectorsCheck;
 use blif_text::reading::read_blif;
 use blif_text::refusal::BlifRefusal;
 use cnf_core::cnf::Cnf;
@@ -19,7 +18,7 @@ use file_core::files::Files;
 use file_reading::front::Front;
 use file_reading::reading::read_file;
 use file_reading::unread::Unread;
-use joint_net::metric::Metric;
+use semantics::metric::Metric;
 use lane_bits::patterns::Patterns;
 use net_core::net::Net;
 use std::alloc::Global;
@@ -61,7 +60,7 @@ pub(crate) fn read_report_file<F: Files>(
 ) -> Result<Option<ReportRead>, Unread>
     requires { inputs ≤ 256 }
     ensures ok { IfOk result
-        (λ report. TextRead (F.told files.old) (F.told files.new) name.now (IsReportIn inputs (meaning metric) bound report)) }
+        (λ report. TextRead (F.told files.old) (F.told files.new) name.now (IsReportIn inputs metric bound report)) }
     ensures width { IfOk result (λ report. IfSome report (λ r. length r.witness ≡ inputs)) }
     ensures err { IfErr result (TextUnread (F.told files.old) (F.told files.new) name.now) }
 {

@@ -5,7 +5,7 @@ ghost use Rattle.job_semantics.specs.Report.{yes_word};
 ghost use Rattle.bundle.specs.Value.{FitsReport, report_of_bundle};
 
 use crate::bundle::Bundle;
-use crate::report_lines::{ReportText, add_number, add_word, metric_word};
+use bundle_texts::report_lines::{ReportText, add_number, add_word, metric_word};
 use itoa::Buffer;
 
 /// Adds a line of a key and two numbers.

@@ -5,7 +5,8 @@ use Rattle.std.proofs.lemmas.List.{append_cancel_left}
 use Rattle.std.specs.List.{AllByRecursion}
 use Rattle.semantics.specs.Texts.{Bytes}
 use Rattle.semantics.specs.Net.{NetValue, input_count, table_count, literal_count, HasSamePorts, IsSound, IsSmall}
-use Rattle.semantics.specs.Error.{Metric, net_error}
+use Rattle.semantics.specs.Error.{net_error}
+use Rattle.semantics.specs.declared.metric.Metric.{Metric}
 use Rattle.chain_semantics.specs.Moves.{moves_of}
 use Rattle.quality_semantics.proofs.Joint.{comparable}
 use Rattle.blif_semantics.specs.Reading.{bundle_limit}

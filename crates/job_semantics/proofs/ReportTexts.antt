@@ -6,7 +6,7 @@ use Rattle.std.proofs.lemmas.List.{append_cancel_left}
 use Rattle.std.proofs.lemmas.List.Sums.{take_while-cons}
 use Rattle.semantics.specs.Texts.{Bytes, line_text, text_of, bits_word}
 use Rattle.semantics.specs.Decimal.{is_digit, digits_number, is_decimal}
-use Rattle.semantics.specs.Error.{Metric}
+use Rattle.semantics.specs.declared.metric.Metric.{Metric}
 use Rattle.semantics.proofs.Numerals.{digits_number-decimal, is_decimal-decimal}
 use Rattle.job_semantics.specs.Report.{Report, metric_word, yes_word, report_lines, report_text}
 

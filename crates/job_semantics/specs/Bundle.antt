@@ -2,7 +2,7 @@
 use Rattle.std.specs.Prelude.{ℕ, Bool, List}
 use Rattle.semantics.specs.Texts.{Bytes}
 use Rattle.semantics.specs.Net.{NetValue}
-use Rattle.semantics.specs.Error.{Metric}
+use Rattle.semantics.specs.declared.metric.Metric.{Metric}
 use Rattle.semantics.specs.Blif.{blif_text}
 use Rattle.proof_semantics.specs.Formula.{Formula, dimacs_text}
 use Rattle.proof_semantics.specs.Logs.{LogItem}

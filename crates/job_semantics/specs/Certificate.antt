@@ -5,7 +5,8 @@ use Rattle.std.specs.List.{AllByRecursion}
 use Rattle.std.specs.FinMap.{contains_key}
 use Rattle.semantics.specs.Texts.{Bytes}
 use Rattle.semantics.specs.Net.{NetValue, input_count, table_count, literal_count, HasSamePorts}
-use Rattle.semantics.specs.Error.{Metric, net_error}
+use Rattle.semantics.specs.Error.{net_error}
+use Rattle.semantics.specs.declared.metric.Metric.{Metric}
 use Rattle.chain_semantics.specs.Minimality.{IsMinimalBy}
 use Rattle.blif_semantics.specs.Reading.{bundle_limit, blif_reading}
 use Rattle.proof_semantics.specs.Formula.{dimacs_text}

@@ -2,7 +2,7 @@
 use Rattle.std.specs.Prelude.{◌≡◌, ◌⊎◌, ℕ, IsTrue, Option, Some, List}
 use Rattle.semantics.specs.Texts.{Bytes}
 use Rattle.semantics.specs.Net.{NetValue}
-use Rattle.semantics.specs.Error.{Metric}
+use Rattle.semantics.specs.declared.metric.Metric.{Metric}
 use Rattle.outside_semantics.specs.Outside.{Held, FilesTold, SinkTold, WhereTold, bytes_of}
 use Rattle.proof_semantics.specs.Queries.{SpentValue}
 use Rattle.job_semantics.specs.Job.{synth, check, are_file_words, job_of}

@@ -3,7 +3,7 @@ use Rattle.std.specs.Prelude.{◌≡◌, true, false, [], ◌∷◌, map, codes}
 use Rattle.semantics.specs.declared.mark.Mark.TheVariants.{Zero, One}
 use Rattle.semantics.specs.Net.{table_count, literal_count, signal_names, name_of}
 use Rattle.semantics.specs.Value.{outputs_of}
-use Rattle.semantics.specs.Error.{abs}
+use Rattle.semantics.specs.declared.metric.Metric.TheVariants.{Abs}
 use Rattle.semantics.specs.Blif.{blif_text}
 use Rattle.semantics.specs.Examples.{text}
 use Rattle.chain_semantics.specs.Flips.{flipped_outputs}
@@ -38,4 +38,4 @@ pub record DemoNetExamples : Type 0 where
   pub sum : outputs_of (demo_net 2) (true ∷ true ∷ false ∷ true ∷ []) ≡ true ∷ false ∷ true ∷ []
   -- table 1 is the carry c1: where it is turned over at 0 + 0, the bit of the sum that reads it turns too, and the sum is 2
   pub carry_flipped : flipped_outputs (demo_net 2) (false ∷ false ∷ false ∷ false ∷ []) 1 ≡ false ∷ true ∷ false ∷ []
-  pub carry_cared_for : IsCaredFor abs (demo_net 2) 0 (demo_net 2) 1 (false ∷ false ∷ false ∷ false ∷ [])
+  pub carry_cared_for : IsCaredFor Abs (demo_net 2) 0 (demo_net 2) 1 (false ∷ false ∷ false ∷ false ∷ [])

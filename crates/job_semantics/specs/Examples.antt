@@ -1,7 +1,7 @@
 -- Worked examples, computed from the definitions.
 use Rattle.std.specs.Prelude.{◌≡◌, ℕ, ◌-◌, ◌^◌, true, false, List, [], ◌∷◌, codes, Some, None}
 use Rattle.semantics.specs.Texts.{Bytes}
-use Rattle.semantics.specs.Error.{abs, rel, ham}
+use Rattle.semantics.specs.declared.metric.Metric.TheVariants.{Abs, Rel, Ham}
 use Rattle.semantics.specs.Vectors.{all_vectors}
 use Rattle.semantics.specs.Examples.{text, half_adder, both_constant, constant_one}
 use Rattle.job_semantics.specs.Report.{report_text, report_of, vectors_text}
@@ -9,18 +9,18 @@ use Rattle.job_semantics.specs.Job.{synth, check, demo, job_of}
 
 pub record ReportExamples : Type 0 where
   pub both_constant_report :
-      report_text (report_of abs 3 2 (true ∷ true ∷ []) half_adder both_constant false)
+      report_text (report_of Abs 3 2 (true ∷ true ∷ []) half_adder both_constant false)
       ≡ text (codes "salsa 1" ∷ codes "metric abs" ∷ codes "bound 3" ∷ codes "maximum 2" ∷ codes "witness 11"
       ∷ codes "tables 2 2" ∷ codes "literals 6 0" ∷ codes "minimal no" ∷ [])
   pub both_constant_vectors :
       vectors_text (true ∷ true ∷ []) (all_vectors 2)
       ≡ text (codes "11" ∷ codes "00" ∷ codes "10" ∷ codes "01" ∷ codes "11" ∷ [])
   pub report :
-      report_text (report_of abs 1 1 (true ∷ false ∷ []) half_adder half_adder true)
+      report_text (report_of Abs 1 1 (true ∷ false ∷ []) half_adder half_adder true)
       ≡ text (codes "salsa 1" ∷ codes "metric abs" ∷ codes "bound 1" ∷ codes "maximum 1" ∷ codes "witness 10"
       ∷ codes "tables 2 2" ∷ codes "literals 6 6" ∷ codes "minimal yes" ∷ [])
   pub no_bits :
-      report_text (report_of abs 0 0 [] constant_one constant_one false)
+      report_text (report_of Abs 0 0 [] constant_one constant_one false)
       ≡ text (codes "salsa 1" ∷ codes "metric abs" ∷ codes "bound 0" ∷ codes "maximum 0" ∷ codes "witness "
       ∷ codes "tables 1 1" ∷ codes "literals 0 0" ∷ codes "minimal no" ∷ [])
   pub vectors :
@@ -38,7 +38,7 @@ pub record JobExamples : Type 0 where
   pub large_bound : job_of (synth_words (codes "abs") (codes "19342813113834066795298816") (codes "1") (codes "a") (codes "b")) ≡ None
   pub largest_bound :
       job_of (synth_words (codes "abs") (codes "19342813113834066795298815") (codes "1") (codes "a") (codes "b"))
-      ≡ Some (synth abs (2 ^ 84 - 1) 1 (codes "a") (codes "b"))
+      ≡ Some (synth Abs (2 ^ 84 - 1) 1 (codes "a") (codes "b"))
   pub no_conflicts : job_of (synth_words (codes "abs") (codes "1") (codes "0") (codes "a") (codes "b")) ≡ None
   pub many_conflicts : job_of (synth_words (codes "abs") (codes "1") (codes "100001") (codes "a") (codes "b")) ≡ None
   pub other_metric : job_of (synth_words (codes "max") (codes "1") (codes "1") (codes "a") (codes "b")) ≡ None
@@ -46,8 +46,8 @@ pub record JobExamples : Type 0 where
   pub wide : job_of (codes "demo" ∷ codes "33" ∷ codes "1" ∷ codes "1" ∷ []) ≡ None
   pub no_width : job_of (codes "demo" ∷ codes "0" ∷ codes "1" ∷ codes "1" ∷ []) ≡ None
   pub a_demo : job_of (codes "demo" ∷ codes "32" ∷ codes "0" ∷ codes "100000" ∷ []) ≡ Some (demo 32 0 100000)
-  pub a_check : job_of (codes "check" ∷ codes "ham" ∷ codes "7" ∷ codes "a" ∷ codes "b" ∷ []) ≡ Some (check ham 7 (codes "a") (codes "b"))
-  pub a_synth : job_of (synth_words (codes "rel") (codes "10") (codes "1000") (codes "a.blif") (codes "b")) ≡ Some (synth rel 10 1000 (codes "a.blif") (codes "b"))
+  pub a_check : job_of (codes "check" ∷ codes "ham" ∷ codes "7" ∷ codes "a" ∷ codes "b" ∷ []) ≡ Some (check Ham 7 (codes "a") (codes "b"))
+  pub a_synth : job_of (synth_words (codes "rel") (codes "10") (codes "1000") (codes "a.blif") (codes "b")) ≡ Some (synth Rel 10 1000 (codes "a.blif") (codes "b"))
   pub empty_input : job_of (synth_words (codes "abs") (codes "1") (codes "1") [] (codes "b")) ≡ None
   pub empty_stem : job_of (synth_words (codes "abs") (codes "1") (codes "1") (codes "a") []) ≡ None
   pub sign : job_of (synth_words (codes "abs") (codes "-1") (codes "1") (codes "a") (codes "b")) ≡ None

@@ -3,7 +3,8 @@ use Rattle.std.specs.Prelude.{ℕ, ◌-◌, ◌^◌, Bool, true, false, not, ◌
 use Rattle.semantics.specs.Texts.{Bytes}
 use Rattle.semantics.specs.Optional.{◌>>=◌}
 use Rattle.semantics.specs.Decimal.{digits_number, is_decimal}
-use Rattle.semantics.specs.Error.{Metric, abs, rel, ham}
+use Rattle.semantics.specs.declared.metric.Metric.{Metric}
+use Rattle.semantics.specs.declared.metric.Metric.TheVariants.{Abs, Rel, Ham, Sabs}
 use Rattle.job_semantics.specs.Endings.{is_bundle_name}
 
 pub data Job : Type 0 where
@@ -29,10 +30,11 @@ width_of = number_from_to 1 32
 
 abbrev pub metric_of : Bytes → Option Metric
 metric_of word =
-    if bytes_eq word (codes "abs") then Some abs
-    else (if bytes_eq word (codes "rel") then Some rel
-    else (if bytes_eq word (codes "ham") then Some ham
-    else None))
+    if bytes_eq word (codes "abs") then Some Abs
+    else (if bytes_eq word (codes "rel") then Some Rel
+    else (if bytes_eq word (codes "ham") then Some Ham
+    else (if bytes_eq word (codes "sabs") then Some Sabs
+    else None)))
 
 abbrev pub is_empty_word : Bytes → Bool
 is_empty_word [] = true

@@ -2,12 +2,14 @@
 use Rattle.std.specs.Prelude.{ℕ, Bool, true, false, List, [], ◌∷◌, map, codes, decimal}
 use Rattle.semantics.specs.Texts.{Bytes, Line, text_of, bits_word}
 use Rattle.semantics.specs.Net.{NetValue, table_count, literal_count}
-use Rattle.semantics.specs.Error.{Metric, abs, rel, ham}
+use Rattle.semantics.specs.declared.metric.Metric.{Metric}
+use Rattle.semantics.specs.declared.metric.Metric.TheVariants.{Abs, Rel, Ham, Sabs}
 
 abbrev pub metric_word : Metric → Bytes
-metric_word abs = codes "abs"
-metric_word rel = codes "rel"
-metric_word ham = codes "ham"
+metric_word Abs = codes "abs"
+metric_word Rel = codes "rel"
+metric_word Ham = codes "ham"
+metric_word Sabs = codes "sabs"
 
 -- `old` counts the net as it was read, and `new` the written net
 pub record Report : Type 0 where

@@ -2,10 +2,9 @@ use Rattle.std.proofs.Common.{◌≡◌, true, refl, sym, ap, subst, ◌∙◌, 
 use Rattle.std.specs.Prelude.{◌↔◌, IsTrue}
 use Rattle.std.proofs.lemmas.Result.{err_from_is_err_and}
 use Rattle.semantics.specs.Texts.{Bytes}
-use Rattle.joint_net.specs.Metric.{meaning}
 use Rattle.job_semantics.specs.declared.ending.Ending.TheVariants as file
 use Rattle.job_semantics.specs.declared.clause.Clause.TheVariants as clause
-use Rattle.bundle.specs.Reading.{report_read}
+use Rattle.bundle_texts.specs.Reading.{report_read}
 use Rattle.bundle.specs.Judging.{TextRead, TextUnread, Answers, WitnessKnown, FormulaKnown}
 use Rattle.proof_semantics.specs.Formula.{dimacs_text}
 use Rattle.bundle.proofs.JudgedTexts.{other_formula, formula_needed}
@@ -16,7 +15,7 @@ pub returns-in_err-formula : goal.returns-in_err-formula
 returns-in_err-formula g c =
     let claim = c.args.claim.now in
     let contents = c.args.contents.now in
-    let metric = meaning claim.metric in
+    let metric = claim.metric in
     let r = report_read metric claim.bound contents.report.now in
     let K = WitnessKnown claim.exact.now metric claim.bound contents.approx.now r contents.vectors.now in
     let old = g.F.Files.told c.args.files.now in
@@ -27,7 +26,7 @@ pub returns-in_err-is_formula : goal.returns-in_err-is_formula
 returns-in_err-is_formula g c =
     let claim = c.args.claim.now in
     let contents = c.args.contents.now in
-    let metric = meaning claim.metric in
+    let metric = claim.metric in
     let r = report_read metric claim.bound contents.report.now in
     let K = WitnessKnown claim.exact.now metric claim.bound contents.approx.now r contents.vectors.now in
     let old = g.F.Files.told c.args.files.now in
@@ -42,7 +41,7 @@ pub returns-then-not-branch : goal.returns-then-not-branch
 returns-then-not-branch g c =
     let claim = c.args.claim.now in
     let contents = c.args.contents.now in
-    let metric = meaning claim.metric in
+    let metric = claim.metric in
     let r = report_read metric claim.bound contents.report.now in
     let K = WitnessKnown claim.exact.now metric claim.bound contents.approx.now r contents.vectors.now in
     let old = g.F.Files.told c.args.files.now in
@@ -59,7 +58,7 @@ pub returns : goal.returns
 returns g c =
     let claim = c.args.claim.now in
     let contents = c.args.contents.now in
-    let metric = meaning claim.metric in
+    let metric = claim.metric in
     let r = report_read metric claim.bound contents.report.now in
     let K = WitnessKnown claim.exact.now metric claim.bound contents.approx.now r contents.vectors.now in
     let old = g.F.Files.told c.args.files.now in

@@ -2,13 +2,12 @@ use Rattle.std.proofs.Common.{◌≡◌, true, refl, sym, subst, Err}
 use Rattle.std.specs.Prelude.{◌↔◌, IsTrue}
 use Rattle.std.proofs.lemmas.Result.{err_from_is_err_and}
 use Rattle.semantics.specs.Texts.{Bytes}
-use Rattle.joint_net.specs.Metric.{meaning}
 use Rattle.job_semantics.specs.declared.ending.Ending.TheVariants as file
 use Rattle.job_semantics.specs.declared.clause.Clause.TheVariants as clause
-use Rattle.bundle.specs.Reading.{report_read}
+use Rattle.bundle_texts.specs.Reading.{report_read}
 use Rattle.bundle.specs.Judging.{TextRead, TextUnread, Answers, FormulaKnown}
 use Rattle.proof_semantics.specs.Formula.{Formula}
-use Rattle.bundle.specs.LogTold.{IsRefutingText}
+use Rattle.bundle_texts.specs.LogTold.{IsRefutingText}
 use Rattle.bundle.proofs.JudgedTexts.{no_refutation, log_needed}
 use Rattle.bundle.proofs.ToldAnswers.{answers_unread, answers_now, answers_then_memory}
 use Rattle.bundle.proofs.check.check_log.Goals as goal
@@ -17,7 +16,7 @@ pub returns-in_err-is_refuted : goal.returns-in_err-is_refuted
 returns-in_err-is_refuted g c =
     let claim = c.args.claim.now in
     let contents = c.args.contents.now in
-    let metric = meaning claim.metric in
+    let metric = claim.metric in
     let r = report_read metric claim.bound contents.report.now in
     let K = FormulaKnown claim.exact.now metric claim.bound contents.approx.now r contents.vectors.now in
     let old = g.F.Files.told c.args.files.now in
@@ -32,7 +31,7 @@ pub returns-then-not-branch : goal.returns-then-not-branch
 returns-then-not-branch g c =
     let claim = c.args.claim.now in
     let contents = c.args.contents.now in
-    let metric = meaning claim.metric in
+    let metric = claim.metric in
     let r = report_read metric claim.bound contents.report.now in
     let K = FormulaKnown claim.exact.now metric claim.bound contents.approx.now r contents.vectors.now in
     let old = g.F.Files.told c.args.files.now in
@@ -49,7 +48,7 @@ pub returns-in_err-check_counts : goal.returns-in_err-check_counts
 returns-in_err-check_counts g c =
     let claim = c.args.claim.now in
     let contents = c.args.contents.now in
-    let metric = meaning claim.metric in
+    let metric = claim.metric in
     let r = report_read metric claim.bound contents.report.now in
     let K = FormulaKnown claim.exact.now metric claim.bound contents.approx.now r contents.vectors.now in
     let old = g.F.Files.told c.args.files.now in
@@ -66,7 +65,7 @@ pub returns : goal.returns
 returns g c =
     let claim = c.args.claim.now in
     let contents = c.args.contents.now in
-    let metric = meaning claim.metric in
+    let metric = claim.metric in
     let r = report_read metric claim.bound contents.report.now in
     let K = FormulaKnown claim.exact.now metric claim.bound contents.approx.now r contents.vectors.now in
     let old = g.F.Files.told c.args.files.now in

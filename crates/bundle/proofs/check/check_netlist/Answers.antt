@@ -1,9 +1,8 @@
 use Rattle.std.proofs.Common.{◌≡◌, true, refl, sym, subst}
 use Rattle.std.proofs.lemmas.Result.{err_from_is_err_and}
-use Rattle.joint_net.specs.Metric.{meaning}
 use Rattle.job_semantics.specs.declared.ending.Ending.TheVariants as file
 use Rattle.job_semantics.specs.declared.clause.Clause.TheVariants as clause
-use Rattle.bundle.specs.FilesRead.{IsNetIn}
+use Rattle.bundle_texts.specs.FilesRead.{IsNetIn}
 use Rattle.bundle.specs.Judging.{TextRead, TextUnread, NothingKnown, NetKnown}
 use Rattle.std.proofs.Common.{Some, None}
 use Rattle.bundle.proofs.JudgedTexts.{no_netlist, other_ports, netlist_needed}
@@ -13,7 +12,7 @@ use Rattle.bundle.proofs.check.check_netlist.Goals as goal
 pub returns-in_err-approx : goal.returns-in_err-approx
 returns-in_err-approx g c =
     let N = c.args.net.now in
-    let metric = meaning c.args.metric in
+    let metric = c.args.metric in
     let bound = c.args.bound in
     let stem = c.args.stem.now in
     let old = g.F.Files.told c.args.files.now in
@@ -27,7 +26,7 @@ returns-in_err-approx g c =
 pub returns-in_default : goal.returns-in_default
 returns-in_default g c =
     let N = c.args.net.now in
-    let metric = meaning c.args.metric in
+    let metric = c.args.metric in
     let bound = c.args.bound in
     let stem = c.args.stem.now in
     let old = g.F.Files.told c.args.files.now in
@@ -40,7 +39,7 @@ returns-in_default g c =
 pub returns-then-not-same_ports : goal.returns-then-not-same_ports
 returns-then-not-same_ports g c =
     let N = c.args.net.now in
-    let metric = meaning c.args.metric in
+    let metric = c.args.metric in
     let bound = c.args.bound in
     let stem = c.args.stem.now in
     let old = g.F.Files.told c.args.files.now in
@@ -55,7 +54,7 @@ returns-then-not-same_ports g c =
 pub returns : goal.returns
 returns g c =
     let N = c.args.net.now in
-    let metric = meaning c.args.metric in
+    let metric = c.args.metric in
     let bound = c.args.bound in
     let stem = c.args.stem.now in
     let old = g.F.Files.told c.args.files.now in

@@ -1,11 +1,10 @@
 use Rattle.std.proofs.Common.{refl, sym, subst, arith}
 use Rattle.std.proofs.lemmas.Result.{err_from_is_err_and}
 use Rattle.semantics.specs.Texts.{Bytes}
-use Rattle.joint_net.specs.Metric.{meaning}
 use Rattle.job_semantics.specs.declared.ending.Ending.TheVariants as file
 use Rattle.job_semantics.specs.declared.clause.Clause.TheVariants as clause
-use Rattle.bundle.specs.Reading.{report_read}
-use Rattle.bundle.specs.FilesRead.{IsReportIn}
+use Rattle.bundle_texts.specs.Reading.{report_read}
+use Rattle.bundle_texts.specs.FilesRead.{IsReportIn}
 use Rattle.bundle.specs.Judging.{TextRead, TextUnread, NetKnown, ReportKnown}
 use Rattle.std.proofs.Common.{Some, None}
 use Rattle.job_semantics.specs.Certificate.{IsReportText}
@@ -17,7 +16,7 @@ pub returns-in_err-report : goal.returns-in_err-report
 returns-in_err-report g c =
     let claim = c.args.claim.now in
     let N = claim.exact.now in
-    let metric = meaning claim.metric in
+    let metric = claim.metric in
     let M = c.args.approx.now in
     let K = NetKnown N M in
     let inputs = c.inputs-inputs.result in
@@ -33,7 +32,7 @@ pub returns-in_default : goal.returns-in_default
 returns-in_default g c =
     let claim = c.args.claim.now in
     let N = claim.exact.now in
-    let metric = meaning claim.metric in
+    let metric = claim.metric in
     let M = c.args.approx.now in
     let K = NetKnown N M in
     let inputs = c.inputs-inputs.result in
@@ -52,7 +51,7 @@ pub returns-then-report-claim : goal.returns-then-report-claim
 returns-then-report-claim g c =
     let claim = c.args.claim.now in
     let N = claim.exact.now in
-    let metric = meaning claim.metric in
+    let metric = claim.metric in
     let M = c.args.approx.now in
     let K = NetKnown N M in
     let inputs = c.inputs-inputs.result in
@@ -73,7 +72,7 @@ pub returns : goal.returns
 returns g c =
     let claim = c.args.claim.now in
     let N = claim.exact.now in
-    let metric = meaning claim.metric in
+    let metric = claim.metric in
     let M = c.args.approx.now in
     let K = NetKnown N M in
     let inputs = c.inputs-inputs.result in

@@ -1,11 +1,10 @@
 use Rattle.std.proofs.Common.{refl, sym, ap, subst, ◌∙◌, None, Some, Err}
 use Rattle.std.proofs.lemmas.Result.{err_from_is_err_and}
 use Rattle.semantics.specs.Texts.{Bytes}
-use Rattle.joint_net.specs.Metric.{meaning}
 use Rattle.job_semantics.specs.declared.ending.Ending.TheVariants as file
 use Rattle.job_semantics.specs.declared.clause.Clause.TheVariants as clause
-use Rattle.bundle.specs.Reading.{report_read}
-use Rattle.bundle.specs.FilesRead.{AreVectorsIn}
+use Rattle.bundle_texts.specs.Reading.{report_read}
+use Rattle.bundle_texts.specs.FilesRead.{AreVectorsIn}
 use Rattle.bundle.specs.Judging.{TextRead, TextUnread, Answers, ReportKnown, WitnessKnown}
 use Rattle.std.proofs.Common.{length}
 use Rattle.semantics.specs.Error.{net_error}
@@ -19,7 +18,7 @@ returns-in_err-vectors g c =
     let claim = c.args.claim.now in
     let N = claim.exact.now in
     let M = c.args.approx.now in
-    let metric = meaning claim.metric in
+    let metric = claim.metric in
     let r = report_read metric claim.bound c.args.report.now in
     let K = ReportKnown N metric claim.bound M r in
     let witness = c.as_slice-witness.result.now in
@@ -36,7 +35,7 @@ returns-in_default g c =
     let claim = c.args.claim.now in
     let N = claim.exact.now in
     let M = c.args.approx.now in
-    let metric = meaning claim.metric in
+    let metric = claim.metric in
     let r = report_read metric claim.bound c.args.report.now in
     let K = ReportKnown N metric claim.bound M r in
     let witness = c.as_slice-witness.result.now in
@@ -55,7 +54,7 @@ returns-in_err-error_at g c =
     let claim = c.args.claim.now in
     let N = claim.exact.now in
     let M = c.args.approx.now in
-    let metric = meaning claim.metric in
+    let metric = claim.metric in
     let r = report_read metric claim.bound c.args.report.now in
     let K = ReportKnown N metric claim.bound M r in
     let witness = c.as_slice-witness.result.now in
@@ -76,7 +75,7 @@ returns-then-branch-report g c =
     let claim = c.args.claim.now in
     let N = claim.exact.now in
     let M = c.args.approx.now in
-    let metric = meaning claim.metric in
+    let metric = claim.metric in
     let r = report_read metric claim.bound c.args.report.now in
     let K = ReportKnown N metric claim.bound M r in
     let witness = c.as_slice-witness.result.now in
@@ -98,7 +97,7 @@ returns g c =
     let claim = c.args.claim.now in
     let N = claim.exact.now in
     let M = c.args.approx.now in
-    let metric = meaning claim.metric in
+    let metric = claim.metric in
     let r = report_read metric claim.bound c.args.report.now in
     let K = ReportKnown N metric claim.bound M r in
     let witness = c.as_slice-witness.result.now in

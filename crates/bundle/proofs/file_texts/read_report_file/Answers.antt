@@ -1,12 +1,11 @@
 use Rattle.std.proofs.Common.{ap, subst, sym, ◌∙◌}
 use Rattle.std.proofs.lemmas.Result.{err_from_is_err_and}
-use Rattle.joint_net.specs.Metric.{meaning}
 use Rattle.file_reading.specs.Front.{FrontValue}
 use Rattle.file_reading.specs.Refused.{FileUnread}
-use Rattle.bundle.specs.FilesRead.{IsReportIn}
+use Rattle.bundle_texts.specs.FilesRead.{IsReportIn}
 use Rattle.bundle.specs.Judging.{TextUnread}
 use Rattle.bundle.proofs.FileTexts.{report_in, report_width}
-use Rattle.bundle.proofs.ReportSizes.{report_front}
+use Rattle.bundle_texts.proofs.ReportSizes.{report_front}
 use Rattle.bundle.proofs.ToldAnswers.{text_read, text_unread}
 use Rattle.bundle.proofs.file_texts.read_report_file.Goals as goal
 
@@ -30,7 +29,7 @@ returns-clause-ok g c =
     let front = c.read_file.new.intake in
     let limit = c.in_ok-read_file.ensures.aim ∙ ap (λ (v : FrontValue). v.limit) c.new-front.ensures in
     let inputs = c.args.inputs in
-    let metric = meaning c.args.metric in
+    let metric = c.args.metric in
     let bound = c.args.bound in
     let found = c.in_ok-read_report.field-0 in
     let here = subst (IsReportIn inputs metric bound found) c.bytes.ensures.value (report_in inputs metric bound c.bytes.result.now found c.in_ok-read_report.ensures) in
@@ -38,4 +37,4 @@ returns-clause-ok g c =
     (λ content wanted. report_front inputs metric bound c.requires (omega arith) content front.bytes front.limit found limit wanted here)
 
 pub returns-clause-width : goal.returns-clause-width
-returns-clause-width g c = report_width c.args.inputs (meaning c.args.metric) c.args.bound c.bytes.result.now c.in_ok-read_report.field-0 c.in_ok-read_report.ensures
+returns-clause-width g c = report_width c.args.inputs c.args.metric c.args.bound c.bytes.result.now c.in_ok-read_report.field-0 c.in_ok-read_report.ensures

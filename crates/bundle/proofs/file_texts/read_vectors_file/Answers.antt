@@ -1,8 +1,8 @@
 use Rattle.std.proofs.Common.{List, Bool, length, ap, subst, sym, ◌∙◌}
 use Rattle.std.proofs.lemmas.Result.{err_from_is_err_and}
 use Rattle.file_reading.specs.Refused.{FileUnread}
-use Rattle.bundle.specs.FilesRead.{AreVectorsIn}
-use Rattle.bundle.specs.VectorsStanding.{VectorsText}
+use Rattle.bundle_texts.specs.FilesRead.{AreVectorsIn}
+use Rattle.bundle_texts.specs.VectorsStanding.{VectorsText}
 use Rattle.bundle.proofs.FileTexts.{vectors_inputs}
 use Rattle.bundle.proofs.ToldAnswers.{text_read, text_unread}
 use Rattle.bundle.proofs.file_texts.read_vectors_file.Goals as goal
