@@ -4,8 +4,9 @@
 Usage: check_log.py FORMULA LOG     prints `verified` (exit 0), or the first step that is wrong and why (exit 1)
        check_log.py --self-test     tries small logs that are right and wrong
 
-A line of a log adds a clause, `ID LITERALS 0 HINTS 0`, or removes clauses, `ID d IDS 0`. The clauses of the formula have the ids 1, 2
-and so on. A step is right if its id is greater than all before it, and unit propagation from the negation of its clause along its hints,
+A line of a log adds a clause, `ID LITERALS 0 HINTS 0`, or removes clauses, `ID d IDS 0`. The clauses of the formula
+have the ids 1, 2 and so on. A step is right if its id is greater than all before it, and unit propagation from the
+negation of its clause along its hints,
 in their order, makes each hint but the last unit and the last one false. The last step is to add the empty clause.
 """
 import sys
@@ -46,7 +47,7 @@ def formula_of(text):
 
 
 def propagate(held, clause, hints, where):
-    """Refuses hints along which unit propagation from the clause's negation does not end in a conflict at the last hint."""
+    """Refuses hints along which unit propagation from the clause's negation does not end in a conflict at the last."""
     true = {-literal for literal in clause}
     for place, hint in enumerate(hints):
         if hint not in held:

@@ -16,3 +16,4 @@ pub mod Numbered
 pub mod FirstRefusals
 pub mod Planes
 pub mod Rows
+pub mod RefusalOrder

@@ -3,6 +3,7 @@ pub mod Statements
 pub mod Tables
 pub mod Reading
 pub mod FirstRefusals
+pub mod RefusalOrder
 pub mod Named
 pub mod Examples
 pub mod Laws

@@ -1,4 +1,5 @@
 //! The laws about what a text means: each function's contract is a law.
+ghost use Rattle.blif_semantics.specs.RefusalOrder.{RefusalOrderLaw};
 ghost use Rattle.blif_semantics.specs.Laws.{TextLaw, FirstRefusalLaw, PlaneLaw, NamedNetLaw, ReadingLaw, WrittenLaw};
 
 /// What the bytes of a text mean, and what means nothing.
@@ -9,6 +10,11 @@ pub fn texts()
 /// Each refusal tells the first of its kind.
 pub fn first_refusals()
     ensures { FirstRefusalLaw }
+{}
+
+/// Which refusal is told, where several hold, and what is read.
+pub fn refusal_order()
+    ensures { RefusalOrderLaw }
 {}
 
 /// The plane of a table is that of each row.

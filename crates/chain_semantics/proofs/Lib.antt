@@ -14,10 +14,15 @@ pub mod TidyUnread
 pub mod TidySteps
 pub mod TidyReached
 pub mod TidyNets
+pub mod TidyConditions
+pub mod TidyChoices
 pub mod Flipped
 pub mod MoveDependence
 pub mod MoveLists
 pub mod MoveMembers
+pub mod OrderedLists
+pub mod MoveOrder
 pub mod MovedNets
+pub mod MovedValues
 pub mod MovedFlips
 pub mod Simplifications

@@ -2,7 +2,8 @@
 use Rattle.std.proofs.Common.{◌≡◌, ◌≢◌, ◌↔◌, ◌⊎◌, ℕ, suc, ◌+◌, ◌<◌, Bool, true, false, not, List, [], ◌∷◌, map, All, refl, sym, subst, inl, inr, arith}
 use Rattle.semantics.specs.Net.{TableValue, NetValue, table_at, input_count, IsSound}
 use Rattle.semantics.specs.Value.{value_of, outputs_of}
-use Rattle.semantics.specs.Error.{Metric, error_of, net_error}
+use Rattle.semantics.specs.Error.{error_of, net_error}
+use Rattle.semantics.specs.declared.metric.Metric.{Metric}
 use Rattle.semantics.proofs.Replaced.{replaced-same}
 use Rattle.chain_semantics.specs.declared.moves.Move.{Move}
 use Rattle.chain_semantics.specs.Moves.{table_of, moved_table, moved}

@@ -3,19 +3,23 @@ use Rattle.std.proofs.Common.{◌≡◌, ℕ, ◌*◌, max, Bool, List, [], ◌�
 use Rattle.std.proofs.Math.Nat.{zero-div, zero-mod}
 use Rattle.semantics.specs.Net.{NetValue}
 use Rattle.semantics.specs.Value.{outputs_of}
-use Rattle.semantics.specs.Error.{Metric, abs, rel, ham, number_of, distance, rounded_up, differing, error_of, net_error, IsWithin}
+use Rattle.semantics.specs.Error.{number_of, distance, rounded_up, differing, error_of, net_error, IsWithin}
+use Rattle.semantics.specs.declared.metric.Metric.{Metric}
+use Rattle.semantics.specs.declared.metric.Metric.TheVariants.{Abs, Rel, Ham, Sabs}
+use Rattle.semantics.proofs.Signed.{signed_error-naturals}
 
 differing-same : (bits : List Bool) → differing bits bits ≡ 0
 differing-same [] = refl
 differing-same (b ∷ bits) = omega (arith, differing-same bits)
 
 error_of-same : (metric : Metric) (bits : List Bool) → error_of metric bits bits ≡ 0
-error_of-same abs bits = omega arith
-error_of-same rel bits =
+error_of-same Abs bits = omega arith
+error_of-same Rel bits =
     let k : ℕ = max 1 (number_of bits) in
     let none : distance (number_of bits) (number_of bits) * 1000000 ≡ 0 = omega arith in
     ap (λ d. rounded_up d k) none ∙ omega (arith, zero-div k, zero-mod k)
-error_of-same ham bits = differing-same bits
+error_of-same Ham bits = differing-same bits
+error_of-same Sabs bits = omega (arith, signed_error-naturals bits bits)
 
 pub IsWithin-same : (metric : Metric) (N : NetValue) (level : ℕ) → IsWithin metric N level N
 unfolding net_error

@@ -6,7 +6,8 @@ use Rattle.std.proofs.lemmas.Bool.{and_parts}
 use Rattle.std.proofs.lemmas.List.Elements.{All-weaker, All-contains_itself, All-set}
 use Rattle.semantics.specs.declared.mark.Mark.{Mark}
 use Rattle.semantics.specs.Net.{TableValue, NetValue, no_table, table_at, literal_count, IsSound, IsSmall}
-use Rattle.semantics.specs.Error.{Metric, error_of, net_error, IsWithin}
+use Rattle.semantics.specs.Error.{error_of, net_error, IsWithin}
+use Rattle.semantics.specs.declared.metric.Metric.{Metric}
 use Rattle.semantics.specs.Value.{outputs_of}
 use Rattle.chain_semantics.specs.declared.moves.Move.{Move}
 use Rattle.chain_semantics.specs.Chain.{IsFirstAllowed, IsInChain, IsChainEnd}

@@ -118,7 +118,7 @@ none_passes_at : (test : ℕ → Bool) (start count : ℕ) (b : Bool) → test s
 none_passes_at test start count true e h = cc
 none_passes_at test start count false e h = (refl, h)
 
-none_passes : (test : ℕ → Bool) (start count : ℕ) → first_from test start count ≡ None → (q : ℕ) → start ≤ q → q < start + count → test q ≡ false
+pub none_passes : (test : ℕ → Bool) (start count : ℕ) → first_from test start count ≡ None → (q : ℕ) → start ≤ q → q < start + count → test q ≡ false
 none_passes test start zero e q low high = absurd (omega arith)
 none_passes test start (suc count) e q low high =
     let both = none_passes_at test start count (test start) refl e in

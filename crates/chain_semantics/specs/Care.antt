@@ -2,7 +2,8 @@
 use Rattle.std.specs.Prelude.{◌≢◌, ℕ, ◌+◌, ◌<◌, Bool, List}
 use Rattle.semantics.specs.Net.{NetValue, table_at, input_count}
 use Rattle.semantics.specs.Value.{table_value, value_of, outputs_of}
-use Rattle.semantics.specs.Error.{Metric, error_of, net_error}
+use Rattle.semantics.specs.Error.{error_of, net_error}
+use Rattle.semantics.specs.declared.metric.Metric.{Metric}
 use Rattle.chain_semantics.specs.declared.moves.Move.{Move}
 use Rattle.chain_semantics.specs.Moves.{table_of, moved_table, moved}
 use Rattle.chain_semantics.specs.Flips.{flipped_outputs}

@@ -3,12 +3,15 @@ pub mod TidyRules
 pub mod Tidy
 pub mod TidyLevels
 pub mod TidyLaws
+pub mod TidyChoices
 pub mod TidyExamples
 pub mod Moves
 pub mod Flips
 pub mod Care
 pub mod Minimality
 pub mod MoveLaws
+pub mod MoveValues
+pub mod MoveOrder
 pub mod MoveExamples
 pub mod Simplification
 pub mod SimplificationLaws

@@ -2,7 +2,7 @@
 use Rattle.std.specs.Prelude.{ℕ, Bool, List, Contains}
 use Rattle.std.specs.List.{AllByRecursion}
 use Rattle.semantics.specs.Net.{NetValue}
-use Rattle.semantics.specs.Error.{Metric}
+use Rattle.semantics.specs.declared.metric.Metric.{Metric}
 use Rattle.chain_semantics.specs.declared.moves.Move.{Move}
 use Rattle.chain_semantics.specs.Moves.{moves_of}
 use Rattle.chain_semantics.specs.Care.{IsBrokenAt}

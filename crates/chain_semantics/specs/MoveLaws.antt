@@ -6,7 +6,7 @@ use Rattle.semantics.specs.Net.{TableValue, NetValue, table_at, input_count, tab
 use Rattle.semantics.specs.Value.{Assignment, table_value, value_of, outputs_of}
 use Rattle.semantics.specs.Replaced.{replaced}
 use Rattle.semantics.specs.Dependence.{DependsOn}
-use Rattle.semantics.specs.Error.{Metric}
+use Rattle.semantics.specs.declared.metric.Metric.{Metric}
 use Rattle.chain_semantics.specs.declared.moves.Move.{Move}
 use Rattle.chain_semantics.specs.declared.moves.Move.TheVariants.{Const, DropRow, DropLiteral, Signal}
 use Rattle.chain_semantics.specs.Moves.{depends, moves_of, table_of, row_at, moved}

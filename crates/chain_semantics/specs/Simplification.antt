@@ -2,7 +2,8 @@
 -- allowed. Source: SALSA; tidying and the order of the moves are this tool's own.
 use Rattle.std.specs.Prelude.{ℕ}
 use Rattle.semantics.specs.Net.{NetValue}
-use Rattle.semantics.specs.Error.{Metric, IsWithin}
+use Rattle.semantics.specs.Error.{IsWithin}
+use Rattle.semantics.specs.declared.metric.Metric.{Metric}
 use Rattle.chain_semantics.specs.declared.moves.Move.{Move}
 use Rattle.chain_semantics.specs.Chain.{IsInChain, IsChainEnd}
 use Rattle.chain_semantics.specs.Moves.{moves_of, moved}

@@ -1,7 +1,8 @@
 -- The law about the simplifications of a net, the contract of a function without parameters.
 use Rattle.std.specs.Prelude.{◌≡◌, ℕ, ◌<◌, Contains}
 use Rattle.semantics.specs.Net.{NetValue, literal_count, IsSound, IsSmall, HasSamePorts}
-use Rattle.semantics.specs.Error.{Metric, IsWithin}
+use Rattle.semantics.specs.Error.{IsWithin}
+use Rattle.semantics.specs.declared.metric.Metric.{Metric}
 use Rattle.chain_semantics.specs.declared.moves.Move.{Move}
 use Rattle.chain_semantics.specs.Chain.{IsFirstAllowed}
 use Rattle.chain_semantics.specs.Moves.{moves_of, moved}

@@ -1,5 +1,7 @@
 //! The laws about moves, flips and cared-for inputs: each function's contract is a law.
 ghost use Rattle.chain_semantics.specs.MoveLaws.{MoveLaw, FlipLaw, FlippedMoveLaw};
+ghost use Rattle.chain_semantics.specs.MoveOrder.{MoveOrderLaw};
+ghost use Rattle.chain_semantics.specs.MoveValues.{MovedValueLaw};
 
 /// Which moves a net has, and what each keeps and lowers.
 pub fn moves()
@@ -14,4 +16,14 @@ pub fn flips()
 /// A move changes its table's value or leaves it: which outputs the moved net has, and where it is broken.
 pub fn flipped_moves()
     ensures { FlippedMoveLaw }
+{}
+
+/// What a move makes of its table, and the value of the moved table by kind.
+pub fn moved_values()
+    ensures { MovedValueLaw }
+{}
+
+/// The order of the moves of a net, which with their conditions makes one list.
+pub fn order()
+    ensures { MoveOrderLaw }
 {}

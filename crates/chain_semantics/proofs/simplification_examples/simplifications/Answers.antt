@@ -2,7 +2,8 @@
 use Rattle.std.proofs.Common.{◌<◌, ◌≤◌, ℕ, Bool, true, false, [], ◌∷◌, refl, ap, arith}
 use Rattle.std.specs.List.{AllByRecursion}
 use Rattle.semantics.specs.Net.{NetValue, literal_count}
-use Rattle.semantics.specs.Error.{abs, net_error, IsWithin}
+use Rattle.semantics.specs.Error.{net_error, IsWithin}
+use Rattle.semantics.specs.declared.metric.Metric.TheVariants.{Abs}
 use Rattle.semantics.specs.Examples.{half_adder, constant_sum}
 use Rattle.semantics.specs.Value.{after_rounds, value_of, outputs_of}
 use Rattle.chain_semantics.specs.declared.moves.Move.{Move}
@@ -18,10 +19,10 @@ use Rattle.chain_semantics.proofs.Simplifications.{simplification_end-only}
 use Rattle.chain_semantics.proofs.simplification_examples.simplifications.Goals as goal
 
 Errs : NetValue → Bool → Bool → ℕ
-Errs N a b = net_error abs half_adder N (a ∷ b ∷ [])
+Errs N a b = net_error Abs half_adder N (a ∷ b ∷ [])
 
 -- the bound is kept on every vector, where it is kept on the four
-on_each : (N : NetValue) → Errs N false false ≤ 1 → Errs N true false ≤ 1 → Errs N false true ≤ 1 → Errs N true true ≤ 1 → IsWithin abs half_adder 1 N
+on_each : (N : NetValue) → Errs N false false ≤ 1 → Errs N true false ≤ 1 → Errs N false true ≤ 1 → Errs N true true ≤ 1 → IsWithin Abs half_adder 1 N
 unfolding Errs
 on_each N oo io oi ii [] e = cc
 on_each N oo io oi ii (a ∷ []) e = cc
@@ -32,12 +33,12 @@ on_each N oo io oi ii (true ∷ true ∷ []) e = ii
 on_each N oo io oi ii (a ∷ b ∷ c ∷ x) e = cc
 
 -- the bound is not kept, where one vector exceeds it
-not_at : (N : NetValue) (a b : Bool) → 1 < Errs N a b → ¬ IsWithin abs half_adder 1 N
+not_at : (N : NetValue) (a b : Bool) → 1 < Errs N a b → ¬ IsWithin Abs half_adder 1 N
 unfolding Errs
 not_at N a b over within = omega (arith, over, within (a ∷ b ∷ []) refl)
 
 Allowed : NetValue → Move → Type 0
-Allowed = IsAllowedMove abs half_adder 1
+Allowed = IsAllowedMove Abs half_adder 1
 
 allowed_sum : Allowed half_adder (Const 0 false)
 unfolding Allowed Errs after_rounds value_of outputs_of net_error
@@ -68,7 +69,7 @@ none_goes =
     let refused = refused_constants carry_is_b (omega arith) (omega arith) in
     (refused.0, (refused.1, (not_at (moved carry_is_b (DropLiteral 1 0 0)) false false (omega arith), tt)))
 
-within_one : IsSimplificationEnd abs half_adder 1 carry_is_b
+within_one : IsSimplificationEnd Abs half_adder 1 carry_is_b
 unfolding tidy_step Allowed
 within_one = record {
   start = half_adder;
@@ -85,5 +86,5 @@ within_one = record {
 pub returns : goal.returns
 returns c = record {
   within_one = within_one;
-  not_the_read_net = λ h. omega (arith, ap literal_count (simplification_end-only abs half_adder 1 half_adder carry_is_b h within_one));
+  not_the_read_net = λ h. omega (arith, ap literal_count (simplification_end-only Abs half_adder 1 half_adder carry_is_b h within_one));
 }

@@ -1,0 +1,15 @@
+use Rattle.chain_semantics.proofs.MovedValues.{moved-itself, moved-others, moved_table-name, constant-value, copied-value, row_dropped-other, other-row_dropped, literal_dropped-row, row-literal_dropped, rows-left, literals-left}
+use Rattle.chain_semantics.proofs.move_laws.moved_values.Goals as goal
+
+pub returns : goal.returns
+returns c = record {
+  itself = moved-itself;
+  others = moved-others;
+  name = moved_table-name;
+  constant = constant-value;
+  row = λ t i r v within. (row_dropped-other t i r v within, other-row_dropped t i r v within);
+  literal = λ t i r p v within. (literal_dropped-row t i r p v within, row-literal_dropped t i r p v within);
+  signal = copied-value;
+  rows_left = rows-left;
+  literals_left = literals-left;
+}

@@ -1,0 +1,41 @@
+-- The order of the moves of a net: by table, then by kind, then by row, pin or signal, and at last what is 0 or plain before what is 1 or flipped.
+use Rattle.std.specs.Prelude.{◌≡◌, ◌≢◌, ◌⊎◌, ◌↔◌, ℕ, ◌<◌, Bool, true, false, List, [], ◌∷◌, AllPairs, Contains}
+use Rattle.semantics.specs.Net.{NetValue, input_count, IsAcyclic}
+use Rattle.chain_semantics.specs.declared.moves.Move.{Move}
+use Rattle.chain_semantics.specs.declared.moves.Move.TheVariants.{Const, DropRow, DropLiteral, Signal}
+use Rattle.chain_semantics.specs.Moves.{moves_of, table_of}
+use Rattle.chain_semantics.specs.MoveLaws.{IsMoveOf}
+
+abbrev pub kind_number : Move → ℕ
+kind_number (Const t value) = 0
+kind_number (DropRow t row) = 1
+kind_number (DropLiteral t row pin) = 2
+kind_number (Signal t s flip) = 3
+
+abbrev pub bit : Bool → ℕ
+bit false = 0
+bit true = 1
+
+-- where a move stands among those of its table and its kind
+abbrev pub places_of : Move → List ℕ
+places_of (Const t value) = bit value ∷ []
+places_of (DropRow t row) = row ∷ []
+places_of (DropLiteral t row pin) = row ∷ pin ∷ []
+places_of (Signal t s flip) = s ∷ bit flip ∷ []
+
+-- in dictionary order
+abbrev pub IsBefore : List ℕ → List ℕ → Type 0
+IsBefore [] ys = ⊥
+IsBefore (x ∷ xs) [] = ⊥
+IsBefore (x ∷ xs) (y ∷ ys) = (x < y) ⊎ ((x ≡ y) × IsBefore xs ys)
+
+abbrev pub ComesBefore : Move → Move → Type 0
+ComesBefore a b = IsBefore (table_of a ∷ kind_number a ∷ places_of a) (table_of b ∷ kind_number b ∷ places_of b)
+
+-- each move comes before all later ones, so none stands twice; and in an acyclic net the list is the only one in this order whose members are
+-- the moves whose condition holds
+pub record MoveOrderLaw : Type 0 where
+  pub in_order : (N : NetValue) → AllPairs ComesBefore (moves_of N)
+  pub once : (N : NetValue) → AllPairs ◌≢◌ (moves_of N)
+  pub only : (N : NetValue) (moves : List Move) → IsAcyclic (input_count N) N.tables → AllPairs ComesBefore moves
+      → ((move : Move) → Contains moves move ↔ IsMoveOf N move) → moves ≡ moves_of N

@@ -1,0 +1,49 @@
+-- What a move makes of its table, and the value of the moved table by kind.
+use Rattle.std.specs.Prelude.{◌≡◌, ◌≢◌, ◌↔◌, ◌⊎◌, ℕ, ◌+◌, ◌<◌, Bool, true, not, if◌then◌else◌, List, ◌∷◌, ◌++◌, length}
+use Rattle.semantics.specs.declared.mark.Mark.{Mark}
+use Rattle.semantics.specs.declared.mark.Mark.TheVariants.{Dash}
+use Rattle.semantics.specs.Net.{TableValue, NetValue, table_at, table_count}
+use Rattle.semantics.specs.Value.{Assignment, mark_matches, table_value}
+use Rattle.chain_semantics.specs.declared.moves.Move.{Move}
+use Rattle.chain_semantics.specs.declared.moves.Move.TheVariants.{Const, DropRow, DropLiteral, Signal}
+use Rattle.chain_semantics.specs.TidyRules.{pin_at, mark_at}
+use Rattle.chain_semantics.specs.Moves.{table_of, row_at, moved_table, moved}
+
+-- the mark of row r at pin q is a dash, or the pin has its value
+abbrev pub MarkHolds : TableValue → Assignment → ℕ → ℕ → Type 0
+MarkHolds t v r q = mark_matches (mark_at (row_at t.rows r) q) (v (pin_at t q)) ≡ true
+
+-- row r holds at each of its pins
+abbrev pub RowHolds : TableValue → Assignment → ℕ → Type 0
+RowHolds t v r = (q : ℕ) → q < length (row_at t.rows r) → q < length t.pins → MarkHolds t v r q
+
+-- row r holds at each of its pins but pin p
+abbrev pub RowHoldsBut : TableValue → Assignment → ℕ → ℕ → Type 0
+RowHoldsBut t v r p = (q : ℕ) → q < length (row_at t.rows r) → q < length t.pins → q ≢ p → MarkHolds t v r q
+
+-- a row holds that is not row r
+abbrev pub AnotherRowHolds : TableValue → Assignment → ℕ → Type 0
+AnotherRowHolds t v r = (k : ℕ) × (k < length t.rows) × (k ≢ r) × RowHolds t v k
+
+-- the moved table has its plane as value
+abbrev pub HasPlane : TableValue → Move → Assignment → Type 0
+HasPlane t move v = table_value (moved_table t move) v ≡ t.plane
+
+-- The moved net has the moved table in its place, and every other table as it was. The moved table keeps its name.
+-- A constant has its value whatever the signals are; a copy has the value of its signal, or the opposite; without a row the others decide, and
+-- without a literal the row no longer asks for it. Rows and literals that are left out leave the order of the others, the pins and the plane.
+pub record MovedValueLaw : Type 0 where
+  pub itself : (N : NetValue) (move : Move) → table_of move < table_count N
+      → table_at (moved N move).tables (table_of move) ≡ moved_table (table_at N.tables (table_of move)) move
+  pub others : (N : NetValue) (move : Move) (i : ℕ) → i ≢ table_of move → table_at (moved N move).tables i ≡ table_at N.tables i
+  pub name : (t : TableValue) (move : Move) → (moved_table t move).name ≡ t.name
+  pub constant : (t : TableValue) (i : ℕ) (value : Bool) (v : Assignment) → table_value (moved_table t (Const i value)) v ≡ value
+  pub row : (t : TableValue) (i r : ℕ) (v : Assignment) → r < length t.rows → HasPlane t (DropRow i r) v ↔ AnotherRowHolds t v r
+  pub literal : (t : TableValue) (i r p : ℕ) (v : Assignment) → r < length t.rows
+      → HasPlane t (DropLiteral i r p) v ↔ (AnotherRowHolds t v r ⊎ RowHoldsBut t v r p)
+  pub signal : (t : TableValue) (i s : ℕ) (flip : Bool) (v : Assignment) → table_value (moved_table t (Signal i s flip)) v ≡ (if flip then not (v s) else v s)
+  pub rows_left : (t : TableValue) (i : ℕ) (before : List (List Mark)) (marks : List Mark) (after : List (List Mark)) → t.rows ≡ before ++ marks ∷ after
+      → moved_table t (DropRow i (length before)) ≡ record t { rows = before ++ after }
+  pub literals_left : (t : TableValue) (i : ℕ) (before : List (List Mark)) (left : List Mark) (m : Mark) (right : List Mark) (after : List (List Mark))
+      → t.rows ≡ before ++ (left ++ m ∷ right) ∷ after
+      → moved_table t (DropLiteral i (length before) (length left)) ≡ record t { rows = before ++ (left ++ Dash ∷ right) ∷ after }
