@@ -1,10 +1,10 @@
 -- How what the files tell joins from one file to the next.
-use Rattle.std.proofs.Common.{◌≡◌, ℕ, ◌^◌, ◌≤◌, false, length, sym, subst, ◌∙◌, Option, Result, Ok, Err, arith}
+use Rattle.std.proofs.Common.{◌≡◌, ℕ, ◌≤◌, false, length, sym, subst, ◌∙◌, Option, Result, Ok, Err, arith}
 use Rattle.std.proofs.lemmas.Bool.{false_from_ne_true}
 use Rattle.semantics.specs.Texts.{Bytes}
 use Rattle.semantics.specs.Net.{NetValue}
 use Rattle.semantics.specs.declared.metric.Metric.{Metric}
-use Rattle.outside_semantics.specs.Outside.{Held, FilesTold, Goes, bytes_of}
+use Rattle.outside_semantics.specs.Outside.{Held, FilesTold, bytes_of, turn_budget}
 use Rattle.file_core.proofs.Told.{Goes-same, Goes-Goes, held_before}
 use Rattle.file_reading.specs.declared.unread.Unread.{Unread}
 use Rattle.file_reading.specs.declared.unread.Unread.TheVariants as unread
@@ -29,7 +29,7 @@ text_weaker {old} {new} {name} P Q read step = record { stay = read.stay; conten
 pub text_unread : (old new : FilesTold) (name text : Bytes) (reason : Unread) → FileUnread old new name text reason → TextUnread old new name reason
 text_unread old new name text unread.Fault h = h
 text_unread old new name text unread.OutOfMemory h = h
-text_unread old new name text unread.Endless h = (h.stay, h.long)
+text_unread old new name text unread.Endless h = (h.stay, h.read_out, h.long)
 
 -- ---- the answers behind it
 
@@ -80,7 +80,12 @@ module _ (exact : NetValue) (metric : Metric) (bound : ℕ) (stem : Bytes) where
     cause_later unread.Fault (rose, (other, unread, unsteady)) =
         (omega (arith, read.stay.goes.counts, rose), (other, later (Needs other) unread, not_steady_before (bundle_name stem other) unsteady))
     cause_later unread.OutOfMemory h = tt
-    cause_later unread.Endless (other, unread, long) = (other, later (Needs other) unread, bundle_later (λ texts. 2 ^ 40 ≤ length (texts other)) long)
+    cause_later unread.Endless (other, unread, read_out, long) = (
+      other,
+      later (Needs other) unread,
+      omega (arith, read.stay.goes.turns (bundle_name stem other), read_out),
+      bundle_later (λ texts. turn_budget ≤ length (texts other)) long,
+    )
 
   -- a file was read, and the check went on with what is known of it
   pub answers_later : (old mid new : FilesTold) (ending : Ending) (Q : Bytes → Type 0) (K K' : Texts → Type 0) → TextRead old mid (bundle_name stem ending) Q
@@ -108,12 +113,13 @@ module _ (exact : NetValue) (metric : Metric) (bound : ℕ) (stem : Bytes) where
   answers_unread old new ending K unread.Fault h needed =
       (kept_by old new ending K h.stay needed, (h.rose, (ending, (λ a b told tells k. needed (texts_of b stem) k), h.not_steady)))
   answers_unread old new ending K unread.OutOfMemory h needed = (kept_by old new ending K h needed, tt)
-  answers_unread old new ending K unread.Endless (stay, long) needed = (
+  answers_unread old new ending K unread.Endless (stay, read_out, long) needed = (
     kept_by old new ending K stay needed,
     (
       ending,
       (λ a b told tells k. needed (texts_of b stem) k),
-      λ a b told tells. subst (λ (h : Held). 2 ^ 40 ≤ length (bytes_of h (bundle_name stem ending))) (sym (stay.stays a b told tells)) (long a b told tells),
+      read_out,
+      λ a b told tells. subst (λ (h : Held). turn_budget ≤ length (bytes_of h (bundle_name stem ending))) (sym (stay.stays a b told tells)) (long a b told tells),
     ),
   )
 

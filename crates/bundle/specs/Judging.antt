@@ -1,10 +1,10 @@
 -- What the check of a bundle's files comes to.
-use Rattle.std.specs.Prelude.{◌≡◌, ℕ, ◌^◌, ◌≤◌, false, length, Option, None, Some, Result, Ok, Err}
+use Rattle.std.specs.Prelude.{◌≡◌, ℕ, ◌≤◌, false, length, Option, None, Some, Result, Ok, Err}
 use Rattle.semantics.specs.Texts.{Bytes}
 use Rattle.semantics.specs.Net.{NetValue, input_count, HasSamePorts}
 use Rattle.semantics.specs.Error.{net_error}
 use Rattle.semantics.specs.declared.metric.Metric.{Metric}
-use Rattle.outside_semantics.specs.Outside.{Held, FilesTold, Goes, Rose, WhereTold, bytes_of}
+use Rattle.outside_semantics.specs.Outside.{Held, FilesTold, Goes, Rose, IsReadOut, WhereTold, bytes_of, turn_budget}
 use Rattle.file_reading.specs.declared.unread.Unread.{Unread}
 use Rattle.file_reading.specs.declared.unread.Unread.TheVariants.{Fault, OutOfMemory, Endless}
 use Rattle.file_reading.specs.Reading.{FilesStay, FileFailed}
@@ -51,7 +51,7 @@ IsCause exact metric bound stem K old new Fault =
 IsCause exact metric bound stem K old new OutOfMemory = Unit {0}
 IsCause exact metric bound stem K old new Endless =
     (ending : Ending) × OfBundle old new stem (λ texts. K texts → IsNeededFor exact metric bound texts ending)
-    × OfBundle old new stem (λ texts. 2 ^ 40 ≤ length (texts ending))
+    × IsReadOut old new (bundle_name stem ending) × OfBundle old new stem (λ texts. turn_budget ≤ length (texts ending))
 
 -- what the check answers, where K holds of the texts
 abbrev pub Answers : NetValue → Metric → ℕ → Bytes → (Texts → Type 0) → FilesTold → FilesTold → Result (Option Clause) Unread → Type 0
@@ -68,7 +68,7 @@ pub record TextRead (old new : FilesTold) (name : Bytes) (Q : Bytes → Type 0) 
 abbrev pub TextUnread : FilesTold → FilesTold → Bytes → Unread → Type 0
 TextUnread old new name Fault = FileFailed old new name
 TextUnread old new name OutOfMemory = FilesStay old new name
-TextUnread old new name Endless = FilesStay old new name × WhereTold old new (λ a b. 2 ^ 40 ≤ length (bytes_of a name))
+TextUnread old new name Endless = FilesStay old new name × IsReadOut old new name × WhereTold old new (λ a b. turn_budget ≤ length (bytes_of a name))
 
 -- ---- what is known once the clauses that speak of a file hold
 

@@ -16,6 +16,9 @@ use Rattle.bundle_texts.specs.Reading.{HoldsVectors}
 use Rattle.bundle_texts.specs.FilesRead.{AreVectorsIn}
 use Rattle.bundle_texts.specs.VectorLines.{vector_line, vector_lines}
 use Rattle.bundle_texts.specs.VectorsTaken.{TakenValue, taken_text, is_next_byte, with_byte, are_whole, BeginWith, AreVectorsSoFar, NeverVectors}
+use Rattle.bundle_texts.specs.TextCheck.{room_at}
+use Rattle.bundle_texts.specs.declared.vectors_check.VectorsCheck.TheInside.{Inside}
+use Rattle.bundle_texts.specs.VectorsStanding.{VectorsText, check_view, StandsAt, Stands}
 use Rattle.bundle_texts.proofs.VectorTexts.{vectors_text-is, assoc_line, lines_behind}
 
 abbrev AreWide : ℕ → List (List Bool) → Type 0
@@ -233,3 +236,49 @@ never_vectors witness content text room never (inr (none, front)) pool k =
 never_more : (witness : List Bool) (text : Bytes) (byte : ℕ) → NeverVectors witness text → NeverVectors witness (text ++ byte ∷ [])
 never_more witness text byte never more pool k =
     never (byte ∷ more) pool (subst (λ t. IsVectorsText (length witness) t witness pool) (append_assoc text (byte ∷ []) more) k)
+
+-- ---- the check of vectors
+
+pub taken_next : (a mid : Inside) (bytes : Bytes) (byte : ℕ) (new : TakenValue) (is_right : Bool) → mid ≡ record a { taken = new; is_right = is_right } → bytes ≡ mid.text.bytes ++ byte ∷ []
+    → StandsAt true a.witness.now a.taken a.text.bytes
+    → ((text : Bytes) → AreVectorsSoFar a.witness.now a.taken text → StandsAt is_right a.witness.now new (text ++ byte ∷ [])) → StandsAt mid.is_right mid.witness.now mid.taken bytes
+taken_next a mid bytes byte new is_right is text stands step =
+    let whole : bytes ≡ a.text.bytes ++ byte ∷ [] = text ∙ ap (λ (m : Inside). m.text.bytes ++ byte ∷ []) is in
+    subst (λ (m : Inside). StandsAt m.is_right m.witness.now m.taken bytes) (sym is)
+    (subst (λ t. StandsAt is_right a.witness.now new t) (sym whole) (step a.text.bytes stands))
+
+pub taken_still : (a mid : Inside) (bytes : Bytes) (byte : ℕ) → mid ≡ a → bytes ≡ mid.text.bytes ++ byte ∷ [] → a.is_right ≡ false → Stands a
+    → StandsAt mid.is_right mid.witness.now mid.taken bytes
+taken_still a mid bytes byte is text other stands =
+    let never = subst (λ b. StandsAt b a.witness.now a.taken a.text.bytes) other stands in
+    let whole : bytes ≡ a.text.bytes ++ byte ∷ [] = text ∙ ap (λ (m : Inside). m.text.bytes ++ byte ∷ []) is in
+    subst (λ (m : Inside). StandsAt m.is_right m.witness.now m.taken bytes) (sym is)
+    (subst (λ b. StandsAt b a.witness.now a.taken bytes) (sym other)
+    (subst (λ t. StandsAt false a.witness.now a.taken t) (sym whole) (never_more a.witness.now a.text.bytes byte never)))
+
+-- the vectors that are answered where the text was right to its end
+pub finished_right : (a : Inside) (v : VectorsText) (found : Option PatternSet) → check_view a ≡ v → Stands a → a.is_right ≡ true
+    → found ≡ (if are_whole a.taken then Some (record { inputs = a.taken.inputs; vectors = a.taken.vectors }) else None)
+    → (content : Bytes) → IsAllWanted content v.text v.room → AreVectorsIn (length v.witness) v.witness found content
+finished_right a v found view stands right is =
+    let h = subst (λ b. StandsAt b a.witness.now a.taken a.text.bytes) right stands in
+    let going : 0 < room_at a.is_right = subst (λ b. 0 < room_at b) (sym right) (omega arith) in
+    subst (λ (u : VectorsText). (content : Bytes) → IsAllWanted content u.text u.room → AreVectorsIn (length u.witness) u.witness found content) view
+    (λ content wanted.
+    subst (AreVectorsIn (length a.witness.now) a.witness.now found) (whole_text content a.text.bytes (room_at a.is_right) going wanted)
+    (at h (are_whole a.taken) refl is))
+  where
+    at : AreVectorsSoFar a.witness.now a.taken a.text.bytes → (t : Bool) → are_whole a.taken ≡ t
+        → found ≡ (if t then Some (record { inputs = a.taken.inputs; vectors = a.taken.vectors }) else None) → AreVectorsIn (length a.witness.now) a.witness.now found a.text.bytes
+    at h true whole is =
+        subst (λ o. AreVectorsIn (length a.witness.now) a.witness.now o a.text.bytes) (sym is) (ends_right a.witness.now a.taken a.text.bytes h whole)
+    at h false part is =
+        subst (λ o. AreVectorsIn (length a.witness.now) a.witness.now o a.text.bytes) (sym is) (ends_wrong a.witness.now a.taken a.text.bytes h part)
+
+-- none are answered where it was not
+pub finished_wrong : (a : Inside) (v : VectorsText) → check_view a ≡ v → Stands a → a.is_right ≡ false
+    → (content : Bytes) → IsAllWanted content v.text v.room → AreVectorsIn (length v.witness) v.witness None content
+finished_wrong a v view stands wrong =
+    let never = subst (λ b. StandsAt b a.witness.now a.taken a.text.bytes) wrong stands in
+    subst (λ (u : VectorsText). (content : Bytes) → IsAllWanted content u.text u.room → AreVectorsIn (length u.witness) u.witness None content) view
+    (λ content wanted. never_vectors a.witness.now content a.text.bytes (room_at a.is_right) never wanted)

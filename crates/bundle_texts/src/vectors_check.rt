@@ -1,9 +1,11 @@
 //! The vectors of a text are judged line by line as they are read: the first wrong byte refutes the text, and only vectors that
 //! are right are held.
-ghost use Rattle.std.specs.Prelude.{◌≡◌, ◌≤◌, [], ◌∷◌, ◌++◌, length, OnOk};
+ghost use Rattle.std.specs.Prelude.{◌≡◌, ◌≤◌, [], ◌∷◌, ◌++◌, length, IfOk, OnOk, OnErr};
 ghost use Rattle.semantics.specs.Texts.{Bytes};
 ghost use Rattle.file_reading.specs.Reading.{IsAllWanted};
 ghost use Rattle.bundle_texts.specs.FilesRead.{AreVectorsIn};
+ghost use Rattle.bundle_texts.specs.VectorsTaken.{AreVectorsSoFar};
+ghost use Rattle.bundle_texts.specs.VectorsStanding.{StandsAt};
 
 use crate::vectors_taken::VectorsTaken;
 use file_reading::intake::Intake;
@@ -15,6 +17,20 @@ use std::marker::Model;
 
 /// How many bytes are taken at once.
 const PART: usize = 65_536;
+
+/// Takes the byte where it may come next, and answers whether it may.
+fn takes(taken: &mut VectorsTaken, witness: &[bool], byte: u8) -> Result<bool, AllocError>
+    requires { length witness.now ≡ taken.old.inputs }
+    ensures ok { IfOk result (λ is_right. (text : Bytes) → AreVectorsSoFar witness.now taken.old text
+        → StandsAt is_right witness.now taken.new (text ++ byte ∷ [])) }
+    ensures err { OnErr result (taken.new ≡ taken.old) }
+{
+    if !taken.is_next_byte(witness, byte) {
+        return Ok(false);
+    }
+    taken.take(byte)?;
+    Ok(true)
+}
 
 /// Callers see the witness, the text so far, and how many bytes more are wanted next. The memory goes with the vectors, of which
 /// each is held as one bit for each input.
@@ -58,11 +74,7 @@ impl<'a> VectorsCheck<'a> {
         ensures text { OnOk result (self.new.text ≡ self.old.text ++ byte ∷ []) }
     {
         if self.is_right {
-            if self.taken.is_next_byte(self.witness, byte) {
-                self.taken.take(byte)?;
-            } else {
-                self.is_right = false;
-            }
+            self.is_right = takes(&mut self.taken, self.witness, byte)?;
         }
         self.text = self.text.and(&[byte]);
         Ok(())

@@ -16,7 +16,7 @@ pub(crate) struct VectorsTaken {
 }
 
 impl Model for VectorsTaken {
-    ghost use Rattle.std.specs.Prelude.{◌≤◌, ◌×◌, take};
+    ghost use Rattle.std.specs.Prelude.{◌≤◌, take};
     ghost use Rattle.bundle_texts.specs.VectorsTaken.{TakenValue};
 
     ghost Value = { TakenValue };

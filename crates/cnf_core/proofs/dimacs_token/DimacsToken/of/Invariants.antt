@@ -1,6 +1,6 @@
 use Rattle.std.proofs.Common.{◌≡◌, ◌+◌, take, drop, length}
 use Rattle.file_core.specs.Pieces.{joined}
-use Rattle.cnf_core.proofs.word.Word.of.Given as goal
+use Rattle.cnf_core.proofs.dimacs_token.DimacsToken.of.Given as goal
 
 -- the pieces so far stand in front
 abbrev pub invariant-loop-piece : goal.invariant-loop-piece

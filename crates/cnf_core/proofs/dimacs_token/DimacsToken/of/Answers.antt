@@ -3,7 +3,7 @@ use Rattle.std.specs.Borrow.{Bor}
 use Rattle.semantics.specs.Texts.{Bytes}
 use Rattle.file_core.proofs.Pieces.{joined-take_more}
 use Rattle.cnf_core.proofs.Pieces.{joined-next}
-use Rattle.cnf_core.proofs.word.Word.of.Goals as goal
+use Rattle.cnf_core.proofs.dimacs_token.DimacsToken.of.Goals as goal
 
 pub loop-piece-preserved : goal.loop-piece-preserved
 loop-piece-preserved c =

@@ -2,7 +2,7 @@ use Rattle.std.proofs.Common.{◌++◌, ap, ◌∙◌}
 use Rattle.cnf_core.specs.FormulaText.{clauses_text}
 use Rattle.cnf_core.specs.DimacsRest.{clause_rest}
 use Rattle.cnf_core.proofs.FormulaTexts.{clauses_text-next}
-use Rattle.cnf_core.proofs.dimacs_words.DimacsWords.next.Goals as goal
+use Rattle.cnf_core.proofs.dimacs_tokens.DimacsTokens.next.Goals as goal
 
 pub returns : goal.returns
 returns c =

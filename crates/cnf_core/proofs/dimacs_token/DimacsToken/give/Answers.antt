@@ -1,7 +1,7 @@
 use Rattle.std.proofs.Common.{take, ap, sym, ◌++◌, ◌∙◌, arith, rules, length-take, length-drop, ℕ}
 use Rattle.std.proofs.lemmas.Slice.{overwrites}
 use Rattle.cnf_core.proofs.Pieces.{take-part, take-written}
-use Rattle.cnf_core.proofs.word.Word.give.Goals as goal
+use Rattle.cnf_core.proofs.dimacs_token.DimacsToken.give.Goals as goal
 
 pub returns-clause-written : goal.returns-clause-written
 returns-clause-written c =

@@ -4,18 +4,18 @@ ghost use Rattle.file_core.specs.Pieces.{joined};
 
 use std::marker::Model;
 
-/// How many bytes a word has at most.
-const WORD_BYTES: usize = 48;
+/// How many bytes a token has at most.
+const TOKEN_BYTES: usize = 48;
 
-/// The bytes of a word that were not given yet.
+/// The bytes of a token that were not given yet.
 #[derive(Drop)]
-pub struct Word {
-    bytes: [u8; WORD_BYTES],
+pub struct DimacsToken {
+    bytes: [u8; TOKEN_BYTES],
     start: usize,
     end: usize,
 }
 
-impl Model for Word {
+impl Model for DimacsToken {
     ghost use Rattle.std.specs.Prelude.{◌≤◌, List, ℕ, take, drop};
 
     ghost Value = { List ℕ };
@@ -36,18 +36,18 @@ fn put(bytes: &mut [u8], at: usize, piece: &[u8]) -> usize
     end
 }
 
-impl Word {
+impl DimacsToken {
     /// The pieces, one behind another.
-    pub fn of(pieces: &[&[u8]]) -> Word
-        requires { length (joined pieces.now) ≤ WORD_BYTES }
+    pub fn of(pieces: &[&[u8]]) -> DimacsToken
+        requires { length (joined pieces.now) ≤ TOKEN_BYTES }
         ensures { result ≡ joined pieces.now }
     {
-        let mut bytes = [0; WORD_BYTES];
+        let mut bytes = [0; TOKEN_BYTES];
         let mut end = 0;
         for piece in pieces {
             end = put(&mut bytes, end, piece);
         }
-        Word {
+        DimacsToken {
             bytes,
             start: 0,
             end,
