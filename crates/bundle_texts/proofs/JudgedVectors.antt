@@ -1,7 +1,7 @@
 -- What each byte of a text of vectors says of it.
-use Rattle.std.proofs.Common.{◌≡◌, ◌≢◌, ℕ, ◌+◌, ◌<◌, ◌≤◌, Bool, true, false, ◌==◌, if◌then◌else◌, Option, Some, None, List, [], ◌∷◌, ◌++◌, map, take, drop, length, get_or, refl, ap, sym, subst, ◌∙◌, append_assoc, inl, inr, arith}
+use Rattle.std.proofs.Common.{◌≡◌, ◌≢◌, ℕ, ◌+◌, ◌<◌, ◌≤◌, Bool, true, false, ◌==◌, ◌&&◌, nat_lt, if◌then◌else◌, Option, Some, None, List, [], ◌∷◌, ◌++◌, map, take, drop, length, get_or, refl, ap, sym, subst, ◌∙◌, append_assoc, inl, inr, arith}
 use Rattle.std.specs.List.{AllByRecursion}
-use Rattle.std.proofs.lemmas.Bool.{and_parts, eqb-true, eqb-false, eq-eqb, ne_eqb, or_cases}
+use Rattle.std.proofs.lemmas.Bool.{and_parts, eqb-true, eqb-false, eq-eqb, ne_eqb, or_cases, lt-ltb}
 use Rattle.std.proofs.lemmas.List.{append-nil, length-append, length-map, length_push, map-append, take_all, take_more, get_or-map, get_or_append_left, take-append-drop}
 use Rattle.std.proofs.lemmas.Grind.{flat_map-append}
 use Rattle.std.proofs.Math.Seq.{get_or-append_seam}
@@ -30,6 +30,9 @@ starts_right witness v text is none =
     (record { text_is = none; inputs_are = refl; widths = tt; few = omega arith; first = refl })
 
 -- ---- what may come next
+
+some_vectors : (x : List Bool) (xs : List (List Bool)) → (length (x ∷ xs) == 0) ≡ false
+some_vectors x xs = ne_eqb (length (x ∷ xs)) 0 (λ e. omega (arith, e))
 
 digit_is : (byte : ℕ) → is_bit_digit byte ≡ true → bit_byte (byte == 49) ≡ byte
 digit_is byte h =
@@ -70,7 +73,7 @@ module _ (witness : List Bool) (v : TakenValue) (text : Bytes) (byte : ℕ) (h :
         ap (λ t. t ++ byte ∷ []) h.text_is
         ∙ append_assoc (vector_lines v.vectors) (bits_word v.begun) (byte ∷ [])
         ∙ ap (λ t. vector_lines v.vectors ++ t)
-        ((λ i. bits_word v.begun ++ digit_is byte digit (~ i) ∷ []) ∙ sym (map-append bit_byte v.begun ((byte == 49) ∷ [])));
+        ((λ i. bits_word v.begun ++ sym (digit_is byte digit) i ∷ []) ∙ sym (map-append bit_byte v.begun ((byte == 49) ∷ [])));
     inputs_are = h.inputs_are;
     widths = h.widths;
     few = omega (arith, length_push v.begun (byte == 49));
@@ -83,16 +86,17 @@ module _ (witness : List Bool) (v : TakenValue) (text : Bytes) (byte : ℕ) (h :
   bit_right : (vectors : List (List Bool)) (begun : List Bool) → BeginWith witness vectors begun → length begun < length witness
       → (if length vectors == 0 then byte == bit_byte (get_or witness (length begun) false) else is_bit_digit byte) ≡ true
       → (is_bit_digit byte ≡ true) × BeginWith witness vectors (begun ++ (byte == 49) ∷ [])
-  bit_right [] begun first within yes =
-      let digit = digit_of (get_or witness (length begun) false) byte (eqb-true byte (bit_byte (get_or witness (length begun) false)) yes) in (
+  bit_right [] begun first within told =
+      let digit = digit_of (get_or witness (length begun) false) byte (eqb-true byte (bit_byte (get_or witness (length begun) false)) told) in (
         digit.0,
         (λ i. first i ++ digit.1 i ∷ [])
             ∙ sym (take_more witness (length begun) false within) ∙ ap (λ n. take n witness) (sym (let e : length (begun ++ (byte == 49) ∷ []) ≡ length begun + 1 = omega (arith, length_push begun (byte == 49)) in e)),
       )
-  bit_right (x ∷ pool) begun first within yes = (yes, first)
+  bit_right (x ∷ pool) begun first within told =
+      (sym (ap (λ t. if t then byte == bit_byte (get_or witness (length begun) false) else is_bit_digit byte) (some_vectors x pool)) ∙ told, first)
 
   pub next_right : is_next_byte witness v byte ≡ true → AreVectorsSoFar witness (with_byte v byte) (text ++ byte ∷ [])
-  next_right yes = at (length v.begun == length witness) refl yes where
+  next_right told = at (length v.begun == length witness) refl told where
     same : (t : Bool) → (length v.begun == length witness) ≡ t
         → with_byte v byte ≡ (if t then record v { vectors = v.vectors ++ v.begun ∷ []; begun = [] } else record v { begun = v.begun ++ (byte == 49) ∷ [] })
     same t is =
@@ -102,11 +106,11 @@ module _ (witness : List Bool) (v : TakenValue) (text : Bytes) (byte : ℕ) (h :
     at : (t : Bool) → (length v.begun == length witness) ≡ t
         → (if t then byte == 10 else (if length v.vectors == 0 then byte == bit_byte (get_or witness (length v.begun) false) else is_bit_digit byte)) ≡ true
         → AreVectorsSoFar witness (with_byte v byte) (text ++ byte ∷ [])
-    at true is yes =
-        subst (λ u. AreVectorsSoFar witness u (text ++ byte ∷ [])) (sym (same true is)) (line_ends (eqb-true (length v.begun) (length witness) is) (eqb-true byte 10 yes))
-    at false is yes =
+    at true is told =
+        subst (λ u. AreVectorsSoFar witness u (text ++ byte ∷ [])) (sym (same true is)) (line_ends (eqb-true (length v.begun) (length witness) is) (eqb-true byte 10 told))
+    at false is told =
         let within = narrow is in
-        let next = bit_right v.vectors v.begun h.first (omega (arith, within, h.inputs_are)) yes in
+        let next = bit_right v.vectors v.begun h.first (omega (arith, within, h.inputs_are)) told in
         subst (λ u. AreVectorsSoFar witness u (text ++ byte ∷ [])) (sym (same false is)) (bit_comes within next.0 next.1)
 
 -- ---- what can't come next
@@ -137,7 +141,9 @@ module _ (w : List Bool) (ws : List (List Bool)) (begun : List Bool) (byte : ℕ
   bit_follows witness pool [] are within =
       let first : witness ≡ w = ap (λ l. get_or l 0 []) are in
       eq-eqb byte (bit_byte (get_or witness (length begun) false)) (bit_is within ∙ ap (λ x. bit_byte (get_or x (length begun) false)) (sym first))
-  bit_follows witness pool (x ∷ others) are within = (digit_of (get_or w (length begun) false) byte (bit_is within)).0
+  bit_follows witness pool (x ∷ others) are within =
+      ap (λ t. if t then byte == bit_byte (get_or witness (length begun) false) else is_bit_digit byte) (some_vectors x others)
+      ∙ (digit_of (get_or w (length begun) false) byte (bit_is within)).0
 
   pub follows : (witness : List Bool) (v : TakenValue) (pool : List (List Bool)) → v.begun ≡ begun → length begun ≤ length witness → length w ≡ length witness
       → witness ∷ pool ≡ v.vectors ++ w ∷ ws → is_next_byte witness v byte ≡ true
@@ -160,7 +166,7 @@ module _ (witness : List Bool) (v : TakenValue) (text : Bytes) (h : AreVectorsSo
   few_bits = omega (arith, h.few, h.inputs_are)
 
   pub next_wrong : (byte : ℕ) → is_next_byte witness v byte ≡ false → NeverVectors witness (text ++ byte ∷ [])
-  next_wrong byte no more pool k = here behind.0 behind.1 behind.2 where
+  next_wrong byte fails more pool k = here behind.0 behind.1 behind.2 where
     same : vector_lines v.vectors ++ (bits_word v.begun ++ byte ∷ more) ≡ vector_lines (witness ∷ pool)
     same =
         sym (append_assoc (vector_lines v.vectors) (bits_word v.begun) (byte ∷ more))
@@ -173,7 +179,7 @@ module _ (witness : List Bool) (v : TakenValue) (text : Bytes) (h : AreVectorsSo
     here [] is are = omega (arith, ap length is, length-append (bits_word v.begun) (byte ∷ more))
     here (w ∷ ws) is are =
         let width = wide_member (length witness) v.vectors ws w (subst (AreWide (length witness)) are k.widths) in
-        let yes : is_next_byte witness v byte ≡ true = follows w ws v.begun byte more (is ∙ assoc_line w (vector_lines ws)) witness v pool refl few_bits width are in
+        let told : is_next_byte witness v byte ≡ true = follows w ws v.begun byte more (is ∙ assoc_line w (vector_lines ws)) witness v pool refl few_bits width are in
         cc
 
   -- ---- at the end
@@ -181,11 +187,14 @@ module _ (witness : List Bool) (v : TakenValue) (text : Bytes) (h : AreVectorsSo
   abbrev set_of : PatternSet
   set_of = record { inputs = v.inputs; vectors = v.vectors }
 
+  some_bits : (b : Bool) (begun : List Bool) (t : Bool) → ((length (b ∷ begun) == 0) && t) ≡ true → ⊥
+  some_bits b begun t whole = omega (arith, eqb-true (length (b ∷ begun)) 0 (and_parts (length (b ∷ begun) == 0) t whole).0)
+
   holds_all : (vectors : List (List Bool)) (begun : List Bool) → v.vectors ≡ vectors → v.begun ≡ begun → BeginWith witness vectors begun → are_whole (record v { vectors = vectors; begun = begun }) ≡ true
       → HoldsVectors (length witness) text witness set_of
   holds_all [] [] is same first whole = absurd (cc (whole))
-  holds_all [] (b ∷ begun) is same first whole = absurd (cc (whole))
-  holds_all (x ∷ pool) (b ∷ begun) is same first whole = absurd (cc (whole))
+  holds_all [] (b ∷ begun) is same first whole = absurd (some_bits b begun (nat_lt 0 0) whole)
+  holds_all (x ∷ pool) (b ∷ begun) is same first whole = absurd (some_bits b begun (nat_lt 0 (length (x ∷ pool))) whole)
   holds_all (x ∷ pool) [] is same first whole =
       let are : v.vectors ≡ witness ∷ pool = is ∙ ap (λ w. w ∷ pool) first in
       record {
@@ -204,17 +213,17 @@ module _ (witness : List Bool) (v : TakenValue) (text : Bytes) (h : AreVectorsSo
   some_whole : (vectors : List (List Bool)) (begun : List Bool) (pool : List (List Bool)) → witness ∷ pool ≡ vectors ++ [] → bits_word begun ≡ []
       → are_whole (record v { vectors = vectors; begun = begun }) ≡ true
   some_whole [] begun pool are none = absurd (omega (arith, ap length are))
-  some_whole (x ∷ vectors) [] pool are none = refl
+  some_whole (x ∷ vectors) [] pool are none = lt-ltb 0 (length (x ∷ vectors)) (omega arith)
   some_whole (x ∷ vectors) (b ∷ begun) pool are none = absurd (omega (arith, ap length none))
 
   pub ends_wrong : are_whole v ≡ false → (pool : List (List Bool)) → ¬ IsVectorsText (length witness) text witness pool
-  ends_wrong no pool k = here behind.0 behind.1 behind.2 where
+  ends_wrong fails pool k = here behind.0 behind.1 behind.2 where
     behind : (ws : List (List Bool)) × (bits_word v.begun ≡ vector_lines ws) × (witness ∷ pool ≡ v.vectors ++ ws)
     behind =
         lines_behind (length witness) v.vectors (witness ∷ pool) (bits_word v.begun) wide k.widths (sym h.text_is ∙ k.spelled ∙ sym (vectors_text-is witness pool))
 
     here : (ws : List (List Bool)) → bits_word v.begun ≡ vector_lines ws → witness ∷ pool ≡ v.vectors ++ ws → ⊥
-    here [] is are = let yes : are_whole v ≡ true = some_whole v.vectors v.begun pool are is in absurd (cc (yes, no))
+    here [] is are = let told : are_whole v ≡ true = some_whole v.vectors v.begun pool are is in absurd (cc (told, fails))
     here (w ∷ ws) is are =
         let width = wide_member (length witness) v.vectors ws w (subst (AreWide (length witness)) are k.widths) in
         omega (arith, few_bits, width, ap length is, length-map v.begun bit_byte, length-append (vector_line w) (vector_lines ws), length_push (bits_word w) 10, length-map w bit_byte)
@@ -282,3 +291,18 @@ finished_wrong a v view stands wrong =
     let never = subst (λ b. StandsAt b a.witness.now a.taken a.text.bytes) wrong stands in
     subst (λ (u : VectorsText). (content : Bytes) → IsAllWanted content u.text u.room → AreVectorsIn (length u.witness) u.witness None content) view
     (λ content wanted. never_vectors a.witness.now content a.text.bytes (room_at a.is_right) never wanted)
+
+-- ---- the code's test of a byte
+
+pub end_test : (witness : List Bool) (v : TakenValue) (byte : ℕ) → length v.begun ≡ length witness → (byte == 10) ≡ is_next_byte witness v byte
+end_test witness v byte same =
+    sym (ap (λ t. if t then byte == 10 else (if length v.vectors == 0 then byte == bit_byte (get_or witness (length v.begun) false) else is_bit_digit byte))
+    (eq-eqb (length v.begun) (length witness) same))
+
+pub first_test : (witness : List Bool) (v : TakenValue) (byte n digit : ℕ) → n ≡ length v.begun → n ≢ length witness → length v.vectors ≡ 0 → digit ≡ bit_byte (get_or witness n false)
+    → (byte == digit) ≡ is_next_byte witness v byte
+first_test witness v byte n digit same other none is =
+    ap (λ d. byte == d) (is ∙ ap (λ k. bit_byte (get_or witness k false)) same)
+    ∙ sym (ap (λ t. if t then byte == bit_byte (get_or witness (length v.begun) false) else is_bit_digit byte) (eq-eqb (length v.vectors) 0 none))
+    ∙ sym (ap (λ t. if t then byte == 10 else (if length v.vectors == 0 then byte == bit_byte (get_or witness (length v.begun) false) else is_bit_digit byte))
+    (ne_eqb (length v.begun) (length witness) (λ e. other (same ∙ e))))

@@ -33,7 +33,7 @@ lines_behind inputs (u ∷ us) (v ∷ vs) rest wide wider same =
     sym (assoc_line u (vector_lines us ++ rest)) ∙ sym (append_assoc (vector_line u) (vector_lines us) rest) ∙ same ∙ assoc_line v (vector_lines vs) in
     let cut = bits-cut u v (10 ∷ (vector_lines us ++ rest)) (10 ∷ vector_lines vs) (wide.0 ∙ sym wider.0) lines in
     let behind = lines_behind inputs us vs rest wide.1 wider.1 (append_cancel_left (10 ∷ []) (vector_lines us ++ rest) (vector_lines vs) cut.1) in
-    (behind.0, behind.1, λ i. cut.0 (~ i) ∷ behind.2 i)
+    (behind.0, behind.1, λ i. sym cut.0 i ∷ behind.2 i)
 
 pub no_vectors : (inputs : ℕ) (text : Bytes) (witness : List Bool) (pool : List (List Bool)) → text ≡ [] → ¬ IsVectorsText inputs text witness pool
 no_vectors inputs text witness pool none h =

@@ -1,5 +1,5 @@
 //! Lines of input vectors, taken byte by byte.
-ghost use Rattle.std.specs.Prelude.{◌≡◌, ◌≤◌, [], length, MatchOption, OnOk, OnErr};
+ghost use Rattle.std.specs.Prelude.{◌≡◌, ◌≤◌, [], length, None, Some, if◌then◌else◌, OnOk, OnErr};
 ghost use Rattle.bundle_texts.specs.VectorsTaken.{are_whole, is_next_byte, with_byte};
 
 use crate::bits::{MOST_BITS, bit_byte, is_bit_digit};
@@ -16,7 +16,7 @@ pub(crate) struct VectorsTaken {
 }
 
 impl Model for VectorsTaken {
-    ghost use Rattle.std.specs.Prelude.{◌≤◌, take};
+    ghost use Rattle.std.specs.Prelude.{◌≡◌, ◌≤◌, length, take};
     ghost use Rattle.bundle_texts.specs.VectorsTaken.{TakenValue};
 
     ghost Value = { TakenValue };
@@ -27,7 +27,8 @@ impl Model for VectorsTaken {
       begun = take a.filled a.line;
     } };
 
-    ghost invariant = { λ a. (a.filled ≤ a.vectors.inputs) × (a.vectors.inputs ≤ 256) };
+    ghost invariant = { λ a.
+        (a.filled ≤ a.vectors.inputs) × ((a.vectors.inputs ≤ 256) × (length a.line ≡ 256)) };
 }
 
 impl VectorsTaken {

@@ -5,8 +5,8 @@ use Rattle.semantics.specs.Texts.{Bytes}
 use Rattle.proof_semantics.specs.Formula.{dimacs_text}
 use Rattle.file_reading.specs.Reading.{IsAllWanted}
 use Rattle.bundle_texts.specs.declared.formula_check.FormulaCheck.TheInside.{Inside}
-use Rattle.bundle_texts.specs.TextCheck.{TextCheck}
-use Rattle.bundle_texts.specs.FormulaStanding.{check_view, room_at, StandsAt, Stands}
+use Rattle.bundle_texts.specs.TextCheck.{TextCheck, room_at}
+use Rattle.bundle_texts.specs.FormulaStanding.{check_view, StandsAt, Stands}
 use Rattle.bundle_texts.proofs.FormulaChecks.{same_ends, differs}
 use Rattle.bundle_texts.proofs.formula_check.FormulaCheck.finish.Goals as goal
 
