@@ -7,7 +7,7 @@ use Rattle.std.proofs.lemmas.Nat.Bits.{bit_at_ones, bit_at_ones_above, bit_at-tr
 use Rattle.std.proofs.lemmas.List.Elements.{All-weaker, recursion_from_All}
 use Rattle.semantics.specs.Net.{TableValue, NetValue, table_at, input_count, signal_count, IsSound}
 use Rattle.semantics.specs.Value.{table_value, value_of}
-use Rattle.semantics.specs.Error.{Metric}
+use Rattle.semantics.specs.declared.metric.Metric.{Metric}
 use Rattle.semantics.proofs.Values.{table_value-same}
 use Rattle.chain_semantics.specs.declared.moves.Move.{Move}
 use Rattle.chain_semantics.specs.Moves.{table_of, moved_table}
@@ -17,11 +17,11 @@ use Rattle.chain_semantics.proofs.MovedNets.{move-within, moved-pins}
 use Rattle.chain_semantics.proofs.MovedFlips.{move-broken}
 use Rattle.lane_bits.specs.Rows.{row_bit, turned, word_count}
 use Rattle.lane_bits.proofs.Bits.{and_bit, or_bit, xor_bit}
-use Rattle.adc_core.specs.Words.{word_bit, values_at, HasValues}
-use Rattle.adc_core.specs.Masks.{vector_at, row_at, IsRowWhere, IsFirstBroken}
-use Rattle.adc_core.specs.Blocks.{AreBlocksOf, IsWordWhere}
-use Rattle.adc_core.proofs.WordBits.{not_bit, ones_bit}
-use Rattle.adc_core.proofs.RowBits.{row_bit-word, row_where}
+use Rattle.lane_nets.specs.Words.{word_bit, values_at, HasValues}
+use Rattle.lane_nets.specs.Blocks.{vector_at, row_at, IsRowWhere, AreBlocksOf, IsWordWhere}
+use Rattle.adc_core.specs.Masks.{IsFirstBroken}
+use Rattle.lane_nets.proofs.WordBits.{not_bit, ones_bit}
+use Rattle.lane_nets.proofs.RowBits.{row_bit-word, row_where}
 
 turned-differs : (m v : Bool) → (turned v m ≡ true) ↔ (m ≢ v)
 turned-differs true true = (λ e. absurd (let f : false ≡ true = e in cc), λ d. absurd (d refl))

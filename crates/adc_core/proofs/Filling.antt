@@ -1,35 +1,20 @@
 -- What the masks hold once they are made.
 use Rattle.std.proofs.Common.{◌≡◌, ℕ, ◌/◌, ◌%◌, ◌^◌, ◌<◌, Bool, false, List, [], map, length, All, ap, sym, ◌∙◌, arith}
 use Rattle.std.specs.List.{AllByRecursion, range_with_len}
-use Rattle.std.proofs.lemmas.List.{ext_get_or, length-map}
+use Rattle.std.proofs.lemmas.List.{ext_get_or}
 use Rattle.std.proofs.lemmas.List.FromFn.{length-map-range_with_len, get_or-map-range_with_len}
-use Rattle.std.proofs.lemmas.List.Elements.{All-from_recursion, All-from_get_or}
-use Rattle.semantics.specs.Net.{NetValue, input_count, table_count, signal_names, name_of, IsAcyclic, IsSound, HasSamePorts}
-use Rattle.semantics.specs.Value.{value_of, outputs_of}
-use Rattle.semantics.specs.Error.{Metric}
+use Rattle.std.proofs.lemmas.List.Elements.{All-from_recursion}
+use Rattle.semantics.specs.Net.{NetValue, input_count, table_count, IsAcyclic, IsSound}
+use Rattle.semantics.specs.Value.{value_of}
+use Rattle.semantics.specs.declared.metric.Metric.{Metric}
 use Rattle.semantics.proofs.Values.{value_law}
 use Rattle.chain_semantics.specs.Care.{IsCaredFor, Exceeds}
 use Rattle.lane_bits.specs.Rows.{word_count}
-use Rattle.adc_core.specs.Words.{values_at}
-use Rattle.adc_core.specs.Masks.{vector_at, row_at, IsRowWhere, AreMasksOf}
-use Rattle.adc_core.specs.Blocks.{IsBlock, AreBlocksOf, AreOutputsOf, vectors_in, IsRowFor, AreFilled}
-use Rattle.adc_core.proofs.RowBits.{place_of}
-
--- nets with the same ports have as many inputs and outputs
-pub same_inputs : (E N : NetValue) → HasSamePorts E N → input_count N ≡ input_count E
-same_inputs E N ports = ap length (sym ports.inputs)
-
-pub same_outputs : (E N : NetValue) → HasSamePorts E N → length N.outputs ≡ length E.outputs
-same_outputs E N ports =
-    sym (length-map N.outputs (name_of (signal_names N))) ∙ ap length (sym ports.outputs) ∙ length-map E.outputs (name_of (signal_names E))
-
--- the exact outputs are as many bits as the net has outputs
-pub output-widths : (E N : NetValue) (vectors outputs : List (List Bool)) → HasSamePorts E N → AreOutputsOf E vectors outputs → All (λ e. length e ≡ length N.outputs) outputs
-unfolding outputs_of
-output-widths E N vectors outputs ports are =
-    All-from_get_or (λ e. length e ≡ length N.outputs) outputs []
-    (λ p low.
-    ap length (are.are p (omega (arith, are.count))) ∙ length-map E.outputs (value_of (input_count E) E.tables (vector_at vectors p)) ∙ sym (same_outputs E N ports))
+use Rattle.lane_nets.specs.Words.{values_at}
+use Rattle.lane_nets.specs.Blocks.{vector_at, row_at, IsRowWhere, IsBlock, AreBlocksOf}
+use Rattle.adc_core.specs.Masks.{AreMasksOf}
+use Rattle.adc_core.specs.Filled.{vectors_in, IsRowFor, AreFilled}
+use Rattle.lane_nets.proofs.RowBits.{place_of}
 
 -- the vectors are read back from the blocks
 pub vectors-back : (N : NetValue) (vectors : List (List Bool)) (blocks : List (List ℕ)) → IsAcyclic (input_count N) N.tables → AreBlocksOf N vectors blocks

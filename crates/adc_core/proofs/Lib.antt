@@ -1,6 +1,5 @@
-pub mod WordBits
-pub mod Evaluating
-pub mod MovedWords
-pub mod RowBits
-pub mod Filling
-pub mod Breaking
+mod Flipping
+mod CareBits
+mod MovedWords
+mod Breaking
+mod Filling

@@ -11,8 +11,8 @@ use Rattle.semantics.specs.Value.{Assignment, mark_matches, row_matches, table_v
 use Rattle.chain_semantics.specs.Moves.{copy_mark}
 use Rattle.lane_bits.specs.Rows.{turned}
 use Rattle.lane_bits.proofs.Bits.{and_bit, or_bit}
-use Rattle.adc_core.specs.Words.{word_bit, values_at}
-use Rattle.adc_core.proofs.WordBits.{and_assoc}
+use Rattle.lane_nets.specs.Words.{word_bit, values_at}
+use Rattle.lane_nets.proofs.WordBits.{and_assoc}
 
 -- what stands behind a place, as a slice
 abbrev pub behind_place : {X : Type 0} → ℕ → List X → List X

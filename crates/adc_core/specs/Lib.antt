@@ -1,4 +1,4 @@
-pub mod Words
+pub mod Flips
 pub mod Masks
-pub mod Blocks
+pub mod Filled
 pub mod Lending

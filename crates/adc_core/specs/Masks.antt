@@ -1,10 +1,10 @@
 -- Which patterns are cared for, as rows of bits. Source: SALSA's approximation don't-cares.
-use Rattle.std.specs.Prelude.{◌≡◌, ◌↔◌, ℕ, ◌<◌, ◌≤◌, Bool, false, Option, MatchOption, List, [], length, slice_index_or, IsTrue}
+use Rattle.std.specs.Prelude.{ℕ, ◌<◌, Bool, Option, MatchOption, List, length}
 use Rattle.semantics.specs.Net.{NetValue, table_count}
-use Rattle.semantics.specs.Error.{Metric}
+use Rattle.semantics.specs.declared.metric.Metric.{Metric}
 use Rattle.chain_semantics.specs.declared.moves.Move.{Move}
 use Rattle.chain_semantics.specs.Care.{IsCaredFor, Exceeds, IsBrokenAt}
-use Rattle.lane_bits.specs.Rows.{row_bit, word_count}
+use Rattle.lane_nets.specs.Blocks.{vector_at, row_at, IsRowWhere}
 
 -- an approximate net, the patterns, for each table a row, and one more row
 pub record Masks : Type 0 where
@@ -12,18 +12,6 @@ pub record Masks : Type 0 where
   pub vectors : List (List Bool)
   pub care : List (List ℕ)
   pub exceeds : List ℕ
-
-abbrev pub vector_at : List (List Bool) → ℕ → List Bool
-vector_at vectors p = slice_index_or vectors p []
-
-abbrev pub row_at : List (List ℕ) → ℕ → List ℕ
-row_at rows k = slice_index_or rows k []
-
--- a row with a bit for each pattern, which is 1 exactly where P holds there; the bits past the last pattern are 0
-pub record IsRowWhere (vectors : List (List Bool)) (P : List Bool → Type 0) (row : List ℕ) : Type 0 where
-  pub words : length row ≡ word_count (length vectors)
-  pub bits : (p : ℕ) → p < length vectors → IsTrue (row_bit row p) ↔ P (vector_at vectors p)
-  pub clear : (p : ℕ) → length vectors ≤ p → row_bit row p ≡ false
 
 -- each table's row tells the patterns that are cared for, and the last those at which the net itself exceeds the bound
 pub record AreMasksOf (metric : Metric) (exact : NetValue) (bound : ℕ) (m : Masks) : Type 0 where

@@ -2,26 +2,27 @@
 ghost use Rattle.std.specs.Prelude.{◌≡◌, ◌<◌, ◌≤◌, ℕ, length, IfOk, Contains};
 ghost use Rattle.std.specs.Borrow.{sem};
 ghost use Rattle.semantics.specs.Net.{NetValue, input_count, table_count, HasSamePorts};
-ghost use Rattle.semantics.specs.Error.{Metric as ErrorMetric};
 ghost use Rattle.chain_semantics.specs.Moves.{moves_of};
 ghost use Rattle.chain_semantics.specs.Care.{Changes};
-ghost use Rattle.joint_net.specs.Metric.{meaning};
-ghost use Rattle.adc_core.specs.Masks.{row_at, IsRowWhere, AreMasksOf, FindsFirstBroken};
-ghost use Rattle.adc_core.specs.Blocks.{vectors_in, AreFilled};
+ghost use Rattle.lane_nets.specs.Blocks.{row_at, IsRowWhere};
+ghost use Rattle.adc_core.specs.Masks.{AreMasksOf, FindsFirstBroken};
+ghost use Rattle.adc_core.specs.Filled.{vectors_in, AreFilled};
 ghost use Rattle.adc_core.specs.Lending.{StayTheSame};
 
-use crate::blocks::blocks;
+use crate::care::care_rows;
 use crate::differences::{first_broken, set_differences};
-use crate::outputs::all_outputs;
-use crate::rows::{Limit, care_rows, exceeding_row};
-use crate::word_list::WordList;
 use chain_semantics::moves::Move;
-use joint_net::metric::Metric;
 use lane_bits::kernels::word_count;
 use lane_bits::patterns::Patterns;
+use lane_nets::blocks::blocks;
+use lane_nets::errors::{Limit, exceeding_row};
+use lane_nets::outputs::all_outputs;
+use lane_nets::word_list::WordList;
 use net_core::items::Items;
 use net_core::net::Net;
 use net_moves::apply::table_of;
+use semantics::limits::MOST_OUTPUTS;
+use semantics::metric::Metric;
 use std::alloc::{AllocError, Global};
 use std::marker::Model;
 
@@ -40,7 +41,7 @@ pub struct Adc {
 impl Model for Adc {
     ghost use Rattle.semantics.specs.Net.{input_count};
     ghost use Rattle.adc_core.specs.Masks.{Masks};
-    ghost use Rattle.adc_core.specs.Blocks.{vectors_in, AreFilled};
+    ghost use Rattle.adc_core.specs.Filled.{vectors_in, AreFilled};
 
     ghost Value = { Masks };
 
@@ -87,16 +88,16 @@ impl Adc {
         patterns: &Patterns,
     ) -> Result<Adc, AllocError>
         requires ports { HasSamePorts exact.now approx.now }
-        requires few_outputs { length exact.now.outputs ≤ 64 }
+        requires few_outputs { length exact.now.outputs ≤ MOST_OUTPUTS }
         requires inputs { patterns.now.inputs ≡ input_count exact.now }
         ensures net { IfOk result (λ adc. adc.net ≡ approx.now) }
         ensures vectors { IfOk result (λ adc. adc.vectors ≡ patterns.now.vectors) }
-        ensures masks { IfOk result (AreMasksOf (meaning metric) exact.now bound) }
+        ensures masks { IfOk result (AreMasksOf metric exact.now bound) }
     {
         let limit = Limit {
             outputs: all_outputs(alloc, exact, patterns)?,
             metric,
-            bound,
+            level: bound,
         };
         let blocks = blocks(alloc, approx, patterns)?;
         let exceeds = exceeding_row(alloc, approx, blocks.as_slice(), &limit)?;
@@ -133,7 +134,7 @@ impl Adc {
     /// The first pattern at which the moved net exceeds the bound.
     pub fn breaks(&self, step: Move) -> Option<u64>
         requires { Contains (moves_of self.now.net) step }
-        ensures { (metric : ErrorMetric) (exact : NetValue) (bound : ℕ) → AreMasksOf metric exact bound self.now
+        ensures { (metric : Metric) (exact : NetValue) (bound : ℕ) → AreMasksOf metric exact bound self.now
             → FindsFirstBroken metric exact bound self.now.net self.now.vectors step result }
     {
         let care = self.care.get(table_of(step) as usize).as_slice();

@@ -1,18 +1,18 @@
 //! At which patterns a move changes its table's value, and where that breaks the bound.
 ghost use Rattle.std.specs.Prelude.{◌≡◌, ◌↔◌, ◌+◌, ◌*◌, ◌<◌, ◌≤◌, ◌^◌, ℕ, Bool, List, true, false, length, nat_lt, IsTrue, MatchOption, Contains};
 ghost use Rattle.semantics.specs.Net.{NetValue, signal_count};
-ghost use Rattle.semantics.specs.Error.{Metric};
+ghost use Rattle.semantics.specs.declared.metric.Metric.{Metric};
 ghost use Rattle.chain_semantics.specs.Moves.{moves_of, table_of};
 ghost use Rattle.chain_semantics.specs.Care.{IsCaredFor, Exceeds, Changes};
 ghost use Rattle.lane_bits.specs.Rows.{word_count};
 ghost use Rattle.net_core.specs.Built.{IsBuilt};
-ghost use Rattle.adc_core.specs.Words.{word_bit, HasValues};
-ghost use Rattle.adc_core.specs.Masks.{row_at, IsRowWhere, FindsFirstBroken};
-ghost use Rattle.adc_core.specs.Blocks.{AreBlocksOf};
+ghost use Rattle.lane_nets.specs.Words.{word_bit, HasValues};
+ghost use Rattle.lane_nets.specs.Blocks.{row_at, IsRowWhere, AreBlocksOf};
+ghost use Rattle.adc_core.specs.Masks.{FindsFirstBroken};
 
 use crate::moved::moved_word;
-use crate::word_list::WordList;
 use chain_semantics::moves::Move;
+use lane_nets::word_list::WordList;
 use net_core::net::Net;
 use net_moves::apply::table_of;
 

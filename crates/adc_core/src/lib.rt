@@ -8,12 +8,7 @@
 #![tactic(auto)]
 
 pub mod adc;
-mod blocks;
+mod care;
 mod differences;
-mod errors;
+mod flips;
 mod moved;
-mod outputs;
-mod rows;
-mod values;
-mod word_list;
-mod words;

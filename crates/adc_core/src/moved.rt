@@ -5,10 +5,10 @@ ghost use Rattle.semantics.specs.Net.{table_at, signal_count};
 ghost use Rattle.semantics.specs.Value.{row_matches, table_value};
 ghost use Rattle.lane_bits.specs.Rows.{turned};
 ghost use Rattle.chain_semantics.specs.Moves.{moves_of, table_of, moved_table, row_at};
-ghost use Rattle.adc_core.specs.Words.{word_bit, values_at};
+ghost use Rattle.lane_nets.specs.Words.{word_bit, values_at};
 
-use crate::words::{plane_word, row_word, rows_word};
 use chain_semantics::moves::Move;
+use lane_nets::words::{plane_word, row_word, rows_word};
 use net_core::items::Signal;
 use net_core::mark::Mark;
 use net_core::net::Net;

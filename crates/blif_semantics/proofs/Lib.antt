@@ -17,3 +17,6 @@ pub mod FirstRefusals
 pub mod Planes
 pub mod Rows
 pub mod RefusalOrder
+pub mod ListLines
+pub mod RowTables
+pub mod JoinedLines

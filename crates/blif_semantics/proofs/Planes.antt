@@ -14,7 +14,7 @@ use Rattle.blif_semantics.specs.Tables.{NamedTable, last_word, is_one, named, wi
 use Rattle.blif_semantics.proofs.RightLines.{open_table, AllRight, all_right}
 use Rattle.blif_semantics.proofs.Rows.{rows_more, row_right}
 
-abbrev HasPlane : Bool → Line → Type 0
+abbrev pub HasPlane : Bool → Line → Type 0
 HasPlane plane row = is_one (last_word row) ≡ plane
 
 plane_byte : (word : Bytes) (plane : Bool) → plane_of word ≡ Some plane → is_one word ≡ plane
@@ -30,7 +30,7 @@ plane_byte (byte ∷ []) plane e = at_zero (byte == 48) refl e
     at_zero false is h = at_one (byte == 49) refl h
 plane_byte (byte ∷ next ∷ bytes) plane e = absurd (none-some plane e)
 
-row_plane-last : (n : ℕ) (row : Line) (plane : Bool) → row_plane n row ≡ Some plane → HasPlane plane row
+pub row_plane-last : (n : ℕ) (row : Line) (plane : Bool) → row_plane n row ≡ Some plane → HasPlane plane row
 row_plane-last zero [] plane h = absurd (none-some plane h)
 row_plane-last zero (word ∷ []) plane h = plane_byte word plane h
 row_plane-last zero (word ∷ next ∷ words) plane h = absurd (none-some plane h)
@@ -43,7 +43,7 @@ row_plane-last (suc n) (marks ∷ word ∷ []) plane h = at_test (length marks =
     at_test false k = absurd (none-some plane k)
 row_plane-last (suc n) (marks ∷ word ∷ more ∷ words) plane h = absurd (none-some plane h)
 
-beq_true : (a b : Bool) → beq a b ≡ true → b ≡ a
+pub beq_true : (a b : Bool) → beq a b ≡ true → b ≡ a
 beq_true false false h = refl
 beq_true false true h = sym h
 beq_true true false h = h

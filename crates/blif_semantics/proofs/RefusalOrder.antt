@@ -1,16 +1,15 @@
 -- Which refusal a net of names has: by cases of what each of the tests in order finds.
-use Rattle.std.proofs.Common.{◌≡◌, ◌≢◌, ◌↔◌, ℕ, zero, suc, ◌+◌, ◌<◌, ◌≤◌, Bool, true, false, not, leb, eqb, cond, List, [], ◌∷◌, map, length, All, Option, Some, None, Result, Ok, Err, refl, ap, sym, subst, ◌∙◌, arith}
-use Rattle.std.specs.Prelude.{AllPairs, Contains}
-use Rattle.std.proofs.lemmas.Bool.{eqb-true, eq-eqb, eqb-false, ne_eqb, leb-true, le-leb, lt-leb, not-true}
-use Rattle.std.proofs.lemmas.Option.{none-some, same_Some}
+use Rattle.std.proofs.Common.{◌≡◌, ◌↔◌, ℕ, ◌+◌, ◌≤◌, Bool, true, false, not, leb, eqb, cond, List, [], ◌∷◌, map, length, Option, Some, None, Result, Ok, Err, refl, ap, sym, ◌∙◌, arith}
+use Rattle.std.proofs.lemmas.Bool.{eqb-true, eq-eqb, eqb-false, ne_eqb, leb-true, le-leb}
+use Rattle.std.proofs.lemmas.Option.{none-some}
 use Rattle.semantics.specs.declared.which.Which.{Which}
 use Rattle.semantics.specs.Texts.{Bytes, Line}
-use Rattle.semantics.specs.Net.{NetValue, input_count, signal_names, name_of, IsAcyclic, IsSmall}
-use Rattle.semantics.specs.Refusals.{first_doubled, first_ungrounded, IsFirstUngrounded, first_limit}
+use Rattle.semantics.specs.Net.{NetValue, input_count, signal_names, name_of, IsSmall}
+use Rattle.semantics.specs.Refusals.{first_doubled, first_ungrounded, first_limit}
 use Rattle.semantics.proofs.Refused.{undoubled, differ-undoubled, grounded as all_grounded, acyclic-grounded, ungrounded, first-ungrounded, small, limits-small}
 use Rattle.blif_semantics.specs.Lines.{Statement, logical_lines, statements}
 use Rattle.blif_semantics.specs.Statements.{Wrong, WrongLine, first_wrong}
-use Rattle.blif_semantics.specs.Reading.{Refusal, text_long, wrong_line, doubled, no_output, undriven, cycle, limit, NamedNet, names_of, named_net, names_read, first_undriven_name, numbered, unless_refused, single, lines_reading, blif_reading}
+use Rattle.blif_semantics.specs.Reading.{Refusal, text_long, wrong_line, doubled, no_output, undriven, cycle, limit, NamedNet, names_of, named_net, first_undriven_name, numbered, unless_refused, single, lines_reading, blif_reading}
 use Rattle.blif_semantics.specs.FirstRefusals.{IsFirstWrong, IsFirstDoubled, IsFirstUndriven}
 use Rattle.blif_semantics.specs.RefusalOrder.{NamesDiffer, HasOutput, ReadsDriven, IsGrounded, IsFirstOnCycle}
 use Rattle.blif_semantics.proofs.FirstRefusals.{first_wrong-first, first_doubled-first, first_undriven-first, driven-each}
@@ -230,8 +229,8 @@ of-wrong_line text most line w =
     let at : WrongLine = record { line = line; wrong = w } in
     let lines : List Line = map (λ s. s.words) all in (
       λ e. (
-        let found = line_told (leb (length text) most) (first_wrong all) (lines_reading lines) line w (single-no_line (named_net lines)) e in
-        (leb-true (length text) most found.0, (first_wrong-first all at).0 found.1)),
+          let found = line_told (leb (length text) most) (first_wrong all) (lines_reading lines) line w (single-no_line (named_net lines)) e in
+          (leb-true (length text) most found.0, (first_wrong-first all at).0 found.1)),
       λ h.
           ap (λ fits. cond (not fits) (Err text_long) (unless_refused (first_wrong all) (λ v. wrong_line v.line v.wrong) (lines_reading lines))) (le-leb (length text) most h.0)
           ∙ ap (λ o. unless_refused o (λ v. wrong_line v.line v.wrong) (lines_reading lines)) ((first_wrong-first all at).1 h.1),

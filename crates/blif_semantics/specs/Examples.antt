@@ -1,6 +1,6 @@
 -- Worked examples, computed from the definitions.
 use Rattle.std.specs.Prelude.{◌↔◌, ◌≡◌, ℕ, ◌^◌, ◌<◌, true, false, List, [], ◌∷◌, ◌++◌, map, flat_map, length, replicate, codes, Option, Some, None, Result, Ok, Err}
-use Rattle.semantics.specs.declared.mark.Mark.TheVariants.{Zero, One}
+use Rattle.semantics.specs.declared.mark.Mark.TheVariants.{Zero, One, Dash}
 use Rattle.semantics.specs.declared.which.Which.TheVariants as which
 use Rattle.semantics.specs.Texts.{Bytes, Line}
 use Rattle.semantics.specs.Net.{NetValue}
@@ -146,3 +146,34 @@ pub record ReadingExamples : Type 0 where
   pub out_of_order_back : blif_reading (blif_text out_of_order) input_limit ≡ Ok out_of_order
   pub wire_back : blif_reading (blif_text wire) input_limit ≡ Ok wire
   pub constant_back : blif_reading (blif_text constant_one) input_limit ≡ Ok constant_one
+
+-- lists in several lines, words that go on over a backslash, and texts for which several refusals hold
+pub record SeveralExamples : Type 0 where
+  pub several_lists :
+      after_two (codes ".outputs y" ∷ codes ".inputs c" ∷ codes ".names a c y" ∷ codes "11 1" ∷ codes ".outputs a" ∷ codes ".inputs" ∷ codes ".inputs d e" ∷ codes ".outputs y b" ∷ [])
+      ≡ Ok (record {
+        model = codes "m";
+        inputs = codes "a" ∷ codes "b" ∷ codes "c" ∷ codes "d" ∷ codes "e" ∷ [];
+        tables = record { name = codes "y"; pins = 0 ∷ 2 ∷ []; rows = (One ∷ One ∷ []) ∷ []; plane = true } ∷ [];
+        outputs = 5 ∷ 0 ∷ 5 ∷ 1 ∷ [];
+      })
+  pub words_that_go_on :
+      blif_reading (lf (codes ".inp\\" ∷ codes "uts ab\\ " ∷ codes "c \\" ∷ codes "d" ∷ codes ".outputs abc\\" ∷ [])) input_limit
+      ≡ Ok (record { model = codes "top"; inputs = codes "abc" ∷ codes "d" ∷ []; tables = []; outputs = 0 ∷ [] })
+  pub rows_of_two_tables :
+      after_two (codes ".outputs y" ∷ codes ".names y z" ∷ codes ".names a b y" ∷ codes "11 1" ∷ codes "" ∷ codes "0- 1" ∷ codes ".outputs z" ∷ codes ".names x" ∷ codes "1" ∷ [])
+      ≡ Ok (record {
+        model = codes "m";
+        inputs = codes "a" ∷ codes "b" ∷ [];
+        tables =
+            record { name = codes "z"; pins = 3 ∷ []; rows = []; plane = true }
+            ∷ record { name = codes "y"; pins = 0 ∷ 1 ∷ []; rows = (One ∷ One ∷ []) ∷ (Zero ∷ Dash ∷ []) ∷ []; plane = true }
+            ∷ record { name = codes "x"; pins = []; rows = [] ∷ []; plane = true }
+            ∷ [];
+        outputs = 3 ∷ 2 ∷ [];
+      })
+  pub twice_before_no_output : after_two (codes ".names q r" ∷ codes ".names r" ∷ codes ".names r" ∷ []) ≡ Err (doubled (codes "r"))
+  pub first_of_two_doubled : after_two (codes ".outputs a" ∷ codes ".names r" ∷ codes ".names q" ∷ codes ".names q" ∷ codes ".names r" ∷ []) ≡ Err (doubled (codes "q"))
+  pub first_of_three_undriven : after_two (codes ".outputs o" ∷ codes ".names a q r" ∷ codes ".names p s" ∷ []) ≡ Err (undriven (codes "q"))
+  pub cycle_before_limit : blif_reading (outputs_line 65 ++ 10 ∷ lf buffers) input_limit ≡ Err (cycle (codes "y"))
+  pub undriven_before_limit : blif_reading (outputs_line 65 ++ 10 ∷ codes ".outputs b") input_limit ≡ Err (undriven (codes "b"))

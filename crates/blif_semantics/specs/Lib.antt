@@ -4,6 +4,7 @@ pub mod Tables
 pub mod Reading
 pub mod FirstRefusals
 pub mod RefusalOrder
+pub mod LineLaws
 pub mod Named
 pub mod Examples
 pub mod Laws

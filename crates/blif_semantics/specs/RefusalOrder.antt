@@ -1,11 +1,11 @@
 -- Which refusal a net of names has, and which net is read: each refusal is told exactly where its condition holds and those before it do not.
-use Rattle.std.specs.Prelude.{◌≡◌, ◌≢◌, ◌↔◌, ℕ, ◌+◌, ◌<◌, ◌≤◌, List, [], length, Some, Ok, Err, All, AllPairs, Contains}
+use Rattle.std.specs.Prelude.{◌≡◌, ◌≢◌, ◌↔◌, ℕ, ◌+◌, ◌<◌, ◌≤◌, [], length, Some, Ok, Err, All, AllPairs, Contains}
 use Rattle.semantics.specs.declared.which.Which.{Which}
 use Rattle.semantics.specs.Texts.{Bytes}
 use Rattle.semantics.specs.Net.{NetValue, input_count, signal_names, name_of, IsAcyclic, IsSmall}
 use Rattle.semantics.specs.Refusals.{IsFirstUngrounded, first_limit}
 use Rattle.blif_semantics.specs.Lines.{logical_lines, statements}
-use Rattle.blif_semantics.specs.Statements.{Wrong, WrongLine}
+use Rattle.blif_semantics.specs.Statements.{Wrong}
 use Rattle.blif_semantics.specs.Reading.{doubled, no_output, undriven, cycle, limit, wrong_line, NamedNet, names_of, names_read, numbered, single, blif_reading}
 use Rattle.blif_semantics.specs.FirstRefusals.{IsFirstWrong, IsFirstDoubled, IsFirstUndriven}
 

@@ -1,5 +1,5 @@
 //! Worked examples of the definitions, computed by the checker: each function's contract is its examples.
-ghost use Rattle.blif_semantics.specs.Examples.{LineExamples, WrongExamples, ReadingExamples};
+ghost use Rattle.blif_semantics.specs.Examples.{LineExamples, WrongExamples, ReadingExamples, SeveralExamples};
 
 /// Texts as logical lines of words.
 pub fn lines()
@@ -14,4 +14,9 @@ pub fn wrong_lines()
 /// Texts that are read, and texts that are refused as a whole.
 pub fn readings()
     ensures { ReadingExamples }
+{}
+
+/// Lists in several lines, words in two lines, and texts that several refusals hold of.
+pub fn several()
+    ensures { SeveralExamples }
 {}

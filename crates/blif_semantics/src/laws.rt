@@ -1,4 +1,5 @@
 //! The laws about what a text means: each function's contract is a law.
+ghost use Rattle.blif_semantics.specs.LineLaws.{JoinLaw, ListLaw, RowLaw};
 ghost use Rattle.blif_semantics.specs.RefusalOrder.{RefusalOrderLaw};
 ghost use Rattle.blif_semantics.specs.Laws.{TextLaw, FirstRefusalLaw, PlaneLaw, NamedNetLaw, ReadingLaw, WrittenLaw};
 
@@ -15,6 +16,21 @@ pub fn first_refusals()
 /// Which refusal is told, where several hold, and what is read.
 pub fn refusal_order()
     ensures { RefusalOrderLaw }
+{}
+
+/// Lines that a backslash joins.
+pub fn joined_lines()
+    ensures { JoinLaw }
+{}
+
+/// Lists of names in several lines.
+pub fn lists()
+    ensures { ListLaw }
+{}
+
+/// Which table a row belongs to, where it is judged and where it is read.
+pub fn rows()
+    ensures { RowLaw }
 {}
 
 /// The plane of a table is that of each row.

@@ -4,7 +4,7 @@ pub mod Back
 pub mod Derived
 pub mod Trails
 pub mod Placing
-pub mod StatusSteps
+pub mod StateSteps
 pub mod Propagating
 pub mod Analysed
 pub mod Marking

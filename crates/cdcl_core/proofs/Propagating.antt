@@ -7,9 +7,9 @@ use Rattle.std.proofs.lemmas.List.Elements.{All-push}
 use Rattle.proof_semantics.specs.Clauses.{Clause}
 use Rattle.proof_semantics.specs.Conflicts.{clause_at}
 use Rattle.cdcl_core.specs.Settled.{IsSettled, IsSettledAt}
-use Rattle.cdcl_core.specs.Status.{HasOneOpen, IsStatus}
-use Rattle.cdcl_core.specs.declared.status.Status.{Status}
-use Rattle.cdcl_core.specs.declared.status.Status.TheVariants.{Settled, OneOpen}
+use Rattle.cdcl_core.specs.ClauseState.{HasOneOpen, IsStateOf}
+use Rattle.cdcl_core.specs.declared.clause_state.ClauseState.{ClauseState}
+use Rattle.cdcl_core.specs.declared.clause_state.ClauseState.TheVariants.{Settled, OneOpen}
 use Rattle.cdcl_core.specs.Explained.{Holds}
 use Rattle.cdcl_core.specs.Placed.{TrailValue}
 use Rattle.cdcl_core.specs.Propagation.{IsExtended}
@@ -76,17 +76,17 @@ pass_pushed clauses old t new changed j l h within one e = record {
 pub clause_read : (clauses : List Clause) (j : ℕ) (C D : Clause) → j < length clauses → C ≡ get_or clauses j C → D ≡ C → D ≡ clause_at clauses j
 clause_read clauses j C D within is same = same ∙ get_or_read clauses j C within is []
 
-pub scan_settled : (clauses : List Clause) (old t u : TrailValue) (changed after : Bool) (j : ℕ) (C D : Clause) (r : Status) → IsPassSoFar clauses old t changed j → j < length clauses
-    → C ≡ get_or clauses j C → D ≡ C → IsStatus t.literals D r → r ≡ Settled → u ≡ t → after ≡ changed → IsPassSoFar clauses old u after (j + 1)
+pub scan_settled : (clauses : List Clause) (old t u : TrailValue) (changed after : Bool) (j : ℕ) (C D : Clause) (r : ClauseState) → IsPassSoFar clauses old t changed j → j < length clauses
+    → C ≡ get_or clauses j C → D ≡ C → IsStateOf t.literals D r → r ≡ Settled → u ≡ t → after ≡ changed → IsPassSoFar clauses old u after (j + 1)
 scan_settled clauses old t u changed after j C D r h within is same status e te ce =
-    let here : IsSettledAt (Holds t.literals) D = subst (IsStatus t.literals D) e status in
+    let here : IsSettledAt (Holds t.literals) D = subst (IsStateOf t.literals D) e status in
     rw (te, ce) (pass_settled clauses old t changed j h within (subst (IsSettledAt (Holds t.literals)) (clause_read clauses j C D within is same) here))
 
-pub scan_pushed : (clauses : List Clause) (old t u : TrailValue) (changed after : Bool) (j : ℕ) (C D : Clause) (r : Status) (l : ℤ) → IsPassSoFar clauses old t changed j → j < length clauses
-    → C ≡ get_or clauses j C → D ≡ C → IsStatus t.literals D r → r ≡ OneOpen l → u ≡ record t { literals = t.literals ++ l ∷ []; reasons = t.reasons ++ Some j ∷ [] } → after ≡ true
+pub scan_pushed : (clauses : List Clause) (old t u : TrailValue) (changed after : Bool) (j : ℕ) (C D : Clause) (r : ClauseState) (l : ℤ) → IsPassSoFar clauses old t changed j → j < length clauses
+    → C ≡ get_or clauses j C → D ≡ C → IsStateOf t.literals D r → r ≡ OneOpen l → u ≡ record t { literals = t.literals ++ l ∷ []; reasons = t.reasons ++ Some j ∷ [] } → after ≡ true
     → IsPassSoFar clauses old u after (j + 1)
 scan_pushed clauses old t u changed after j C D r l h within is same status e te ce =
-    let here : HasOneOpen (Holds t.literals) D l = subst (IsStatus t.literals D) e status in
+    let here : HasOneOpen (Holds t.literals) D l = subst (IsStateOf t.literals D) e status in
     rw ce (pass_pushed clauses old t u changed j l h within (subst (λ X. HasOneOpen (Holds t.literals) X l) (clause_read clauses j C D within is same) here) te)
 
 pub scan_done : (clauses : List Clause) (old t : TrailValue) (changed : Bool) (j : ℕ) → IsPassSoFar clauses old t changed j → length clauses ≤ j → changed ≡ false

@@ -3,7 +3,7 @@ pub mod Settled
 pub mod Trail
 pub mod Explained
 pub mod Placed
-pub mod Status
+pub mod ClauseState
 pub mod Propagation
 pub mod Analysis
 pub mod Refuted

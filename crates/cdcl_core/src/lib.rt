@@ -4,6 +4,7 @@
 mod analysis;
 pub mod answer;
 mod clause;
+mod clause_state;
 mod decision;
 mod jump;
 pub mod laws;
@@ -17,5 +18,4 @@ mod refutation;
 mod resolution;
 mod search;
 pub mod solve;
-mod status;
 mod trail;

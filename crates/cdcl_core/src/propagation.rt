@@ -8,7 +8,7 @@ ghost use Rattle.proof_semantics.specs.Clauses.{AreClausesOf};
 ghost use Rattle.cdcl_core.specs.Propagation.{IsPass, IsExtended, IsComplete};
 
 use crate::clause::ClauseList;
-use crate::status::{Status, status_of};
+use crate::clause_state::{ClauseState, state_of};
 use crate::trail::Trail;
 use std::alloc::AllocError;
 
@@ -26,12 +26,12 @@ fn scan(trail: &mut Trail, clauses: &ClauseList) -> Result<Pass, AllocError>
 {
     let mut changed = false;
     for j in 0..clauses.len() {
-        match status_of(trail, clauses.get(j).as_slice()) {
-            Status::Settled => {}
-            Status::AllFalse => {
+        match state_of(trail, clauses.get(j).as_slice()) {
+            ClauseState::Settled => {}
+            ClauseState::AllFalse => {
                 return Ok(Pass::Conflict(j));
             }
-            Status::OneOpen(literal) => {
+            ClauseState::OneOpen(literal) => {
                 trail.push_implied(literal, j)?;
                 changed = true;
             }

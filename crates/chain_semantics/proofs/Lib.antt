@@ -26,3 +26,4 @@ pub mod MovedNets
 pub mod MovedValues
 pub mod MovedFlips
 pub mod Simplifications
+pub mod ChainGoesOn

@@ -1,18 +1,18 @@
 -- The moves of a net stand in order.
-use Rattle.std.proofs.Common.{◌≡◌, ◌≢◌, ◌⊎◌, ◌↔◌, ℕ, zero, suc, ◌+◌, ◌-◌, ◌<◌, ◌≤◌, Bool, true, false, not, ltb, cond, List, [], ◌∷◌, ◌++◌, map, length, get_or, All, refl, ap, sym, subst, ◌∙◌, inl, inr, arith}
+use Rattle.std.proofs.Common.{◌≡◌, ◌≢◌, ◌↔◌, ℕ, ◌+◌, ◌<◌, ◌≤◌, Bool, true, false, not, ltb, List, [], ◌∷◌, ◌++◌, map, length, get_or, All, refl, sym, subst, ◌∙◌, inl, inr, arith}
 use Rattle.std.specs.Prelude.{AllPairs}
-use Rattle.std.specs.List.{Contains, filter, flat_map, range_with_len}
+use Rattle.std.specs.List.{Contains, flat_map, range_with_len}
 use Rattle.std.proofs.lemmas.Bool.{cond_both}
 use Rattle.std.proofs.lemmas.List.Elements.{All-nil, All-cons, All-append, All-map, All-weaker}
 use Rattle.std.proofs.lemmas.List.Kept.{AllPairs-cons, AllPairs-filter}
 use Rattle.semantics.specs.declared.mark.Mark.{Mark}
-use Rattle.semantics.specs.Net.{TableValue, NetValue, table_count, input_count, signal_count, is_literal, table_literals, IsAcyclic}
+use Rattle.semantics.specs.Net.{TableValue, NetValue, input_count, signal_count, is_literal, table_literals, IsAcyclic}
 use Rattle.chain_semantics.specs.declared.moves.Move.{Move}
 use Rattle.chain_semantics.specs.declared.moves.Move.TheVariants.{Const, DropRow, DropLiteral, Signal}
-use Rattle.chain_semantics.specs.Moves.{depends, constant_moves, row_moves, literal_pins, literal_moves, copies_of, independent_signals, signal_moves, moves_of_table, moves_from, moves_of, table_of, row_at}
-use Rattle.chain_semantics.specs.MoveLaws.{mark_at, IsMoveOf}
+use Rattle.chain_semantics.specs.Moves.{depends, constant_moves, row_moves, literal_pins, literal_moves, copies_of, independent_signals, signal_moves, moves_of_table, moves_from, moves_of, table_of}
+use Rattle.chain_semantics.specs.MoveLaws.{IsMoveOf}
 use Rattle.chain_semantics.specs.MoveOrder.{kind_number, places_of, IsBefore, ComesBefore}
-use Rattle.chain_semantics.proofs.MoveLists.{All-when, All-range, All-filtered, All-flat_map, All-literal_pins, All-literal_moves}
+use Rattle.chain_semantics.proofs.MoveLists.{All-when, All-range, All-flat_map, All-literal_pins, All-literal_moves}
 use Rattle.chain_semantics.proofs.MoveMembers.{move_is, moves_hold}
 use Rattle.chain_semantics.proofs.OrderedLists.{AllPairs-nil, AllPairs-one, AllPairs-append, AllPairs-when, AllPairs-map, AllPairs-flat_map, AllPairs-range, one_list}
 

@@ -1,20 +1,20 @@
 -- The value of a moved table, by kind.
-use Rattle.std.proofs.Common.{◌≡◌, ◌≢◌, ◌↔◌, ◌⊎◌, ℕ, zero, suc, ◌+◌, ◌-◌, ◌<◌, ◌≤◌, Bool, true, false, not, ◌&&◌, ◌||◌, cond, List, [], ◌∷◌, ◌++◌, length, get_or, set, take, drop, refl, ap, sym, subst, ◌∙◌, inl, inr, arith}
+use Rattle.std.proofs.Common.{◌≡◌, ◌≢◌, ◌⊎◌, ℕ, zero, suc, ◌+◌, ◌-◌, ◌<◌, Bool, true, false, not, ◌&&◌, ◌||◌, cond, List, [], ◌∷◌, ◌++◌, length, get_or, set, refl, ap, sym, subst, ◌∙◌, inl, inr, arith}
 use Rattle.std.specs.List.{list_any, remove}
-use Rattle.std.proofs.lemmas.Bool.{and_parts, and_from, cases_lt, cases_eq, cases_Bool, true≢false, false≢true}
-use Rattle.std.proofs.lemmas.List.{length-set, get_or-set_same, get_or-set_other, get_or_default, get_or_at, set_at, take_at, drop_at}
+use Rattle.std.proofs.lemmas.Bool.{and_parts, and_from, cases_lt, cases_eq, true≢false, false≢true}
+use Rattle.std.proofs.lemmas.List.{length-set, get_or-set_same, get_or-set_other, get_or_default, get_or_at, set_at}
 use Rattle.std.proofs.lemmas.List.Edits.{length-remove, get_or-remove_below, get_or-remove_above}
 use Rattle.std.proofs.lemmas.List.Folds.{Any-from_list_any, list_any_at}
 use Rattle.semantics.specs.declared.mark.Mark.{Mark}
-use Rattle.semantics.specs.declared.mark.Mark.TheVariants.{Zero, One, Dash}
+use Rattle.semantics.specs.declared.mark.Mark.TheVariants.{Dash}
 use Rattle.semantics.specs.Texts.{Bytes}
 use Rattle.semantics.specs.Net.{TableValue, NetValue, no_table, table_at, table_count, constant_table}
 use Rattle.semantics.specs.Value.{Assignment, mark_matches, row_matches, table_value}
 use Rattle.chain_semantics.specs.declared.moves.Move.{Move}
 use Rattle.chain_semantics.specs.declared.moves.Move.TheVariants.{Const, DropRow, DropLiteral, Signal}
-use Rattle.chain_semantics.specs.TidyRules.{pin_at, mark_at}
+use Rattle.chain_semantics.specs.TidyRules.{mark_at}
 use Rattle.chain_semantics.specs.Moves.{table_of, row_at, moved_table, moved}
-use Rattle.chain_semantics.specs.MoveValues.{MarkHolds, RowHolds, RowHoldsBut, AnotherRowHolds, HasPlane}
+use Rattle.chain_semantics.specs.MoveValues.{RowHoldsBut, AnotherRowHolds, HasPlane}
 
 pub moved-itself : (N : NetValue) (move : Move) → table_of move < table_count N → table_at (moved N move).tables (table_of move) ≡ moved_table (table_at N.tables (table_of move)) move
 moved-itself N move within = get_or-set_same N.tables (table_of move) (moved_table (table_at N.tables (table_of move)) move) no_table within

@@ -1,5 +1,5 @@
 -- Lists each of whose elements is before all later ones: parts joined, and one list for given members.
-use Rattle.std.proofs.Common.{◌≡◌, ◌⊎◌, ◌↔◌, ℕ, zero, suc, ◌+◌, ◌-◌, ◌<◌, ◌≤◌, Bool, true, cond, List, [], ◌∷◌, ◌++◌, map, length, get_or, All, refl, ap, sym, subst, ◌∙◌, inl, inr, arith}
+use Rattle.std.proofs.Common.{◌≡◌, ◌↔◌, ℕ, suc, ◌<◌, Bool, cond, List, [], ◌∷◌, ◌++◌, map, get_or, All, refl, ap, sym, subst, ◌∙◌, inl, inr, arith}
 use Rattle.std.specs.Prelude.{AllPairs}
 use Rattle.std.specs.List.{Contains, flat_map, range_with_len}
 use Rattle.std.proofs.lemmas.Bool.{cond_both}
@@ -83,5 +83,7 @@ module _ {X : Type 0} (R : X → X → Type 0) (asymmetric : (x y : X) → R x y
       let first : x ≡ y = heads_agree x y xs ys h k ((same x).0 (Contains-here x xs)) ((same y).1 (Contains-here y ys)) in
       ap (λ z. z ∷ xs) first
       ∙ ap (λ l. y ∷ l) (one_list xs ys (AllPairs-tail R x xs h) (AllPairs-tail R y ys k)
-      (λ z. (tail_within x xs ys h (λ w c. subst (λ u. Contains (u ∷ ys) w) (sym first) ((same w).0 c)) z,
-        tail_within x ys xs (subst (λ u. AllPairs R (u ∷ ys)) (sym first) k) (λ w c. (same w).1 (subst (λ u. Contains (u ∷ ys) w) first c)) z)))
+      (λ z. (
+        tail_within x xs ys h (λ w c. subst (λ u. Contains (u ∷ ys) w) (sym first) ((same w).0 c)) z,
+        tail_within x ys xs (subst (λ u. AllPairs R (u ∷ ys)) (sym first) k) (λ w c. (same w).1 (subst (λ u. Contains (u ∷ ys) w) first c)) z,
+      )))

@@ -51,10 +51,10 @@ pub tidy-lowers : (N : NetValue) (move : Move) → IsSound N → IsTidy N → Co
 tidy-lowers N move sound tidy c = moved-lowers N move sound (tidy-full_rows N tidy) (move_is N sound.acyclic move c)
 
 -- what a move makes of a sound tidy net
-record IsGoodMove (N M : NetValue) : Type 0 where
-  moved : IsMovedFrom N M
-  no_growth : DoesNotGrow N M
-  falls : literal_count M < literal_count N
+pub record IsGoodMove (N M : NetValue) : Type 0 where
+  pub moved : IsMovedFrom N M
+  pub no_growth : DoesNotGrow N M
+  pub falls : literal_count M < literal_count N
 
 good_move : (N : NetValue) (move : Move) → IsSound N → IsTidy N → Contains (moves_of N) move → IsGoodMove N (moved N move)
 good_move N move sound tidy c =
@@ -87,7 +87,7 @@ module _ (metric : Metric) (exact : NetValue) (bound : ℕ) where
       (subst (λ s. IsChainEnd moves_of Allowed IsTidiedMove s M) (tidied-unique exact of_M.start of_N.start of_M.tidied of_N.tidied) of_M.end)
 
   module _ (sound : IsSound exact) where
-    first_move : (N : NetValue) (move : Move) → IsSound N → IsTidy N → IsFirstAllowed (Allowed N) (moves_of N) move → IsGoodMove N (moved N move)
+    pub first_move : (N : NetValue) (move : Move) → IsSound N → IsTidy N → IsFirstAllowed (Allowed N) (moves_of N) move → IsGoodMove N (moved N move)
     first_move N move sound_N tidy f =
         first_allowed_at (Allowed N) (λ m. IsGoodMove N (moved N m)) (moves_of N) move f
         (All-weaker (Contains (moves_of N)) (λ m. IsGoodMove N (moved N m)) (λ m c. good_move N m sound_N tidy c) (moves_of N) (All-contains_itself (moves_of N)))

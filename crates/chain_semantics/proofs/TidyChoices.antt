@@ -1,6 +1,6 @@
 -- A step of tidying is the chosen one: the first table at which a rule applies, its least rule, and the least pin of that rule.
-use Rattle.std.proofs.Common.{◌≡◌, ℕ, zero, suc, ◌+◌, ◌-◌, ◌<◌, ◌≤◌, Bool, true, false, cond, not, eqb, Option, Some, None, List, [], ◌∷◌, length, get_or, take, All, refl, ap, sym, subst, ◌∙◌, inl, inr, arith}
-use Rattle.std.specs.Prelude.{◌&&◌, ◌||◌, ◌⊎◌, Any, AllPairs, Contains}
+use Rattle.std.proofs.Common.{◌≡◌, ℕ, zero, suc, ◌+◌, ◌<◌, ◌≤◌, Bool, true, false, cond, not, eqb, Option, Some, None, List, [], ◌∷◌, length, get_or, take, refl, ap, sym, subst, ◌∙◌, inl, inr, arith}
+use Rattle.std.specs.Prelude.{◌&&◌, ◌||◌, ◌⊎◌}
 use Rattle.std.specs.List.{list_any, list_all}
 use Rattle.std.specs.Option.{option_map}
 use Rattle.std.proofs.lemmas.Bool.{and_parts, and_from, cases_lt, cases_order, both_ways, not-true, not_from_false, false_from_ne_true, cases_Bool}
@@ -14,14 +14,14 @@ use Rattle.semantics.specs.Replaced.{with_table}
 use Rattle.chain_semantics.specs.TidyRules.{is_empty, has, first_from, pin_at, mark_at, is_dash, first_place_of, is_constant_signal, constant_value, with_pin_fixed, without_pin, with_pins_joined, is_canonical, is_constant, made_canonical, is_output, is_read, has_one_literal, is_bypassed, with_bypass, is_unread, without_table}
 use Rattle.chain_semantics.specs.Tidy.{some_if, first_some, by_constant_pin, by_dashed_pin, by_repeated_pin, by_constant, by_bypass, by_removal, step_at, tidy_step, IsTidy}
 use Rattle.chain_semantics.specs.TidyLaws.{HasLiterals}
-use Rattle.chain_semantics.specs.TidyChoices.{Rule, IsConstantSignal, IsCanonical, HasOneValue, HasOneLiteral, IsOutput, IsRead, Applies, rule_number, pin_of, joined_pin_of, IsLesser, IsChosen, made, IsChosenStep, HasNothingToTidy}
+use Rattle.chain_semantics.specs.TidyChoices.{Rule, IsConstantSignal, IsCanonical, HasOneLiteral, IsOutput, IsRead, Applies, rule_number, pin_of, joined_pin_of, IsLesser, made, IsChosenStep, HasNothingToTidy}
 use Rattle.chain_semantics.specs.TidyChoices.Rule.{fix_pin, drop_pin, join_pins, make_constant, read_past, remove_table}
 use Rattle.chain_semantics.proofs.TidyRows.{first_place}
 use Rattle.chain_semantics.proofs.TidyTriples.{no_elements, no_length}
-use Rattle.chain_semantics.proofs.TidyReading.{has-Contains, Contains-has, has_not, IsReadBy, read-by, by-read}
+use Rattle.chain_semantics.proofs.TidyReading.{has-Contains, has_not, read-by, by-read}
 use Rattle.chain_semantics.proofs.TidySteps.{first_from-found}
 use Rattle.chain_semantics.proofs.TidyNets.{none_passes, first-step, none-at, none-anywhere, step-first, tidy-literals}
-use Rattle.chain_semantics.proofs.TidyConditions.{empty-is, some_elements, constant_signal-is, is-constant_signal, dashes-are, are-dashes, stands_before, place_is_first, canonical-is, is-canonical, one_value-is, is-one_value, one_literal-is, is-one_literal}
+use Rattle.chain_semantics.proofs.TidyConditions.{some_elements, constant_signal-is, is-constant_signal, dashes-are, are-dashes, stands_before, place_is_first, canonical-is, is-canonical, one_value-is, is-one_value, one_literal-is, is-one_literal}
 
 -- ---- the order of the rules
 
@@ -180,8 +180,8 @@ module _ (N : NetValue) (i : ℕ) where
         yes = λ q. refl;
         sound = λ q low e. (low, constant_signal-is N (pin_at table q) e);
         complete = λ r is h. (
-          let applies : Applies N i (fix_pin (pin_of r)) = subst (Applies N i) (numbered r 1 is) h in
-          (applies.0, is-constant_signal N (pin_at table (pin_of r)) applies.1));
+            let applies : Applies N i (fix_pin (pin_of r)) = subst (Applies N i) (numbered r 1 is) h in
+            (applies.0, is-constant_signal N (pin_at table (pin_of r)) applies.1));
         joined = λ r q is at less. absurd (omega (arith, less));
       })
 
@@ -198,9 +198,9 @@ module _ (N : NetValue) (i : ℕ) where
         yes = λ q. refl;
         sound = λ q low e. (let parts = and_parts some (column q) e in (low, some_elements table.rows parts.0, dashes-are q table.rows parts.1));
         complete = λ r is h. (
-          let applies : Applies N i (drop_pin (pin_of r)) = subst (Applies N i) (numbered r 2 is) h in
-          let filled : is_empty table.rows ≡ false = false_from_ne_true (is_empty table.rows) (λ e. applies.1 (no_elements table.rows e)) in
-          (applies.0, and_from some (column (pin_of r)) (not_from_false (is_empty table.rows) filled) (are-dashes (pin_of r) table.rows applies.2)));
+            let applies : Applies N i (drop_pin (pin_of r)) = subst (Applies N i) (numbered r 2 is) h in
+            let filled : is_empty table.rows ≡ false = false_from_ne_true (is_empty table.rows) (λ e. applies.1 (no_elements table.rows e)) in
+            (applies.0, and_from some (column (pin_of r)) (not_from_false (is_empty table.rows) filled) (are-dashes (pin_of r) table.rows applies.2)));
         joined = λ r q is at less. absurd (omega (arith, less));
       })
 
@@ -216,11 +216,11 @@ module _ (N : NetValue) (i : ℕ) where
         yes = λ q. refl;
         sound = λ q low e. (let first = first_place table.pins (pin_at table q) q e in (first.0, low, first.1));
         complete = λ r is h. (
-          let applies : Applies N i (join_pins (joined_pin_of r) (pin_of r)) = subst (Applies N i) (numbered r 3 is) h in
-          (applies.1, stands_before table.pins (pin_at table (pin_of r)) (joined_pin_of r) (pin_of r) applies.0 (omega (arith, applies.0, applies.1)) applies.2));
+            let applies : Applies N i (join_pins (joined_pin_of r) (pin_of r)) = subst (Applies N i) (numbered r 3 is) h in
+            (applies.1, stands_before table.pins (pin_at table (pin_of r)) (joined_pin_of r) (pin_of r) applies.0 (omega (arith, applies.0, applies.1)) applies.2));
         joined = λ r q is at less h. (
-          let applies : Applies N i (join_pins (joined_pin_of r) (pin_of r)) = subst (Applies N i) (numbered r 3 is) h in
-          place_is_first table.pins (pin_at table q) (joined_pin_of r) less (omega (arith, applies.0, applies.1)) (applies.2 ∙ ap (pin_at table) at));
+            let applies : Applies N i (join_pins (joined_pin_of r) (pin_of r)) = subst (Applies N i) (numbered r 3 is) h in
+            place_is_first table.pins (pin_at table q) (joined_pin_of r) less (omega (arith, applies.0, applies.1)) (applies.2 ∙ ap (pin_at table) at));
       })
 
   tried_constant : Tried 4 (option_map (with_table N i) (by_constant table))
@@ -308,13 +308,13 @@ module _ (N : NetValue) (i : ℕ) where
   pub none_or_least : ((step_at N i ≡ None) × ((r : Rule) → ¬ Applies N i r)) ⊎ Least (step_at N i)
   none_or_least =
       elim (first_tried 1 (
-        option_map (with_table N i) (by_constant_pin (input_count N) N.tables (table_at N.tables i))
-        ∷ option_map (with_table N i) (by_dashed_pin (table_at N.tables i))
-        ∷ option_map (with_table N i) (by_repeated_pin (table_at N.tables i))
-        ∷ option_map (with_table N i) (by_constant (table_at N.tables i))
-        ∷ by_bypass N i
-        ∷ by_removal N i
-        ∷ []) (tried_constant_pin, (tried_dashed_pin, (tried_repeated_pin, (tried_constant, (tried_bypass, (tried_removal, tt)))))) (λ r low. absurd (omega (arith, low, from_one r)))) [
+      option_map (with_table N i) (by_constant_pin (input_count N) N.tables (table_at N.tables i))
+      ∷ option_map (with_table N i) (by_dashed_pin (table_at N.tables i))
+      ∷ option_map (with_table N i) (by_repeated_pin (table_at N.tables i))
+      ∷ option_map (with_table N i) (by_constant (table_at N.tables i))
+      ∷ by_bypass N i
+      ∷ by_removal N i
+      ∷ []) (tried_constant_pin, (tried_dashed_pin, (tried_repeated_pin, (tried_constant, (tried_bypass, (tried_removal, tt)))))) (λ r low. absurd (omega (arith, low, from_one r)))) [
         | inl (is_none, none) ↦ inl (is_none, λ r. none r (to_six r))
         | inr least ↦ inr least
       ]
@@ -382,11 +382,11 @@ tidy-nothing N tidy i within =
     let needed : IsOutput N (input_count N + i) ⊎ IsRead N (input_count N + i) = needed_by N i (none remove_table) in
     record {
       no_constant_pin = λ q d low h. (
-        let same : get_or t.pins q d ≡ pin_at t q = get_or_default t.pins q d 0 low in none (fix_pin q) (low, subst (IsConstantSignal N) same h));
+          let same : get_or t.pins q d ≡ pin_at t q = get_or_default t.pins q d 0 low in none (fix_pin q) (low, subst (IsConstantSignal N) same h));
       no_repeated_pin = λ p q d before low e. (
-        let left : get_or t.pins p d ≡ pin_at t p = get_or_default t.pins p d 0 (omega (arith, before, low)) in
-        let right : get_or t.pins q d ≡ pin_at t q = get_or_default t.pins q d 0 low in
-        none (join_pins p q) (before, low, sym left ∙ e ∙ right));
+          let left : get_or t.pins p d ≡ pin_at t p = get_or_default t.pins p d 0 (omega (arith, before, low)) in
+          let right : get_or t.pins q d ≡ pin_at t q = get_or_default t.pins q d 0 low in
+          none (join_pins p q) (before, low, sym left ∙ e ∙ right));
       no_bypass = output_by N i (none read_past) needed;
       needed = needed;
       literals = elim (tidy-literals N tidy i no_table within) [ inl canonical ↦ inl (canonical-is t canonical) | inr literals ↦ inr literals ];

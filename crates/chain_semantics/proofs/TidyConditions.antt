@@ -1,19 +1,17 @@
 -- The tests of the rules of tidying, and the conditions that they decide.
-use Rattle.std.proofs.Common.{◌≡◌, ℕ, zero, suc, ◌+◌, ◌-◌, ◌<◌, ◌≤◌, Bool, true, false, cond, not, eqb, leb, Option, Some, None, List, [], ◌∷◌, length, get_or, take, All, refl, ap, sym, subst, ◌∙◌, inl, inr, arith}
-use Rattle.std.specs.Prelude.{◌&&◌, ◌||◌, ◌⊎◌, Any, Contains}
+use Rattle.std.proofs.Common.{◌≡◌, ℕ, zero, suc, ◌-◌, ◌<◌, Bool, true, false, cond, not, eqb, leb, List, [], ◌∷◌, length, get_or, take, All, refl, ap, sym, ◌∙◌, inl, inr, arith}
+use Rattle.std.specs.Prelude.{◌||◌}
 use Rattle.std.specs.List.{list_any, list_all}
-use Rattle.std.proofs.lemmas.Bool.{true≢false, false≢true, and_parts, and_from, or_cases, or_left, or_right, leb-true, le-leb, not-true, not_from_false, false_from_ne_true, cases_lt, eqb-true, eq-eqb, both_ways}
-use Rattle.std.proofs.lemmas.List.{get_or_read}
+use Rattle.std.proofs.lemmas.Bool.{false≢true, and_parts, and_from, or_cases, or_left, or_right, leb-true, le-leb, not-true, eqb-true, eq-eqb, both_ways}
 use Rattle.std.proofs.lemmas.List.Folds.{Any-from_list_any, list_any-from_Any}
 use Rattle.std.proofs.lemmas.List.Sums.{AllPass-from_list_all, list_all-from_AllPass}
 use Rattle.semantics.specs.declared.mark.Mark.{Mark}
 use Rattle.semantics.specs.declared.mark.Mark.TheVariants.{Zero, One, Dash}
 use Rattle.semantics.specs.Texts.{Bytes}
 use Rattle.semantics.specs.Net.{TableValue, NetValue, table_at, input_count, is_literal, row_literals, constant_table}
-use Rattle.chain_semantics.specs.TidyRules.{is_empty, has, mark_at, pin_at, is_dash, first_place_of, is_constant_signal, is_canonical_rows, is_canonical, is_constant, is_one_literal, has_one_literal}
-use Rattle.chain_semantics.specs.TidyChoices.{IsConstantSignal, IsCanonical, HasOneValue, HasOneLiteral}
+use Rattle.chain_semantics.specs.TidyRules.{is_empty, has, mark_at, is_dash, first_place_of, is_constant_signal, is_canonical, is_one_literal, has_one_literal}
+use Rattle.chain_semantics.specs.TidyChoices.{IsConstantSignal, IsCanonical, HasConstantValue, HasOneLiteral}
 use Rattle.chain_semantics.proofs.TidyTriples.{no_elements}
-use Rattle.chain_semantics.proofs.TidyReading.{has-Contains, Contains-has}
 
 pub empty-is : {X : Type 0} (xs : List X) → xs ≡ [] → is_empty xs ≡ true
 empty-is [] e = refl
@@ -94,7 +92,7 @@ constant-canonical name true = refl
 pub is-canonical : (t : TableValue) → IsCanonical t → is_canonical t ≡ true
 is-canonical t h = ap is_canonical h.1 ∙ constant-canonical t.name h.0
 
-pub one_value-is : (t : TableValue) → (is_empty t.rows || list_any (λ marks. eqb (row_literals marks) 0) t.rows) ≡ true → HasOneValue t
+pub one_value-is : (t : TableValue) → (is_empty t.rows || list_any (λ marks. eqb (row_literals marks) 0) t.rows) ≡ true → HasConstantValue t
 one_value-is t e =
     elim (or_cases (is_empty t.rows) (list_any (λ marks. eqb (row_literals marks) 0) t.rows) e) [
       | inl none ↦ inl (no_elements t.rows none)
@@ -103,7 +101,7 @@ one_value-is t e =
           inr (found.0, found.1, found.2, found.3, eqb-true (row_literals found.1) 0 found.4)
     ]
 
-pub is-one_value : (t : TableValue) → HasOneValue t → (is_empty t.rows || list_any (λ marks. eqb (row_literals marks) 0) t.rows) ≡ true
+pub is-one_value : (t : TableValue) → HasConstantValue t → (is_empty t.rows || list_any (λ marks. eqb (row_literals marks) 0) t.rows) ≡ true
 is-one_value t (inl none) = or_left (is_empty t.rows) (list_any (λ marks. eqb (row_literals marks) 0) t.rows) (empty-is t.rows none)
 is-one_value t (inr found) =
     or_right (is_empty t.rows) (list_any (λ marks. eqb (row_literals marks) 0) t.rows)

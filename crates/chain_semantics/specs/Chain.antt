@@ -1,6 +1,6 @@
 -- Chains of simplifications, over any states S, any moves M of a state, any rule that allows a move, and any step after it.
 -- Source: SALSA.
-use Rattle.std.specs.Prelude.{◌≡◌, List, ◌∷◌, ◌++◌}
+use Rattle.std.specs.Prelude.{◌≡◌, ℕ, suc, List, ◌∷◌, ◌++◌}
 use Rattle.std.specs.List.{AllByRecursion}
 
 -- the move is allowed, and no move before it is
@@ -16,6 +16,11 @@ pub data IsInChain {S M : Type 0} (moves : S → List M) (Allowed : S → M → 
   first : IsInChain moves Allowed Step start start
   next : (s t : S) (move : M) → IsInChain moves Allowed Step start s → IsFirstAllowed (Allowed s) (moves s) move → Step s move t
       → IsInChain moves Allowed Step start t
+
+-- how many steps lead from the start to a member
+abbrev pub step_count : {S M : Type 0} {moves : S → List M} {Allowed : S → M → Type 0} {Step : S → M → S → Type 0} {start : S} (s : S) → IsInChain moves Allowed Step start s → ℕ
+step_count start first = 0
+step_count end (next s t move h f step) = suc (step_count s h)
 
 pub record IsChainEnd {S M : Type 0} (moves : S → List M) (Allowed : S → M → Type 0) (Step : S → M → S → Type 0) (start end : S) : Type 0 where
   pub member : IsInChain moves Allowed Step start end

@@ -1,6 +1,7 @@
 -- The order of the moves of a net: by table, then by kind, then by row, pin or signal, and at last what is 0 or plain before what is 1 or flipped.
-use Rattle.std.specs.Prelude.{◌≡◌, ◌≢◌, ◌⊎◌, ◌↔◌, ℕ, ◌<◌, Bool, true, false, List, [], ◌∷◌, AllPairs, Contains}
+use Rattle.std.specs.Prelude.{◌≡◌, ◌≢◌, ◌⊎◌, ◌↔◌, ℕ, ◌<◌, List, [], ◌∷◌, AllPairs, Contains}
 use Rattle.semantics.specs.Net.{NetValue, input_count, IsAcyclic}
+use Rattle.semantics.specs.Error.{bit_number}
 use Rattle.chain_semantics.specs.declared.moves.Move.{Move}
 use Rattle.chain_semantics.specs.declared.moves.Move.TheVariants.{Const, DropRow, DropLiteral, Signal}
 use Rattle.chain_semantics.specs.Moves.{moves_of, table_of}
@@ -12,16 +13,12 @@ kind_number (DropRow t row) = 1
 kind_number (DropLiteral t row pin) = 2
 kind_number (Signal t s flip) = 3
 
-abbrev pub bit : Bool → ℕ
-bit false = 0
-bit true = 1
-
 -- where a move stands among those of its table and its kind
 abbrev pub places_of : Move → List ℕ
-places_of (Const t value) = bit value ∷ []
+places_of (Const t value) = bit_number value ∷ []
 places_of (DropRow t row) = row ∷ []
 places_of (DropLiteral t row pin) = row ∷ pin ∷ []
-places_of (Signal t s flip) = s ∷ bit flip ∷ []
+places_of (Signal t s flip) = s ∷ bit_number flip ∷ []
 
 -- in dictionary order
 abbrev pub IsBefore : List ℕ → List ℕ → Type 0

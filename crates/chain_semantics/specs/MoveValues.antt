@@ -1,5 +1,5 @@
 -- What a move makes of its table, and the value of the moved table by kind.
-use Rattle.std.specs.Prelude.{◌≡◌, ◌≢◌, ◌↔◌, ◌⊎◌, ℕ, ◌+◌, ◌<◌, Bool, true, not, if◌then◌else◌, List, ◌∷◌, ◌++◌, length}
+use Rattle.std.specs.Prelude.{◌≡◌, ◌≢◌, ◌↔◌, ◌⊎◌, ℕ, ◌<◌, Bool, true, not, if◌then◌else◌, List, ◌∷◌, ◌++◌, length}
 use Rattle.semantics.specs.declared.mark.Mark.{Mark}
 use Rattle.semantics.specs.declared.mark.Mark.TheVariants.{Dash}
 use Rattle.semantics.specs.Net.{TableValue, NetValue, table_at, table_count}

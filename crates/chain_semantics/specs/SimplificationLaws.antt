@@ -1,10 +1,10 @@
 -- The law about the simplifications of a net, the contract of a function without parameters.
-use Rattle.std.specs.Prelude.{◌≡◌, ℕ, ◌<◌, Contains}
+use Rattle.std.specs.Prelude.{◌≡◌, ◌⊎◌, ℕ, ◌+◌, ◌<◌, ◌≤◌, Contains}
 use Rattle.semantics.specs.Net.{NetValue, literal_count, IsSound, IsSmall, HasSamePorts}
 use Rattle.semantics.specs.Error.{IsWithin}
 use Rattle.semantics.specs.declared.metric.Metric.{Metric}
 use Rattle.chain_semantics.specs.declared.moves.Move.{Move}
-use Rattle.chain_semantics.specs.Chain.{IsFirstAllowed}
+use Rattle.chain_semantics.specs.Chain.{IsFirstAllowed, step_count}
 use Rattle.chain_semantics.specs.Moves.{moves_of, moved}
 use Rattle.chain_semantics.specs.MoveLaws.{IsLoweredFrom}
 use Rattle.chain_semantics.specs.Tidy.{IsTidy}
@@ -20,13 +20,25 @@ pub record IsSimplifiedNet (metric : Metric) (exact : NetValue) (bound : ℕ) (N
   pub no_growth : DoesNotGrow exact N
   pub within : IsWithin metric exact bound N
 
--- on a tidy net each move lowers the literals; each member of the chain is such a net, and small if the exact one is; each step lowers the literals,
--- so the chain ends; it has one end
+-- the first allowed move of a member, and what its net is tidied to
+pub record HasNext (metric : Metric) (exact : NetValue) (bound : ℕ) (N : NetValue) : Type 0 where
+  pub move : Move
+  pub is_first : IsFirstAllowed (IsAllowedMove metric exact bound N) (moves_of N) move
+  pub after : NetValue
+  pub tidied : IsTidiedMove N move after
+
+-- On a tidy net each move lowers the literals. Of a sound net, each member of the chain is such a net, and small if the exact one is; each member
+-- is an end or has a next one, with fewer literals, so there are at most as many steps as the exact net has literals; and the chain has one end.
 pub record SimplificationLaw : Type 0 where
   pub lowers : (N : NetValue) (move : Move) → IsSound N → IsTidy N → Contains (moves_of N) move → IsLoweredFrom N (moved N move)
   pub members : (metric : Metric) (exact : NetValue) (bound : ℕ) (N : NetValue) → IsSound exact → IsInSimplification metric exact bound N
       → IsSimplifiedNet metric exact bound N
   pub small : (metric : Metric) (exact : NetValue) (bound : ℕ) (N : NetValue) → IsSound exact → IsSmall exact → IsInSimplification metric exact bound N → IsSmall N
+  pub goes_on : (metric : Metric) (exact : NetValue) (bound : ℕ) (N : NetValue) → IsSound exact → IsInSimplification metric exact bound N
+      → IsSimplificationEnd metric exact bound N ⊎ HasNext metric exact bound N
   pub falls : (metric : Metric) (exact : NetValue) (bound : ℕ) (N M : NetValue) (move : Move) → IsSound exact → IsInSimplification metric exact bound N
       → IsFirstAllowed (IsAllowedMove metric exact bound N) (moves_of N) move → IsTidiedMove N move M → literal_count M < literal_count N
+  pub steps : (metric : Metric) (exact : NetValue) (bound : ℕ) (N : NetValue) → IsSound exact → (h : IsInSimplification metric exact bound N)
+      → step_count N h.member + literal_count N ≤ literal_count exact
+  pub ends : (metric : Metric) (exact : NetValue) (bound : ℕ) → IsSound exact → (N : NetValue) × IsSimplificationEnd metric exact bound N
   pub only : (metric : Metric) (exact : NetValue) (bound : ℕ) (N M : NetValue) → IsSimplificationEnd metric exact bound N → IsSimplificationEnd metric exact bound M → N ≡ M

@@ -1,6 +1,6 @@
 -- Where each of the six rules of tidying applies, in the subject's words, and which rule is chosen: at the first table at which one applies,
 -- the rule with the least number, and of that rule the least pin. Source: this tool's own.
-use Rattle.std.specs.Prelude.{◌≡◌, ◌≢◌, ◌⊎◌, ◌↔◌, ℕ, ◌+◌, ◌-◌, ◌<◌, ◌≤◌, Bool, true, List, [], ◌∷◌, length, Some, All, Any, AllPairs, Contains}
+use Rattle.std.specs.Prelude.{◌≡◌, ◌≢◌, ◌⊎◌, ◌↔◌, ℕ, ◌+◌, ◌-◌, ◌<◌, ◌≤◌, Bool, true, [], ◌∷◌, length, Some, All, Any, AllPairs, Contains}
 use Rattle.semantics.specs.declared.mark.Mark.{Mark}
 use Rattle.semantics.specs.declared.mark.Mark.TheVariants.{Dash}
 use Rattle.semantics.specs.Net.{TableValue, NetValue, table_at, input_count, table_count, is_literal, row_literals, constant_table, IsSound}
@@ -28,9 +28,9 @@ IsConstantSignal N s = (input_count N ≤ s) × ((table_at N.tables (s - input_c
 abbrev pub IsCanonical : TableValue → Type 0
 IsCanonical t = (value : Bool) × (t ≡ constant_table t.name value)
 
--- it has no row, or a row without literals
-abbrev pub HasOneValue : TableValue → Type 0
-HasOneValue t = (t.rows ≡ []) ⊎ Any (λ marks. row_literals marks ≡ 0) t.rows
+-- it has no row, or a row without literals, so its value is the same everywhere
+abbrev pub HasConstantValue : TableValue → Type 0
+HasConstantValue t = (t.rows ≡ []) ⊎ Any (λ marks. row_literals marks ≡ 0) t.rows
 
 -- one pin, and one row with a literal
 pub record HasOneLiteral (t : TableValue) : Type 0 where
@@ -52,7 +52,7 @@ abbrev pub AppliesTo : NetValue → TableValue → ℕ → Rule → Type 0
 AppliesTo N t s (fix_pin q) = (q < length t.pins) × IsConstantSignal N (pin_at t q)
 AppliesTo N t s (drop_pin q) = (q < length t.pins) × (t.rows ≢ []) × All (λ marks. mark_at marks q ≡ Dash) t.rows
 AppliesTo N t s (join_pins p q) = (p < q) × (q < length t.pins) × (pin_at t p ≡ pin_at t q)
-AppliesTo N t s make_constant = (¬ IsCanonical t) × HasOneValue t
+AppliesTo N t s make_constant = (¬ IsCanonical t) × HasConstantValue t
 AppliesTo N t s read_past = HasOneLiteral t × (¬ IsOutput N s) × IsRead N s
 AppliesTo N t s remove_table = (¬ IsOutput N s) × (¬ IsRead N s)
 

@@ -9,7 +9,7 @@ use Rattle.std.specs.Cmp.Lexicographic.{slice_cmp, nat_list_cmp_total}
 use Rattle.std.specs.Prelude.{count_by, bytes_eq}
 use Rattle.std.specs.FinMap.{get, insert, contains_key, get-insert}
 use Rattle.semantics.specs.Texts.{Bytes}
-use Rattle.outside_semantics.specs.Outside.{Held, Place, Goes, KeepsTurns, StaysCalm, KeepsAtOpen, Opened, OpenFailed, KeepsAtRead, GaveNext, Gave, ReadFailed, Created, CreateFailed, Wrote, WriteFailed, bytes_of, turns_on, turns_after, added_to, appended}
+use Rattle.outside_semantics.specs.Outside.{Held, Place, Goes, StaysCalm, KeepsAtOpen, Opened, OpenFailed, KeepsAtRead, GaveNext, Gave, ReadFailed, Created, CreateFailed, Wrote, WriteFailed, bytes_of, turns_on, turns_after, added_to, appended}
 use Rattle.outside_semantics.proofs.ReadTurns.{turns_kept, turns_grow}
 use Rattle.file_core.specs.Calls.{one_more, is_listed, none_left}
 use Rattle.file_core.specs.Memory.{MemoryValue, memory_told, fails_next, faulted, opened, not_opened, left_of, moved, read_on, created, not_created, wrote}

@@ -1,5 +1,5 @@
 -- How what calls come to joins, where they gather or write one text after another.
-use Rattle.std.proofs.Common.{◌≡◌, ℕ, ◌<◌, List, [], ◌++◌, flat_map, length, get_or, take, subst, Result, Ok, Err, OnOk, OnErr}
+use Rattle.std.proofs.Common.{◌≡◌, ℕ, ◌<◌, List, [], ◌++◌, flat_map, length, get_or, take, subst, Result, Ok, Err}
 use Rattle.std.proofs.lemmas.Result.{on_ok_weaker, on_err_weaker}
 use Rattle.std.specs.Borrow.{Bor}
 use Rattle.semantics.specs.Texts.{Bytes}

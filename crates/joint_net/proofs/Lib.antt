@@ -1,2 +1,1 @@
-pub mod PortNames
 pub mod Placed

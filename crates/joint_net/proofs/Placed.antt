@@ -7,13 +7,13 @@ use Rattle.std.proofs.lemmas.List.{append_assoc, length-append, length-map, map-
 use Rattle.std.proofs.lemmas.List.FromFn.{get_or-range_with_len, length-range_with_len}
 use Rattle.semantics.specs.Texts.{Bytes}
 use Rattle.semantics.specs.Net.{TableValue, NetValue, no_table, table_at, input_count, table_count, signal_count, IsAcyclic, IsSound, HasSamePorts}
-use Rattle.semantics.specs.Error.{Metric}
+use Rattle.semantics.specs.declared.metric.Metric.{Metric}
 use Rattle.net_core.specs.Built.{IsWired}
 use Rattle.quality_semantics.specs.Quality.{quality, quality_net}
 use Rattle.quality_semantics.specs.Joint.{numbered_name, copied_from, copied, moved, approximate_signal, both_outputs, quality_signal, joint_net}
 use Rattle.quality_semantics.proofs.Joint.{length-copied, length-both_copies, whole_length, joint_outputs, comparable}
 use Rattle.quality_semantics.proofs.JointSound.{joint_sound}
-use Rattle.joint_net.specs.Copies.{placed, copy_at, all_copies}
+use Rattle.joint_net.specs.Copies.{placed, copy_at, all_copies, joined, IsJoinable}
 
 -- ---- one more in a loop
 
@@ -77,28 +77,39 @@ are_copies N M more inputs read tables₀ tables₁ tables₂ tables₃ own firs
     (append_assoc (copied 101 (λ s. s) N.tables) (copied 97 (approximate_signal N) M.tables) (copied 113 (quality_signal N M) more))
 
 -- the parts make the joint net
-pub are_joint : (N M : NetValue) (metric : Metric) (w k : ℕ) (Q : NetValue) (model : Bytes) (inputs : List Bytes) (tables : List TableValue) (outputs : List ℕ)
-    → w ≡ length N.outputs → Q ≡ quality_net metric w k → model ≡ codes "joint" → inputs ≡ map (numbered_name 120) (range_with_len 0 (input_count N)) → tables ≡ all_copies N M Q.tables → outputs ≡ map (quality_signal N M) Q.outputs
-    → ◌≡◌ {A = NetValue} (record { model = model; inputs = inputs; tables = tables; outputs = outputs }) (joint_net N M metric k)
-unfolding joint_net
-are_joint N M metric w k Q model inputs tables outputs width eq em ei et eo = rw (em, ei, et, eo, eq, width) refl
+pub is_joined : (N M Q : NetValue) (model : Bytes) (inputs : List Bytes) (tables : List TableValue) (outputs : List ℕ)
+    → model ≡ codes "joint" → inputs ≡ map (numbered_name 120) (range_with_len 0 (input_count N)) → tables ≡ all_copies N M Q.tables → outputs ≡ map (quality_signal N M) Q.outputs
+    → ◌≡◌ {A = NetValue} (record { model = model; inputs = inputs; tables = tables; outputs = outputs }) (joined N M Q)
+unfolding joined
+is_joined N M Q model inputs tables outputs em ei et eo = rw (em, ei, et, eo) refl
+
+pub joined_is : (N M Q : NetValue) (metric : Metric) (w k : ℕ) → w ≡ length N.outputs → Q ≡ quality_net metric w k → joined N M Q ≡ joint_net N M metric k
+unfolding joined joint_net
+joined_is N M Q metric w k width eq = rw (eq, width) refl
 
 joint_signals : (N M : NetValue) (metric : Metric) (k : ℕ) → signal_count (joint_net N M metric k) ≡ signal_count N + table_count M + table_count (quality_net metric (length N.outputs) k)
 joint_signals N M metric k =
     omega (arith, whole_length N M metric k, length-both_copies N M, length-copied 113 (quality_signal N M) (quality metric (length N.outputs) k).net.tables)
 
-pub joint_wired : (N M : NetValue) (metric : Metric) (w k : ℕ) (Q P : NetValue) → P ≡ joint_net N M metric k → IsSound N → IsSound M → HasSamePorts N M → w ≡ length N.outputs → Q ≡ quality_net metric w k
-    → signal_count N + table_count M + table_count Q < 2 ^ 31 → IsWired P × IsAcyclic (input_count P) P.tables
-joint_wired N M metric w k Q P e exact other ports width eq few =
+pub is_joinable : (N M Q : NetValue) (metric : Metric) (w k : ℕ) → IsSound N → IsSound M → HasSamePorts N M → w ≡ length N.outputs → Q ≡ quality_net metric w k
+    → signal_count N + table_count M + table_count Q < 2 ^ 31 → IsJoinable N M Q
+is_joinable N M Q metric w k exact other ports width eq few =
+    let e : joint_net N M metric k ≡ joined N M Q = sym (joined_is N M Q metric w k width eq) in
+    let both = comparable N M exact other ports in
     let room : signal_count (joint_net N M metric k) < 2 ^ 31 = rw (joint_signals N M metric k, ← width, ← eq) few in
-    let sound : IsSound (joint_net N M metric k) = joint_sound N M metric k (comparable N M exact other ports) room in
-    rw e (
-      record {
-        names_differ = sound.names_differ;
-        has_output = sound.has_output;
-        outputs_are_signals = sound.outputs_are_signals;
-        few_signals = room;
-        few_outputs = rw (joint_outputs N M metric k) (omega arith);
-      },
-      sound.acyclic,
-    )
+    let sound : IsSound (joint_net N M metric k) = joint_sound N M metric k both room in
+    record {
+      outputs = both.outputs;
+      room = omega (arith, few);
+      wired =
+          subst IsWired e (
+            record {
+              names_differ = sound.names_differ;
+              has_output = sound.has_output;
+              outputs_are_signals = sound.outputs_are_signals;
+              few_signals = room;
+              few_outputs = rw (joint_outputs N M metric k) (omega arith);
+            }
+          );
+      acyclic = subst (λ (P : NetValue). IsAcyclic (input_count P) P.tables) e sound.acyclic;
+    }

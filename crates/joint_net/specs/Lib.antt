@@ -1,2 +1,1 @@
-pub mod Metric
 pub mod Copies

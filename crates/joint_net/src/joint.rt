@@ -1,18 +1,17 @@
 //! The joint net: two nets over the same inputs, and a quality network over their outputs.
 //! Source: SALSA's quality function circuit, which the outputs of the exact and of the approximate circuit feed.
-ghost use Rattle.std.specs.Prelude.{◌≡◌, ◌↔◌, ℕ, ◌+◌, ◌<◌, ◌≤◌, ◌^◌, map, length, IfOk, IsTrue};
+ghost use Rattle.std.specs.Prelude.{◌≡◌, ◌↔◌, ℕ, ◌+◌, ◌<◌, ◌≤◌, ◌^◌, map, length, codes, IfOk, IsTrue};
 ghost use Rattle.std.specs.List.{range_with_len};
-ghost use Rattle.semantics.specs.Net.{input_count, table_count, signal_count, row_count, HasSamePorts};
+ghost use Rattle.semantics.specs.Net.{input_count, table_count, signal_count, row_count, HasSamePorts, IsSound};
 ghost use Rattle.quality_semantics.specs.Quality.{quality_net};
-ghost use Rattle.quality_semantics.specs.Joint.{both_outputs, quality_signal, joint_net};
-ghost use Rattle.joint_net.specs.Copies.{all_copies};
-ghost use Rattle.joint_net.specs.Metric.{meaning};
+ghost use Rattle.quality_semantics.specs.Joint.{numbered_name, both_outputs, quality_signal, joint_net};
+ghost use Rattle.joint_net.specs.Copies.{all_copies, joined, IsJoinable};
 
 use crate::copies::{first_signals, model_name, push_copies, push_outputs};
-use crate::metric::Metric;
-use net_core::items::{Signal, SignalList, TableList};
-use net_core::name::numbered_names;
+use net_core::items::{NameList, Signal, SignalList, TableList};
+use net_core::name::{Name, numbered_names};
 use net_core::net::Net;
+use semantics::metric::Metric;
 use std::alloc::{AllocError, Global};
 
 /// What the signals and the rows of a joint net together are fewer than.
@@ -21,7 +20,7 @@ const ROOM: u32 = 1 << 31;
 /// The net whose output says whether the error of two words of so many bits exceeds `k`.
 fn quality(alloc: Global, metric: Metric, width: u32, k: u128) -> Result<Net, AllocError>
     requires { width ≤ 64 }
-    ensures { IfOk result (λ n. n ≡ quality_net (meaning metric) width k) }
+    ensures { IfOk result (λ n. n ≡ quality_net metric width k) }
 {
     match metric {
         Metric::Abs => quality_abs::quality(alloc, width, k),
@@ -89,6 +88,61 @@ fn joint_outputs(
     Ok(outputs)
 }
 
+/// Whether the signals of the joint net are few.
+fn has_few_signals(exact: &Net, approx: &Net, quality: &Net) -> bool
+    ensures value { IsTrue result
+        ↔ (signal_count exact.now + table_count approx.now + table_count quality.now < 2 ^ 31) }
+    ensures exact_sound { IsSound exact.now }
+    ensures approximate_sound { IsSound approx.now }
+{
+    let signals = u64::from(exact.signals())
+        + u64::from(approx.tables())
+        + u64::from(quality.tables());
+    signals < u64::from(ROOM)
+}
+
+/// What a net is made of.
+#[derive(Drop)]
+struct Parts {
+    model: Name,
+    inputs: NameList,
+    tables: TableList,
+    outputs: SignalList,
+}
+
+/// The parts of the joint net of two nets and a quality network.
+fn joint_parts(alloc: Global, exact: &Net, approx: &Net, quality: &Net) -> Result<Parts, AllocError>
+    requires outputs { length exact.now.outputs ≡ length approx.now.outputs }
+    requires room { signal_count exact.now + table_count approx.now < 2 ^ 31 }
+    ensures model { IfOk result (λ p. p.model ≡ codes "joint") }
+    ensures inputs { IfOk result (λ p. p.inputs ≡ map (numbered_name 120) (range_with_len 0 (input_count exact.now))) }
+    ensures tables { IfOk result (λ p. p.tables ≡ all_copies exact.now approx.now quality.now.tables) }
+    ensures outputs { IfOk result (λ p. p.outputs ≡ map (quality_signal exact.now approx.now) quality.now.outputs) }
+{
+    let own = first_signals(alloc, exact.inputs())?;
+    let read = signals_read(alloc, &own, exact, approx)?;
+    Ok(Parts {
+        model: model_name(alloc)?,
+        inputs: numbered_names(alloc, b'x', exact.inputs())?,
+        tables: joint_tables(alloc, &own, read.as_slice(), exact, approx, quality)?,
+        outputs: joint_outputs(alloc, read.as_slice(), exact, approx, quality)?,
+    })
+}
+
+/// The joint net of two nets and a quality network.
+fn join(alloc: Global, exact: &Net, approx: &Net, quality: &Net) -> Result<Net, AllocError>
+    requires { IsJoinable exact.now approx.now quality.now }
+    ensures { IfOk result (λ n. n ≡ joined exact.now approx.now quality.now) }
+{
+    let Parts {
+        model,
+        inputs,
+        tables,
+        outputs,
+    } = joint_parts(alloc, exact, approx, quality)?;
+    Net::from_sound(alloc, model, inputs, tables, outputs)
+}
+
 /// Whether the signals and the rows together are few.
 fn has_room(net: &Net) -> bool
     ensures { IsTrue result ↔ (signal_count net.now + row_count net.now < 2 ^ 31) }
@@ -115,23 +169,14 @@ pub fn joint(
 ) -> Result<Net, AllocError>
     requires ports { HasSamePorts exact.now approx.now }
     requires few { length exact.now.outputs ≤ 64 }
-    ensures net { IfOk result (λ n. n ≡ joint_net exact.now approx.now (meaning metric) k) }
+    ensures net { IfOk result (λ n. n ≡ joint_net exact.now approx.now metric k) }
     ensures room { IfOk result (λ n. signal_count n + row_count n < 2 ^ 31) }
 {
     let quality = quality(alloc, metric, exact.outputs(), k)?;
-    let signals = u64::from(exact.signals())
-        + u64::from(approx.tables())
-        + u64::from(quality.tables());
-    if signals >= u64::from(ROOM) {
+    if !has_few_signals(exact, approx, &quality) {
         return Err(AllocError);
     }
-    let model = model_name(alloc)?;
-    let inputs = numbered_names(alloc, b'x', exact.inputs())?;
-    let own = first_signals(alloc, exact.inputs())?;
-    let read = signals_read(alloc, &own, exact, approx)?;
-    let tables = joint_tables(alloc, &own, read.as_slice(), exact, approx, &quality)?;
-    let outputs = joint_outputs(alloc, read.as_slice(), exact, approx, &quality)?;
-    let net = Net::from_sound(alloc, model, inputs, tables, outputs)?;
+    let net = join(alloc, exact, approx, &quality)?;
     if has_room(&net) {
         Ok(net)
     } else {

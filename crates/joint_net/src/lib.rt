@@ -1,9 +1,5 @@
-//! Two nets with the same ports, and the error of one's outputs against the other's.
+//! The joint net of two nets with the same ports, whose output says whether the error exceeds a level.
 #![tactic(auto)]
 
 mod copies;
-pub mod error;
 pub mod joint;
-pub mod metric;
-pub mod net_error;
-pub mod ports;

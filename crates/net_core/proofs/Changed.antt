@@ -1,7 +1,7 @@
 -- What makes parts, and a net with one table replaced, a net of this crate.
-use Rattle.std.proofs.Common.{ℕ, ◌+◌, ◌≡◌, ◌<◌, ◌++◌, length, All, ap, length-set}
+use Rattle.std.proofs.Common.{ℕ, ◌+◌, ◌^◌, ◌≡◌, ◌<◌, ◌++◌, length, All, ap, length-set}
 use Rattle.std.proofs.Math.Seq.{map-set_same}
-use Rattle.semantics.specs.Net.{TableValue, NetValue, table_at, no_table, table_count, input_count, signal_count, signal_names, IsName, IsTable, IsAcyclic}
+use Rattle.semantics.specs.Net.{TableValue, NetValue, table_at, no_table, table_count, input_count, signal_count, signal_names, IsName, IsTable, IsAcyclic, IsSound}
 use Rattle.semantics.specs.Replaced.{with_table}
 use Rattle.net_core.specs.Built.{IsBuilt, IsWired}
 use Rattle.net_core.proofs.Eval.{acyclic-pins}
@@ -21,6 +21,16 @@ IsBuilt-wired N model inputs tables wired acyclic = record {
   };
   few_signals = wired.few_signals;
   few_outputs = wired.few_outputs;
+}
+
+-- the parts of a sound net are wired
+pub IsWired-sound : (N : NetValue) → IsSound N → signal_count N < 2 ^ 31 → length N.outputs < 2 ^ 31 → IsWired N
+IsWired-sound N sound few_signals few_outputs = record {
+  names_differ = sound.names_differ;
+  has_output = sound.has_output;
+  outputs_are_signals = sound.outputs_are_signals;
+  few_signals = few_signals;
+  few_outputs = few_outputs;
 }
 
 -- the names and the signals stay where a table is replaced

@@ -1,7 +1,6 @@
 pub mod Keys
 pub mod Reading
 pub mod Refusing
-pub mod Copying
 pub mod Changed
 pub mod InOrder
 pub mod Eval

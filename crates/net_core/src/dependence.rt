@@ -6,8 +6,8 @@ ghost use Rattle.semantics.specs.Net.{input_count, table_count, signal_count};
 ghost use Rattle.semantics.specs.Dependence.{DependsOn};
 ghost use Rattle.net_core.specs.Built.{IsBuilt};
 
-use crate::items::Signal;
 use crate::net::Net;
+use net_parts::items::Signal;
 use std::alloc::AllocError;
 
 /// Takes all marks away.

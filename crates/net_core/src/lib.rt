@@ -1,15 +1,12 @@
-//! Nets in memory: names, rows of marks, tables, nets, their values and their sizes.
+//! Nets in memory: their values, their sizes, the order of their tables, and why parts make none.
 #![tactic(auto)]
 
 mod dependence;
-pub mod items;
 pub mod limits;
-pub mod mark;
-pub mod name;
 mod names;
 pub mod net;
 pub mod order;
 pub mod refusal;
-pub mod row;
-pub mod table;
 mod undriven;
+
+pub use net_parts::{items, mark, name, row, table};

@@ -3,25 +3,16 @@ ghost use Rattle.std.specs.Prelude.{◌≡◌, ℕ, List, length, sum_by, nat_le
 ghost use Rattle.std.specs.List.{list_all};
 ghost use Rattle.semantics.specs.Refusals.{first_limit};
 
-use crate::items::{NameList, SignalList, TableList};
-use crate::table::Table;
+use net_parts::items::{NameList, SignalList, TableList};
+use net_parts::table::Table;
+use semantics::limits::{
+    MOST_INPUTS, MOST_OUTPUTS, MOST_PINS, MOST_ROWS, MOST_TABLE_PINS, MOST_TABLES,
+};
 pub use semantics::which::Which;
-
-const MOST_INPUTS: usize = 256;
-
-const MOST_OUTPUTS: usize = 64;
-
-const MOST_TABLES: usize = 4096;
-
-const MOST_TABLE_PINS: usize = 256;
-
-const MOST_PINS: usize = 131072;
-
-const MOST_ROWS: usize = 32768;
 
 /// Whether no table has more pins than one table may.
 fn are_narrow(tables: &[Table]) -> bool
-    ensures { result ≡ list_all (λ t. nat_le (length t.pins) 256) tables.now }
+    ensures { result ≡ list_all (λ t. nat_le (length t.pins) MOST_TABLE_PINS) tables.now }
 {
     tables
         .iter()
@@ -30,7 +21,7 @@ fn are_narrow(tables: &[Table]) -> bool
 
 /// Whether the tables have at most so many pins in all.
 fn have_few_pins(tables: &[Table]) -> bool
-    ensures { result ≡ nat_le (sum_by (λ t. length t.pins) tables.now) 131072 }
+    ensures { result ≡ nat_le (sum_by (λ t. length t.pins) tables.now) MOST_PINS }
 {
     let mut left = MOST_PINS;
     for table in tables {
@@ -44,7 +35,7 @@ fn have_few_pins(tables: &[Table]) -> bool
 
 /// Whether the tables have at most so many rows in all.
 fn have_few_rows(tables: &[Table]) -> bool
-    ensures { result ≡ nat_le (sum_by (λ t. length t.rows) tables.now) 32768 }
+    ensures { result ≡ nat_le (sum_by (λ t. length t.rows) tables.now) MOST_ROWS }
 {
     let mut left = MOST_ROWS;
     for table in tables {

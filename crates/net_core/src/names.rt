@@ -2,10 +2,10 @@
 ghost use Rattle.std.specs.Prelude.{◌≡◌, ◌<◌, ◌+◌, ◌^◌, true, not, [], ◌∷◌, ◌++◌, map, length, slice_index_or, None, Some, IfOk, MatchOption};
 ghost use Rattle.semantics.specs.Refusals.{has_name, first_doubled};
 
-use crate::items::{NameList, TableList};
-use crate::name::Name;
-use crate::table::Table;
 use indexmap::IndexSet;
+use net_parts::items::{NameList, TableList};
+use net_parts::name::Name;
+use net_parts::table::Table;
 use std::alloc::{AllocError, Global};
 use std::marker::Model;
 

@@ -8,14 +8,15 @@ ghost use Rattle.semantics.specs.Replaced.{replaced, with_table};
 ghost use Rattle.net_core.specs.Built.{IsBuilt, IsWired};
 ghost use Rattle.net_core.specs.Refused.{IsRefusalOf};
 
-use crate::items::{NameList, Signal, SignalList, TableList};
 use crate::limits::first_limit;
-use crate::name::Name;
 use crate::names::{first_doubled, name_at};
 use crate::order::order_of;
 use crate::refusal::NetRefusal;
-use crate::table::Table;
 use crate::undriven::first_undriven;
+use net_parts::assemble::Assemble;
+use net_parts::items::{NameList, Signal, SignalList, TableList};
+use net_parts::name::Name;
+use net_parts::table::Table;
 use std::alloc::{AllocError, Global};
 use std::marker::Model;
 
@@ -303,5 +304,19 @@ impl Net {
             self.tables.copy_with(t as usize, table)?,
             self.outputs.copy()?,
         )
+    }
+}
+
+impl Assemble for Net {
+    ghost net = { λ n. n };
+
+    fn assemble(
+        alloc: Global,
+        model: Name,
+        inputs: NameList,
+        tables: TableList,
+        outputs: SignalList,
+    ) -> Result<Net, AllocError> {
+        Net::from_sound(alloc, model, inputs, tables, outputs)
     }
 }

@@ -6,8 +6,8 @@ ghost use Rattle.semantics.specs.Order.{IsKnown, IsOrderOf};
 ghost use Rattle.semantics.specs.Refusals.{first_ungrounded};
 ghost use Rattle.net_core.specs.Sorting.{waiters_of, placed_at_end, waiting_for, without_waiters, IsFirstUnknown, IsSorting, IsSettled};
 
-use crate::items::Signal;
-use crate::table::Table;
+use net_parts::items::Signal;
+use net_parts::table::Table;
 use std::alloc::{AllocError, Global};
 use std::marker::Model;
 use std::mem;

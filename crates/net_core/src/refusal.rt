@@ -2,9 +2,9 @@
 ghost use Rattle.std.specs.Prelude.{◌≡◌};
 ghost use Rattle.net_core.specs.declared.refusal.NetRefusal.TheVariants.{OutOfMemory};
 
-use crate::items::Signal;
 use crate::limits::Which;
-use crate::name::Name;
+use net_parts::items::Signal;
+use net_parts::name::Name;
 use std::alloc::AllocError;
 use thiserror::Error;
 

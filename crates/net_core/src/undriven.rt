@@ -2,7 +2,7 @@
 ghost use Rattle.std.specs.Prelude.{◌≡◌, ◌++◌, not, nat_lt};
 ghost use Rattle.std.specs.List.{find, flat_map};
 
-use crate::items::{Signal, SignalList, TableList};
+use net_parts::items::{Signal, SignalList, TableList};
 
 /// The first of these that is past so many signals.
 fn first_past(signals: &[Signal], count: u32) -> Option<Signal>

@@ -5,7 +5,8 @@ use Rattle.proof_semantics.specs.Clauses.{Clause}
 use Rattle.proof_semantics.specs.Formula.{Formula}
 use Rattle.proof_semantics.specs.Logs.{LogItem, IsDerivation}
 use Rattle.proof_semantics.specs.Conflicts.{IsConflictChain, IsEnough}
-use Rattle.proof_semantics.specs.Examples.{minus, step}
+use Rattle.semantics.specs.Examples.{minus}
+use Rattle.proof_semantics.specs.Examples.{step}
 
 -- the clauses 1 2, 1 -2, -1 2 and -1 -2, which have the ids 1 to 4, with a third variable that no clause has
 abbrev pub four_clauses : Formula
@@ -38,6 +39,7 @@ pub record ConflictExamples : Type 0 where
 
 pub record EnoughExamples : Type 0 where
   pub few_inputs : IsEnough 1 8
+  pub nine_inputs : IsEnough 1024 9 × ¬ IsEnough 1023 9
   pub ten_inputs : IsEnough 2048 10 × ¬ IsEnough 2047 10
   pub fifteen_inputs : IsEnough 65536 15 × ¬ IsEnough 65535 15
   pub many_inputs : ¬ IsEnough (2 ^ 63) 16

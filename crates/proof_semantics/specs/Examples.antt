@@ -1,10 +1,10 @@
 -- Worked examples, computed from the definitions.
-use Rattle.std.specs.Prelude.{◌≡◌, ℕ, true, false, List, [], ◌∷◌, ◌++◌, map, length, codes, ℤ, pos, neg_ℤ, Result, Ok, Err, ⊤}
+use Rattle.std.specs.Prelude.{◌≡◌, ℕ, true, false, List, [], ◌∷◌, ◌++◌, map, length, codes, pos, Result, Ok, Err, ⊤}
 use Rattle.semantics.specs.declared.mark.Mark.{Mark}
 use Rattle.semantics.specs.declared.mark.Mark.TheVariants.{Zero, One, Dash}
 use Rattle.semantics.specs.Net.{TableValue, constant_table}
 use Rattle.semantics.specs.declared.metric.Metric.TheVariants.{Abs, Sabs}
-use Rattle.semantics.specs.Examples.{text, half_adder, constant_sum, wire}
+use Rattle.semantics.specs.Examples.{text, minus, half_adder, constant_sum, wire}
 use Rattle.proof_semantics.specs.declared.item.Item.TheVariants.{Add, Remove}
 use Rattle.proof_semantics.specs.declared.step_refusal.StepRefusal.{StepRefusal}
 use Rattle.proof_semantics.specs.declared.step_refusal.StepRefusal.TheVariants.{NotRising, UnknownId, NotUnit, NoConflict}
@@ -15,10 +15,6 @@ use Rattle.proof_semantics.specs.Variables.{table_clause_count}
 use Rattle.proof_semantics.specs.Formula.{formula_of, goal_of, dimacs_text}
 use Rattle.proof_semantics.specs.Logs.{StepValue, LogItem, held_of, step_answer, removed_from, Refutes, IsSoundLog, IsDerivation}
 use Rattle.proof_semantics.specs.Lrat.{lrat_text}
-
--- the negation of a variable
-abbrev pub minus : ℕ → ℤ
-minus variable = neg_ℤ (pos variable)
 
 abbrev pub half_adder_clauses : List Clause
 half_adder_clauses =

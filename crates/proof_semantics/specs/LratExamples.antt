@@ -4,7 +4,8 @@ use Rattle.proof_semantics.specs.declared.item.Item.TheVariants.{Add, Remove}
 use Rattle.proof_semantics.specs.declared.lrat_refusal.LratRefusal.TheVariants.{BadByte, BadNumber, Negative, Cut}
 use Rattle.proof_semantics.specs.Logs.{LogItem}
 use Rattle.proof_semantics.specs.LratReading.{whole_items, lrat_refusal, lrat_items}
-use Rattle.proof_semantics.specs.Examples.{minus, step}
+use Rattle.semantics.specs.Examples.{minus}
+use Rattle.proof_semantics.specs.Examples.{step}
 
 -- an addition of the empty clause
 abbrev pub empty_clause : ℕ → List ℕ → LogItem

@@ -1,15 +1,18 @@
-//! The quality network of the absolute error. Source: SALSA's quality function circuit.
+//! The quality networks of the absolute error, of unsigned and of signed words. Source: SALSA's quality function circuit.
 #![tactic(auto)]
 
 ghost use Rattle.std.specs.Prelude.{◌≡◌, ◌+◌, ◌-◌, ◌^◌, ◌≤◌, ◌<◌, [], ◌∷◌, IfOk, OnOk};
-ghost use Rattle.semantics.specs.Error.{abs};
+ghost use Rattle.semantics.specs.declared.metric.Metric.TheVariants.{Abs};
 ghost use Rattle.quality_semantics.specs.WordNets.{started, signals};
 ghost use Rattle.quality_semantics.specs.Quality.{quality, quality_net, absolute_excess, TellsExcess};
 
-use net_core::items::Signal;
+mod signed;
+
+pub use crate::signed::quality_signed;
+use bus_nets::word_net::WordNet;
 use net_core::net::Net;
+use net_parts::items::Signal;
 use std::alloc::{AllocError, Global};
-use word_nets::word_net::WordNet;
 
 /// Appends what says whether two words of so many bits, the inputs of the network, are more than `k` apart.
 fn excess(net: &mut WordNet, width: u32, k: u128) -> Result<Signal, AllocError>
@@ -28,8 +31,8 @@ fn excess(net: &mut WordNet, width: u32, k: u128) -> Result<Signal, AllocError>
 fn output(net: &mut WordNet, width: u32, k: u128) -> Result<Signal, AllocError>
     requires start { net.old ≡ started (width + width) }
     requires narrow { width ≤ 64 }
-    ensures ok { OnOk result (net.new ≡ (quality abs width k).net) }
-    ensures signal { IfOk result (λ s. s ≡ (quality abs width k).signal) }
+    ensures ok { OnOk result (net.new ≡ (quality Abs width k).net) }
+    ensures signal { IfOk result (λ s. s ≡ (quality Abs width k).signal) }
     ensures within { IfOk result (λ s. s < signals net.new) }
 {
     if k >= (1u128 << width) - 1 {
@@ -42,8 +45,8 @@ fn output(net: &mut WordNet, width: u32, k: u128) -> Result<Signal, AllocError>
 /// The net whose output says whether the absolute error of two words of so many bits exceeds `k`.
 pub fn quality(alloc: Global, width: u32, k: u128) -> Result<Net, AllocError>
     requires { width ≤ 64 }
-    ensures net { IfOk result (λ n. n ≡ quality_net abs width k) }
-    ensures tells { IfOk result (λ n. TellsExcess abs width k n) }
+    ensures net { IfOk result (λ n. n ≡ quality_net Abs width k) }
+    ensures tells { IfOk result (λ n. TellsExcess Abs width k n) }
 {
     let mut net = WordNet::new(alloc, width + width)?;
     let output = output(&mut net, width, k)?;

@@ -2,14 +2,14 @@
 #![tactic(auto)]
 
 ghost use Rattle.std.specs.Prelude.{◌≡◌, ◌+◌, ◌≤◌, ◌<◌, [], ◌∷◌, IfOk, OnOk};
-ghost use Rattle.semantics.specs.Error.{ham};
+ghost use Rattle.semantics.specs.declared.metric.Metric.TheVariants.{Ham};
 ghost use Rattle.quality_semantics.specs.WordNets.{started, signals};
 ghost use Rattle.quality_semantics.specs.Quality.{quality, quality_net, differing_excess, TellsExcess};
 
-use net_core::items::Signal;
+use bus_nets::word_net::WordNet;
 use net_core::net::Net;
+use net_parts::items::Signal;
 use std::alloc::{AllocError, Global};
-use word_nets::word_net::WordNet;
 
 /// Appends what says whether two words of so many bits, the inputs of the network, differ in more than `k` of them.
 fn excess(net: &mut WordNet, width: u32, k: u32) -> Result<Signal, AllocError>
@@ -29,8 +29,8 @@ fn excess(net: &mut WordNet, width: u32, k: u32) -> Result<Signal, AllocError>
 fn output(net: &mut WordNet, width: u32, k: u128) -> Result<Signal, AllocError>
     requires start { net.old ≡ started (width + width) }
     requires narrow { width ≤ 64 }
-    ensures ok { OnOk result (net.new ≡ (quality ham width k).net) }
-    ensures signal { IfOk result (λ s. s ≡ (quality ham width k).signal) }
+    ensures ok { OnOk result (net.new ≡ (quality Ham width k).net) }
+    ensures signal { IfOk result (λ s. s ≡ (quality Ham width k).signal) }
     ensures within { IfOk result (λ s. s < signals net.new) }
 {
     if k >= width as u128 {
@@ -43,8 +43,8 @@ fn output(net: &mut WordNet, width: u32, k: u128) -> Result<Signal, AllocError>
 /// The net whose output says whether two words of so many bits differ in more than `k` of them.
 pub fn quality(alloc: Global, width: u32, k: u128) -> Result<Net, AllocError>
     requires { width ≤ 64 }
-    ensures net { IfOk result (λ n. n ≡ quality_net ham width k) }
-    ensures tells { IfOk result (λ n. TellsExcess ham width k n) }
+    ensures net { IfOk result (λ n. n ≡ quality_net Ham width k) }
+    ensures tells { IfOk result (λ n. TellsExcess Ham width k n) }
 {
     let mut net = WordNet::new(alloc, width + width)?;
     let output = output(&mut net, width, k)?;

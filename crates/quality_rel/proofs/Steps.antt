@@ -1,7 +1,7 @@
 -- The steps of the network, and the test of its level.
 use Rattle.std.proofs.Common.{◌≡◌, ℕ, ◌+◌, ◌-◌, ◌*◌, ◌%◌, ◌^◌, ◌<◌, ◌≤◌, List, refl, arith}
 use Rattle.std.proofs.Math.Nat.{pow-le-pow_right}
-use Rattle.semantics.specs.Error.{rel}
+use Rattle.semantics.specs.declared.metric.Metric.TheVariants.{Rel}
 use Rattle.quality_semantics.specs.WordNets.{WordNetValue, started}
 use Rattle.quality_semantics.specs.Buses.{exceed, times, not_zero_low}
 use Rattle.quality_semantics.specs.Quality.{exact_bus, approximate_bus, relative_excess, no_excess, quality}
@@ -16,8 +16,8 @@ relative_from w k W M X Y Z e a m x y z hW he ha hM hm hX hx hY hy hZ hz = rw (h
 most : (w : ℕ) → w ≤ 64 → ((1 * 2 ^ w) % 2 ^ 128 - 1) * 1000000 ≡ (2 ^ w - 1) * 1000000
 most w narrow = let few : 2 ^ w ≤ 2 ^ 64 = pow-le-pow_right (omega arith) narrow in omega (arith, few)
 
-pub no_excess_from : (w k : ℕ) → w ≤ 64 → ((1 * 2 ^ w) % 2 ^ 128 - 1) * 1000000 ≤ k → quality rel w k ≡ no_excess w
-no_excess_from w k narrow high = quality_zero rel w k (rw (← most w narrow) high)
+pub no_excess_from : (w k : ℕ) → w ≤ 64 → ((1 * 2 ^ w) % 2 ^ 128 - 1) * 1000000 ≤ k → quality Rel w k ≡ no_excess w
+no_excess_from w k narrow high = quality_zero Rel w k (rw (← most w narrow) high)
 
-pub excess_from : (w k : ℕ) → w ≤ 64 → k < ((1 * 2 ^ w) % 2 ^ 128 - 1) * 1000000 → quality rel w k ≡ relative_excess w k
-excess_from w k narrow low = quality_excess rel w k (rw (← most w narrow) low)
+pub excess_from : (w k : ℕ) → w ≤ 64 → k < ((1 * 2 ^ w) % 2 ^ 128 - 1) * 1000000 → quality Rel w k ≡ relative_excess w k
+excess_from w k narrow low = quality_excess Rel w k (rw (← most w narrow) low)

@@ -2,14 +2,14 @@
 #![tactic(auto)]
 
 ghost use Rattle.std.specs.Prelude.{◌≡◌, ◌+◌, ◌-◌, ◌*◌, ◌^◌, ◌≤◌, ◌<◌, [], ◌∷◌, IfOk, OnOk};
-ghost use Rattle.semantics.specs.Error.{rel};
+ghost use Rattle.semantics.specs.declared.metric.Metric.TheVariants.{Rel};
 ghost use Rattle.quality_semantics.specs.WordNets.{started, signals};
 ghost use Rattle.quality_semantics.specs.Quality.{quality, quality_net, relative_excess, TellsExcess};
 
-use net_core::items::Signal;
+use bus_nets::word_net::WordNet;
 use net_core::net::Net;
+use net_parts::items::Signal;
 use std::alloc::{AllocError, Global};
-use word_nets::word_net::WordNet;
 
 /// The parts of the unit.
 const MILLION: u128 = 1_000_000;
@@ -36,8 +36,8 @@ fn excess(net: &mut WordNet, width: u32, k: u128) -> Result<Signal, AllocError>
 fn output(net: &mut WordNet, width: u32, k: u128) -> Result<Signal, AllocError>
     requires start { net.old ≡ started (width + width) }
     requires narrow { width ≤ 64 }
-    ensures ok { OnOk result (net.new ≡ (quality rel width k).net) }
-    ensures signal { IfOk result (λ s. s ≡ (quality rel width k).signal) }
+    ensures ok { OnOk result (net.new ≡ (quality Rel width k).net) }
+    ensures signal { IfOk result (λ s. s ≡ (quality Rel width k).signal) }
     ensures within { IfOk result (λ s. s < signals net.new) }
 {
     if k >= ((1u128 << width) - 1) * MILLION {
@@ -50,8 +50,8 @@ fn output(net: &mut WordNet, width: u32, k: u128) -> Result<Signal, AllocError>
 /// The net whose output says whether the relative error of two words of so many bits exceeds `k`.
 pub fn quality(alloc: Global, width: u32, k: u128) -> Result<Net, AllocError>
     requires { width ≤ 64 }
-    ensures net { IfOk result (λ n. n ≡ quality_net rel width k) }
-    ensures tells { IfOk result (λ n. TellsExcess rel width k n) }
+    ensures net { IfOk result (λ n. n ≡ quality_net Rel width k) }
+    ensures tells { IfOk result (λ n. TellsExcess Rel width k n) }
 {
     let mut net = WordNet::new(alloc, width + width)?;
     let output = output(&mut net, width, k)?;

@@ -49,7 +49,7 @@ product_step true false n = omega arith
 product_step false true n = omega arith
 product_step false false n = omega arith
 
-products_number : (v : Assignment) (W : WordNetValue) (b : ℕ) (xs : List ℕ) → Fits v (products W b xs).net → number v (products W b xs).bus ≡ bit_number (v b) * number v xs
+pub products_number : (v : Assignment) (W : WordNetValue) (b : ℕ) (xs : List ℕ) → Fits v (products W b xs).net → number v (products W b xs).bus ≡ bit_number (v b) * number v xs
 products_number v W b [] h = omega arith
 products_number v W b (x ∷ xs) h =
     let next = appended W (and2 x b) in

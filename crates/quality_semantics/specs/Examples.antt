@@ -1,11 +1,11 @@
 -- Worked examples, computed from the definitions. Their counts and outputs are those of a program that was written apart from them.
-use Rattle.std.specs.Prelude.{◌≡◌, ℕ, ◌+◌, List, [], ◌∷◌, map, length, take, codes}
+use Rattle.std.specs.Prelude.{◌≡◌, ℕ, ◌+◌, List, [], ◌∷◌, map, length, take, drop, codes}
 use Rattle.std.specs.List.{range_with_len}
-use Rattle.semantics.specs.Net.{TableValue, row_count}
+use Rattle.semantics.specs.Net.{TableValue, table_at, row_count}
 use Rattle.semantics.specs.declared.metric.Metric.TheVariants.{Abs, Rel, Ham, Sabs}
 use Rattle.semantics.specs.Blif.{blif_text}
 use Rattle.semantics.specs.Examples.{text, half_adder, constant_sum, wire}
-use Rattle.quality_semantics.specs.Forms.{Form, zero_form, one_form, or2, xor2, xor3, maj, gt, grow, low, inv}
+use Rattle.quality_semantics.specs.Forms.{Form, zero_form, one_form, or2, xor2, xor3, maj, gt, grow, low, inv, and2}
 use Rattle.quality_semantics.specs.WordNets.{table_of, started}
 use Rattle.quality_semantics.specs.Buses.{binary, constant, add, times, not_zero_low, flip_top, at_least}
 use Rattle.quality_semantics.specs.Multiply.{product_rows, sum_of_rows, multiplier, multiplier_net}
@@ -16,6 +16,13 @@ use Rattle.quality_semantics.specs.Joint.{joint_net}
 abbrev pub numbered : ℕ → List Form → List TableValue
 numbered i [] = []
 numbered i (f ∷ forms) = table_of i f ∷ numbered (i + 1) forms
+
+-- some of the tables, each with its place; and tables of these forms at these places
+abbrev pub chosen : List TableValue → List ℕ → List TableValue
+chosen tables places = map (table_at tables) places
+
+abbrev pub placed : List (ℕ × Form) → List TableValue
+placed forms = map (λ p. table_of p.0 p.1) forms
 
 pub record AbsoluteExamples : Type 0 where
   -- over the inputs e, 0, and a, 1: the tables stand from signal 2 on
@@ -29,6 +36,10 @@ pub record AbsoluteExamples : Type 0 where
   pub million : length (binary 1000000) ≡ 20
   pub constants : (constant (started 4) 0 ≡ []) × (constant (started 4) 6 ≡ 4 ∷ 5 ∷ 5 ∷ [])
   pub empty_sum : (add (started 4) [] []).bus ≡ 4 ∷ []
+  pub names : map (λ t. t.name) (drop 8 (quality Abs 1 0).net.tables) ≡ codes "t8" ∷ codes "t9" ∷ codes "t10" ∷ []
+  pub never_text :
+      blif_text (quality_net Abs 1 1)
+      ≡ text (codes ".model word" ∷ codes ".inputs x0 x1" ∷ codes ".outputs t0" ∷ codes ".names t0" ∷ codes ".names t1" ∷ codes "1" ∷ codes ".end" ∷ [])
 
 pub record OtherExamples : Type 0 where
   -- whether the bits 0 and 1 differ, and whether that was so at least once
@@ -44,6 +55,15 @@ pub record OtherExamples : Type 0 where
   pub relative_tables : (length (quality Rel 1 0).net.tables ≡ 382) × ((quality Rel 1 0).signal ≡ 383)
   pub relative_rows : row_count (quality_net Rel 1 0) ≡ 1301
   pub relative_half : (length (quality Rel 1 500000).net.tables ≡ 492) × (row_count (quality_net Rel 1 500000) ≡ 1686)
+  -- At level 3, over the inputs e, 0, and a, 1, with the constants 2 and 3: table 2, signal 4, is e or 1; then e a million times, whose
+  -- bit 6 is signal 77; a a million times, whose bit 6 is signal 187; table 2 three times; and at bit 6 of the last step each sum and
+  -- comparison with its operands in order.
+  pub relative_operands :
+      chosen (quality Rel 1 3).net.tables (2 ∷ 3 ∷ 5 ∷ 75 ∷ 113 ∷ 115 ∷ 185 ∷ 223 ∷ 225 ∷ 227 ∷ 239 ∷ 285 ∷ 318 ∷ 364 ∷ 385 ∷ [])
+      ≡ placed ((2, low 0 []) ∷ (3, xor3 2 0 2) ∷ (5, xor3 0 2 6) ∷ (75, xor3 2 0 2) ∷ (113, xor3 2 1 2) ∷ (115, xor3 1 2 116) ∷ (185, xor3 2 1 2)
+      ∷ (223, xor3 2 4 2) ∷ (225, xor3 4 2 226) ∷ (227, xor3 2 225 2) ∷ (239, xor3 187 2 240) ∷ (285, gt 77 241 286) ∷ (318, xor3 77 2 319)
+      ∷ (364, gt 187 320 365) ∷ (385, or2 307 386) ∷ [])
+  pub relative_counts : (length (quality Rel 1 3).net.tables ≡ 386) × (row_count (quality_net Rel 1 3) ≡ 1315)
   pub never_relative : quality Rel 1 1000000 ≡ record { net = started 2; signal = 2 }
   pub not_zero : (not_zero_low (started 4) (0 ∷ 1 ∷ [])).bus ≡ 6 ∷ 1 ∷ []
   pub tripled : (times (started 4) (0 ∷ 1 ∷ []) 3).bus ≡ 6 ∷ 8 ∷ 10 ∷ 11 ∷ []
@@ -73,7 +93,16 @@ sum_width w k =
 pub record MultiplierExamples : Type 0 where
   pub tables : (length (multiplier 1).net.tables ≡ 3) × (length (multiplier 2).net.tables ≡ 12) × (length (multiplier 4).net.tables ≡ 54)
   pub bits : (length (multiplier 1).bus ≡ 1) × (length (multiplier 2).bus ≡ 4) × (length (multiplier 4).bus ≡ 8)
+  -- over the inputs 0 and 1, the first word, and 2 and 3, the second: a row of products for each bit of the second, and their sum
+  pub two_bits :
+      (multiplier 2).net.tables
+      ≡ numbered 0 (zero_form ∷ one_form ∷ and2 0 2 ∷ and2 1 2 ∷ and2 0 3 ∷ and2 1 3
+      ∷ xor3 6 4 4 ∷ maj 6 4 4 ∷ xor3 7 8 11 ∷ maj 7 8 11 ∷ xor3 4 9 13 ∷ maj 4 9 13 ∷ [])
   pub outputs : (multiplier_net 2).outputs ≡ 10 ∷ 12 ∷ 14 ∷ 15 ∷ []
+  pub one_bit_text :
+      blif_text (multiplier_net 1)
+      ≡ text (codes ".model word" ∷ codes ".inputs x0 x1" ∷ codes ".outputs t2" ∷ codes ".names t0" ∷ codes ".names t1" ∷ codes "1"
+      ∷ codes ".names x0 x1 t2" ∷ codes "11 1" ∷ codes ".end" ∷ [])
   pub widths_of_four : map (sum_width 4) (1 ∷ 2 ∷ 3 ∷ 4 ∷ []) ≡ 4 ∷ 6 ∷ 7 ∷ 8 ∷ []
   pub widths_of_five : map (sum_width 5) (1 ∷ 2 ∷ 3 ∷ 4 ∷ 5 ∷ []) ≡ 5 ∷ 7 ∷ 8 ∷ 9 ∷ 10 ∷ []
 

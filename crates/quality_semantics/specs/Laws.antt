@@ -21,7 +21,7 @@ pub record Fits (v : Assignment) (W : WordNetValue) : Type 0 where
 abbrev pub number : Assignment → List ℕ → ℕ
 number v bus = number_of (map v bus)
 
--- Each bus has its number at every assignment that fits the network; tables that are appended later change nothing of that.
+-- Each bus has its number at every assignment that fits the network after the call, and so at every one that fits a later network (`FitsLaw`).
 pub record BusLaw : Type 0 where
   pub input : (W : WordNetValue) (x : List Bool) (from width : ℕ) → IsWordNet W → length x ≡ W.inputs → from + width ≤ W.inputs
       → map (value_of W.inputs W.tables x) (range_with_len from width) ≡ take width (drop from x)
@@ -74,7 +74,7 @@ pub record MultiplierLaw : Type 0 where
 
 -- The joint net of two nets that can be compared, with every metric and level: it is acyclic over the exact net's inputs, each signal of the two
 -- nets and of the quality network keeps its value where it now stands, and the one output says whether the error of the outputs exceeds k.
--- It is sound where its names, which have decimal numbers, are short.
+-- It is sound where it has fewer than 2 ^ 31 signals.
 pub record JointLaw : Type 0 where
   pub comparable : (N M : NetValue) → IsSound N → IsSound M → HasSamePorts N M → AreComparable N M
   pub inputs : (N M : NetValue) (metric : Metric) (k : ℕ) → input_count (joint_net N M metric k) ≡ input_count N

@@ -1,12 +1,15 @@
--- Files that tell nothing but the count of their faults.
+-- Files that tell nothing but the count of their faults, the name that is open and the read turns.
 use Rattle.std.specs.Prelude.{ℕ, Option, None, IfSome, IsSomeAnd, false}
+use Rattle.history.specs.declared.reads.Reads.{Reads}
 use Rattle.outside_semantics.specs.Outside.{FilesTold}
 
-abbrev pub untold : ℕ → FilesTold
-untold faults = record {
+abbrev pub untold : ℕ → Reads → FilesTold
+untold faults reads = record {
   held = None;
   reading = None;
   writing = None;
+  opened = reads.opened;
+  turns = reads.turns;
   faults = faults;
   steady_read = λ _. false;
   steady_write = λ _. false;

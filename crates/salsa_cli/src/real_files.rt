@@ -1,4 +1,5 @@
-//! The files of the operating system. They tell nothing but the count of their faults.
+//! The files of the operating system. They tell the count of their faults, the name that is open and the read turns, and nothing
+//! else.
 ghost use Rattle.std.specs.Prelude.{◌≡◌, ◌<◌, ◌≤◌, true, [], None, length, take, IsErr, IfOk, OnErr};
 ghost use Rattle.std.specs.Fs.{new_options, with_write, with_create, with_truncate};
 ghost use Rattle.std.specs.Io.KnownBytes.{Appends, Consumes, IsAtEnd};
@@ -8,6 +9,8 @@ ghost use Rattle.salsa_cli.specs.Untold.{untold, WhereOpen};
 use crate::counted::{fault, read_some, write_some};
 use file_core::fault::FileFault;
 use file_core::files::Files;
+use file_core::turns::count_read;
+use history::reads::Reads;
 use std::fs::OpenOptions;
 use std::{fs, rt};
 
@@ -18,17 +21,21 @@ pub struct RealFiles<'a, R: rt::Files> {
     reading: Option<R::File>,
     writing: Option<R::File>,
     faults: u64,
+    reads: Reads,
 }
 
 impl<'a, R: rt::Files> RealFiles<'a, R> {
     pub fn new(runtime: &'a R) -> Self
-        ensures { result.faults ≡ 0 }
+        ensures faults { result.faults ≡ 0 }
+        ensures closed { (result.reading ≡ None) × (result.writing ≡ None) }
+        ensures no_turn { (result.reads.opened ≡ None) × (result.reads.turns ≡ []) }
     {
         RealFiles {
             runtime,
             reading: None,
             writing: None,
             faults: 0,
+            reads: Reads::new(),
         }
     }
 }
@@ -43,16 +50,18 @@ fn options_of_create() -> OpenOptions
 }
 
 impl<R: rt::Files> Files for RealFiles<'_, R> {
-    ghost told = { λ s. untold s.faults };
+    ghost told = { λ s. untold s.faults s.reads };
 
     fn open_file(&mut self, name: &[u8]) -> Result<(), FileFault> {
         self.reading = None;
+        self.reads = self.reads.close();
         let Ok(path) = str::from_utf8(name) else {
             return Err(fault(&mut self.faults));
         };
         match fs::open(self.runtime, path) {
             Ok(file) => {
                 self.reading = Some(file);
+                self.reads = self.reads.open(name);
                 Ok(())
             }
             Err(_) => Err(fault(&mut self.faults)),
@@ -62,9 +71,9 @@ impl<R: rt::Files> Files for RealFiles<'_, R> {
     fn read(&mut self, buffer: &mut [u8]) -> Result<usize, FileFault>
         ensures within { IfOk result (λ n. n ≤ length buffer.new) }
         ensures ok { IfOk result
-            (λ n. Gave (untold self.old.faults) (untold self.new.faults) n buffer.new) }
+            (λ n. Gave (untold self.old.faults self.old.reads) (untold self.new.faults self.new.reads) n buffer.new) }
         ensures err { OnErr result
-            (ReadFailed (untold self.old.faults) (untold self.new.faults)) }
+            (ReadFailed (untold self.old.faults self.old.reads) (untold self.new.faults self.new.reads)) }
         ensures closed { self.old.reading ≡ None → IsErr result }
         ensures bytes { IfOk result (λ n. WhereOpen self.old.reading self.new.reading
             (λ a b. Consumes (R.File.remaining a) (R.File.remaining b) (take n buffer.new))) }
@@ -72,7 +81,11 @@ impl<R: rt::Files> Files for RealFiles<'_, R> {
             → WhereOpen self.old.reading self.new.reading (λ _ b. IsAtEnd (R.File.remaining b))) }
     {
         match &mut self.reading {
-            Some(file) => read_some(file, buffer, &mut self.faults),
+            Some(file) => {
+                let count = read_some(file, buffer, &mut self.faults)?;
+                count_read(&mut self.reads, buffer.len(), count);
+                Ok(count)
+            }
             None => Err(fault(&mut self.faults)),
         }
     }
@@ -95,9 +108,9 @@ impl<R: rt::Files> Files for RealFiles<'_, R> {
         ensures within { IfOk result (λ n. n ≤ length piece.now) }
         ensures progress { IfOk result (λ n. 0 < length piece.now → 0 < n) }
         ensures ok { IfOk result
-            (λ n. Wrote (untold self.old.faults) (untold self.new.faults) (take n piece.now)) }
+            (λ n. Wrote (untold self.old.faults self.old.reads) (untold self.new.faults self.new.reads) (take n piece.now)) }
         ensures err { OnErr result
-            (WriteFailed (untold self.old.faults) (untold self.new.faults) []) }
+            (WriteFailed (untold self.old.faults self.old.reads) (untold self.new.faults self.new.reads) []) }
         ensures closed { self.old.writing ≡ None → IsErr result }
         ensures bytes { IfOk result (λ n. WhereOpen self.old.writing self.new.writing
             (λ a b. Appends (R.File.contents a) (R.File.contents b) (take n piece.now))) }

@@ -26,11 +26,11 @@ none_if true x rest none = absurd (none-some x (sym none))
 -- ---- doubled names
 
 -- whether a name stands at some place
-Decides-has_name : (names : List Bytes) (word : Bytes) → Decides (has_name names word) ((k : ℕ) × (k < length names) × HoldsAt (λ name. word ≡ name) names k)
+pub Decides-has_name : (names : List Bytes) (word : Bytes) → Decides (has_name names word) ((k : ℕ) × (k < length names) × HoldsAt (λ name. word ≡ name) names k)
 Decides-has_name names word = Decides-by_or (bytes_eq word) (λ name. word ≡ name) (list_any (bytes_eq word)) (bytes_eq-Decides word) refl (λ x xs. refl) names
 
 -- a name that stands nowhere is other than each
-apart_from : (names : List Bytes) (word : Bytes) → has_name names word ≡ false → (k : ℕ) (d : Bytes) → k < length names → get_or names k d ≢ word
+pub apart_from : (names : List Bytes) (word : Bytes) → has_name names word ≡ false → (k : ℕ) (d : Bytes) → k < length names → get_or names k d ≢ word
 apart_from names word none k d within e =
     true≢false (sym ((Decides-has_name names word).1 (k, within, λ c. sym (get_or_default names k c d within ∙ e))) ∙ none)
 
@@ -183,7 +183,7 @@ first-ungrounded n tables i f =
 not_passed : {X : Type 0} (kept : Bool) (refused : X) (rest : Option X) → cond (not kept) (Some refused) rest ≡ None → (kept ≡ true) × (rest ≡ None)
 not_passed kept refused rest none = let here = none_if (not kept) refused rest none in (not-false kept here.0, here.1)
 
-Decides-narrow : (tables : List TableValue) → Decides (list_all (λ t. leb (length t.pins) MOST_TABLE_PINS) tables) (All (λ t. length t.pins ≤ MOST_TABLE_PINS) tables)
+pub Decides-narrow : (tables : List TableValue) → Decides (list_all (λ t. leb (length t.pins) MOST_TABLE_PINS) tables) (All (λ t. length t.pins ≤ MOST_TABLE_PINS) tables)
 Decides-narrow tables =
     Decides-by_and (λ t. leb (length t.pins) MOST_TABLE_PINS) (λ t. length t.pins ≤ MOST_TABLE_PINS) (list_all (λ t. leb (length t.pins) MOST_TABLE_PINS)) (λ t. (leb-true (length t.pins) MOST_TABLE_PINS, le-leb (length t.pins) MOST_TABLE_PINS)) refl (λ t ts. refl) tables
 

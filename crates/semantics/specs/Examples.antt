@@ -254,6 +254,7 @@ pub record RefusalExamples : Type 0 where
   pub then_no_output : net_refusal (faulty (codes "x") [] 9 3 257) ≡ Some no_output
   pub then_undriven : net_refusal (faulty (codes "x") (8 ∷ []) 9 3 257) ≡ Some (undriven 9)
   pub then_undriven_output : net_refusal (faulty (codes "x") (8 ∷ []) 0 3 257) ≡ Some (undriven 8)
+  pub first_of_two_undriven : net_refusal (faulty (codes "x") (8 ∷ []) 9 7 257) ≡ Some (undriven 9)
   pub then_cycle : net_refusal (faulty (codes "x") (1 ∷ []) 0 3 257) ≡ Some (cycle 3)
   pub then_limit : net_refusal (faulty (codes "x") (1 ∷ []) 0 2 257) ≡ Some (limit which.Pins)
   pub then_none : net_refusal (faulty (codes "x") (1 ∷ []) 0 2 256) ≡ None

@@ -9,7 +9,8 @@ use Rattle.semantics.specs.Embedding.{IsEmbedded}
 use Rattle.semantics.specs.Order.{IsKnown, IsNext, IsOrderAfter, IsOrderOf}
 use Rattle.semantics.specs.Copies.{IsCopiedBehind}
 use Rattle.semantics.specs.Renamed.{renamed, redirect, raised, without}
-use Rattle.semantics.specs.Refusals.{first_doubled, first_undriven, first_ungrounded, IsFirstUngrounded, first_limit, net_refusal}
+use Rattle.semantics.specs.Refusals.{first_doubled, first_undriven, first_ungrounded, IsFirstUngrounded, first_limit, NetRefused, net_refusal}
+use Rattle.semantics.specs.RefusalOrder.{IsTold}
 use Rattle.semantics.specs.Value.{Assignment, table_value, value_of, HasOneValue}
 use Rattle.semantics.specs.declared.metric.Metric.{Metric}
 use Rattle.semantics.specs.declared.metric.Metric.TheVariants.{Abs, Rel, Ham, Sabs}
@@ -31,7 +32,7 @@ pub record VectorLaw : Type 0 where
   pub place : (n : ℕ) (x : List Bool) → length x ≡ n → number_of x < 2 ^ n
   pub each : (n : ℕ) (x : List Bool) → length x ≡ n → slice_get (all_vectors n) (number_of x) ≡ Some x
 
--- The least number of so many bits in two's complement is that of a 1 behind zeros, and the greatest that of a 0 behind ones.
+-- words of zeros and of ones
 abbrev pub zeros : ℕ → List Bool
 zeros width = replicate width false
 
@@ -60,7 +61,7 @@ pub record SignedLaw : Type 0 where
   pub flipped_error : (e a : List Bool) → length e ≡ length a → error_of Sabs e a ≡ error_of Abs (sign_flipped e) (sign_flipped a)
   pub naturals : (e a : List Bool) → error_of Sabs e a ≡ distance (number_of e + sign_weight a) (number_of a + sign_weight e)
 
--- a number is written as one decimal word, and no other decimal word reads as that number
+-- a number of at most 64 digits is written as one decimal word, and no other decimal word reads as that number
 pub record NumeralLaw : Type 0 where
   pub decimal_word : (n : ℕ) → n < 10 ^ 64 → is_decimal (decimal n) ≡ true
   pub number : (n : ℕ) → n < 10 ^ 64 → digits_number (decimal n) ≡ n
@@ -85,7 +86,7 @@ pub record ReplacedLaw : Type 0 where
   pub new : (n : ℕ) (tables : List TableValue) (t : ℕ) (new : TableValue) (x : List Bool) → IsAcyclic n tables → IsAcyclic n (replaced tables t new)
       → t < length tables → value_of n (replaced tables t new) x (n + t) ≡ table_value new (value_of n tables x)
 
--- no table depends on itself, and replacing a table changes nothing of what depends on it
+-- no pin of a table depends on that table, and what depends on a table depends on whatever stands in its place
 pub record DependenceLaw : Type 0 where
   pub no_cycle : (n : ℕ) (tables : List TableValue) (t : ℕ) → IsAcyclic n tables → t < length tables
       → (p : ℕ) → Contains (table_at tables t).pins p → ¬ DependsOn n tables t p
@@ -149,7 +150,8 @@ pub record WithoutLaw : Type 0 where
       → ((i : ℕ) → i < length tables → ¬ Contains (table_at tables i).pins (n + t))
       → (x : List Bool) (s : ℕ) → s + 1 < n + length tables → value_of n tables x (raised (n + t) s) ≡ value_of n (without n tables t) x s
 
--- each refusal is absent exactly where what it refuses is, and all of them exactly where well-formed parts are a small sound net
+-- Each refusal is absent exactly where what it refuses is, and all of them exactly where well-formed parts are a small sound net. The one
+-- that is told holds, and none that stands before it.
 pub record RefusalLaw : Type 0 where
   pub undoubled : (names : List Bytes) → (first_doubled names ≡ None) ↔ AllPairs ◌≢◌ names
   pub driven : (N : NetValue)
@@ -157,4 +159,5 @@ pub record RefusalLaw : Type 0 where
   pub grounded : (n : ℕ) (tables : List TableValue) → (first_ungrounded n tables ≡ None) ↔ IsAcyclic n tables
   pub ungrounded : (n : ℕ) (tables : List TableValue) (i : ℕ) → (first_ungrounded n tables ≡ Some i) ↔ IsFirstUngrounded n tables i
   pub small : (N : NetValue) → (first_limit N ≡ None) ↔ IsSmall N
+  pub told : (N : NetValue) (r : NetRefused) → net_refusal N ≡ Some r → IsTold N r
   pub whole : (N : NetValue) → IsName N.model → All IsName N.inputs → All IsTable N.tables → (net_refusal N ≡ None) ↔ (IsSound N × IsSmall N)

@@ -10,6 +10,7 @@ pub mod Embedding
 pub mod Copies
 pub mod Renamed
 pub mod Refusals
+pub mod RefusalOrder
 pub mod Error
 pub mod Vectors
 pub mod Blif

@@ -35,7 +35,7 @@ is_grounded_in n tables (suc steps) s =
 abbrev pub is_ungrounded : ℕ → List TableValue → ℕ → Bool
 is_ungrounded n tables i = not (is_grounded_in n tables (length tables) (n + i))
 
--- the first table that depends on itself or on a table that does (`IsFirstUngrounded`)
+-- the first table that is not grounded (`IsFirstUngrounded`)
 unfoldable pub first_ungrounded : ℕ → List TableValue → Option ℕ
 first_ungrounded n tables = position (is_ungrounded n tables) (range_with_len 0 (length tables))
 

@@ -29,7 +29,7 @@ pub record IsConsistent (n : ℕ) (tables : List TableValue) (x : List Bool) (v 
   pub input : (s : ℕ) → s < n → v s ≡ slice_index_or x s false
   pub table : (i : ℕ) → i < length tables → v (n + i) ≡ table_value (table_at tables i) v
 
--- All signals from the values before. After as many rounds as there are tables, and one, nothing changes any more (`HasOneValue`).
+-- All signals from the values before. As many rounds as there are acyclic tables, and one, give each signal its value (`ValueLaw`).
 abbrev pub round : ℕ → List TableValue → List Bool → Assignment → Assignment
 round n tables x v s = if nat_lt s n then slice_index_or x s false else table_value (table_at tables (s - n)) v
 

@@ -56,7 +56,7 @@ pub fn without_table()
     ensures { WithoutLaw }
 {}
 
-/// What is not refused.
+/// What is refused, and which refusal is told.
 pub fn refusals()
     ensures { RefusalLaw }
 {}

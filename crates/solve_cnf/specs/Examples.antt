@@ -1,9 +1,8 @@
 -- Worked examples, computed from the definitions.
 use Rattle.std.specs.Prelude.{◌≡◌, ℕ, true, false, List, [], ◌∷◌, ◌++◌, codes, pos, None, Some, Result, Ok, Err}
 use Rattle.semantics.specs.Texts.{Bytes}
-use Rattle.semantics.specs.Examples.{text}
+use Rattle.semantics.specs.Examples.{text, minus}
 use Rattle.proof_semantics.specs.Clauses.{Clause}
-use Rattle.proof_semantics.specs.Examples.{minus}
 use Rattle.proof_semantics.specs.Formula.{Formula, dimacs_text}
 use Rattle.proof_semantics.specs.declared.item.Item.TheVariants.{Add}
 use Rattle.cdcl_core.specs.declared.answer.Answer.TheVariants.{Model, Refuted, Spent}

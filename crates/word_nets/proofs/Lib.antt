@@ -1,4 +1,1 @@
-pub mod Steps
-pub mod Times
-pub mod Parts
 pub mod Multiplying

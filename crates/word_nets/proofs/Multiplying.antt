@@ -1,11 +1,19 @@
 -- How the array multiplier grows, step by step.
-use Rattle.std.proofs.Common.{◌≡◌, ℕ, zero, suc, ◌+◌, ◌<◌, ◌≤◌, List, [], ◌∷◌, ◌++◌, length, drop, replicate, All, refl, sym, subst, arith}
+use Rattle.std.proofs.Common.{◌≡◌, ℕ, zero, suc, ◌+◌, ◌*◌, ◌<◌, ◌≤◌, List, [], ◌∷◌, ◌++◌, length, drop, replicate, All, append-nil, refl, ap, sym, subst, ◌∙◌, arith}
 use Rattle.std.specs.List.{range_with_len}
+use Rattle.std.proofs.lemmas.List.{drop_all}
+use Rattle.semantics.specs.Error.{bit_number}
 use Rattle.quality_semantics.specs.WordNets.{WordNetValue, signals, started, net_of, BeginsWith, AreSignalsOf}
 use Rattle.quality_semantics.specs.Buses.{places, adders, add}
 use Rattle.quality_semantics.specs.Multiply.{products, product_rows, sum_rows, sum_of_rows, multiplier, multiplier_net, Multiplies}
 use Rattle.semantics.specs.Net.{NetValue}
-use Rattle.quality_semantics.proofs.Multiply.{multiplier_multiplies}
+use Rattle.quality_semantics.proofs.Growth.{begins_after as begins_through}
+use Rattle.quality_semantics.specs.Laws.{Fits, number}
+use Rattle.quality_semantics.proofs.Multiply.{multiplier_multiplies, products_number}
+use Rattle.bus_nets.specs.Numbers.{HasNumber}
+
+pub begins_after : (W V U : WordNetValue) → BeginsWith U V → BeginsWith V W → BeginsWith U W
+begins_after = begins_through
 
 -- partial products are being appended, and the first i are done
 pub record MakingProducts (start now : WordNetValue) (b : ℕ) (xs bits : List ℕ) (i : ℕ) : Type 0 where
@@ -14,6 +22,16 @@ pub record MakingProducts (start now : WordNetValue) (b : ℕ) (xs bits : List �
   pub bits_in : AreSignalsOf now bits
   pub net : (products now b (drop i xs)).net ≡ (products start b xs).net
   pub bus : bits ++ (products now b (drop i xs)).bus ≡ (products start b xs).bus
+
+pub products_has : (W V : WordNetValue) (b : ℕ) (x bus : List ℕ) → V ≡ (products W b x).net → bus ≡ (products W b x).bus → HasNumber V bus (λ v. bit_number (v b) * number v x)
+products_has W V b x bus net e = record { at = λ v fits. ap (number v) e ∙ products_number v W b x (subst (Fits v) net fits) }
+
+pub making_has : (start now : WordNetValue) (b : ℕ) (x y bits : List ℕ) (i : ℕ) → MakingProducts start now b x bits i → length x ≤ i → x ≡ y → HasNumber now bits (λ v. bit_number (v b) * number v y)
+making_has start now b x y bits i h past same =
+    let none = drop_all i x past in
+    let net : now ≡ (products start b x).net = ap (λ r. (products now b r).net) (sym none) ∙ h.net in
+    let is : bits ≡ (products start b x).bus = sym (append-nil bits) ∙ ap (λ r. bits ++ (products now b r).bus) (sym none) ∙ h.bus in
+    subst (λ z. HasNumber now bits (λ v. bit_number (v b) * number v z)) same (products_has start now b x bits net is)
 
 -- rows of partial products are being appended, and the first i are done
 pub record MakingRows (start now : WordNetValue) (xs ys : List ℕ) (rows : List (List ℕ)) (i : ℕ) : Type 0 where

@@ -1,7 +1,6 @@
-//! Arithmetic networks on buses: adders, comparators, products with constants, counters. Each call appends the tables of its definition.
+//! Networks on buses, and the array multiplier that is made from them.
 #![tactic(auto)]
 
-pub mod bus;
-mod forms;
 pub mod multiplier;
-pub mod word_net;
+
+pub use bus_nets::{bus, word_net};

@@ -1,12 +1,16 @@
 //! The array multiplier: all partial products, and then their sum, row after row.
-ghost use Rattle.std.specs.Prelude.{◌≡◌, ◌+◌, ◌<◌, ◌≤◌, ◌++◌, length, replicate, All, IfOk, OnOk};
+ghost use Rattle.std.specs.Prelude.{◌≡◌, ◌+◌, ◌*◌, ◌<◌, ◌≤◌, ◌++◌, length, replicate, All, IfOk, OnOk};
 ghost use Rattle.quality_semantics.specs.WordNets.{signals, BeginsWith, AreSignalsOf};
-ghost use Rattle.quality_semantics.specs.Multiply.{product_rows, sum_of_rows, multiplier_net, Multiplies};
+ghost use Rattle.quality_semantics.specs.Multiply.{products, product_rows, sum_of_rows, multiplier_net, Multiplies};
+ghost use Rattle.semantics.specs.Error.{bit_number};
+ghost use Rattle.quality_semantics.specs.Laws.{number};
+ghost use Rattle.bus_nets.specs.Numbers.{HasNumber};
 
-use crate::bus::{Bus, repeated};
-use crate::word_net::WordNet;
-use net_core::items::{Items, Signal};
+use bus_nets::bus::{Bus, repeated};
+use bus_nets::word_net::WordNet;
 use net_core::net::Net;
+use net_parts::items::{Items, Signal};
+use net_parts::mark::Mark;
 use std::alloc::{AllocError, Global};
 
 /// The bus, doubled so many times: that many times the signal of 0 in front.
@@ -18,8 +22,31 @@ fn doubled(alloc: Global, zero: Signal, times: usize, bus: &Bus) -> Result<Bus, 
     Ok(doubled)
 }
 
+/// The rows of a conjunction.
+const AND2: [[Mark; 2]; 1] = [[Mark::One, Mark::One]];
+
+/// Each bit of a bus, and one more bit.
+#[tactic(auto, using(crate::proofs::Multiplying::begins_after))]
+fn products(alloc: Global, net: &mut WordNet, bit: Signal, x: &Bus) -> Result<Bus, AllocError>
+    requires bit_in { bit < signals net.old }
+    requires x_in { AreSignalsOf net.old x.now }
+    ensures more { signals net.old ≤ signals net.new }
+    ensures within { IfOk result (λ bus. AreSignalsOf net.new bus) }
+    ensures ok { OnOk result (net.new ≡ (products net.old bit x.now).net) }
+    ensures bus { IfOk result (λ bus. bus ≡ (products net.old bit x.now).bus) }
+    ensures number { IfOk result (λ bus. HasNumber net.new bus (λ v. bit_number (v bit) * number v x.now)) }
+    ensures begins { BeginsWith net.new net.old }
+{
+    let mut bits = Bus::new(alloc);
+    for at in x.as_slice() {
+        let product = net.append_form([*at, bit], &AND2)?;
+        bits.push(product)?;
+    }
+    Ok(bits)
+}
+
 /// One row of partial products for each bit of y.
-#[tactic(auto, using(crate::proofs::Steps::begins_after))]
+#[tactic(auto, using(crate::proofs::Multiplying::begins_after))]
 fn product_rows(
     alloc: Global,
     net: &mut WordNet,
@@ -36,14 +63,14 @@ fn product_rows(
 {
     let mut rows = Items::new(alloc);
     for bit in y.as_slice() {
-        let row = net.products(*bit, x)?;
+        let row = products(alloc, net, *bit, x)?;
         rows.push(row)?;
     }
     Ok(rows)
 }
 
 /// The sum of the rows, at least one, each doubled once more than the one before.
-#[tactic(auto, using(crate::proofs::Steps::begins_after))]
+#[tactic(auto, using(crate::proofs::Multiplying::begins_after))]
 fn sum_of_rows(alloc: Global, net: &mut WordNet, rows: &Items<Bus>) -> Result<Bus, AllocError>
     requires some { 0 < length rows.now }
     requires rows_in { All (AreSignalsOf net.old) rows.now }

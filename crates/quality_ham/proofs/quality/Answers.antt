@@ -1,7 +1,7 @@
 use Rattle.std.proofs.lemmas.Result.{IfOk-weaker}
-use Rattle.semantics.specs.Error.{ham}
+use Rattle.semantics.specs.declared.metric.Metric.TheVariants.{Ham}
 use Rattle.quality_semantics.proofs.Sound.{TellsExcess-made}
 use Rattle.quality_ham.proofs.quality.Goals as goal
 
 pub returns-clause-tells : goal.returns-clause-tells
-returns-clause-tells c = IfOk-weaker c.finish.result _ _ (λ n e. TellsExcess-made ham _ _ _ _ n c.in_ok-output.ensures.ok c.in_ok-output.ensures.signal e) c.finish.ensures
+returns-clause-tells c = IfOk-weaker c.finish.result _ _ (λ n e. TellsExcess-made Ham _ _ _ _ n c.in_ok-output.ensures.ok c.in_ok-output.ensures.signal e) c.finish.ensures

@@ -2,7 +2,7 @@ use Rattle.std.proofs.Common.{◌≡◌, ◌+◌, ◌*◌, [], ap, ◌∙◌, ar
 use Rattle.std.proofs.lemmas.List.{get_or_default}
 use Rattle.chain_semantics.specs.MoveLaws.{IsMoveOf}
 use Rattle.chain_semantics.proofs.MoveMembers.{move_is}
-use Rattle.adc_core.specs.Masks.{row_at}
+use Rattle.lane_nets.specs.Blocks.{row_at}
 use Rattle.adc_core.proofs.Breaking.{broken_bit, broken_first, broken_none}
 use Rattle.adc_core.proofs.differences.first_broken.Goals as goal
 

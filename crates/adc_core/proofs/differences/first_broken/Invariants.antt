@@ -1,10 +1,9 @@
 use Rattle.std.proofs.Common.{ℕ, ◌*◌, ◌<◌, Bool, List, length}
 use Rattle.semantics.specs.Net.{NetValue}
-use Rattle.semantics.specs.Error.{Metric}
+use Rattle.semantics.specs.declared.metric.Metric.{Metric}
 use Rattle.chain_semantics.specs.Moves.{table_of}
 use Rattle.chain_semantics.specs.Care.{IsCaredFor, Exceeds, IsBrokenAt}
-use Rattle.adc_core.specs.Masks.{vector_at, IsRowWhere}
-use Rattle.adc_core.specs.Blocks.{AreBlocksOf}
+use Rattle.lane_nets.specs.Blocks.{vector_at, IsRowWhere, AreBlocksOf}
 use Rattle.adc_core.proofs.differences.first_broken.Given as goal
 
 abbrev pub invariant-loop-k : goal.invariant-loop-k

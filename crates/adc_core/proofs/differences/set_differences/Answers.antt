@@ -1,6 +1,6 @@
 use Rattle.std.proofs.Common.{◌≡◌, [], ◌∙◌, arith}
 use Rattle.std.proofs.lemmas.List.{get_or_default}
-use Rattle.adc_core.specs.Masks.{row_at}
+use Rattle.lane_nets.specs.Blocks.{row_at}
 use Rattle.adc_core.proofs.Breaking.{changes_more, changes_all}
 use Rattle.adc_core.proofs.differences.set_differences.Goals as goal
 

@@ -1,6 +1,6 @@
 use Rattle.std.proofs.Common.{◌≡◌, ℕ, ◌<◌, Bool, List, length, get_or}
 use Rattle.chain_semantics.specs.Care.{Changes}
-use Rattle.adc_core.specs.Blocks.{AreBlocksOf, IsWordWhere}
+use Rattle.lane_nets.specs.Blocks.{AreBlocksOf, IsWordWhere}
 use Rattle.adc_core.proofs.differences.set_differences.Given as goal
 
 abbrev pub invariant-loop-k : goal.invariant-loop-k

@@ -1,5 +1,5 @@
 use Rattle.std.proofs.Common.{◌∙◌, sym}
-use Rattle.adc_core.proofs.WordBits.{ones_bit}
+use Rattle.lane_nets.proofs.WordBits.{ones_bit}
 use Rattle.adc_core.proofs.moved.constant_word.Goals as goal
 
 pub returns-then-value : goal.returns-then-value

@@ -1,5 +1,5 @@
 use Rattle.std.proofs.Common.{rules}
-use Rattle.adc_core.proofs.WordBits.{not_bit}
+use Rattle.lane_nets.proofs.WordBits.{not_bit}
 use Rattle.adc_core.proofs.moved.copy_word.Goals as goal
 
 pub returns-then-flip : goal.returns-then-flip

@@ -4,7 +4,7 @@ use Rattle.semantics.specs.declared.mark.Mark.{Mark}
 use Rattle.semantics.specs.declared.mark.Mark.TheVariants.{Dash}
 use Rattle.semantics.specs.Value.{row_matches}
 use Rattle.chain_semantics.specs.Moves.{row_at}
-use Rattle.adc_core.specs.Words.{values_at}
+use Rattle.lane_nets.specs.Words.{values_at}
 use Rattle.adc_core.proofs.MovedWords.{changed_word}
 use Rattle.adc_core.proofs.moved.without_literal.Goals as goal
 

@@ -14,7 +14,8 @@ use Rattle.std.proofs.lemmas.List.Sums.{list_all-from_AllPass}
 use Rattle.proof_semantics.specs.declared.item.Item.TheVariants.{Add}
 use Rattle.proof_semantics.specs.Clauses.{Clause, IsLiteralOf, has_literal}
 use Rattle.proof_semantics.specs.Logs.{StepValue, Held, held_of, with_negations, hints_answer, IsDerivation}
-use Rattle.proof_semantics.specs.Examples.{minus, step}
+use Rattle.semantics.specs.Examples.{minus}
+use Rattle.proof_semantics.specs.Examples.{step}
 use Rattle.proof_semantics.specs.Conflicts.{IsPartOf, IsNew, clauses_with, IsConflictChain}
 use Rattle.proof_semantics.specs.ConflictLaws.{IsNextStep}
 use Rattle.proof_semantics.specs.ConflictExamples.{four_clauses, first_conflict, and_then}

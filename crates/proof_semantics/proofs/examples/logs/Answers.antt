@@ -9,7 +9,8 @@ use Rattle.std.proofs.lemmas.List.Elements.{All-nil}
 use Rattle.proof_semantics.specs.declared.step_refusal.StepRefusal.TheVariants.{UnknownId, NotUnit, NoConflict}
 use Rattle.proof_semantics.specs.Clauses.{Clause, IsLiteralOf}
 use Rattle.proof_semantics.specs.Logs.{Held, LiteralSet, held_of, removed_from, with_negations, hints_answer}
-use Rattle.proof_semantics.specs.Examples.{three_clauses, minus}
+use Rattle.semantics.specs.Examples.{minus}
+use Rattle.proof_semantics.specs.Examples.{three_clauses}
 use Rattle.proof_semantics.proofs.Hints.{hints-unit, hints-conflict, hints-refused, conflict-from}
 use Rattle.proof_semantics.proofs.examples.logs.Goals as goal
 

@@ -13,6 +13,7 @@ returns c = record {
   then_no_output = refl;
   then_undriven = refl;
   then_undriven_output = refl;
+  first_of_two_undriven = refl;
   then_cycle = refl;
   then_limit = refl;
   then_none = refl;

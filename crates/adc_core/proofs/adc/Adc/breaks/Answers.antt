@@ -8,8 +8,9 @@ use Rattle.chain_semantics.specs.MoveLaws.{IsMoveOf}
 use Rattle.chain_semantics.proofs.MoveMembers.{move_is}
 use Rattle.chain_semantics.proofs.MovedNets.{move-within}
 use Rattle.lane_bits.specs.Rows.{word_count}
-use Rattle.adc_core.specs.Masks.{Masks, row_at, IsRowWhere, AreMasksOf, FindsFirstBroken}
-use Rattle.adc_core.specs.Blocks.{AreBlocksOf, vectors_in}
+use Rattle.adc_core.specs.Masks.{Masks, AreMasksOf, FindsFirstBroken}
+use Rattle.lane_nets.specs.Blocks.{row_at, IsRowWhere, AreBlocksOf}
+use Rattle.adc_core.specs.Filled.{vectors_in}
 use Rattle.adc_core.proofs.Filling.{vectors-count}
 use Rattle.adc_core.proofs.adc.Adc.breaks.Goals as goal
 

@@ -3,8 +3,9 @@ use Rattle.std.proofs.lemmas.List.{with_items_is}
 use Rattle.chain_semantics.specs.Care.{Changes}
 use Rattle.lane_bits.specs.Rows.{word_count}
 use Rattle.semantics.specs.Net.{input_count}
-use Rattle.adc_core.specs.Masks.{Masks, IsRowWhere}
-use Rattle.adc_core.specs.Blocks.{AreBlocksOf, vectors_in}
+use Rattle.adc_core.specs.Masks.{Masks}
+use Rattle.lane_nets.specs.Blocks.{IsRowWhere, AreBlocksOf}
+use Rattle.adc_core.specs.Filled.{vectors_in}
 use Rattle.adc_core.proofs.Filling.{vectors-count}
 use Rattle.adc_core.proofs.adc.Adc.differs.Goals as goal
 

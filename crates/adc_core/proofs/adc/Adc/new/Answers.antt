@@ -1,11 +1,12 @@
 use Rattle.std.proofs.Common.{◌≡◌, ℕ, List, Bool, length, ap, sym, subst, ◌∙◌, arith}
 use Rattle.std.specs.List.{AllByRecursion}
 use Rattle.semantics.specs.Net.{NetValue, input_count}
-use Rattle.joint_net.specs.Metric.{meaning}
 use Rattle.lane_bits.specs.Rows.{word_count}
 use Rattle.adc_core.specs.Masks.{Masks}
-use Rattle.adc_core.specs.Blocks.{AreBlocksOf, vectors_in}
-use Rattle.adc_core.proofs.Filling.{same_inputs, output-widths, vectors_are, filled, masked}
+use Rattle.lane_nets.specs.Blocks.{AreBlocksOf}
+use Rattle.adc_core.specs.Filled.{vectors_in}
+use Rattle.lane_nets.proofs.FirstOver.{same_inputs, output-widths}
+use Rattle.adc_core.proofs.Filling.{vectors_are, filled, masked}
 use Rattle.adc_core.proofs.adc.Adc.new.Goals as goal
 
 pub exceeding_row-requires-clause-widths : goal.exceeding_row-requires-clause-widths
@@ -22,7 +23,7 @@ of_parts-requires c =
     let long : length c.in_ok-differs.differs.items ≡ c.word_count.result = omega (arith, c.in_ok-differs.ensures.len) in
     let room : length c.in_ok-differs.differs.items ≡ word_count c.count-2.result = long ∙ c.word_count.ensures ∙ ap word_count (c.count.ensures.value ∙ sym c.count-2.ensures.value) in
     rw c.in_ok-net.ensures
-    (filled (meaning c.args.metric) c.args.exact.now c.args.approx.now c.args.bound c.args.patterns.now.vectors c.in_ok-blocks.blocks c.in_ok-care.care c.in_ok-exceeds.exceeds c.count-2.result
+    (filled c.args.metric c.args.exact.now c.args.approx.now c.args.bound c.args.patterns.now.vectors c.in_ok-blocks.blocks c.in_ok-care.care c.in_ok-exceeds.exceeds c.count-2.result
     c.in_ok-care.ensures.built.sound c.count-2.ensures.value c.in_ok-blocks.ensures
     (subst (λ (n : ℕ). AllByRecursion (λ (x : List Bool). length x ≡ n) c.args.patterns.now.vectors) inputs c.count.ensures.formed.widths)
     (c.in_ok-care.ensures.rows c.args.exact.now c.args.patterns.now.vectors c.in_ok-all_outputs.ensures
@@ -36,7 +37,7 @@ returns-clause-vectors c =
     let inputs = c.requires.inputs ∙ sym (same_inputs c.args.exact.now c.args.approx.now c.requires.ports) in
     ap (λ (m : Masks). m.vectors) c.of_parts.ensures
     ∙ ap (λ (N : NetValue). vectors_in (input_count N) c.count-2.result c.in_ok-blocks.blocks) c.in_ok-net.ensures
-    ∙ vectors_are (meaning c.args.metric) c.args.exact.now c.args.approx.now c.args.bound c.args.patterns.now.vectors c.in_ok-blocks.blocks c.in_ok-care.care c.in_ok-exceeds.exceeds c.count-2.result
+    ∙ vectors_are c.args.metric c.args.exact.now c.args.approx.now c.args.bound c.args.patterns.now.vectors c.in_ok-blocks.blocks c.in_ok-care.care c.in_ok-exceeds.exceeds c.count-2.result
     c.in_ok-care.ensures.built.sound c.count-2.ensures.value c.in_ok-blocks.ensures
     (subst (λ (n : ℕ). AllByRecursion (λ (x : List Bool). length x ≡ n) c.args.patterns.now.vectors) inputs c.count.ensures.formed.widths)
     (c.in_ok-care.ensures.rows c.args.exact.now c.args.patterns.now.vectors c.in_ok-all_outputs.ensures
@@ -48,7 +49,7 @@ pub returns-clause-masks : goal.returns-clause-masks
 returns-clause-masks c =
     let inputs = c.requires.inputs ∙ sym (same_inputs c.args.exact.now c.args.approx.now c.requires.ports) in
     rw (c.of_parts.ensures, c.in_ok-net.ensures)
-    (masked (meaning c.args.metric) c.args.exact.now c.args.approx.now c.args.bound c.args.patterns.now.vectors c.in_ok-blocks.blocks c.in_ok-care.care c.in_ok-exceeds.exceeds c.count-2.result
+    (masked c.args.metric c.args.exact.now c.args.approx.now c.args.bound c.args.patterns.now.vectors c.in_ok-blocks.blocks c.in_ok-care.care c.in_ok-exceeds.exceeds c.count-2.result
     c.in_ok-care.ensures.built.sound c.count-2.ensures.value c.in_ok-blocks.ensures
     (subst (λ (n : ℕ). AllByRecursion (λ (x : List Bool). length x ≡ n) c.args.patterns.now.vectors) inputs c.count.ensures.formed.widths)
     (c.in_ok-care.ensures.rows c.args.exact.now c.args.patterns.now.vectors c.in_ok-all_outputs.ensures

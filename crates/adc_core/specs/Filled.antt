@@ -1,0 +1,26 @@
+-- What the fields of the masks hold.
+use Rattle.std.specs.Prelude.{◌≡◌, ℕ, ◌/◌, ◌%◌, ◌^◌, ◌<◌, ◌≤◌, Bool, false, List, map, length}
+use Rattle.std.specs.List.{range_with_len}
+use Rattle.semantics.specs.Net.{NetValue, input_count, table_count, IsSound}
+use Rattle.lane_bits.specs.Rows.{row_bit, word_count}
+use Rattle.lane_nets.specs.Words.{values_at}
+use Rattle.lane_nets.specs.Blocks.{row_at, AreBlocksOf}
+
+-- so many vectors, read from the blocks' inputs
+abbrev pub vectors_in : ℕ → ℕ → List (List ℕ) → List (List Bool)
+vectors_in inputs count blocks = map (λ p. map (values_at (row_at blocks (p / 64)) (p % 64)) (range_with_len 0 inputs)) (range_with_len 0 count)
+
+-- a row of the length that so many patterns need, with no bit past them
+pub record IsRowFor (count : ℕ) (row : List ℕ) : Type 0 where
+  pub words : length row ≡ word_count count
+  pub clear : (p : ℕ) → count ≤ p → row_bit row p ≡ false
+
+-- what the fields of the masks of a net hold, whatever they were made for
+pub record AreFilled (N : NetValue) (count : ℕ) (held rows : List (List ℕ)) (last room : List ℕ) : Type 0 where
+  pub blocks : AreBlocksOf N (vectors_in (input_count N) count held) held
+  pub sound : IsSound N
+  pub few : count < 2 ^ 64
+  pub tables : length rows ≡ table_count N
+  pub care : (t : ℕ) → t < table_count N → IsRowFor count (row_at rows t)
+  pub exceeds : IsRowFor count last
+  pub differs : length room ≡ word_count count

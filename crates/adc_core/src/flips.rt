@@ -1,0 +1,35 @@
+//! The values of all signals at 64 patterns at a time where a table is turned over.
+ghost use Rattle.std.specs.Prelude.{◌≡◌, ◌==◌, ◌&&◌, ◌↔◌, ◌<◌, not, ℕ, List, Bool, false, length, slice_index_or, IsTrue};
+ghost use Rattle.semantics.specs.Net.{input_count, table_count, signal_count};
+ghost use Rattle.semantics.specs.Dependence.{DependsOn};
+ghost use Rattle.lane_nets.specs.Words.{HasValues};
+ghost use Rattle.adc_core.specs.Flips.{HasFlippedValues};
+
+use lane_nets::words::table_word;
+use net_core::net::Net;
+
+/// Whether the word of table `i` is found again: not for table `t` itself, and where it is marked.
+fn is_found_again(i: u32, t: u32, marked: bool) -> bool
+    ensures { result ≡ (not (i == t) && marked) }
+{
+    i != t && marked
+}
+
+/// Turns over the words of table `t`, and finds again those that depend on it, which are marked.
+pub fn flip_words(net: &Net, t: u32, marks: &[bool], words: &mut [u64])
+    requires table { t < table_count net.now }
+    requires room { length words.old ≡ signal_count net.now }
+    requires marks_room { length marks.now ≡ signal_count net.now }
+    requires marks { (s : ℕ) → s < signal_count net.now → IsTrue (slice_index_or marks.now s false)
+        ↔ DependsOn (input_count net.now) net.now.tables t s }
+    ensures { (b : ℕ) (x : List Bool) → b < 64 → HasValues net.now words.old b x → HasFlippedValues net.now t words.new b x }
+{
+    let inputs = net.inputs() as usize;
+    words[inputs + t as usize] = !words[inputs + t as usize];
+    for i in net.order() {
+        if is_found_again(*i, t, marks[inputs + *i as usize]) {
+            let word = table_word(net.table(*i), words);
+            words[inputs + *i as usize] = word;
+        }
+    }
+}

@@ -1,0 +1,4 @@
+pub mod Steps
+pub mod Times
+pub mod Parts
+pub mod Numbers

@@ -1,0 +1,29 @@
+//! Buses: lists of signals, bit 0 first.
+ghost use Rattle.std.specs.Prelude.{◌≡◌, ◌∷◌, length, replicate, drop, IfOk};
+
+use net_parts::items::{Signal, SignalList};
+use std::alloc::{AllocError, Global};
+
+/// A list of signals, bit 0 first.
+pub type Bus = SignalList;
+
+/// One bit, and then the others.
+pub fn with_front(alloc: Global, first: Signal, rest: &[Signal]) -> Result<Bus, AllocError>
+    ensures { IfOk result (λ b. b ≡ first ∷ rest.now) }
+{
+    let mut bus = Bus::new(alloc);
+    bus.push(first)?;
+    bus.push_copies(rest)?;
+    Ok(bus)
+}
+
+/// The signal so many times.
+pub fn repeated(alloc: Global, signal: Signal, count: usize) -> Result<Bus, AllocError>
+    ensures { IfOk result (λ b. b ≡ replicate count signal) }
+{
+    let mut bus = Bus::new(alloc);
+    for _at in 0..count {
+        bus.push(signal)?;
+    }
+    Ok(bus)
+}

@@ -1,0 +1,5 @@
+pub mod WordBits
+pub mod RowBits
+mod Greatest
+pub mod FirstOver
+pub mod Evaluating

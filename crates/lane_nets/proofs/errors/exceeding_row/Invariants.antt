@@ -1,0 +1,11 @@
+use Rattle.std.proofs.Common.{◌≡◌, ℕ, ◌<◌, Bool, List, length, get_or}
+use Rattle.semantics.specs.Net.{NetValue}
+use Rattle.lane_nets.specs.Errors.{IsOver}
+use Rattle.lane_nets.specs.Blocks.{AreBlocksOf, AreOutputsOf, IsWordWhere}
+use Rattle.lane_nets.proofs.errors.exceeding_row.Given as goal
+
+abbrev pub invariant-loop-k : goal.invariant-loop-k
+invariant-loop-k l =
+    (length l.row.items ≡ l.k)
+    × ((exact : NetValue) (vectors : List (List Bool)) → AreOutputsOf exact vectors l.limit.outputs → AreBlocksOf l.net vectors l.blocks
+    → (j : ℕ) → j < l.k → IsWordWhere vectors (IsOver l.limit.metric exact l.net l.limit.level) j (get_or l.row.items j 0))

@@ -1,0 +1,51 @@
+//! The values of a net at all patterns, in blocks of 64.
+ghost use Rattle.std.specs.Prelude.{◌≡◌, ◌+◌, ◌*◌, ◌<◌, ◌≤◌, ℕ, length, IfOk};
+ghost use Rattle.semantics.specs.Net.{input_count};
+ghost use Rattle.lane_bits.specs.Rows.{word_count};
+ghost use Rattle.lane_bits.specs.Patterns.{pattern_bit};
+ghost use Rattle.lane_nets.specs.Words.{values_at};
+ghost use Rattle.lane_nets.specs.Blocks.{IsBlock, AreBlocksOf};
+
+use crate::values::eval_words;
+use crate::word_list::WordList;
+use lane_bits::kernels::word_count;
+use lane_bits::patterns::Patterns;
+use net_core::items::Items;
+use net_core::net::Net;
+use std::alloc::{AllocError, Global};
+
+/// Sets the words of the inputs to those of block k.
+fn set_inputs(patterns: &Patterns, k: usize, words: &mut [u64])
+    requires room { patterns.now.inputs ≤ length words.old }
+    requires within { k < word_count (length patterns.now.vectors) }
+    ensures { (b s : ℕ) → b < 64 → s < patterns.now.inputs
+        → values_at words.new b s ≡ pattern_bit patterns.now.vectors s (64 * k + b) }
+{
+    for s in 0..patterns.inputs() {
+        words[s as usize] = patterns.row(s)[k];
+    }
+}
+
+/// Block k of a net's values.
+fn block(alloc: Global, net: &Net, patterns: &Patterns, k: usize) -> Result<WordList, AllocError>
+    requires inputs { patterns.now.inputs ≡ input_count net.now }
+    requires within { k < word_count (length patterns.now.vectors) }
+    ensures { IfOk result (IsBlock net.now patterns.now.vectors k) }
+{
+    let mut words = vec![in alloc; 0; net.signals() as usize]?;
+    set_inputs(patterns, k, &mut words);
+    eval_words(net, &mut words);
+    Ok(WordList::of(words))
+}
+
+/// All blocks of a net's values.
+pub fn blocks(alloc: Global, net: &Net, patterns: &Patterns) -> Result<Items<WordList>, AllocError>
+    requires { patterns.now.inputs ≡ input_count net.now }
+    ensures { IfOk result (AreBlocksOf net.now patterns.now.vectors) }
+{
+    let mut blocks = Items::new(alloc);
+    for k in 0..word_count(patterns.count()) {
+        blocks.push(block(alloc, net, patterns, k as usize)?)?;
+    }
+    Ok(blocks)
+}

@@ -1,0 +1,12 @@
+//! The values of nets at 64 input vectors at a time, and the errors of their outputs there.
+//!
+//! Patterns are evaluated 64 at a time: one word for each signal, one bit for each pattern.
+#![tactic(auto)]
+
+pub mod blocks;
+pub mod errors;
+pub mod outputs;
+pub mod trials;
+pub mod values;
+pub mod word_list;
+pub mod words;

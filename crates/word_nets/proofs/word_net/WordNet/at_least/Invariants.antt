@@ -1,5 +1,0 @@
-use Rattle.word_nets.proofs.Steps.{Counting}
-use Rattle.word_nets.proofs.word_net.WordNet.at_least.Given as goal
-
-abbrev pub invariant-loop-bit : goal.invariant-loop-bit
-invariant-loop-bit l = Counting l.fn.self l.self l.fn.k l.bit-items l.row l.bit-index

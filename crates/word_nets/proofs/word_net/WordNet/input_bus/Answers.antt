@@ -1,6 +1,0 @@
-use Rattle.std.proofs.Common.{refl, arith}
-use Rattle.word_nets.proofs.Times.{counted_more}
-use Rattle.word_nets.proofs.word_net.WordNet.input_bus.Goals as goal
-
-pub loop-place-preserved : goal.loop-place-preserved
-loop-place-preserved c = counted_more _ _ _ _ _ _ c.loop-place.invariant refl (rw (← c.self.view_is) (omega arith)) c.in_ok-push.ensures.ok
