@@ -7,23 +7,22 @@ ghost use Rattle.job_semantics.specs.Certificate.{Texts};
 ghost use Rattle.bundle_texts.specs.Reading.{report_read};
 ghost use Rattle.bundle.specs.Judging.{Answers, FilesKept, IsCause, IsFirstFault, IsVerdict, NothingKnown, NetKnown, ReportKnown, WitnessKnown, FormulaKnown, LogKnown};
 
-use crate::claim::{Claim, Contents, are_counts, miter};
+use crate::claim::{Claim, Contents, are_counts, error_at, miter};
 use crate::file_texts::{
     is_formula, is_refuted, read_netlist, read_report_file, read_vectors_file,
 };
 use crate::minimality::is_minimal;
-use bundle_texts::report_reading::ReportRead;
 use crate::stem::Stem;
 use crate::verdict::Verdict;
+use bundle_texts::report_reading::ReportRead;
 use cnf_core::cnf::Cnf;
 use file_core::files::Files;
 use file_reading::unread::Unread;
 use job_semantics::clause::Clause;
 use job_semantics::ending::Ending;
-use semantics::metric::Metric;
-use joint_net::net_error::error_at;
-use joint_net::ports::same_ports;
 use net_core::net::Net;
+use net_errors::ports::same_ports;
+use semantics::metric::Metric;
 use std::alloc::{AllocError, Global};
 
 /// Whether the vectors show that the net is minimal, where the report says that it is.

@@ -18,9 +18,9 @@ use file_core::files::Files;
 use file_reading::front::Front;
 use file_reading::reading::read_file;
 use file_reading::unread::Unread;
-use semantics::metric::Metric;
 use lane_bits::patterns::Patterns;
 use net_core::net::Net;
+use semantics::metric::Metric;
 use std::alloc::Global;
 
 /// The limit of a netlist's bytes.

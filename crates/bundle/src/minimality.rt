@@ -7,10 +7,10 @@ ghost use Rattle.chain_semantics.specs.Minimality.{IsMinimalBy};
 ghost use Rattle.adc_core.specs.Masks.{AreMasksOf};
 
 use adc_core::adc::Adc;
-use semantics::metric::Metric;
 use lane_bits::patterns::Patterns;
 use net_core::net::Net;
 use net_moves::moves::moves;
+use semantics::metric::Metric;
 use std::alloc::{AllocError, Global};
 
 /// Whether each move of the net is broken by some pattern of its masks.

@@ -9,8 +9,8 @@ ghost use Rattle.bundle_texts.specs.Reading.{report_read};
 use crate::bits::bits_of;
 use crate::pieces::{after, number_before, vector_before};
 use crate::report_lines::{ReportText, add_number, add_word, metric_word};
-use semantics::metric::Metric;
 use net_core::items::Bits;
+use semantics::metric::Metric;
 use std::alloc::{AllocError, Global};
 
 /// The greatest maximum of a report: errors of at most 64 outputs have fewer bits.

@@ -6,7 +6,7 @@ use Rattle.semantics.specs.Texts.{Bytes}
 use Rattle.semantics.specs.Net.{NetValue}
 use Rattle.semantics.specs.declared.metric.Metric.{Metric}
 use Rattle.blif_semantics.specs.Reading.{Refusal}
-use Rattle.outside_semantics.specs.Outside.{Held, FilesTold, SinkTold, Goes, Rose, WhereTold, bytes_of}
+use Rattle.outside_semantics.specs.Outside.{Held, FilesTold, SinkTold, Goes, Rose, WhereTold, IsReadOut, turn_budget, bytes_of}
 use Rattle.job_semantics.specs.declared.clause.Clause.{Clause}
 use Rattle.job_semantics.specs.declared.ending.Ending.{Ending}
 use Rattle.job_semantics.specs.Certificate.{Texts, texts_of, OfBundle, IsNetlist, IsReport, Certifies, IsFirstFailing, IsNeededFor, AreNeededHeld}
@@ -67,14 +67,16 @@ pub record CheckReadFault (metric : Metric) (bound : ℕ) (input stem : Bytes) (
       (old.steady_read input ≡ false)
       ⊎ ((ending : Ending) × IsNeeded metric bound input stem old new ending × (old.steady_read (bundle_name stem ending) ≡ false))
 
--- a needed file goes on past the budget of turns
+-- A needed file goes on past the budget of turns: in this call there were so many read turns on it, each of which asked for at most 65,536 bytes
+-- and gave one at least; where it is told, the file has as many bytes.
 pub record CheckEndless (metric : Metric) (bound : ℕ) (input stem : Bytes) (old new : FilesTold) (said says : SinkTold) : Type 0 where
   pub untouched : IsLeftAlone metric bound input stem old new said says
   pub exact : NetValue
   pub read : OfInput old new input (λ text. IsReadAs text exact)
   pub ending : Ending
   pub needed : IsNeeded metric bound input stem old new ending
-  pub long : OfBundle old new stem (λ texts. 2 ^ 40 ≤ length (texts ending))
+  pub read_out : IsReadOut old new (bundle_name stem ending)
+  pub long : OfBundle old new stem (λ texts. turn_budget ≤ length (texts ending))
 
 -- the files that a check job needs can be read
 pub record AreCheckFilesSteady (metric : Metric) (bound : ℕ) (input stem : Bytes) (old new : FilesTold) : Type 0 where
@@ -95,7 +97,7 @@ pub data CheckEnd (metric : Metric) (bound : ℕ) (input stem : Bytes) (old new 
 
 -- each file of the bundle has fewer than 2^40 bytes
 abbrev pub AreShort : Bytes → Held → Type 0
-AreShort stem held = (ending : Ending) → length (texts_of held stem ending) < 2 ^ 40
+AreShort stem held = (ending : Ending) → length (texts_of held stem ending) < turn_budget
 
 abbrev pub IsVerifiedEnd : {metric : Metric} {bound : ℕ} {input stem : Bytes} {old new : FilesTold} {said says : SinkTold}
     → CheckEnd metric bound input stem old new said says → Type 0

@@ -5,6 +5,7 @@ use Rattle.semantics.specs.Optional.{◌>>=◌}
 use Rattle.semantics.specs.Decimal.{digits_number, is_decimal}
 use Rattle.semantics.specs.declared.metric.Metric.{Metric}
 use Rattle.semantics.specs.declared.metric.Metric.TheVariants.{Abs, Rel, Ham, Sabs}
+use Rattle.semantics.specs.declared.limits.TheConstants.{LARGEST_ERROR}
 use Rattle.job_semantics.specs.Endings.{is_bundle_name}
 
 pub data Job : Type 0 where
@@ -20,7 +21,7 @@ number_from_to low high word =
     else None
 
 abbrev pub bound_of : Bytes → Option ℕ
-bound_of = number_from_to 0 (2 ^ 84 - 1)
+bound_of = number_from_to 0 LARGEST_ERROR
 
 abbrev pub conflicts_of : Bytes → Option ℕ
 conflicts_of = number_from_to 1 100000

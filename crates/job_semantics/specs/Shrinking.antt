@@ -4,6 +4,7 @@ use Rattle.std.specs.Prelude.{◌≡◌, ◌≢◌, ℕ, ◌<◌, ◌≤◌, Boo
 use Rattle.std.specs.List.{AllByRecursion}
 use Rattle.semantics.specs.Net.{NetValue, input_count}
 use Rattle.semantics.specs.declared.metric.Metric.{Metric}
+use Rattle.semantics.specs.declared.limits.TheConstants.{FEW_INPUTS}
 use Rattle.semantics.specs.Vectors.{all_vectors}
 use Rattle.chain_semantics.specs.declared.moves.Move.{Move}
 use Rattle.chain_semantics.specs.Moves.{moves_of, moved}
@@ -44,4 +45,4 @@ pub record IsShrinking (metric : Metric) (exact : NetValue) (bound limit : ℕ) 
   pub outcome : MatchOption s.spent (IsShownEnd metric exact bound s.net s.pool) (IsSpentMove metric exact bound limit s.net s.pool)
   pub widths : AllByRecursion (λ x. length x ≡ input_count exact) s.pool
   pub apart : AreApart s.pool
-  pub counting : input_count exact ≤ 8 → s.pool ≡ all_vectors (input_count exact)
+  pub counting : input_count exact ≤ FEW_INPUTS → s.pool ≡ all_vectors (input_count exact)

@@ -26,6 +26,7 @@ fn quality(alloc: Global, metric: Metric, width: u32, k: u128) -> Result<Net, Al
         Metric::Abs => quality_abs::quality(alloc, width, k),
         Metric::Rel => quality_rel::quality(alloc, width, k),
         Metric::Ham => quality_ham::quality(alloc, width, k),
+        Metric::Sabs => Err(AllocError),
     }
 }
 
