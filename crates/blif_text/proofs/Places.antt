@@ -12,7 +12,7 @@ use Rattle.semantics.specs.Texts.{Bytes}
 use Rattle.semantics.specs.Net.{NetValue, IsName}
 use Rattle.semantics.specs.Refusals.{has_name}
 use Rattle.blif_semantics.specs.Reading.{Refusal, undriven, unless_refused, signal_named}
-use Rattle.blif_text.specs.Words.{texts}
+use Rattle.text_words.specs.Slices.{texts}
 use Rattle.blif_text.specs.Names.{place_of, first_unknown}
 
 pub has_name-texts : (word : Bytes) (keys : List (Bor Bytes)) → list_any (λ k. bytes_eq word k.now) keys ≡ has_name (texts keys) word

@@ -5,4 +5,3 @@ pub mod Names
 pub mod NetText
 pub mod Places
 pub mod Refusals
-pub mod Words

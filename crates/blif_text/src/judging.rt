@@ -5,16 +5,16 @@ ghost use Rattle.blif_semantics.specs.Statements.{with_plane, table_by, wrong_ro
 ghost use Rattle.blif_semantics.specs.Reading.{Refusal, wrong_line, unless_refused};
 ghost use Rattle.blif_text.specs.LogicalLines.{statement_of};
 ghost use Rattle.blif_text.specs.Refusals.{Tells};
-ghost use Rattle.blif_text.specs.Words.{texts};
+ghost use Rattle.text_words.specs.Slices.{texts};
 ghost use Rattle.blif_text.specs.Places.{table_of, place_of, start, place_next, first_wrong_in, wrong_of, wrong_if};
 
 use crate::joining::LogicalLine;
-use crate::lines::words_of;
 use crate::refusal::BlifRefusal;
 use crate::statements::{are_names, are_printable, arguments, first_word, kind_of, row_plane};
 use blif_semantics::kind::Kind;
 use file_core::word::Word;
 use std::alloc::Global;
+use text_words::words::words_of;
 
 /// What is wrong with a line, but for its words.
 #[derive(Clone, Copy, Debug, Drop, PartialEq, Eq)]

@@ -1,18 +1,10 @@
-//! Lines and words, as slices of the text. Source: BLIF's comments, blanks and backslashes at the ends of lines.
-ghost use Rattle.std.specs.Prelude.{◌≡◌, ◌==◌, not, None, Some, IfOk, length, position};
+//! Lines as slices of the text. Source: BLIF's comments, blanks and backslashes at the ends of lines.
+ghost use Rattle.std.specs.Prelude.{◌≡◌, ◌==◌, not, None, Some, length, position};
 ghost use Rattle.std.specs.Borrow.{Bor};
-ghost use Rattle.blif_semantics.specs.Lines.{is_blank, without_comment, trimmed, before_backslash, words_of};
+ghost use Rattle.blif_semantics.specs.Lines.{without_comment, trimmed, before_backslash, words_of};
 ghost use Rattle.semantics.specs.Texts.{Bytes};
-ghost use Rattle.blif_text.specs.Words.{texts};
 
-use std::alloc::{AllocError, Global};
-
-/// A space, a tab or a CR.
-fn is_blank(byte: u8) -> bool
-    ensures { result ≡ is_blank byte }
-{
-    matches!(byte, b' ' | b'\t' | b'\r')
-}
+use text_words::words::is_blank;
 
 /// Where the first `#` is.
 fn hash_at(line: &[u8]) -> Option<usize>
@@ -58,13 +50,4 @@ pub fn has_words(line: &[u8]) -> bool
     ensures { result ≡ not (length (words_of line.now) == 0) }
 {
     line.split(|b| is_blank(*b)).any(|w| !w.is_empty())
-}
-
-/// The words between blanks.
-pub fn words_of<'a>(alloc: Global, line: &'a [u8]) -> Result<Vec<&'a [u8]>, AllocError>
-    ensures { IfOk result (λ v. texts v.items ≡ words_of line.now) }
-{
-    line.split(|b| is_blank(*b))
-        .filter(|w| !w.is_empty())
-        .collect(alloc)
 }

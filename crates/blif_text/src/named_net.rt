@@ -4,15 +4,15 @@ ghost use Rattle.semantics.specs.Texts.{Line};
 ghost use Rattle.blif_semantics.specs.Lines.{words_of};
 ghost use Rattle.blif_semantics.specs.Reading.{named_net};
 ghost use Rattle.blif_text.specs.NamedNets.{no_draft, ended, row_added, added, after_draft};
-ghost use Rattle.blif_text.specs.Words.{texts};
+ghost use Rattle.text_words.specs.Slices.{texts};
 
 use crate::joining::LogicalLine;
-use crate::lines::words_of;
 use crate::named_table::NamedTable;
 use crate::statements::{arguments, first_word, kind_of};
 use blif_semantics::kind::Kind;
 use std::alloc::{AllocError, Global};
 use std::marker::Model;
+use text_words::words::words_of;
 
 /// What the lines so far say, and the table to which the next row belongs.
 #[derive(Drop)]
@@ -27,7 +27,7 @@ struct Draft<'a> {
 impl<'a> Model for Draft<'a> {
     ghost use Rattle.std.specs.Option.{option_map};
     ghost use Rattle.blif_text.specs.NamedNets.{Draft};
-    ghost use Rattle.blif_text.specs.Words.{texts};
+    ghost use Rattle.text_words.specs.Slices.{texts};
 
     ghost Value = { Draft };
 
@@ -51,7 +51,7 @@ pub struct NamedNet<'a> {
 
 impl<'a> Model for NamedNet<'a> {
     ghost use Rattle.blif_semantics.specs.Reading.{NamedNet};
-    ghost use Rattle.blif_text.specs.Words.{texts};
+    ghost use Rattle.text_words.specs.Slices.{texts};
 
     ghost Value = { NamedNet };
 

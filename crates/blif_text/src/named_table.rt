@@ -6,7 +6,7 @@ ghost use Rattle.blif_semantics.specs.Reading.{Refusal, undriven, unless_refused
 ghost use Rattle.blif_semantics.specs.Named.{IsNamedTable, with_signals};
 ghost use Rattle.blif_text.specs.Refusals.{Tells};
 ghost use Rattle.blif_text.specs.Names.{first_unknown};
-ghost use Rattle.blif_text.specs.Words.{texts};
+ghost use Rattle.text_words.specs.Slices.{texts};
 
 use crate::names::Names;
 use crate::refusal::BlifRefusal;
@@ -29,7 +29,7 @@ pub struct NamedTable<'a> {
 
 impl<'a> Model for NamedTable<'a> {
     ghost use Rattle.blif_semantics.specs.Tables.{NamedTable};
-    ghost use Rattle.blif_text.specs.Words.{texts};
+    ghost use Rattle.text_words.specs.Slices.{texts};
 
     ghost Value = { NamedTable };
 

@@ -5,7 +5,7 @@ ghost use Rattle.semantics.specs.Refusals.{has_name, first_doubled};
 ghost use Rattle.blif_semantics.specs.Reading.{Refusal, doubled, undriven, unless_refused, signal_named};
 ghost use Rattle.blif_text.specs.Refusals.{Tells};
 ghost use Rattle.blif_text.specs.Names.{place_of, first_unknown};
-ghost use Rattle.blif_text.specs.Words.{texts};
+ghost use Rattle.text_words.specs.Slices.{texts};
 
 use crate::refusal::BlifRefusal;
 use indexmap::IndexSet;
@@ -35,7 +35,7 @@ pub struct Names<'a> {
 impl<'a> Model for Names<'a> {
     ghost use Rattle.std.specs.Prelude.{List, ◌<◌, ◌^◌, length};
     ghost use Rattle.semantics.specs.Texts.{Bytes};
-    ghost use Rattle.blif_text.specs.Words.{texts};
+    ghost use Rattle.text_words.specs.Slices.{texts};
 
     ghost Value = { List Bytes };
 

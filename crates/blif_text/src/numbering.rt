@@ -7,7 +7,7 @@ ghost use Rattle.blif_semantics.specs.Reading.{Refusal, undriven, unless_refused
 ghost use Rattle.blif_semantics.specs.Named.{IsNamedTable, IsNamedNet, with_signals, IsDriven};
 ghost use Rattle.blif_text.specs.Refusals.{Tells};
 ghost use Rattle.blif_text.specs.Names.{first_unknown};
-ghost use Rattle.blif_text.specs.Words.{texts};
+ghost use Rattle.text_words.specs.Slices.{texts};
 
 use crate::named_net::NamedNet;
 use crate::named_table::NamedTable;

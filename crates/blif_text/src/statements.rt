@@ -2,7 +2,7 @@
 ghost use Rattle.std.specs.Prelude.{◌≡◌, ◌==◌, not};
 ghost use Rattle.std.specs.List.{list_all};
 ghost use Rattle.blif_semantics.specs.Statements.{kind_of, first_word, arguments, is_printable, has_name_bytes, is_name, are_names, is_mark, plane_of, row_plane};
-ghost use Rattle.blif_text.specs.Words.{texts};
+ghost use Rattle.text_words.specs.Slices.{texts};
 
 use blif_semantics::kind::Kind;
 

@@ -1,10 +1,9 @@
 //! A net is written as its BLIF text, gathered in a page, and nothing is allocated.
-ghost use Rattle.std.specs.Prelude.{◌≡◌, ◌<◌, [], ◌∷◌, ◌++◌, All, OnOk, OnErr};
+ghost use Rattle.std.specs.Prelude.{◌≡◌, ◌<◌, [], ◌∷◌, ◌++◌, All};
 ghost use Rattle.semantics.specs.Texts.{line_text, bit_byte};
 ghost use Rattle.semantics.specs.Net.{signal_count, signal_names};
 ghost use Rattle.semantics.specs.Blif.{mark_byte, row_line, names_line, blif_text};
-ghost use Rattle.outside_semantics.specs.Outside.{Wrote, WriteFailed};
-ghost use Rattle.file_core.specs.Page.{Gathered};
+ghost use Rattle.file_core.specs.Page.{Gathers, Writes};
 ghost use Rattle.blif_text.specs.NetText.{blank_words, blank_names, marks_text, rows_text, table_text, tables_text, header_text};
 
 use file_core::fault::FileFault;
@@ -37,21 +36,14 @@ fn plane_byte(plane: bool) -> u8
 
 /// Puts a blank and a name into the page.
 fn write_name<F: Files>(name: &Name, files: &mut F, page: &mut Page) -> Result<(), FileFault>
-    ensures ok { OnOk result
-        (Gathered (F.told files.old) (F.told files.new) page.old page.new (32 ∷ name.now)) }
-    ensures err { OnErr result
-        (WriteFailed (F.told files.old) (F.told files.new) (page.old ++ 32 ∷ name.now)) }
+    ensures { Gathers result (F.told files.old) (F.told files.new) page.old page.new (32 ∷ name.now) }
 {
     gather_pieces(files, page, &[b" ", name.bytes()])
 }
 
 /// Puts a blank and a name for each input.
 fn write_inputs<F: Files>(net: &Net, files: &mut F, page: &mut Page) -> Result<(), FileFault>
-    ensures ok { OnOk result
-        (Gathered (F.told files.old) (F.told files.new) page.old page.new
-        (blank_words net.now.inputs)) }
-    ensures err { OnErr result
-        (WriteFailed (F.told files.old) (F.told files.new) (page.old ++ blank_words net.now.inputs)) }
+    ensures { Gathers result (F.told files.old) (F.told files.new) page.old page.new (blank_words net.now.inputs) }
 {
     for s in 0..net.inputs() {
         write_name(net.signal_name(s), files, page)?;
@@ -61,12 +53,8 @@ fn write_inputs<F: Files>(net: &Net, files: &mut F, page: &mut Page) -> Result<(
 
 /// Puts a blank and a name for each output.
 fn write_outputs<F: Files>(net: &Net, files: &mut F, page: &mut Page) -> Result<(), FileFault>
-    ensures ok { OnOk result
-        (Gathered (F.told files.old) (F.told files.new) page.old page.new
-        (blank_names (signal_names net.now) net.now.outputs)) }
-    ensures err { OnErr result
-        (WriteFailed (F.told files.old) (F.told files.new)
-        (page.old ++ blank_names (signal_names net.now) net.now.outputs)) }
+    ensures { Gathers result (F.told files.old) (F.told files.new) page.old page.new
+        (blank_names (signal_names net.now) net.now.outputs) }
 {
     for i in 0..net.outputs() {
         write_name(net.signal_name(net.output(i)), files, page)?;
@@ -82,12 +70,8 @@ fn write_signals<F: Files>(
     page: &mut Page,
 ) -> Result<(), FileFault>
     requires { All (λ s. s < signal_count net.now) signals.now }
-    ensures ok { OnOk result
-        (Gathered (F.told files.old) (F.told files.new) page.old page.new
-        (blank_names (signal_names net.now) signals.now)) }
-    ensures err { OnErr result
-        (WriteFailed (F.told files.old) (F.told files.new)
-        (page.old ++ blank_names (signal_names net.now) signals.now)) }
+    ensures { Gathers result (F.told files.old) (F.told files.new) page.old page.new
+        (blank_names (signal_names net.now) signals.now) }
 {
     for s in signals {
         write_name(net.signal_name(*s), files, page)?;
@@ -97,10 +81,7 @@ fn write_signals<F: Files>(
 
 /// Puts the three lines before the tables.
 fn write_header<F: Files>(net: &Net, files: &mut F, page: &mut Page) -> Result<(), FileFault>
-    ensures ok { OnOk result
-        (Gathered (F.told files.old) (F.told files.new) page.old page.new (header_text net.now)) }
-    ensures err { OnErr result
-        (WriteFailed (F.told files.old) (F.told files.new) (page.old ++ header_text net.now)) }
+    ensures { Gathers result (F.told files.old) (F.told files.new) page.old page.new (header_text net.now) }
 {
     gather_pieces(
         files,
@@ -121,12 +102,8 @@ fn write_names_line<F: Files>(
     page: &mut Page,
 ) -> Result<(), FileFault>
     requires { All (λ s. s < signal_count net.now) table.now.pins }
-    ensures ok { OnOk result
-        (Gathered (F.told files.old) (F.told files.new) page.old page.new
-        (line_text (names_line (signal_names net.now) table.now))) }
-    ensures err { OnErr result
-        (WriteFailed (F.told files.old) (F.told files.new)
-        (page.old ++ line_text (names_line (signal_names net.now) table.now))) }
+    ensures { Gathers result (F.told files.old) (F.told files.new) page.old page.new
+        (line_text (names_line (signal_names net.now) table.now)) }
 {
     gather(files, page, b".names")?;
     write_signals(net, table.pins().as_slice(), files, page)?;
@@ -134,10 +111,7 @@ fn write_names_line<F: Files>(
 }
 
 fn write_marks<F: Files>(marks: &[Mark], files: &mut F, page: &mut Page) -> Result<(), FileFault>
-    ensures ok { OnOk result
-        (Gathered (F.told files.old) (F.told files.new) page.old page.new (marks_text marks.now)) }
-    ensures err { OnErr result
-        (WriteFailed (F.told files.old) (F.told files.new) (page.old ++ marks_text marks.now)) }
+    ensures { Gathers result (F.told files.old) (F.told files.new) page.old page.new (marks_text marks.now) }
 {
     for mark in marks {
         gather(files, page, &[mark_byte(*mark)])?;
@@ -152,12 +126,8 @@ fn write_row<F: Files>(
     files: &mut F,
     page: &mut Page,
 ) -> Result<(), FileFault>
-    ensures ok { OnOk result
-        (Gathered (F.told files.old) (F.told files.new) page.old page.new
-        (line_text (row_line plane marks.now))) }
-    ensures err { OnErr result
-        (WriteFailed (F.told files.old) (F.told files.new)
-        (page.old ++ line_text (row_line plane marks.now))) }
+    ensures { Gathers result (F.told files.old) (F.told files.new) page.old page.new
+        (line_text (row_line plane marks.now)) }
 {
     if marks.is_empty() {
         return gather(files, page, &[plane_byte(plane), b'\n']);
@@ -172,10 +142,7 @@ fn write_rows<F: Files>(
     files: &mut F,
     page: &mut Page,
 ) -> Result<(), FileFault>
-    ensures ok { OnOk result
-        (Gathered (F.told files.old) (F.told files.new) page.old page.new (rows_text plane rows.now)) }
-    ensures err { OnErr result
-        (WriteFailed (F.told files.old) (F.told files.new) (page.old ++ rows_text plane rows.now)) }
+    ensures { Gathers result (F.told files.old) (F.told files.new) page.old page.new (rows_text plane rows.now) }
 {
     for row in rows {
         write_row(row.as_slice(), plane, files, page)?;
@@ -190,24 +157,16 @@ fn write_table<F: Files>(
     page: &mut Page,
 ) -> Result<(), FileFault>
     requires { All (λ s. s < signal_count net.now) table.now.pins }
-    ensures ok { OnOk result
-        (Gathered (F.told files.old) (F.told files.new) page.old page.new
-        (table_text (signal_names net.now) table.now)) }
-    ensures err { OnErr result
-        (WriteFailed (F.told files.old) (F.told files.new)
-        (page.old ++ table_text (signal_names net.now) table.now)) }
+    ensures { Gathers result (F.told files.old) (F.told files.new) page.old page.new
+        (table_text (signal_names net.now) table.now) }
 {
     write_names_line(net, table, files, page)?;
     write_rows(table.rows().as_slice(), table.plane(), files, page)
 }
 
 fn write_tables<F: Files>(net: &Net, files: &mut F, page: &mut Page) -> Result<(), FileFault>
-    ensures ok { OnOk result
-        (Gathered (F.told files.old) (F.told files.new) page.old page.new
-        (tables_text (signal_names net.now) net.now.tables)) }
-    ensures err { OnErr result
-        (WriteFailed (F.told files.old) (F.told files.new)
-        (page.old ++ tables_text (signal_names net.now) net.now.tables)) }
+    ensures { Gathers result (F.told files.old) (F.told files.new) page.old page.new
+        (tables_text (signal_names net.now) net.now.tables) }
 {
     for t in 0..net.tables() {
         write_table(net, net.table(t), files, page)?;
@@ -217,8 +176,7 @@ fn write_tables<F: Files>(net: &Net, files: &mut F, page: &mut Page) -> Result<(
 
 /// Appends the net's BLIF text to the file that is being written. After a fault a first part of it was appended.
 pub fn write_blif<F: Files>(net: &Net, files: &mut F) -> Result<(), FileFault>
-    ensures ok { OnOk result (Wrote (F.told files.old) (F.told files.new) (blif_text net.now)) }
-    ensures err { OnErr result (WriteFailed (F.told files.old) (F.told files.new) (blif_text net.now)) }
+    ensures { Writes result (F.told files.old) (F.told files.new) (blif_text net.now) }
 {
     let mut page = Page::new();
     write_header(net, files, &mut page)?;

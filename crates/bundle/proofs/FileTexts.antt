@@ -15,30 +15,21 @@ use Rattle.file_reading.specs.Reading.{IsAllWanted, FilesStay}
 use Rattle.file_core.proofs.Told.{Goes-same}
 use Rattle.outside_semantics.specs.Outside.{FilesTold}
 use Rattle.semantics.specs.Texts.{bits_word}
-use Rattle.semantics.specs.Error.{Metric}
+use Rattle.semantics.specs.declared.metric.Metric.{Metric}
 use Rattle.job_semantics.specs.Report.{Report}
 use Rattle.job_semantics.specs.declared.ending.Ending.TheVariants as file
 use Rattle.job_semantics.specs.Certificate.{Texts, AreVectors, IsReportText, IsVectorsText}
 use Rattle.job_semantics.proofs.ReportTexts.{bits-cut}
 use Rattle.lane_bits.specs.Patterns.{PatternSet}
-use Rattle.bundle.specs.declared.report_reading.ReportRead.{ReportRead}
-use Rattle.bundle.specs.Reading.{HoldsVectors, report_read}
-use Rattle.bundle.specs.VectorLines.{vector_lines}
-use Rattle.bundle.proofs.VectorTexts.{vectors_text-is}
-use Rattle.bundle.specs.FilesRead.{IsNetIn, IsReportIn, AreVectorsIn}
+use Rattle.bundle_texts.specs.declared.report_reading.ReportRead.{ReportRead}
+use Rattle.bundle_texts.specs.Reading.{HoldsVectors, report_read}
+use Rattle.bundle_texts.specs.VectorLines.{vector_lines}
+use Rattle.bundle_texts.proofs.VectorTexts.{vectors_text-is}
+use Rattle.bundle_texts.specs.FilesRead.{IsNetIn, IsReportIn, AreVectorsIn}
+use Rattle.bundle_texts.proofs.Fronts.{whole_front, front_at_most}
 
 pub FilesStay-same : (a : FilesTold) (name : Bytes) → FilesStay a a name
 FilesStay-same a name = record { goes = Goes-same a; stays = λ h k told tells. cc; still_told = λ h told has. told }
-
--- a front within the limit is the whole
-pub whole_front : (content text : Bytes) (limit : ℕ) → IsAllWanted content text (limit + 1 - length text) → length text ≤ limit → text ≡ content
-whole_front content text limit (inl whole) within = whole
-whole_front content text limit (inr (none, front)) within = absurd (omega (arith, none, within))
-
--- the whole is no shorter than the front
-front_at_most : (content text : Bytes) (room n : ℕ) → IsAllWanted content text room → n ≤ length text → n ≤ length content
-front_at_most content text room n (inl whole) h = subst (λ t. n ≤ length t) whole h
-front_at_most content text room n (inr (none, front)) h = omega (arith, h, ap length front, length-take (length text) content)
 
 if_false : {X : Type 0} (b : Bool) (x y : X) → b ≡ false → (if not b then x else y) ≡ x
 if_false b x y is = ap (λ t. if not t then x else y) is
@@ -94,39 +85,6 @@ pub report_width : (inputs : ℕ) (metric : Metric) (bound : ℕ) (text : Bytes)
     → IfSome o (λ r. length r.witness ≡ inputs)
 report_width inputs metric bound text None h = tt
 report_width inputs metric bound text (Some found) h = h.witness
-
-one_witness : (inputs : ℕ) (text : Bytes) (w v : List Bool) (p q : List (List Bool)) → IsVectorsText inputs text w p → IsVectorsText inputs text v q → w ≡ v
-one_witness inputs text w v p q h k =
-    let lines : bits_word w ++ 10 ∷ vector_lines p ≡ bits_word v ++ 10 ∷ vector_lines q =
-    sym (append_assoc (bits_word w) (10 ∷ []) (vector_lines p)) ∙ vectors_text-is w p ∙ sym h.spelled ∙ k.spelled ∙ sym (vectors_text-is v q)
-    ∙ append_assoc (bits_word v) (10 ∷ []) (vector_lines q) in
-    (bits-cut w v (10 ∷ vector_lines p) (10 ∷ vector_lines q) (h.widths.0 ∙ sym k.widths.0) lines).0
-
--- the set holds the vectors of the text
-abbrev pub HoldsSome : ℕ → Bytes → PatternSet → Type 0
-HoldsSome inputs text set = (witness : List Bool) × HoldsVectors inputs text witness set
-
-module _ (inputs : ℕ) (text : Bytes) (o : Option PatternSet)
-    (h : MatchOption o ((witness : List Bool) (pool : List (List Bool)) → ¬ IsVectorsText inputs text witness pool) (HoldsSome inputs text)) where
-  pub vectors_some : (set : PatternSet) → o ≡ Some set → HoldsSome inputs text set
-  vectors_some set is = MatchOption-at_some ((witness : List Bool) (pool : List (List Bool)) → ¬ IsVectorsText inputs text witness pool) (HoldsSome inputs text) set is h
-
-  pub vectors_none : o ≡ None → (witness : List Bool) (pool : List (List Bool)) → ¬ IsVectorsText inputs text witness pool
-  vectors_none is = MatchOption-at_none ((witness : List Bool) (pool : List (List Bool)) → ¬ IsVectorsText inputs text witness pool) (HoldsSome inputs text) is h
-
-pub holds_first : (inputs : ℕ) (text : Bytes) (set : PatternSet) → HoldsSome inputs text set → 0 < length set.vectors
-holds_first inputs text set (witness, holds) = omega (arith, ap length holds.vectors_are)
-
--- the first vector is the witness, and the set holds the vectors of the text, or another, and the text has none with the witness first
-pub first_same : (inputs : ℕ) (text : Bytes) (set : PatternSet) (first witness : List Bool) → HoldsSome inputs text set → first ≡ slice_index_or set.vectors 0 [] → witness ≡ first
-    → HoldsVectors inputs text witness set
-first_same inputs text set first witness (held, holds) is same =
-    subst (λ w. HoldsVectors inputs text w set) (sym (same ∙ is ∙ ap (λ vs. slice_index_or vs 0 []) holds.vectors_are)) holds
-
-pub first_other : (inputs : ℕ) (text : Bytes) (set : PatternSet) (first witness : List Bool) → HoldsSome inputs text set → first ≡ slice_index_or set.vectors 0 [] → witness ≢ first
-    → (pool : List (List Bool)) → ¬ IsVectorsText inputs text witness pool
-first_other inputs text set first witness (held, holds) is other pool vectors =
-    other (one_witness inputs text witness held pool holds.pool vectors holds.read ∙ sym (is ∙ ap (λ vs. slice_index_or vs 0 []) holds.vectors_are))
 
 -- the vectors of a text, for the witness that the code holds
 module _ (exact : NetValue) (texts : Texts) (held witness : List Bool) (same : held ≡ witness) (width : length witness ≡ input_count exact) where

@@ -1,7 +1,8 @@
 -- Which clause fails first, and which files are needed, by what is known of the texts.
 use Rattle.std.proofs.Common.{◌≡◌, ◌≢◌, ℕ, ◌≤◌, Bool, IsTrue, List, [], ◌∷◌, refl, sym, ap, subst, ◌∙◌, arith}
 use Rattle.semantics.specs.Net.{NetValue, HasSamePorts}
-use Rattle.semantics.specs.Error.{Metric, net_error}
+use Rattle.semantics.specs.Error.{net_error}
+use Rattle.semantics.specs.declared.metric.Metric.{Metric}
 use Rattle.chain_semantics.specs.Minimality.{IsMinimalBy}
 use Rattle.proof_semantics.specs.Formula.{dimacs_text}
 use Rattle.proof_semantics.specs.Logs.{LogItem}
@@ -12,7 +13,7 @@ use Rattle.job_semantics.specs.Report.{Report}
 use Rattle.job_semantics.specs.Certificate.{IsNeededFor, Texts, IsNetlist, IsReport, AreVectors, IsRefutation, AreCounts, OfNet, OfReport, IsShownMinimal, OfBoth, Holds, Certifies, IsFirstFailing}
 use Rattle.job_semantics.proofs.Certificates.{verified_law}
 use Rattle.lane_bits.specs.Patterns.{PatternSet}
-use Rattle.bundle.specs.LogTold.{IsRefutingText}
+use Rattle.bundle_texts.specs.LogTold.{IsRefutingText}
 use Rattle.bundle.specs.Judging.{NetKnown, ReportKnown, WitnessKnown, FormulaKnown, LogKnown}
 
 module _ (exact : NetValue) (metric : Metric) (bound : ℕ) (texts : Texts) where

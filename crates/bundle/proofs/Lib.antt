@@ -1,9 +1,4 @@
 pub mod FilesInOrder
-pub mod VectorTexts
-pub mod CutTexts
-pub mod ReportCuts
-pub mod LogChecks
-pub mod FormulaChecks
 pub mod JudgedTexts
 pub mod ToldAnswers
 pub mod FileTexts

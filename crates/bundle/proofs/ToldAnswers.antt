@@ -1,11 +1,10 @@
 -- How what the files tell joins from one file to the next.
-use Rattle.std.specs.Prelude.{IfOk, IfErr}
-use Rattle.std.proofs.Common.{◌≡◌, ℕ, ◌^◌, ◌≤◌, false, length, sym, subst, ◌∙◌, Result, Ok, Err, arith}
+use Rattle.std.proofs.Common.{◌≡◌, ℕ, ◌≤◌, false, length, sym, subst, ◌∙◌, Option, Result, Ok, Err, arith}
 use Rattle.std.proofs.lemmas.Bool.{false_from_ne_true}
 use Rattle.semantics.specs.Texts.{Bytes}
 use Rattle.semantics.specs.Net.{NetValue}
-use Rattle.semantics.specs.Error.{Metric}
-use Rattle.outside_semantics.specs.Outside.{Held, FilesTold, Goes, bytes_of}
+use Rattle.semantics.specs.declared.metric.Metric.{Metric}
+use Rattle.outside_semantics.specs.Outside.{Held, FilesTold, bytes_of, turn_budget}
 use Rattle.file_core.proofs.Told.{Goes-same, Goes-Goes, held_before}
 use Rattle.file_reading.specs.declared.unread.Unread.{Unread}
 use Rattle.file_reading.specs.declared.unread.Unread.TheVariants as unread
@@ -14,20 +13,9 @@ use Rattle.file_reading.specs.Refused.{FileUnread}
 use Rattle.job_semantics.specs.declared.ending.Ending.{Ending}
 use Rattle.job_semantics.specs.Endings.{bundle_name}
 use Rattle.job_semantics.specs.Certificate.{Texts, texts_of, OfBundle, IsNeededFor}
+use Rattle.job_semantics.specs.declared.clause.Clause.{Clause}
 use Rattle.bundle.specs.declared.verdict.Verdict.{Verdict}
-use Rattle.bundle.specs.Judging.{FilesKept, IsJudged, IsCause, Answers, NothingKnown, TextRead, TextUnread}
-
-pub FilesKept-same : (a : FilesTold) → FilesKept a a
-FilesKept-same a = record { goes = Goes-same a; stays = λ h k told tells. cc }
-
-kept_by : {old new : FilesTold} {name : Bytes} → FilesStay old new name → FilesKept old new
-kept_by stay = record { goes = stay.goes; stays = stay.stays }
-
-FilesKept-FilesKept : {old mid new : FilesTold} → FilesKept old mid → FilesKept mid new → FilesKept old new
-FilesKept-FilesKept {old} {mid} {new} p q = record {
-  goes = Goes-Goes p.goes q.goes;
-  stays = λ a b told tells. let m = held_before mid new q.goes b tells in q.stays m.0 b m.1 tells ∙ p.stays a m.0 told m.1;
-}
+use Rattle.bundle.specs.Judging.{FilesKept, IsFirstFault, IsVerdict, IsCause, verdict_of, Answers, NothingKnown, TextRead, TextUnread}
 
 -- ---- the reading of one file
 
@@ -41,91 +29,115 @@ text_weaker {old} {new} {name} P Q read step = record { stay = read.stay; conten
 pub text_unread : (old new : FilesTold) (name text : Bytes) (reason : Unread) → FileUnread old new name text reason → TextUnread old new name reason
 text_unread old new name text unread.Fault h = h
 text_unread old new name text unread.OutOfMemory h = h
-text_unread old new name text unread.Endless h = (h.stay, h.long)
+text_unread old new name text unread.Endless h = (h.stay, h.read_out, h.long)
 
 -- ---- the answers behind it
 
--- what was read of a file, later
-module _ (old mid new : FilesTold) (stem : Bytes) (ending : Ending) (Q : Bytes → Type 0) (read : TextRead old mid (bundle_name stem ending) Q) (kept : FilesKept mid new) where
-  read_later : OfBundle old new stem (λ texts. Q (texts ending))
-  read_later a b told tells =
-      let m = held_before mid new kept.goes b tells in
-      let same : b ≡ a = kept.stays m.0 b m.1 tells ∙ read.stay.stays a m.0 told m.1 in
-      subst (λ (h : Held). Q (bytes_of h (bundle_name stem ending))) (sym same) (read.content a m.0 told m.1)
-
-  later : (K K' J : Texts → Type 0) → ((texts : Texts) → K texts → Q (texts ending) → K' texts) → OfBundle mid new stem (λ texts. K' texts → J texts)
-      → OfBundle old new stem (λ texts. K texts → J texts)
-  later K K' J step h a b told tells k =
-      let m = held_before mid new kept.goes b tells in
-      h m.0 b m.1 tells (step (texts_of b stem) k (read_later a b told tells))
-
-bundle_later : (old mid new : FilesTold) (stem : Bytes) (P : Texts → Type 0) → FilesKept mid new → OfBundle mid new stem P → OfBundle old new stem P
-bundle_later old mid new stem P kept h a b told tells = let m = held_before mid new kept.goes b tells in h m.0 b m.1 tells
-
-not_steady_before : {old mid : FilesTold} {name : Bytes} → Goes old mid → mid.steady_read name ≡ false → old.steady_read name ≡ false
-not_steady_before goes h = false_from_ne_true _ (λ steady. cc (goes.steady_read _ steady, h))
-
 module _ (exact : NetValue) (metric : Metric) (bound : ℕ) (stem : Bytes) where
+  abbrev Keeps : (Texts → Type 0) → FilesTold → FilesTold → Type 0
+  Keeps K old new = FilesKept exact metric bound stem K old new
+
+  abbrev Needs : Ending → Texts → Type 0
+  Needs ending texts = IsNeededFor exact metric bound texts ending
+
+  -- a needed file was opened and perhaps read, and no other
+  kept_by : (old new : FilesTold) (ending : Ending) (K : Texts → Type 0) → FilesStay old new (bundle_name stem ending) → ((texts : Texts) → K texts → Needs ending texts) → Keeps K old new
+  kept_by old new ending K stay needed = record {
+    goes = stay.goes;
+    stays = stay.stays;
+    still_told = λ a told known held. stay.still_told a told (held ending (needed (texts_of a stem) known));
+  }
+
+  -- what was read of a file, and what is known with it
+  module _ (old mid new : FilesTold) (ending : Ending) (Q : Bytes → Type 0) (K K' : Texts → Type 0) (read : TextRead old mid (bundle_name stem ending) Q)
+      (needed : (texts : Texts) → K texts → Needs ending texts) (step : (texts : Texts) → K texts → Q (texts ending) → K' texts) (kept : Keeps K' mid new) where
+    kept_later : Keeps K old new
+    kept_later = record {
+      goes = Goes-Goes read.stay.goes kept.goes;
+      stays = λ a b told tells. let m = held_before mid new kept.goes b tells in kept.stays m.0 b m.1 tells ∙ read.stay.stays a m.0 told m.1;
+      still_told = λ a told known held.
+          let still = read.stay.still_told a told (held ending (needed (texts_of a stem) known)) in
+          kept.still_told a still (step (texts_of a stem) known (read.content a a told still)) held;
+    }
+
+    read_later : OfBundle old new stem (λ texts. Q (texts ending))
+    read_later a b told tells =
+        let m = held_before mid new kept.goes b tells in
+        subst (λ (h : Held). Q (bytes_of h (bundle_name stem ending))) (sym (kept_later.stays a b told tells)) (read.content a m.0 told m.1)
+
+    later : (J : Texts → Type 0) → OfBundle mid new stem (λ texts. K' texts → J texts) → OfBundle old new stem (λ texts. K texts → J texts)
+    later J h a b told tells k =
+        let m = held_before mid new kept.goes b tells in
+        h m.0 b m.1 tells (step (texts_of b stem) k (read_later a b told tells))
+
+    bundle_later : (P : Texts → Type 0) → OfBundle mid new stem P → OfBundle old new stem P
+    bundle_later P h a b told tells = let m = held_before mid new kept.goes b tells in h m.0 b m.1 tells
+
+    not_steady_before : (name : Bytes) → mid.steady_read name ≡ false → old.steady_read name ≡ false
+    not_steady_before name h = false_from_ne_true _ (λ steady. cc (read.stay.goes.steady_read name steady, h))
+
+    cause_later : (reason : Unread) → IsCause exact metric bound stem K' mid new reason → IsCause exact metric bound stem K old new reason
+    cause_later unread.Fault (rose, (other, unread, unsteady)) =
+        (omega (arith, read.stay.goes.counts, rose), (other, later (Needs other) unread, not_steady_before (bundle_name stem other) unsteady))
+    cause_later unread.OutOfMemory h = tt
+    cause_later unread.Endless (other, unread, read_out, long) = (
+      other,
+      later (Needs other) unread,
+      omega (arith, read.stay.goes.turns (bundle_name stem other), read_out),
+      bundle_later (λ texts. turn_budget ≤ length (texts other)) long,
+    )
+
   -- a file was read, and the check went on with what is known of it
-  cause_later : (old mid new : FilesTold) (ending : Ending) (Q : Bytes → Type 0) (K K' : Texts → Type 0) → TextRead old mid (bundle_name stem ending) Q
-      → ((texts : Texts) → K texts → Q (texts ending) → K' texts) → FilesKept mid new → (reason : Unread) → IsCause exact metric bound stem K' mid new reason
-      → IsCause exact metric bound stem K old new reason
-  cause_later old mid new ending Q K K' read step kept unread.Fault (rose, (other, needed, unsteady)) = (
-    omega (arith, read.stay.goes.counts, rose),
-    (other, later old mid new stem ending Q read kept K K' (λ texts. IsNeededFor exact metric bound texts other) step needed, not_steady_before read.stay.goes unsteady),
-  )
-  cause_later old mid new ending Q K K' read step kept unread.OutOfMemory h = tt
-  cause_later old mid new ending Q K K' read step kept unread.Endless (other, needed, long) =
-      (other, later old mid new stem ending Q read kept K K' (λ texts. IsNeededFor exact metric bound texts other) step needed, bundle_later old mid new stem (λ texts. 2 ^ 40 ≤ length (texts other)) kept long)
-
   pub answers_later : (old mid new : FilesTold) (ending : Ending) (Q : Bytes → Type 0) (K K' : Texts → Type 0) → TextRead old mid (bundle_name stem ending) Q
-      → ((texts : Texts) → K texts → Q (texts ending) → K' texts) → (answer : Result Verdict Unread) → Answers exact metric bound stem K' mid new answer
-      → Answers exact metric bound stem K old new answer
-  answers_later old mid new ending Q K K' read step (Ok verdict) (kept, judged) =
-      (FilesKept-FilesKept (kept_by read.stay) kept, later old mid new stem ending Q read kept K K' (λ texts. IsJudged exact metric bound texts verdict) step judged)
-  answers_later old mid new ending Q K K' read step (Err reason) (kept, cause) = (FilesKept-FilesKept (kept_by read.stay) kept, cause_later old mid new ending Q K K' read step kept reason cause)
+      → ((texts : Texts) → K texts → Needs ending texts) → ((texts : Texts) → K texts → Q (texts ending) → K' texts)
+      → (answer : Result (Option Clause) Unread) → Answers exact metric bound stem K' mid new answer → Answers exact metric bound stem K old new answer
+  answers_later old mid new ending Q K K' read needed step (Ok failing) (kept, judged) =
+      (kept_later old mid new ending Q K K' read needed step kept, later old mid new ending Q K K' read needed step kept (λ texts. IsFirstFault exact metric bound texts failing) judged)
+  answers_later old mid new ending Q K K' read needed step (Err reason) (kept, cause) =
+      (kept_later old mid new ending Q K K' read needed step kept, cause_later old mid new ending Q K K' read needed step kept reason cause)
 
-  -- a file was read, and the verdict is known
-  pub answers_now : (old new : FilesTold) (ending : Ending) (Q : Bytes → Type 0) (K : Texts → Type 0) (verdict : Verdict) → TextRead old new (bundle_name stem ending) Q
-      → ((texts : Texts) → K texts → Q (texts ending) → IsJudged exact metric bound texts verdict) → Answers exact metric bound stem K old new (Ok verdict)
-  answers_now old new ending Q K verdict read step =
-      (kept_by read.stay, λ a b told tells k. step (texts_of b stem) k (read_later old new new stem ending Q read (FilesKept-same new) a b told tells))
+  -- a file was read, and the first clause that fails is known
+  pub answers_now : (old new : FilesTold) (ending : Ending) (Q : Bytes → Type 0) (K : Texts → Type 0) (failing : Option Clause) → TextRead old new (bundle_name stem ending) Q
+      → ((texts : Texts) → K texts → Needs ending texts) → ((texts : Texts) → K texts → Q (texts ending) → IsFirstFault exact metric bound texts failing)
+      → Answers exact metric bound stem K old new (Ok failing)
+  answers_now old new ending Q K failing read needed step = (
+    kept_by old new ending K read.stay needed,
+    λ a b told tells k.
+        step (texts_of b stem) k
+        (subst (λ (h : Held). Q (bytes_of h (bundle_name stem ending))) (sym (read.stay.stays a b told tells)) (read.content a b told tells)),
+  )
 
   -- a file was not read
   pub answers_unread : (old new : FilesTold) (ending : Ending) (K : Texts → Type 0) (reason : Unread) → TextUnread old new (bundle_name stem ending) reason
-      → ((texts : Texts) → K texts → IsNeededFor exact metric bound texts ending) → Answers exact metric bound stem K old new (Err reason)
-  answers_unread old new ending K unread.Fault h needed = (kept_by h.stay, (h.rose, (ending, (λ a b told tells k. needed (texts_of b stem) k), h.not_steady)))
-  answers_unread old new ending K unread.OutOfMemory h needed = (kept_by h, tt)
-  answers_unread old new ending K unread.Endless (stay, long) needed = (
-    kept_by stay,
+      → ((texts : Texts) → K texts → Needs ending texts) → Answers exact metric bound stem K old new (Err reason)
+  answers_unread old new ending K unread.Fault h needed =
+      (kept_by old new ending K h.stay needed, (h.rose, (ending, (λ a b told tells k. needed (texts_of b stem) k), h.not_steady)))
+  answers_unread old new ending K unread.OutOfMemory h needed = (kept_by old new ending K h needed, tt)
+  answers_unread old new ending K unread.Endless (stay, read_out, long) needed = (
+    kept_by old new ending K stay needed,
     (
       ending,
       (λ a b told tells k. needed (texts_of b stem) k),
-      λ a b told tells. subst (λ (h : Held). 2 ^ 40 ≤ length (bytes_of h (bundle_name stem ending))) (sym (stay.stays a b told tells)) (long a b told tells),
+      read_out,
+      λ a b told tells. subst (λ (h : Held). turn_budget ≤ length (bytes_of h (bundle_name stem ending))) (sym (stay.stays a b told tells)) (long a b told tells),
     ),
   )
 
   -- no file was touched, and there was no memory
   pub answers_memory : (told : FilesTold) (K : Texts → Type 0) → Answers exact metric bound stem K told told (Err unread.OutOfMemory)
-  answers_memory told K = (FilesKept-same told, tt)
+  answers_memory told K = (record { goes = Goes-same told; stays = λ h k old new. cc; still_told = λ a was known held. was }, tt)
 
   -- a file was read, and then there was no memory
   pub answers_then_memory : (old new : FilesTold) (ending : Ending) (Q : Bytes → Type 0) (K : Texts → Type 0) → TextRead old new (bundle_name stem ending) Q
-      → Answers exact metric bound stem K old new (Err unread.OutOfMemory)
-  answers_then_memory old new ending Q K read = (kept_by read.stay, tt)
+      → ((texts : Texts) → K texts → Needs ending texts) → Answers exact metric bound stem K old new (Err unread.OutOfMemory)
+  answers_then_memory old new ending Q K read needed = (kept_by old new ending K read.stay needed, tt)
 
   -- the parts of an answer
   module _ (old new : FilesTold) where
-    pub answer_kept : (answer : Result Verdict Unread) → Answers exact metric bound stem NothingKnown old new answer → FilesKept old new
-    answer_kept (Ok verdict) h = h.0
+    pub answer_kept : (answer : Result (Option Clause) Unread) → Answers exact metric bound stem NothingKnown old new answer → Keeps NothingKnown old new
+    answer_kept (Ok failing) h = h.0
     answer_kept (Err reason) h = h.0
 
-    pub answer_judged : (answer : Result Verdict Unread) → Answers exact metric bound stem NothingKnown old new answer
-        → IfOk answer (λ verdict. OfBundle old new stem (λ texts. IsJudged exact metric bound texts verdict))
-    answer_judged (Ok verdict) h = λ a b told tells. h.1 a b told tells tt
-    answer_judged (Err reason) h = tt
-
-    pub answer_caused : (answer : Result Verdict Unread) → Answers exact metric bound stem NothingKnown old new answer
-        → IfErr answer (IsCause exact metric bound stem NothingKnown old new)
-    answer_caused (Ok verdict) h = tt
-    answer_caused (Err reason) h = h.1
+    pub verdict_told : (failing : Option Clause) (verdict : Verdict) → verdict ≡ verdict_of failing → Answers exact metric bound stem NothingKnown old new (Ok failing)
+        → IsVerdict exact metric bound stem old new verdict
+    verdict_told failing verdict is h = record { failing = failing; is = is; judged = λ a b told tells. h.1 a b told tells tt }

@@ -1,9 +1,10 @@
 -- What the check of a bundle's files comes to.
-use Rattle.std.specs.Prelude.{◌≡◌, ℕ, ◌^◌, ◌≤◌, false, length, Result, Ok, Err}
+use Rattle.std.specs.Prelude.{◌≡◌, ℕ, ◌≤◌, false, length, Option, None, Some, Result, Ok, Err}
 use Rattle.semantics.specs.Texts.{Bytes}
 use Rattle.semantics.specs.Net.{NetValue, input_count, HasSamePorts}
-use Rattle.semantics.specs.Error.{Metric, net_error}
-use Rattle.outside_semantics.specs.Outside.{FilesTold, Goes, Rose, WhereTold, bytes_of}
+use Rattle.semantics.specs.Error.{net_error}
+use Rattle.semantics.specs.declared.metric.Metric.{Metric}
+use Rattle.outside_semantics.specs.Outside.{Held, FilesTold, Goes, Rose, IsReadOut, WhereTold, bytes_of, turn_budget}
 use Rattle.file_reading.specs.declared.unread.Unread.{Unread}
 use Rattle.file_reading.specs.declared.unread.Unread.TheVariants.{Fault, OutOfMemory, Endless}
 use Rattle.file_reading.specs.Reading.{FilesStay, FileFailed}
@@ -14,22 +15,33 @@ use Rattle.job_semantics.specs.declared.ending.Ending.TheVariants as file
 use Rattle.job_semantics.specs.declared.clause.Clause.{Clause}
 use Rattle.job_semantics.specs.Endings.{bundle_name}
 use Rattle.job_semantics.specs.Report.{Report}
-use Rattle.job_semantics.specs.Certificate.{Texts, OfBundle, IsNetlist, IsReport, Certifies, IsFirstFailing, IsNeededFor, clause_number}
+use Rattle.job_semantics.specs.Certificate.{Texts, texts_of, OfBundle, AreNeededHeld, IsNetlist, IsReport, Certifies, IsFirstFailing, IsNeededFor, clause_number}
 use Rattle.lane_bits.specs.Patterns.{PatternSet}
-use Rattle.bundle.specs.LogTold.{IsRefutingText}
-use Rattle.bundle.specs.Reading.{HoldsVectors}
+use Rattle.bundle_texts.specs.LogTold.{IsRefutingText}
+use Rattle.bundle_texts.specs.Reading.{HoldsVectors}
 use Rattle.bundle.specs.declared.verdict.Verdict.{Verdict}
 use Rattle.bundle.specs.declared.verdict.Verdict.TheVariants.{Verified, Refuted}
 
--- the texts are a certificate, or the clause of this number is the first that fails
-abbrev pub IsJudged : NetValue → Metric → ℕ → Texts → Verdict → Type 0
-IsJudged exact metric bound texts Verified = Certifies exact metric bound texts
-IsJudged exact metric bound texts (Refuted number) = (c : Clause) × (clause_number c ≡ number) × IsFirstFailing exact metric bound texts c
+-- no clause fails, or this one is the first that does
+abbrev pub IsFirstFault : NetValue → Metric → ℕ → Texts → Option Clause → Type 0
+IsFirstFault exact metric bound texts None = Certifies exact metric bound texts
+IsFirstFault exact metric bound texts (Some c) = IsFirstFailing exact metric bound texts c
 
--- calls changed no file
-pub record FilesKept (old new : FilesTold) : Type 0 where
+abbrev pub verdict_of : Option Clause → Verdict
+verdict_of None = Verified
+verdict_of (Some c) = Refuted (clause_number c)
+
+-- Calls changed no file. Where K holds of the texts and the files that the verdict needs are held, what was told is told still.
+pub record FilesKept (exact : NetValue) (metric : Metric) (bound : ℕ) (stem : Bytes) (K : Texts → Type 0) (old new : FilesTold) : Type 0 where
   pub goes : Goes old new
   pub stays : WhereTold old new (λ a b. b ≡ a)
+  pub still_told : (a : Held) → old.held ≡ Some a → K (texts_of a stem) → AreNeededHeld exact metric bound stem a → new.held ≡ Some a
+
+-- the verdict by the first clause that fails
+pub record IsVerdict (exact : NetValue) (metric : Metric) (bound : ℕ) (stem : Bytes) (old new : FilesTold) (verdict : Verdict) : Type 0 where
+  pub failing : Option Clause
+  pub is : verdict ≡ verdict_of failing
+  pub judged : OfBundle old new stem (λ texts. IsFirstFault exact metric bound texts failing)
 
 -- why there is no verdict, where K holds of the texts: a needed file could not be read, or goes on past the budget of turns
 abbrev pub IsCause : NetValue → Metric → ℕ → Bytes → (Texts → Type 0) → FilesTold → FilesTold → Unread → Type 0
@@ -39,12 +51,13 @@ IsCause exact metric bound stem K old new Fault =
 IsCause exact metric bound stem K old new OutOfMemory = Unit {0}
 IsCause exact metric bound stem K old new Endless =
     (ending : Ending) × OfBundle old new stem (λ texts. K texts → IsNeededFor exact metric bound texts ending)
-    × OfBundle old new stem (λ texts. 2 ^ 40 ≤ length (texts ending))
+    × IsReadOut old new (bundle_name stem ending) × OfBundle old new stem (λ texts. turn_budget ≤ length (texts ending))
 
 -- what the check answers, where K holds of the texts
-abbrev pub Answers : NetValue → Metric → ℕ → Bytes → (Texts → Type 0) → FilesTold → FilesTold → Result Verdict Unread → Type 0
-Answers exact metric bound stem K old new (Ok verdict) = FilesKept old new × OfBundle old new stem (λ texts. K texts → IsJudged exact metric bound texts verdict)
-Answers exact metric bound stem K old new (Err reason) = FilesKept old new × IsCause exact metric bound stem K old new reason
+abbrev pub Answers : NetValue → Metric → ℕ → Bytes → (Texts → Type 0) → FilesTold → FilesTold → Result (Option Clause) Unread → Type 0
+Answers exact metric bound stem K old new (Ok failing) =
+    FilesKept exact metric bound stem K old new × OfBundle old new stem (λ texts. K texts → IsFirstFault exact metric bound texts failing)
+Answers exact metric bound stem K old new (Err reason) = FilesKept exact metric bound stem K old new × IsCause exact metric bound stem K old new reason
 
 -- a file was read to its end, or as far as Q of its bytes asks
 pub record TextRead (old new : FilesTold) (name : Bytes) (Q : Bytes → Type 0) : Type 0 where
@@ -55,7 +68,7 @@ pub record TextRead (old new : FilesTold) (name : Bytes) (Q : Bytes → Type 0) 
 abbrev pub TextUnread : FilesTold → FilesTold → Bytes → Unread → Type 0
 TextUnread old new name Fault = FileFailed old new name
 TextUnread old new name OutOfMemory = FilesStay old new name
-TextUnread old new name Endless = FilesStay old new name × WhereTold old new (λ a b. 2 ^ 40 ≤ length (bytes_of a name))
+TextUnread old new name Endless = FilesStay old new name × IsReadOut old new name × WhereTold old new (λ a b. turn_budget ≤ length (bytes_of a name))
 
 -- ---- what is known once the clauses that speak of a file hold
 

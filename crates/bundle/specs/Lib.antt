@@ -1,12 +1,3 @@
 pub mod Names
 pub mod Value
-pub mod VectorLines
-pub mod Pieces
-pub mod ReportParts
-pub mod Reading
-pub mod TextCheck
-pub mod LogTold
-pub mod LogStanding
-pub mod FormulaStanding
 pub mod Judging
-pub mod FilesRead

@@ -3,7 +3,6 @@ use Rattle.std.specs.Prelude.{◌^◌, ◌<◌, ◌≤◌, List, length}
 use Rattle.semantics.specs.Texts.{Bytes}
 use Rattle.semantics.specs.Net.{literal_count}
 use Rattle.outside_semantics.specs.WrittenFiles.{File}
-use Rattle.joint_net.specs.Metric.{meaning}
 use Rattle.job_semantics.specs.declared.ending.Ending.{Ending}
 use Rattle.job_semantics.specs.Endings.{bundle_name, bundle_files}
 use Rattle.job_semantics.specs.Report.{report_text}
@@ -14,7 +13,7 @@ abbrev pub bundle_value : Bundle → BundleValue
 bundle_value b = record {
   exact = b.exact;
   approx = b.approx;
-  metric = meaning b.metric;
+  metric = b.metric;
   bound = b.bound;
   maximum = b.maximum;
   witness = b.witness;

@@ -2,10 +2,10 @@
 
 use cnf_core::cnf::Cnf;
 use cnf_core::log::Log;
-use joint_net::metric::Metric;
 use lane_bits::patterns::Patterns;
 use net_core::items::Bits;
 use net_core::net::Net;
+use semantics::metric::Metric;
 
 /// A simplified net with all that shows what it is. `exact` is the net as it was read and `approx` the simplified one;
 /// `maximum` is the greatest error, which `witness` attains, and `bound` what was allowed. `pool` are further input vectors:

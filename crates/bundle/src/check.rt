@@ -3,27 +3,26 @@ ghost use Rattle.std.specs.Prelude.{◌≡◌, ◌↔◌, length, IsTrue, IfOk, 
 ghost use Rattle.semantics.specs.Net.{HasSamePorts, IsSmall, input_count};
 ghost use Rattle.chain_semantics.specs.Minimality.{IsMinimalBy};
 ghost use Rattle.proof_semantics.specs.Miter.{miter};
-ghost use Rattle.job_semantics.specs.Certificate.{Texts, OfBundle};
-ghost use Rattle.joint_net.specs.Metric.{meaning};
-ghost use Rattle.bundle.specs.Reading.{report_read};
-ghost use Rattle.bundle.specs.Judging.{Answers, FilesKept, IsCause, IsJudged, NothingKnown, NetKnown, ReportKnown, WitnessKnown, FormulaKnown, LogKnown};
+ghost use Rattle.job_semantics.specs.Certificate.{Texts};
+ghost use Rattle.bundle_texts.specs.Reading.{report_read};
+ghost use Rattle.bundle.specs.Judging.{Answers, FilesKept, IsCause, IsFirstFault, IsVerdict, NothingKnown, NetKnown, ReportKnown, WitnessKnown, FormulaKnown, LogKnown};
 
-use crate::claim::{Claim, Contents, are_counts, miter};
+use crate::claim::{Claim, Contents, are_counts, error_at, miter};
 use crate::file_texts::{
     is_formula, is_refuted, read_netlist, read_report_file, read_vectors_file,
 };
 use crate::minimality::is_minimal;
-use crate::report_reading::ReportRead;
 use crate::stem::Stem;
 use crate::verdict::Verdict;
+use bundle_texts::report_reading::ReportRead;
 use cnf_core::cnf::Cnf;
 use file_core::files::Files;
 use file_reading::unread::Unread;
+use job_semantics::clause::Clause;
 use job_semantics::ending::Ending;
-use joint_net::metric::Metric;
-use joint_net::net_error::error_at;
-use joint_net::ports::same_ports;
 use net_core::net::Net;
+use net_errors::ports::same_ports;
+use semantics::metric::Metric;
 use std::alloc::{AllocError, Global};
 
 /// Whether the vectors show that the net is minimal, where the report says that it is.
@@ -33,7 +32,7 @@ fn is_shown_minimal(alloc: Global, claim: &Claim, contents: &Contents) -> Result
     requires ports { HasSamePorts claim.now.exact.now contents.now.approx.now }
     requires inputs { contents.now.vectors.now.inputs ≡ input_count claim.now.exact.now }
     ensures { IfOk result (λ yes. IsTrue yes ↔ (IsTrue contents.now.report.now.counts.minimal
-        → IsMinimalBy (meaning claim.now.metric) claim.now.exact.now claim.now.bound contents.now.approx.now
+        → IsMinimalBy claim.now.metric claim.now.exact.now claim.now.bound contents.now.approx.now
         contents.now.vectors.now.vectors)) }
 {
     if !contents.report.counts.minimal {
@@ -49,99 +48,99 @@ fn is_shown_minimal(alloc: Global, claim: &Claim, contents: &Contents) -> Result
     )
 }
 
-/// The clauses on the counts and on the report's last line, which need no further file.
-fn check_counts(alloc: Global, claim: &Claim, contents: &Contents) -> Result<Verdict, AllocError>
+/// The first clause that fails of those on the counts and on the report's last line, which need no further file.
+fn check_counts(alloc: Global, claim: &Claim, contents: &Contents) -> Result<Option<Clause>, AllocError>
     requires exact { IsSmall claim.now.exact.now }
     requires approx { IsSmall contents.now.approx.now }
     requires ports { HasSamePorts claim.now.exact.now contents.now.approx.now }
     requires inputs { contents.now.vectors.now.inputs ≡ input_count claim.now.exact.now }
-    ensures { IfOk result (λ verdict. (texts : Texts)
-        → LogKnown claim.now.exact.now (meaning claim.now.metric) claim.now.bound contents.now.approx.now
-        (report_read (meaning claim.now.metric) claim.now.bound contents.now.report.now) contents.now.vectors.now texts
-        → IsJudged claim.now.exact.now (meaning claim.now.metric) claim.now.bound texts verdict) }
+    ensures { IfOk result (λ failing. (texts : Texts)
+        → LogKnown claim.now.exact.now claim.now.metric claim.now.bound contents.now.approx.now
+        (report_read claim.now.metric claim.now.bound contents.now.report.now) contents.now.vectors.now texts
+        → IsFirstFault claim.now.exact.now claim.now.metric claim.now.bound texts failing) }
 {
     if !are_counts(claim.exact, contents.approx, contents.report) {
-        return Ok(Verdict::Refuted(9));
+        return Ok(Some(Clause::Counts));
     }
     if !is_shown_minimal(alloc, claim, contents)? {
-        return Ok(Verdict::Refuted(10));
+        return Ok(Some(Clause::Minimal));
     }
-    Ok(Verdict::Verified)
+    Ok(None)
 }
 
-/// The clauses from the log's on.
+/// The first clause that fails from the log's on.
 fn check_log<F: Files>(
     alloc: Global,
     claim: &Claim,
     contents: &Contents,
     formula: &Cnf,
     files: &mut F,
-) -> Result<Verdict, Unread>
+) -> Result<Option<Clause>, Unread>
     requires exact { IsSmall claim.now.exact.now }
     requires approx { IsSmall contents.now.approx.now }
     requires ports { HasSamePorts claim.now.exact.now contents.now.approx.now }
     requires inputs { contents.now.vectors.now.inputs ≡ input_count claim.now.exact.now }
-    requires formula { formula.now ≡ miter claim.now.exact.now contents.now.approx.now (meaning claim.now.metric)
+    requires formula { formula.now ≡ miter claim.now.exact.now contents.now.approx.now claim.now.metric
         contents.now.report.now.maximum }
-    ensures { Answers claim.now.exact.now (meaning claim.now.metric) claim.now.bound claim.now.stem.now
-        (FormulaKnown claim.now.exact.now (meaning claim.now.metric) claim.now.bound contents.now.approx.now
-        (report_read (meaning claim.now.metric) claim.now.bound contents.now.report.now) contents.now.vectors.now)
+    ensures { Answers claim.now.exact.now claim.now.metric claim.now.bound claim.now.stem.now
+        (FormulaKnown claim.now.exact.now claim.now.metric claim.now.bound contents.now.approx.now
+        (report_read claim.now.metric claim.now.bound contents.now.report.now) contents.now.vectors.now)
         (F.told files.old) (F.told files.new) result }
 {
     if !is_refuted(alloc, files, claim.stem.name(Ending::Log), formula)? {
-        return Ok(Verdict::Refuted(8));
+        return Ok(Some(Clause::Log));
     }
     Ok(check_counts(alloc, claim, contents)?)
 }
 
-/// The clauses from the formula's on.
+/// The first clause that fails from the formula's on.
 fn check_formula<F: Files>(
     alloc: Global,
     claim: &Claim,
     contents: &Contents,
     files: &mut F,
-) -> Result<Verdict, Unread>
+) -> Result<Option<Clause>, Unread>
     requires exact { IsSmall claim.now.exact.now }
     requires approx { IsSmall contents.now.approx.now }
     requires ports { HasSamePorts claim.now.exact.now contents.now.approx.now }
     requires inputs { contents.now.vectors.now.inputs ≡ input_count claim.now.exact.now }
-    ensures { Answers claim.now.exact.now (meaning claim.now.metric) claim.now.bound claim.now.stem.now
-        (WitnessKnown claim.now.exact.now (meaning claim.now.metric) claim.now.bound contents.now.approx.now
-        (report_read (meaning claim.now.metric) claim.now.bound contents.now.report.now) contents.now.vectors.now)
+    ensures { Answers claim.now.exact.now claim.now.metric claim.now.bound claim.now.stem.now
+        (WitnessKnown claim.now.exact.now claim.now.metric claim.now.bound contents.now.approx.now
+        (report_read claim.now.metric claim.now.bound contents.now.report.now) contents.now.vectors.now)
         (F.told files.old) (F.told files.new) result }
 {
     let level = contents.report.maximum;
     let formula = miter(alloc, claim.exact, contents.approx, claim.metric, level)?;
     if !is_formula(files, claim.stem.name(Ending::Formula), &formula)? {
-        return Ok(Verdict::Refuted(7));
+        return Ok(Some(Clause::Formula));
     }
     check_log(alloc, claim, contents, &formula, files)
 }
 
-/// The clauses from the witness's on.
+/// The first clause that fails from the witness's on.
 fn check_witness<F: Files>(
     alloc: Global,
     claim: &Claim,
     approx: &Net,
     report: &ReportRead,
     files: &mut F,
-) -> Result<Verdict, Unread>
+) -> Result<Option<Clause>, Unread>
     requires exact { IsSmall claim.now.exact.now }
     requires approx { IsSmall approx.now }
     requires ports { HasSamePorts claim.now.exact.now approx.now }
     requires width { length report.now.witness ≡ input_count claim.now.exact.now }
-    ensures { Answers claim.now.exact.now (meaning claim.now.metric) claim.now.bound claim.now.stem.now
-        (ReportKnown claim.now.exact.now (meaning claim.now.metric) claim.now.bound approx.now
-        (report_read (meaning claim.now.metric) claim.now.bound report.now))
+    ensures { Answers claim.now.exact.now claim.now.metric claim.now.bound claim.now.stem.now
+        (ReportKnown claim.now.exact.now claim.now.metric claim.now.bound approx.now
+        (report_read claim.now.metric claim.now.bound report.now))
         (F.told files.old) (F.told files.new) result }
 {
     let witness = report.witness.as_slice();
     let name = claim.stem.name(Ending::Vectors);
     let Some(vectors) = read_vectors_file(alloc, files, name, witness)? else {
-        return Ok(Verdict::Refuted(5));
+        return Ok(Some(Clause::Witness));
     };
     if error_at(alloc, claim.exact, approx, claim.metric, witness)? != report.maximum {
-        return Ok(Verdict::Refuted(6));
+        return Ok(Some(Clause::Attained));
     }
     let contents = Contents {
         approx,
@@ -151,17 +150,17 @@ fn check_witness<F: Files>(
     check_formula(alloc, claim, &contents, files)
 }
 
-/// The clauses from the report's on.
+/// The first clause that fails from the report's on.
 fn check_report<F: Files>(
     alloc: Global,
     claim: &Claim,
     approx: &Net,
     files: &mut F,
-) -> Result<Verdict, Unread>
+) -> Result<Option<Clause>, Unread>
     requires exact { IsSmall claim.now.exact.now }
     requires approx { IsSmall approx.now }
     requires ports { HasSamePorts claim.now.exact.now approx.now }
-    ensures { Answers claim.now.exact.now (meaning claim.now.metric) claim.now.bound claim.now.stem.now
+    ensures { Answers claim.now.exact.now claim.now.metric claim.now.bound claim.now.stem.now
         (NetKnown claim.now.exact.now approx.now)
         (F.told files.old) (F.told files.new) result }
 {
@@ -169,15 +168,15 @@ fn check_report<F: Files>(
     let inputs = claim.exact.inputs();
     let Some(report) = read_report_file(alloc, files, name, claim.metric, claim.bound, inputs)?
     else {
-        return Ok(Verdict::Refuted(3));
+        return Ok(Some(Clause::ReportForm));
     };
     if report.maximum > claim.bound {
-        return Ok(Verdict::Refuted(4));
+        return Ok(Some(Clause::MaximumWithin));
     }
     check_witness(alloc, claim, approx, &report, files)
 }
 
-/// All clauses, from the netlist's on.
+/// The first clause that fails of all, from the netlist's on.
 fn check_netlist<F: Files>(
     alloc: Global,
     net: &Net,
@@ -185,15 +184,15 @@ fn check_netlist<F: Files>(
     bound: u128,
     stem: &Stem,
     files: &mut F,
-) -> Result<Verdict, Unread>
+) -> Result<Option<Clause>, Unread>
     requires { IsSmall net.now }
-    ensures { Answers net.now (meaning metric) bound stem.now NothingKnown (F.told files.old) (F.told files.new) result }
+    ensures { Answers net.now metric bound stem.now NothingKnown (F.told files.old) (F.told files.new) result }
 {
     let Some(approx) = read_netlist(alloc, files, stem.name(Ending::Netlist))? else {
-        return Ok(Verdict::Refuted(1));
+        return Ok(Some(Clause::Netlist));
     };
     if !same_ports(net, &approx) {
-        return Ok(Verdict::Refuted(2));
+        return Ok(Some(Clause::Ports));
     }
     let claim = Claim {
         exact: net,
@@ -215,11 +214,12 @@ pub fn check_bundle<F: Files>(
     files: &mut F,
 ) -> Result<Verdict, Unread>
     requires { IsSmall net.now }
-    ensures kept { FilesKept (F.told files.old) (F.told files.new) }
-    ensures verdict { IfOk result (λ verdict. OfBundle (F.told files.old) (F.told files.new) stem.now
-        (λ texts. IsJudged net.now (meaning metric) bound texts verdict)) }
+    ensures kept { FilesKept net.now metric bound stem.now NothingKnown (F.told files.old) (F.told files.new) }
+    ensures verdict { IfOk result
+        (IsVerdict net.now metric bound stem.now (F.told files.old) (F.told files.new)) }
     ensures cause { IfErr result
-        (IsCause net.now (meaning metric) bound stem.now NothingKnown (F.told files.old) (F.told files.new)) }
+        (IsCause net.now metric bound stem.now NothingKnown (F.told files.old) (F.told files.new)) }
 {
-    check_netlist(alloc, net, metric, bound, stem, files)
+    let failing = check_netlist(alloc, net, metric, bound, stem, files)?;
+    Ok(Verdict::of(failing))
 }

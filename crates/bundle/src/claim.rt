@@ -1,20 +1,21 @@
 //! What a bundle is checked for, and the nets in it.
 ghost use Rattle.std.specs.Prelude.{◌≡◌, ◌≤◌, ◌↔◌, length, IsTrue, IfOk};
-ghost use Rattle.semantics.specs.Net.{HasSamePorts, IsSmall, IsSound};
-ghost use Rattle.semantics.specs.Error.{abs};
+ghost use Rattle.semantics.specs.Net.{HasSamePorts, IsSmall, IsSound, input_count};
+ghost use Rattle.semantics.specs.Error.{net_error};
+ghost use Rattle.semantics.specs.declared.metric.Metric.TheVariants.{Abs};
 ghost use Rattle.proof_semantics.specs.Miter.{miter};
 ghost use Rattle.job_semantics.specs.Certificate.{AreCounts};
-ghost use Rattle.joint_net.specs.Metric.{meaning};
-ghost use Rattle.bundle.specs.Reading.{report_read};
+ghost use Rattle.bundle_texts.specs.Reading.{report_read};
 
-use crate::report_reading::ReportRead;
 use crate::stem::Stem;
+use bundle_texts::report_reading::ReportRead;
 use cnf_core::cnf::Cnf;
 use cnf_core::of_net::of_goal;
 use joint_net::joint::joint;
-use joint_net::metric::Metric;
 use lane_bits::patterns::Patterns;
 use net_core::net::Net;
+use net_errors::compared::Compared;
+use semantics::metric::Metric;
 use std::alloc::{AllocError, Global};
 
 /// What the files of a stem are to show of a net.
@@ -51,17 +52,34 @@ pub(crate) fn miter(
 ) -> Result<Cnf, AllocError>
     requires ports { HasSamePorts exact.now approx.now }
     requires few_outputs { length exact.now.outputs ≤ 64 }
-    ensures { IfOk result (λ f. f ≡ miter exact.now approx.now (meaning metric) level) }
+    ensures { IfOk result (λ f. f ≡ miter exact.now approx.now metric level) }
 {
     let net = joint(alloc, exact, approx, metric, level)?;
     of_goal(alloc, &net)
+}
+
+/// The error at one input vector.
+pub(crate) fn error_at(
+    alloc: Global,
+    exact: &Net,
+    approx: &Net,
+    metric: Metric,
+    x: &[bool],
+) -> Result<u128, AllocError>
+    requires ports { HasSamePorts exact.now approx.now }
+    requires few_outputs { length exact.now.outputs ≤ 64 }
+    requires width { length x.now ≡ input_count exact.now }
+    ensures { IfOk result (λ e. e ≡ net_error metric exact.now approx.now x.now) }
+{
+    let nets = Compared::new(exact, approx);
+    net_errors::net_error::error_at(alloc, &nets, metric, x)
 }
 
 /// Whether the report's counts are those of the two nets, and none grew.
 pub(crate) fn are_counts(exact: &Net, approx: &Net, report: &ReportRead) -> bool
     requires exact { IsSmall exact.now }
     requires approx { IsSmall approx.now }
-    ensures { IsTrue result ↔ AreCounts exact.now approx.now (report_read abs 0 report.now) }
+    ensures { IsTrue result ↔ AreCounts exact.now approx.now (report_read Abs 0 report.now) }
 {
     see_sound(exact);
     see_sound(approx);

@@ -2,15 +2,15 @@
 ghost use Rattle.std.specs.Prelude.{◌≡◌, ◌↔◌, ◌≤◌, length, IsTrue, IfSome, IfOk, IfErr};
 ghost use Rattle.semantics.specs.Net.{IsSmall};
 ghost use Rattle.proof_semantics.specs.Formula.{dimacs_text};
-ghost use Rattle.joint_net.specs.Metric.{meaning};
-ghost use Rattle.bundle.specs.LogTold.{IsRefutingText};
-ghost use Rattle.bundle.specs.FilesRead.{IsNetIn, IsReportIn, AreVectorsIn};
+ghost use Rattle.bundle_texts.specs.LogTold.{IsRefutingText};
+ghost use Rattle.bundle_texts.specs.FilesRead.{IsNetIn, IsReportIn, AreVectorsIn};
 ghost use Rattle.bundle.specs.Judging.{TextRead, TextUnread};
 
-use crate::formula_check::FormulaCheck;
-use crate::log_check::LogCheck;
-use crate::report_reading::{ReportRead, read_report};
-use crate::vectors_reading::read_vectors;
+use bundle_texts::formula_check::FormulaCheck;
+use bundle_texts::log_check::LogCheck;
+use bundle_texts::report_lines::REPORT_LIMIT;
+use bundle_texts::report_reading::{ReportRead, read_report};
+use bundle_texts::vectors_check::VectorsCheck;
 use blif_text::reading::read_blif;
 use blif_text::refusal::BlifRefusal;
 use cnf_core::cnf::Cnf;
@@ -18,30 +18,13 @@ use file_core::files::Files;
 use file_reading::front::Front;
 use file_reading::reading::read_file;
 use file_reading::unread::Unread;
-use joint_net::metric::Metric;
 use lane_bits::patterns::Patterns;
 use net_core::net::Net;
-use std::alloc::{AllocError, Global};
+use semantics::metric::Metric;
+use std::alloc::Global;
 
 /// The limit of a netlist's bytes.
 const NETLIST_LIMIT: usize = 268_435_456;
-
-/// The most bytes of a text that is held whole.
-const MOST_BYTES: usize = (1 << 40) - 1;
-
-/// The whole text of a file. It answers want of memory where the text has 2^40 bytes or more.
-fn read_whole<F: Files>(alloc: Global, files: &mut F, name: &[u8]) -> Result<Front, Unread>
-    ensures ok { IfOk result
-        (λ front. TextRead (F.told files.old) (F.told files.new) name.now (λ content. front.bytes ≡ content)) }
-    ensures err { IfErr result (TextUnread (F.told files.old) (F.told files.new) name.now) }
-{
-    let mut front = Front::new(alloc, MOST_BYTES);
-    read_file(files, name, &mut front)?;
-    if front.bytes().len() > MOST_BYTES {
-        return Err(Unread::OutOfMemory);
-    }
-    Ok(front)
-}
 
 /// The net of a file, if its text is one.
 pub(crate) fn read_netlist<F: Files>(
@@ -65,7 +48,8 @@ pub(crate) fn read_netlist<F: Files>(
     }
 }
 
-/// The report of a file, if its text is one for the metric, the bound and nets of so many inputs.
+/// The report of a file, if its text is one for the metric, the bound and nets of so many inputs. No longer text is one, so it is
+/// read no further than a byte past that limit.
 pub(crate) fn read_report_file<F: Files>(
     alloc: Global,
     files: &mut F,
@@ -74,38 +58,19 @@ pub(crate) fn read_report_file<F: Files>(
     bound: u128,
     inputs: u32,
 ) -> Result<Option<ReportRead>, Unread>
+    requires { inputs ≤ 256 }
     ensures ok { IfOk result
-        (λ report. TextRead (F.told files.old) (F.told files.new) name.now (IsReportIn inputs (meaning metric) bound report)) }
+        (λ report. TextRead (F.told files.old) (F.told files.new) name.now (IsReportIn inputs metric bound report)) }
     ensures width { IfOk result (λ report. IfSome report (λ r. length r.witness ≡ inputs)) }
     ensures err { IfErr result (TextUnread (F.told files.old) (F.told files.new) name.now) }
 {
-    let text = read_whole(alloc, files, name)?;
-    Ok(read_report(alloc, text.bytes(), metric, bound, inputs)?)
+    let mut front = Front::new(alloc, REPORT_LIMIT);
+    read_file(files, name, &mut front)?;
+    Ok(read_report(alloc, front.bytes(), metric, bound, inputs)?)
 }
 
-/// The vectors of a text, if the witness is the first of them.
-fn vectors_from(
-    alloc: Global,
-    text: &[u8],
-    witness: &[bool],
-) -> Result<Option<Patterns>, AllocError>
-    requires { length witness.now ≤ 256 }
-    ensures { IfOk result (λ vectors. AreVectorsIn (length witness.now) witness.now vectors text.now) }
-{
-    let Some(set) = read_vectors(alloc, text, witness.len() as u32)? else {
-        return Ok(None);
-    };
-    let mut buffer = [false; 256];
-    let first = &mut buffer[..witness.len()];
-    set.get(0, first);
-    if witness == &*first {
-        Ok(Some(set))
-    } else {
-        Ok(None)
-    }
-}
-
-/// The vectors of a file, if its text is lines of vectors of which the witness is the first.
+/// The vectors of a file, if its text is lines of vectors of which the witness is the first. It is read no further than its first
+/// wrong byte's piece.
 pub(crate) fn read_vectors_file<F: Files>(
     alloc: Global,
     files: &mut F,
@@ -118,8 +83,9 @@ pub(crate) fn read_vectors_file<F: Files>(
     ensures inputs { IfOk result (λ vectors. IfSome vectors (λ set. set.inputs ≡ length witness.now)) }
     ensures err { IfErr result (TextUnread (F.told files.old) (F.told files.new) name.now) }
 {
-    let text = read_whole(alloc, files, name)?;
-    Ok(vectors_from(alloc, text.bytes(), witness)?)
+    let mut check = VectorsCheck::new(alloc, witness);
+    read_file(files, name, &mut check)?;
+    Ok(check.finish())
 }
 
 /// Whether a file is the formula's text.

@@ -4,14 +4,13 @@ ghost use Rattle.std.specs.Prelude.{◌≡◌, ◌≤◌, ◌↔◌, ℕ, length
 ghost use Rattle.semantics.specs.Net.{NetValue, HasSamePorts, IsSmall, input_count};
 ghost use Rattle.semantics.specs.Error.{Metric as ErrorMetric};
 ghost use Rattle.chain_semantics.specs.Minimality.{IsMinimalBy};
-ghost use Rattle.joint_net.specs.Metric.{meaning};
 ghost use Rattle.adc_core.specs.Masks.{AreMasksOf};
 
 use adc_core::adc::Adc;
-use joint_net::metric::Metric;
 use lane_bits::patterns::Patterns;
 use net_core::net::Net;
 use net_moves::moves::moves;
+use semantics::metric::Metric;
 use std::alloc::{AllocError, Global};
 
 /// Whether each move of the net is broken by some pattern of its masks.
@@ -44,7 +43,7 @@ pub(crate) fn is_minimal(
     requires small { IsSmall approx.now }
     requires inputs { vectors.now.inputs ≡ input_count exact.now }
     ensures { IfOk result (λ yes. IsTrue yes
-        ↔ IsMinimalBy (meaning metric) exact.now bound approx.now vectors.now.vectors) }
+        ↔ IsMinimalBy metric exact.now bound approx.now vectors.now.vectors) }
 {
     let adc = Adc::new(alloc, exact, approx, metric, bound, vectors)?;
     breaks_each(alloc, approx, &adc)

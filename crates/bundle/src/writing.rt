@@ -6,9 +6,9 @@ ghost use Rattle.job_semantics.specs.Endings.{bundle_name};
 ghost use Rattle.bundle.specs.Value.{FitsReport, file_of, files_of, report_of_bundle};
 
 use crate::bundle::{Bundle, BundleFault};
-use crate::report::report;
+use crate::report_writing::report;
 use crate::stem::Stem;
-use crate::vectors::write_vectors;
+use bundle_texts::vectors_writing::write_vectors;
 use blif_text::writing::write_blif;
 use cnf_core::dimacs::write_dimacs;
 use cnf_core::lrat::write_lrat;

@@ -1,8 +1,6 @@
 //! A formula is written as its DIMACS text, gathered in a page, and nothing is allocated.
-ghost use Rattle.std.specs.Prelude.{◌++◌, OnOk, OnErr};
 ghost use Rattle.semantics.specs.Texts.{line_text};
-ghost use Rattle.outside_semantics.specs.Outside.{Wrote, WriteFailed};
-ghost use Rattle.file_core.specs.Page.{Gathered};
+ghost use Rattle.file_core.specs.Page.{Gathers, Writes};
 ghost use Rattle.proof_semantics.specs.Formula.{header_line, clause_line, dimacs_text};
 ghost use Rattle.cnf_core.specs.FormulaText.{clauses_text};
 
@@ -16,12 +14,7 @@ use itoa::Buffer;
 
 /// Puts the line `p cnf`, the number of variables and the number of clauses.
 fn write_header<F: Files>(cnf: &Cnf, files: &mut F, page: &mut Page) -> Result<(), FileFault>
-    ensures ok { OnOk result
-        (Gathered (F.told files.old) (F.told files.new) page.old page.new
-        (line_text (header_line cnf.now))) }
-    ensures err { OnErr result
-        (WriteFailed (F.told files.old) (F.told files.new)
-        (page.old ++ line_text (header_line cnf.now))) }
+    ensures { Gathers result (F.told files.old) (F.told files.new) page.old page.new (line_text (header_line cnf.now)) }
 {
     let mut variables = Buffer::new();
     let mut clauses = Buffer::new();
@@ -40,12 +33,7 @@ fn write_header<F: Files>(cnf: &Cnf, files: &mut F, page: &mut Page) -> Result<(
 
 /// Puts the line of a clause.
 fn write_clause<F: Files>(clause: &Lits, files: &mut F, page: &mut Page) -> Result<(), FileFault>
-    ensures ok { OnOk result
-        (Gathered (F.told files.old) (F.told files.new) page.old page.new
-        (line_text (clause_line clause.now))) }
-    ensures err { OnErr result
-        (WriteFailed (F.told files.old) (F.told files.new)
-        (page.old ++ line_text (clause_line clause.now))) }
+    ensures { Gathers result (F.told files.old) (F.told files.new) page.old page.new (line_text (clause_line clause.now)) }
 {
     write_list(clause.as_slice(), b"0\n", files, page)
 }
@@ -55,10 +43,7 @@ fn write_clauses<F: Files>(
     files: &mut F,
     page: &mut Page,
 ) -> Result<(), FileFault>
-    ensures ok { OnOk result
-        (Gathered (F.told files.old) (F.told files.new) page.old page.new (clauses_text clauses.now)) }
-    ensures err { OnErr result
-        (WriteFailed (F.told files.old) (F.told files.new) (page.old ++ clauses_text clauses.now)) }
+    ensures { Gathers result (F.told files.old) (F.told files.new) page.old page.new (clauses_text clauses.now) }
 {
     for clause in clauses {
         write_clause(clause, files, page)?;
@@ -68,10 +53,7 @@ fn write_clauses<F: Files>(
 
 /// Appends the formula's DIMACS text to the file that is being written. After a fault a first part of it was appended.
 pub fn write_dimacs<F: Files>(cnf: &Cnf, files: &mut F) -> Result<(), FileFault>
-    ensures ok { OnOk result
-        (Wrote (F.told files.old) (F.told files.new) (dimacs_text cnf.now)) }
-    ensures err { OnErr result
-        (WriteFailed (F.told files.old) (F.told files.new) (dimacs_text cnf.now)) }
+    ensures { Writes result (F.told files.old) (F.told files.new) (dimacs_text cnf.now) }
 {
     let mut page = Page::new();
     write_header(cnf, files, &mut page)?;

@@ -3,16 +3,16 @@ ghost use Rattle.std.specs.Prelude.{◌≡◌, length, take, drop, min};
 ghost use Rattle.proof_semantics.specs.Formula.{dimacs_text};
 
 use crate::cnf::Cnf;
-use crate::dimacs_words::{DimacsWords, header};
-use crate::word::Word;
+use crate::dimacs_tokens::{DimacsTokens, header};
+use crate::dimacs_token::DimacsToken;
 use std::marker::Model;
 
-/// Callers see what is left of the text. It takes no memory but its own, and no word is made twice.
+/// Callers see what is left of the text. It takes no memory but its own, and no token is made twice.
 #[derive(Drop)]
 pub struct DimacsText<'a> {
-    /// The word at hand.
-    word: Word,
-    words: DimacsWords<'a>,
+    /// The token at hand.
+    token: DimacsToken,
+    tokens: DimacsTokens<'a>,
 }
 
 impl<'a> Model for DimacsText<'a> {
@@ -22,7 +22,7 @@ impl<'a> Model for DimacsText<'a> {
 
     ghost use Rattle.cnf_core.specs.DimacsRest.{rest_text};
 
-    ghost view = { λ a. a.word ++ rest_text a.words };
+    ghost view = { λ a. a.token ++ rest_text a.tokens };
 }
 
 impl<'a> DimacsText<'a> {
@@ -31,8 +31,8 @@ impl<'a> DimacsText<'a> {
         ensures { result ≡ dimacs_text cnf.now }
     {
         DimacsText {
-            word: header(cnf),
-            words: DimacsWords {
+            token: header(cnf),
+            tokens: DimacsTokens {
                 clause: None,
                 clauses: cnf.clauses().as_slice(),
             },
@@ -46,13 +46,13 @@ impl<'a> DimacsText<'a> {
         ensures rest { self.new ≡ drop result self.old }
         ensures kept { drop result buf.new ≡ drop result buf.old }
     {
-        let mut filled = self.word.give(buf, 0);
+        let mut filled = self.token.give(buf, 0);
         while filled < buf.len() {
-            let Some(word) = self.words.next() else {
+            let Some(token) = self.tokens.next() else {
                 break;
             };
-            self.word = word;
-            filled += self.word.give(buf, filled);
+            self.token = token;
+            filled += self.token.give(buf, filled);
         }
         filled
     }

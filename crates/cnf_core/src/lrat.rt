@@ -1,8 +1,7 @@
 //! A log is written as its LRAT text, gathered in a page, and nothing is allocated.
-ghost use Rattle.std.specs.Prelude.{◌≡◌, ◌++◌, OnOk, OnErr};
+ghost use Rattle.std.specs.Prelude.{◌≡◌};
 ghost use Rattle.semantics.specs.Texts.{line_text};
-ghost use Rattle.outside_semantics.specs.Outside.{Wrote, WriteFailed};
-ghost use Rattle.file_core.specs.Page.{Gathered};
+ghost use Rattle.file_core.specs.Page.{Gathers, Writes};
 ghost use Rattle.proof_semantics.specs.Lrat.{addition_line, removal_line, item_line, greatest_with, lrat_text};
 ghost use Rattle.cnf_core.specs.LogText.{items_text};
 
@@ -15,12 +14,7 @@ use itoa::Buffer;
 
 /// Puts the line of a step.
 fn write_addition<F: Files>(step: &Step, files: &mut F, page: &mut Page) -> Result<(), FileFault>
-    ensures ok { OnOk result
-        (Gathered (F.told files.old) (F.told files.new) page.old page.new
-        (line_text (addition_line step.now))) }
-    ensures err { OnErr result
-        (WriteFailed (F.told files.old) (F.told files.new)
-        (page.old ++ line_text (addition_line step.now))) }
+    ensures { Gathers result (F.told files.old) (F.told files.new) page.old page.new (line_text (addition_line step.now)) }
 {
     let mut id = Buffer::new();
     gather_pieces(files, page, &[id.format(step.id()).as_bytes(), b" "])?;
@@ -35,12 +29,8 @@ fn write_removal<F: Files>(
     files: &mut F,
     page: &mut Page,
 ) -> Result<(), FileFault>
-    ensures ok { OnOk result
-        (Gathered (F.told files.old) (F.told files.new) page.old page.new
-        (line_text (removal_line greatest ids.now))) }
-    ensures err { OnErr result
-        (WriteFailed (F.told files.old) (F.told files.new)
-        (page.old ++ line_text (removal_line greatest ids.now))) }
+    ensures { Gathers result (F.told files.old) (F.told files.new) page.old page.new
+        (line_text (removal_line greatest ids.now)) }
 {
     let mut id = Buffer::new();
     gather_pieces(files, page, &[id.format(greatest).as_bytes(), b" d "])?;
@@ -54,12 +44,8 @@ fn write_item<F: Files>(
     files: &mut F,
     page: &mut Page,
 ) -> Result<(), FileFault>
-    ensures ok { OnOk result
-        (Gathered (F.told files.old) (F.told files.new) page.old page.new
-        (line_text (item_line greatest item.now))) }
-    ensures err { OnErr result
-        (WriteFailed (F.told files.old) (F.told files.new)
-        (page.old ++ line_text (item_line greatest item.now))) }
+    ensures { Gathers result (F.told files.old) (F.told files.new) page.old page.new
+        (line_text (item_line greatest item.now)) }
 {
     match item {
         Item::Add(step) => write_addition(step, files, page),
@@ -78,10 +64,7 @@ fn greatest_with(greatest: u64, item: &Item) -> u64
 }
 
 fn write_items<F: Files>(items: &[Item], files: &mut F, page: &mut Page) -> Result<(), FileFault>
-    ensures ok { OnOk result
-        (Gathered (F.told files.old) (F.told files.new) page.old page.new (items_text 0 items.now)) }
-    ensures err { OnErr result
-        (WriteFailed (F.told files.old) (F.told files.new) (page.old ++ items_text 0 items.now)) }
+    ensures { Gathers result (F.told files.old) (F.told files.new) page.old page.new (items_text 0 items.now) }
 {
     let mut greatest = 0;
     for item in items {
@@ -93,9 +76,7 @@ fn write_items<F: Files>(items: &[Item], files: &mut F, page: &mut Page) -> Resu
 
 /// Appends the log's LRAT text to the file that is being written. After a fault a first part of it was appended.
 pub fn write_lrat<F: Files>(log: &Log, files: &mut F) -> Result<(), FileFault>
-    ensures ok { OnOk result (Wrote (F.told files.old) (F.told files.new) (lrat_text log.now)) }
-    ensures err { OnErr result
-        (WriteFailed (F.told files.old) (F.told files.new) (lrat_text log.now)) }
+    ensures { Writes result (F.told files.old) (F.told files.new) (lrat_text log.now) }
 {
     let mut page = Page::new();
     write_items(log.as_slice(), files, &mut page)?;

@@ -1,7 +1,6 @@
 //! Lists of numbers in a text.
-ghost use Rattle.std.specs.Prelude.{[], ◌∷◌, ◌++◌, flat_map, OnOk, OnErr};
-ghost use Rattle.outside_semantics.specs.Outside.{WriteFailed};
-ghost use Rattle.file_core.specs.Page.{Gathered};
+ghost use Rattle.std.specs.Prelude.{[], ◌∷◌, ◌++◌, flat_map};
+ghost use Rattle.file_core.specs.Page.{Gathers};
 
 use file_core::fault::FileFault;
 use file_core::files::Files;
@@ -14,12 +13,8 @@ fn write_numbers<F: Files, I: Integer>(
     files: &mut F,
     page: &mut Page,
 ) -> Result<(), FileFault>
-    ensures ok { OnOk result
-        (Gathered (F.told files.old) (F.told files.new) page.old page.new
-        (flat_map (λ n. I.text n ++ 32 ∷ []) numbers.now)) }
-    ensures err { OnErr result
-        (WriteFailed (F.told files.old) (F.told files.new)
-        (page.old ++ flat_map (λ n. I.text n ++ 32 ∷ []) numbers.now)) }
+    ensures { Gathers result (F.told files.old) (F.told files.new) page.old page.new
+        (flat_map (λ n. I.text n ++ 32 ∷ []) numbers.now) }
 {
     for number in numbers {
         let mut buffer = Buffer::new();
@@ -35,12 +30,8 @@ pub fn write_list<F: Files, I: Integer>(
     files: &mut F,
     page: &mut Page,
 ) -> Result<(), FileFault>
-    ensures ok { OnOk result
-        (Gathered (F.told files.old) (F.told files.new) page.old page.new
-        (flat_map (λ n. I.text n ++ 32 ∷ []) numbers.now ++ end.now)) }
-    ensures err { OnErr result
-        (WriteFailed (F.told files.old) (F.told files.new)
-        (page.old ++ (flat_map (λ n. I.text n ++ 32 ∷ []) numbers.now ++ end.now))) }
+    ensures { Gathers result (F.told files.old) (F.told files.new) page.old page.new
+        (flat_map (λ n. I.text n ++ 32 ∷ []) numbers.now ++ end.now) }
 {
     write_numbers(numbers, files, page)?;
     gather(files, page, end)

@@ -7,7 +7,8 @@ use Rattle.blif_semantics.specs.Lines.{words_of}
 use Rattle.proof_semantics.specs.Clauses.{Clause}
 use Rattle.proof_semantics.specs.Formula.{Formula}
 use Rattle.solve_cnf.specs.Reading.{Refusal, Header, lines_of, header_of, formula_with, formula_behind, formula_of_lines, formula_of_text}
-use Rattle.solve_cnf.specs.Slices.{texts, line_texts}
+use Rattle.solve_cnf.specs.Slices.{line_texts}
+use Rattle.text_words.specs.Slices.{texts}
 use Rattle.solve_cnf.specs.Header.{held_number, held_header}
 use Rattle.solve_cnf.specs.Draft.{DraftValue, clauses_with}
 use Rattle.solve_cnf.proofs.Words.{words_in, clauses_from_start}

@@ -1,11 +1,7 @@
--- Words and lines as slices of a text.
+-- Lines as slices of a text.
 use Rattle.std.specs.Prelude.{ℕ, List, map}
 use Rattle.std.specs.Borrow.{Bor}
 use Rattle.semantics.specs.Texts.{Bytes}
-
--- the bytes of each slice
-abbrev pub texts : List (Bor Bytes) → List Bytes
-texts slices = map (λ s. s.now) slices
 
 -- the bytes of each line that has a number
 abbrev pub line_texts : List (ℕ × Bor Bytes) → List Bytes

@@ -10,13 +10,14 @@ ghost use Rattle.solve_cnf.specs.Refusals.{Tells};
 ghost use Rattle.solve_cnf.specs.Slices.{line_texts};
 
 use crate::error::ReadError;
-use crate::lines::{Line, line_number, words_of};
+use crate::lines::{Line, line_number};
 use crate::numbers::number_of;
 use cnf_core::clause::{ClauseList, Lits};
 use cnf_core::cnf::Cnf;
 use std::alloc::{AllocError, Global};
 use std::marker::Model;
 use std::mem;
+use text_words::words::words_of;
 
 /// The clauses that are ended, and the literals of the one that is not.
 #[derive(Drop)]

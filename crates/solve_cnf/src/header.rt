@@ -2,7 +2,7 @@
 ghost use Rattle.std.specs.Prelude.{◌≡◌, ◌<◌, ◌^◌, option_map, IfSome};
 ghost use Rattle.solve_cnf.specs.Reading.{header_of};
 ghost use Rattle.solve_cnf.specs.Header.{held_header};
-ghost use Rattle.solve_cnf.specs.Slices.{texts};
+ghost use Rattle.text_words.specs.Slices.{texts};
 
 use crate::numbers::digits_number;
 use std::marker::Model;

@@ -1,11 +1,12 @@
-//! Lines and words, as slices of the text. Source: DIMACS.
+//! Lines as slices of the text. Source: DIMACS.
 ghost use Rattle.std.specs.Prelude.{◌≡◌, ◌==◌, ◌&&◌, ◌+◌, ◌-◌, ◌^◌, min, not, IfOk};
 ghost use Rattle.std.specs.List.{list_all};
-ghost use Rattle.blif_semantics.specs.Lines.{is_blank, words_of};
+ghost use Rattle.blif_semantics.specs.Lines.{is_blank};
 ghost use Rattle.solve_cnf.specs.Reading.{is_comment, lines_of};
-ghost use Rattle.solve_cnf.specs.Slices.{texts, line_texts};
+ghost use Rattle.solve_cnf.specs.Slices.{line_texts};
 
 use std::alloc::{AllocError, Global};
+use text_words::words::is_blank;
 
 /// How many lines stand before a line, and its bytes.
 pub type Line<'a> = (usize, &'a [u8]);
@@ -15,13 +16,6 @@ pub fn line_number(line: &Line) -> usize
     ensures { result ≡ min (line.now.0 + 1) (2 ^ 64 - 1) }
 {
     line.0.saturating_add(1)
-}
-
-/// A space, a tab or a CR.
-fn is_blank(byte: u8) -> bool
-    ensures { result ≡ is_blank byte }
-{
-    matches!(byte, b' ' | b'\t' | b'\r')
 }
 
 /// Whether the line begins with `c`.
@@ -52,14 +46,5 @@ pub fn lines_of<'a>(alloc: Global, text: &'a [u8]) -> Result<Vec<Line<'a>>, Allo
     text.split(|b| *b == b'\n')
         .enumerate()
         .filter(|line| has_words(line.1))
-        .collect(alloc)
-}
-
-/// The words between blanks.
-pub fn words_of<'a>(alloc: Global, line: &'a [u8]) -> Result<Vec<&'a [u8]>, AllocError>
-    ensures { IfOk result (λ v. texts v.items ≡ words_of line.now) }
-{
-    line.split(|b| is_blank(*b))
-        .filter(|w| !w.is_empty())
         .collect(alloc)
 }

@@ -7,9 +7,10 @@ ghost use Rattle.solve_cnf.specs.Refusals.{Tells};
 use crate::draft::Draft;
 use crate::error::ReadError;
 use crate::header::header_of;
-use crate::lines::{line_number, lines_of, words_of};
+use crate::lines::{line_number, lines_of};
 use cnf_core::cnf::Cnf;
 use std::alloc::Global;
+use text_words::words::words_of;
 
 /// The formula of a text. Each refusal but want of memory is the one that the definition gives.
 #[tactic(auto, unfolding(crate::specs::Reading::formula_of_text))]

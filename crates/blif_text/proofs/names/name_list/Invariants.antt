@@ -1,5 +1,5 @@
 use Rattle.std.proofs.Common.{◌≡◌, take}
-use Rattle.blif_text.specs.Words.{texts}
+use Rattle.text_words.specs.Slices.{texts}
 use Rattle.blif_text.proofs.names.name_list.Given as goal
 
 abbrev pub invariant-loop-word : goal.invariant-loop-word

@@ -1,5 +1,5 @@
 use Rattle.std.proofs.Common.{◌≡◌, ◌++◌, take, map}
-use Rattle.blif_text.specs.Words.{texts}
+use Rattle.text_words.specs.Slices.{texts}
 use Rattle.blif_text.proofs.numbering.driven_names.Given as goal
 
 abbrev pub invariant-loop-table : goal.invariant-loop-table

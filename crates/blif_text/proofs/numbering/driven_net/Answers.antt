@@ -6,7 +6,7 @@ use Rattle.blif_semantics.specs.Reading.{NamedNet, signal_named, numbered, groun
 use Rattle.blif_semantics.specs.Named.{with_signals, IsDriven}
 use Rattle.blif_semantics.proofs.ReadNet.{net_driven}
 use Rattle.blif_text.specs.Refusals.{Tells}
-use Rattle.blif_text.specs.Words.{texts}
+use Rattle.text_words.specs.Slices.{texts}
 use Rattle.blif_text.proofs.Numbered.{passed_on, pin_told, output_told, none_undriven, numbered_as, driven-grounded, single-driven}
 use Rattle.blif_text.proofs.numbering.driven_net.Goals as goal
 

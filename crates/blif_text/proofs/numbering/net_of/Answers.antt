@@ -2,7 +2,7 @@ use Rattle.std.proofs.Common.{All, ◌≡◌, sym, ap, subst, ◌∙◌}
 use Rattle.std.proofs.lemmas.Result.{err_from_is_err_and}
 use Rattle.semantics.specs.Net.{IsName}
 use Rattle.blif_semantics.specs.Reading.{NamedNet, names_of}
-use Rattle.blif_text.specs.Words.{texts}
+use Rattle.text_words.specs.Slices.{texts}
 use Rattle.blif_text.proofs.Numbered.{passed_on, names_named, names_as, doubled_told}
 use Rattle.blif_text.proofs.numbering.net_of.Goals as goal
 

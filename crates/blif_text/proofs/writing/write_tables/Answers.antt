@@ -3,7 +3,8 @@ use Rattle.semantics.specs.Net.{signal_names, no_table}
 use Rattle.blif_text.specs.NetText.{table_text}
 use Rattle.std.proofs.lemmas.Result.{err_from_is_err_and}
 use Rattle.file_core.proofs.Gathering.{Gathered-nil}
-use Rattle.file_core.proofs.Parts.{Gathered-next, WriteFailed-next}
+use Rattle.file_core.proofs.Outcomes.{Gathers-next}
+use Rattle.file_core.proofs.Parts.{Gathered-next}
 use Rattle.blif_text.proofs.writing.write_tables.Goals as goal
 
 pub loop-t-init : goal.loop-t-init
@@ -13,8 +14,8 @@ pub loop-t-preserved : goal.loop-t-preserved
 loop-t-preserved g c =
     Gathered-next (table_text (signal_names c.args.net.now)) c.args.net.now.tables c.loop-t.t no_table (omega arith) (ap (table_text (signal_names c.args.net.now)) c.table.ensures.value) c.loop-t.invariant c.in_ok-write_table.ensures.ok
 
-pub returns-in_err-write_table-clause-err : goal.returns-in_err-write_table-clause-err
-returns-in_err-write_table-clause-err g c =
+pub returns-in_err-write_table : goal.returns-in_err-write_table
+returns-in_err-write_table g c =
     let p = err_from_is_err_and c.from_residual.result c.from_residual.ensures.1 in
     rw p.1
-    (WriteFailed-next (table_text (signal_names c.args.net.now)) c.args.net.now.tables c.loop-t.t no_table (omega arith) (ap (table_text (signal_names c.args.net.now)) c.table.ensures.value) c.loop-t.invariant c.in_err-write_table.ensures.err)
+    (Gathers-next (table_text (signal_names c.args.net.now)) c.args.net.now.tables c.loop-t.t no_table (omega arith) (ap (table_text (signal_names c.args.net.now)) c.table.ensures.value) c.loop-t.invariant c.in_err-write_table.ensures)

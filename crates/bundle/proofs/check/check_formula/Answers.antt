@@ -2,11 +2,9 @@ use Rattle.std.proofs.Common.{◌≡◌, true, refl, sym, ap, subst, ◌∙◌, 
 use Rattle.std.specs.Prelude.{◌↔◌, IsTrue}
 use Rattle.std.proofs.lemmas.Result.{err_from_is_err_and}
 use Rattle.semantics.specs.Texts.{Bytes}
-use Rattle.joint_net.specs.Metric.{meaning}
 use Rattle.job_semantics.specs.declared.ending.Ending.TheVariants as file
 use Rattle.job_semantics.specs.declared.clause.Clause.TheVariants as clause
-use Rattle.bundle.specs.declared.verdict.Verdict.TheVariants.{Refuted}
-use Rattle.bundle.specs.Reading.{report_read}
+use Rattle.bundle_texts.specs.Reading.{report_read}
 use Rattle.bundle.specs.Judging.{TextRead, TextUnread, Answers, WitnessKnown, FormulaKnown}
 use Rattle.proof_semantics.specs.Formula.{dimacs_text}
 use Rattle.bundle.proofs.JudgedTexts.{other_formula, formula_needed}
@@ -17,7 +15,7 @@ pub returns-in_err-formula : goal.returns-in_err-formula
 returns-in_err-formula g c =
     let claim = c.args.claim.now in
     let contents = c.args.contents.now in
-    let metric = meaning claim.metric in
+    let metric = claim.metric in
     let r = report_read metric claim.bound contents.report.now in
     let K = WitnessKnown claim.exact.now metric claim.bound contents.approx.now r contents.vectors.now in
     let old = g.F.Files.told c.args.files.now in
@@ -28,7 +26,7 @@ pub returns-in_err-is_formula : goal.returns-in_err-is_formula
 returns-in_err-is_formula g c =
     let claim = c.args.claim.now in
     let contents = c.args.contents.now in
-    let metric = meaning claim.metric in
+    let metric = claim.metric in
     let r = report_read metric claim.bound contents.report.now in
     let K = WitnessKnown claim.exact.now metric claim.bound contents.approx.now r contents.vectors.now in
     let old = g.F.Files.told c.args.files.now in
@@ -43,27 +41,24 @@ pub returns-then-not-branch : goal.returns-then-not-branch
 returns-then-not-branch g c =
     let claim = c.args.claim.now in
     let contents = c.args.contents.now in
-    let metric = meaning claim.metric in
+    let metric = claim.metric in
     let r = report_read metric claim.bound contents.report.now in
     let K = WitnessKnown claim.exact.now metric claim.bound contents.approx.now r contents.vectors.now in
     let old = g.F.Files.told c.args.files.now in
     let new = g.F.Files.told c.is_formula.new.files in
     let yes = c.in_ok-is_formula.field-0 in
     let Q = λ (content : Bytes). IsTrue yes ↔ (content ≡ dimacs_text c.in_ok-formula.formula) in
-    answers_now claim.exact.now metric claim.bound claim.stem.now old new file.Formula Q K (Refuted 7)
+    answers_now claim.exact.now metric claim.bound claim.stem.now old new file.Formula Q K (Some clause.Formula)
     (subst (λ n. TextRead old new n Q) c.name.ensures c.in_ok-is_formula.ensures.ok)
-    (λ texts known q. (
-      clause.Formula,
-      refl,
-      other_formula claim.exact.now metric claim.bound texts contents.approx.now r contents.vectors.now known
-          (λ same. let is : yes ≡ true = q.1 (same ∙ ap dimacs_text (sym c.in_ok-formula.ensures)) in cc),
-    ))
+    (λ texts known. formula_needed claim.exact.now metric claim.bound texts contents.approx.now r contents.vectors.now known)
+    (λ texts known q. other_formula claim.exact.now metric claim.bound texts contents.approx.now r contents.vectors.now known
+          (λ same. let is : yes ≡ true = q.1 (same ∙ ap dimacs_text (sym c.in_ok-formula.ensures)) in cc))
 
 pub returns : goal.returns
 returns g c =
     let claim = c.args.claim.now in
     let contents = c.args.contents.now in
-    let metric = meaning claim.metric in
+    let metric = claim.metric in
     let r = report_read metric claim.bound contents.report.now in
     let K = WitnessKnown claim.exact.now metric claim.bound contents.approx.now r contents.vectors.now in
     let old = g.F.Files.told c.args.files.now in
@@ -73,4 +68,5 @@ returns g c =
     let Q = λ (content : Bytes). IsTrue yes ↔ (content ≡ dimacs_text c.in_ok-formula.formula) in
     answers_later claim.exact.now metric claim.bound claim.stem.now old mid new file.Formula Q K
     (FormulaKnown claim.exact.now metric claim.bound contents.approx.now r contents.vectors.now) (subst (λ n. TextRead old mid n Q) c.name.ensures c.in_ok-is_formula.ensures.ok)
+    (λ texts known. formula_needed claim.exact.now metric claim.bound texts contents.approx.now r contents.vectors.now known)
     (λ texts known q. record { witness = known; formula = q.0 c.if-not-branch.false ∙ ap dimacs_text c.in_ok-formula.ensures }) c.check_log.result c.check_log.ensures

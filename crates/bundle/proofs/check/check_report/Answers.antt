@@ -1,12 +1,10 @@
 use Rattle.std.proofs.Common.{refl, sym, subst, arith}
 use Rattle.std.proofs.lemmas.Result.{err_from_is_err_and}
 use Rattle.semantics.specs.Texts.{Bytes}
-use Rattle.joint_net.specs.Metric.{meaning}
 use Rattle.job_semantics.specs.declared.ending.Ending.TheVariants as file
 use Rattle.job_semantics.specs.declared.clause.Clause.TheVariants as clause
-use Rattle.bundle.specs.declared.verdict.Verdict.TheVariants.{Refuted}
-use Rattle.bundle.specs.Reading.{report_read}
-use Rattle.bundle.specs.FilesRead.{IsReportIn}
+use Rattle.bundle_texts.specs.Reading.{report_read}
+use Rattle.bundle_texts.specs.FilesRead.{IsReportIn}
 use Rattle.bundle.specs.Judging.{TextRead, TextUnread, NetKnown, ReportKnown}
 use Rattle.std.proofs.Common.{Some, None}
 use Rattle.job_semantics.specs.Certificate.{IsReportText}
@@ -18,7 +16,7 @@ pub returns-in_err-report : goal.returns-in_err-report
 returns-in_err-report g c =
     let claim = c.args.claim.now in
     let N = claim.exact.now in
-    let metric = meaning claim.metric in
+    let metric = claim.metric in
     let M = c.args.approx.now in
     let K = NetKnown N M in
     let inputs = c.inputs-inputs.result in
@@ -34,7 +32,7 @@ pub returns-in_default : goal.returns-in_default
 returns-in_default g c =
     let claim = c.args.claim.now in
     let N = claim.exact.now in
-    let metric = meaning claim.metric in
+    let metric = claim.metric in
     let M = c.args.approx.now in
     let K = NetKnown N M in
     let inputs = c.inputs-inputs.result in
@@ -44,19 +42,16 @@ returns-in_default g c =
     let was =
     subst (λ n. TextRead old new n Q) c.name-name.ensures
     (subst (λ o. TextRead old new c.name-name.result.now (IsReportIn inputs metric claim.bound o)) c.in_default.is c.in_ok-report.ensures.ok) in
-    answers_now N metric claim.bound claim.stem.now old new file.Report Q K (Refuted 3) was
-    (λ texts known none. (
-      clause.ReportForm,
-      refl,
-      no_report N metric claim.bound texts M known
-          (λ r is. none r (subst (λ k. IsReportText k metric claim.bound (texts file.Report) r) (sym c.inputs-inputs.ensures.value) is)),
-    ))
+    answers_now N metric claim.bound claim.stem.now old new file.Report Q K (Some clause.ReportForm) was
+    (λ texts known. report_needed N metric claim.bound texts M known)
+    (λ texts known none. no_report N metric claim.bound texts M known
+          (λ r is. none r (subst (λ k. IsReportText k metric claim.bound (texts file.Report) r) (sym c.inputs-inputs.ensures.value) is)))
 
 pub returns-then-report-claim : goal.returns-then-report-claim
 returns-then-report-claim g c =
     let claim = c.args.claim.now in
     let N = claim.exact.now in
-    let metric = meaning claim.metric in
+    let metric = claim.metric in
     let M = c.args.approx.now in
     let K = NetKnown N M in
     let inputs = c.inputs-inputs.result in
@@ -68,19 +63,16 @@ returns-then-report-claim g c =
     let was =
     subst (λ n. TextRead old new n Q) c.name-name.ensures
     (subst (λ o. TextRead old new c.name-name.result.now (IsReportIn inputs metric claim.bound o)) c.in-Some.is c.in_ok-report.ensures.ok) in
-    answers_now N metric claim.bound claim.stem.now old new file.Report Q K (Refuted 4) was
-    (λ texts known is. (
-      clause.MaximumWithin,
-      refl,
-      above_bound N metric claim.bound texts M r known (subst (λ k. IsReportText k metric claim.bound (texts file.Report) r) c.inputs-inputs.ensures.value is)
-          (λ within. omega (arith, within, c.if-report-claim.true)),
-    ))
+    answers_now N metric claim.bound claim.stem.now old new file.Report Q K (Some clause.MaximumWithin) was
+    (λ texts known. report_needed N metric claim.bound texts M known)
+    (λ texts known is. above_bound N metric claim.bound texts M r known (subst (λ k. IsReportText k metric claim.bound (texts file.Report) r) c.inputs-inputs.ensures.value is)
+          (λ within. omega (arith, within, c.if-report-claim.true)))
 
 pub returns : goal.returns
 returns g c =
     let claim = c.args.claim.now in
     let N = claim.exact.now in
-    let metric = meaning claim.metric in
+    let metric = claim.metric in
     let M = c.args.approx.now in
     let K = NetKnown N M in
     let inputs = c.inputs-inputs.result in
@@ -94,6 +86,7 @@ returns g c =
     subst (λ n. TextRead old mid n Q) c.name-name.ensures
     (subst (λ o. TextRead old mid c.name-name.result.now (IsReportIn inputs metric claim.bound o)) c.in-Some.is c.in_ok-report.ensures.ok) in
     answers_later N metric claim.bound claim.stem.now old mid new file.Report Q K (ReportKnown N metric claim.bound M r) was
+    (λ texts known. report_needed N metric claim.bound texts M known)
     (λ texts known is.
     record {
       net = known;

@@ -1,12 +1,10 @@
 use Rattle.std.proofs.Common.{refl, sym, ap, subst, ◌∙◌, None, Some, Err}
 use Rattle.std.proofs.lemmas.Result.{err_from_is_err_and}
 use Rattle.semantics.specs.Texts.{Bytes}
-use Rattle.joint_net.specs.Metric.{meaning}
 use Rattle.job_semantics.specs.declared.ending.Ending.TheVariants as file
 use Rattle.job_semantics.specs.declared.clause.Clause.TheVariants as clause
-use Rattle.bundle.specs.declared.verdict.Verdict.TheVariants.{Refuted}
-use Rattle.bundle.specs.Reading.{report_read}
-use Rattle.bundle.specs.FilesRead.{AreVectorsIn}
+use Rattle.bundle_texts.specs.Reading.{report_read}
+use Rattle.bundle_texts.specs.FilesRead.{AreVectorsIn}
 use Rattle.bundle.specs.Judging.{TextRead, TextUnread, Answers, ReportKnown, WitnessKnown}
 use Rattle.std.proofs.Common.{length}
 use Rattle.semantics.specs.Error.{net_error}
@@ -20,7 +18,7 @@ returns-in_err-vectors g c =
     let claim = c.args.claim.now in
     let N = claim.exact.now in
     let M = c.args.approx.now in
-    let metric = meaning claim.metric in
+    let metric = claim.metric in
     let r = report_read metric claim.bound c.args.report.now in
     let K = ReportKnown N metric claim.bound M r in
     let witness = c.as_slice-witness.result.now in
@@ -37,7 +35,7 @@ returns-in_default g c =
     let claim = c.args.claim.now in
     let N = claim.exact.now in
     let M = c.args.approx.now in
-    let metric = meaning claim.metric in
+    let metric = claim.metric in
     let r = report_read metric claim.bound c.args.report.now in
     let K = ReportKnown N metric claim.bound M r in
     let witness = c.as_slice-witness.result.now in
@@ -47,19 +45,16 @@ returns-in_default g c =
     let was =
     subst (λ n. TextRead old new n Q) c.name-name.ensures
     (subst (λ o. TextRead old new c.name-name.result.now (AreVectorsIn (length witness) witness o)) c.in_default.is c.in_ok-vectors.ensures.ok) in
-    answers_now N metric claim.bound claim.stem.now old new file.Vectors Q K (Refuted 5) was
-    (λ texts known none. (
-      clause.Witness,
-      refl,
-      other_vectors N metric claim.bound texts M r known (λ pool vectors. none pool (vectors_read N texts witness r.witness c.as_slice-witness.ensures c.requires.width pool vectors)),
-    ))
+    answers_now N metric claim.bound claim.stem.now old new file.Vectors Q K (Some clause.Witness) was
+    (λ texts known. vectors_needed N metric claim.bound texts M r known)
+    (λ texts known none. other_vectors N metric claim.bound texts M r known (λ pool vectors. none pool (vectors_read N texts witness r.witness c.as_slice-witness.ensures c.requires.width pool vectors)))
 
 pub returns-in_err-error_at : goal.returns-in_err-error_at
 returns-in_err-error_at g c =
     let claim = c.args.claim.now in
     let N = claim.exact.now in
     let M = c.args.approx.now in
-    let metric = meaning claim.metric in
+    let metric = claim.metric in
     let r = report_read metric claim.bound c.args.report.now in
     let K = ReportKnown N metric claim.bound M r in
     let witness = c.as_slice-witness.result.now in
@@ -73,14 +68,14 @@ returns-in_err-error_at g c =
     let p = err_from_is_err_and c.from_residual-in_err-error_at.result c.from_residual-in_err-error_at.ensures.1 in
     rw p.1
     (subst (λ e. Answers N metric claim.bound claim.stem.now K old new (Err e)) (sym p.2)
-    (answers_then_memory N metric claim.bound claim.stem.now old new file.Vectors Q K was))
+    (answers_then_memory N metric claim.bound claim.stem.now old new file.Vectors Q K was (λ texts known. vectors_needed N metric claim.bound texts M r known)))
 
 pub returns-then-branch-report : goal.returns-then-branch-report
 returns-then-branch-report g c =
     let claim = c.args.claim.now in
     let N = claim.exact.now in
     let M = c.args.approx.now in
-    let metric = meaning claim.metric in
+    let metric = claim.metric in
     let r = report_read metric claim.bound c.args.report.now in
     let K = ReportKnown N metric claim.bound M r in
     let witness = c.as_slice-witness.result.now in
@@ -91,21 +86,18 @@ returns-then-branch-report g c =
     let was =
     subst (λ n. TextRead old new n Q) c.name-name.ensures
     (subst (λ o. TextRead old new c.name-name.result.now (AreVectorsIn (length witness) witness o)) c.in-Some.is c.in_ok-vectors.ensures.ok) in
-    answers_now N metric claim.bound claim.stem.now old new file.Vectors Q K (Refuted 6) was
+    answers_now N metric claim.bound claim.stem.now old new file.Vectors Q K (Some clause.Attained) was
+    (λ texts known. vectors_needed N metric claim.bound texts M r known)
     (λ texts known holds.
-    let vectors = vectors_held N texts witness r.witness c.as_slice-witness.ensures c.requires.width set holds in (
-      clause.Attained,
-      refl,
-      not_attained N metric claim.bound texts M r known vectors.pool vectors.read
-          (λ same. c.if-branch-report.true (c.in_ok-error_at.ensures ∙ ap (net_error metric N M) c.as_slice-witness.ensures ∙ same)),
-    ))
+    let vectors = vectors_held N texts witness r.witness c.as_slice-witness.ensures c.requires.width set holds in not_attained N metric claim.bound texts M r known vectors.pool vectors.read
+          (λ same. c.if-branch-report.true (c.in_ok-error_at.ensures ∙ ap (net_error metric N M) c.as_slice-witness.ensures ∙ same)))
 
 pub returns : goal.returns
 returns g c =
     let claim = c.args.claim.now in
     let N = claim.exact.now in
     let M = c.args.approx.now in
-    let metric = meaning claim.metric in
+    let metric = claim.metric in
     let r = report_read metric claim.bound c.args.report.now in
     let K = ReportKnown N metric claim.bound M r in
     let witness = c.as_slice-witness.result.now in
@@ -118,6 +110,7 @@ returns g c =
     subst (λ n. TextRead old mid n Q) c.name-name.ensures
     (subst (λ o. TextRead old mid c.name-name.result.now (AreVectorsIn (length witness) witness o)) c.in-Some.is c.in_ok-vectors.ensures.ok) in
     answers_later N metric claim.bound claim.stem.now old mid new file.Vectors Q K (WitnessKnown N metric claim.bound M r set) was
+    (λ texts known. vectors_needed N metric claim.bound texts M r known)
     (λ texts known holds.
     record {
       report = known;

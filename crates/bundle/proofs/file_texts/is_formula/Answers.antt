@@ -3,7 +3,7 @@ use Rattle.std.specs.Prelude.{◌↔◌, IsTrue}
 use Rattle.std.proofs.lemmas.Result.{err_from_is_err_and}
 use Rattle.proof_semantics.specs.Formula.{Formula, dimacs_text}
 use Rattle.file_reading.specs.Refused.{FileUnread}
-use Rattle.bundle.specs.TextCheck.{TextCheck}
+use Rattle.bundle_texts.specs.TextCheck.{TextCheck}
 use Rattle.bundle.proofs.ToldAnswers.{text_read, text_unread}
 use Rattle.bundle.proofs.file_texts.is_formula.Goals as goal
 

@@ -3,8 +3,8 @@ use Rattle.std.specs.Prelude.{◌↔◌, IsTrue}
 use Rattle.std.proofs.lemmas.Result.{err_from_is_err_and}
 use Rattle.proof_semantics.specs.Formula.{Formula}
 use Rattle.file_reading.specs.Refused.{FileUnread}
-use Rattle.bundle.specs.TextCheck.{TextCheck}
-use Rattle.bundle.specs.LogTold.{IsRefutingText}
+use Rattle.bundle_texts.specs.TextCheck.{TextCheck}
+use Rattle.bundle_texts.specs.LogTold.{IsRefutingText}
 use Rattle.bundle.specs.Judging.{TextUnread}
 use Rattle.bundle.proofs.FileTexts.{FilesStay-same}
 use Rattle.bundle.proofs.ToldAnswers.{text_read, text_unread}

@@ -4,7 +4,7 @@ use Rattle.blif_semantics.specs.Reading.{bundle_limit, blif_reading}
 use Rattle.blif_semantics.proofs.ReadNet.{read_small}
 use Rattle.file_reading.specs.Front.{FrontValue}
 use Rattle.file_reading.specs.Refused.{FileUnread}
-use Rattle.bundle.specs.FilesRead.{IsNetIn}
+use Rattle.bundle_texts.specs.FilesRead.{IsNetIn}
 use Rattle.bundle.proofs.FileTexts.{reading_front, refused_text}
 use Rattle.bundle.proofs.ToldAnswers.{text_read, text_unread}
 use Rattle.bundle.proofs.file_texts.read_netlist.Goals as goal

@@ -1,15 +1,23 @@
-use Rattle.std.proofs.Common.{◌≡◌, length, subst, ◌∙◌}
-use Rattle.bundle.specs.FilesRead.{AreVectorsIn}
+use Rattle.std.proofs.Common.{List, Bool, length, ap, subst, sym, ◌∙◌}
+use Rattle.std.proofs.lemmas.Result.{err_from_is_err_and}
+use Rattle.file_reading.specs.Refused.{FileUnread}
+use Rattle.bundle_texts.specs.FilesRead.{AreVectorsIn}
+use Rattle.bundle_texts.specs.VectorsStanding.{VectorsText}
 use Rattle.bundle.proofs.FileTexts.{vectors_inputs}
-use Rattle.bundle.proofs.ToldAnswers.{text_weaker}
+use Rattle.bundle.proofs.ToldAnswers.{text_read, text_unread}
 use Rattle.bundle.proofs.file_texts.read_vectors_file.Goals as goal
+
+pub returns-in_err-read_file-clause-err : goal.returns-in_err-read_file-clause-err
+returns-in_err-read_file-clause-err g c =
+    let p = err_from_is_err_and c.from_residual.result c.from_residual.ensures.1 in
+    let old = g.F.Files.told c.args.files.now in
+    let new = g.F.Files.told c.read_file.new.files in
+    let text = c.read_file.new.intake.text in
+    rw p.1 (text_unread old new c.args.name.now text p.0 (subst (FileUnread old new c.args.name.now text) (sym p.2) c.in_err-read_file.ensures.err))
 
 pub returns-clause-ok : goal.returns-clause-ok
 returns-clause-ok g c =
-    let witness = c.args.witness.now in
-    let vectors = c.in_ok-vectors_from.field-0 in
-    text_weaker (λ content. c.in_ok-text.text.bytes ≡ content) (AreVectorsIn (length witness) witness vectors) c.in_ok-text.ensures.ok
-    (λ content same. subst (AreVectorsIn (length witness) witness vectors) (c.bytes.ensures.value ∙ same) c.in_ok-vectors_from.ensures)
-
-pub returns-clause-inputs : goal.returns-clause-inputs
-returns-clause-inputs g c = vectors_inputs (length c.args.witness.now) c.bytes.result.now c.args.witness.now c.in_ok-vectors_from.field-0 c.in_ok-vectors_from.ensures
+    let vectors = c.finish.result in
+    let witness = c.in_ok-read_file.ensures.aim ∙ ap (λ (v : VectorsText). v.witness) c.new-check.ensures in
+    text_read (AreVectorsIn (length c.args.witness.now) c.args.witness.now vectors) c.in_ok-read_file.ensures.ok
+    (λ content wanted. subst (λ (w : List Bool). AreVectorsIn (length w) w vectors content) witness (c.finish.ensures content wanted))

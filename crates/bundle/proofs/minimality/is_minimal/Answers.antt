@@ -3,7 +3,6 @@ use Rattle.std.proofs.lemmas.Result.{IfOk-weaker}
 use Rattle.semantics.specs.Net.{NetValue}
 use Rattle.semantics.specs.Error.{Metric as ErrorMetric}
 use Rattle.chain_semantics.specs.Minimality.{IsMinimalBy}
-use Rattle.joint_net.specs.Metric.{meaning}
 use Rattle.adc_core.specs.Masks.{AreMasksOf}
 use Rattle.bundle.proofs.BrokenMoves.{decided_for}
 use Rattle.bundle.proofs.minimality.is_minimal.Goals as goal
@@ -11,7 +10,7 @@ use Rattle.bundle.proofs.minimality.is_minimal.Goals as goal
 pub returns : goal.returns
 returns c =
     let masks = c.in_ok-adc.adc in
-    let metric = meaning c.args.metric in
+    let metric = c.args.metric in
     let exact = c.args.exact.now in
     let bound = c.args.bound in
     let N = c.args.approx.now in

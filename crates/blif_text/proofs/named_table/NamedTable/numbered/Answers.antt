@@ -5,7 +5,7 @@ use Rattle.semantics.specs.Net.{NetValue}
 use Rattle.blif_semantics.specs.Reading.{Refusal, undriven, unless_refused}
 use Rattle.blif_text.specs.Names.{first_unknown}
 use Rattle.blif_text.specs.Refusals.{Tells}
-use Rattle.blif_text.specs.Words.{texts}
+use Rattle.text_words.specs.Slices.{texts}
 use Rattle.blif_text.proofs.Numbered.{passed_on}
 use Rattle.blif_text.proofs.named_table.NamedTable.numbered.Goals as goal
 

@@ -1,7 +1,7 @@
 use Rattle.std.proofs.Common.{◌≡◌, take, drop, map}
 use Rattle.blif_semantics.specs.Reading.{signal_named}
 use Rattle.blif_text.specs.Names.{first_unknown}
-use Rattle.blif_text.specs.Words.{texts}
+use Rattle.text_words.specs.Slices.{texts}
 use Rattle.blif_text.proofs.names.Names.numbers.Given as goal
 
 abbrev pub invariant-loop-word : goal.invariant-loop-word

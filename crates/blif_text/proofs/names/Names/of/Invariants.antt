@@ -1,6 +1,6 @@
 use Rattle.std.proofs.Common.{◌≡◌, take, drop}
 use Rattle.semantics.specs.Refusals.{first_doubled, first_doubled_after}
-use Rattle.blif_text.specs.Words.{texts}
+use Rattle.text_words.specs.Slices.{texts}
 use Rattle.blif_text.proofs.names.Names.of.Given as goal
 
 abbrev pub invariant-loop-name : goal.invariant-loop-name

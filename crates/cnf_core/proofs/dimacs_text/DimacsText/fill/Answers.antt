@@ -10,8 +10,8 @@ loop-filled-init c =
     let gave = c.give-filled.ensures in
     let left = c.give-filled.new.self in
     record {
-      text = rw zero-add at (given_more [] a.word left (rest_text a.words) c.args.self.now c.give-filled.new.buf 0 count c.self.view_is gave.rest gave.written);
-      used_up = λ less. used_up a.word left 0 count (length c.args.buf.now) gave.rest gave.count (omega (arith, less, c.give-filled.auto.buf));
+      text = rw zero-add at (given_more [] a.token left (rest_text a.tokens) c.args.self.now c.give-filled.new.buf 0 count c.self.view_is gave.rest gave.written);
+      used_up = λ less. used_up a.token left 0 count (length c.args.buf.now) gave.rest gave.count (omega (arith, less, c.give-filled.auto.buf));
       kept = rw zero-add at gave.kept;
       within = omega (arith, gave.count, c.give-filled.auto.buf);
     }
@@ -23,11 +23,11 @@ loop-filled-preserved c =
     let count = c.give-filled-in-loop-filled.result in
     let left = c.give-filled-in-loop-filled.new.self in
     let buf = c.give-filled-in-loop-filled.new.buf in
-    let whole = ap (λ t. take l.filled l.buf ++ (t ++ rest_text l.self-inside.words)) (sym (l.invariant.used_up c.loop-filled-test.true)) ∙ l.invariant.text in
+    let whole = ap (λ t. take l.filled l.buf ++ (t ++ rest_text l.self-inside.tokens)) (sym (l.invariant.used_up c.loop-filled-test.true)) ∙ l.invariant.text in
     record {
-      text = given_more (take l.filled l.buf) c.in-Some.word left (rest_text c.next.new.self) c.args.self.now buf l.filled count
+      text = given_more (take l.filled l.buf) c.in-Some.token left (rest_text c.next.new.self) c.args.self.now buf l.filled count
           (ap (λ t. take l.filled l.buf ++ t) (sym c.in-Some.ensures.0) ∙ whole) gave.rest gave.written;
-      used_up = λ less. used_up c.in-Some.word left l.filled count (length l.buf) gave.rest gave.count (omega (arith, less, c.give-filled-in-loop-filled.auto.buf));
+      used_up = λ less. used_up c.in-Some.token left l.filled count (length l.buf) gave.rest gave.count (omega (arith, less, c.give-filled-in-loop-filled.auto.buf));
       kept = kept_more c.args.buf.now l.buf buf l.filled count l.invariant.kept gave.kept;
       within = omega (arith, gave.count, l.invariant.within, c.give-filled-in-loop-filled.auto.buf);
     }
@@ -35,5 +35,5 @@ loop-filled-preserved c =
 pub returns-in_default-clause-rest : goal.returns-in_default-clause-rest
 returns-in_default-clause-rest c =
     let l = c.loop-filled in
-    ap (λ w. l.self-inside.word ++ rest_text w) c.in_default.ensures.1
-    ∙ all_given l.buf l.self-inside.word (rest_text l.self-inside.words) c.args.self.now l.filled l.invariant.text (l.invariant.used_up c.loop-filled-test.true) c.in_default.ensures.0
+    ap (λ w. l.self-inside.token ++ rest_text w) c.in_default.ensures.1
+    ∙ all_given l.buf l.self-inside.token (rest_text l.self-inside.tokens) c.args.self.now l.filled l.invariant.text (l.invariant.used_up c.loop-filled-test.true) c.in_default.ensures.0

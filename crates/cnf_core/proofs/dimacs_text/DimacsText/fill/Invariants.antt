@@ -5,8 +5,8 @@ use Rattle.cnf_core.proofs.dimacs_text.DimacsText.fill.Given as goal
 -- what was filled and what is left are the text, and the rest of the buffer is as it was
 abbrev pub invariant-loop-filled : goal.invariant-loop-filled
 invariant-loop-filled l = record {
-  text : take l.filled l.buf ++ (l.self-inside.word ++ rest_text l.self-inside.words) ≡ l.fn.self;
-  used_up : l.filled < length l.buf → l.self-inside.word ≡ [];
+  text : take l.filled l.buf ++ (l.self-inside.token ++ rest_text l.self-inside.tokens) ≡ l.fn.self;
+  used_up : l.filled < length l.buf → l.self-inside.token ≡ [];
   kept : drop l.filled l.buf ≡ drop l.filled l.fn.buf;
   within : l.filled ≤ length l.buf;
 }

@@ -1,6 +1,0 @@
-use Rattle.std.proofs.Common.{◌≡◌, take}
-use Rattle.bundle.specs.Pieces.{bits_in}
-use Rattle.bundle.proofs.pieces.bits_of.Given as goal
-
-abbrev pub invariant-loop-digit : goal.invariant-loop-digit
-invariant-loop-digit l = l.bits ≡ bits_in (take l.digit-index l.digits)

@@ -1,0 +1,8 @@
+pub mod VectorTexts
+pub mod CutTexts
+pub mod ReportCuts
+pub mod LogChecks
+pub mod FormulaChecks
+pub mod Fronts
+pub mod JudgedVectors
+pub mod ReportSizes

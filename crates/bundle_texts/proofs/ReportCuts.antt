@@ -1,0 +1,170 @@
+-- The parts of a report's text are cut off in one way.
+use Rattle.std.proofs.Common.{◌≡◌, ◌≢◌, ℕ, ◌-◌, ◌<◌, ◌^◌, Bool, true, false, List, [], ◌∷◌, ◌++◌, length, decimal, codes, refl, ap, sym, subst, ◌∙◌, append_assoc, arith}
+use Rattle.std.proofs.lemmas.List.{append_cancel_left}
+use Rattle.semantics.specs.Texts.{Bytes, bits_word, line_text}
+use Rattle.semantics.specs.Decimal.{is_digit}
+use Rattle.semantics.specs.declared.metric.Metric.{Metric}
+use Rattle.job_semantics.specs.Report.{Report, metric_word, report_text}
+use Rattle.job_semantics.specs.Certificate.{IsReportText}
+use Rattle.job_semantics.proofs.ReportTexts.{report_head, two_words, few_digits, report_text-is, number-cut, bits-cut}
+use Rattle.bundle_texts.specs.declared.report_reading.Counts.{Counts}
+use Rattle.bundle_texts.specs.declared.report_reading.ReportRead.{ReportRead}
+use Rattle.bundle_texts.specs.Pieces.{IsNumberBefore, IsVectorBefore}
+use Rattle.bundle_texts.specs.ReportParts.{head_text, counts_text, minimal_text, tail_text, AreCountsBefore, IsFrontBefore, IsTail}
+use Rattle.bundle_texts.specs.Reading.{report_read}
+
+number_once : (end n m : ℕ) (s t : Bytes) → is_digit end ≡ false → n < 2 ^ 84 → m < 2 ^ 84 → decimal n ++ end ∷ s ≡ decimal m ++ end ∷ t → (n ≡ m) × (s ≡ t)
+number_once end n m s t other few fewer same =
+    let cut = number-cut n m end end s t (few_digits n few) (few_digits m fewer) other other same in
+    (cut.0, append_cancel_left (end ∷ []) s t cut.1)
+
+-- ---- a line of two counts
+
+module _ (key text r1 : Bytes) (start : text ≡ key ++ r1) where
+  counts_start : (old new : ℕ) (rest : Bytes) → AreCountsBefore key text old new rest → r1 ≡ decimal old ++ 32 ∷ (decimal new ++ 10 ∷ rest)
+  counts_start old new rest h = append_cancel_left key r1 _ (sym start ∙ h.spelled)
+
+  pub no_old : ((n : ℕ) (rest : Bytes) → ¬ IsNumberBefore 4294967295 32 r1 n rest) → (old new : ℕ) (rest : Bytes) → ¬ AreCountsBefore key text old new rest
+  no_old none old new rest h =
+      none old (decimal new ++ 10 ∷ rest) (record { few = omega (arith, h.few_old); spelled = counts_start old new rest h })
+
+  module _ (o : ℕ) (r2 : Bytes) (first : IsNumberBefore 4294967295 32 r1 o r2) where
+    second_start : (old new : ℕ) (rest : Bytes) → AreCountsBefore key text old new rest → (o ≡ old) × (r2 ≡ decimal new ++ 10 ∷ rest)
+    second_start old new rest h =
+        number_once 32 o old r2 (decimal new ++ 10 ∷ rest) refl (omega (arith, first.few)) (omega (arith, h.few_old)) (sym first.spelled ∙ counts_start old new rest h)
+
+    pub no_new : ((n : ℕ) (rest : Bytes) → ¬ IsNumberBefore 4294967295 10 r2 n rest) → (old new : ℕ) (rest : Bytes) → ¬ AreCountsBefore key text old new rest
+    no_new none old new rest h =
+        none new rest (record { few = omega (arith, h.few_new); spelled = (second_start old new rest h).1 })
+
+counts_once : (key text : Bytes) (a b c d : ℕ) (s t : Bytes) → AreCountsBefore key text a b s → AreCountsBefore key text c d t → (a ≡ c) × (b ≡ d) × (s ≡ t)
+counts_once key text a b c d s t h k =
+    let first = number_once 32 a c (decimal b ++ 10 ∷ s) (decimal d ++ 10 ∷ t) refl (omega (arith, h.few_old)) (omega (arith, k.few_old))
+    (append_cancel_left key _ _ (sym h.spelled ∙ k.spelled)) in
+    let second = number_once 10 b d s t refl (omega (arith, h.few_new)) (omega (arith, k.few_new)) first.1 in
+    (first.0, second.0, second.1)
+
+-- ---- the counts and the last line
+
+tables_of : (text : Bytes) (c : Counts) → IsTail text c
+    → AreCountsBefore (codes "tables ") text c.old_tables c.new_tables (counts_text (codes "literals ") c.old_literals c.new_literals (minimal_text c.minimal))
+tables_of text c h = record { few_old = h.few_old_tables; few_new = h.few_new_tables; spelled = h.spelled }
+
+literals_of : (text : Bytes) (c : Counts) → IsTail text c → (rest : Bytes) → rest ≡ counts_text (codes "literals ") c.old_literals c.new_literals (minimal_text c.minimal)
+    → AreCountsBefore (codes "literals ") rest c.old_literals c.new_literals (minimal_text c.minimal)
+literals_of text c h rest is = record { few_old = h.few_old_literals; few_new = h.few_new_literals; spelled = is }
+
+module _ (text : Bytes) (a b : ℕ) (r1 : Bytes) (tables : AreCountsBefore (codes "tables ") text a b r1) where
+  literals_start : (c : Counts) → IsTail text c → AreCountsBefore (codes "literals ") r1 c.old_literals c.new_literals (minimal_text c.minimal)
+  literals_start c h = literals_of text c h r1 (counts_once (codes "tables ") text a b c.old_tables c.new_tables r1 _ tables (tables_of text c h)).2
+
+  pub no_literals : ((old new : ℕ) (rest : Bytes) → ¬ AreCountsBefore (codes "literals ") r1 old new rest) → (c : Counts) → ¬ IsTail text c
+  no_literals none c h = none c.old_literals c.new_literals (minimal_text c.minimal) (literals_start c h)
+
+  pub no_minimal : (d e : ℕ) (r2 : Bytes) → AreCountsBefore (codes "literals ") r1 d e r2 → ((is_minimal : Bool) → r2 ≢ minimal_text is_minimal) → (c : Counts) → ¬ IsTail text c
+  no_minimal d e r2 literals none c h =
+      none c.minimal (counts_once (codes "literals ") r1 d e c.old_literals c.new_literals r2 _ literals (literals_start c h)).2
+
+-- ---- the head, the maximum and the witness
+
+module _ (head : Bytes) (width : ℕ) (text r1 : Bytes) (start : text ≡ head ++ r1) where
+  maximum_start : (maximum : ℕ) (x : List Bool) (rest : Bytes) → IsFrontBefore head width text maximum x rest
+      → r1 ≡ decimal maximum ++ 10 ∷ (codes "witness " ++ (bits_word x ++ 10 ∷ rest))
+  maximum_start maximum x rest h = append_cancel_left head r1 _ (sym start ∙ h.spelled)
+
+  module _ (most : ℕ) (all : most ≡ 2 ^ 84 - 1) where
+    pub no_maximum : ((n : ℕ) (rest : Bytes) → ¬ IsNumberBefore most 10 r1 n rest) → (maximum : ℕ) (x : List Bool) (rest : Bytes) → ¬ IsFrontBefore head width text maximum x rest
+    no_maximum none maximum x rest h =
+        none maximum (codes "witness " ++ (bits_word x ++ 10 ∷ rest)) (record { few = omega (arith, h.few, all); spelled = maximum_start maximum x rest h })
+
+    module _ (m : ℕ) (r2 : Bytes) (first : IsNumberBefore most 10 r1 m r2) where
+      witness_start : (maximum : ℕ) (x : List Bool) (rest : Bytes) → IsFrontBefore head width text maximum x rest → r2 ≡ codes "witness " ++ (bits_word x ++ 10 ∷ rest)
+      witness_start maximum x rest h =
+          (number_once 10 m maximum r2 _ refl (omega (arith, first.few, all)) h.few (sym first.spelled ∙ maximum_start maximum x rest h)).1
+
+      pub no_witness : ((rest : Bytes) → r2 ≢ codes "witness " ++ rest) → (maximum : ℕ) (x : List Bool) (rest : Bytes) → ¬ IsFrontBefore head width text maximum x rest
+      no_witness none maximum x rest h = none (bits_word x ++ 10 ∷ rest) (witness_start maximum x rest h)
+
+      pub no_bits : (r3 : Bytes) → r2 ≡ codes "witness " ++ r3 → ((x : List Bool) (rest : Bytes) → ¬ IsVectorBefore width r3 x rest)
+          → (maximum : ℕ) (x : List Bool) (rest : Bytes) → ¬ IsFrontBefore head width text maximum x rest
+      no_bits r3 key none maximum x rest h =
+          none x rest (record { width_is = h.width_is; spelled = append_cancel_left (codes "witness ") r3 _ (sym key ∙ witness_start maximum x rest h) })
+
+front_once : (head : Bytes) (width : ℕ) (text : Bytes) (m n : ℕ) (x y : List Bool) (s t : Bytes) → IsFrontBefore head width text m x s → IsFrontBefore head width text n y t
+    → (m ≡ n) × (x ≡ y) × (s ≡ t)
+front_once head width text m n x y s t h k =
+    let maximum = number_once 10 m n _ _ refl h.few k.few (append_cancel_left head _ _ (sym h.spelled ∙ k.spelled)) in
+    let witness = bits-cut x y (10 ∷ s) (10 ∷ t) (h.width_is ∙ sym k.width_is) (append_cancel_left (codes "witness ") _ _ maximum.1) in
+    (maximum.0, witness.0, append_cancel_left (10 ∷ []) s t witness.1)
+
+-- ---- the whole text
+
+head_is : (metric : Metric) (bound : ℕ) (rest : Bytes) → head_text metric bound ++ rest ≡ report_head metric bound rest
+head_is metric bound rest =
+    let salsa : Bytes = line_text (codes "salsa" ∷ codes "1" ∷ []) in
+    let unit : Bytes = line_text (codes "metric" ∷ metric_word metric ∷ []) in
+    let limit : Bytes = line_text (codes "bound" ∷ decimal bound ∷ []) in
+    append_assoc salsa (unit ++ (limit ++ codes "maximum ")) rest
+    ∙ ap (λ t. salsa ++ t)
+    (append_assoc unit (limit ++ codes "maximum ") rest
+    ∙ ap (λ t. unit ++ t) (append_assoc limit (codes "maximum ") rest ∙ two_words (codes "bound") (decimal bound) (codes "maximum " ++ rest))
+    ∙ two_words (codes "metric") (metric_word metric) (codes "bound " ++ (decimal bound ++ 10 ∷ (codes "maximum " ++ rest))))
+
+abbrev tail_of : Report → Bytes
+tail_of r = tail_text r.old_tables r.new_tables r.old_literals r.new_literals r.minimal
+
+abbrev counts_of : Report → Counts
+counts_of r = record {
+  old_tables = r.old_tables;
+  new_tables = r.new_tables;
+  old_literals = r.old_literals;
+  new_literals = r.new_literals;
+  minimal = r.minimal;
+}
+
+parts_are : (r : Report) → head_text r.metric r.bound ++ (decimal r.maximum ++ 10 ∷ (codes "witness " ++ (bits_word r.witness ++ 10 ∷ tail_of r))) ≡ report_text r
+parts_are r = head_is r.metric r.bound _ ∙ sym (report_text-is r)
+
+module _ (inputs : ℕ) (metric : Metric) (bound : ℕ) (text head : Bytes) (head_there : head ≡ head_text metric bound) where
+  front_of : (r : Report) → IsReportText inputs metric bound text r → IsFrontBefore head inputs text r.maximum r.witness (tail_of r)
+  front_of r h = record {
+    few = h.maximum;
+    width_is = h.witness;
+    spelled =
+        let behind : Bytes = decimal r.maximum ++ 10 ∷ (codes "witness " ++ (bits_word r.witness ++ 10 ∷ tail_of r)) in
+        h.spelled ∙ sym (parts_are r) ∙ (λ i. head_text (h.same_metric i) (h.same_bound i) ++ behind) ∙ ap (λ t. t ++ behind) (sym head_there);
+  }
+
+  pub no_front : ((maximum : ℕ) (x : List Bool) (rest : Bytes) → ¬ IsFrontBefore head inputs text maximum x rest) → (r : Report) → ¬ IsReportText inputs metric bound text r
+  no_front none r h = none r.maximum r.witness (tail_of r) (front_of r h)
+
+  module _ (maximum : ℕ) (x : List Bool) (rest : Bytes) (front : IsFrontBefore head inputs text maximum x rest) where
+    pub no_tail : ((c : Counts) → ¬ IsTail rest c) → (r : Report) → ¬ IsReportText inputs metric bound text r
+    no_tail none r h =
+        none (counts_of r) (record {
+          few_old_tables = h.counts.0;
+          few_new_tables = h.counts.1.0;
+          few_old_literals = h.counts.1.1.0;
+          few_new_literals = h.counts.1.1.1.0;
+          spelled = (front_once head inputs text maximum r.maximum x r.witness rest (tail_of r) front (front_of r h)).2;
+        })
+
+    pub read_is : (found : ReportRead) → found.maximum ≡ maximum → found.witness ≡ x → IsTail rest found.counts → IsReportText inputs metric bound text (report_read metric bound found)
+    read_is found same_maximum same_witness tail = record {
+      spelled =
+          front.spelled
+          ∙ (λ i. head_there i ++ (decimal (sym same_maximum i) ++ 10 ∷ (codes "witness " ++ (bits_word (sym same_witness i) ++ 10 ∷ tail.spelled i))))
+          ∙ parts_are (report_read metric bound found);
+      same_metric = refl;
+      same_bound = refl;
+      maximum = subst (λ n. n < 2 ^ 84) (sym same_maximum) front.few;
+      witness = ap length same_witness ∙ front.width_is;
+      counts = (tail.few_old_tables, (tail.few_new_tables, (tail.few_old_literals, (tail.few_new_literals, tt))));
+    }
+
+-- ---- the last line
+
+pub other_line : (text yes_line no_line : Bytes) → yes_line ≡ minimal_text true → no_line ≡ minimal_text false
+    → (text ≡ yes_line → ⊥) → (text ≡ no_line → ⊥) → (is_minimal : Bool) → text ≢ minimal_text is_minimal
+other_line text yes_line no_line a b not_yes not_no true same = not_yes (same ∙ sym a)
+other_line text yes_line no_line a b not_yes not_no false same = not_no (same ∙ sym b)

@@ -1,0 +1,11 @@
+pub mod VectorLines
+pub mod Pieces
+pub mod ReportParts
+pub mod Reading
+pub mod TextCheck
+pub mod LogTold
+pub mod LogStanding
+pub mod FormulaStanding
+pub mod VectorsTaken
+pub mod VectorsStanding
+pub mod FilesRead

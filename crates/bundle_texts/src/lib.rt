@@ -1,0 +1,13 @@
+//! The texts of a bundle's files: what is written of vectors, how a report is read back, and how formulas, logs and vectors are judged as
+//! they are read.
+#![tactic(auto)]
+
+pub mod bits;
+pub mod formula_check;
+pub mod log_check;
+mod pieces;
+pub mod report_lines;
+pub mod report_reading;
+pub mod vectors_check;
+mod vectors_taken;
+pub mod vectors_writing;

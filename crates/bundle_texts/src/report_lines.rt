@@ -1,0 +1,49 @@
+//! Lines of a report's text, made on the stack, as they are written and as they are looked for.
+ghost use Rattle.std.specs.Prelude.{◌≡◌, ◌+◌, ◌≤◌, [], ◌∷◌, ◌++◌, length, decimal};
+ghost use Rattle.semantics.specs.Texts.{line_text};
+ghost use Rattle.job_semantics.specs.Report.{metric_word};
+
+use arrayvec::ArrayString;
+use itoa::Buffer;
+use semantics::metric::Metric;
+
+/// No report of a net within the limits has more bytes.
+pub const REPORT_LIMIT: usize = 1024;
+
+/// Room for every report of nets with at most 256 inputs.
+pub type ReportText = ArrayString<REPORT_LIMIT>;
+
+/// Adds a line of a key and a word.
+pub fn add_word(text: &mut ReportText, key: &str, word: &str)
+    requires { length text.old.bytes + length key.now + length word.now + 2 ≤ 1024 }
+    ensures bytes { text.new.bytes ≡ text.old.bytes ++ line_text (key.now ∷ word.now ∷ []) }
+    ensures len { length text.new.bytes ≡ length text.old.bytes + length key.now + length word.now + 2 }
+{
+    text.push_str(key);
+    text.push_str(" ");
+    text.push_str(word);
+    text.push_str("\n");
+}
+
+/// Adds a line of a key and a number.
+pub fn add_number(text: &mut ReportText, key: &str, number: u128)
+    requires { length text.old.bytes + length key.now + 42 ≤ 1024 }
+    ensures bytes { text.new.bytes ≡ text.old.bytes ++ line_text (key.now ∷ decimal number ∷ []) }
+    ensures len { length text.new.bytes ≤ length text.old.bytes + length key.now + 42 }
+{
+    let mut digits = Buffer::new();
+    add_word(text, key, digits.format(number));
+}
+
+/// The word of a metric.
+pub fn metric_word(metric: Metric) -> &'static str
+    ensures word { result.now ≡ metric_word metric }
+    ensures len { length result.now ≤ 4 }
+{
+    match metric {
+        Metric::Abs => "abs",
+        Metric::Rel => "rel",
+        Metric::Ham => "ham",
+        Metric::Sabs => "sabs",
+    }
+}

@@ -1,0 +1,4 @@
+//! Decimal numbers as words.
+#![tactic(auto)]
+
+pub mod decimal;

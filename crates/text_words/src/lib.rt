@@ -1,0 +1,4 @@
+//! Lines cut into words.
+#![tactic(auto)]
+
+pub mod words;
