@@ -1,6 +1,5 @@
-use Rattle.std.proofs.Common.{length, sym, ap, ◌∙◌}
-use Rattle.semantics.specs.Net.{NetValue, HasSamePorts}
-use Rattle.quality_semantics.specs.Joint.{joint_net}
+use Rattle.std.proofs.Common.{length, ap, ◌∙◌}
+use Rattle.semantics.specs.Net.{NetValue}
 use Rattle.quality_semantics.proofs.Joint.{joint_outputs}
 use Rattle.miter.proofs.level.joint_miter.Goals as goal
 
