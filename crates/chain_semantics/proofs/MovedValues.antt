@@ -6,7 +6,7 @@ use Rattle.std.proofs.lemmas.List.{length-set, get_or-set_same, get_or-set_other
 use Rattle.std.proofs.lemmas.List.Edits.{length-remove, get_or-remove_below, get_or-remove_above}
 use Rattle.std.proofs.lemmas.List.Folds.{Any-from_list_any, list_any_at}
 use Rattle.semantics.specs.declared.mark.Mark.{Mark}
-use Rattle.semantics.specs.declared.mark.Mark.TheVariants.{Dash}
+use Rattle.semantics.specs.declared.mark.Mark.TheVariants.{Zero, One, Dash}
 use Rattle.semantics.specs.Texts.{Bytes}
 use Rattle.semantics.specs.Net.{TableValue, NetValue, no_table, table_at, table_count, constant_table}
 use Rattle.semantics.specs.Value.{Assignment, mark_matches, row_matches, table_value}
@@ -31,6 +31,11 @@ moved_table-name t (Const i value) = constant-name t.name value
 moved_table-name t (DropRow i row) = refl
 moved_table-name t (DropLiteral i row pin) = refl
 moved_table-name t (Signal i s flip) = refl
+
+pub becomes-copy : (t : TableValue) (i s : ℕ) (flip : Bool)
+    → moved_table t (Signal i s flip) ≡ record { name = t.name; pins = s ∷ []; rows = (cond flip Zero One ∷ []) ∷ []; plane = true }
+becomes-copy t i s false = refl
+becomes-copy t i s true = refl
 
 constant_name-value : (name : Bytes) (value : Bool) (v : Assignment) → table_value (constant_table name value) v ≡ value
 constant_name-value name false v = refl

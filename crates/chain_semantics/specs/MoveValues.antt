@@ -1,8 +1,8 @@
 -- What a move makes of its table, and the value of the moved table by kind.
-use Rattle.std.specs.Prelude.{◌≡◌, ◌≢◌, ◌↔◌, ◌⊎◌, ℕ, ◌<◌, Bool, true, not, if◌then◌else◌, List, ◌∷◌, ◌++◌, length}
+use Rattle.std.specs.Prelude.{◌≡◌, ◌≢◌, ◌↔◌, ◌⊎◌, ℕ, ◌<◌, Bool, true, not, if◌then◌else◌, List, [], ◌∷◌, ◌++◌, length}
 use Rattle.semantics.specs.declared.mark.Mark.{Mark}
-use Rattle.semantics.specs.declared.mark.Mark.TheVariants.{Dash}
-use Rattle.semantics.specs.Net.{TableValue, NetValue, table_at, table_count}
+use Rattle.semantics.specs.declared.mark.Mark.TheVariants.{Zero, One, Dash}
+use Rattle.semantics.specs.Net.{TableValue, NetValue, table_at, table_count, constant_table}
 use Rattle.semantics.specs.Value.{Assignment, mark_matches, table_value}
 use Rattle.chain_semantics.specs.declared.moves.Move.{Move}
 use Rattle.chain_semantics.specs.declared.moves.Move.TheVariants.{Const, DropRow, DropLiteral, Signal}
@@ -30,13 +30,17 @@ abbrev pub HasPlane : TableValue → Move → Assignment → Type 0
 HasPlane t move v = table_value (moved_table t move) v ≡ t.plane
 
 -- The moved net has the moved table in its place, and every other table as it was. The moved table keeps its name.
--- A constant has its value whatever the signals are; a copy has the value of its signal, or the opposite; without a row the others decide, and
+-- What becomes a constant is the canonical one, and what becomes a copy has one pin, one row and plane 1, whatever the plane was. A constant has
+-- its value whatever the signals are; a copy has the value of its signal, or the opposite; without a row the others decide, and
 -- without a literal the row no longer asks for it. Rows and literals that are left out leave the order of the others, the pins and the plane.
 pub record MovedValueLaw : Type 0 where
   pub itself : (N : NetValue) (move : Move) → table_of move < table_count N
       → table_at (moved N move).tables (table_of move) ≡ moved_table (table_at N.tables (table_of move)) move
   pub others : (N : NetValue) (move : Move) (i : ℕ) → i ≢ table_of move → table_at (moved N move).tables i ≡ table_at N.tables i
   pub name : (t : TableValue) (move : Move) → (moved_table t move).name ≡ t.name
+  pub becomes_constant : (t : TableValue) (i : ℕ) (value : Bool) → moved_table t (Const i value) ≡ constant_table t.name value
+  pub becomes_copy : (t : TableValue) (i s : ℕ) (flip : Bool)
+      → moved_table t (Signal i s flip) ≡ record { name = t.name; pins = s ∷ []; rows = ((if flip then Zero else One) ∷ []) ∷ []; plane = true }
   pub constant : (t : TableValue) (i : ℕ) (value : Bool) (v : Assignment) → table_value (moved_table t (Const i value)) v ≡ value
   pub row : (t : TableValue) (i r : ℕ) (v : Assignment) → r < length t.rows → HasPlane t (DropRow i r) v ↔ AnotherRowHolds t v r
   pub literal : (t : TableValue) (i r p : ℕ) (v : Assignment) → r < length t.rows

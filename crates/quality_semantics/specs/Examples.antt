@@ -1,11 +1,12 @@
 -- Worked examples, computed from the definitions. Their counts and outputs are those of a program that was written apart from them.
 use Rattle.std.specs.Prelude.{◌≡◌, ℕ, ◌+◌, List, [], ◌∷◌, map, length, take, drop, codes}
 use Rattle.std.specs.List.{range_with_len}
+use Rattle.semantics.specs.declared.mark.Mark.TheVariants.{Zero, One, Dash}
 use Rattle.semantics.specs.Net.{TableValue, table_at, row_count}
 use Rattle.semantics.specs.declared.metric.Metric.TheVariants.{Abs, Rel, Ham, Sabs}
 use Rattle.semantics.specs.Blif.{blif_text}
 use Rattle.semantics.specs.Examples.{text, half_adder, constant_sum, wire}
-use Rattle.quality_semantics.specs.Forms.{Form, zero_form, one_form, or2, xor2, xor3, maj, gt, grow, low, inv, and2}
+use Rattle.quality_semantics.specs.Forms.{Form, form, zero_form, one_form, or2, xor2, xor3, maj, gt, grow, low, inv, and2}
 use Rattle.quality_semantics.specs.WordNets.{table_of, started}
 use Rattle.quality_semantics.specs.Buses.{binary, constant, add, times, not_zero_low, flip_top, at_least}
 use Rattle.quality_semantics.specs.Multiply.{product_rows, sum_of_rows, multiplier, multiplier_net}
@@ -45,6 +46,10 @@ pub record OtherExamples : Type 0 where
   -- whether the bits 0 and 1 differ, and whether that was so at least once
   pub differing_bit : (quality Ham 1 0).net.tables ≡ numbered 0 (zero_form ∷ one_form ∷ xor2 0 1 ∷ grow 2 4 3 ∷ [])
   pub differing_output : (quality_net Ham 1 0).outputs ≡ 5 ∷ []
+  pub differing_text :
+      blif_text (quality_net Ham 1 0)
+      ≡ text (codes ".model word" ∷ codes ".inputs x0 x1" ∷ codes ".outputs t3" ∷ codes ".names t0" ∷ codes ".names t1" ∷ codes "1"
+      ∷ codes ".names x0 x1 t2" ∷ codes "10 1" ∷ codes "01 1" ∷ codes ".names t0 t2 t1 t3" ∷ codes "1-- 1" ∷ codes "-11 1" ∷ codes ".end" ∷ [])
   pub two_differing_bits :
       (quality Ham 2 1).net.tables
       ≡ numbered 0 (zero_form ∷ one_form ∷ xor2 0 2 ∷ xor2 1 3 ∷ grow 4 6 5 ∷ grow 4 6 4 ∷ grow 8 7 5 ∷ grow 9 7 8 ∷ [])
@@ -55,7 +60,7 @@ pub record OtherExamples : Type 0 where
   pub relative_tables : (length (quality Rel 1 0).net.tables ≡ 382) × ((quality Rel 1 0).signal ≡ 383)
   pub relative_rows : row_count (quality_net Rel 1 0) ≡ 1301
   pub relative_half : (length (quality Rel 1 500000).net.tables ≡ 492) × (row_count (quality_net Rel 1 500000) ≡ 1686)
-  -- At level 3, over the inputs e, 0, and a, 1, with the constants 2 and 3: table 2, signal 4, is e or 1; then e a million times, whose
+  -- At level 3, over the inputs e, 0, and a, 1, with the constants 2 and 3: table 2, signal 4, is e, or 1 where e is 0; then e a million times, whose
   -- bit 6 is signal 77; a a million times, whose bit 6 is signal 187; table 2 three times; and at bit 6 of the last step each sum and
   -- comparison with its operands in order.
   pub relative_operands :
@@ -65,6 +70,7 @@ pub record OtherExamples : Type 0 where
       ∷ (364, gt 187 320 365) ∷ (385, or2 307 386) ∷ [])
   pub relative_counts : (length (quality Rel 1 3).net.tables ≡ 386) × (row_count (quality_net Rel 1 3) ≡ 1315)
   pub never_relative : quality Rel 1 1000000 ≡ record { net = started 2; signal = 2 }
+  pub low_of_three : low 0 (1 ∷ 2 ∷ []) ≡ form (0 ∷ 1 ∷ 2 ∷ []) ((One ∷ Dash ∷ Dash ∷ []) ∷ (Zero ∷ Zero ∷ Zero ∷ []) ∷ [])
   pub not_zero : (not_zero_low (started 4) (0 ∷ 1 ∷ [])).bus ≡ 6 ∷ 1 ∷ []
   pub tripled : (times (started 4) (0 ∷ 1 ∷ []) 3).bus ≡ 6 ∷ 8 ∷ 10 ∷ 11 ∷ []
 
