@@ -49,7 +49,11 @@ fn is_shown_minimal(alloc: Global, claim: &Claim, contents: &Contents) -> Result
 }
 
 /// The first clause that fails of those on the counts and on the report's last line, which need no further file.
-fn check_counts(alloc: Global, claim: &Claim, contents: &Contents) -> Result<Option<Clause>, AllocError>
+fn check_counts(
+    alloc: Global,
+    claim: &Claim,
+    contents: &Contents,
+) -> Result<Option<Clause>, AllocError>
     requires exact { IsSmall claim.now.exact.now }
     requires approx { IsSmall contents.now.approx.now }
     requires ports { HasSamePorts claim.now.exact.now contents.now.approx.now }

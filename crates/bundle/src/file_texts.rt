@@ -6,13 +6,13 @@ ghost use Rattle.bundle_texts.specs.LogTold.{IsRefutingText};
 ghost use Rattle.bundle_texts.specs.FilesRead.{IsNetIn, IsReportIn, AreVectorsIn};
 ghost use Rattle.bundle.specs.Judging.{TextRead, TextUnread};
 
+use blif_text::reading::read_blif;
+use blif_text::refusal::BlifRefusal;
 use bundle_texts::formula_check::FormulaCheck;
 use bundle_texts::log_check::LogCheck;
 use bundle_texts::report_lines::REPORT_LIMIT;
 use bundle_texts::report_reading::{ReportRead, read_report};
 use bundle_texts::vectors_check::VectorsCheck;
-use blif_text::reading::read_blif;
-use blif_text::refusal::BlifRefusal;
 use cnf_core::cnf::Cnf;
 use file_core::files::Files;
 use file_reading::front::Front;

@@ -8,8 +8,8 @@ ghost use Rattle.bundle.specs.Value.{FitsReport, file_of, files_of, report_of_bu
 use crate::bundle::{Bundle, BundleFault};
 use crate::report_writing::report;
 use crate::stem::Stem;
-use bundle_texts::vectors_writing::write_vectors;
 use blif_text::writing::write_blif;
+use bundle_texts::vectors_writing::write_vectors;
 use cnf_core::dimacs::write_dimacs;
 use cnf_core::lrat::write_lrat;
 use file_core::append::{append_all, put_all};

@@ -87,7 +87,9 @@ impl<'a> VectorsCheck<'a> {
             → AreVectorsIn (length self.entry.witness) self.entry.witness result content }
     {
         let VectorsCheck {
-            taken, is_right, ..
+            taken,
+            is_right,
+            ..
         } = self;
         if !is_right {
             return None;

@@ -3,8 +3,8 @@ ghost use Rattle.std.specs.Prelude.{◌≡◌, length, take, drop, min};
 ghost use Rattle.proof_semantics.specs.Formula.{dimacs_text};
 
 use crate::cnf::Cnf;
-use crate::dimacs_tokens::{DimacsTokens, header};
 use crate::dimacs_token::DimacsToken;
+use crate::dimacs_tokens::{DimacsTokens, header};
 use std::marker::Model;
 
 /// Callers see what is left of the text. It takes no memory but its own, and no token is made twice.

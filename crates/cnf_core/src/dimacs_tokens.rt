@@ -6,8 +6,8 @@ ghost use Rattle.cnf_core.specs.FormulaText.{clauses_text};
 
 use crate::clause::Lits;
 use crate::cnf::Cnf;
-use crate::literal::Literal;
 use crate::dimacs_token::DimacsToken;
+use crate::literal::Literal;
 use itoa::{Buffer, Integer};
 
 /// The header, and then each literal or end of a clause, is a token.

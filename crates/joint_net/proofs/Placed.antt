@@ -1,5 +1,5 @@
 -- Where signals stand in a joint net, and its lists of copies.
-use Rattle.std.proofs.Common.{subst, ◌≡◌, ℕ, suc, ◌+◌, ◌^◌, ◌<◌, ◌≤◌, ◌⊎◌, inl, inr, List, [], ◌∷◌, ◌++◌, map, length, drop, drop-cons, get_or, codes, refl, ap, sym, ◌∙◌, arith}
+use Rattle.std.proofs.Common.{◌≡◌, subst, ℕ, suc, ◌+◌, ◌^◌, ◌<◌, ◌≤◌, ◌⊎◌, inl, inr, List, [], ◌∷◌, ◌++◌, map, length, drop, drop-cons, get_or, codes, refl, ap, sym, ◌∙◌, arith}
 use Rattle.std.specs.List.{range_with_len}
 use Rattle.std.proofs.Math.Path.{fun_ext}
 use Rattle.std.proofs.lemmas.Bool.{cases_lt, lt-ltb, le-ltb}
@@ -11,9 +11,9 @@ use Rattle.semantics.specs.declared.metric.Metric.{Metric}
 use Rattle.net_core.specs.Built.{IsWired}
 use Rattle.quality_semantics.specs.Quality.{quality, quality_net}
 use Rattle.quality_semantics.specs.Joint.{numbered_name, copied_from, copied, moved, approximate_signal, both_outputs, quality_signal, joint_net}
-use Rattle.quality_semantics.proofs.Joint.{length-copied, length-both_copies, whole_length, joint_outputs, comparable}
+use Rattle.quality_semantics.proofs.Joint.{joint_output, length-copied, length-both_copies, whole_length, joint_outputs, comparable}
 use Rattle.quality_semantics.proofs.JointSound.{joint_sound}
-use Rattle.joint_net.specs.Copies.{placed, copy_at, all_copies, joined, IsJoinable}
+use Rattle.joint_net.specs.Copies.{placed, copy_at, all_copies, joined, IsJoinable, TellsError}
 
 -- ---- one more in a loop
 
@@ -87,7 +87,7 @@ pub joined_is : (N M Q : NetValue) (metric : Metric) (w k : ℕ) → w ≡ lengt
 unfolding joined joint_net
 joined_is N M Q metric w k width eq = rw (eq, width) refl
 
-joint_signals : (N M : NetValue) (metric : Metric) (k : ℕ) → signal_count (joint_net N M metric k) ≡ signal_count N + table_count M + table_count (quality_net metric (length N.outputs) k)
+pub joint_signals : (N M : NetValue) (metric : Metric) (k : ℕ) → signal_count (joint_net N M metric k) ≡ signal_count N + table_count M + table_count (quality_net metric (length N.outputs) k)
 joint_signals N M metric k =
     omega (arith, whole_length N M metric k, length-both_copies N M, length-copied 113 (quality_signal N M) (quality metric (length N.outputs) k).net.tables)
 
@@ -103,13 +103,16 @@ is_joinable N M Q metric w k exact other ports width eq few =
       room = omega (arith, few);
       wired =
           subst IsWired e (
-            record {
-              names_differ = sound.names_differ;
-              has_output = sound.has_output;
-              outputs_are_signals = sound.outputs_are_signals;
-              few_signals = room;
-              few_outputs = rw (joint_outputs N M metric k) (omega arith);
-            }
+          record {
+            names_differ = sound.names_differ;
+            has_output = sound.has_output;
+            outputs_are_signals = sound.outputs_are_signals;
+            few_signals = room;
+            few_outputs = rw (joint_outputs N M metric k) (omega arith);
+          }
           );
       acyclic = subst (λ (P : NetValue). IsAcyclic (input_count P) P.tables) e sound.acyclic;
     }
+
+pub tells_error : (metric : Metric) (N M : NetValue) (k : ℕ) (P : NetValue) → P ≡ joint_net N M metric k → IsSound N → IsSound M → HasSamePorts N M → TellsError metric N M k P
+tells_error metric N M k P is exact other ports = rw is (joint_output N M metric k (comparable N M exact other ports))

@@ -1,7 +1,10 @@
 -- The parts of a joint net as this crate makes them.
-use Rattle.std.specs.Prelude.{◌≡◌, ℕ, ◌+◌, ◌<◌, ◌^◌, List, ◌++◌, map, length, slice_index_or, codes}
+use Rattle.std.specs.Prelude.{◌≡◌, ℕ, ◌+◌, ◌<◌, ◌^◌, nat_lt, Bool, List, [], ◌∷◌, ◌++◌, map, length, slice_index_or, codes}
 use Rattle.std.specs.List.{range_with_len}
 use Rattle.semantics.specs.Net.{TableValue, NetValue, input_count, table_count, signal_count, IsAcyclic}
+use Rattle.semantics.specs.Value.{outputs_of}
+use Rattle.semantics.specs.declared.metric.Metric.{Metric}
+use Rattle.semantics.specs.Error.{net_error}
 use Rattle.net_core.specs.Built.{IsWired}
 use Rattle.quality_semantics.specs.Joint.{numbered_name, copied, moved, approximate_signal, quality_signal}
 
@@ -33,3 +36,7 @@ pub record IsJoinable (exact approx quality : NetValue) : Type 0 where
   pub room : signal_count exact + table_count approx < 2 ^ 31
   pub wired : IsWired (joined exact approx quality)
   pub acyclic : IsAcyclic (input_count (joined exact approx quality)) (joined exact approx quality).tables
+
+-- the one output is 1 exactly where the error exceeds the level
+abbrev pub TellsError : Metric → NetValue → NetValue → ℕ → NetValue → Type 0
+TellsError metric exact approx k N = (x : List Bool) → outputs_of N x ≡ nat_lt k (net_error metric exact approx x) ∷ []

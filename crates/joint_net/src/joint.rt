@@ -2,15 +2,16 @@
 //! Source: SALSA's quality function circuit, which the outputs of the exact and of the approximate circuit feed.
 ghost use Rattle.std.specs.Prelude.{◌≡◌, ◌↔◌, ℕ, ◌+◌, ◌<◌, ◌≤◌, ◌^◌, map, length, codes, IfOk, IsTrue};
 ghost use Rattle.std.specs.List.{range_with_len};
-ghost use Rattle.semantics.specs.Net.{input_count, table_count, signal_count, row_count, HasSamePorts, IsSound};
+ghost use Rattle.semantics.specs.Net.{input_count, table_count, signal_count, row_count, HasSamePorts, IsSmall, IsSound, NetValue};
 ghost use Rattle.quality_semantics.specs.Quality.{quality_net};
 ghost use Rattle.quality_semantics.specs.Joint.{numbered_name, both_outputs, quality_signal, joint_net};
-ghost use Rattle.joint_net.specs.Copies.{all_copies, joined, IsJoinable};
+ghost use Rattle.joint_net.specs.Copies.{all_copies, joined, IsJoinable, TellsError};
 
 use crate::copies::{first_signals, model_name, push_copies, push_outputs};
 use net_core::items::{NameList, Signal, SignalList, TableList};
 use net_core::name::{Name, numbered_names};
 use net_core::net::Net;
+use semantics::limits::MOST_OUTPUTS;
 use semantics::metric::Metric;
 use std::alloc::{AllocError, Global};
 
@@ -19,14 +20,14 @@ const ROOM: u32 = 1 << 31;
 
 /// The net whose output says whether the error of two words of so many bits exceeds `k`.
 fn quality(alloc: Global, metric: Metric, width: u32, k: u128) -> Result<Net, AllocError>
-    requires { width ≤ 64 }
+    requires { width ≤ MOST_OUTPUTS }
     ensures { IfOk result (λ n. n ≡ quality_net metric width k) }
 {
     match metric {
         Metric::Abs => quality_abs::quality(alloc, width, k),
         Metric::Rel => quality_rel::quality(alloc, width, k),
         Metric::Ham => quality_ham::quality(alloc, width, k),
-        Metric::Sabs => Err(AllocError),
+        Metric::Sabs => quality_abs::quality_signed(alloc, width, k),
     }
 }
 
@@ -89,10 +90,12 @@ fn joint_outputs(
     Ok(outputs)
 }
 
-/// Whether the signals of the joint net are few.
+/// Whether the signals of the joint net are few, as those of two nets that are read are.
 fn has_few_signals(exact: &Net, approx: &Net, quality: &Net) -> bool
     ensures value { IsTrue result
         ↔ (signal_count exact.now + table_count approx.now + table_count quality.now < 2 ^ 31) }
+    ensures small { (metric : Metric) (k : ℕ) → IsSmall exact.now → IsSmall approx.now
+        → quality.now ≡ quality_net metric (length exact.now.outputs) k → IsTrue result }
     ensures exact_sound { IsSound exact.now }
     ensures approximate_sound { IsSound approx.now }
 {
@@ -144,9 +147,11 @@ fn join(alloc: Global, exact: &Net, approx: &Net, quality: &Net) -> Result<Net, 
     Net::from_sound(alloc, model, inputs, tables, outputs)
 }
 
-/// Whether the signals and the rows together are few.
+/// Whether the signals and the rows together are few, as those of the joint net of two nets that are read are.
 fn has_room(net: &Net) -> bool
-    ensures { IsTrue result ↔ (signal_count net.now + row_count net.now < 2 ^ 31) }
+    ensures value { IsTrue result ↔ (signal_count net.now + row_count net.now < 2 ^ 31) }
+    ensures small { (exact approx : NetValue) (metric : Metric) (k : ℕ) → IsSmall exact → IsSmall approx
+        → net.now ≡ joint_net exact approx metric k → IsTrue result }
 {
     let mut left = ROOM - net.signals();
     for t in 0..net.tables() {
@@ -160,7 +165,7 @@ fn has_room(net: &Net) -> bool
 }
 
 /// The joint net, whose output says whether the error of the approximate net's outputs against the exact one's exceeds `k`.
-/// It answers want of memory also where its signals and rows would be 2^31 or more.
+/// It answers want of memory also where its signals and rows would be 2^31 or more, which those of two nets that are read never are.
 pub fn joint(
     alloc: Global,
     exact: &Net,
@@ -169,8 +174,9 @@ pub fn joint(
     k: u128,
 ) -> Result<Net, AllocError>
     requires ports { HasSamePorts exact.now approx.now }
-    requires few { length exact.now.outputs ≤ 64 }
+    requires few { length exact.now.outputs ≤ MOST_OUTPUTS }
     ensures net { IfOk result (λ n. n ≡ joint_net exact.now approx.now metric k) }
+    ensures output { IfOk result (λ n. TellsError metric exact.now approx.now k n) }
     ensures room { IfOk result (λ n. signal_count n + row_count n < 2 ^ 31) }
 {
     let quality = quality(alloc, metric, exact.outputs(), k)?;

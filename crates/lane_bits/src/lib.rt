@@ -1,7 +1,7 @@
 //! Rows of bits, kernels on them, and sets of input vectors that are held as such rows.
 #![tactic(auto)]
 
+mod bit_row;
 pub mod examples;
 pub mod kernels;
 pub mod patterns;
-mod row;

@@ -5,8 +5,8 @@ ghost use Rattle.lane_bits.specs.Rows.{word_count};
 ghost use Rattle.lane_bits.specs.Patterns.{IsPatternSet, IsRowOf, vector_at};
 ghost use Rattle.lane_bits.specs.Store.{AreGrownFrom, AreReadied, AreSetAt, row_at};
 
+use crate::bit_row::BitRow;
 use crate::kernels::word_count;
-use crate::row::Row;
 use std::alloc::{AllocError, Global};
 use std::marker::Model;
 
@@ -15,7 +15,7 @@ use std::marker::Model;
 pub struct Patterns {
     inputs: u32,
     count: u64,
-    rows: Vec<Row>,
+    rows: Vec<BitRow>,
 }
 
 impl Model for Patterns {
@@ -30,18 +30,18 @@ impl Model for Patterns {
 }
 
 /// As many rows without bits as there are inputs.
-fn empty_rows(alloc: Global, inputs: u32) -> Result<Vec<Row>, AllocError>
+fn empty_rows(alloc: Global, inputs: u32) -> Result<Vec<BitRow>, AllocError>
     ensures { IfOk result (λ rows. rows.items ≡ replicate inputs []) }
 {
     let mut rows = Vec::new(alloc);
     for _i in 0..inputs {
-        rows.push(Row::new(alloc))?;
+        rows.push(BitRow::new(alloc))?;
     }
     Ok(rows)
 }
 
 /// Makes room for so many words in each row.
-fn reach_words(rows: &mut [Row], words: usize) -> Result<(), AllocError>
+fn reach_words(rows: &mut [BitRow], words: usize) -> Result<(), AllocError>
     requires { All (λ row. words ≤ length row + 1) rows.old }
     ensures grown { AreGrownFrom rows.old rows.new }
     ensures ok { OnOk result (All (λ row. words ≤ length row) rows.new) }
@@ -53,7 +53,7 @@ fn reach_words(rows: &mut [Row], words: usize) -> Result<(), AllocError>
 }
 
 /// Makes a row for each input where there is none, and room for so many words in each.
-fn ready_rows(rows: &mut Vec<Row>, inputs: u32, words: usize) -> Result<(), AllocError>
+fn ready_rows(rows: &mut Vec<BitRow>, inputs: u32, words: usize) -> Result<(), AllocError>
     requires count { (length rows.old.items ≡ inputs) ⊎ (rows.old.items ≡ []) }
     requires room { (i : ℕ) → i < inputs → words ≤ length (row_at rows.old.items i) + 1 }
     ensures readied { AreReadied inputs rows.old.items rows.new.items }
@@ -67,7 +67,7 @@ fn ready_rows(rows: &mut Vec<Row>, inputs: u32, words: usize) -> Result<(), Allo
 }
 
 /// Makes bit p of each row 1 where the vector's bit is.
-fn set_bits(rows: &mut [Row], p: u64, x: &[bool])
+fn set_bits(rows: &mut [BitRow], p: u64, x: &[bool])
     requires width { length x.now ≡ length rows.old }
     requires room { All (λ row. p / 64 < length row) rows.old }
     ensures { AreSetAt p x.now rows.old rows.new }
@@ -80,7 +80,7 @@ fn set_bits(rows: &mut [Row], p: u64, x: &[bool])
 }
 
 /// The bits at position p of the rows.
-fn get_bits(rows: &[Row], p: u64, x: &mut [bool])
+fn get_bits(rows: &[BitRow], p: u64, x: &mut [bool])
     requires width { length x.old ≡ length rows.now }
     requires room { All (λ row. p / 64 < length row) rows.now }
     ensures { x.new ≡ vector_at rows.now p }

@@ -2,29 +2,24 @@
 use Rattle.std.proofs.Common.{◌≡◌, ℕ, Bool, List, [], ◌∷◌, ◌++◌, length, sym, ap, subst, ◌∙◌}
 use Rattle.std.specs.List.{AllByRecursion, Contains}
 use Rattle.std.proofs.lemmas.List.{append-nil, append_assoc}
-use Rattle.std.proofs.lemmas.List.Elements.{Contains-append_left, Contains-append_right, Contains-push}
+use Rattle.std.proofs.lemmas.List.Elements.{Contains-append_right}
 use Rattle.semantics.specs.Net.{NetValue, input_count}
-use Rattle.semantics.specs.Error.{Metric}
+use Rattle.semantics.specs.declared.metric.Metric.{Metric}
 use Rattle.chain_semantics.specs.declared.moves.Move.{Move}
-use Rattle.chain_semantics.specs.Care.{IsBrokenAt}
 use Rattle.chain_semantics.specs.Minimality.{IsBrokenBySome, AreBrokenBySome, IsMinimalBy}
 use Rattle.chain_semantics.specs.Moves.{moves_of, moved}
 use Rattle.chain_semantics.proofs.MoveLists.{Contains-here}
 use Rattle.job_semantics.specs.Shrinking.{IsSpentMove}
 use Rattle.job_semantics.proofs.MinimalNets.{minimal-none_allowed}
-use Rattle.adc_core.specs.Masks.{Masks, AreMasksOf}
-use Rattle.worst_case.specs.declared.exceed.Spent as spent
+use Rattle.adc_core.specs.Masks.{Masks}
+use Rattle.worst_case.specs.declared.query.Spent as spent
 use Rattle.worst_case.specs.Exceeds.{spent_value, IsSpentOn}
-use Rattle.synth_core.specs.declared.trial.Trial.{Trial}
-use Rattle.synth_core.specs.Trials.{IsAllowedTo, IsTrial}
-use Rattle.synth_core.specs.Shrinking.{IsFirstMoved}
+use Rattle.synth_core.specs.declared.move_trial.Trial.{Trial}
+use Rattle.synth_core.specs.MoveTrials.{IsAllowedTo, IsTrial}
+use Rattle.synth_core.specs.declared.step.Step.{Step}
+use Rattle.synth_core.specs.declared.step.Step.TheVariants.{End, Moved, Spent}
+use Rattle.synth_core.specs.Steps.{IsFirstMoved, AreMasksOver, AreAmong, IsStepBy, IsStep}
 use Rattle.synth_core.proofs.Pools.{each_more}
-
--- the masks are those of the net over the pool
-pub record AreMasksOver (metric : Metric) (exact : NetValue) (bound : ℕ) (N : NetValue) (vectors : List (List Bool)) (masks : Masks) : Type 0 where
-  pub net : masks.net ≡ N
-  pub over : masks.vectors ≡ vectors
-  pub are : AreMasksOf metric exact bound masks
 
 -- what the masks told, told of the pool
 pub trial_over : (metric : Metric) (exact : NetValue) (bound limit : ℕ) (N : NetValue) (vectors : List (List Bool)) (masks : Masks) (move : Move) (trial : Trial)
@@ -41,11 +36,13 @@ module _ (metric : Metric) (exact : NetValue) (bound : ℕ) (N : NetValue) where
   pub searched-none : (vectors : List (List Bool)) (left : List Move) → left ≡ moves_of N → IsSearched vectors left
   searched-none vectors left is = record { before = []; stands = sym is; broken = tt }
 
-  -- a vector more
-  broken_still : (vectors : List (List Bool)) (x : List Bool) (moves : List Move) → AreBrokenBySome metric exact bound N vectors moves
-      → AreBrokenBySome metric exact bound N (vectors ++ x ∷ []) moves
-  broken_still vectors x [] h = tt
-  broken_still vectors x (m ∷ moves) h = ((h.0.0, Contains-append_left vectors (x ∷ []) h.0.0 h.0.1, h.0.2), broken_still vectors x moves h.1)
+  -- where vectors join
+  broken_still : (old new : List (List Bool)) → AreAmong old new → (moves : List Move) → AreBrokenBySome metric exact bound N old moves → AreBrokenBySome metric exact bound N new moves
+  broken_still old new among [] h = tt
+  broken_still old new among (m ∷ moves) h = ((h.0.0, among h.0.0 h.0.1, h.0.2), broken_still old new among moves h.1)
+
+  pub searched-still : (old new : List (List Bool)) (left : List Move) → AreAmong old new → IsSearched old left → IsSearched new left
+  searched-still old new left among h = record { before = h.before; stands = h.stands; broken = broken_still old new among h.before h.broken }
 
   module _ (vectors : List (List Bool)) (left rest : List Move) (move : Move) (is : left ≡ move ∷ rest) (so_far : IsSearched vectors left) where
     stands_at : moves_of N ≡ so_far.before ++ move ∷ rest
@@ -56,15 +53,6 @@ module _ (metric : Metric) (exact : NetValue) (bound : ℕ) (N : NetValue) where
       before = so_far.before ++ move ∷ [];
       stands = stands_at ∙ sym (append_assoc so_far.before (move ∷ []) rest);
       broken = each_more (IsBrokenBySome metric exact bound N vectors) so_far.before move so_far.broken broken;
-    }
-
-    pub searched-new : (x : List Bool) → IsBrokenAt metric exact bound N move x → IsSearched (vectors ++ x ∷ []) rest
-    searched-new x broken = record {
-      before = so_far.before ++ move ∷ [];
-      stands = stands_at ∙ sym (append_assoc so_far.before (move ∷ []) rest);
-      broken =
-          each_more (IsBrokenBySome metric exact bound N (vectors ++ x ∷ [])) so_far.before move (broken_still vectors x so_far.before so_far.broken)
-          (x, Contains-push vectors x, broken);
     }
 
     pub searched-member : Contains (moves_of N) move
@@ -94,6 +82,13 @@ module _ (metric : Metric) (exact : NetValue) (bound : ℕ) (N : NetValue) where
       net = on.net;
       broken = so_far.broken;
     }
+
+    -- the step that a move makes after moves that are broken
+    pub searched-step : AllByRecursion (λ x. length x ≡ input_count exact) vectors → (limit : ℕ) (step : Step) → IsStepBy metric exact bound limit N move step
+        → IsStep metric exact bound limit N vectors step
+    searched-step widths limit End none = absurd none
+    searched-step widths limit (Moved M) allowed = searched-first widths M allowed
+    searched-step widths limit (Spent s) spent = searched-spent limit s spent
 
   pub searched-all : (vectors : List (List Bool)) (left : List Move) → left ≡ [] → IsSearched vectors left → IsMinimalBy metric exact bound N vectors
   searched-all vectors left is so_far =

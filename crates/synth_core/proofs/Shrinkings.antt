@@ -1,7 +1,7 @@
 -- The members of the chain, and what its search comes to.
 use Rattle.std.proofs.Common.{ℕ, ◌≤◌, Option, Some, None, MatchOption, subst, inl}
 use Rattle.semantics.specs.Net.{NetValue, input_count}
-use Rattle.semantics.specs.Error.{Metric}
+use Rattle.semantics.specs.declared.metric.Metric.{Metric}
 use Rattle.chain_semantics.specs.Chain.IsInChain.{next}
 use Rattle.chain_semantics.specs.Minimality.{IsMinimalBy}
 use Rattle.chain_semantics.specs.Moves.{moves_of}
@@ -11,9 +11,9 @@ use Rattle.proof_semantics.specs.Queries.{SpentValue}
 use Rattle.job_semantics.specs.Shrinking.{Shrinking, IsSpentMove, IsShownEnd, IsShrinking}
 use Rattle.job_semantics.proofs.MinimalNets.{minimal-none_allowed}
 use Rattle.lane_bits.specs.Patterns.{PatternSet}
-use Rattle.worst_case.specs.declared.exceed.Spent as spent
+use Rattle.worst_case.specs.declared.query.Spent as spent
 use Rattle.worst_case.specs.Exceeds.{spent_value}
-use Rattle.synth_core.specs.Shrinking.{IsPool, IsFirstMoved}
+use Rattle.synth_core.specs.Steps.{IsPool, IsFirstMoved}
 
 module _ (metric : Metric) (exact : NetValue) (bound : ℕ) where
   -- what the net after the first allowed move is tidied to

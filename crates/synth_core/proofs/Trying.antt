@@ -4,7 +4,8 @@ use Rattle.std.specs.List.{Contains}
 use Rattle.std.proofs.lemmas.Bool.{cases_lt}
 use Rattle.std.proofs.lemmas.List.Elements.{All-from_get_or, All-contains, Contains-get_or}
 use Rattle.semantics.specs.Net.{NetValue, input_count, IsSound, HasSamePorts}
-use Rattle.semantics.specs.Error.{Metric, net_error}
+use Rattle.semantics.specs.declared.metric.Metric.{Metric}
+use Rattle.semantics.specs.Error.{net_error, IsCandidate}
 use Rattle.semantics.specs.Vectors.{bits_of, all_vectors}
 use Rattle.semantics.proofs.Vectors.{length-all_vectors, each_vector}
 use Rattle.chain_semantics.specs.declared.moves.Move.{Move}
@@ -15,9 +16,9 @@ use Rattle.chain_semantics.specs.Simplification.{IsAllowedMove}
 use Rattle.chain_semantics.specs.MoveLaws.{IsMovedFrom}
 use Rattle.chain_semantics.proofs.MoveMembers.{move_is}
 use Rattle.chain_semantics.proofs.MovedNets.{moved-keeps}
-use Rattle.worst_case.specs.Trial.{IsExceededAt}
+use Rattle.worst_case.specs.VectorsTried.{IsExceededAt}
 use Rattle.adc_core.specs.Masks.{FindsFirstBroken}
-use Rattle.synth_core.specs.Trials.{IsNewVector}
+use Rattle.synth_core.specs.MoveTrials.{IsNewVector}
 use Rattle.synth_core.proofs.Pools.{vector_at}
 
 module _ (metric : Metric) (exact : NetValue) (bound : ℕ) (N : NetValue) (vectors : List (List Bool)) (move : Move) where
@@ -60,7 +61,10 @@ module _ (metric : Metric) (exact : NetValue) (bound : ℕ) (N : NetValue) (vect
       }
 
 -- the moved net keeps the ports
-pub moved-ports : (exact N : NetValue) (move : Move) (M : NetValue) → M ≡ moved N move → IsSound N → Contains (moves_of N) move → HasSamePorts exact N → HasSamePorts exact M
+moved-ports : (exact N : NetValue) (move : Move) (M : NetValue) → M ≡ moved N move → IsSound N → Contains (moves_of N) move → HasSamePorts exact N → HasSamePorts exact M
 moved-ports exact N move M is sound there ports =
     let keeps : IsMovedFrom N (moved N move) = moved-keeps N move sound (move_is N sound.acyclic move there) in
     subst (HasSamePorts exact) (sym is) (record { inputs = ports.inputs ∙ keeps.ports.inputs; outputs = ports.outputs ∙ keeps.ports.outputs })
+
+pub moved-candidate : (exact N : NetValue) (move : Move) (M : NetValue) → M ≡ moved N move → IsSound N → Contains (moves_of N) move → IsCandidate exact N → IsCandidate exact M
+moved-candidate exact N move M is sound there nets = record { ports = moved-ports exact N move M is sound there nets.ports; few_outputs = nets.few_outputs }

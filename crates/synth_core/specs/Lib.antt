@@ -1,2 +1,2 @@
-pub mod Trials
-pub mod Shrinking
+pub mod MoveTrials
+pub mod Steps

@@ -2,23 +2,25 @@
 //!
 //! A move that some known input vector breaks is refused by the masks of the member, without making the moved net. With few inputs
 //! every vector is known, so the others are allowed. With more the known vectors are those that broke earlier moves, and each other
-//! move is made and asked about: with at most fifteen inputs by a trial of every vector, with more by a query. An allowed move is made; then the moved net is tidied, and the moves begin again, since one that was
-//! refused before may be allowed now. The chain ends, since each step removes literals, or with the first query that is spent.
+//! move is made and asked about: with at most fifteen inputs by a trial of every vector, with more by a query. An allowed move is
+//! made; then the moved net is tidied, and the moves begin again, since one that was refused before may be allowed now. The chain
+//! ends, since each step removes literals, or with the first query that is spent.
 ghost use Rattle.std.specs.Prelude.{◌≡◌, ◌≤◌, length, option_map, IfOk};
 ghost use Rattle.semantics.specs.Net.{input_count, IsSmall};
 ghost use Rattle.job_semantics.specs.Shrinking.{IsShrinking};
-ghost use Rattle.joint_net.specs.Metric.{meaning};
 ghost use Rattle.worst_case.specs.Exceeds.{spent_value};
-ghost use Rattle.synth_core.specs.Shrinking.{IsPool};
+ghost use Rattle.synth_core.specs.Steps.{IsPool};
 
+use crate::move_trial::Terms;
 use crate::step::{Step, find_step};
-use crate::trial::{FEW_INPUTS, Terms};
-use joint_net::metric::Metric;
 use lane_bits::patterns::Patterns;
 use net_core::net::Net;
+use net_errors::compared::Compared;
 use net_tidy::tidy::tidy;
+use semantics::limits::{FEW_INPUTS, MOST_OUTPUTS};
+use semantics::metric::Metric;
 use std::alloc::{AllocError, Global};
-use worst_case::exceed::Spent;
+use worst_case::query::Spent;
 
 /// The last member of the chain that was reached, the vectors that break moves, and the query that was spent, if one was.
 #[derive(Drop)]
@@ -48,10 +50,10 @@ pub fn shrink(
     bound: u128,
     limit: u64,
 ) -> Result<Shrunk, AllocError>
-    requires few_outputs { length net.now.outputs ≤ 64 }
+    requires few_outputs { length net.now.outputs ≤ MOST_OUTPUTS }
     requires small { IsSmall net.now }
     requires limit { 1 ≤ limit }
-    ensures shrinking { IfOk result (λ s. IsShrinking (meaning metric) net.now bound limit
+    ensures shrinking { IfOk result (λ s. IsShrinking metric net.now bound limit
         (record { net = s.net; pool = s.pool.vectors; spent = option_map spent_value s.spent })) }
     ensures pool { IfOk result (λ s. s.pool.inputs ≡ input_count net.now) }
 {
@@ -65,7 +67,8 @@ pub fn shrink(
     let mut pool = first_pool(alloc, net)?;
     let mut shrunk = tidy(alloc, net.copy()?)?;
     loop {
-        match find_step(alloc, net, &shrunk, terms, &mut pool)? {
+        let found = find_step(alloc, &Compared::new(net, &shrunk), terms, &mut pool)?;
+        match found {
             Step::Moved(moved) => shrunk = tidy(alloc, moved)?,
             Step::End => {
                 return Ok(Shrunk {

@@ -1,16 +1,19 @@
 //! One step of the chain of simplifications: the first allowed move of a member.
-ghost use Rattle.std.specs.Prelude.{◌≤◌, length, IfOk};
-ghost use Rattle.semantics.specs.Net.{IsSmall, HasSamePorts};
-ghost use Rattle.joint_net.specs.Metric.{meaning};
-ghost use Rattle.synth_core.specs.Shrinking.{IsPool, IsStep};
+ghost use Rattle.std.specs.Prelude.{◌≡◌, ◌<◌, ◌≤◌, ◌++◌, ◌∷◌, [], length, Contains, IfOk, OnOk};
+ghost use Rattle.semantics.specs.Net.{input_count, IsSmall};
+ghost use Rattle.chain_semantics.specs.Moves.{moves_of};
+ghost use Rattle.synth_core.specs.Steps.{IsPool, AreMasksOver, IsMaskedPool, AreAmong, IsWeighed, IsStep};
 
-use crate::trial::{Terms, Trial, try_move};
+use crate::move_trial::{Terms, Trial, try_move};
 use adc_core::adc::Adc;
+use chain_semantics::moves::Move;
 use lane_bits::patterns::Patterns;
 use net_core::net::Net;
+use net_errors::compared::Compared;
 use net_moves::moves::moves;
+use semantics::limits::FEW_INPUTS;
 use std::alloc::{AllocError, Global};
-use worst_case::exceed::Spent;
+use worst_case::query::Spent;
 
 /// What is found out about the moves of a member of the chain.
 #[derive(Drop)]
@@ -23,34 +26,95 @@ pub(crate) enum Step {
     Spent(Spent),
 }
 
-/// Tries the moves of `net` in order. Each vector that a query gives joins the pool, and the masks are made anew.
+/// The masks of the approximate net over the pool.
+fn pool_masks(
+    alloc: Global,
+    nets: &Compared,
+    terms: Terms,
+    pool: &Patterns,
+) -> Result<Adc, AllocError>
+    requires inputs { pool.now.inputs ≡ input_count nets.now.exact }
+    ensures { IfOk result (AreMasksOver terms.metric nets.now.exact terms.bound nets.now.approx pool.now.vectors) }
+{
+    Adc::new(
+        alloc,
+        nets.exact(),
+        nets.approx(),
+        terms.metric,
+        terms.bound,
+        pool,
+    )
+}
+
+/// A vector joins the pool, and the masks are made anew.
+fn add_vector(
+    alloc: Global,
+    nets: &Compared,
+    terms: Terms,
+    pool: &mut Patterns,
+    masks: &mut Adc,
+    x: &[bool],
+) -> Result<(), AllocError>
+    requires pool { IsPool nets.now.exact pool.old }
+    requires many { FEW_INPUTS < input_count nets.now.exact }
+    requires width { length x.now ≡ input_count nets.now.exact }
+    requires new { ¬ Contains pool.old.vectors x.now }
+    ensures vectors { OnOk result (pool.new.vectors ≡ pool.old.vectors ++ x.now ∷ []) }
+    ensures masked { OnOk result (IsMaskedPool terms.metric nets.now.exact terms.bound nets.now.approx pool.new masks.new) }
+{
+    pool.push(x)?;
+    *masks = pool_masks(alloc, nets, terms, pool)?;
+    Ok(())
+}
+
+/// Tries a move: the step that it makes, or None where a vector of the pool breaks it. Such a vector joins the pool where a query
+/// gives it.
+fn weigh(
+    alloc: Global,
+    nets: &Compared,
+    terms: Terms,
+    pool: &mut Patterns,
+    masks: &mut Adc,
+    step: Move,
+) -> Result<Option<Step>, AllocError>
+    requires limit { 1 ≤ terms.limit }
+    requires step { Contains (moves_of nets.now.approx) step }
+    requires masked { IsMaskedPool terms.metric nets.now.exact terms.bound nets.now.approx pool.old masks.old }
+    ensures masked { IfOk result (λ _. IsMaskedPool terms.metric nets.now.exact terms.bound nets.now.approx pool.new masks.new) }
+    ensures among { IfOk result (λ _. AreAmong pool.old.vectors pool.new.vectors) }
+    ensures weighed { IfOk result
+        (IsWeighed terms.metric nets.now.exact terms.bound terms.limit nets.now.approx pool.new.vectors step) }
+{
+    match try_move(alloc, nets, terms, masks, step)? {
+        Trial::Broken => Ok(None),
+        Trial::New(x) => {
+            add_vector(alloc, nets, terms, pool, masks, x.as_slice())?;
+            Ok(None)
+        }
+        Trial::Allowed(moved) => Ok(Some(Step::Moved(moved))),
+        Trial::Spent(spent) => Ok(Some(Step::Spent(spent))),
+    }
+}
+
+/// Tries the moves of the approximate net in order. Each vector that a query gives joins the pool, and the masks are made anew.
 pub(crate) fn find_step(
     alloc: Global,
-    exact: &Net,
-    net: &Net,
+    nets: &Compared,
     terms: Terms,
     pool: &mut Patterns,
 ) -> Result<Step, AllocError>
-    requires few_outputs { length exact.now.outputs ≤ 64 }
-    requires ports { HasSamePorts exact.now net.now }
-    requires small { IsSmall net.now }
+    requires small { IsSmall nets.now.approx }
     requires limit { 1 ≤ terms.limit }
-    requires pool { IsPool exact.now pool.old }
-    ensures pool { IfOk result (λ _. IsPool exact.now pool.new) }
+    requires pool { IsPool nets.now.exact pool.old }
+    ensures pool { IfOk result (λ _. IsPool nets.now.exact pool.new) }
     ensures step { IfOk result
-        (IsStep (meaning terms.metric) exact.now terms.bound terms.limit net.now pool.new.vectors) }
+        (IsStep terms.metric nets.now.exact terms.bound terms.limit nets.now.approx pool.new.vectors) }
 {
-    let mut moves = moves(alloc, net)?;
-    let mut adc = Adc::new(alloc, exact, net, terms.metric, terms.bound, pool)?;
+    let mut moves = moves(alloc, nets.approx())?;
+    let mut masks = pool_masks(alloc, nets, terms, pool)?;
     while let Some(step) = moves.next() {
-        match try_move(alloc, exact, net, terms, &adc, step)? {
-            Trial::Broken => {}
-            Trial::New(x) => {
-                pool.push(x.as_slice())?;
-                adc = Adc::new(alloc, exact, net, terms.metric, terms.bound, pool)?;
-            }
-            Trial::Allowed(moved) => return Ok(Step::Moved(moved)),
-            Trial::Spent(spent) => return Ok(Step::Spent(spent)),
+        if let Some(found) = weigh(alloc, nets, terms, pool, &mut masks, step)? {
+            return Ok(found);
         }
     }
     Ok(Step::End)

@@ -1,1 +1,2 @@
+mod EqualCopies
 mod MovesLeft

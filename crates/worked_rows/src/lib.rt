@@ -2,12 +2,22 @@
 #![tactic(auto)]
 
 #[cfg(test)]
+mod clauses;
+#[cfg(test)]
+mod errors;
+#[cfg(test)]
+mod half_adder_moves;
+#[cfg(test)]
 mod logs;
 #[cfg(test)]
 mod masks;
+#[cfg(test)]
+mod merged_steps;
 #[cfg(test)]
 mod nets;
 #[cfg(test)]
 mod parts;
 #[cfg(test)]
 mod queries;
+#[cfg(test)]
+mod shrinking;

@@ -6,10 +6,10 @@ ghost use Rattle.chain_semantics.specs.Moves.{moves_of};
 use crate::nets::{HALF_ADDER, move_of, net};
 use adc_core::adc::Adc;
 use chain_semantics::moves::Move;
-use joint_net::metric::Metric;
-use joint_net::ports::same_ports;
 use lane_bits::patterns::Patterns;
 use net_core::net::Net;
+use net_errors::ports::same_ports;
+use semantics::metric::Metric;
 use std::alloc::{AllocError, Global};
 use std::test::Fail;
 

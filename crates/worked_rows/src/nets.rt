@@ -1,4 +1,4 @@
-//! Nets of texts, and their moves.
+//! Nets of texts, a multiplier, and moves.
 ghost use Rattle.std.specs.Prelude.{IfOk, IfSome, Contains};
 ghost use Rattle.semantics.specs.Net.{IsSmall};
 ghost use Rattle.chain_semantics.specs.Moves.{moves_of};
@@ -9,6 +9,7 @@ use net_core::net::Net;
 use net_moves::moves::moves;
 use std::alloc::{AllocError, Global};
 use std::test::Fail;
+use word_nets::multiplier::mul_net;
 
 pub const HALF_ADDER: &[u8] =
     b".model ha\n.inputs a b\n.outputs s c\n.names a b s\n10 1\n01 1\n.names a b c\n11 1\n.end\n";
@@ -35,4 +36,11 @@ pub fn move_of(alloc: Global, net: &Net, wanted: Move) -> Result<Option<Move>, A
         }
     }
     Ok(None)
+}
+
+/// The product of two words of five bits.
+pub fn product(alloc: Global) -> Result<Net, AllocError>
+    ensures { IfOk result IsSmall }
+{
+    mul_net(alloc, 5)
 }

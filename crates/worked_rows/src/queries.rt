@@ -1,23 +1,21 @@
 //! Queries on a multiplier and on a conjunction, each against an approximation of it.
-ghost use Rattle.std.specs.Prelude.{◌≤◌, length, IfOk};
-ghost use Rattle.semantics.specs.Net.{HasSamePorts, IsSmall};
+ghost use Rattle.semantics.specs.Net.{IsSmall};
 
-use crate::nets::{move_of, net};
+use crate::nets::{move_of, net, product};
 use chain_semantics::moves::Move;
 use cnf_core::cnf::Cnf;
 use cnf_core::log::{Item, Log};
-use cnf_core::of_net::of_goal;
-use joint_net::joint::joint;
-use joint_net::metric::Metric;
-use joint_net::ports::same_ports;
 use lrat_check::checker::Checker;
+use miter::level::miter_of;
 use net_core::net::Net;
+use net_errors::compared::Compared;
+use net_errors::ports::same_ports;
 use net_moves::apply::apply;
-use std::alloc::{AllocError, Global};
+use semantics::metric::Metric;
+use std::alloc::Global;
 use std::test::Fail;
-use word_nets::multiplier::mul_net;
-use worst_case::exceed::Exceed;
 use worst_case::exceeds::exceeds;
+use worst_case::query::Exceed;
 
 /// The conjunction of 16 inputs as one table.
 const CONJUNCTION: &[u8] =
@@ -51,27 +49,8 @@ fn approximation(alloc: Global, net: &Net, is_even: bool) -> Result<Net, Fail>
     }
 }
 
-/// The product of two words of five bits.
-fn product(alloc: Global) -> Result<Net, AllocError>
-    ensures { IfOk result IsSmall }
-{
-    mul_net(alloc, 5)
-}
-
-/// The miter at level 0.
-fn miter(alloc: Global, exact: &Net, approx: &Net, metric: Metric) -> Result<Cnf, Fail>
-    requires ports { HasSamePorts exact.now approx.now }
-    requires few { length exact.now.outputs ≤ 64 }
-{
-    let net = joint(alloc, exact, approx, metric, 0)?;
-    if net.outputs() != 1 {
-        return Err(Fail::new("not one output"));
-    }
-    Ok(of_goal(alloc, &net)?)
-}
-
 /// Whether the checker accepts the log as a refutation.
-fn accepts(alloc: Global, goal: &Cnf, log: &Log) -> Result<bool, Fail> {
+pub fn accepts(alloc: Global, goal: &Cnf, log: &Log) -> Result<bool, Fail> {
     let mut checker = Checker::new(alloc, goal)?;
     for item in log.as_slice() {
         match item {
@@ -110,7 +89,7 @@ fn is_answered(
     match exceeds(alloc, exact, approx, metric, 0, limit)? {
         Exceed::Over(x) => Ok(fits(x.as_slice(), over)),
         Exceed::Never(log) => {
-            let goal = miter(alloc, exact, approx, metric)?;
+            let goal = miter_of(alloc, &Compared::new(exact, approx), metric, 0)?;
             Ok(over.is_empty() && accepts(alloc, &goal, &log)?)
         }
         Exceed::Spent(spent) => Ok(may_be_spent && spent.log.len() as u64 == limit),

@@ -1,5 +1,3 @@
-pub mod Vectors
-pub mod Goals
 pub mod Queries
 pub mod FirstGreatest
 pub mod Ranges

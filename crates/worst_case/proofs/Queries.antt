@@ -1,59 +1,62 @@
--- What the joint net's output and the miter say of the two nets.
-use Rattle.std.proofs.Common.{refl, ◌≡◌, ℕ, Bool, true, false, ltb, List, [], ◌∷◌, get_or, ap, sym, subst, ◌∙◌, arith}
-use Rattle.std.proofs.lemmas.Bool.{ltb-true, ltb-false}
+-- What the joint net and the miter say of the two nets.
+use Rattle.std.proofs.Common.{◌≡◌, ℕ, ◌<◌, ◌≤◌, Bool, false, List, [], ◌∷◌, length, take, get_or, ap, sym, subst, ◌∙◌, arith}
+use Rattle.std.proofs.lemmas.Bool.{and_parts, le-ltb, ltb-true}
+use Rattle.std.proofs.lemmas.List.{get_or-take, length-take-le}
 use Rattle.semantics.specs.Net.{NetValue, input_count}
-use Rattle.semantics.specs.Value.{outputs_of}
-use Rattle.semantics.specs.Error.{Metric, net_error}
+use Rattle.semantics.specs.Value.{Assignment, outputs_of}
+use Rattle.semantics.specs.declared.metric.Metric.{Metric}
+use Rattle.semantics.specs.Error.{net_error, IsWithin}
 use Rattle.quality_semantics.specs.Joint.{joint_net, AreComparable}
 use Rattle.quality_semantics.proofs.Joint.{joint_inputs, joint_output as output_tells}
-use Rattle.proof_semantics.specs.Logs.{LogItem}
-use Rattle.proof_semantics.specs.Conflicts.{IsEnough}
-use Rattle.proof_semantics.specs.Miter.{miter}
-use Rattle.proof_semantics.specs.Queries.{IsOver, IsNever, IsSpentQuery}
+use Rattle.proof_semantics.specs.Clauses.{Satisfies}
+use Rattle.proof_semantics.specs.NetClauses.{net_clauses}
+use Rattle.proof_semantics.specs.Formula.{Formula}
+use Rattle.proof_semantics.specs.Variables.{by_place}
+use Rattle.proof_semantics.specs.Logs.{LogItem, Refutes, IsDerivation}
+use Rattle.proof_semantics.specs.Miter.{miter, joint_output, IsJointModelAt}
+use Rattle.proof_semantics.specs.Queries.{IsOver, IsNever}
+use Rattle.proof_semantics.proofs.NetValues.{goal_clauses-value}
 use Rattle.proof_semantics.proofs.Miters.{miter_law}
-use Rattle.worst_case.specs.Outputs.{IsTrueAt, IsRefuted, IsExhausted}
-use Rattle.proof_semantics.specs.Formula.{goal_of}
+use Rattle.cdcl_core.specs.Answers.{IsModel}
 
--- the bit of the joint net's output says whether the error exceeds the level
-output_bit : (metric : Metric) (N M : NetValue) (k : ℕ) → AreComparable N M → (x : List Bool) (bit : Bool) → outputs_of (joint_net N M metric k) x ≡ bit ∷ []
-    → ltb k (net_error metric N M x) ≡ bit
-output_bit metric N M k h x bit is = ap (λ bits. get_or bits 0 false) (sym (output_tells N M metric k h x) ∙ is)
+module _ (metric : Metric) (N M : NetValue) (k : ℕ) (h : AreComparable N M) where
+  -- a model of the miter has a bit for each input
+  pub model_wide : (f : Formula) (bits : List Bool) → f ≡ miter N M metric k → IsModel f bits → input_count N ≤ length bits
+  model_wide f bits is found =
+      let model : IsModel (miter N M metric k) bits = subst (λ g. IsModel g bits) is found in
+      omega (arith, model.width, joint_inputs N M metric k)
 
-over_joint : (metric : Metric) (N M : NetValue) (k : ℕ) → AreComparable N M → (x : List Bool) → IsTrueAt (joint_net N M metric k) x → IsOver metric N M k x
-over_joint metric N M k h x found =
-    let same : input_count (joint_net N M metric k) ≡ input_count N = joint_inputs N M metric k in
-    record {
-      width = found.width ∙ same;
-      exceeds = ltb-true k (net_error metric N M x) (output_bit metric N M k h x true found.is_true);
-      first = λ few y width before.
-          ltb-false k (net_error metric N M y) (output_bit metric N M k h y false (found.first (omega (arith, few, same)) y (width ∙ sym same) before));
-    }
+  -- the first bits of a model of the miter are an input whose error exceeds the level
+  pub IsOver-from_model : 8 < input_count N → (f : Formula) (bits : List Bool) → f ≡ miter N M metric k → IsModel f bits → IsOver metric N M k (take (input_count N) bits)
+  IsOver-from_model many f bits is found =
+      let n : ℕ = input_count N in
+      let J : NetValue = joint_net N M metric k in
+      let x : List Bool = take n bits in
+      let a : Assignment = by_place (λ place. get_or bits place false) in
+      let model : IsModel (miter N M metric k) bits = subst (λ g. IsModel g bits) is found in
+      let both = and_parts _ _ (sym (goal_clauses-value (input_count J) J.tables (joint_output N M metric k) a) ∙ model.satisfies) in
+      let at : IsJointModelAt N M metric k x a = record {
+        satisfies = subst (λ m. Satisfies a (net_clauses m J.tables)) (joint_inputs N M metric k) both.0;
+        inputs = λ s low. sym (get_or-take n bits s false low);
+      } in
+      record {
+        width = length-take-le n bits (model_wide f bits is found);
+        exceeds = ltb-true k (net_error metric N M x) (sym (miter_law.output N M metric k h x a at) ∙ both.1);
+        first = λ few. absurd (omega (arith, few, many));
+      }
 
--- where the joint net's output is 1 the error exceeds the level
-pub IsOver-from : (metric : Metric) (N M : NetValue) (k : ℕ) → AreComparable N M → (J : NetValue) → J ≡ joint_net N M metric k → (x : List Bool) → IsTrueAt J x → IsOver metric N M k x
-IsOver-from metric N M k h J is x found = over_joint metric N M k h x (subst (λ K. IsTrueAt K x) is found)
+  -- a log that refutes the miter
+  pub IsNever-from : (f : Formula) → f ≡ miter N M metric k → (log : List LogItem) → Refutes f.clauses log → IsDerivation f log → IsNever metric N M k log
+  IsNever-from f is log refutes derivation =
+      let shown : Refutes (miter N M metric k).clauses log = subst (λ g. Refutes g.clauses log) is refutes in
+      record {
+        refutes = shown;
+        derivation = subst (λ g. IsDerivation g log) is derivation;
+        within = miter_law.refuted N M metric k h log shown;
+      }
 
-never_joint : (metric : Metric) (N M : NetValue) (k : ℕ) → AreComparable N M → (log : List LogItem) → IsRefuted (miter N M metric k) log → IsNever metric N M k log
-never_joint metric N M k h log refuted = record {
-  refutes = refuted.refutes;
-  derivation = refuted.derivation;
-  within = miter_law.refuted N M metric k h log refuted.refutes;
-}
-
--- where the joint net's goal is refuted no error exceeds the level
-pub IsNever-from : (metric : Metric) (N M : NetValue) (k : ℕ) → AreComparable N M → (J : NetValue) → J ≡ joint_net N M metric k → (log : List LogItem) → IsRefuted (goal_of J) log
-    → IsNever metric N M k log
-IsNever-from metric N M k h J is log refuted = never_joint metric N M k h log (subst (λ K. IsRefuted (goal_of K) log) is refuted)
-
-spent_joint : (metric : Metric) (N M : NetValue) (k limit : ℕ) (log : List LogItem) → IsExhausted (joint_net N M metric k) limit log
-    → IsSpentQuery metric N limit (record { net = M; k = k; merged = 0; log = log })
-spent_joint metric N M k limit log spent = record {
-  merged = refl;
-  not_enough = λ enough. spent.not_enough (subst (IsEnough limit) (sym (joint_inputs N M metric k)) enough);
-  chain = spent.chain;
-}
-
--- where the conflicts are spent on the joint net's goal, they are on the query
-pub IsSpentQuery-from : (metric : Metric) (N M : NetValue) (k limit : ℕ) (J : NetValue) → J ≡ joint_net N M metric k → (log : List LogItem) → IsExhausted J limit log
-    → (copy : NetValue) → copy ≡ M → IsSpentQuery metric N limit (record { net = copy; k = k; merged = 0; log = log })
-IsSpentQuery-from metric N M k limit J is log spent copy same = rw same (spent_joint metric N M k limit log (subst (λ K. IsExhausted K limit log) is spent))
+  -- where no error exceeds the level the joint net's output is always 0
+  pub joint_never : IsWithin metric N k M → (J : NetValue) → J ≡ joint_net N M metric k → (x : List Bool) → length x ≡ input_count J → outputs_of J x ≡ false ∷ []
+  joint_never within J is x width =
+      let low : net_error metric N M x ≤ k = within x (width ∙ ap input_count is ∙ joint_inputs N M metric k) in
+      ap (λ K. outputs_of K x) is ∙ output_tells N M metric k h x ∙ ap (λ bit. bit ∷ []) (le-ltb k (net_error metric N M x) low)

@@ -1,11 +1,13 @@
 -- What a query answers whether some input's error exceeds a level.
 use Rattle.std.specs.Prelude.{◌≡◌, ℕ}
 use Rattle.semantics.specs.Net.{NetValue}
-use Rattle.semantics.specs.Error.{Metric}
+use Rattle.semantics.specs.declared.metric.Metric.{Metric}
+use Rattle.proof_semantics.specs.Conflicts.{IsConflictChain}
+use Rattle.proof_semantics.specs.Miter.{miter}
 use Rattle.proof_semantics.specs.Queries.{IsOver, IsNever, SpentValue, IsSpentQuery}
-use Rattle.worst_case.specs.declared.exceed.Spent as spent
-use Rattle.worst_case.specs.declared.exceed.Exceed.{Exceed}
-use Rattle.worst_case.specs.declared.exceed.Exceed.TheVariants.{Over, Never, Spent}
+use Rattle.worst_case.specs.declared.query.Spent as spent
+use Rattle.worst_case.specs.declared.query.Exceed.{Exceed}
+use Rattle.worst_case.specs.declared.query.Exceed.TheVariants.{Over, Never, Spent}
 
 abbrev pub spent_value : spent.Spent → SpentValue
 spent_value s = record { net = s.net; k = s.k; merged = s.merged; log = s.log }
@@ -20,3 +22,16 @@ abbrev pub IsAnswer : Metric → NetValue → NetValue → ℕ → ℕ → Excee
 IsAnswer metric exact approx k limit (Over x) = IsOver metric exact approx k x
 IsAnswer metric exact approx k limit (Never log) = IsNever metric exact approx k log
 IsAnswer metric exact approx k limit (Spent s) = IsSpentOn metric exact approx k limit s
+
+-- so many conflicts over the miter of these two nets at this level, with no step merged before them
+pub record IsChainOn (metric : Metric) (exact approx : NetValue) (k conflicts : ℕ) (s : spent.Spent) : Type 0 where
+  pub net : s.net ≡ approx
+  pub level : s.k ≡ k
+  pub merged : s.merged ≡ 0
+  pub chain : IsConflictChain (miter exact s.net metric s.k) s.merged conflicts s.log
+
+-- the solver was asked
+abbrev pub IsAsked : Metric → NetValue → NetValue → ℕ → ℕ → Exceed → Type 0
+IsAsked metric exact approx k limit (Over x) = IsOver metric exact approx k x
+IsAsked metric exact approx k limit (Never log) = IsNever metric exact approx k log
+IsAsked metric exact approx k limit (Spent s) = IsChainOn metric exact approx k limit s

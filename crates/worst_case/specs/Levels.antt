@@ -1,15 +1,12 @@
 -- What is answered to the question whether the error stays within a level, without a log.
-use Rattle.std.specs.Prelude.{ℕ, Bool, Option, MatchOption, List}
+use Rattle.std.specs.Prelude.{ℕ}
 use Rattle.semantics.specs.Net.{NetValue}
-use Rattle.semantics.specs.Error.{Metric, IsWithin}
+use Rattle.semantics.specs.declared.metric.Metric.{Metric}
+use Rattle.semantics.specs.Error.{IsWithin}
 use Rattle.worst_case.specs.Exceeds.{IsSpentOn}
-use Rattle.worst_case.specs.Trial.{IsExceededAt}
+use Rattle.worst_case.specs.VectorsTried.{IsExceededAt}
 use Rattle.worst_case.specs.declared.margin.Margin.{Margin}
 use Rattle.worst_case.specs.declared.margin.Margin.TheVariants.{Over, Within, Spent}
-
--- every input vector was tried
-abbrev pub IsTried : Metric → NetValue → NetValue → ℕ → Option (List Bool) → Type 0
-IsTried metric exact approx k found = MatchOption found (IsWithin metric exact k approx) (IsExceededAt metric exact approx k)
 
 abbrev pub IsLevelAnswer : Metric → NetValue → NetValue → ℕ → ℕ → Margin → Type 0
 IsLevelAnswer metric exact approx k limit (Over x) = IsExceededAt metric exact approx k x

@@ -1,5 +1,4 @@
-pub mod Outputs
 pub mod Exceeds
-pub mod Trial
+pub mod VectorsTried
 pub mod Maximum
 pub mod Levels

@@ -1,12 +1,14 @@
 -- What the search for the greatest error answers.
-use Rattle.std.specs.Prelude.{◌≡◌, ℕ, ◌<◌, ◌≤◌, ◌^◌, ◌-◌, MatchOption, length}
+use Rattle.std.specs.Prelude.{◌≡◌, ℕ, ◌<◌, ◌≤◌, ◌-◌, MatchOption, length}
+use Rattle.semantics.specs.declared.limits.TheConstants.{FEW_INPUTS, LARGEST_ERROR}
 use Rattle.semantics.specs.Net.{NetValue, input_count}
-use Rattle.semantics.specs.Error.{Metric, net_error, IsWithin}
+use Rattle.semantics.specs.declared.metric.Metric.{Metric}
+use Rattle.semantics.specs.Error.{net_error, IsWithin}
 use Rattle.semantics.specs.Vectors.{IsFirstGreatestAt}
 use Rattle.proof_semantics.specs.Queries.{IsNever, IsMaximum, IsSpentLevel}
 use Rattle.worst_case.specs.Exceeds.{spent_value}
-use Rattle.worst_case.specs.declared.exceed.Maximum.{Maximum}
-use Rattle.worst_case.specs.declared.exceed.Maximum.TheVariants.{Found, Spent}
+use Rattle.worst_case.specs.declared.query.Maximum.{Maximum}
+use Rattle.worst_case.specs.declared.query.Maximum.TheVariants.{Found, Spent}
 use Rattle.worst_case.specs.declared.range.Range.{Range}
 use Rattle.worst_case.specs.declared.range.Turn.{Turn}
 use Rattle.worst_case.specs.declared.range.Turn.TheVariants as turn
@@ -22,9 +24,9 @@ pub record IsRange (metric : Metric) (exact approx : NetValue) (bound : ℕ) (r 
   pub attained : net_error metric exact approx r.witness ≡ r.low
   pub within : IsWithin metric exact r.high approx
   pub bounded : r.high ≤ bound
-  pub small : r.high < 2 ^ 84
+  pub small : r.high ≤ LARGEST_ERROR
   pub refuted : MatchOption r.log (Unit {0}) (IsNever metric exact approx r.high)
-  pub first : input_count exact ≤ 8 → IsFirstGreatestAt (input_count exact) (net_error metric exact approx) r.low r.witness
+  pub first : input_count exact ≤ FEW_INPUTS → IsFirstGreatestAt (input_count exact) (net_error metric exact approx) r.low r.witness
 
 -- one query makes the range smaller, or is spent
 abbrev pub IsTurn : Metric → NetValue → NetValue → ℕ → ℕ → Range → Turn → Type 0

@@ -1,16 +1,38 @@
-//! Whether some error exceeds a level: whether the output of the joint net is ever 1.
+//! Whether some error exceeds a level. With at most fifteen inputs every vector is tried, and the log is made where the error of none
+//! exceeds it; with more the solver is asked.
 ghost use Rattle.std.specs.Prelude.{◌≤◌, length, IfOk};
 ghost use Rattle.semantics.specs.Net.{HasSamePorts};
-ghost use Rattle.joint_net.specs.Metric.{meaning};
 ghost use Rattle.worst_case.specs.Exceeds.{IsAnswer};
 
-use crate::exceed::{Exceed, Spent};
-use crate::truth::{Truth, ever_true, see_sound};
-use cnf_core::of_net::of_goal;
-use joint_net::joint::joint;
-use joint_net::metric::Metric;
+use crate::query::Exceed;
+use crate::refutation::refute_level;
+use crate::solver_query::ask_solver;
+use crate::vectors_tried::try_vectors;
 use net_core::net::Net;
+use net_errors::compared::Compared;
+use semantics::limits::{MOST_OUTPUTS, TRIED_INPUTS};
+use semantics::metric::Metric;
 use std::alloc::{AllocError, Global};
+
+/// The same question of nets that can be compared.
+pub(crate) fn exceeds_level(
+    alloc: Global,
+    nets: &Compared,
+    metric: Metric,
+    k: u128,
+    limit: u64,
+) -> Result<Exceed, AllocError>
+    requires limit { 1 ≤ limit }
+    ensures { IfOk result (IsAnswer metric nets.now.exact nets.now.approx k limit) }
+{
+    if nets.exact().inputs() > TRIED_INPUTS {
+        return ask_solver(alloc, nets, metric, k, limit);
+    }
+    match try_vectors(alloc, nets, metric, k)? {
+        Some(x) => Ok(Exceed::Over(x)),
+        None => refute_level(alloc, nets, metric, k, limit),
+    }
+}
 
 /// An input whose error exceeds `k`, a log that refutes that there is one, or a log of `limit` conflicts.
 pub fn exceeds(
@@ -22,22 +44,9 @@ pub fn exceeds(
     limit: u64,
 ) -> Result<Exceed, AllocError>
     requires ports { HasSamePorts exact.now approx.now }
-    requires few_outputs { length exact.now.outputs ≤ 64 }
+    requires few_outputs { length exact.now.outputs ≤ MOST_OUTPUTS }
     requires limit { 1 ≤ limit }
-    ensures { IfOk result (IsAnswer (meaning metric) exact.now approx.now k limit) }
+    ensures { IfOk result (IsAnswer metric exact.now approx.now k limit) }
 {
-    see_sound(exact);
-    see_sound(approx);
-    let net = joint(alloc, exact, approx, metric, k)?;
-    let goal = of_goal(alloc, &net)?;
-    match ever_true(alloc, &net, &goal, limit)? {
-        Truth::At(x) => Ok(Exceed::Over(x)),
-        Truth::Never(log) => Ok(Exceed::Never(log)),
-        Truth::Spent(log) => Ok(Exceed::Spent(Spent {
-            net: approx.copy()?,
-            k,
-            merged: 0,
-            log,
-        })),
-    }
+    exceeds_level(alloc, &Compared::new(exact, approx), metric, k, limit)
 }

@@ -1,11 +1,12 @@
 //! Queries whether the error of an approximate net exceeds a level at some input, and the search for its greatest error.
 #![tactic(auto)]
 
-pub mod exceed;
+mod comparable;
 pub mod exceeds;
-mod first_true;
 pub mod margin;
 pub mod maximum;
+pub mod query;
 mod range;
-mod trial;
-mod truth;
+mod refutation;
+mod solver_query;
+mod vectors_tried;

@@ -5,32 +5,30 @@
 ghost use Rattle.std.specs.Prelude.{◌≤◌, ℕ, length, IfOk};
 ghost use Rattle.semantics.specs.Net.{HasSamePorts, IsSmall};
 ghost use Rattle.semantics.specs.Error.{IsWithin};
-ghost use Rattle.joint_net.specs.Metric.{meaning};
 ghost use Rattle.worst_case.specs.Maximum.{IsRange, IsMaximumAnswer};
 
-use crate::exceed::{Exceed, Maximum};
-use crate::exceeds::exceeds;
+use crate::query::{Exceed, Maximum};
 use crate::range::{Range, Turn, first_range, narrow};
-use joint_net::metric::Metric;
+use crate::refutation::refute_level;
 use net_core::net::Net;
+use net_errors::compared::Compared;
+use semantics::limits::MOST_OUTPUTS;
+use semantics::metric::Metric;
 use std::alloc::{AllocError, Global};
 
 /// The answer where the levels meet: a log for this level is asked for where none is held.
 fn settle(
     alloc: Global,
-    exact: &Net,
-    approx: &Net,
+    nets: &Compared,
     metric: Metric,
     limit: u64,
     range: Range,
 ) -> Result<Maximum, AllocError>
-    requires ports { HasSamePorts exact.now approx.now }
-    requires few_outputs { length exact.now.outputs ≤ 64 }
     requires limit { 1 ≤ limit }
-    requires range { (bound : ℕ) × IsRange (meaning metric) exact.now approx.now bound range }
+    requires range { (bound : ℕ) × IsRange metric nets.now.exact nets.now.approx bound range }
     requires closed { range.high ≤ range.low }
-    ensures { IfOk result (λ answer. (bound : ℕ) → IsRange (meaning metric) exact.now approx.now bound range
-        → IsMaximumAnswer (meaning metric) exact.now approx.now bound limit answer) }
+    ensures { IfOk result (λ answer. (bound : ℕ) → IsRange metric nets.now.exact nets.now.approx bound range
+        → IsMaximumAnswer metric nets.now.exact nets.now.approx bound limit answer) }
 {
     let Range {
         low: max,
@@ -41,7 +39,7 @@ fn settle(
     if let Some(log) = log {
         return Ok(Maximum::Found { max, witness, log });
     }
-    match exceeds(alloc, exact, approx, metric, max, limit)? {
+    match refute_level(alloc, nets, metric, max, limit)? {
         Exceed::Over(_) => unreachable!(),
         Exceed::Never(log) => Ok(Maximum::Found { max, witness, log }),
         Exceed::Spent(spent) => Ok(Maximum::Spent(spent)),
@@ -60,17 +58,18 @@ pub fn maximum(
 ) -> Result<Maximum, AllocError>
     requires small { IsSmall exact.now }
     requires ports { HasSamePorts exact.now approx.now }
-    requires few_outputs { length exact.now.outputs ≤ 64 }
+    requires few_outputs { length exact.now.outputs ≤ MOST_OUTPUTS }
     requires limit { 1 ≤ limit }
-    requires within { IsWithin (meaning metric) exact.now bound approx.now }
-    ensures { IfOk result (IsMaximumAnswer (meaning metric) exact.now approx.now bound limit) }
+    requires within { IsWithin metric exact.now bound approx.now }
+    ensures { IfOk result (IsMaximumAnswer metric exact.now approx.now bound limit) }
 {
-    let mut range = first_range(alloc, exact, approx, metric, bound)?;
+    let nets = Compared::new(exact, approx);
+    let mut range = first_range(alloc, &nets, metric, bound)?;
     while range.low < range.high {
-        match narrow(alloc, exact, approx, metric, limit, range)? {
+        match narrow(alloc, &nets, metric, limit, range)? {
             Turn::Narrowed(next) => range = next,
             Turn::Spent(spent) => return Ok(Maximum::Spent(spent)),
         }
     }
-    settle(alloc, exact, approx, metric, limit, range)
+    settle(alloc, &nets, metric, limit, range)
 }

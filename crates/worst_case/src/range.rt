@@ -1,22 +1,19 @@
 //! The levels between which the greatest error lies, and one query that narrows them.
-ghost use Rattle.std.specs.Prelude.{◌≤◌, ◌<◌, ℕ, length, IfOk};
-ghost use Rattle.semantics.specs.Net.{HasSamePorts, IsSmall};
+ghost use Rattle.std.specs.Prelude.{◌≤◌, ◌<◌, ℕ, IfOk};
+ghost use Rattle.semantics.specs.Net.{IsSmall};
 ghost use Rattle.semantics.specs.Error.{IsWithin};
-ghost use Rattle.joint_net.specs.Metric.{meaning};
 ghost use Rattle.worst_case.specs.Maximum.{IsRange, IsTurn};
 
-use crate::exceed::{Exceed, Spent};
-use crate::exceeds::exceeds;
-use crate::trial::{TRIED_INPUTS, greatest_of, trial_vectors};
+use crate::exceeds::exceeds_level;
+use crate::query::{Exceed, Spent};
+use crate::vectors_tried::{greatest_of, trial_vectors};
 use cnf_core::log::Log;
-use joint_net::metric::Metric;
-use joint_net::net_error::error_at;
 use net_core::items::Bits;
-use net_core::net::Net;
+use net_errors::compared::Compared;
+use net_errors::net_error::error_at;
+use semantics::limits::{LARGEST_ERROR, TRIED_INPUTS};
+use semantics::metric::Metric;
 use std::alloc::{AllocError, Global};
-
-/// No error of at most 64 outputs is greater.
-const LARGEST_ERROR: u128 = 19342813113834066795298815;
 
 /// An error that the witness has, and a level that no error exceeds, which the log shows where it is held.
 #[derive(Drop)]
@@ -37,20 +34,17 @@ pub enum Turn {
 /// The range to begin with: the greatest error of the vectors that are tried, and the bound.
 pub fn first_range(
     alloc: Global,
-    exact: &Net,
-    approx: &Net,
+    nets: &Compared,
     metric: Metric,
     bound: u128,
 ) -> Result<Range, AllocError>
-    requires small { IsSmall exact.now }
-    requires ports { HasSamePorts exact.now approx.now }
-    requires few_outputs { length exact.now.outputs ≤ 64 }
-    requires within { IsWithin (meaning metric) exact.now bound approx.now }
-    ensures { IfOk result (IsRange (meaning metric) exact.now approx.now bound) }
+    requires small { IsSmall nets.now.exact }
+    requires within { IsWithin metric nets.now.exact bound nets.now.approx }
+    ensures { IfOk result (IsRange metric nets.now.exact nets.now.approx bound) }
 {
-    let vectors = trial_vectors(alloc, exact.inputs())?;
-    let best = greatest_of(alloc, exact, approx, metric, &vectors)?;
-    let high = if exact.inputs() <= TRIED_INPUTS {
+    let vectors = trial_vectors(alloc, nets.exact().inputs())?;
+    let best = greatest_of(alloc, nets, metric, &vectors)?;
+    let high = if nets.exact().inputs() <= TRIED_INPUTS {
         best.error
     } else {
         bound.min(LARGEST_ERROR)
@@ -66,23 +60,20 @@ pub fn first_range(
 /// Asks whether some error exceeds the middle of the range.
 pub fn narrow(
     alloc: Global,
-    exact: &Net,
-    approx: &Net,
+    nets: &Compared,
     metric: Metric,
     limit: u64,
     range: Range,
 ) -> Result<Turn, AllocError>
-    requires ports { HasSamePorts exact.now approx.now }
-    requires few_outputs { length exact.now.outputs ≤ 64 }
     requires limit { 1 ≤ limit }
     requires open { range.low < range.high }
-    ensures { IfOk result (λ turn. (bound : ℕ) → IsRange (meaning metric) exact.now approx.now bound range
-        → IsTurn (meaning metric) exact.now approx.now bound limit range turn) }
+    ensures { IfOk result (λ turn. (bound : ℕ) → IsRange metric nets.now.exact nets.now.approx bound range
+        → IsTurn metric nets.now.exact nets.now.approx bound limit range turn) }
 {
     let middle = range.low + (range.high - range.low) / 2;
-    match exceeds(alloc, exact, approx, metric, middle, limit)? {
+    match exceeds_level(alloc, nets, metric, middle, limit)? {
         Exceed::Over(x) => {
-            let error = error_at(alloc, exact, approx, metric, x.as_slice())?;
+            let error = error_at(alloc, nets, metric, x.as_slice())?;
             Ok(Turn::Narrowed(Range {
                 low: error,
                 witness: x,

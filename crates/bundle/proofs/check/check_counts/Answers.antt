@@ -28,7 +28,7 @@ returns-then-not-are_counts c texts known =
     let read = contents.report.now in
     let N = claim.exact.now in
     let M = contents.approx.now in other_counts N metric claim.bound texts M (report_read metric claim.bound read) contents.vectors.now known
-          (λ counts. let yes : c.are_counts.result ≡ true = c.are_counts.ensures.1 (counts_at N M read metric Abs claim.bound 0 counts) in cc)
+    (λ counts. let yes : c.are_counts.result ≡ true = c.are_counts.ensures.1 (counts_at N M read metric Abs claim.bound 0 counts) in cc)
 
 pub returns-then-not-branch : goal.returns-then-not-branch
 returns-then-not-branch c texts known =
@@ -38,8 +38,8 @@ returns-then-not-branch c texts known =
     let read = contents.report.now in
     let N = claim.exact.now in
     let M = contents.approx.now in not_shown N metric claim.bound texts M (report_read metric claim.bound read) contents.vectors.now known
-          (counts_at N M read Abs metric 0 claim.bound (c.are_counts.ensures.0 c.if-not-are_counts.false))
-          (λ shown. let yes : c.in_ok-is_shown_minimal.field-0 ≡ true = c.in_ok-is_shown_minimal.ensures.1 shown in cc)
+    (counts_at N M read Abs metric 0 claim.bound (c.are_counts.ensures.0 c.if-not-are_counts.false))
+    (λ shown. let yes : c.in_ok-is_shown_minimal.field-0 ≡ true = c.in_ok-is_shown_minimal.ensures.1 shown in cc)
 
 pub returns : goal.returns
 returns c texts known =

@@ -52,7 +52,7 @@ returns-then-not-branch g c =
     (subst (λ n. TextRead old new n Q) c.name.ensures c.in_ok-is_formula.ensures.ok)
     (λ texts known. formula_needed claim.exact.now metric claim.bound texts contents.approx.now r contents.vectors.now known)
     (λ texts known q. other_formula claim.exact.now metric claim.bound texts contents.approx.now r contents.vectors.now known
-          (λ same. let is : yes ≡ true = q.1 (same ∙ ap dimacs_text (sym c.in_ok-formula.ensures)) in cc))
+    (λ same. let is : yes ≡ true = q.1 (same ∙ ap dimacs_text (sym c.in_ok-formula.ensures)) in cc))
 
 pub returns : goal.returns
 returns g c =

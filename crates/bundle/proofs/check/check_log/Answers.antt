@@ -42,7 +42,7 @@ returns-then-not-branch g c =
     (subst (λ n. TextRead old new n Q) c.name.ensures c.in_ok-is_refuted.ensures.ok)
     (λ texts known. log_needed claim.exact.now metric claim.bound texts contents.approx.now r contents.vectors.now known)
     (λ texts known q. no_refutation claim.exact.now metric claim.bound texts contents.approx.now r contents.vectors.now known
-          (λ refuting. let is : yes ≡ true = q.1 (subst (λ (f : Formula). IsRefutingText f.clauses (texts file.Log)) (sym c.requires.formula) refuting) in cc))
+    (λ refuting. let is : yes ≡ true = q.1 (subst (λ (f : Formula). IsRefutingText f.clauses (texts file.Log)) (sym c.requires.formula) refuting) in cc))
 
 pub returns-in_err-check_counts : goal.returns-in_err-check_counts
 returns-in_err-check_counts g c =

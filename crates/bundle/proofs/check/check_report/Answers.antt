@@ -45,7 +45,7 @@ returns-in_default g c =
     answers_now N metric claim.bound claim.stem.now old new file.Report Q K (Some clause.ReportForm) was
     (λ texts known. report_needed N metric claim.bound texts M known)
     (λ texts known none. no_report N metric claim.bound texts M known
-          (λ r is. none r (subst (λ k. IsReportText k metric claim.bound (texts file.Report) r) (sym c.inputs-inputs.ensures.value) is)))
+    (λ r is. none r (subst (λ k. IsReportText k metric claim.bound (texts file.Report) r) (sym c.inputs-inputs.ensures.value) is)))
 
 pub returns-then-report-claim : goal.returns-then-report-claim
 returns-then-report-claim g c =
@@ -66,7 +66,7 @@ returns-then-report-claim g c =
     answers_now N metric claim.bound claim.stem.now old new file.Report Q K (Some clause.MaximumWithin) was
     (λ texts known. report_needed N metric claim.bound texts M known)
     (λ texts known is. above_bound N metric claim.bound texts M r known (subst (λ k. IsReportText k metric claim.bound (texts file.Report) r) c.inputs-inputs.ensures.value is)
-          (λ within. omega (arith, within, c.if-report-claim.true)))
+    (λ within. omega (arith, within, c.if-report-claim.true)))
 
 pub returns : goal.returns
 returns g c =

@@ -90,7 +90,7 @@ returns-then-branch-report g c =
     (λ texts known. vectors_needed N metric claim.bound texts M r known)
     (λ texts known holds.
     let vectors = vectors_held N texts witness r.witness c.as_slice-witness.ensures c.requires.width set holds in not_attained N metric claim.bound texts M r known vectors.pool vectors.read
-          (λ same. c.if-branch-report.true (c.in_ok-error_at.ensures ∙ ap (net_error metric N M) c.as_slice-witness.ensures ∙ same)))
+    (λ same. c.if-branch-report.true (c.in_ok-error_at.ensures ∙ ap (net_error metric N M) c.as_slice-witness.ensures ∙ same)))
 
 pub returns : goal.returns
 returns g c =

@@ -1,5 +1,6 @@
 use Rattle.std.proofs.lemmas.Result.{on_ok_weaker}
 use Rattle.std.proofs.Common.{sym, subst, ◌∙◌}
+use Rattle.std.proofs.lemmas.Result.{IfOk-weaker}
 use Rattle.semantics.specs.Net.{NetValue, input_count, IsAcyclic}
 use Rattle.net_core.specs.Built.{IsWired}
 use Rattle.joint_net.proofs.Placed.{is_joined}
@@ -18,4 +19,4 @@ from_sound-requires-clause-acyclic c =
 pub returns : goal.returns
 returns c =
     let e = c.in_ok-model.ensures in
-    on_ok_weaker c.from_sound.result (λ is. is ∙ is_joined c.args.exact.now c.args.approx.now c.args.quality.now _ _ _ _ e.model e.inputs e.tables e.outputs)
+    IfOk-weaker c.from_sound.result _ _ (λ n is. is ∙ is_joined c.args.exact.now c.args.approx.now c.args.quality.now _ _ _ _ e.model e.inputs e.tables e.outputs) c.from_sound.ensures

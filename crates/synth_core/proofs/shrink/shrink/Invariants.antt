@@ -1,13 +1,12 @@
 use Rattle.semantics.specs.Net.{literal_count}
 use Rattle.chain_semantics.specs.Simplification.{IsInSimplification}
-use Rattle.joint_net.specs.Metric.{meaning}
-use Rattle.synth_core.specs.Shrinking.{IsPool}
+use Rattle.synth_core.specs.Steps.{IsPool}
 use Rattle.synth_core.proofs.shrink.shrink.Given as goal
 
 -- the net is a member of the chain
 abbrev pub invariant-loop-shrunk : goal.invariant-loop-shrunk
 invariant-loop-shrunk l = record {
-  member : IsInSimplification (meaning l.fn.metric) l.net l.bound l.shrunk;
+  member : IsInSimplification l.fn.metric l.net l.bound l.shrunk;
   pool : IsPool l.net l.pool;
 }
 

@@ -1,10 +1,9 @@
 use Rattle.std.proofs.Common.{◌-◌}
-use Rattle.joint_net.specs.Metric.{meaning}
 use Rattle.worst_case.specs.Maximum.{IsRange}
 use Rattle.worst_case.proofs.maximum.maximum.Given as goal
 
 abbrev pub invariant-loop-range : goal.invariant-loop-range
-invariant-loop-range l = IsRange (meaning l.metric) l.exact l.approx l.bound l.range
+invariant-loop-range l = IsRange l.metric l.nets.exact l.nets.approx l.bound l.range
 
 abbrev pub decreases-loop-range : goal.decreases-loop-range
 decreases-loop-range l = l.range.high - l.range.low

@@ -1,5 +1,0 @@
-use Rattle.lane_bits.proofs.Bits.{bit-read}
-use Rattle.lane_bits.proofs.row.Row.bit.Goals as goal
-
-pub returns : goal.returns
-returns c = bit-read c.self.inside.words.items c.args.self.now c.args.p c.index.result.now c.self.view_is c.requires c.index.ensures

@@ -1,0 +1,47 @@
+use Rattle.std.proofs.Common.{ap, subst, sym, ◌∙◌, arith}
+use Rattle.semantics.specs.Net.{input_count, IsSound}
+use Rattle.semantics.specs.Error.{IsCandidate}
+use Rattle.chain_semantics.specs.Moves.{moved}
+use Rattle.adc_core.specs.Masks.{FindsFirstBroken}
+use Rattle.worst_case.specs.VectorsTried.{IsExceededAt}
+use Rattle.synth_core.proofs.Trying.{found_broken, found_allowed, found_new, moved-candidate}
+use Rattle.synth_core.proofs.move_trial.try_move.Goals as goal
+
+pub returns-in_default : goal.returns-in_default
+returns-in_default c =
+    let nets = c.args.nets.now in
+    let found = subst (λ N. FindsFirstBroken c.args.terms.metric nets.exact c.args.terms.bound N c.args.adc.now.vectors c.args.step c.breaks.result) c.requires.same
+    (c.breaks.ensures c.args.terms.metric nets.exact c.args.terms.bound c.requires.masks) in
+    found_broken c.args.terms.metric nets.exact c.args.terms.bound nets.approx c.args.adc.now.vectors c.args.step c.breaks.result c.in_default.field-0 c.in_default.is found
+
+pub returns-then-inputs-le-FEW_INPUTS : goal.returns-then-inputs-le-FEW_INPUTS
+returns-then-inputs-le-FEW_INPUTS c =
+    let nets = c.args.nets.now in
+    let found = subst (λ N. FindsFirstBroken c.args.terms.metric nets.exact c.args.terms.bound N c.args.adc.now.vectors c.args.step c.breaks.result) c.requires.same
+    (c.breaks.ensures c.args.terms.metric nets.exact c.args.terms.bound c.requires.masks) in
+    let count = c.inputs-2.ensures.value ∙ ap input_count c.exact.ensures.value in
+    record {
+      allowed =
+          found_allowed c.args.terms.metric nets.exact c.args.terms.bound nets.approx c.args.adc.now.vectors c.args.step c.breaks.result c.in-None.is found
+          (c.requires.counting (omega (arith, count, c.if-inputs-le-FEW_INPUTS.true)));
+      net = c.in_ok-moved.ensures ∙ ap (λ N. moved N c.args.step) c.approx-2.ensures.value;
+    }
+
+pub new-moved_nets-requires : goal.new-moved_nets-requires
+new-moved_nets-requires c =
+    let nets = c.args.nets.now in
+    subst (λ E. IsCandidate E c.in_ok-moved.moved) (sym c.exact-2.ensures.value)
+    (moved-candidate nets.exact nets.approx c.args.step c.in_ok-moved.moved (c.in_ok-moved.ensures ∙ ap (λ N. moved N c.args.step) c.approx-2.ensures.value)
+    (subst IsSound c.approx.ensures.value c.inputs.ensures.built.sound) c.requires.step c.exact.ensures.candidate)
+
+pub returns-in-Over : goal.returns-in-Over
+returns-in-Over c =
+    let nets = c.args.nets.now in
+    let found = subst (λ N. FindsFirstBroken c.args.terms.metric nets.exact c.args.terms.bound N c.args.adc.now.vectors c.args.step c.breaks.result) c.requires.same
+    (c.breaks.ensures c.args.terms.metric nets.exact c.args.terms.bound c.requires.masks) in
+    let count = c.inputs-2.ensures.value ∙ ap input_count c.exact.ensures.value in
+    let over = rw c.in-Over.is at c.in_ok-x.ensures in
+    let of_nets = subst (λ P. IsExceededAt c.args.terms.metric P.exact P.approx c.args.terms.bound c.in-Over.x) c.new-moved_nets.ensures over in
+    found_new c.args.terms.metric nets.exact c.args.terms.bound nets.approx c.args.adc.now.vectors c.args.step c.breaks.result c.in-None.is found
+    c.in_ok-moved.moved c.in-Over.x (c.in_ok-moved.ensures ∙ ap (λ N. moved N c.args.step) c.approx-2.ensures.value) (omega (arith, count, c.if-inputs-le-FEW_INPUTS.false))
+    (subst (λ E. IsExceededAt c.args.terms.metric E c.in_ok-moved.moved c.args.terms.bound c.in-Over.x) c.exact-2.ensures.value of_nets)

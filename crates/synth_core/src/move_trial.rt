@@ -1,0 +1,73 @@
+//! Whether a move keeps the bound: by the masks, and where they tell nothing, by a trial of every vector or by a query.
+ghost use Rattle.std.specs.Prelude.{◌≡◌, ◌≤◌, IfOk, Contains};
+ghost use Rattle.semantics.specs.Net.{input_count};
+ghost use Rattle.semantics.specs.Vectors.{all_vectors};
+ghost use Rattle.chain_semantics.specs.Moves.{moves_of};
+ghost use Rattle.adc_core.specs.Masks.{AreMasksOf};
+ghost use Rattle.synth_core.specs.MoveTrials.{IsTrial};
+
+use adc_core::adc::Adc;
+use chain_semantics::moves::Move;
+use net_core::items::Bits;
+use net_core::net::Net;
+use net_errors::compared::Compared;
+use net_moves::apply::apply;
+use semantics::limits::FEW_INPUTS;
+use semantics::metric::Metric;
+use std::alloc::{AllocError, Global};
+use worst_case::margin::{Margin, within_level};
+use worst_case::query::Spent;
+
+/// How far a move may err, and how many conflicts it may cost to find out.
+#[derive(Clone, Copy)]
+pub(crate) struct Terms {
+    pub(crate) metric: Metric,
+    pub(crate) bound: u128,
+    pub(crate) limit: u64,
+}
+
+/// What is found out about a move.
+#[derive(Drop)]
+pub(crate) enum Trial {
+    /// A pattern breaks it.
+    Broken,
+    /// This vector, which is no pattern, breaks it.
+    New(Bits),
+    /// It keeps the bound, and makes this net.
+    Allowed(Net),
+    /// The query was spent.
+    Spent(Spent),
+}
+
+/// Tries a move of the approximate net. With few inputs every vector is a pattern, so nothing more is asked.
+pub(crate) fn try_move(
+    alloc: Global,
+    nets: &Compared,
+    terms: Terms,
+    adc: &Adc,
+    step: Move,
+) -> Result<Trial, AllocError>
+    requires limit { 1 ≤ terms.limit }
+    requires same { adc.now.net ≡ nets.now.approx }
+    requires masks { AreMasksOf terms.metric nets.now.exact terms.bound adc.now }
+    requires counting { input_count nets.now.exact ≤ FEW_INPUTS → adc.now.vectors ≡ all_vectors (input_count nets.now.exact) }
+    requires step { Contains (moves_of nets.now.approx) step }
+    ensures { IfOk result
+        (IsTrial terms.metric nets.now.exact terms.bound terms.limit nets.now.approx adc.now.vectors step) }
+{
+    let None = adc.breaks(step) else {
+        return Ok(Trial::Broken);
+    };
+    // A net is sound by its type: the call brings that fact here.
+    let _ = nets.approx().inputs();
+    let moved = apply(alloc, nets.approx(), step)?;
+    if nets.exact().inputs() <= FEW_INPUTS {
+        return Ok(Trial::Allowed(moved));
+    }
+    let moved_nets = Compared::new(nets.exact(), &moved);
+    match within_level(alloc, &moved_nets, terms.metric, terms.bound, terms.limit)? {
+        Margin::Over(x) => Ok(Trial::New(x)),
+        Margin::Within => Ok(Trial::Allowed(moved)),
+        Margin::Spent(spent) => Ok(Trial::Spent(spent)),
+    }
+}

@@ -1,0 +1,9 @@
+use Rattle.std.proofs.Common.{subst}
+use Rattle.semantics.specs.Net.{IsSound}
+use Rattle.quality_semantics.proofs.Joint.{comparable}
+use Rattle.worst_case.proofs.comparable.see_comparable.Goals as goal
+
+pub returns : goal.returns
+returns c =
+    comparable c.args.nets.now.exact c.args.nets.now.approx (subst IsSound c.exact.ensures.value c.inputs.ensures.built.sound)
+    (subst IsSound c.approx.ensures.value c.inputs-2.ensures.built.sound) c.exact.ensures.candidate.ports

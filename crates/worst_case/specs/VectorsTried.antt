@@ -1,0 +1,37 @@
+-- Input vectors that are tried at once, and the greatest of their errors.
+use Rattle.std.specs.Prelude.{◌≡◌, ℕ, ◌<◌, ◌≤◌, Bool, Option, MatchOption, List, [], length, slice_index_or}
+use Rattle.semantics.specs.declared.limits.TheConstants.{TRIED_INPUTS}
+use Rattle.semantics.specs.Net.{NetValue, input_count}
+use Rattle.semantics.specs.declared.metric.Metric.{Metric}
+use Rattle.semantics.specs.Error.{number_of, net_error, IsWithin}
+use Rattle.semantics.specs.Vectors.{all_vectors}
+use Rattle.lane_bits.specs.Patterns.{PatternSet}
+
+-- some vectors of so many inputs; with at most fifteen inputs all of them in counting order
+pub record IsTrial (inputs : ℕ) (s : PatternSet) : Type 0 where
+  pub inputs_are : s.inputs ≡ inputs
+  pub some : 0 < length s.vectors
+  pub all : inputs ≤ TRIED_INPUTS → s.vectors ≡ all_vectors inputs
+
+-- x is the first vector of the list at which f is greatest, and most is f there
+pub record IsFirstGreatestIn (f : List Bool → ℕ) (vectors : List (List Bool)) (most : ℕ) (x : List Bool) : Type 0 where
+  pub at : ℕ
+  pub within : at < length vectors
+  pub is : x ≡ slice_index_or vectors at []
+  pub attained : f x ≡ most
+  pub greatest : (k : ℕ) → k < length vectors → f (slice_index_or vectors k []) ≤ most
+  pub first : (k : ℕ) → k < at → f (slice_index_or vectors k []) < most
+
+-- an input vector whose error exceeds the level
+pub record IsExceededAt (metric : Metric) (exact approx : NetValue) (k : ℕ) (x : List Bool) : Type 0 where
+  pub width : length x ≡ input_count exact
+  pub exceeds : k < net_error metric exact approx x
+
+-- x is the first input vector in counting order whose error exceeds the level
+pub record IsFirstExceeded (metric : Metric) (exact approx : NetValue) (k : ℕ) (x : List Bool) : Type 0 where
+  pub exceeded : IsExceededAt metric exact approx k x
+  pub first : (y : List Bool) → length y ≡ input_count exact → number_of y < number_of x → net_error metric exact approx y ≤ k
+
+-- every input vector was tried
+abbrev pub IsTried : Metric → NetValue → NetValue → ℕ → Option (List Bool) → Type 0
+IsTried metric exact approx k found = MatchOption found (IsWithin metric exact k approx) (IsFirstExceeded metric exact approx k)

@@ -1,0 +1,12 @@
+//! That nets can be compared, as their types say.
+ghost use Rattle.quality_semantics.specs.Joint.{AreComparable};
+
+use net_errors::compared::Compared;
+
+/// Shows that both nets are sound, and have as many inputs and as many outputs.
+pub(crate) fn see_comparable(nets: &Compared)
+    ensures { AreComparable nets.now.exact nets.now.approx }
+{
+    let _ = nets.exact().inputs();
+    let _ = nets.approx().inputs();
+}

@@ -1,0 +1,70 @@
+//! The log that no error exceeds a level, where that is known. With at most eight inputs it goes by cases; with more the solver is asked.
+//! Where the conflicts are enough for the inputs it gets few of them, and then the log goes by cases after all.
+ghost use Rattle.std.specs.Prelude.{◌↔◌, ◌≤◌, IfOk, IsTrue};
+ghost use Rattle.semantics.specs.Net.{input_count};
+ghost use Rattle.semantics.specs.Error.{IsWithin};
+ghost use Rattle.proof_semantics.specs.Conflicts.{IsEnough};
+ghost use Rattle.proof_semantics.specs.Queries.{IsNever};
+ghost use Rattle.worst_case.specs.Exceeds.{IsAnswer};
+
+use crate::comparable::see_comparable;
+use crate::query::Exceed;
+use crate::solver_query::ask_solver;
+use case_tree::refute::refute;
+use cnf_core::log::Log;
+use miter::level::joint_miter;
+use net_errors::compared::Compared;
+use semantics::limits::{FEW_INPUTS, TRIED_INPUTS};
+use semantics::metric::Metric;
+use std::alloc::{AllocError, Global};
+
+/// The most conflicts of the solver where the log can go by cases instead.
+const FEW_CONFLICTS: u64 = 3000;
+
+/// Whether so many conflicts are enough for so many inputs.
+fn is_enough(limit: u64, inputs: u32) -> bool
+    ensures { IsTrue result ↔ IsEnough limit inputs }
+{
+    inputs <= FEW_INPUTS || inputs <= TRIED_INPUTS && 2u64.pow(inputs + 1) <= limit
+}
+
+/// The log by cases.
+fn refute_by_cases(
+    alloc: Global,
+    nets: &Compared,
+    metric: Metric,
+    k: u128,
+) -> Result<Log, AllocError>
+    requires few_inputs { input_count nets.now.exact ≤ TRIED_INPUTS }
+    requires within { IsWithin metric nets.now.exact k nets.now.approx }
+    ensures { IfOk result (IsNever metric nets.now.exact nets.now.approx k) }
+{
+    see_comparable(nets);
+    let miter = joint_miter(alloc, nets, metric, k)?;
+    refute(alloc, &miter.net, &miter.formula)
+}
+
+/// A log that refutes that some error exceeds `k`, or a log of `limit` conflicts.
+pub(crate) fn refute_level(
+    alloc: Global,
+    nets: &Compared,
+    metric: Metric,
+    k: u128,
+    limit: u64,
+) -> Result<Exceed, AllocError>
+    requires limit { 1 ≤ limit }
+    requires within { IsWithin metric nets.now.exact k nets.now.approx }
+    ensures { IfOk result (IsAnswer metric nets.now.exact nets.now.approx k limit) }
+{
+    let inputs = nets.exact().inputs();
+    if inputs > FEW_INPUTS && !is_enough(limit, inputs) {
+        return ask_solver(alloc, nets, metric, k, limit);
+    }
+    if inputs > FEW_INPUTS {
+        let few = limit.min(FEW_CONFLICTS);
+        if let Exceed::Never(log) = ask_solver(alloc, nets, metric, k, few)? {
+            return Ok(Exceed::Never(log));
+        }
+    }
+    Ok(Exceed::Never(refute_by_cases(alloc, nets, metric, k)?))
+}

@@ -1,0 +1,58 @@
+//! Whether some error exceeds a level, asked of the solver.
+ghost use Rattle.std.specs.Prelude.{◌≡◌, ◌<◌, ◌≤◌, ◌^◌, length, take, IfOk};
+ghost use Rattle.semantics.specs.Net.{input_count};
+ghost use Rattle.worst_case.specs.Exceeds.{IsAsked};
+
+use crate::comparable::see_comparable;
+use crate::query::{Exceed, Spent};
+use cdcl_core::answer::Answer;
+use cdcl_core::solve::solve;
+use cnf_core::cnf::Cnf;
+use miter::level::miter_of;
+use net_core::items::{Bits, Items};
+use net_core::net::Net;
+use net_errors::compared::Compared;
+use semantics::metric::Metric;
+use std::alloc::{AllocError, Global};
+
+/// Shows that a formula has few clauses, as many as there is memory for.
+fn see_few(goal: &Cnf)
+    ensures { length goal.now.clauses < 2 ^ 63 }
+{
+    let _ = goal.clauses().as_slice().len();
+}
+
+/// The first bits of a model, one for each input.
+fn input_bits(alloc: Global, net: &Net, values: &Bits) -> Result<Bits, AllocError>
+    requires { input_count net.now ≤ length values.now }
+    ensures { IfOk result (λ x. x ≡ take (input_count net.now) values.now) }
+{
+    Bits::from_slice(alloc, &values.as_slice()[..net.inputs() as usize])
+}
+
+/// An input whose error exceeds `k`, a log that refutes that there is one, or a log of `limit` conflicts.
+pub(crate) fn ask_solver(
+    alloc: Global,
+    nets: &Compared,
+    metric: Metric,
+    k: u128,
+    limit: u64,
+) -> Result<Exceed, AllocError>
+    requires many_inputs { 8 < input_count nets.now.exact }
+    requires limit { 1 ≤ limit }
+    ensures { IfOk result (IsAsked metric nets.now.exact nets.now.approx k limit) }
+{
+    see_comparable(nets);
+    let goal = miter_of(alloc, nets, metric, k)?;
+    see_few(&goal);
+    match solve(alloc, &goal, &Items::new(alloc), limit)? {
+        Answer::Model(values) => Ok(Exceed::Over(input_bits(alloc, nets.exact(), &values)?)),
+        Answer::Refuted(log) => Ok(Exceed::Never(log)),
+        Answer::Spent(log) => Ok(Exceed::Spent(Spent {
+            net: nets.approx().copy()?,
+            k,
+            merged: 0,
+            log,
+        })),
+    }
+}
