@@ -1,7 +1,0 @@
-pub mod InputReadings
-pub mod JobWords
-pub mod Parts
-pub mod BundleAnswers
-pub mod SynthAnswers
-pub mod CheckAnswers
-pub mod Headlines

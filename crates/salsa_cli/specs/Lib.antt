@@ -1,7 +1,1 @@
-pub mod Words
-pub mod Input
-pub mod Status
-pub mod Prepared
-pub mod Delivered
-pub mod Run
 pub mod Untold

@@ -1,0 +1,160 @@
+-- The headline, from what each answer says.
+use Rattle.std.proofs.Common.{◌≡◌, ◌≢◌, ◌⊎◌, ◌≤◌, ℕ, Bool, List, [], ◌∷◌, ◌++◌, Option, Some, None, MatchOption, Result, Ok, Err, Contains, inl, inr, refl, ap, sym, subst, ◌∙◌, arith}
+use Rattle.std.specs.Prelude.{IsTrue}
+use Rattle.std.proofs.lemmas.List.Elements.{Contains-append_right}
+use Rattle.chain_semantics.proofs.MoveLists.{Contains-here}
+use Rattle.semantics.specs.Texts.{Bytes}
+use Rattle.semantics.specs.Net.{NetValue, HasSamePorts}
+use Rattle.semantics.specs.declared.metric.Metric.{Metric}
+use Rattle.outside_semantics.specs.Outside.{Held, FilesTold, SinkTold, bytes_of}
+use Rattle.blif_semantics.specs.Reading.{Refusal}
+use Rattle.chain_semantics.specs.declared.moves.Move.{Move}
+use Rattle.chain_semantics.specs.Moves.{moves_of, moved}
+use Rattle.chain_semantics.specs.Simplification.{IsInSimplification, IsSimplificationEnd}
+use Rattle.proof_semantics.specs.Queries.{SpentValue, IsSpentLevel}
+use Rattle.job_semantics.specs.Job.{synth, check, are_file_words, job_of}
+use Rattle.job_semantics.specs.Input.{IsReadAs}
+use Rattle.job_semantics.specs.Certificate.{Texts, texts_of, IsNetlist, Certifies}
+use Rattle.job_semantics.specs.Checking.{ShowsItsBound, CheckVerified}
+use Rattle.job_semantics.specs.Shrinking.{IsShownEnd, IsSpentMove}
+use Rattle.job_semantics.specs.Synthesis.{OfInput, BundleWritten, MaximumSpent, SynthDone, IsQuietSynth}
+use Rattle.job_semantics.specs.Headline.{KeepsItsPromise, AdmitsNoMore, IsOfTheChain, AreSpentOn, Headline}
+use Rattle.job_semantics.proofs.Certificates.{verified_law}
+use Rattle.job_semantics.proofs.FileWords.{file_words_law}
+use Rattle.job_semantics.proofs.CheckedFiles.{one_net, joined_runs_law}
+use Rattle.jobs.specs.declared.status.Status.{Status}
+use Rattle.jobs.specs.declared.status.Status.TheVariants.{Done, Verified, Refuted, Usage, Text, NoMemory, Budget, ReadFault, WriteFault, Endless}
+use Rattle.jobs.specs.declared.status.Outcome.{Outcome}
+use Rattle.jobs.specs.Status.{told_query, NothingSpent}
+use Rattle.jobs.specs.Run.{SynthAnswerAt, RunSays}
+use Rattle.jobs.proofs.CheckAnswers.{verified_end}
+use Rattle.jobs.proofs.SynthAnswers.{quiet_ends}
+
+keeps : {exact : NetValue} {metric : Metric} {bound : ℕ} {texts : Texts} → ShowsItsBound exact metric bound texts → KeepsItsPromise metric bound exact texts
+keeps s = record {
+  approx = s.approx;
+  report = s.report;
+  netlist = s.netlist;
+  reported = s.reported;
+  the_same_ports = s.verified.ports;
+  on_every_input = s.verified.safe;
+  within_the_bound = s.verified.within;
+  attained_at_the_witness = s.verified.attained;
+  no_more_tables = s.verified.tables;
+  no_more_literals = s.verified.literals;
+}
+
+-- where no query of the chain was spent, its end was reached
+end_reached : (metric : Metric) (exact : NetValue) (bound limit : ℕ) (N : NetValue) (pool : List (List Bool)) (spent : Option SpentValue) → spent ≡ None
+    → MatchOption spent (IsShownEnd metric exact bound N pool) (IsSpentMove metric exact bound limit N pool) → IsSimplificationEnd metric exact bound N
+end_reached metric exact bound limit N pool None is h = h.end
+end_reached metric exact bound limit N pool (Some q) is h = cc
+
+-- the net of a certificate has the original's ports
+same_ports : {exact : NetValue} {metric : Metric} {bound : ℕ} (texts : Texts) (approx : NetValue) → Certifies exact metric bound texts → IsNetlist texts approx → HasSamePorts exact approx
+same_ports {exact} texts approx certified reads = subst (HasSamePorts exact) (verified_law.one_net texts certified.1.0.0 approx certified.1.0.1 reads) certified.1.0.2
+
+module _ (metric : Metric) (bound limit : ℕ) (input stem : Bytes) (files_named : IsTrue (are_file_words input stem)) (old new : FilesTold) (said says : SinkTold) (spent level : Option SpentValue) where
+  admits : (a b : Held) (d : SynthDone metric bound limit input stem spent old new said says) → spent ≡ None → old.held ≡ Some a → new.held ≡ Some b
+      → AdmitsNoMore metric bound input stem d.exact b
+  admits a b d none told tells =
+      let w = d.written in
+      let certified : Certifies d.exact metric bound (texts_of b stem) = w.certificate a b told tells in
+      let reads : IsNetlist (texts_of b stem) w.result.net = w.netlist a b told tells in
+      record {
+        certificate = certified;
+        verifies = joined_runs_law metric bound limit input stem spent old new said says files_named d a b told tells;
+        approx = w.result.net;
+        netlist = reads;
+        the_same_ports = same_ports (texts_of b stem) w.result.net certified reads;
+        end_of_the_chain = end_reached metric d.exact bound limit w.result.net w.result.pool w.result.spent (sym w.is_spent ∙ none) w.right.search.outcome;
+      }
+
+  settled : (status : Status) → SynthAnswerAt metric bound limit input stem old new said says spent level status → status ≢ ReadFault → status ≢ WriteFault → status ≢ NoMemory
+      → spent ≡ None → level ≡ None → (a b : Held) → old.held ≡ Some a → new.held ≡ Some b → (exact : NetValue) → IsReadAs (bytes_of a input) exact
+      → (status ≡ Done) × AdmitsNoMore metric bound input stem exact b
+  settled Done answer read written memory none no_level a b told tells exact reads =
+      let same : answer.0.exact ≡ exact = one_net (bytes_of a input) answer.0.exact exact (answer.0.read.told a b told tells) reads in
+      (refl, subst (λ N. AdmitsNoMore metric bound input stem N b) same (admits a b answer.0 none told tells))
+  settled Budget answer read written memory none no_level a b told tells exact reads =
+      let bad : ◌≡◌ {A = Option SpentValue} (Some answer.0) None = sym answer.1 ∙ no_level in cc
+  settled (Text reason) answer read written memory none no_level a b told tells exact reads =
+      let bad : ◌≡◌ {A = Result NetValue Refusal} (Err answer.0.0) (Ok exact) = sym (answer.0.2.refused.told a b told tells) ∙ reads in cc
+  settled NoMemory answer read written memory none no_level a b told tells exact reads = absurd (memory refl)
+  settled ReadFault answer read written memory none no_level a b told tells exact reads = absurd (read refl)
+  settled WriteFault answer read written memory none no_level a b told tells exact reads = absurd (written refl)
+  settled Verified answer read written memory none no_level a b told tells exact reads = absurd answer
+  settled (Refuted number) answer read written memory none no_level a b told tells exact reads = absurd answer
+  settled Usage answer read written memory none no_level a b told tells exact reads = absurd answer
+  settled Endless answer read written memory none no_level a b told tells exact reads = absurd answer
+
+-- ---- what a spent query is
+
+module _ (metric : Metric) (exact : NetValue) (bound limit : ℕ) where
+  move_spent : (N : NetValue) (pool : List (List Bool)) (q : SpentValue) → IsInSimplification metric exact bound N → IsSpentMove metric exact bound limit N pool q
+      → AreSpentOn metric exact bound limit q
+  move_spent N pool q member s =
+      let among : Contains (s.before ++ s.move ∷ s.after) s.move = Contains-append_right s.before (s.move ∷ s.after) s.move (Contains-here s.move s.after) in
+      record {
+        level = omega (arith, s.level);
+        net = record { member = N; in_the_chain = member; at_most_a_move = inr (s.move, subst (λ l. Contains l s.move) (sym s.stands) among, s.net) };
+        query = s.query;
+      }
+
+  level_spent : (N : NetValue) (q : SpentValue) → IsInSimplification metric exact bound N → IsSpentLevel metric exact N bound limit q → AreSpentOn metric exact bound limit q
+  level_spent N q member s = record { level = s.level; net = record { member = N; in_the_chain = member; at_most_a_move = inl s.net }; query = s.query }
+
+  -- the query of the chain
+  of_chain : (N : NetValue) (pool : List (List Bool)) (told : Option SpentValue) (q : SpentValue) → IsInSimplification metric exact bound N → told ≡ Some q
+      → MatchOption told (IsShownEnd metric exact bound N pool) (IsSpentMove metric exact bound limit N pool) → AreSpentOn metric exact bound limit q
+  of_chain N pool None q member is h = let bad : ◌≡◌ {A = Option SpentValue} None (Some q) = is in cc
+  of_chain N pool (Some s) q member is h = let same : s ≡ q = cc is in subst (AreSpentOn metric exact bound limit) same (move_spent N pool s member h)
+
+  of_maximum : (spent : Option SpentValue) (s q : SpentValue) → MaximumSpent metric bound limit exact spent s → (spent ≡ Some q) ⊎ (s ≡ q) → AreSpentOn metric exact bound limit q
+  of_maximum spent s q m (inl is) = of_chain m.result.net m.result.pool m.result.spent q m.search.member (sym m.is_spent ∙ is) m.search.outcome
+  of_maximum spent s q m (inr same) = subst (AreSpentOn metric exact bound limit) same (level_spent m.result.net s m.search.member m.query)
+
+none_is : (q : SpentValue) (spent level : Option SpentValue) → NothingSpent spent level → (spent ≡ Some q) ⊎ (level ≡ Some q) → ⊥
+none_is q spent level nothing (inl is) = let bad : ◌≡◌ {A = Option SpentValue} None (Some q) = sym nothing.0 ∙ is in cc
+none_is q spent level nothing (inr is) = let bad : ◌≡◌ {A = Option SpentValue} None (Some q) = sym nothing.1 ∙ is in cc
+
+same_query : (spent level : Option SpentValue) (s q : SpentValue) → level ≡ Some s → (spent ≡ Some q) ⊎ (level ≡ Some q) → (spent ≡ Some q) ⊎ (s ≡ q)
+same_query spent level s q at (inl is) = inl is
+same_query spent level s q at (inr is) = inr (let both : ◌≡◌ {A = Option SpentValue} (Some s) (Some q) = sym at ∙ is in cc)
+
+abbrev SpentIn : Metric → ℕ → ℕ → Bytes → FilesTold → FilesTold → SpentValue → Type 0
+SpentIn metric bound limit input old new q = (exact : NetValue) × OfInput old new input (λ text. IsReadAs text exact) × AreSpentOn metric exact bound limit q
+
+spent_in : (metric : Metric) (bound limit : ℕ) (input stem : Bytes) (old new : FilesTold) (said says : SinkTold) (spent level : Option SpentValue) (status : Status) (q : SpentValue)
+    → SynthAnswerAt metric bound limit input stem old new said says spent level status → (spent ≡ Some q) ⊎ (level ≡ Some q) → SpentIn metric bound limit input old new q
+spent_in metric bound limit input stem old new said says spent level Done q (d, no_level) (inl is) =
+    let w = d.written in
+    (d.exact, d.read, of_chain metric d.exact bound limit w.result.net w.result.pool w.result.spent q w.right.search.member (sym w.is_spent ∙ is) w.right.search.outcome)
+spent_in metric bound limit input stem old new said says spent level Done q (d, no_level) (inr is) = let bad : ◌≡◌ {A = Option SpentValue} None (Some q) = sym no_level ∙ is in cc
+spent_in metric bound limit input stem old new said says spent level Budget q (s, at, b) is =
+    (b.exact, b.read, of_maximum metric b.exact bound limit spent s q b.search (same_query spent level s q at is))
+spent_in metric bound limit input stem old new said says spent level (Text reason) q answer is = absurd (none_is q spent level answer.1 is)
+spent_in metric bound limit input stem old new said says spent level NoMemory q answer is = absurd (none_is q spent level answer.1 is)
+spent_in metric bound limit input stem old new said says spent level ReadFault q answer is = absurd (none_is q spent level answer.1 is)
+spent_in metric bound limit input stem old new said says spent level WriteFault q answer is = absurd (none_is q spent level answer.1 is)
+spent_in metric bound limit input stem old new said says spent level Verified q answer is = absurd answer
+spent_in metric bound limit input stem old new said says spent level (Refuted number) q answer is = absurd answer
+spent_in metric bound limit input stem old new said says spent level Usage q answer is = absurd answer
+spent_in metric bound limit input stem old new said says spent level Endless q answer is = absurd answer
+
+pub headline-from : (words : List Bytes) (old new : FilesTold) (said says : SinkTold) (o : Outcome) → RunSays words old new said says o
+    → Headline words (o.status ≡ Verified) (o.status ≡ Done) (o.status ≡ NoMemory) (told_query o.spent) (told_query o.level) old new said says
+headline-from words old new said says o says_all = record {
+  when_check_verifies = λ metric bound input stem named verified.
+      let answer = says_all.answer (check metric bound input stem) named in
+      let v = verified_end o.status answer.0 answer.1 verified in
+      λ a b told tells. (v.exact, v.read.told a b told tells, keeps (v.shows a b told tells));
+  unless_conflicts_were_spent = λ metric bound conflicts input stem named quiet memory none no_level.
+      let answer = says_all.answer (synth metric bound conflicts input stem) named in
+      let well = quiet_ends metric bound conflicts input stem old new said says (told_query o.spent) (told_query o.level) o.status answer quiet in
+      λ a b told tells exact reads.
+      settled metric bound conflicts input stem (file_words_law.synthesis words metric bound conflicts input stem named) old new said says (told_query o.spent) (told_query o.level) o.status
+      answer well.read well.written memory none no_level a b told tells exact reads;
+  the_conflicts_that_were_spent = λ metric bound conflicts input stem named q is.
+      spent_in metric bound conflicts input stem old new said says (told_query o.spent) (told_query o.level) o.status q (says_all.answer (synth metric bound conflicts input stem) named) is;
+}

@@ -1,0 +1,8 @@
+pub mod InputReadings
+pub mod JobWords
+pub mod Parts
+pub mod BundleAnswers
+pub mod SynthAnswers
+pub mod CheckAnswers
+pub mod Runs
+pub mod Headlines

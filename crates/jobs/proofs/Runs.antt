@@ -1,0 +1,94 @@
+-- What every run says, job by job, and how a quiet one ends.
+use Rattle.std.proofs.Common.{◌≡◌, ◌≢◌, ℕ, List, Option, Some, None, refl, ap, sym, subst, ◌∙◌}
+use Rattle.semantics.specs.Texts.{Bytes}
+use Rattle.semantics.specs.Net.{NetValue}
+use Rattle.semantics.specs.declared.metric.Metric.{Metric}
+use Rattle.semantics.specs.declared.metric.Metric.TheVariants.{Abs}
+use Rattle.outside_semantics.specs.Outside.{FilesTold, SinkTold}
+use Rattle.proof_semantics.specs.Queries.{SpentValue}
+use Rattle.job_semantics.specs.Job.{Job, synth, check, demo, job_of}
+use Rattle.job_semantics.specs.Demo.{demo_net}
+use Rattle.job_semantics.specs.Demonstration.{demo_stem}
+use Rattle.jobs.specs.declared.status.Status.{Status}
+use Rattle.jobs.specs.declared.status.Status.TheVariants.{Done, Verified, Refuted, Usage, Text, NoMemory, Budget, ReadFault, WriteFault, Endless}
+use Rattle.jobs.specs.declared.status.Outcome.{Outcome}
+use Rattle.jobs.specs.Status.{told_query, SpendsAs, SpendsAsTold}
+use Rattle.jobs.specs.Run.{SynthAnswerAt, SynthAnswer, BundleAnswerAt, BundleAnswer, CheckAnswer, JobAnswer, RunSays, IsQuietJob, EndsAsAsked}
+use Rattle.jobs.proofs.BundleAnswers.{quiet_demo_ends}
+use Rattle.jobs.proofs.CheckAnswers.{check_spends_nothing, check_is_no_usage, quiet_check_ends}
+use Rattle.jobs.proofs.SynthAnswers.{quiet_ends}
+
+module _ (metric : Metric) (bound limit : ℕ) (input stem : Bytes) (old new : FilesTold) (said says : SinkTold) (spent level : Option SpentValue) where
+  synth_spends : (status : Status) → SynthAnswerAt metric bound limit input stem old new said says spent level status → SpendsAs spent level status
+  synth_spends Done answer = answer.1
+  synth_spends Budget answer = (answer.0, answer.1)
+  synth_spends (Text reason) answer = answer.1
+  synth_spends NoMemory answer = answer.1
+  synth_spends ReadFault answer = answer.1
+  synth_spends WriteFault answer = answer.1
+  synth_spends Verified answer = absurd answer
+  synth_spends (Refuted number) answer = absurd answer
+  synth_spends Usage answer = absurd answer
+  synth_spends Endless answer = absurd answer
+
+  synth_is_no_usage : (status : Status) → SynthAnswerAt metric bound limit input stem old new said says spent level status → status ≢ Usage
+  synth_is_no_usage status answer usage = subst (SynthAnswerAt metric bound limit input stem old new said says spent level) usage answer
+
+module _ (metric : Metric) (bound limit : ℕ) (exact : NetValue) (stem : Bytes) (old new : FilesTold) (said says : SinkTold) (spent level : Option SpentValue) where
+  bundle_spends : (status : Status) → BundleAnswerAt metric bound limit exact stem old new said says spent level status → SpendsAs spent level status
+  bundle_spends Done answer = answer.1
+  bundle_spends Budget answer = (answer.2, answer.3)
+  bundle_spends NoMemory answer = answer.2
+  bundle_spends WriteFault answer = answer.1
+  bundle_spends Verified answer = absurd answer
+  bundle_spends (Refuted number) answer = absurd answer
+  bundle_spends Usage answer = absurd answer
+  bundle_spends (Text reason) answer = absurd answer
+  bundle_spends ReadFault answer = absurd answer
+  bundle_spends Endless answer = absurd answer
+
+  bundle_is_no_usage : (status : Status) → BundleAnswerAt metric bound limit exact stem old new said says spent level status → status ≢ Usage
+  bundle_is_no_usage status answer usage = subst (BundleAnswerAt metric bound limit exact stem old new said says spent level) usage answer
+
+module _ {words : List Bytes} {old new : FilesTold} {said says : SinkTold} where
+  job_says : (job : Job) (o : Outcome) → job_of words ≡ Some job → o.status ≢ Usage → SpendsAsTold o → JobAnswer job old new said says o → RunSays words old new said says o
+  job_says job o named no_usage spends answer = record {
+    usage = ((λ usage. absurd (no_usage usage)), (λ none. let bad : ◌≡◌ {A = Option Job} None (Some job) = sym none ∙ named in cc));
+    spent = spends;
+    answer = λ other is.
+        let same : job ≡ other = let both : ◌≡◌ {A = Option Job} (Some job) (Some other) = sym named ∙ is in cc in
+        subst (λ j. JobAnswer j old new said says o) same answer;
+  }
+
+  pub no_job-says : (o : Outcome) → o ≡ record { status = Usage; spent = None; level = None } → job_of words ≡ None → RunSays words old new said says o
+  no_job-says o is none = subst (RunSays words old new said says) (sym is) (record {
+    usage = ((λ usage. none), (λ nothing. refl));
+    spent = (refl, refl);
+    answer = λ job named. let bad : ◌≡◌ {A = Option Job} None (Some job) = sym none ∙ named in cc;
+  })
+
+  pub synth-says : {metric : Metric} {bound limit : ℕ} {input stem : Bytes} (o : Outcome) → job_of words ≡ Some (synth metric bound limit input stem)
+      → SynthAnswer metric bound limit input stem old new said says o → RunSays words old new said says o
+  synth-says {metric} {bound} {limit} {input} {stem} o named answer =
+      job_says (synth metric bound limit input stem) o named (synth_is_no_usage metric bound limit input stem old new said says (told_query o.spent) (told_query o.level) o.status answer)
+      (synth_spends metric bound limit input stem old new said says (told_query o.spent) (told_query o.level) o.status answer) answer
+
+  pub check-says : {metric : Metric} {bound : ℕ} {input stem : Bytes} (o : Outcome) (status : Status) → o ≡ record { status = status; spent = None; level = None }
+      → job_of words ≡ Some (check metric bound input stem) → CheckAnswer metric bound input stem old new said says status → RunSays words old new said says o
+  check-says {metric} {bound} {input} {stem} o status is named answer = subst (RunSays words old new said says) (sym is)
+      (job_says (check metric bound input stem) (record { status = status; spent = None; level = None }) named (check_is_no_usage status answer.0 answer.1)
+      (check_spends_nothing status answer.0 answer.1) answer)
+
+  pub demo-says : {width bound limit : ℕ} (o : Outcome) → job_of words ≡ Some (demo width bound limit)
+      → BundleAnswer Abs bound limit (demo_net width) demo_stem old new said says o → RunSays words old new said says o
+  demo-says {width} {bound} {limit} o named answer =
+      job_says (demo width bound limit) o named (bundle_is_no_usage Abs bound limit (demo_net width) demo_stem old new said says (told_query o.spent) (told_query o.level) o.status answer)
+      (bundle_spends Abs bound limit (demo_net width) demo_stem old new said says (told_query o.spent) (told_query o.level) o.status answer) answer
+
+-- a quiet run ends as it was asked to
+pub quiet_job_ends : (job : Job) (old new : FilesTold) (said says : SinkTold) (o : Outcome) → JobAnswer job old new said says o → IsQuietJob job old new said says → EndsAsAsked job old o
+quiet_job_ends (synth metric bound conflicts input stem) old new said says o answer quiet =
+    quiet_ends metric bound conflicts input stem old new said says (told_query o.spent) (told_query o.level) o.status answer quiet
+quiet_job_ends (check metric bound input stem) old new said says o answer quiet = quiet_check_ends o.status answer.0 answer.1 quiet
+quiet_job_ends (demo width bound conflicts) old new said says o answer quiet =
+    quiet_demo_ends Abs bound conflicts (demo_net width) old new said says (told_query o.spent) (told_query o.level) o.status answer quiet

@@ -1,0 +1,177 @@
+-- What a synth job comes to, from the reading of IN and what is made of its net.
+use Rattle.std.proofs.Common.{◌≡◌, ◌≢◌, ℕ, true, false, Option, None, [], inl, inr, refl, sym, subst}
+use Rattle.semantics.specs.Texts.{Bytes}
+use Rattle.semantics.specs.Net.{NetValue}
+use Rattle.semantics.specs.declared.metric.Metric.{Metric}
+use Rattle.outside_semantics.specs.Outside.{FilesTold, SinkTold, Goes, bytes_of}
+use Rattle.outside_semantics.specs.WrittenFiles.{FilesWritten}
+use Rattle.blif_semantics.specs.Reading.{input_limit, blif_reading}
+use Rattle.file_core.proofs.Told.{held_before}
+use Rattle.proof_semantics.specs.Queries.{SpentValue}
+use Rattle.job_semantics.specs.Certificate.{Texts, OfBundle, IsNetlist, Certifies}
+use Rattle.job_semantics.specs.Synthesis.{WhereHeld, OfInput, IsUntouched, BundleWritten, BundleCutShort, SynthReadFault, SynthWriteFault, CountsAsAccepted, IsQuietSynth}
+use Rattle.job_semantics.specs.Input.{IsReadAs}
+use Rattle.bundle.proofs.FilesInOrder.{FilesWritten-then, FilesCutShort-after}
+use Rattle.jobs.specs.declared.status.Status.{Status}
+use Rattle.jobs.specs.declared.status.Status.TheVariants.{Done, Verified, Refuted, Usage, Text, NoMemory, Budget, ReadFault, WriteFault, Endless}
+use Rattle.jobs.specs.declared.status.Outcome.{Outcome}
+use Rattle.jobs.specs.declared.input.NoNet.{NoNet}
+use Rattle.jobs.specs.declared.input.NoNet.TheVariants as none
+use Rattle.jobs.specs.Status.{told_query, status_without_net}
+use Rattle.jobs.specs.Input.{NetRead, NetRefused}
+use Rattle.jobs.specs.Run.{SynthAnswerAt, SynthAnswer, BundleAnswerAt, BundleAnswer, IsAnswerTo, EndsWell}
+use Rattle.jobs.proofs.InputReadings.{OfInput-later}
+use Rattle.jobs.proofs.BundleAnswers.{enough_spends_nothing, not_quiet_cut}
+
+-- nothing was written while IN was read
+none_written : {old mid : FilesTold} {input : Bytes} {N : NetValue} → NetRead old mid input N → FilesWritten old mid []
+none_written was = record { goes = was.stay.goes; held = was.stay.stays }
+
+untouched : {old mid : FilesTold} {input : Bytes} {N : NetValue} {said : SinkTold} → NetRead old mid input N → (new : FilesTold) (says : SinkTold) → new ≡ mid → says ≡ said
+    → IsUntouched input old new said says
+untouched {old} {mid} {input} {N} {said} was new says same quiet =
+    subst (λ n. IsUntouched input old n said says) (sym same) (record {
+      goes = was.stay.goes;
+      files = was.stay.stays;
+      still_told = was.stay.still_told;
+      sink = quiet;
+    })
+
+read_later : {old mid new : FilesTold} {input : Bytes} {N : NetValue} → NetRead old mid input N → Goes mid new → OfInput old new input (λ text. IsReadAs text N)
+read_later {N = N} was goes = OfInput-later (λ text. IsReadAs text N) goes was.read
+
+-- what is said of the bundle's texts from the reading of IN on
+since : (stem : Bytes) (old mid new : FilesTold) (P : Texts → Type 0) → Goes mid new → OfBundle mid new stem P → OfBundle old new stem P
+since stem old mid new P goes h = λ a b told tells. let m = held_before mid new goes b tells in h m.0 b m.1 tells
+
+written_since : {metric : Metric} {bound limit : ℕ} {input stem : Bytes} {old mid new : FilesTold} {said says : SinkTold} {N : NetValue} {spent : Option SpentValue}
+    → NetRead old mid input N → BundleWritten metric bound limit N stem spent mid new said says → BundleWritten metric bound limit N stem spent old new said says
+written_since {metric} {bound} {limit} {input} {stem} {old} {mid} {new} {said} {says} {N} {spent} read w = record {
+  result = w.result;
+  log = w.log;
+  right = w.right;
+  is_spent = w.is_spent;
+  refuted = w.refuted;
+  files = FilesWritten-then (none_written read) w.files;
+  report = w.report;
+  netlist = since stem old mid new (λ texts. IsNetlist texts w.result.net) w.files.goes w.netlist;
+  certificate = since stem old mid new (Certifies N metric bound) w.files.goes w.certificate;
+}
+
+cut_since : {metric : Metric} {bound limit : ℕ} {input stem : Bytes} {old mid new : FilesTold} {said says : SinkTold} {N : NetValue}
+    → NetRead old mid input N → BundleCutShort metric bound limit N stem mid new said says → BundleCutShort metric bound limit N stem old new said says
+cut_since read c = record {
+  result = c.result;
+  log = c.log;
+  right = c.right;
+  refuted = c.refuted;
+  left = elim c.left [
+    | inl cut ↦ inl (FilesCutShort-after (none_written read) cut.0, cut.1)
+    | inr put ↦ inr (FilesWritten-then (none_written read) put.0, put.1)
+  ];
+}
+
+goes_cut : {metric : Metric} {bound limit : ℕ} {stem : Bytes} {mid new : FilesTold} {said says : SinkTold} {N : NetValue} → BundleCutShort metric bound limit N stem mid new said says → Goes mid new
+goes_cut c = elim c.left [ inl cut ↦ cut.0.goes | inr put ↦ put.0.goes ]
+
+-- IN gives no net
+synth-no_net : (metric : Metric) (bound limit : ℕ) (input stem : Bytes) (old new : FilesTold) (said : SinkTold) (reason : NoNet) → NetRefused old new input reason
+    → SynthAnswerAt metric bound limit input stem old new said said None None (status_without_net reason)
+synth-no_net metric bound limit input stem old new said (none.Refused reason) (refusal, told, r) = (
+  (refusal, told, record { untouched = record { goes = r.stay.goes; files = r.stay.stays; still_told = r.stay.still_told; sink = refl }; held = r.held; refused = r.refused }),
+  (refl, refl),
+)
+synth-no_net metric bound limit input stem old new said none.Fault failed = (
+  record {
+    untouched = record { goes = failed.stay.goes; files = failed.stay.stays; still_told = failed.stay.still_told; sink = refl };
+    rose = failed.rose;
+    not_steady = failed.not_steady;
+  },
+  (refl, refl),
+)
+synth-no_net metric bound limit input stem old new said none.OutOfMemory stay = (record { goes = stay.goes; files = stay.stays; still_told = stay.still_told; sink = refl }, (refl, refl))
+
+pub synth_answer-no_net : (metric : Metric) (bound limit : ℕ) (input stem : Bytes) (old new : FilesTold) (said : SinkTold) (reason : NoNet) (o : Outcome)
+    → o ≡ record { status = status_without_net reason; spent = None; level = None } → NetRefused old new input reason → SynthAnswer metric bound limit input stem old new said said o
+synth_answer-no_net metric bound limit input stem old new said reason o is refused =
+    subst (SynthAnswer metric bound limit input stem old new said said) (sym is) (synth-no_net metric bound limit input stem old new said reason refused)
+
+pub SynthAnswer-from : (metric : Metric) (bound limit : ℕ) (input stem : Bytes) (old mid new : FilesTold) (said says : SinkTold) (N : NetValue) (spent level : Option SpentValue) (status : Status)
+    → NetRead old mid input N → BundleAnswerAt metric bound limit N stem mid new said says spent level status
+    → SynthAnswerAt metric bound limit input stem old new said says spent level status
+SynthAnswer-from metric bound limit input stem old mid new said says N spent level Done read answer =
+    (record { exact = N; read = read_later read answer.0.files.goes; written = written_since read answer.0 }, answer.1)
+SynthAnswer-from metric bound limit input stem old mid new said says N spent level Budget read answer = (
+  answer.2,
+  answer.3,
+  record {
+    untouched = untouched read new says answer.0 answer.1;
+    exact = N;
+    read = subst (λ n. OfInput old n input (λ text. IsReadAs text N)) (sym answer.0) read.read;
+    search = answer.4;
+  },
+)
+SynthAnswer-from metric bound limit input stem old mid new said says N spent level NoMemory read answer = (untouched read new says answer.0 answer.1, answer.2)
+SynthAnswer-from metric bound limit input stem old mid new said says N spent level WriteFault read answer =
+    (record { exact = N; read = read_later read (goes_cut answer.0); left = cut_since read answer.0 }, answer.1)
+SynthAnswer-from metric bound limit input stem old mid new said says N spent level Verified read answer = answer
+SynthAnswer-from metric bound limit input stem old mid new said says N spent level (Refuted number) read answer = answer
+SynthAnswer-from metric bound limit input stem old mid new said says N spent level Usage read answer = answer
+SynthAnswer-from metric bound limit input stem old mid new said says N spent level (Text reason) read answer = absurd answer
+SynthAnswer-from metric bound limit input stem old mid new said says N spent level ReadFault read answer = absurd answer
+SynthAnswer-from metric bound limit input stem old mid new said says N spent level Endless read answer = answer
+
+pub SynthAnswer-of : (metric : Metric) (bound limit : ℕ) (input stem : Bytes) {names : Bytes} {old mid : FilesTold} (new : FilesTold) (said says : SinkTold) {N : NetValue} (o : Outcome)
+    → names ≡ stem → NetRead old mid input N → BundleAnswer metric bound limit N names mid new said says o → SynthAnswer metric bound limit input stem old new said says o
+SynthAnswer-of metric bound limit input stem {names} {old} {mid} new said says {N} o same read answer =
+    SynthAnswer-from metric bound limit input stem old mid new said says N (told_query o.spent) (told_query o.level) o.status read
+    (subst (λ s. BundleAnswer metric bound limit N s mid new said says o) same answer)
+
+-- what could not be written is read as some net
+accepted_at_fault : {metric : Metric} {bound limit : ℕ} {input stem : Bytes} {old new : FilesTold} {said says : SinkTold}
+    → SynthWriteFault metric bound limit input stem old new said says → CountsAsAccepted old new input
+accepted_at_fault fault = λ a b told tells. (fault.exact, fault.read.told a b told tells)
+
+-- a call with a fault in writing is not quiet
+not_quiet : {metric : Metric} {bound limit : ℕ} {input stem : Bytes} {old new : FilesTold} {said says : SinkTold}
+    → SynthWriteFault metric bound limit input stem old new said says → IsQuietSynth input stem old new said says → ⊥
+not_quiet {metric} {bound} {limit} {input} {stem} {old} {new} fault quiet =
+    elim quiet.files [
+      | inl calm ↦ not_quiet_cut fault.left (inl calm) quiet.sink
+      | inr steady ↦ not_quiet_cut fault.left (inr (steady.written (accepted_at_fault fault))) quiet.sink
+    ]
+
+-- nor is one with a fault in reading
+not_quiet_read : {input stem : Bytes} {old new : FilesTold} {said says : SinkTold}
+    → SynthReadFault input old new said says → IsQuietSynth input stem old new said says → ⊥
+not_quiet_read {input} {stem} {old} fault quiet =
+    elim quiet.files [
+      | inl calm ↦ calm fault.rose
+      | inr steady ↦ let yes : old.steady_read input ≡ true = steady.read in let no : old.steady_read input ≡ false = fault.not_steady in cc
+    ]
+
+-- an answer without a fault is the one that the reading of IN and the conflicts ask for
+answers_reading : (metric : Metric) (bound limit : ℕ) (input stem : Bytes) (old new : FilesTold) (said says : SinkTold) (spent level : Option SpentValue) (status : Status)
+    → SynthAnswerAt metric bound limit input stem old new said says spent level status → status ≢ ReadFault → status ≢ WriteFault
+    → WhereHeld old input (λ a. IsAnswerTo limit spent (blif_reading (bytes_of a input) input_limit) status)
+answers_reading metric bound limit input stem old new said says spent level Done answer read written =
+    λ a told has. (answer.0.exact, answer.0.read.at_entry a told has, enough_spends_nothing answer.0.written)
+answers_reading metric bound limit input stem old new said says spent level Budget answer read written =
+    λ a told has. (answer.2.exact, answer.2.read.at_entry a told has, answer.2.search.query.query.not_enough)
+answers_reading metric bound limit input stem old new said says spent level (Text reason) answer read written =
+    λ a told has. (answer.0.0, answer.0.2.refused.at_entry a told has, answer.0.1)
+answers_reading metric bound limit input stem old new said says spent level NoMemory answer read written = λ a told has. tt
+answers_reading metric bound limit input stem old new said says spent level ReadFault answer read written = absurd (read refl)
+answers_reading metric bound limit input stem old new said says spent level WriteFault answer read written = absurd (written refl)
+answers_reading metric bound limit input stem old new said says spent level Verified answer read written = absurd answer
+answers_reading metric bound limit input stem old new said says spent level (Refuted number) answer read written = absurd answer
+answers_reading metric bound limit input stem old new said says spent level Usage answer read written = absurd answer
+answers_reading metric bound limit input stem old new said says spent level Endless answer read written = absurd answer
+
+-- a quiet call has no fault, and is answered as the reading of IN and the conflicts ask
+pub quiet_ends : (metric : Metric) (bound limit : ℕ) (input stem : Bytes) (old new : FilesTold) (said says : SinkTold) (spent level : Option SpentValue) (status : Status)
+    → SynthAnswerAt metric bound limit input stem old new said says spent level status → IsQuietSynth input stem old new said says → EndsWell (IsAnswerTo limit spent) input old status
+quiet_ends metric bound limit input stem old new said says spent level status answer quiet =
+    let no_read : status ≢ ReadFault = λ is. not_quiet_read (subst (SynthAnswerAt metric bound limit input stem old new said says spent level) is answer).0 quiet in
+    let no_write : status ≢ WriteFault = λ is. not_quiet (subst (SynthAnswerAt metric bound limit input stem old new said says spent level) is answer).0 quiet in
+    record { read = no_read; written = no_write; answers = answers_reading metric bound limit input stem old new said says spent level status answer no_read no_write }

@@ -1,0 +1,12 @@
+use Rattle.std.proofs.Common.{subst}
+use Rattle.worst_case.specs.Maximum.{IsMaximumAnswer}
+use Rattle.jobs.proofs.Parts.{found_net}
+use Rattle.jobs.proofs.preparing.prepare.Goals as goal
+
+pub maximum-requires-clause-ports : goal.maximum-requires-clause-ports
+maximum-requires-clause-ports c =
+    (found_net c.args.aim.metric c.args.exact c.args.aim.bound c.args.aim.limit _ c.see_sound.ensures c.in_ok-shrunk.ensures.shrinking).ports
+
+pub maximum-requires-clause-within : goal.maximum-requires-clause-within
+maximum-requires-clause-within c =
+    (found_net c.args.aim.metric c.args.exact c.args.aim.bound c.args.aim.limit _ c.see_sound.ensures c.in_ok-shrunk.ensures.shrinking).within

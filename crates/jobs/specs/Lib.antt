@@ -1,0 +1,6 @@
+pub mod Words
+pub mod Input
+pub mod Status
+pub mod Prepared
+pub mod Delivered
+pub mod Run

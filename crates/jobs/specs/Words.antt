@@ -1,0 +1,17 @@
+-- The job of the definitions that a command of this crate stands for.
+use Rattle.std.specs.Prelude.{◌≤◌}
+use Rattle.semantics.specs.declared.limits.TheConstants.{LARGEST_ERROR}
+use Rattle.jobs.specs.declared.words.Command.{Command}
+use Rattle.jobs.specs.declared.words.Command.TheVariants.{Synth, Check, Demo}
+use Rattle.job_semantics.specs.Job as words
+
+abbrev pub job_meaning : Command → words.Job
+job_meaning (Synth metric bound conflicts input stem) = words.synth metric bound conflicts input.now stem.now
+job_meaning (Check metric bound input stem) = words.check metric bound input.now stem.now
+job_meaning (Demo width bound conflicts) = words.demo width bound conflicts
+
+-- the numbers of a job are in their ranges
+abbrev pub HasRanges : Command → Type 0
+HasRanges (Synth metric bound conflicts input stem) = (bound ≤ LARGEST_ERROR) × (1 ≤ conflicts)
+HasRanges (Check metric bound input stem) = bound ≤ LARGEST_ERROR
+HasRanges (Demo width bound conflicts) = (bound ≤ LARGEST_ERROR) × (1 ≤ conflicts) × (1 ≤ width) × (width ≤ 32)

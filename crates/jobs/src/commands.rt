@@ -1,0 +1,60 @@
+//! The jobs by their words, and what each of their answers says.
+ghost use Rattle.std.specs.Prelude.{◌≡◌};
+ghost use Rattle.jobs.specs.Run.{RunSays};
+
+use crate::checking::check;
+use crate::demonstration::demonstrate;
+use crate::preparing::Constraint;
+use crate::status::{Outcome, Status, only};
+use crate::synthesis::synthesize;
+use crate::words::{Command, command_named};
+use file_core::files::Files;
+use file_core::sink::Sink;
+use file_core::word::Word;
+use std::alloc::Global;
+
+/// Carries out the job that the words name.
+pub fn carry_out<F: Files, K: Sink>(
+    alloc: Global,
+    words: &[Word],
+    files: &mut F,
+    say: &mut K,
+) -> Outcome
+    ensures says { RunSays words.now (F.told files.old) (F.told files.new) (K.told say.old) (K.told say.new) result }
+    ensures usage_touches_nothing { result.status ≡ Status.Usage → (files.new ≡ files.old) × (say.new ≡ say.old) }
+{
+    match command_named(words) {
+        None => only(Status::Usage),
+        Some(
+            Command::Synth {
+                metric,
+                bound,
+                conflicts,
+                input,
+                stem,
+            },
+        ) => {
+            let aim = Constraint {
+                metric,
+                bound,
+                limit: u64::from(conflicts),
+            };
+            synthesize(alloc, aim, input, stem, files, say)
+        }
+        Some(
+            Command::Check {
+                metric,
+                bound,
+                input,
+                stem,
+            },
+        ) => only(check(alloc, metric, bound, input, stem, files)),
+        Some(
+            Command::Demo {
+                width,
+                bound,
+                conflicts,
+            },
+        ) => demonstrate(alloc, width, bound, u64::from(conflicts), files, say),
+    }
+}

@@ -1,0 +1,87 @@
+//! The top call: what the program does with its words, its files and its standard output.
+ghost use Rattle.std.specs.Prelude.{◌≡◌, ◌≢◌, ℕ, true, IsTrue, Some};
+ghost use Rattle.std.specs.FinMap.{contains_key};
+ghost use Rattle.outside_semantics.specs.Outside.{bytes_of};
+ghost use Rattle.blif_semantics.specs.Reading.{input_limit, blif_reading};
+ghost use Rattle.semantics.specs.Texts.{Bytes};
+ghost use Rattle.semantics.specs.Net.{input_count};
+ghost use Rattle.semantics.specs.declared.metric.Metric.{Metric};
+ghost use Rattle.job_semantics.specs.Headline.{Headline};
+ghost use Rattle.job_semantics.specs.Job.{Job, synth, check, demo, job_of};
+ghost use Rattle.job_semantics.specs.Demo.{demo_net};
+ghost use Rattle.file_core.specs.Sure.{sure_told, sure_sink_told};
+ghost use Rattle.jobs.specs.Status.{told_query};
+ghost use Rattle.jobs.specs.Run.{RunSays, IsQuietJob, EndsAsAsked, IsAnswerTo, IsCheckAnswerTo, IsWorkOf};
+
+use crate::commands::carry_out;
+use crate::status::{Outcome, Status};
+use file_core::files::Files;
+use file_core::sink::Sink;
+use file_core::sure_files::SureFiles;
+use file_core::sure_sink::SureSink;
+use file_core::word::Word;
+use std::alloc::Global;
+
+/// Carries out the job that the words name.
+pub fn run<F: Files, K: Sink>(alloc: Global, words: &[Word], files: &mut F, say: &mut K) -> Outcome
+    // When `check` verifies a bundle it keeps its promise; unless conflicts were spent, an accepted netlist gets a bundle that verifies.
+    ensures headline { Headline
+        words.now
+        (result.status ≡ Status.Verified)
+        (result.status ≡ Status.Done)
+        (result.status ≡ Status.NoMemory)
+        (told_query result.spent)
+        (told_query result.level)
+        (F.told files.old)
+        (F.told files.new)
+        (K.told say.old)
+        (K.told say.new) }
+
+    // What each answer says.
+    ensures says { RunSays words.now (F.told files.old) (F.told files.new) (K.told say.old) (K.told say.new) result }
+    ensures usage_touches_nothing { result.status ≡ Status.Usage → (files.new ≡ files.old) × (say.new ≡ say.old) }
+
+    // A quiet call has no fault, and ends as the reading of IN and the conflicts ask, unless memory is wanting.
+    ensures complete { (job : Job) → job_of words.now ≡ Some job
+        → IsQuietJob job (F.told files.old) (F.told files.new) (K.told say.old) (K.told say.new)
+        → EndsAsAsked job (F.told files.old) result }
+{
+    carry_out(alloc, words, files, say)
+}
+
+/// A run over files and a sink that never fail: no fault is answered, and each job ends as its net and its conflicts ask.
+pub fn run_surely(
+    alloc: Global,
+    words: &[Word],
+    files: &mut SureFiles,
+    say: &mut SureSink,
+) -> Outcome
+    ensures headline { Headline
+        words.now
+        (result.status ≡ Status.Verified)
+        (result.status ≡ Status.Done)
+        (result.status ≡ Status.NoMemory)
+        (told_query result.spent)
+        (told_query result.level)
+        (sure_told files.old)
+        (sure_told files.new)
+        sure_sink_told
+        sure_sink_told }
+    ensures says { RunSays words.now (sure_told files.old) (sure_told files.new) sure_sink_told sure_sink_told result }
+    ensures usage_touches_nothing { result.status ≡ Status.Usage → (files.new ≡ files.old) × (say.new ≡ say.old) }
+    ensures read { result.status ≢ Status.ReadFault }
+    ensures write { result.status ≢ Status.WriteFault }
+    ensures answers { (metric : Metric) (bound conflicts : ℕ) (input stem : Bytes)
+        → job_of words.now ≡ Some (synth metric bound conflicts input stem)
+        → files.old.told ≡ true → IsTrue (contains_key files.old.given input)
+        → IsAnswerTo conflicts (told_query result.spent) (blif_reading (bytes_of files.old.given input) input_limit) result.status }
+    ensures check_answers { (metric : Metric) (bound : ℕ) (input stem : Bytes)
+        → job_of words.now ≡ Some (check metric bound input stem)
+        → files.old.told ≡ true → IsTrue (contains_key files.old.given input)
+        → IsCheckAnswerTo (blif_reading (bytes_of files.old.given input) input_limit) result.status }
+    ensures demo_answers { (width bound conflicts : ℕ)
+        → job_of words.now ≡ Some (demo width bound conflicts)
+        → IsWorkOf conflicts (input_count (demo_net width)) (told_query result.spent) result.status }
+{
+    run(alloc, words, files, say)
+}

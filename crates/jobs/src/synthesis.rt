@@ -1,0 +1,46 @@
+//! A synth job: IN is read and simplified, and its bundle is written.
+ghost use Rattle.std.specs.Prelude.{◌≤◌};
+ghost use Rattle.jobs.specs.Run.{SynthAnswer};
+
+use crate::delivery::finish;
+use crate::input::{answer_without_net, read_net};
+use crate::preparing::Constraint;
+use crate::status::{Outcome, Status, only};
+use bundle::stem::Stem;
+use file_core::files::Files;
+use file_core::sink::Sink;
+use semantics::limits::LARGEST_ERROR;
+use std::alloc::Global;
+
+/// Carries out a synth job.
+pub fn synthesize<F: Files, K: Sink>(
+    alloc: Global,
+    aim: Constraint,
+    input: &[u8],
+    stem: &[u8],
+    files: &mut F,
+    say: &mut K,
+) -> Outcome
+    requires bound { aim.bound ≤ LARGEST_ERROR }
+    requires limit { 1 ≤ aim.limit }
+    ensures { SynthAnswer
+        aim.metric
+        aim.bound
+        aim.limit
+        input.now
+        stem.now
+        (F.told files.old)
+        (F.told files.new)
+        (K.told say.old)
+        (K.told say.new)
+        result }
+{
+    let exact = match read_net(alloc, files, input) {
+        Ok(net) => net,
+        Err(reason) => return only(answer_without_net(reason)),
+    };
+    let Ok(names) = Stem::new(alloc, stem) else {
+        return only(Status::NoMemory);
+    };
+    finish(alloc, exact, aim, &names, files, say)
+}

@@ -1,0 +1,140 @@
+//! The words of the command line, and the job that they name.
+ghost use Rattle.std.specs.Prelude.{◌≡◌, option_map, IfSome};
+ghost use Rattle.job_semantics.specs.Job.{job_of, synth_of, check_of, demo_of, metric_of, bound_of, conflicts_of, are_file_words};
+ghost use Rattle.jobs.specs.Words.{job_meaning, HasRanges};
+
+use crate::bundle_names::is_bundle_name;
+use decimal_words::decimal::number_from_to;
+use file_core::word::Word;
+use semantics::limits::LARGEST_ERROR;
+use semantics::metric::Metric;
+
+/// A job with its values. `input` and `stem` are names of files.
+#[derive(Clone, Copy, Debug)]
+pub enum Command<'a> {
+    Synth {
+        metric: Metric,
+        bound: u128,
+        conflicts: u32,
+        input: &'a [u8],
+        stem: &'a [u8],
+    },
+    Check {
+        metric: Metric,
+        bound: u128,
+        input: &'a [u8],
+        stem: &'a [u8],
+    },
+    Demo {
+        width: u32,
+        bound: u128,
+        conflicts: u32,
+    },
+}
+
+fn metric(word: &[u8]) -> Option<Metric>
+    ensures { result ≡ metric_of word.now }
+{
+    if word == b"abs".as_slice() {
+        Some(Metric::Abs)
+    } else if word == b"rel".as_slice() {
+        Some(Metric::Rel)
+    } else if word == b"ham".as_slice() {
+        Some(Metric::Ham)
+    } else if word == b"sabs".as_slice() {
+        Some(Metric::Sabs)
+    } else {
+        None
+    }
+}
+
+fn are_file_words(input: &[u8], stem: &[u8]) -> bool
+    ensures { result ≡ are_file_words input.now stem.now }
+{
+    !input.is_empty() && !stem.is_empty() && !is_bundle_name(stem, input)
+}
+
+#[tactic(auto, using(crate::proofs::JobWords::number_within))]
+fn synth(words: &[Word]) -> Option<Command<'_>>
+    ensures job { option_map job_meaning result ≡ synth_of words.now }
+    ensures ranges { IfSome result HasRanges }
+{
+    let [metric_word, bound_word, conflicts_word, input, stem] = words else {
+        return None;
+    };
+    let metric = metric(metric_word.bytes())?;
+    let bound = number_from_to(bound_word.bytes(), 0, LARGEST_ERROR)?;
+    let conflicts = number_from_to(conflicts_word.bytes(), 1, 100_000)?;
+    let input = input.bytes();
+    let stem = stem.bytes();
+    if !are_file_words(input, stem) {
+        return None;
+    }
+    Some(Command::Synth {
+        metric,
+        bound,
+        conflicts: conflicts as u32,
+        input,
+        stem,
+    })
+}
+
+#[tactic(auto, using(crate::proofs::JobWords::number_within))]
+fn check(words: &[Word]) -> Option<Command<'_>>
+    ensures job { option_map job_meaning result ≡ check_of words.now }
+    ensures ranges { IfSome result HasRanges }
+{
+    let [metric_word, bound_word, input, stem] = words else {
+        return None;
+    };
+    let metric = metric(metric_word.bytes())?;
+    let bound = number_from_to(bound_word.bytes(), 0, LARGEST_ERROR)?;
+    let input = input.bytes();
+    let stem = stem.bytes();
+    if !are_file_words(input, stem) {
+        return None;
+    }
+    Some(Command::Check {
+        metric,
+        bound,
+        input,
+        stem,
+    })
+}
+
+#[tactic(auto, using(crate::proofs::JobWords::number_within))]
+fn demo(words: &[Word]) -> Option<Command<'_>>
+    ensures job { option_map job_meaning result ≡ demo_of words.now }
+    ensures ranges { IfSome result HasRanges }
+{
+    let [width_word, bound_word, conflicts_word] = words else {
+        return None;
+    };
+    let width = number_from_to(width_word.bytes(), 1, 32)?;
+    let bound = number_from_to(bound_word.bytes(), 0, LARGEST_ERROR)?;
+    let conflicts = number_from_to(conflicts_word.bytes(), 1, 100_000)?;
+    Some(Command::Demo {
+        width: width as u32,
+        bound,
+        conflicts: conflicts as u32,
+    })
+}
+
+/// The job that the words name, if they name one. It takes no memory.
+#[tactic(auto, unfolding(job_semantics::specs::Job::job_of))]
+pub fn command_named(words: &[Word]) -> Option<Command<'_>>
+    ensures job { option_map job_meaning result ≡ job_of words.now }
+    ensures ranges { IfSome result HasRanges }
+{
+    let (command, rest) = words.split_first()?;
+    let command = command.bytes();
+    if command == b"synth".as_slice() {
+        synth(rest)
+    } else if command == b"check".as_slice() {
+        check(rest)
+    } else if command == b"demo".as_slice() {
+        demo(rest)
+    } else {
+        None
+    }
+}

@@ -1,8 +1,0 @@
-use Rattle.joint_net.specs.Metric.{meaning}
-use Rattle.salsa_cli.proofs.SynthAnswers.{SynthAnswer-of}
-use Rattle.salsa_cli.proofs.synthesis.synthesize.Goals as goal
-
-pub returns : goal.returns
-returns g c =
-    SynthAnswer-of (meaning c.args.aim.metric) c.args.aim.bound c.args.aim.limit c.args.input.now c.args.stem.now (g.F.Files.told c.finish.new.files) (g.K.Sink.told c.args.say.now)
-    (g.K.Sink.told c.finish.new.say) c.finish.result c.in-Ok-new.ensures c.in-Ok.ensures.ok c.finish.ensures

@@ -1,0 +1,15 @@
+//! Worked runs of the jobs over files in memory. There is nothing here but tests.
+#![tactic(auto)]
+
+#[cfg(test)]
+mod checked;
+#[cfg(test)]
+mod faults;
+#[cfg(test)]
+mod parts;
+#[cfg(test)]
+mod refused;
+#[cfg(test)]
+mod simplified;
+#[cfg(test)]
+mod statuses;
