@@ -10,9 +10,8 @@ ghost use Rattle.bundle_texts.specs.Reading.{report_read};
 use crate::stem::Stem;
 use bundle_texts::report_reading::ReportRead;
 use cnf_core::cnf::Cnf;
-use cnf_core::of_net::of_goal;
-use joint_net::joint::joint;
 use lane_bits::patterns::Patterns;
+use miter::level::miter_of;
 use net_core::net::Net;
 use net_errors::compared::Compared;
 use semantics::metric::Metric;
@@ -54,8 +53,8 @@ pub(crate) fn miter(
     requires few_outputs { length exact.now.outputs ≤ 64 }
     ensures { IfOk result (λ f. f ≡ miter exact.now approx.now metric level) }
 {
-    let net = joint(alloc, exact, approx, metric, level)?;
-    of_goal(alloc, &net)
+    let nets = Compared::new(exact, approx);
+    miter_of(alloc, &nets, metric, level)
 }
 
 /// The error at one input vector.
