@@ -1,5 +1,5 @@
 -- How the test of each move goes on: the moves that are left decide.
-use Rattle.std.proofs.Common.{◌≡◌, ℕ, Bool, true, false, Option, Some, None, List, [], ◌∷◌, ◌++◌, sym, ap, subst, ◌∙◌, append_assoc}
+use Rattle.std.proofs.Common.{◌≡◌, ℕ, Bool, true, false, Option, Some, None, List, [], ◌∷◌, ◌++◌, get_or, sym, ap, subst, ◌∙◌, append_assoc}
 use Rattle.std.specs.Prelude.{◌↔◌, IsTrue}
 use Rattle.std.specs.Option.{is_some}
 use Rattle.std.specs.List.{Contains}
@@ -11,7 +11,7 @@ use Rattle.chain_semantics.specs.declared.moves.Move.{Move}
 use Rattle.chain_semantics.specs.Care.{IsBrokenAt}
 use Rattle.chain_semantics.specs.Minimality.{IsBrokenBySome, AreBrokenBySome, IsMinimalBy}
 use Rattle.chain_semantics.proofs.MoveLists.{Contains-here}
-use Rattle.adc_core.specs.Masks.{Masks, AreMasksOf, FindsFirstBroken, vector_at}
+use Rattle.adc_core.specs.Masks.{Masks, AreMasksOf, FindsFirstBroken}
 
 -- The moves end with those that are left, and where the masks are those of a net and a bound, all moves are broken exactly where
 -- those that are left are.
@@ -67,7 +67,7 @@ module _ (metric : Metric) (exact : NetValue) (bound : ℕ) where
     -- a pattern that breaks the move is one of the vectors
     pub broken_by_some : (found : Option ℕ) → is_some found ≡ true → FindsFirstBroken metric exact bound N vectors move found → IsBrokenBySome metric exact bound N vectors move
     broken_by_some None is h = absurd (cc (is))
-    broken_by_some (Some p) is h = (vector_at vectors p, (p, h.within, get_or_default vectors p (vector_at vectors p) [] h.within), h.broken)
+    broken_by_some (Some p) is h = (get_or vectors p [], (p, h.within, get_or_default vectors p (get_or vectors p []) [] h.within), h.broken)
 
     pub broken_by_none : (found : Option ℕ) → is_some found ≡ false → FindsFirstBroken metric exact bound N vectors move found → ¬ IsBrokenBySome metric exact bound N vectors move
     broken_by_none None is h (x, (p, within, here), broken) =

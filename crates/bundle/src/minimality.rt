@@ -2,7 +2,7 @@
 //! net at these vectors tell it move by move, and no moved net is made.
 ghost use Rattle.std.specs.Prelude.{◌≡◌, ◌≤◌, ◌↔◌, ℕ, length, IsTrue, IfOk};
 ghost use Rattle.semantics.specs.Net.{NetValue, HasSamePorts, IsSmall, input_count};
-ghost use Rattle.semantics.specs.Error.{Metric as ErrorMetric};
+ghost use Rattle.semantics.specs.declared.metric.Metric.{Metric as ErrorMetric};
 ghost use Rattle.chain_semantics.specs.Minimality.{IsMinimalBy};
 ghost use Rattle.adc_core.specs.Masks.{AreMasksOf};
 

@@ -1,3 +1,7 @@
-use Rattle.std.proofs.lemmas.Result.{err_from_is_err_and}
-use Rattle.bundle.proofs.ToldAnswers.{answer_kept, verdict_told}
+use Rattle.bundle.proofs.ToldAnswers.{verdict_told}
 use Rattle.bundle.proofs.check.check_bundle.Goals as goal
+
+pub returns-clause-verdict : goal.returns-clause-verdict
+returns-clause-verdict g c =
+    verdict_told c.args.net.now c.args.metric c.args.bound c.args.stem.now (g.F.Files.told c.args.files.now) (g.F.Files.told c.check_netlist.new.files) c.in_ok-failing.failing c.of.result
+    c.of.ensures c.in_ok-failing.ensures

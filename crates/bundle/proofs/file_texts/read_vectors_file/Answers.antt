@@ -1,4 +1,5 @@
-use Rattle.std.proofs.Common.{List, Bool, length, ap, subst, sym, ◌∙◌}
+use Rattle.std.proofs.Common.{◌≡◌, List, Bool, length, refl, inl, ap, subst, sym, ◌∙◌}
+use Rattle.std.specs.Prelude.{IfSome}
 use Rattle.std.proofs.lemmas.Result.{err_from_is_err_and}
 use Rattle.file_reading.specs.Refused.{FileUnread}
 use Rattle.bundle_texts.specs.FilesRead.{AreVectorsIn}
@@ -21,3 +22,10 @@ returns-clause-ok g c =
     let witness = c.in_ok-read_file.ensures.aim ∙ ap (λ (v : VectorsText). v.witness) c.new-check.ensures in
     text_read (AreVectorsIn (length c.args.witness.now) c.args.witness.now vectors) c.in_ok-read_file.ensures.ok
     (λ content wanted. subst (λ (w : List Bool). AreVectorsIn (length w) w vectors content) witness (c.finish.ensures content wanted))
+
+pub returns-clause-inputs : goal.returns-clause-inputs
+returns-clause-inputs g c =
+    let check = c.read_file.new.intake in
+    let witness = c.in_ok-read_file.ensures.aim ∙ ap (λ (v : VectorsText). v.witness) c.new-check.ensures in
+    subst (λ (w : List Bool). IfSome c.finish.result (λ set. set.inputs ≡ length w)) witness
+    (vectors_inputs (length check.witness) check.text check.witness c.finish.result (c.finish.ensures check.text (inl refl)))

@@ -1,7 +1,7 @@
 use Rattle.std.proofs.Common.{ℕ, Bool, ◌↔◌, IsTrue}
 use Rattle.std.proofs.lemmas.Result.{IfOk-weaker}
 use Rattle.semantics.specs.Net.{NetValue}
-use Rattle.semantics.specs.Error.{Metric as ErrorMetric}
+use Rattle.semantics.specs.declared.metric.Metric.{Metric as ErrorMetric}
 use Rattle.chain_semantics.specs.Minimality.{IsMinimalBy}
 use Rattle.adc_core.specs.Masks.{AreMasksOf}
 use Rattle.bundle.proofs.BrokenMoves.{decided_for}
