@@ -58,6 +58,9 @@ moves_from N t (table ∷ tables) = moves_of_table N t table ++ moves_from N (t 
 unfoldable pub moves_of : NetValue → List Move
 moves_of N = moves_from N 0 N.tables
 
+unfoldable pub old_moves_of : NetValue → List Move
+old_moves_of N = moves_from N 0 N.tables
+
 -- the table that a move changes
 abbrev pub table_of : Move → ℕ
 table_of (Const t value) = t

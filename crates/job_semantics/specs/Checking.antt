@@ -22,7 +22,7 @@ pub record AreCheckFilesHeld (metric : Metric) (bound : ℕ) (input stem : Bytes
   pub bundle_held : (exact : NetValue) → IsReadAs (bytes_of held input) exact → AreNeededHeld exact metric bound stem held
 
 -- no file changed, no count fell and no steady name was lost, and the sink tells what it told; where the files that are needed are held,
--- what was told is told still, so no name was opened that is not held and not needed
+-- what was told is told still
 pub record IsLeftAlone (metric : Metric) (bound : ℕ) (input stem : Bytes) (old new : FilesTold) (said says : SinkTold) : Type 0 where
   pub goes : Goes old new
   pub files : WhereTold old new (λ a b. b ≡ a)
