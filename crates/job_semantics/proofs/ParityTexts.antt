@@ -1,10 +1,8 @@
 -- The texts of the worked example of the two versions, and which of its moves are broken.
-use Rattle.std.proofs.Common.{◌≡◌, ℕ, ◌≤◌, Bool, true, false, List, [], ◌∷◌, codes, refl, ap, sym, subst, lit<, lit≤, arith}
-use Rattle.std.specs.List.{AllByRecursion, Contains}
+use Rattle.std.proofs.Common.{◌≡◌, Bool, true, false, List, [], ◌∷◌, codes, refl, lit<, lit≤, arith}
 use Rattle.std.specs.Fmt.{digits}
-use Rattle.std.proofs.lemmas.List.Elements.{All-from_recursion, All-contains}
 use Rattle.semantics.specs.Texts.{Bytes, text_of}
-use Rattle.semantics.specs.Net.{NetValue, HasSamePorts}
+use Rattle.semantics.specs.Net.{HasSamePorts}
 use Rattle.semantics.specs.Refusals.{first_ungrounded}
 use Rattle.semantics.specs.Value.{after_rounds, value_of, outputs_of}
 use Rattle.semantics.specs.Error.{net_error}
@@ -12,17 +10,13 @@ use Rattle.semantics.specs.declared.metric.Metric.TheVariants.{Abs}
 use Rattle.blif_semantics.specs.Lines.{logical_lines}
 use Rattle.blif_semantics.specs.Statements.{first_wrong}
 use Rattle.blif_semantics.specs.Reading.{named_net, numbered, blif_reading}
-use Rattle.chain_semantics.specs.Moves.{depends_within, moves_of, old_moves_of, moved}
-use Rattle.chain_semantics.specs.declared.moves.Move.{Move}
-use Rattle.chain_semantics.specs.Minimality.{IsBrokenBySome, AreBrokenBySome}
+use Rattle.chain_semantics.specs.Moves.{depends_within, old_moves_of}
+use Rattle.chain_semantics.specs.Minimality.{AreBrokenBySome}
 use Rattle.job_semantics.specs.declared.version.Version.{Version}
 use Rattle.job_semantics.specs.declared.version.Version.TheVariants.{One, Two}
-use Rattle.job_semantics.specs.declared.clause.Clause.TheVariants as clause
-use Rattle.job_semantics.specs.Report.{Report, version_word, report_text, vectors_text}
-use Rattle.job_semantics.specs.Certificate.{Texts, moves_in, IsNetlist, IsReport, IsReportText, AreVectors, IsVectorsText, AreCounts, Holds}
-use Rattle.job_semantics.specs.VersionExamples.{conjunction_by_parity, parity_netlist, parity_vectors, parity_report, parity_texts}
-use Rattle.job_semantics.proofs.Certificates.{verified_law}
-use Rattle.job_semantics.proofs.VectorsTexts.{one_pool}
+use Rattle.job_semantics.specs.Report.{Report, report_text, vectors_text}
+use Rattle.job_semantics.specs.Certificate.{IsNetlist, IsReportText, IsVectorsText, AreCounts}
+use Rattle.job_semantics.specs.VersionExamples.{conjunction_by_parity, parity_vectors, parity_report, parity_texts}
 
 abbrev pub parity_report_of : Version → Report
 parity_report_of version = record {
