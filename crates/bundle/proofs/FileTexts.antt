@@ -1,9 +1,7 @@
 -- What the front of a file's text says of the whole.
-use Rattle.std.proofs.Common.{◌≡◌, ◌≢◌, ℕ, ◌+◌, ◌-◌, ◌<◌, ◌≤◌, Bool, false, not, if◌then◌else◌, List, [], ◌∷◌, ◌++◌, append_assoc, length, nat_le, Option, Some, None, Err, inl, inr, refl, sym, ap, subst, ◌∙◌, arith}
-use Rattle.std.specs.Prelude.{IfSome, MatchOption, slice_index_or}
-use Rattle.std.proofs.lemmas.List.{length-take}
+use Rattle.std.proofs.Common.{◌≡◌, ℕ, ◌+◌, ◌-◌, ◌<◌, Bool, false, not, if◌then◌else◌, List, length, nat_le, Option, Some, None, Err, inl, inr, refl, sym, ap, subst, ◌∙◌, arith}
+use Rattle.std.specs.Prelude.{IfSome, MatchOption}
 use Rattle.std.proofs.lemmas.Bool.{cases_lt}
-use Rattle.std.proofs.lemmas.Option.{MatchOption-at_some, MatchOption-at_none}
 use Rattle.std.proofs.lemmas.Bool.Decides.{nat_tests}
 use Rattle.semantics.specs.Texts.{Bytes}
 use Rattle.semantics.specs.Net.{NetValue, input_count}
@@ -14,17 +12,13 @@ use Rattle.blif_text.specs.declared.refusal.BlifRefusal.TheVariants as b
 use Rattle.file_reading.specs.Reading.{IsAllWanted, FilesStay}
 use Rattle.file_core.proofs.Told.{Goes-same}
 use Rattle.outside_semantics.specs.Outside.{FilesTold}
-use Rattle.semantics.specs.Texts.{bits_word}
 use Rattle.semantics.specs.declared.metric.Metric.{Metric}
 use Rattle.job_semantics.specs.Report.{Report}
 use Rattle.job_semantics.specs.declared.ending.Ending.TheVariants as file
 use Rattle.job_semantics.specs.Certificate.{Texts, AreVectors, IsReportText, IsVectorsText}
-use Rattle.job_semantics.proofs.ReportTexts.{bits-cut}
 use Rattle.lane_bits.specs.Patterns.{PatternSet}
 use Rattle.bundle_texts.specs.declared.report_reading.ReportRead.{ReportRead}
 use Rattle.bundle_texts.specs.Reading.{HoldsVectors, report_read}
-use Rattle.bundle_texts.specs.VectorLines.{vector_lines}
-use Rattle.bundle_texts.proofs.VectorTexts.{vectors_text-is}
 use Rattle.bundle_texts.specs.FilesRead.{IsNetIn, IsReportIn, AreVectorsIn}
 use Rattle.bundle_texts.proofs.Fronts.{whole_front, front_at_most}
 

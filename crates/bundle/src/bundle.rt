@@ -36,17 +36,17 @@ impl Model for Bundle {
     ghost Value = { BundleValue };
 
     ghost view = { λ a. record {
-        version = a.version;
-        exact = a.exact;
-        approx = a.approx;
-        metric = a.metric;
-        bound = a.bound;
-        maximum = a.maximum;
-        witness = a.witness;
-        pool = a.pool.vectors;
-        minimal = a.minimal;
-        goal = a.goal;
-        log = a.log
+      version = a.version;
+      exact = a.exact;
+      approx = a.approx;
+      metric = a.metric;
+      bound = a.bound;
+      maximum = a.maximum;
+      witness = a.witness;
+      pool = a.pool.vectors;
+      minimal = a.minimal;
+      goal = a.goal;
+      log = a.log;
     } };
 
     ghost invariant = { λ a. FitsReport a.exact a.approx a.witness };

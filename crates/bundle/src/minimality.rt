@@ -34,7 +34,7 @@ fn moves_in(alloc: Global, net: &Net, version: Version) -> Result<Moves<'_>, All
 fn breaks_each(moves: Moves<'_>, adc: &Adc) -> bool
     requires { (move : Move) → Contains moves move → Contains (moves_of adc.now.net) move }
     ensures { (metric : ErrorMetric) (exact : NetValue) (bound : ℕ) → AreMasksOf metric exact bound adc.now
-        → IsTrue result ↔ AreBrokenBySome metric exact bound adc.now.net adc.now.vectors moves }
+        → IsTrue result ↔ AreBrokenBySome metric exact bound adc.now.net adc.now.vectors moves.entry }
 {
     let mut left = moves;
     while let Some(step) = left.next() {

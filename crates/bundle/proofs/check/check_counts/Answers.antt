@@ -1,8 +1,7 @@
-use Rattle.std.proofs.Common.{◌≡◌, ℕ, true, refl}
+use Rattle.std.proofs.Common.{◌≡◌, ℕ, true}
 use Rattle.semantics.specs.Net.{NetValue}
 use Rattle.semantics.specs.declared.metric.Metric.{Metric}
 use Rattle.semantics.specs.declared.metric.Metric.TheVariants.{Abs}
-use Rattle.job_semantics.specs.declared.clause.Clause.TheVariants as clause
 use Rattle.job_semantics.specs.Certificate.{AreCounts}
 use Rattle.bundle_texts.specs.declared.report_reading.ReportRead.{ReportRead}
 use Rattle.bundle_texts.specs.Reading.{report_read}

@@ -1,4 +1,4 @@
-use Rattle.std.proofs.Common.{Some, ◌≡◌, true, refl, sym, ap, subst, ◌∙◌, Err}
+use Rattle.std.proofs.Common.{Some, ◌≡◌, true, sym, ap, subst, ◌∙◌, Err}
 use Rattle.std.specs.Prelude.{◌↔◌, IsTrue}
 use Rattle.std.proofs.lemmas.Result.{err_from_is_err_and}
 use Rattle.semantics.specs.Texts.{Bytes}

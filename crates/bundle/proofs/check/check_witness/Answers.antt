@@ -1,4 +1,4 @@
-use Rattle.std.proofs.Common.{refl, sym, ap, subst, ◌∙◌, None, Some, Err}
+use Rattle.std.proofs.Common.{sym, ap, subst, ◌∙◌, None, Some, Err}
 use Rattle.std.proofs.lemmas.Result.{err_from_is_err_and}
 use Rattle.semantics.specs.Texts.{Bytes}
 use Rattle.job_semantics.specs.declared.ending.Ending.TheVariants as file
