@@ -19,9 +19,12 @@ pub mod TidyChoices
 pub mod Flipped
 pub mod MoveDependence
 pub mod MoveLists
-pub mod MoveMembers
 pub mod OrderedLists
+pub mod NearSignals
+pub mod PairLists
+pub mod MoveMembers
 pub mod MoveOrder
+pub mod OldMoves
 pub mod MovedNets
 pub mod MovedValues
 pub mod MovedFlips

@@ -1,8 +1,8 @@
 -- What a move keeps: a sound net, a small one, the names; and what it lowers.
-use Rattle.std.proofs.Common.{◌≡◌, ℕ, suc, ◌+◌, ◌*◌, ◌<◌, ◌≤◌, Bool, true, false, cond, List, [], ◌∷◌, map, length, get_or, set, take, drop, All, refl, ap, sym, subst, ◌∙◌, inl, inr, arith}
+use Rattle.std.proofs.Common.{◌≡◌, ℕ, suc, ◌+◌, ◌*◌, ◌<◌, ◌≤◌, Bool, true, false, not, cond, List, [], ◌∷◌, map, length, get_or, set, take, drop, All, refl, ap, sym, subst, ◌∙◌, inl, inr, arith}
 use Rattle.std.specs.List.{Contains, remove}
 use Rattle.std.proofs.lemmas.Bool.{cases_lt}
-use Rattle.std.proofs.lemmas.List.{length-set, get_or_past}
+use Rattle.std.proofs.lemmas.List.{length-set, get_or_past, get_or_default}
 use Rattle.std.proofs.lemmas.List.Edits.{length-remove}
 use Rattle.std.proofs.lemmas.List.Sums.{sum_by-set, sum_by-remove, sum_by-le, count_by-le-length}
 use Rattle.std.proofs.lemmas.List.Elements.{All-nil, All-cons, All-append, All-take, All-drop, All-set}
@@ -14,9 +14,10 @@ use Rattle.semantics.proofs.Depends.{each_member}
 use Rattle.semantics.proofs.Grounding.{replaced-acyclic, narrower-acyclic}
 use Rattle.semantics.proofs.Replaced.{signal_names-with_table}
 use Rattle.chain_semantics.specs.declared.moves.Move.{Move}
-use Rattle.chain_semantics.specs.declared.moves.Move.TheVariants.{Const, DropRow, DropLiteral, Signal}
-use Rattle.chain_semantics.specs.Moves.{table_of, row_at, copy_mark, moved_table, moved}
-use Rattle.chain_semantics.specs.MoveLaws.{mark_at, IsMoveOf, HasFullRows, IsLoweredFrom, IsMovedFrom}
+use Rattle.chain_semantics.specs.declared.moves.Move.TheVariants.{Const, DropRow, DropLiteral, Signal, Pair}
+use Rattle.chain_semantics.specs.Moves.{near_signals, table_of, row_at, copy_mark, moved_table, moved}
+use Rattle.chain_semantics.specs.MoveLaws.{mark_at, AreInOrder, IsMoveOf, HasFullRows, IsLoweredFrom, IsMovedFrom}
+use Rattle.chain_semantics.proofs.NearSignals.{near-are_signals, near-are_apart}
 
 -- a literal stands in a row, and its row has a pin
 literals-le : (t : TableValue) → IsTable t → table_literals t ≤ length t.rows * length t.pins
@@ -76,6 +77,14 @@ copy-formed t s mark formed = record {
   plane = λ e. refl;
 }
 
+pair-formed : (t : TableValue) (s u : ℕ) (first second : Mark) (plane : Bool) → IsTable t
+    → IsTable (record t { pins = s ∷ u ∷ []; rows = (first ∷ second ∷ []) ∷ []; plane = plane })
+pair-formed t s u first second plane formed = record {
+  named = formed.named;
+  widths = All-cons (λ (marks : List Mark). length marks ≡ 2) (first ∷ second ∷ []) [] refl (All-nil (λ (marks : List Mark). length marks ≡ 2));
+  plane = λ e. absurd (omega (arith, ap length e));
+}
+
 row_drop-formed : (t : TableValue) (row : ℕ) → IsTable t → 1 < length t.rows → row < length t.rows → IsTable (record t { rows = remove t.rows row })
 row_drop-formed t row formed two within = record {
   named = formed.named;
@@ -120,12 +129,35 @@ narrowed N (Signal t s flip) sound is =
       pins = omega (arith, some_pin old formed some);
       rows = omega (arith, some_row old formed some);
     }
+narrowed N (Pair t s flip_s u flip_u flip) sound is =
+    let old : TableValue = table_at N.tables t in
+    let formed : IsTable old = sound.tables_formed t no_table is.0 in
+    let some : 0 < table_literals old = omega (arith, is.1) in
+    record {
+      name = refl;
+      formed = pair-formed old s u (copy_mark flip_s) (copy_mark flip_u) (not flip) formed;
+      pins = omega (arith, is.2);
+      rows = omega (arith, some_row old formed some);
+    }
 
 pub move-within : (N : NetValue) (m : Move) → IsMoveOf N m → table_of m < table_count N
 move-within N (Const t value) is = is.0
 move-within N (DropRow t row) is = is.0
 move-within N (DropLiteral t row pin) is = is.0
 move-within N (Signal t s flip) is = is.0
+move-within N (Pair t s flip_s u flip_u flip) is = is.0
+
+-- the two signals of a pair are near ones
+first-near : (N : NetValue) (t s u : ℕ) → AreInOrder (near_signals N (table_at N.tables t)) s u → Contains (near_signals N (table_at N.tables t)) s
+first-near N t s u order =
+    let near : List ℕ = near_signals N (table_at N.tables t) in
+    let low : order.first < length near = omega (arith, order.order, order.within) in
+    (order.first, low, get_or_default near order.first s 0 low ∙ order.is_first)
+
+second-near : (N : NetValue) (t s u : ℕ) → AreInOrder (near_signals N (table_at N.tables t)) s u → Contains (near_signals N (table_at N.tables t)) u
+second-near N t s u order =
+    let near : List ℕ = near_signals N (table_at N.tables t) in
+    (order.second, order.within, get_or_default near order.second u 0 order.within ∙ order.is_second)
 
 -- the pins of a moved table are signals that do not depend on it
 pub moved-pins : (N : NetValue) (m : Move) → IsSound N → IsMoveOf N m → All (λ s. s < signal_count N) (moved_table (table_at N.tables (table_of m)) m).pins
@@ -134,6 +166,10 @@ moved-pins N (Const t true) sound is = All-nil (λ s. s < signal_count N)
 moved-pins N (DropRow t row) sound is = sound.pins_are_signals t no_table is.0
 moved-pins N (DropLiteral t row pin) sound is = sound.pins_are_signals t no_table is.0
 moved-pins N (Signal t s flip) sound is = All-cons (λ s. s < signal_count N) s [] is.2 (All-nil (λ s. s < signal_count N))
+moved-pins N (Pair t s flip_s u flip_u flip) sound is =
+    let signal : (p : ℕ) → Contains (near_signals N (table_at N.tables t)) p → p < signal_count N = near-are_signals N t sound.acyclic is.0 in
+    All-cons (λ s. s < signal_count N) s (u ∷ []) (signal s (first-near N t s u is.3))
+    (All-cons (λ s. s < signal_count N) u [] (signal u (second-near N t s u is.3)) (All-nil (λ s. s < signal_count N)))
 
 pub moved-acyclic : (N : NetValue) (m : Move) → IsSound N → IsMoveOf N m → IsAcyclic (input_count N) (moved N m).tables
 moved-acyclic N (Const t false) sound is = replaced-acyclic (input_count N) N.tables t (constant_table (table_at N.tables t).name false) sound.acyclic is.0 tt
@@ -146,6 +182,13 @@ moved-acyclic N (DropLiteral t row pin) sound is =
     narrower-acyclic (input_count N) N.tables t (moved_table old (DropLiteral t row pin)) sound.acyclic is.0 (each_member (Contains old.pins) old.pins (λ p c. c))
 moved-acyclic N (Signal t s flip) sound is =
     replaced-acyclic (input_count N) N.tables t (moved_table (table_at N.tables t) (Signal t s flip)) sound.acyclic is.0 ((is.2, is.3), tt)
+moved-acyclic N (Pair t s flip_s u flip_u flip) sound is =
+    let first : Contains (near_signals N (table_at N.tables t)) s = first-near N t s u is.3 in
+    let second : Contains (near_signals N (table_at N.tables t)) u = second-near N t s u is.3 in
+    replaced-acyclic (input_count N) N.tables t (moved_table (table_at N.tables t) (Pair t s flip_s u flip_u flip)) sound.acyclic is.0 (
+      (near-are_signals N t sound.acyclic is.0 s first, near-are_apart N t sound.acyclic is.0 s first),
+      ((near-are_signals N t sound.acyclic is.0 u second, near-are_apart N t sound.acyclic is.0 u second), tt),
+    )
 
 pub moved-sound : (N : NetValue) (m : Move) → IsSound N → IsMoveOf N m → IsSound (moved N m)
 moved-sound N m sound is =
@@ -207,6 +250,12 @@ copy-literals : (t : TableValue) (s : ℕ) (flip : Bool) → table_literals (mov
 copy-literals t s false = refl
 copy-literals t s true = refl
 
+pair-literals : (t : TableValue) (s : ℕ) (flip_s : Bool) (u : ℕ) (flip_u flip : Bool) → table_literals (moved_table t (Pair 0 s flip_s u flip_u flip)) ≡ 2
+pair-literals t s false u false flip = refl
+pair-literals t s false u true flip = refl
+pair-literals t s true u false flip = refl
+pair-literals t s true u true flip = refl
+
 -- what a mark counts as
 abbrev weight : Mark → ℕ
 weight m = cond (is_literal m) 1 0
@@ -225,6 +274,7 @@ table-lowered N (DropLiteral t row pin) sound is lean =
     let old : TableValue = table_at N.tables t in
     omega (arith, sum_by-set row_literals old.rows row (set (row_at old.rows row) pin Dash) [] is.1, literal_drop-row (row_at old.rows row) pin is.2)
 table-lowered N (Signal t s flip) sound is lean = omega (arith, copy-literals (table_at N.tables t) s flip, is.1)
+table-lowered N (Pair t s flip_s u flip_u flip) sound is lean = omega (arith, pair-literals (table_at N.tables t) s flip_s u flip_u flip, is.1)
 
 pub moved-lowers : (N : NetValue) (m : Move) → IsSound N → All HasFullRows N.tables → IsMoveOf N m → IsLoweredFrom N (moved N m)
 moved-lowers N m sound lean is =

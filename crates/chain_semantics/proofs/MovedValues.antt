@@ -11,10 +11,10 @@ use Rattle.semantics.specs.Texts.{Bytes}
 use Rattle.semantics.specs.Net.{TableValue, NetValue, no_table, table_at, table_count, constant_table}
 use Rattle.semantics.specs.Value.{Assignment, mark_matches, row_matches, table_value}
 use Rattle.chain_semantics.specs.declared.moves.Move.{Move}
-use Rattle.chain_semantics.specs.declared.moves.Move.TheVariants.{Const, DropRow, DropLiteral, Signal}
+use Rattle.chain_semantics.specs.declared.moves.Move.TheVariants.{Const, DropRow, DropLiteral, Signal, Pair}
 use Rattle.chain_semantics.specs.TidyRules.{mark_at}
 use Rattle.chain_semantics.specs.Moves.{table_of, row_at, moved_table, moved}
-use Rattle.chain_semantics.specs.MoveValues.{RowHoldsBut, AnotherRowHolds, HasPlane}
+use Rattle.chain_semantics.specs.MoveValues.{turned_over, RowHoldsBut, AnotherRowHolds, HasPlane}
 
 pub moved-itself : (N : NetValue) (move : Move) → table_of move < table_count N → table_at (moved N move).tables (table_of move) ≡ moved_table (table_at N.tables (table_of move)) move
 moved-itself N move within = get_or-set_same N.tables (table_of move) (moved_table (table_at N.tables (table_of move)) move) no_table within
@@ -31,11 +31,20 @@ moved_table-name t (Const i value) = constant-name t.name value
 moved_table-name t (DropRow i row) = refl
 moved_table-name t (DropLiteral i row pin) = refl
 moved_table-name t (Signal i s flip) = refl
+moved_table-name t (Pair i s flip_s u flip_u flip) = refl
 
 pub becomes-copy : (t : TableValue) (i s : ℕ) (flip : Bool)
     → moved_table t (Signal i s flip) ≡ record { name = t.name; pins = s ∷ []; rows = (cond flip Zero One ∷ []) ∷ []; plane = true }
 becomes-copy t i s false = refl
 becomes-copy t i s true = refl
+
+pub becomes-pair : (t : TableValue) (i s : ℕ) (flip_s : Bool) (u : ℕ) (flip_u flip : Bool)
+    → moved_table t (Pair i s flip_s u flip_u flip)
+    ≡ record { name = t.name; pins = s ∷ u ∷ []; rows = (cond flip_s Zero One ∷ cond flip_u Zero One ∷ []) ∷ []; plane = not flip }
+becomes-pair t i s false u false flip = refl
+becomes-pair t i s false u true flip = refl
+becomes-pair t i s true u false flip = refl
+becomes-pair t i s true u true flip = refl
 
 constant_name-value : (name : Bytes) (value : Bool) (v : Assignment) → table_value (constant_table name value) v ≡ value
 constant_name-value name false v = refl
@@ -51,6 +60,24 @@ one_mark true = refl
 pub copied-value : (t : TableValue) (i s : ℕ) (flip : Bool) (v : Assignment) → table_value (moved_table t (Signal i s flip)) v ≡ cond flip (not (v s)) (v s)
 copied-value t i s false v = one_mark (v s)
 copied-value t i s true v = one_mark (not (v s))
+
+-- of two marks, and the plane that is told from the flip
+two_marks : (a b flip : Bool) → cond ((a && (b && true)) || false) (not flip) (not (not flip)) ≡ turned_over flip (a && b)
+two_marks false false false = refl
+two_marks false false true = refl
+two_marks false true false = refl
+two_marks false true true = refl
+two_marks true false false = refl
+two_marks true false true = refl
+two_marks true true false = refl
+two_marks true true true = refl
+
+pub pair-value : (t : TableValue) (i s : ℕ) (flip_s : Bool) (u : ℕ) (flip_u flip : Bool) (v : Assignment)
+    → table_value (moved_table t (Pair i s flip_s u flip_u flip)) v ≡ turned_over flip (turned_over flip_s (v s) && turned_over flip_u (v u))
+pair-value t i s false u false flip v = two_marks (v s) (v u) flip
+pair-value t i s false u true flip v = two_marks (v s) (not (v u)) flip
+pair-value t i s true u false flip v = two_marks (not (v s)) (v u) flip
+pair-value t i s true u true flip v = two_marks (not (v s)) (not (v u)) flip
 
 -- ---- rows that hold
 

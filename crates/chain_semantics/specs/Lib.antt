@@ -12,7 +12,9 @@ pub mod Minimality
 pub mod MoveLaws
 pub mod MoveValues
 pub mod MoveOrder
+pub mod NearLaws
 pub mod MoveExamples
+pub mod PairExamples
 pub mod Simplification
 pub mod SimplificationLaws
 pub mod SimplificationExamples

@@ -9,8 +9,8 @@ use Rattle.semantics.specs.Error.{error_of, net_error}
 use Rattle.semantics.specs.declared.metric.Metric.TheVariants.{Abs}
 use Rattle.semantics.specs.Value.{outputs_of}
 use Rattle.semantics.specs.Examples.{half_adder, out_of_order, constant_sum, both_constant, or_twice, by_copy}
-use Rattle.chain_semantics.specs.declared.moves.Move.TheVariants.{Const, DropRow, DropLiteral, Signal}
-use Rattle.chain_semantics.specs.Moves.{depends, moves_of, moved}
+use Rattle.chain_semantics.specs.declared.moves.Move.TheVariants.{Const, DropRow, DropLiteral, Signal, Pair}
+use Rattle.chain_semantics.specs.Moves.{depends, moves_of, old_moves_of, moved}
 use Rattle.chain_semantics.specs.Flips.{flipped_outputs}
 use Rattle.chain_semantics.specs.Care.{IsCaredFor, IsBrokenAt}
 
@@ -21,6 +21,16 @@ with_sum pins rows = with_table half_adder 0 (record { name = codes "s"; pins = 
 pub record MoveExamples : Type 0 where
   pub of_half_adder :
       moves_of half_adder
+      ≡ Const 0 false ∷ Const 0 true ∷ DropRow 0 0 ∷ DropRow 0 1
+      ∷ DropLiteral 0 0 0 ∷ DropLiteral 0 0 1 ∷ DropLiteral 0 1 0 ∷ DropLiteral 0 1 1
+      ∷ Signal 0 0 false ∷ Signal 0 0 true ∷ Signal 0 1 false ∷ Signal 0 1 true ∷ Signal 0 3 false ∷ Signal 0 3 true
+      ∷ Pair 0 0 false 1 false false ∷ Pair 0 0 false 1 false true ∷ Pair 0 0 false 1 true false ∷ Pair 0 0 false 1 true true
+      ∷ Pair 0 0 true 1 false false ∷ Pair 0 0 true 1 false true ∷ Pair 0 0 true 1 true false ∷ Pair 0 0 true 1 true true
+      ∷ Const 1 false ∷ Const 1 true
+      ∷ DropLiteral 1 0 0 ∷ DropLiteral 1 0 1
+      ∷ Signal 1 0 false ∷ Signal 1 0 true ∷ Signal 1 1 false ∷ Signal 1 1 true ∷ Signal 1 2 false ∷ Signal 1 2 true ∷ []
+  pub old_ones_of_half_adder :
+      old_moves_of half_adder
       ≡ Const 0 false ∷ Const 0 true ∷ DropRow 0 0 ∷ DropRow 0 1
       ∷ DropLiteral 0 0 0 ∷ DropLiteral 0 0 1 ∷ DropLiteral 0 1 0 ∷ DropLiteral 0 1 1
       ∷ Signal 0 0 false ∷ Signal 0 0 true ∷ Signal 0 1 false ∷ Signal 0 1 true ∷ Signal 0 3 false ∷ Signal 0 3 true

@@ -1,5 +1,5 @@
 -- The laws about moves, flips and cared-for inputs, each the contract of a function without parameters.
-use Rattle.std.specs.Prelude.{◌≡◌, ◌↔◌, ◌⊎◌, ℕ, ◌+◌, ◌<◌, ◌≤◌, Bool, true, not, List, length, slice_index_or, IsTrue, All, Contains}
+use Rattle.std.specs.Prelude.{◌≡◌, ◌↔◌, ◌⊎◌, ℕ, ◌+◌, ◌<◌, ◌≤◌, Bool, true, not, List, length, slice_index, slice_index_or, IsTrue, All, Contains}
 use Rattle.semantics.specs.declared.mark.Mark.{Mark}
 use Rattle.semantics.specs.declared.mark.Mark.TheVariants.{Dash}
 use Rattle.semantics.specs.Net.{TableValue, NetValue, table_at, input_count, table_count, signal_count, is_literal, row_literals, table_literals, literal_count, row_count, pin_count, IsAcyclic, IsSound, IsSmall, HasSamePorts}
@@ -8,13 +8,22 @@ use Rattle.semantics.specs.Replaced.{replaced}
 use Rattle.semantics.specs.Dependence.{DependsOn}
 use Rattle.semantics.specs.declared.metric.Metric.{Metric}
 use Rattle.chain_semantics.specs.declared.moves.Move.{Move}
-use Rattle.chain_semantics.specs.declared.moves.Move.TheVariants.{Const, DropRow, DropLiteral, Signal}
-use Rattle.chain_semantics.specs.Moves.{depends, moves_of, table_of, row_at, moved}
+use Rattle.chain_semantics.specs.declared.moves.Move.TheVariants.{Const, DropRow, DropLiteral, Signal, Pair}
+use Rattle.chain_semantics.specs.Moves.{depends, near_signals, moves_of, table_of, row_at, moved}
 use Rattle.chain_semantics.specs.Flips.{flipped_values, IsFlipped, flipped_outputs}
 use Rattle.chain_semantics.specs.Care.{IsCaredFor, Exceeds, Changes, IsBrokenAt}
 
 abbrev pub mark_at : List Mark → ℕ → Mark
 mark_at marks p = slice_index_or marks p Dash
+
+-- s stands at a place before that of u
+pub record AreInOrder (signals : List ℕ) (s u : ℕ) : Type 0 where
+  pub first : ℕ
+  pub second : ℕ
+  pub order : first < second
+  pub within : second < length signals
+  pub is_first : slice_index signals first ≡ s
+  pub is_second : slice_index signals second ≡ u
 
 -- when a net has a move
 abbrev pub IsMoveOf : NetValue → Move → Type 0
@@ -24,6 +33,8 @@ IsMoveOf N (DropLiteral t row pin) =
     (t < table_count N) × (row < length (table_at N.tables t).rows) × (is_literal (mark_at (row_at (table_at N.tables t).rows row) pin) ≡ true)
 IsMoveOf N (Signal t s flip) =
     (t < table_count N) × (1 < table_literals (table_at N.tables t)) × (s < signal_count N) × (¬ DependsOn (input_count N) N.tables t s)
+IsMoveOf N (Pair t s flip_s u flip_u flip) =
+    (t < table_count N) × (2 < table_literals (table_at N.tables t)) × (1 < length (table_at N.tables t).pins) × AreInOrder (near_signals N (table_at N.tables t)) s u
 
 -- where there are two rows or more, each has a literal; so it is in a tidy net, where a table is a canonical constant or each row has a literal
 abbrev pub HasFullRows : TableValue → Type 0

@@ -1,11 +1,11 @@
 -- What a move makes of its table, and the value of the moved table by kind.
-use Rattle.std.specs.Prelude.{◌≡◌, ◌≢◌, ◌↔◌, ◌⊎◌, ℕ, ◌<◌, Bool, true, not, if◌then◌else◌, List, [], ◌∷◌, ◌++◌, length}
+use Rattle.std.specs.Prelude.{◌≡◌, ◌≢◌, ◌↔◌, ◌⊎◌, ℕ, ◌<◌, Bool, true, not, ◌&&◌, if◌then◌else◌, List, [], ◌∷◌, ◌++◌, length}
 use Rattle.semantics.specs.declared.mark.Mark.{Mark}
 use Rattle.semantics.specs.declared.mark.Mark.TheVariants.{Zero, One, Dash}
 use Rattle.semantics.specs.Net.{TableValue, NetValue, table_at, table_count, constant_table}
 use Rattle.semantics.specs.Value.{Assignment, mark_matches, table_value}
 use Rattle.chain_semantics.specs.declared.moves.Move.{Move}
-use Rattle.chain_semantics.specs.declared.moves.Move.TheVariants.{Const, DropRow, DropLiteral, Signal}
+use Rattle.chain_semantics.specs.declared.moves.Move.TheVariants.{Const, DropRow, DropLiteral, Signal, Pair}
 use Rattle.chain_semantics.specs.TidyRules.{pin_at, mark_at}
 use Rattle.chain_semantics.specs.Moves.{table_of, row_at, moved_table, moved}
 
@@ -29,10 +29,16 @@ AnotherRowHolds t v r = (k : ℕ) × (k < length t.rows) × (k ≢ r) × RowHold
 abbrev pub HasPlane : TableValue → Move → Assignment → Type 0
 HasPlane t move v = table_value (moved_table t move) v ≡ t.plane
 
+-- a value, or its opposite
+abbrev pub turned_over : Bool → Bool → Bool
+turned_over flip value = if flip then not value else value
+
 -- The moved net has the moved table in its place, and every other table as it was. The moved table keeps its name.
--- What becomes a constant is the canonical one, and what becomes a copy has one pin, one row and plane 1, whatever the plane was. A constant has
--- its value whatever the signals are; a copy has the value of its signal, or the opposite; without a row the others decide, and
--- without a literal the row no longer asks for it. Rows and literals that are left out leave the order of the others, the pins and the plane.
+-- What becomes a constant is the canonical one, and what becomes a copy has one pin, one row and plane 1, whatever the plane was; what becomes
+-- a pair has two pins and one row, and plane 0 where its value is turned over. A constant has its value whatever the signals are; a copy has the
+-- value of its signal, or the opposite, and a pair the conjunction of its signals, each of them plain or turned over, or its opposite; without a
+-- row the others decide, and without a literal the row no longer asks for it. Rows and literals that are left out leave the order of the others,
+-- the pins and the plane.
 pub record MovedValueLaw : Type 0 where
   pub itself : (N : NetValue) (move : Move) → table_of move < table_count N
       → table_at (moved N move).tables (table_of move) ≡ moved_table (table_at N.tables (table_of move)) move
@@ -41,11 +47,16 @@ pub record MovedValueLaw : Type 0 where
   pub becomes_constant : (t : TableValue) (i : ℕ) (value : Bool) → moved_table t (Const i value) ≡ constant_table t.name value
   pub becomes_copy : (t : TableValue) (i s : ℕ) (flip : Bool)
       → moved_table t (Signal i s flip) ≡ record { name = t.name; pins = s ∷ []; rows = ((if flip then Zero else One) ∷ []) ∷ []; plane = true }
+  pub becomes_pair : (t : TableValue) (i s : ℕ) (flip_s : Bool) (u : ℕ) (flip_u flip : Bool)
+      → moved_table t (Pair i s flip_s u flip_u flip)
+      ≡ record { name = t.name; pins = s ∷ u ∷ []; rows = ((if flip_s then Zero else One) ∷ (if flip_u then Zero else One) ∷ []) ∷ []; plane = not flip }
   pub constant : (t : TableValue) (i : ℕ) (value : Bool) (v : Assignment) → table_value (moved_table t (Const i value)) v ≡ value
   pub row : (t : TableValue) (i r : ℕ) (v : Assignment) → r < length t.rows → HasPlane t (DropRow i r) v ↔ AnotherRowHolds t v r
   pub literal : (t : TableValue) (i r p : ℕ) (v : Assignment) → r < length t.rows
       → HasPlane t (DropLiteral i r p) v ↔ (AnotherRowHolds t v r ⊎ RowHoldsBut t v r p)
   pub signal : (t : TableValue) (i s : ℕ) (flip : Bool) (v : Assignment) → table_value (moved_table t (Signal i s flip)) v ≡ (if flip then not (v s) else v s)
+  pub pair : (t : TableValue) (i s : ℕ) (flip_s : Bool) (u : ℕ) (flip_u flip : Bool) (v : Assignment)
+      → table_value (moved_table t (Pair i s flip_s u flip_u flip)) v ≡ turned_over flip (turned_over flip_s (v s) && turned_over flip_u (v u))
   pub rows_left : (t : TableValue) (i : ℕ) (before : List (List Mark)) (marks : List Mark) (after : List (List Mark)) → t.rows ≡ before ++ marks ∷ after
       → moved_table t (DropRow i (length before)) ≡ record t { rows = before ++ after }
   pub literals_left : (t : TableValue) (i : ℕ) (before : List (List Mark)) (left : List Mark) (m : Mark) (right : List Mark) (after : List (List Mark))

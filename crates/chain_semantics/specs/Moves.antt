@@ -1,12 +1,13 @@
--- The moves of a net, each of which changes one table. Source: SALSA's simplifications; the four kinds and their order are this tool's own.
-use Rattle.std.specs.Prelude.{◌==◌, ℕ, zero, suc, ◌+◌, ◌-◌, Bool, true, false, not, ◌&&◌, ◌||◌, if◌then◌else◌, List, [], ◌∷◌, ◌++◌, map, filter, flat_map, remove, length, slice_index_or, slice_set, nat_le, nat_lt}
+-- The moves of a net, each of which changes one table. Source: SALSA's simplifications; the five kinds and their order are this tool's own.
+use Rattle.std.specs.Prelude.{◌==◌, ℕ, zero, suc, ◌+◌, ◌-◌, Bool, true, false, not, ◌&&◌, ◌||◌, if◌then◌else◌, List, [], ◌∷◌, ◌++◌, map, filter, flat_map, remove, take, length, slice_index_or, slice_set, nat_le, nat_lt}
 use Rattle.std.specs.List.{list_any, range_with_len}
 use Rattle.semantics.specs.declared.mark.Mark.{Mark}
 use Rattle.semantics.specs.declared.mark.Mark.TheVariants.{Zero, One, Dash}
 use Rattle.semantics.specs.Net.{TableValue, NetValue, table_at, input_count, signal_count, is_literal, table_literals, constant_table}
 use Rattle.semantics.specs.Replaced.{with_table}
 use Rattle.chain_semantics.specs.declared.moves.Move.{Move}
-use Rattle.chain_semantics.specs.declared.moves.Move.TheVariants.{Const, DropRow, DropLiteral, Signal}
+use Rattle.chain_semantics.specs.declared.moves.Move.TheVariants.{Const, DropRow, DropLiteral, Signal, Pair}
+use Rattle.chain_semantics.specs.declared.moves.TheConstants.{MOST_NEAR_SIGNALS}
 
 -- a path of so many pins or fewer leads from signal s to table t
 unfoldable pub depends_within : ℕ → List TableValue → ℕ → ℕ → ℕ → Bool
@@ -47,16 +48,67 @@ independent_signals N t = filter (λ s. not (depends (input_count N) N.tables t 
 abbrev pub signal_moves : NetValue → ℕ → TableValue → List Move
 signal_moves N t table = if nat_lt 1 (table_literals table) then flat_map (copies_of t) (independent_signals N t) else []
 
-abbrev pub moves_of_table : NetValue → ℕ → TableValue → List Move
-moves_of_table N t table = constant_moves t table ++ row_moves t table ++ literal_moves t 0 table.rows ++ signal_moves N t table
+-- the moves of a table but those to two signals
+abbrev pub old_moves_of_table : NetValue → ℕ → TableValue → List Move
+old_moves_of_table N t table = constant_moves t table ++ row_moves t table ++ literal_moves t 0 table.rows ++ signal_moves N t table
 
--- the moves of these tables of the net in order; the first of them is table t
-abbrev pub moves_from : NetValue → ℕ → List TableValue → List Move
-moves_from N t [] = []
-moves_from N t (table ∷ tables) = moves_of_table N t table ++ moves_from N (t + 1) tables
+-- each number where it first stands
+abbrev pub each_once : List ℕ → List ℕ
+each_once [] = []
+each_once (s ∷ signals) = s ∷ filter (λ u. not (u == s)) (each_once signals)
+
+-- the pins of a signal that is a table; an input has none
+abbrev pub pins_of : NetValue → ℕ → List ℕ
+pins_of N s = if nat_lt s (input_count N) then [] else (table_at N.tables (s - input_count N)).pins
+
+-- the pins of a table, and then for each of them in order the pins that it has itself
+abbrev pub pins_and_theirs : NetValue → TableValue → List ℕ
+pins_and_theirs N table = table.pins ++ flat_map (pins_of N) table.pins
+
+-- those signals, each where it first stands, and no more than the first few
+unfoldable pub near_signals : NetValue → TableValue → List ℕ
+near_signals N table = take MOST_NEAR_SIGNALS (each_once (pins_and_theirs N table))
+
+-- each signal of a list with each later one
+abbrev pub pairs_of : List ℕ → List (ℕ × ℕ)
+pairs_of [] = []
+pairs_of (s ∷ signals) = map (λ u. (s, u)) signals ++ pairs_of signals
+
+abbrev pub plain_and_flipped : List Bool
+plain_and_flipped = false ∷ true ∷ []
+
+-- the eight moves to signals s and u: s plain and then flipped, for each the same of u, and for each of these the same of the value
+abbrev pub flips_of : ℕ → ℕ → ℕ → List Move
+flips_of t s u = flat_map (λ flip_s. flat_map (λ flip_u. map (Pair t s flip_s u flip_u) plain_and_flipped) plain_and_flipped) plain_and_flipped
+
+-- to each two of the near signals, where the table has three literals or more and two pins or more
+abbrev pub pair_moves : NetValue → ℕ → TableValue → List Move
+pair_moves N t table =
+    if nat_lt 2 (table_literals table) && nat_lt 1 (length table.pins)
+    then flat_map (λ pair. flips_of t pair.0 pair.1) (pairs_of (near_signals N table)) else []
+
+abbrev pub moves_of_table : NetValue → ℕ → TableValue → List Move
+moves_of_table N t table = old_moves_of_table N t table ++ pair_moves N t table
+
+-- the moves that each of these tables offers, in order; the first of them is table t
+abbrev pub moves_from : (ℕ → TableValue → List Move) → ℕ → List TableValue → List Move
+moves_from offered t [] = []
+moves_from offered t (table ∷ tables) = offered t table ++ moves_from offered (t + 1) tables
 
 unfoldable pub moves_of : NetValue → List Move
-moves_of N = moves_from N 0 N.tables
+moves_of N = moves_from (moves_of_table N) 0 N.tables
+
+-- the moves but those to two signals
+unfoldable pub old_moves_of : NetValue → List Move
+old_moves_of N = moves_from (old_moves_of_table N) 0 N.tables
+
+-- a move of the other four kinds
+abbrev pub is_old : Move → Bool
+is_old (Const t value) = true
+is_old (DropRow t row) = true
+is_old (DropLiteral t row pin) = true
+is_old (Signal t s flip) = true
+is_old (Pair t s flip_s u flip_u flip) = false
 
 -- the table that a move changes
 abbrev pub table_of : Move → ℕ
@@ -64,11 +116,12 @@ table_of (Const t value) = t
 table_of (DropRow t row) = t
 table_of (DropLiteral t row pin) = t
 table_of (Signal t s flip) = t
+table_of (Pair t s flip_s u flip_u flip) = t
 
 abbrev pub row_at : List (List Mark) → ℕ → List Mark
 row_at rows r = slice_index_or rows r []
 
--- the mark of a table that copies its one pin, or turns it over
+-- the mark that asks for a pin's value as it is, or turned over
 abbrev pub copy_mark : Bool → Mark
 copy_mark false = One
 copy_mark true = Zero
@@ -79,6 +132,7 @@ moved_table table (Const t value) = constant_table table.name value
 moved_table table (DropRow t row) = record table { rows = remove table.rows row }
 moved_table table (DropLiteral t row pin) = record table { rows = slice_set table.rows row (slice_set (row_at table.rows row) pin Dash) }
 moved_table table (Signal t s flip) = record table { pins = s ∷ []; rows = (copy_mark flip ∷ []) ∷ []; plane = true }
+moved_table table (Pair t s flip_s u flip_u flip) = record table { pins = s ∷ u ∷ []; rows = (copy_mark flip_s ∷ copy_mark flip_u ∷ []) ∷ []; plane = not flip }
 
 -- the table is replaced, and nothing else changes
 abbrev pub moved : NetValue → Move → NetValue

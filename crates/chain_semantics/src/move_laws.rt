@@ -2,6 +2,7 @@
 ghost use Rattle.chain_semantics.specs.MoveLaws.{MoveLaw, FlipLaw, FlippedMoveLaw};
 ghost use Rattle.chain_semantics.specs.MoveOrder.{MoveOrderLaw};
 ghost use Rattle.chain_semantics.specs.MoveValues.{MovedValueLaw};
+ghost use Rattle.chain_semantics.specs.NearLaws.{EachOnceLaw, NearLaw, OldMoveLaw};
 
 /// Which moves a net has, and what each keeps and lowers.
 pub fn moves()
@@ -26,4 +27,19 @@ pub fn moved_values()
 /// The order of the moves of a net, which with their conditions makes one list.
 pub fn order()
     ensures { MoveOrderLaw }
+{}
+
+/// Each number of a list where it first stands.
+pub fn each_once()
+    ensures { EachOnceLaw }
+{}
+
+/// Which signals are near a table.
+pub fn near_signals()
+    ensures { NearLaw }
+{}
+
+/// The moves but those to two signals.
+pub fn old_moves()
+    ensures { OldMoveLaw }
 {}

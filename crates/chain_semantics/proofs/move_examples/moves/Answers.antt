@@ -1,12 +1,13 @@
 -- by computation
 use Rattle.std.proofs.Common.{refl}
-use Rattle.chain_semantics.specs.Moves.{depends_within, moves_of}
+use Rattle.chain_semantics.specs.Moves.{depends_within, near_signals, moves_of, old_moves_of}
 use Rattle.chain_semantics.proofs.move_examples.moves.Goals as goal
 
 pub returns : goal.returns
-unfolding depends_within moves_of
+unfolding depends_within near_signals moves_of old_moves_of
 returns c = record {
   of_half_adder = refl;
+  old_ones_of_half_adder = refl;
   of_constants = refl;
   of_inverters = refl;
   of_a_read_table = refl;
