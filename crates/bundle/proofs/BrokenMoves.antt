@@ -9,7 +9,11 @@ use Rattle.semantics.specs.Net.{NetValue}
 use Rattle.semantics.specs.declared.metric.Metric.{Metric}
 use Rattle.chain_semantics.specs.declared.moves.Move.{Move}
 use Rattle.chain_semantics.specs.Care.{IsBrokenAt}
-use Rattle.chain_semantics.specs.Minimality.{IsBrokenBySome, AreBrokenBySome, IsMinimalBy}
+use Rattle.chain_semantics.specs.Moves.{moves_of, old_moves_of}
+use Rattle.chain_semantics.specs.Minimality.{IsBrokenBySome, AreBrokenBySome}
+use Rattle.job_semantics.specs.declared.version.Version.{Version}
+use Rattle.job_semantics.specs.declared.version.Version.TheVariants.{One, Two}
+use Rattle.job_semantics.specs.Certificate.{moves_in}
 use Rattle.chain_semantics.proofs.MoveLists.{Contains-here}
 use Rattle.adc_core.specs.Masks.{Masks, AreMasksOf, FindsFirstBroken}
 
@@ -46,6 +50,15 @@ pub decided_member : (masks : Masks) (moves left rest : List Move) (move : Move)
 decided_member masks moves left rest move is so_far =
     subst (λ l. Contains l move) (sym (so_far.stands ∙ ap (λ l. so_far.before ++ l) is)) (Contains-append_right so_far.before (move ∷ rest) move (Contains-here move rest))
 
+-- the moves that a version knows are moves of the net
+old_move : (N : NetValue) (move : Move) → Contains (old_moves_of N) move → Contains (moves_of N) move
+unfolding moves_of old_moves_of
+old_move N move there = there
+
+pub known_move : (version : Version) (N M : NetValue) (moves : List Move) (move : Move) → moves ≡ moves_in version N → M ≡ N → Contains moves move → Contains (moves_of M) move
+known_move One N M moves move are same there = subst (λ K. Contains (moves_of K) move) (sym same) (old_move N move (subst (λ l. Contains l move) are there))
+known_move Two N M moves move are same there = subst (λ K. Contains (moves_of K) move) (sym same) (subst (λ l. Contains l move) are there)
+
 module _ (metric : Metric) (exact : NetValue) (bound : ℕ) where
   -- one move that no vector breaks decides
   pub decided_unbroken : (masks : Masks) (moves left rest : List Move) (move : Move) → left ≡ move ∷ rest → IsDecidedBy masks moves left → AreMasksOf metric exact bound masks
@@ -58,10 +71,11 @@ module _ (metric : Metric) (exact : NetValue) (bound : ℕ) where
   decided_last masks moves left is so_far asked = (so_far.same metric exact bound asked).1 (subst (AreBrokenBySome metric exact bound masks.net masks.vectors) (sym is) tt)
 
   -- the masks are of this net and these vectors
-  pub decided_for : (masks : Masks) (N : NetValue) (vectors : List (List Bool)) (broken : Bool) → masks.net ≡ N → masks.vectors ≡ vectors
-      → IsTrue broken ↔ IsMinimalBy metric exact bound masks.net masks.vectors → IsTrue broken ↔ IsMinimalBy metric exact bound N vectors
-  decided_for masks N vectors broken net same h =
-      subst (λ v. IsTrue broken ↔ IsMinimalBy metric exact bound N v) same (subst (λ M. IsTrue broken ↔ IsMinimalBy metric exact bound M masks.vectors) net h)
+  pub decided_for : (masks : Masks) (N : NetValue) (vectors : List (List Bool)) (moves all : List Move) (broken : Bool) → masks.net ≡ N → masks.vectors ≡ vectors → moves ≡ all
+      → IsTrue broken ↔ AreBrokenBySome metric exact bound masks.net masks.vectors moves → IsTrue broken ↔ AreBrokenBySome metric exact bound N vectors all
+  decided_for masks N vectors moves all broken net same are h =
+      subst (λ l. IsTrue broken ↔ AreBrokenBySome metric exact bound N vectors l) are
+      (subst (λ v. IsTrue broken ↔ AreBrokenBySome metric exact bound N v moves) same (subst (λ M. IsTrue broken ↔ AreBrokenBySome metric exact bound M masks.vectors moves) net h))
 
   module _ (N : NetValue) (vectors : List (List Bool)) (move : Move) where
     -- a pattern that breaks the move is one of the vectors

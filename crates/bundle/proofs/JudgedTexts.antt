@@ -3,18 +3,22 @@ use Rattle.std.proofs.Common.{◌≡◌, ◌≢◌, ℕ, ◌≤◌, Bool, IsTrue
 use Rattle.semantics.specs.Net.{NetValue, HasSamePorts}
 use Rattle.semantics.specs.Error.{net_error}
 use Rattle.semantics.specs.declared.metric.Metric.{Metric}
-use Rattle.chain_semantics.specs.Minimality.{IsMinimalBy}
+use Rattle.chain_semantics.specs.Minimality.{AreBrokenBySome}
 use Rattle.proof_semantics.specs.Formula.{dimacs_text}
 use Rattle.proof_semantics.specs.Logs.{LogItem}
 use Rattle.proof_semantics.specs.Miter.{miter}
 use Rattle.job_semantics.specs.declared.ending.Ending.TheVariants as file
 use Rattle.job_semantics.specs.declared.clause.Clause.TheVariants as clause
 use Rattle.job_semantics.specs.Report.{Report}
-use Rattle.job_semantics.specs.Certificate.{IsNeededFor, Texts, IsNetlist, IsReport, AreVectors, IsRefutation, AreCounts, OfNet, OfReport, IsShownMinimal, OfBoth, Holds, Certifies, IsFirstFailing}
+use Rattle.job_semantics.specs.Certificate.{IsNeededFor, Texts, moves_in, IsNetlist, IsReport, AreVectors, IsRefutation, AreCounts, OfNet, OfReport, IsShownMinimal, OfBoth, Holds, Certifies, IsFirstFailing}
 use Rattle.job_semantics.proofs.Certificates.{verified_law}
 use Rattle.lane_bits.specs.Patterns.{PatternSet}
 use Rattle.bundle_texts.specs.LogTold.{IsRefutingText}
 use Rattle.bundle.specs.Judging.{NetKnown, ReportKnown, WitnessKnown, FormulaKnown, LogKnown}
+
+-- the vectors break each move of the net that the report's version knows
+abbrev pub BreaksAll : NetValue → Metric → ℕ → NetValue → Report → List (List Bool) → Type 0
+BreaksAll exact metric bound M r vectors = AreBrokenBySome metric exact bound M vectors (moves_in r.version M)
 
 module _ (exact : NetValue) (metric : Metric) (bound : ℕ) (texts : Texts) where
   of_net : (P : NetValue → Type 0) (M : NetValue) → IsNetlist texts M → OfNet texts P → P M
@@ -158,15 +162,15 @@ module _ (exact : NetValue) (metric : Metric) (bound : ℕ) (texts : Texts) wher
           }
 
           -- the vectors that were read are those of the text, which has no others
-          held_minimal : ((pool : List (List Bool)) × AreVectors exact texts r.witness pool × IsMinimalBy metric exact bound M (r.witness ∷ pool)) → IsMinimalBy metric exact bound M set.vectors
+          held_minimal : ((pool : List (List Bool)) × AreVectors exact texts r.witness pool × BreaksAll exact metric bound M r (r.witness ∷ pool)) → BreaksAll exact metric bound M r set.vectors
           held_minimal (pool, vectors, minimal) =
-              subst (IsMinimalBy metric exact bound M)
+              subst (BreaksAll exact metric bound M r)
               (ap (λ others. r.witness ∷ others) (verified_law.one_pool exact texts r.witness pool w.vectors.pool vectors w.vectors.read) ∙ sym w.vectors.vectors_are) minimal
 
-          shown_minimal : (IsTrue r.minimal → IsMinimalBy metric exact bound M set.vectors) → IsShownMinimal exact metric bound texts M r
-          shown_minimal shown minimal = (w.vectors.pool, w.vectors.read, subst (IsMinimalBy metric exact bound M) w.vectors.vectors_are (shown minimal))
+          shown_minimal : (IsTrue r.minimal → BreaksAll exact metric bound M r set.vectors) → IsShownMinimal exact metric bound texts M r
+          shown_minimal shown minimal = (w.vectors.pool, w.vectors.read, subst (BreaksAll exact metric bound M r) w.vectors.vectors_are (shown minimal))
 
-          pub not_shown : AreCounts exact M r → ¬ (IsTrue r.minimal → IsMinimalBy metric exact bound M set.vectors) → IsFirstFailing exact metric bound texts clause.Minimal
+          pub not_shown : AreCounts exact M r → ¬ (IsTrue r.minimal → BreaksAll exact metric bound M r set.vectors) → IsFirstFailing exact metric bound texts clause.Minimal
           not_shown counts other = record {
             before =
                 clause.Netlist ∷ clause.Ports ∷ clause.ReportForm ∷ clause.MaximumWithin ∷ clause.Witness ∷ clause.Attained ∷ clause.Formula ∷ clause.Log ∷ clause.Counts ∷ [];
@@ -188,7 +192,7 @@ module _ (exact : NetValue) (metric : Metric) (bound : ℕ) (texts : Texts) wher
             fails = λ some. other (λ minimal. held_minimal (of_both (IsShownMinimal exact metric bound texts) M r n k.report some minimal));
           }
 
-          pub all_hold : AreCounts exact M r → (IsTrue r.minimal → IsMinimalBy metric exact bound M set.vectors) → Certifies exact metric bound texts
+          pub all_hold : AreCounts exact M r → (IsTrue r.minimal → BreaksAll exact metric bound M r set.vectors) → Certifies exact metric bound texts
           all_hold counts shown = (
             (M, n),
             (

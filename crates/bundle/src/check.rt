@@ -1,9 +1,9 @@
 //! A bundle's files are checked clause by clause, and each is opened when a clause first needs it.
 ghost use Rattle.std.specs.Prelude.{◌≡◌, ◌↔◌, length, IsTrue, IfOk, IfErr};
 ghost use Rattle.semantics.specs.Net.{HasSamePorts, IsSmall, input_count};
-ghost use Rattle.chain_semantics.specs.Minimality.{IsMinimalBy};
+ghost use Rattle.chain_semantics.specs.Minimality.{AreBrokenBySome};
 ghost use Rattle.proof_semantics.specs.Miter.{miter};
-ghost use Rattle.job_semantics.specs.Certificate.{Texts};
+ghost use Rattle.job_semantics.specs.Certificate.{Texts, moves_in};
 ghost use Rattle.bundle_texts.specs.Reading.{report_read};
 ghost use Rattle.bundle.specs.Judging.{Answers, FilesKept, IsCause, IsFirstFault, IsVerdict, NothingKnown, NetKnown, ReportKnown, WitnessKnown, FormulaKnown, LogKnown};
 
@@ -32,8 +32,8 @@ fn is_shown_minimal(alloc: Global, claim: &Claim, contents: &Contents) -> Result
     requires ports { HasSamePorts claim.now.exact.now contents.now.approx.now }
     requires inputs { contents.now.vectors.now.inputs ≡ input_count claim.now.exact.now }
     ensures { IfOk result (λ yes. IsTrue yes ↔ (IsTrue contents.now.report.now.counts.minimal
-        → IsMinimalBy claim.now.metric claim.now.exact.now claim.now.bound contents.now.approx.now
-        contents.now.vectors.now.vectors)) }
+        → AreBrokenBySome claim.now.metric claim.now.exact.now claim.now.bound contents.now.approx.now
+        contents.now.vectors.now.vectors (moves_in contents.now.report.now.version contents.now.approx.now))) }
 {
     if !contents.report.counts.minimal {
         return Ok(true);
@@ -45,6 +45,7 @@ fn is_shown_minimal(alloc: Global, claim: &Claim, contents: &Contents) -> Result
         claim.metric,
         claim.bound,
         contents.vectors,
+        contents.report.version,
     )
 }
 

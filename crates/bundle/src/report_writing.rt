@@ -2,10 +2,10 @@
 ghost use Rattle.std.specs.Prelude.{◌≡◌, ◌+◌, ◌≤◌, [], ◌∷◌, ◌++◌, length, codes, decimal};
 ghost use Rattle.semantics.specs.Texts.{bits_word, line_text};
 ghost use Rattle.job_semantics.specs.Report.{yes_word};
-ghost use Rattle.bundle.specs.Value.{FitsReport, report_of_bundle};
+ghost use Rattle.bundle.specs.Value.{report_of_bundle};
 
 use crate::bundle::Bundle;
-use bundle_texts::report_lines::{ReportText, add_number, add_word, metric_word};
+use bundle_texts::report_lines::{ReportText, add_number, add_word, metric_word, version_word};
 use itoa::Buffer;
 
 /// Adds a line of a key and two numbers.
@@ -57,11 +57,10 @@ fn yes_word(yes: bool) -> &'static str
 
 /// The eight lines of a bundle's report.
 pub(crate) fn report(b: &Bundle) -> ReportText
-    requires { FitsReport b.now }
     ensures { result.bytes ≡ report_of_bundle b.now }
 {
     let mut text = ReportText::new();
-    add_word(&mut text, "salsa", "1");
+    add_word(&mut text, "salsa", version_word(b.version));
     add_word(&mut text, "metric", metric_word(b.metric));
     add_number(&mut text, "bound", b.bound);
     add_number(&mut text, "maximum", b.maximum);

@@ -3,7 +3,7 @@ ghost use Rattle.std.specs.Prelude.{[], ◌∷◌, OnOk, OnErr};
 ghost use Rattle.outside_semantics.specs.Outside.{Created, CreateFailed, Took, TakeFailed};
 ghost use Rattle.outside_semantics.specs.WrittenFiles.{FilesWritten, FilesCutShort};
 ghost use Rattle.job_semantics.specs.Endings.{bundle_name};
-ghost use Rattle.bundle.specs.Value.{FitsReport, file_of, files_of, report_of_bundle};
+ghost use Rattle.bundle.specs.Value.{file_of, files_of, report_of_bundle};
 
 use crate::bundle::{Bundle, BundleFault};
 use crate::report_writing::report;
@@ -58,7 +58,6 @@ fn write_log<F: Files>(b: &Bundle, stem: &Stem, files: &mut F) -> Result<(), Fil
 }
 
 fn write_vectors_file<F: Files>(b: &Bundle, stem: &Stem, files: &mut F) -> Result<(), FileFault>
-    requires { FitsReport b.now }
     ensures ok { OnOk result
         (FilesWritten (F.told files.old) (F.told files.new) (file_of stem.now b.now Ending.Vectors ∷ [])) }
     ensures err { OnErr result
@@ -69,7 +68,6 @@ fn write_vectors_file<F: Files>(b: &Bundle, stem: &Stem, files: &mut F) -> Resul
 }
 
 fn write_report<F: Files>(b: &Bundle, stem: &Stem, files: &mut F) -> Result<(), FileFault>
-    requires { FitsReport b.now }
     ensures ok { OnOk result
         (FilesWritten (F.told files.old) (F.told files.new) (file_of stem.now b.now Ending.Report ∷ [])) }
     ensures err { OnErr result
@@ -81,7 +79,6 @@ fn write_report<F: Files>(b: &Bundle, stem: &Stem, files: &mut F) -> Result<(), 
 
 /// Makes the files in their order.
 fn write_files<F: Files>(b: &Bundle, stem: &Stem, files: &mut F) -> Result<(), FileFault>
-    requires { FitsReport b.now }
     ensures ok { OnOk result (FilesWritten (F.told files.old) (F.told files.new) (files_of stem.now b.now)) }
     ensures err { OnErr result (FilesCutShort (F.told files.old) (F.told files.new) (files_of stem.now b.now)) }
 {
@@ -95,7 +92,6 @@ fn write_files<F: Files>(b: &Bundle, stem: &Stem, files: &mut F) -> Result<(), F
 /// Makes the five files of the stem. After a fault the files before the one that failed are whole, and that one is
 /// untouched, empty or a first part.
 pub fn write_bundle<F: Files>(b: &Bundle, stem: &Stem, files: &mut F) -> Result<(), BundleFault>
-    requires { FitsReport b.now }
     ensures ok { OnOk result (FilesWritten (F.told files.old) (F.told files.new) (files_of stem.now b.now)) }
     ensures err { OnErr result (FilesCutShort (F.told files.old) (F.told files.new) (files_of stem.now b.now)) }
 {
@@ -107,7 +103,6 @@ pub fn write_bundle<F: Files>(b: &Bundle, stem: &Stem, files: &mut F) -> Result<
 
 /// Puts the report. After a fault a first part of it was put.
 pub fn put_report<K: Sink>(b: &Bundle, say: &mut K) -> Result<(), FileFault>
-    requires { FitsReport b.now }
     ensures ok { OnOk result (Took (K.told say.old) (K.told say.new) (report_of_bundle b.now)) }
     ensures err { OnErr result (TakeFailed (K.told say.old) (K.told say.new) (report_of_bundle b.now)) }
 {

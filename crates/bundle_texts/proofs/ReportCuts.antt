@@ -4,7 +4,9 @@ use Rattle.std.proofs.lemmas.List.{append_cancel_left}
 use Rattle.semantics.specs.Texts.{Bytes, bits_word, line_text}
 use Rattle.semantics.specs.Decimal.{is_digit}
 use Rattle.semantics.specs.declared.metric.Metric.{Metric}
-use Rattle.job_semantics.specs.Report.{Report, metric_word, report_text}
+use Rattle.job_semantics.specs.declared.version.Version.{Version}
+use Rattle.job_semantics.specs.declared.version.Version.TheVariants.{One, Two}
+use Rattle.job_semantics.specs.Report.{Report, version_word, metric_word, report_text}
 use Rattle.job_semantics.specs.Certificate.{IsReportText}
 use Rattle.job_semantics.proofs.ReportTexts.{report_head, two_words, few_digits, report_text-is, number-cut, bits-cut}
 use Rattle.bundle_texts.specs.declared.report_reading.Counts.{Counts}
@@ -99,9 +101,9 @@ front_once head width text m n x y s t h k =
 
 -- ---- the whole text
 
-head_is : (metric : Metric) (bound : ℕ) (rest : Bytes) → head_text metric bound ++ rest ≡ report_head metric bound rest
-head_is metric bound rest =
-    let salsa : Bytes = line_text (codes "salsa" ∷ codes "1" ∷ []) in
+head_is : (version : Version) (metric : Metric) (bound : ℕ) (rest : Bytes) → head_text version metric bound ++ rest ≡ report_head version metric bound rest
+head_is version metric bound rest =
+    let salsa : Bytes = line_text (codes "salsa" ∷ version_word version ∷ []) in
     let unit : Bytes = line_text (codes "metric" ∷ metric_word metric ∷ []) in
     let limit : Bytes = line_text (codes "bound" ∷ decimal bound ∷ []) in
     append_assoc salsa (unit ++ (limit ++ codes "maximum ")) rest
@@ -109,6 +111,8 @@ head_is metric bound rest =
     (append_assoc unit (limit ++ codes "maximum ") rest
     ∙ ap (λ t. unit ++ t) (append_assoc limit (codes "maximum ") rest ∙ two_words (codes "bound") (decimal bound) (codes "maximum " ++ rest))
     ∙ two_words (codes "metric") (metric_word metric) (codes "bound " ++ (decimal bound ++ 10 ∷ (codes "maximum " ++ rest))))
+    ∙ two_words (codes "salsa") (version_word version)
+    (codes "metric " ++ (metric_word metric ++ 10 ∷ (codes "bound " ++ (decimal bound ++ 10 ∷ (codes "maximum " ++ rest)))))
 
 abbrev tail_of : Report → Bytes
 tail_of r = tail_text r.old_tables r.new_tables r.old_literals r.new_literals r.minimal
@@ -122,38 +126,38 @@ counts_of r = record {
   minimal = r.minimal;
 }
 
-parts_are : (r : Report) → head_text r.metric r.bound ++ (decimal r.maximum ++ 10 ∷ (codes "witness " ++ (bits_word r.witness ++ 10 ∷ tail_of r))) ≡ report_text r
-parts_are r = head_is r.metric r.bound _ ∙ sym (report_text-is r)
+parts_are : (r : Report) → head_text r.version r.metric r.bound ++ (decimal r.maximum ++ 10 ∷ (codes "witness " ++ (bits_word r.witness ++ 10 ∷ tail_of r))) ≡ report_text r
+parts_are r = head_is r.version r.metric r.bound _ ∙ sym (report_text-is r)
 
-module _ (inputs : ℕ) (metric : Metric) (bound : ℕ) (text head : Bytes) (head_there : head ≡ head_text metric bound) where
-  front_of : (r : Report) → IsReportText inputs metric bound text r → IsFrontBefore head inputs text r.maximum r.witness (tail_of r)
-  front_of r h = record {
+module _ (inputs : ℕ) (version : Version) (metric : Metric) (bound : ℕ) (text head : Bytes) (head_there : head ≡ head_text version metric bound) where
+  front_of : (r : Report) → r.version ≡ version → IsReportText inputs metric bound text r → IsFrontBefore head inputs text r.maximum r.witness (tail_of r)
+  front_of r same h = record {
     few = h.maximum;
     width_is = h.witness;
     spelled =
         let behind : Bytes = decimal r.maximum ++ 10 ∷ (codes "witness " ++ (bits_word r.witness ++ 10 ∷ tail_of r)) in
-        h.spelled ∙ sym (parts_are r) ∙ (λ i. head_text (h.same_metric i) (h.same_bound i) ++ behind) ∙ ap (λ t. t ++ behind) (sym head_there);
+        h.spelled ∙ sym (parts_are r) ∙ (λ i. head_text (same i) (h.same_metric i) (h.same_bound i) ++ behind) ∙ ap (λ t. t ++ behind) (sym head_there);
   }
 
-  pub no_front : ((maximum : ℕ) (x : List Bool) (rest : Bytes) → ¬ IsFrontBefore head inputs text maximum x rest) → (r : Report) → ¬ IsReportText inputs metric bound text r
-  no_front none r h = none r.maximum r.witness (tail_of r) (front_of r h)
+  pub no_front : ((maximum : ℕ) (x : List Bool) (rest : Bytes) → ¬ IsFrontBefore head inputs text maximum x rest) → (r : Report) → r.version ≡ version → ¬ IsReportText inputs metric bound text r
+  no_front none r same h = none r.maximum r.witness (tail_of r) (front_of r same h)
 
   module _ (maximum : ℕ) (x : List Bool) (rest : Bytes) (front : IsFrontBefore head inputs text maximum x rest) where
-    pub no_tail : ((c : Counts) → ¬ IsTail rest c) → (r : Report) → ¬ IsReportText inputs metric bound text r
-    no_tail none r h =
+    pub no_tail : ((c : Counts) → ¬ IsTail rest c) → (r : Report) → r.version ≡ version → ¬ IsReportText inputs metric bound text r
+    no_tail none r same h =
         none (counts_of r) (record {
           few_old_tables = h.counts.0;
           few_new_tables = h.counts.1.0;
           few_old_literals = h.counts.1.1.0;
           few_new_literals = h.counts.1.1.1.0;
-          spelled = (front_once head inputs text maximum r.maximum x r.witness rest (tail_of r) front (front_of r h)).2;
+          spelled = (front_once head inputs text maximum r.maximum x r.witness rest (tail_of r) front (front_of r same h)).2;
         })
 
-    pub read_is : (found : ReportRead) → found.maximum ≡ maximum → found.witness ≡ x → IsTail rest found.counts → IsReportText inputs metric bound text (report_read metric bound found)
-    read_is found same_maximum same_witness tail = record {
+    pub read_is : (found : ReportRead) → found.version ≡ version → found.maximum ≡ maximum → found.witness ≡ x → IsTail rest found.counts → IsReportText inputs metric bound text (report_read metric bound found)
+    read_is found same_version same_maximum same_witness tail = record {
       spelled =
           front.spelled
-          ∙ (λ i. head_there i ++ (decimal (sym same_maximum i) ++ 10 ∷ (codes "witness " ++ (bits_word (sym same_witness i) ++ 10 ∷ tail.spelled i))))
+          ∙ (λ i. (head_there ∙ ap (λ v. head_text v metric bound) (sym same_version)) i ++ (decimal (sym same_maximum i) ++ 10 ∷ (codes "witness " ++ (bits_word (sym same_witness i) ++ 10 ∷ tail.spelled i))))
           ∙ parts_are (report_read metric bound found);
       same_metric = refl;
       same_bound = refl;
@@ -161,6 +165,16 @@ module _ (inputs : ℕ) (metric : Metric) (bound : ℕ) (text head : Bytes) (hea
       witness = ap length same_witness ∙ front.width_is;
       counts = (tail.few_old_tables, (tail.few_new_tables, (tail.few_old_literals, (tail.few_new_literals, tt))));
     }
+
+-- a text that is a report's of neither version is none's
+pub neither_version : (inputs : ℕ) (metric : Metric) (bound : ℕ) (text : Bytes)
+    → ((r : Report) → r.version ≡ Two → ¬ IsReportText inputs metric bound text r) → ((r : Report) → r.version ≡ One → ¬ IsReportText inputs metric bound text r)
+    → (r : Report) → ¬ IsReportText inputs metric bound text r
+neither_version inputs metric bound text not_two not_one r = of_version r.version refl
+  where
+    of_version : (version : Version) → r.version ≡ version → ¬ IsReportText inputs metric bound text r
+    of_version One is = not_one r is
+    of_version Two is = not_two r is
 
 -- ---- the last line
 

@@ -7,7 +7,9 @@ use Rattle.semantics.specs.Texts.{Bytes, bit_byte, bits_word, line_text}
 use Rattle.semantics.specs.declared.metric.Metric.{Metric}
 use Rattle.semantics.specs.declared.metric.Metric.TheVariants.{Abs, Rel, Ham, Sabs}
 use Rattle.file_reading.specs.Reading.{IsAllWanted}
-use Rattle.job_semantics.specs.Report.{Report, metric_word, yes_word, report_text}
+use Rattle.job_semantics.specs.declared.version.Version.{Version}
+use Rattle.job_semantics.specs.declared.version.Version.TheVariants.{One, Two}
+use Rattle.job_semantics.specs.Report.{Report, version_word, metric_word, yes_word, report_text}
 use Rattle.job_semantics.specs.Certificate.{IsReportText}
 use Rattle.job_semantics.proofs.ReportTexts.{report_head, counts_line, report_rest, report_text-is, few_digits}
 use Rattle.bundle_texts.specs.declared.report_reading.ReportRead.{ReportRead}
@@ -20,6 +22,10 @@ word_length Abs = omega arith
 word_length Rel = omega arith
 word_length Ham = omega arith
 word_length Sabs = omega arith
+
+version_length : (version : Version) → length (version_word version) ≤ 1
+version_length One = omega arith
+version_length Two = omega arith
 
 yes_length : (yes : Bool) → length (yes_word yes) ≤ 3
 yes_length true = omega arith
@@ -61,8 +67,8 @@ rest_length r inputs metric bound text h few =
       length-map r.witness bit_byte,
     )
 
-head_length : (metric : Metric) (bound : ℕ) (rest : Bytes) → bound < 2 ^ 128 → length (report_head metric bound rest) ≤ 110 + length rest
-head_length metric bound rest few =
+head_length : (version : Version) (metric : Metric) (bound : ℕ) (rest : Bytes) → bound < 2 ^ 128 → length (report_head version metric bound rest) ≤ 110 + length rest
+head_length version metric bound rest few =
     let large : 2 ^ 128 < 10 ^ 64 = lit< tt in
     let maximum : Bytes = codes "maximum " ++ rest in
     let limit : Bytes = codes "bound " ++ (decimal bound ++ 10 ∷ maximum) in
@@ -71,7 +77,9 @@ head_length metric bound rest few =
       arith,
       number_length bound (omega (arith, few, large)),
       word_length metric,
-      length-append (codes "salsa 1") (10 ∷ unit),
+      version_length version,
+      length-append (codes "salsa ") (version_word version ++ 10 ∷ unit),
+      length-append (version_word version) (10 ∷ unit),
       length-append (codes "metric ") (metric_word metric ++ 10 ∷ limit),
       length-append (metric_word metric) (10 ∷ limit),
       length-append (codes "bound ") (decimal bound ++ 10 ∷ maximum),
@@ -85,7 +93,7 @@ report_length inputs metric bound text r h few small =
       arith,
       ap length (h.spelled ∙ report_text-is r),
       rest_length r inputs metric bound text h few,
-      head_length r.metric r.bound (report_rest r) (subst (λ n. n < 2 ^ 128) (sym h.same_bound) small),
+      head_length r.version r.metric r.bound (report_rest r) (subst (λ n. n < 2 ^ 128) (sym h.same_bound) small),
     )
 
 module _ (inputs : ℕ) (metric : Metric) (bound : ℕ) (few : inputs ≤ 256) (small : bound < 2 ^ 128) where

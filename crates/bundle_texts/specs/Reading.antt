@@ -17,6 +17,7 @@ pub record HoldsVectors (inputs : ℕ) (text : Bytes) (witness : List Bool) (set
 -- the report that was read, with its metric and its bound
 abbrev pub report_read : Metric → ℕ → ReportRead → Report
 report_read metric bound read = record {
+  version = read.version;
   metric = metric;
   bound = bound;
   maximum = read.maximum;

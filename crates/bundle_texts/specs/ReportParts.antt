@@ -2,13 +2,14 @@
 use Rattle.std.specs.Prelude.{◌≡◌, ℕ, ◌^◌, ◌<◌, Bool, List, [], ◌∷◌, ◌++◌, length, codes, decimal}
 use Rattle.semantics.specs.Texts.{Bytes, bits_word, line_text}
 use Rattle.semantics.specs.declared.metric.Metric.{Metric}
-use Rattle.job_semantics.specs.Report.{metric_word, yes_word}
+use Rattle.job_semantics.specs.declared.version.Version.{Version}
+use Rattle.job_semantics.specs.Report.{version_word, metric_word, yes_word}
 use Rattle.bundle_texts.specs.declared.report_reading.Counts.{Counts}
 
 -- the text before the maximum
-abbrev pub head_text : Metric → ℕ → Bytes
-head_text metric bound =
-    line_text (codes "salsa" ∷ codes "1" ∷ []) ++ (line_text (codes "metric" ∷ metric_word metric ∷ [])
+abbrev pub head_text : Version → Metric → ℕ → Bytes
+head_text version metric bound =
+    line_text (codes "salsa" ∷ version_word version ∷ []) ++ (line_text (codes "metric" ∷ metric_word metric ∷ [])
     ++ (line_text (codes "bound" ∷ decimal bound ∷ []) ++ codes "maximum "))
 
 -- the head, the maximum, the line of the witness, and then the rest

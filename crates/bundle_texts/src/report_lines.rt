@@ -1,10 +1,11 @@
 //! Lines of a report's text, made on the stack, as they are written and as they are looked for.
 ghost use Rattle.std.specs.Prelude.{◌≡◌, ◌+◌, ◌≤◌, [], ◌∷◌, ◌++◌, length, decimal};
 ghost use Rattle.semantics.specs.Texts.{line_text};
-ghost use Rattle.job_semantics.specs.Report.{metric_word};
+ghost use Rattle.job_semantics.specs.Report.{metric_word, version_word};
 
 use arrayvec::ArrayString;
 use itoa::Buffer;
+use job_semantics::version::Version;
 use semantics::metric::Metric;
 
 /// No report of a net within the limits has more bytes.
@@ -33,6 +34,17 @@ pub fn add_number(text: &mut ReportText, key: &str, number: u128)
 {
     let mut digits = Buffer::new();
     add_word(text, key, digits.format(number));
+}
+
+/// The word of a version.
+pub fn version_word(version: Version) -> &'static str
+    ensures word { result.now ≡ version_word version }
+    ensures len { length result.now ≤ 1 }
+{
+    match version {
+        Version::One => "1",
+        Version::Two => "2",
+    }
 }
 
 /// The word of a metric.

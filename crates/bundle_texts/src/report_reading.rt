@@ -8,7 +8,8 @@ ghost use Rattle.bundle_texts.specs.Reading.{report_read};
 
 use crate::bits::bits_of;
 use crate::pieces::{after, number_before, vector_before};
-use crate::report_lines::{ReportText, add_number, add_word, metric_word};
+use crate::report_lines::{ReportText, add_number, add_word, metric_word, version_word};
+use job_semantics::version::Version;
 use net_core::items::Bits;
 use semantics::metric::Metric;
 use std::alloc::{AllocError, Global};
@@ -22,6 +23,7 @@ const MOST_COUNT: u128 = u32::MAX as u128;
 /// What a report says besides its metric and its bound.
 #[derive(Drop)]
 pub struct ReportRead {
+    pub version: Version,
     pub maximum: u128,
     pub witness: Bits,
     pub counts: Counts,
@@ -39,11 +41,11 @@ pub struct Counts {
 }
 
 /// The text before the maximum.
-fn head(metric: Metric, bound: u128) -> ReportText
-    ensures { result.bytes ≡ head_text metric bound }
+fn head(version: Version, metric: Metric, bound: u128) -> ReportText
+    ensures { result.bytes ≡ head_text version metric bound }
 {
     let mut text = ReportText::new();
-    add_word(&mut text, "salsa", "1");
+    add_word(&mut text, "salsa", version_word(version));
     add_word(&mut text, "metric", metric_word(metric));
     add_number(&mut text, "bound", bound);
     text.push_str("maximum ");
@@ -106,8 +108,38 @@ fn tail(text: &[u8]) -> Option<Counts>
     })
 }
 
-/// What the text says, if it is that of a report for nets of so many inputs, the metric and the bound; none for any other
-/// text.
+/// What the text says, if it is that of a report of this version for nets of so many inputs, the metric and the bound; none
+/// for any other text.
+fn read_version(
+    alloc: Global,
+    text: &[u8],
+    version: Version,
+    metric: Metric,
+    bound: u128,
+    inputs: u32,
+) -> Result<Option<ReportRead>, AllocError>
+    ensures { IfOk result (λ read. MatchOption read
+        ((r : Report) → r.version ≡ version → ¬ IsReportText inputs metric bound text.now r)
+        (λ found. IsReportText inputs metric bound text.now (report_read metric bound found))) }
+{
+    let head = head(version, metric, bound);
+    let Some((maximum, digits, rest)) = front(text, head.as_str().as_bytes(), inputs as usize)
+    else {
+        return Ok(None);
+    };
+    let Some(counts) = tail(rest) else {
+        return Ok(None);
+    };
+    Ok(Some(ReportRead {
+        version,
+        maximum,
+        witness: bits_of(alloc, digits)?,
+        counts,
+    }))
+}
+
+/// What the text says, if it is that of a report of either version for nets of so many inputs, the metric and the bound; none
+/// for any other text.
 pub fn read_report(
     alloc: Global,
     text: &[u8],
@@ -119,17 +151,8 @@ pub fn read_report(
         ((r : Report) → ¬ IsReportText inputs metric bound text.now r)
         (λ found. IsReportText inputs metric bound text.now (report_read metric bound found))) }
 {
-    let head = head(metric, bound);
-    let Some((maximum, digits, rest)) = front(text, head.as_str().as_bytes(), inputs as usize)
-    else {
-        return Ok(None);
-    };
-    let Some(counts) = tail(rest) else {
-        return Ok(None);
-    };
-    Ok(Some(ReportRead {
-        maximum,
-        witness: bits_of(alloc, digits)?,
-        counts,
-    }))
+    if let Some(read) = read_version(alloc, text, Version::Two, metric, bound, inputs)? {
+        return Ok(Some(read));
+    }
+    read_version(alloc, text, Version::One, metric, bound, inputs)
 }

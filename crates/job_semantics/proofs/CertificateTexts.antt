@@ -13,6 +13,8 @@ use Rattle.blif_semantics.specs.Lines.{logical_lines}
 use Rattle.blif_semantics.specs.Statements.{first_wrong}
 use Rattle.blif_semantics.specs.Reading.{Refusal, bundle_limit, named_net, numbered, blif_reading}
 use Rattle.proof_semantics.specs.Formula.{Formula, dimacs_text}
+use Rattle.job_semantics.specs.declared.version.Version.{Version}
+use Rattle.job_semantics.specs.declared.version.Version.TheVariants.{One, Two}
 use Rattle.job_semantics.specs.Report.{Report, report_text, vectors_text}
 use Rattle.job_semantics.specs.Certificate.{IsNetlist, IsReportText, IsVectorsText}
 use Rattle.job_semantics.specs.CertificateExamples.{texts_of_three, netlist_with, report_with, both_constant_texts, both_constant_netlist, both_constant_vectors, both_constant_report}
@@ -21,6 +23,7 @@ use Rattle.job_semantics.proofs.ReportTexts.{report_head, report_rest, report_te
 
 abbrev pub the_report : ℕ → ℕ → Bool → Report
 the_report maximum literals minimal = record {
+  version = Two;
   metric = Abs;
   bound = 3;
   maximum = maximum;
@@ -110,12 +113,14 @@ whole_lines text witness pool h =
     let size = ap length h.spelled ∙ lines_length (witness ∷ pool) h.widths in omega (arith, size)
 
 -- the text says another bound
-pub other_bound : (r : Report) → IsReportText 2 Abs 2 both_constant_report r → ⊥
+other_head : (version : Version) (rest : Bytes) → both_constant_report ≡ report_head version Abs 2 rest → ⊥
 unfolding text_of digits
+other_head One rest same = let digit : ◌≡◌ {A = ℕ} 51 50 = ap (λ t. get_or t 25 0) same in omega arith
+other_head Two rest same = let digit : ◌≡◌ {A = ℕ} 51 50 = ap (λ t. get_or t 25 0) same in omega arith
+
+pub other_bound : (r : Report) → IsReportText 2 Abs 2 both_constant_report r → ⊥
 other_bound r h =
-    let same : both_constant_report ≡ report_head Abs 2 (report_rest r) =
-    h.spelled ∙ report_text-is r ∙ (λ i. report_head (h.same_metric i) (h.same_bound i) (report_rest r)) in
-    let digit : ◌≡◌ {A = ℕ} 51 50 = ap (λ t. get_or t 25 0) same in omega arith
+    other_head r.version (report_rest r) (h.spelled ∙ report_text-is r ∙ (λ i. report_head r.version (h.same_metric i) (h.same_bound i) (report_rest r)))
 
 -- no formula has the empty text
 pub some_formula : (f : Formula) → [] ≡ dimacs_text f → ⊥

@@ -7,7 +7,6 @@ use Rattle.semantics.specs.Texts.{Bytes}
 use Rattle.semantics.specs.Net.{NetValue, input_count, table_count, literal_count, HasSamePorts, IsSound, IsSmall}
 use Rattle.semantics.specs.Error.{net_error}
 use Rattle.semantics.specs.declared.metric.Metric.{Metric}
-use Rattle.chain_semantics.specs.Moves.{moves_of}
 use Rattle.quality_semantics.proofs.Joint.{comparable}
 use Rattle.blif_semantics.specs.Reading.{bundle_limit}
 use Rattle.blif_semantics.proofs.ReadNet.{read_sound}
@@ -24,7 +23,7 @@ use Rattle.job_semantics.specs.Endings.{bundle_files}
 use Rattle.job_semantics.specs.declared.clause.Clause.{Clause}
 use Rattle.job_semantics.specs.Report.{Report}
 use Rattle.job_semantics.specs.Bundle.{BundleValue, bundle_report, bundle_text}
-use Rattle.job_semantics.specs.Certificate.{Texts, texts_of, IsNetlist, IsReport, AreVectors, IsRefutation, IsShownMinimal, AreCounts, OfNet, OfReport, OfBoth, Holds, Certifies, IsFirstFailing}
+use Rattle.job_semantics.specs.Certificate.{Texts, texts_of, moves_in, IsNetlist, IsReport, AreVectors, IsRefutation, IsShownMinimal, AreCounts, OfNet, OfReport, OfBoth, Holds, Certifies, IsFirstFailing}
 use Rattle.job_semantics.specs.CertificateLaws.{IsVerified, VerifiedLaw, IsRightBundle, HeldCertificateLaw, FirstFailingLaw}
 use Rattle.job_semantics.proofs.BundleFiles.{bundle_files-holds}
 use Rattle.job_semantics.proofs.ReportTexts.{AreFew, one_report}
@@ -83,7 +82,7 @@ module _ (exact : NetValue) (metric : Metric) (bound : ℕ) (texts : Texts) (sou
     minimal = λ yes.
         let shown = of_both exact metric bound texts (IsShownMinimal exact metric bound texts) M r net report c.1.1.1.1.1.1.1.1.1.0 in
         let pool = shown yes in
-        minimal-none_allowed metric exact bound M (r.witness ∷ pool.0) (moves_of M) pool.1.widths pool.2;
+        minimal-none_allowed metric exact bound M (r.witness ∷ pool.0) (moves_in r.version M) pool.1.widths pool.2;
   }
 
 pub verified_law : VerifiedLaw
@@ -138,6 +137,10 @@ module _ (b : BundleValue) (h : IsRightBundle b) where
     read = round_trip_law b.log (writable b.goal b.log h.variables h.derivation);
     refutes = subst (λ f. Refutes f.clauses b.log) h.goal h.refutes;
   }
+
+  -- the report that is written is of the bundle's version
+  pub written_version : OfReport b.exact b.metric b.bound (bundle_text b) (λ r. r.version ≡ b.version)
+  written_version = (bundle_report b, report_read, refl)
 
   pub written_certifies : Certifies b.exact b.metric b.bound (bundle_text b)
   written_certifies = (

@@ -1,31 +1,28 @@
 -- Which told files are verified, and what a check says of the files that a synthesis left.
-use Rattle.std.proofs.Common.{◌≡◌, ◌≢◌, ◌⊎◌, ◌<◌, ◌≤◌, ◌^◌, ℕ, Bool, true, false, not, ◌&&◌, ◌||◌, List, [], ◌∷◌, length, Option, Some, None, is_some, Result, Ok, Err, inl, inr, refl, ap, sym, subst, ◌∙◌, arith}
+use Rattle.std.proofs.Common.{◌≡◌, ◌≢◌, ◌⊎◌, ℕ, Bool, true, false, not, ◌&&◌, ◌||◌, List, [], ◌∷◌, Some, Result, Ok, Err, inl, inr, refl, ap, sym, subst, ◌∙◌, arith}
 use Rattle.std.specs.Prelude.{IsTrue, unwrap_or, bytes_eq}
 use Rattle.std.specs.List.{AllByRecursion, list_any}
-use Rattle.std.specs.FinMap.{get, contains_key}
+use Rattle.std.specs.FinMap.{get}
 use Rattle.std.proofs.lemmas.Slice.Eq.{bytes_eq-Decides}
 use Rattle.semantics.specs.Texts.{Bytes}
 use Rattle.semantics.specs.Net.{NetValue}
 use Rattle.semantics.specs.declared.metric.Metric.{Metric}
 use Rattle.outside_semantics.specs.Outside.{Held, FilesTold, SinkTold, bytes_of}
 use Rattle.outside_semantics.specs.WrittenFiles.{with_files}
-use Rattle.blif_semantics.specs.Reading.{input_limit, Refusal, no_output, named_net, blif_reading}
-use Rattle.blif_semantics.specs.Lines.{logical_lines}
-use Rattle.blif_semantics.specs.Statements.{first_wrong}
-use Rattle.proof_semantics.specs.Queries.{SpentValue}
+use Rattle.blif_semantics.specs.Reading.{Refusal}
 use Rattle.job_semantics.specs.declared.ending.Ending.{Ending}
-use Rattle.job_semantics.specs.declared.ending.Ending.TheVariants as file
 use Rattle.job_semantics.specs.declared.clause.Clause.{Clause}
 use Rattle.job_semantics.specs.Endings.{bundle_endings, bundle_name, bundle_files, is_bundle_name}
 use Rattle.job_semantics.specs.Job.{are_file_words, is_empty_word}
 use Rattle.job_semantics.specs.Input.{IsReadAs}
-use Rattle.job_semantics.specs.Certificate.{Texts, texts_of, Certifies, IsFirstFailing, AreNeededHeld}
-use Rattle.job_semantics.specs.Synthesis.{SynthDone, InputRefused, synth_bundle}
+use Rattle.job_semantics.specs.Certificate.{Texts, texts_of, Certifies, IsFirstFailing}
+use Rattle.job_semantics.specs.Synthesis.{InputRefused, synth_bundle}
 use Rattle.job_semantics.specs.Bundle.{bundle_text}
-use Rattle.job_semantics.specs.Checking.{AreCheckFilesHeld, IsLeftAlone, CheckVerified, CheckRefuted, CheckReadFault, CheckEndless, CheckEnd, verified, refuted, refused, out_of_memory, not_read, endless, IsQuietCheck, AreShort, IsVerifiedEnd, IsEndlessEnd, IsVerifiedOrNoMemory, Verifies}
+use Rattle.job_semantics.specs.Checking.{AreCheckFilesHeld, IsLeftAlone, CheckRefuted, CheckReadFault, CheckEnd, verified, refuted, refused, out_of_memory, not_read, endless, IsQuietCheck, AreShort, IsVerifiedEnd, IsEndlessEnd, IsVerifiedOrNoMemory, Verifies}
 use Rattle.job_semantics.specs.CheckingLaws.{CheckedFilesLaw, JoinedRunsLaw}
-use Rattle.job_semantics.proofs.BundleFiles.{bundle_files-holds, bundle_files-others}
+use Rattle.job_semantics.proofs.BundleFiles.{bundle_files-others}
 use Rattle.job_semantics.proofs.Certificates.{first_failing_law}
+use Rattle.job_semantics.proofs.CertifiedFiles.{certified_files_held}
 
 -- a text is read as one net
 pub one_net : (text : Bytes) (N M : NetValue) → IsReadAs text N → IsReadAs text M → N ≡ M
@@ -95,7 +92,8 @@ module _ {metric : Metric} {bound : ℕ} {input stem : Bytes} {old new : FilesTo
 pub checked_files_law : CheckedFilesLaw
 checked_files_law = record {
   only_certificates = λ end is a b told tells. only_certificates end is a b told tells;
-  each_certificate = λ end a exact told held reads certified quiet. each_certificate a exact told held end reads certified quiet;
+  each_certificate = λ end a exact told reads certified quiet.
+      each_certificate a exact told (certified_files_held exact _ _ _ a certified reads) end reads certified quiet;
   with_an_end = λ end a told held short. with_an_end end a told held short;
 }
 
@@ -106,9 +104,10 @@ no_end : (metric : Metric) (bound : ℕ) (input stem : Bytes) (old new : FilesTo
 no_end metric bound input stem old new said says end (inl well) ends = well
 no_end metric bound input stem old new said says end (inr is) ends = absurd (ends is)
 
-pub certificate-verifies : {metric : Metric} {bound : ℕ} {input stem : Bytes} (held : Held) (exact : NetValue) → AreCheckFilesHeld metric bound input stem held
+pub certificate-verifies : {metric : Metric} {bound : ℕ} {input stem : Bytes} (held : Held) (exact : NetValue)
     → IsReadAs (bytes_of held input) exact → Certifies exact metric bound (texts_of held stem) → Verifies metric bound input stem held
-certificate-verifies {metric} {bound} {input} {stem} held exact files reads certified = λ old new said says told short quiet end.
+certificate-verifies {metric} {bound} {input} {stem} held exact reads certified = λ old new said says told short quiet end.
+    let files : AreCheckFilesHeld metric bound input stem held = certified_files_held exact metric bound stem held certified reads in
     no_end metric bound input stem old new said says end (each_certificate held exact told files end reads certified quiet) (with_an_end end held told files short)
 
 -- a name that is no file of the bundle is none of the five
@@ -131,25 +130,6 @@ other_word false true r is = cc
 other_word false false true is = cc
 other_word false false false is = refl
 
--- no bytes are read as no net
-no_bytes : (N : NetValue) → ¬ IsReadAs [] N
-unfolding blif_reading first_wrong logical_lines named_net
-no_bytes N is =
-    let none : blif_reading [] input_limit ≡ Err no_output = refl in
-    let both : ◌≡◌ {A = Result NetValue Refusal} (Err no_output) (Ok N) = sym none ∙ is in cc
-
-is_held : (found : Option Bytes) (N : NetValue) → IsReadAs (unwrap_or found []) N → IsTrue (is_some found)
-is_held None N reads = absurd (no_bytes N reads)
-is_held (Some bytes) N reads = refl
-
--- each file of the bundle is held, once all were written
-held_after : (held : Held) (stem : Bytes) (text : Texts) (ending : Ending) → IsTrue (contains_key (with_files held (bundle_files stem text)) (bundle_name stem ending))
-held_after held stem text file.Netlist = ap is_some (bundle_files-holds held stem text).0
-held_after held stem text file.Formula = ap is_some (bundle_files-holds held stem text).1.0
-held_after held stem text file.Log = ap is_some (bundle_files-holds held stem text).1.1.0
-held_after held stem text file.Vectors = ap is_some (bundle_files-holds held stem text).1.1.1.0
-held_after held stem text file.Report = ap is_some (bundle_files-holds held stem text).1.1.1.1.0
-
 -- files of a bundle were written, and IN is none of them
 module _ (metric : Metric) (bound : ℕ) (input stem : Bytes) (words : IsTrue (are_file_words input stem)) (a b : Held) (text : Texts) (exact : NetValue) (written : b ≡ with_files a (bundle_files stem text)) where
   input_stays : get b input ≡ get a input
@@ -161,14 +141,8 @@ module _ (metric : Metric) (bound : ℕ) (input stem : Bytes) (words : IsTrue (a
   reads_after : IsReadAs (bytes_of a input) exact → IsReadAs (bytes_of b input) exact
   reads_after reads = subst (λ found. IsReadAs (unwrap_or found []) exact) (sym input_stays) reads
 
-  files_after : IsReadAs (bytes_of a input) exact → AreCheckFilesHeld metric bound input stem b
-  files_after reads = record {
-    input_held = is_held (get b input) exact (reads_after reads);
-    bundle_held = λ N read ending needed. subst (λ h. IsTrue (contains_key h (bundle_name stem ending))) (sym written) (held_after a stem text ending);
-  }
-
   pub written_verifies : IsReadAs (bytes_of a input) exact → Certifies exact metric bound (texts_of b stem) → Verifies metric bound input stem b
-  written_verifies reads certified = certificate-verifies b exact (files_after reads) (reads_after reads) certified
+  written_verifies reads certified = certificate-verifies b exact (reads_after reads) certified
 
 pub joined_runs_law : JoinedRunsLaw
 joined_runs_law metric bound limit input stem spent old new said says words done a b told tells =

@@ -1,9 +1,8 @@
 -- What the words of a job say of its files.
-use Rattle.std.proofs.Common.{◌≡◌, ℕ, Bool, true, false, List, [], ◌∷◌, Option, Some, None, refl, subst, if◌then◌else◌}
+use Rattle.std.proofs.Common.{◌≡◌, Bool, true, false, List, [], ◌∷◌, Option, Some, None, refl, subst, if◌then◌else◌}
 use Rattle.std.specs.Prelude.{IsTrue, IfSome, bytes_eq, codes}
 use Rattle.semantics.specs.Texts.{Bytes}
 use Rattle.semantics.specs.Optional.{◌>>=◌}
-use Rattle.semantics.specs.declared.metric.Metric.{Metric}
 use Rattle.job_semantics.specs.Job.{Job, synth, check, demo, metric_of, bound_of, conflicts_of, width_of, are_file_words, synth_of, check_of, demo_of, job_of}
 use Rattle.job_semantics.specs.CheckingLaws.{FileWordsLaw}
 

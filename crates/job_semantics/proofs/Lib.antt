@@ -11,3 +11,5 @@ pub mod DemoSum
 pub mod DemoSound
 pub mod FileWords
 pub mod CheckedFiles
+pub mod CertifiedFiles
+pub mod ParityTexts

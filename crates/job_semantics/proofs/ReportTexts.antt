@@ -8,14 +8,16 @@ use Rattle.semantics.specs.Texts.{Bytes, line_text, text_of, bits_word}
 use Rattle.semantics.specs.Decimal.{is_digit, digits_number, is_decimal}
 use Rattle.semantics.specs.declared.metric.Metric.{Metric}
 use Rattle.semantics.proofs.Numerals.{digits_number-decimal, is_decimal-decimal}
-use Rattle.job_semantics.specs.Report.{Report, metric_word, yes_word, report_lines, report_text}
+use Rattle.job_semantics.specs.declared.version.Version.{Version}
+use Rattle.job_semantics.specs.declared.version.Version.TheVariants.{One, Two}
+use Rattle.job_semantics.specs.Report.{Report, version_word, metric_word, yes_word, report_lines, report_text}
 
 -- ---- the text
 
 -- the text before the maximum
-abbrev pub report_head : Metric → ℕ → Bytes → Bytes
-report_head metric bound rest =
-    codes "salsa 1" ++ 10 ∷ (codes "metric " ++ (metric_word metric ++ 10 ∷ (codes "bound " ++ (decimal bound ++ 10 ∷ (codes "maximum " ++ rest)))))
+abbrev pub report_head : Version → Metric → ℕ → Bytes → Bytes
+report_head version metric bound rest =
+    codes "salsa " ++ (version_word version ++ 10 ∷ (codes "metric " ++ (metric_word metric ++ 10 ∷ (codes "bound " ++ (decimal bound ++ 10 ∷ (codes "maximum " ++ rest))))))
 
 -- a key, two numbers and a line end, before the rest
 abbrev pub counts_line : Bytes → ℕ → ℕ → Bytes → Bytes
@@ -42,11 +44,11 @@ minimal_line : (minimal : Bool) → text_of ((codes "minimal" ∷ yes_word minim
 unfolding text_of
 minimal_line minimal = two_words (codes "minimal") (yes_word minimal) []
 
-pub report_text-is : (r : Report) → report_text r ≡ report_head r.metric r.bound (report_rest r)
+pub report_text-is : (r : Report) → report_text r ≡ report_head r.version r.metric r.bound (report_rest r)
 unfolding report_text text_of
 report_text-is r =
-    two_words (codes "salsa") (codes "1") (text_of (drop 1 (report_lines r)))
-    ∙ ap (λ t. codes "salsa 1" ++ 10 ∷ t) (
+    two_words (codes "salsa") (version_word r.version) (text_of (drop 1 (report_lines r)))
+    ∙ ap (λ t. codes "salsa " ++ (version_word r.version ++ 10 ∷ t)) (
     two_words (codes "metric") (metric_word r.metric) (text_of (drop 2 (report_lines r)))
     ∙ ap (λ t. codes "metric " ++ (metric_word r.metric ++ 10 ∷ t)) (
     two_words (codes "bound") (decimal r.bound) (text_of (drop 3 (report_lines r)))
@@ -116,8 +118,15 @@ yes-cut false true same = absurd (let e : 110 ≡ 121 = ap (λ l. get_or l 0 0) 
 
 -- ---- a text is that of one report
 
-head-cut : (metric : Metric) (bound : ℕ) (s t : Bytes) → report_head metric bound s ≡ report_head metric bound t → s ≡ t
-head-cut metric bound s t same =
+-- the version's one digit tells it
+version-cut : (v w : Version) (s t : Bytes) → version_word v ++ s ≡ version_word w ++ t → v ≡ w
+version-cut One One s t same = refl
+version-cut Two Two s t same = refl
+version-cut One Two s t same = absurd (let e : 49 ≡ 50 = ap (λ l. get_or l 0 0) same in omega arith)
+version-cut Two One s t same = absurd (let e : 50 ≡ 49 = ap (λ l. get_or l 0 0) same in omega arith)
+
+head-cut : (version : Version) (metric : Metric) (bound : ℕ) (s t : Bytes) → report_head version metric bound s ≡ report_head version metric bound t → s ≡ t
+head-cut version metric bound s t same =
     append_cancel_left (codes "maximum ") s t
     (append_cancel_left (10 ∷ []) _ _
     (append_cancel_left (decimal bound) _ _
@@ -125,7 +134,9 @@ head-cut metric bound s t same =
     (append_cancel_left (10 ∷ []) _ _
     (append_cancel_left (metric_word metric) _ _
     (append_cancel_left (codes "metric ") _ _
-    (append_cancel_left (codes "salsa 1" ++ 10 ∷ []) _ _ same)))))))
+    (append_cancel_left (10 ∷ []) _ _
+    (append_cancel_left (version_word version) _ _
+    (append_cancel_left (codes "salsa ") _ _ same)))))))))
 
 -- numbers that a report may hold
 pub record AreFew (r : Report) : Type 0 where
@@ -135,9 +146,9 @@ pub record AreFew (r : Report) : Type 0 where
 pub few_digits : (n : ℕ) → n < 2 ^ 84 → n < 10 ^ 64
 few_digits n h = let large : 2 ^ 84 < 10 ^ 64 = lit< tt in omega arith
 
-pub rest-cut : (r s : Report) → AreFew r → AreFew s → r.metric ≡ s.metric → r.bound ≡ s.bound → length r.witness ≡ length s.witness
+pub rest-cut : (r s : Report) → AreFew r → AreFew s → r.version ≡ s.version → r.metric ≡ s.metric → r.bound ≡ s.bound → length r.witness ≡ length s.witness
     → report_rest r ≡ report_rest s → r ≡ s
-rest-cut r s few fewer metric bound width same =
+rest-cut r s few fewer version metric bound width same =
     let maximum = number-cut r.maximum s.maximum 10 10 _ _ (few_digits r.maximum few.maximum) (few_digits s.maximum fewer.maximum) refl refl same in
     let witness = bits-cut r.witness s.witness _ _ width (append_cancel_left (10 ∷ codes "witness ") _ _ maximum.1) in
     let tables = counts-cut (codes "tables ") r.old_tables r.new_tables s.old_tables s.new_tables _ _ few.counts.0 few.counts.1.0 fewer.counts.0 fewer.counts.1.0
@@ -146,6 +157,7 @@ rest-cut r s few fewer metric bound width same =
     few.counts.1.1.0 few.counts.1.1.1.0 fewer.counts.1.1.0 fewer.counts.1.1.1.0 tables.2 in
     let minimal = yes-cut r.minimal s.minimal (append_cancel_left (codes "minimal ") _ _ literals.2) in
     λ i. record {
+      version = version i;
       metric = metric i;
       bound = bound i;
       maximum = maximum.0 i;
@@ -160,6 +172,8 @@ rest-cut r s few fewer metric bound width same =
 pub one_report : (r s : Report) → AreFew r → AreFew s → r.metric ≡ s.metric → r.bound ≡ s.bound → length r.witness ≡ length s.witness
     → report_text r ≡ report_text s → r ≡ s
 one_report r s few fewer metric bound width same =
-    rest-cut r s few fewer metric bound width
-    (head-cut s.metric s.bound (report_rest r) (report_rest s)
-    (sym (λ i. report_head (metric i) (bound i) (report_rest r)) ∙ sym (report_text-is r) ∙ same ∙ report_text-is s))
+    let heads = sym (report_text-is r) ∙ same ∙ report_text-is s in
+    let version = version-cut r.version s.version _ _ (append_cancel_left (codes "salsa ") _ _ heads) in
+    rest-cut r s few fewer version metric bound width
+    (head-cut s.version s.metric s.bound (report_rest r) (report_rest s)
+    (sym (λ i. report_head (version i) (metric i) (bound i) (report_rest r)) ∙ heads))

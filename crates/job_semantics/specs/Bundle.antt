@@ -9,11 +9,13 @@ use Rattle.proof_semantics.specs.Logs.{LogItem}
 use Rattle.proof_semantics.specs.Lrat.{lrat_text}
 use Rattle.job_semantics.specs.declared.ending.Ending.{Ending}
 use Rattle.job_semantics.specs.declared.ending.Ending.TheVariants as file
+use Rattle.job_semantics.specs.declared.version.Version.{Version}
 use Rattle.job_semantics.specs.Report.{Report, report_of, report_text, vectors_text}
 
--- The net as it was read and the simplified one; the error, its bound and its maximum; an input that attains the maximum, and the vectors
--- that stand behind it; whether no further move is allowed; the formula that says that some error exceeds the maximum, and its log.
+-- The version; the net as it was read and the simplified one; the error, its bound and its maximum; an input that attains the maximum, and the vectors
+-- that stand behind it; whether no further move of that version is allowed; the formula that says that some error exceeds the maximum, and its log.
 pub record BundleValue : Type 0 where
+  pub version : Version
   pub exact : NetValue
   pub approx : NetValue
   pub metric : Metric
@@ -26,7 +28,7 @@ pub record BundleValue : Type 0 where
   pub log : List LogItem
 
 abbrev pub bundle_report : BundleValue → Report
-bundle_report b = report_of b.metric b.bound b.maximum b.witness b.exact b.approx b.minimal
+bundle_report b = report_of b.version b.metric b.bound b.maximum b.witness b.exact b.approx b.minimal
 
 -- the text of each file
 abbrev pub bundle_text : BundleValue → Ending → Bytes

@@ -7,7 +7,9 @@ use Rattle.semantics.specs.Texts.{Bytes}
 use Rattle.semantics.specs.Net.{NetValue, input_count, table_count, literal_count, HasSamePorts}
 use Rattle.semantics.specs.Error.{net_error}
 use Rattle.semantics.specs.declared.metric.Metric.{Metric}
-use Rattle.chain_semantics.specs.Minimality.{IsMinimalBy}
+use Rattle.chain_semantics.specs.declared.moves.Move.{Move}
+use Rattle.chain_semantics.specs.Moves.{moves_of, old_moves_of}
+use Rattle.chain_semantics.specs.Minimality.{AreBrokenBySome}
 use Rattle.blif_semantics.specs.Reading.{bundle_limit, blif_reading}
 use Rattle.proof_semantics.specs.Formula.{dimacs_text}
 use Rattle.proof_semantics.specs.Logs.{LogItem, Refutes}
@@ -17,6 +19,8 @@ use Rattle.job_semantics.specs.declared.ending.Ending.{Ending}
 use Rattle.job_semantics.specs.declared.ending.Ending.TheVariants as file
 use Rattle.job_semantics.specs.declared.clause.Clause.{Clause}
 use Rattle.job_semantics.specs.declared.clause.Clause.TheVariants as clause
+use Rattle.job_semantics.specs.declared.version.Version.{Version}
+use Rattle.job_semantics.specs.declared.version.Version.TheVariants.{One, Two}
 use Rattle.outside_semantics.specs.Outside.{Held, FilesTold, WhereTold, bytes_of}
 use Rattle.job_semantics.specs.Endings.{bundle_endings, bundle_name}
 use Rattle.job_semantics.specs.Report.{Report, report_text, vectors_text}
@@ -37,7 +41,7 @@ OfBundle old new stem P = WhereTold old new (λ a b. P (texts_of b stem))
 abbrev pub IsNetlist : Texts → NetValue → Type 0
 IsNetlist texts M = blif_reading (texts file.Netlist) bundle_limit ≡ Ok M
 
--- the text is that of the report, which is one for so many inputs, the metric and the bound
+-- the text is that of the report, which is one for so many inputs, the metric and the bound, of either version
 pub record IsReportText (inputs : ℕ) (metric : Metric) (bound : ℕ) (text : Bytes) (r : Report) : Type 0 where
   pub spelled : text ≡ report_text r
   pub same_metric : r.metric ≡ metric
@@ -72,10 +76,17 @@ pub record AreCounts (exact approx : NetValue) (r : Report) : Type 0 where
   pub tables : table_count approx ≤ table_count exact
   pub literals : literal_count approx ≤ literal_count exact
 
--- where the report says that no further move is allowed, each move of the net is broken by some vector of `.wit`
+-- the moves that a version knows
+abbrev pub moves_in : Version → NetValue → List Move
+moves_in One = old_moves_of
+moves_in Two = moves_of
+
+-- where the report says that no further move is allowed, each move of the net that its version knows is broken by some vector of `.wit`
 abbrev pub IsShownMinimal : NetValue → Metric → ℕ → Texts → NetValue → Report → Type 0
 IsShownMinimal exact metric bound texts approx r =
-    IsTrue r.minimal → (pool : List (List Bool)) × AreVectors exact texts r.witness pool × IsMinimalBy metric exact bound approx (r.witness ∷ pool)
+    IsTrue r.minimal
+    → (pool : List (List Bool)) × AreVectors exact texts r.witness pool
+    × AreBrokenBySome metric exact bound approx (r.witness ∷ pool) (moves_in r.version approx)
 
 -- P of the net of `.blif`, of the report of `.txt`, and of both
 abbrev pub OfNet : Texts → (NetValue → Type 0) → Type 0

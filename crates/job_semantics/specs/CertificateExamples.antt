@@ -37,7 +37,7 @@ both_constant_vectors = text (codes "11" ∷ codes "00" ∷ codes "10" ∷ [])
 -- a report for the bound 3 with these lines
 abbrev pub report_with : Bytes → Bytes → Bytes → Bytes
 report_with maximum literals minimal =
-    text (codes "salsa 1" ∷ codes "metric abs" ∷ codes "bound 3" ∷ maximum ∷ codes "witness 11" ∷ codes "tables 2 2" ∷ literals ∷ minimal ∷ [])
+    text (codes "salsa 2" ∷ codes "metric abs" ∷ codes "bound 3" ∷ maximum ∷ codes "witness 11" ∷ codes "tables 2 2" ∷ literals ∷ minimal ∷ [])
 
 abbrev pub both_constant_report : Bytes
 both_constant_report = report_with (codes "maximum 2") (codes "literals 6 0") (codes "minimal no")
@@ -87,7 +87,7 @@ carry_copied_netlist =
 abbrev pub carry_copied_report : Bytes
 carry_copied_report =
     text (
-    codes "salsa 1" ∷ codes "metric abs" ∷ codes "bound 1" ∷ codes "maximum 1" ∷ codes "witness 10" ∷ codes "tables 2 2" ∷ codes "literals 6 1"
+    codes "salsa 2" ∷ codes "metric abs" ∷ codes "bound 1" ∷ codes "maximum 1" ∷ codes "witness 10" ∷ codes "tables 2 2" ∷ codes "literals 6 1"
     ∷ codes "minimal yes" ∷ []
     )
 

@@ -5,8 +5,7 @@ use Rattle.semantics.specs.Texts.{Bytes}
 use Rattle.semantics.specs.Net.{NetValue, input_count, table_count, literal_count, HasSamePorts, IsSound, IsSmall}
 use Rattle.semantics.specs.Error.{net_error, IsWithin}
 use Rattle.semantics.specs.declared.metric.Metric.{Metric}
-use Rattle.chain_semantics.specs.Moves.{moves_of}
-use Rattle.chain_semantics.specs.Minimality.{IsMinimalBy}
+use Rattle.chain_semantics.specs.Minimality.{AreBrokenBySome}
 use Rattle.chain_semantics.specs.Simplification.{IsAllowedMove}
 use Rattle.outside_semantics.specs.Outside.{FilesTold}
 use Rattle.outside_semantics.specs.WrittenFiles.{FilesWritten}
@@ -16,10 +15,10 @@ use Rattle.job_semantics.specs.declared.clause.Clause.{Clause}
 use Rattle.job_semantics.specs.Endings.{bundle_files}
 use Rattle.job_semantics.specs.Report.{Report}
 use Rattle.job_semantics.specs.Bundle.{BundleValue, bundle_text}
-use Rattle.job_semantics.specs.Certificate.{Texts, OfBundle, IsNetlist, IsReport, AreVectors, Certifies, IsFirstFailing}
+use Rattle.job_semantics.specs.Certificate.{Texts, OfBundle, moves_in, IsNetlist, IsReport, AreVectors, Certifies, IsFirstFailing}
 
 -- On every input the error of the approximate net is at most the report's maximum, which is within the bound and attained at the
--- witness; there are no more tables and literals; and where the report says so, no move of the approximate net is allowed.
+-- witness; there are no more tables and literals; and where the report says so, no move of the approximate net that its version knows is allowed.
 pub record IsVerified (exact : NetValue) (metric : Metric) (bound : ℕ) (approx : NetValue) (r : Report) : Type 0 where
   pub ports : HasSamePorts exact approx
   pub safe : IsWithin metric exact r.maximum approx
@@ -28,7 +27,7 @@ pub record IsVerified (exact : NetValue) (metric : Metric) (bound : ℕ) (approx
   pub attained : net_error metric exact approx r.witness ≡ r.maximum
   pub tables : table_count approx ≤ table_count exact
   pub literals : literal_count approx ≤ literal_count exact
-  pub minimal : IsTrue r.minimal → AllByRecursion (λ m. ¬ IsAllowedMove metric exact bound approx m) (moves_of approx)
+  pub minimal : IsTrue r.minimal → AllByRecursion (λ m. ¬ IsAllowedMove metric exact bound approx m) (moves_in r.version approx)
 
 -- The verified-bundle theorem: the texts of a certificate have one net, one report and one list of vectors, and these are verified.
 pub record VerifiedLaw : Type 0 where
@@ -60,7 +59,7 @@ pub record IsRightBundle (b : BundleValue) : Type 0 where
   pub derivation : IsDerivation b.goal b.log
   pub tables : table_count b.approx ≤ table_count b.exact
   pub literals : literal_count b.approx ≤ literal_count b.exact
-  pub minimal : IsTrue b.minimal → IsMinimalBy b.metric b.exact b.bound b.approx (b.witness ∷ b.pool)
+  pub minimal : IsTrue b.minimal → AreBrokenBySome b.metric b.exact b.bound b.approx (b.witness ∷ b.pool) (moves_in b.version b.approx)
 
 -- the texts of such a bundle are a certificate
 abbrev pub WrittenCertificateLaw : Type 0

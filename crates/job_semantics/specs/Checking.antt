@@ -1,6 +1,6 @@
 -- What a check job comes to once IN was read as a net, by its answer; what is answered to IN itself is as in a synth job.
 -- Source: this tool's own bundles.
-use Rattle.std.specs.Prelude.{◌≡◌, ◌⊎◌, ℕ, ◌^◌, ◌<◌, ◌≤◌, false, IsTrue, length, Some}
+use Rattle.std.specs.Prelude.{◌≡◌, ◌⊎◌, ℕ, ◌<◌, ◌≤◌, false, IsTrue, length, Some}
 use Rattle.std.specs.FinMap.{contains_key}
 use Rattle.semantics.specs.Texts.{Bytes}
 use Rattle.semantics.specs.Net.{NetValue}
@@ -22,7 +22,7 @@ pub record AreCheckFilesHeld (metric : Metric) (bound : ℕ) (input stem : Bytes
   pub bundle_held : (exact : NetValue) → IsReadAs (bytes_of held input) exact → AreNeededHeld exact metric bound stem held
 
 -- no file changed, no count fell and no steady name was lost, and the sink tells what it told; where the files that are needed are held,
--- what was told is told still, so no name was opened that is not held and not needed
+-- what was told is told still
 pub record IsLeftAlone (metric : Metric) (bound : ℕ) (input stem : Bytes) (old new : FilesTold) (said says : SinkTold) : Type 0 where
   pub goes : Goes old new
   pub files : WhereTold old new (λ a b. b ≡ a)

@@ -18,14 +18,15 @@ pub record FileWordsLaw : Type 0 where
   pub checking : (words : List Bytes) (metric : Metric) (bound : ℕ) (input stem : Bytes)
       → job_of words ≡ Some (check metric bound input stem) → IsTrue (are_file_words input stem)
 
--- A quiet check of files that are told, where IN is accepted and the files that are needed are held, is verified exactly where their texts are
--- a certificate, unless memory is wanting or a file goes on without an end; that one does only if it has 2^40 bytes at least.
+-- A check that is verified found a certificate. A quiet check of files that are told, whose texts are a certificate for the net of IN, is verified
+-- unless memory is wanting or a file goes on without an end. Where the files that are needed are held, one goes on so only if some file of the
+-- bundle has 2^40 bytes at least.
 pub record CheckedFilesLaw : Type 0 where
   pub only_certificates : {metric : Metric} {bound : ℕ} {input stem : Bytes} {old new : FilesTold} {said says : SinkTold}
       (end : CheckEnd metric bound input stem old new said says) → IsVerifiedEnd end
       → WhereTold old new (λ a b. (exact : NetValue) → IsReadAs (bytes_of a input) exact → Certifies exact metric bound (texts_of b stem))
   pub each_certificate : {metric : Metric} {bound : ℕ} {input stem : Bytes} {old new : FilesTold} {said says : SinkTold}
-      (end : CheckEnd metric bound input stem old new said says) (a : Held) (exact : NetValue) → old.held ≡ Some a → AreCheckFilesHeld metric bound input stem a
+      (end : CheckEnd metric bound input stem old new said says) (a : Held) (exact : NetValue) → old.held ≡ Some a
       → IsReadAs (bytes_of a input) exact → Certifies exact metric bound (texts_of a stem) → IsQuietCheck metric bound input stem old new said says
       → IsVerifiedOrNoMemory end ⊎ IsEndlessEnd end
   pub with_an_end : {metric : Metric} {bound : ℕ} {input stem : Bytes} {old new : FilesTold} {said says : SinkTold}

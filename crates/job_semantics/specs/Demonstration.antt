@@ -1,6 +1,6 @@
 -- What a demo job comes to: the net that is generated is simplified as a net that was read, and its bundle stands under the stem `demo`.
 -- Source: this tool's own demonstration.
-use Rattle.std.specs.Prelude.{◌≡◌, IsTrue, codes}
+use Rattle.std.specs.Prelude.{IsTrue, codes}
 use Rattle.semantics.specs.Texts.{Bytes}
 use Rattle.outside_semantics.specs.Outside.{FilesTold, SinkTold}
 use Rattle.job_semantics.specs.Endings.{are_bundle_names_steady}

@@ -4,24 +4,29 @@ use Rattle.semantics.specs.Texts.{Bytes}
 use Rattle.semantics.specs.declared.metric.Metric.TheVariants.{Abs, Rel, Ham}
 use Rattle.semantics.specs.Vectors.{all_vectors}
 use Rattle.semantics.specs.Examples.{text, half_adder, both_constant, constant_one}
+use Rattle.job_semantics.specs.declared.version.Version.TheVariants.{One, Two}
 use Rattle.job_semantics.specs.Report.{report_text, report_of, vectors_text}
 use Rattle.job_semantics.specs.Job.{synth, check, demo, job_of}
 
 pub record ReportExamples : Type 0 where
   pub both_constant_report :
-      report_text (report_of Abs 3 2 (true ∷ true ∷ []) half_adder both_constant false)
-      ≡ text (codes "salsa 1" ∷ codes "metric abs" ∷ codes "bound 3" ∷ codes "maximum 2" ∷ codes "witness 11"
+      report_text (report_of Two Abs 3 2 (true ∷ true ∷ []) half_adder both_constant false)
+      ≡ text (codes "salsa 2" ∷ codes "metric abs" ∷ codes "bound 3" ∷ codes "maximum 2" ∷ codes "witness 11"
       ∷ codes "tables 2 2" ∷ codes "literals 6 0" ∷ codes "minimal no" ∷ [])
   pub both_constant_vectors :
       vectors_text (true ∷ true ∷ []) (all_vectors 2)
       ≡ text (codes "11" ∷ codes "00" ∷ codes "10" ∷ codes "01" ∷ codes "11" ∷ [])
   pub report :
-      report_text (report_of Abs 1 1 (true ∷ false ∷ []) half_adder half_adder true)
+      report_text (report_of Two Abs 1 1 (true ∷ false ∷ []) half_adder half_adder true)
+      ≡ text (codes "salsa 2" ∷ codes "metric abs" ∷ codes "bound 1" ∷ codes "maximum 1" ∷ codes "witness 10"
+      ∷ codes "tables 2 2" ∷ codes "literals 6 6" ∷ codes "minimal yes" ∷ [])
+  pub first_version :
+      report_text (report_of One Abs 1 1 (true ∷ false ∷ []) half_adder half_adder true)
       ≡ text (codes "salsa 1" ∷ codes "metric abs" ∷ codes "bound 1" ∷ codes "maximum 1" ∷ codes "witness 10"
       ∷ codes "tables 2 2" ∷ codes "literals 6 6" ∷ codes "minimal yes" ∷ [])
   pub no_bits :
-      report_text (report_of Abs 0 0 [] constant_one constant_one false)
-      ≡ text (codes "salsa 1" ∷ codes "metric abs" ∷ codes "bound 0" ∷ codes "maximum 0" ∷ codes "witness "
+      report_text (report_of Two Abs 0 0 [] constant_one constant_one false)
+      ≡ text (codes "salsa 2" ∷ codes "metric abs" ∷ codes "bound 0" ∷ codes "maximum 0" ∷ codes "witness "
       ∷ codes "tables 1 1" ∷ codes "literals 0 0" ∷ codes "minimal no" ∷ [])
   pub vectors :
       vectors_text (true ∷ false ∷ []) (all_vectors 2)

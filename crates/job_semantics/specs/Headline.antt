@@ -35,8 +35,9 @@ pub record KeepsItsPromise (metric : Metric) (bound : ℕ) (exact : NetValue) (t
   pub no_more_tables : table_count approx ≤ table_count exact
   pub no_more_literals : literal_count approx ≤ literal_count exact
 
--- The files hold a bundle that verifies: its texts are a certificate, and each quiet check of these files is verified. Its circuit has the
--- original's inputs and outputs by their names, and no single simplification of it keeps the bound.
+-- The files hold a bundle that verifies: its texts are a certificate, and each quiet check of these files is verified, where each of the five has
+-- fewer than 2^40 bytes, unless memory is wanting. Its circuit has the original's inputs and outputs by their names, and is the end of the chain
+-- of simplifications: no single move of it keeps the bound.
 pub record AdmitsNoMore (metric : Metric) (bound : ℕ) (input stem : Bytes) (exact : NetValue) (held : Held) : Type 0 where
   pub certificate : Certifies exact metric bound (texts_of held stem)
   pub verifies : Verifies metric bound input stem held
@@ -52,7 +53,7 @@ pub record IsOfTheChain (metric : Metric) (exact : NetValue) (bound : ℕ) (N : 
   pub at_most_a_move : (N ≡ member) ⊎ ((m : Move) × Contains (moves_of member) m × (N ≡ moved member m))
 
 -- The stated conflicts were spent on the question whether the error of such a net exceeds a level within the bound: the log is a chain of
--- exactly so many conflicts over that question's miter, and each says something that the formula and those before it do not.
+-- exactly so many conflicts over that question's miter, and so many are not enough for the inputs.
 pub record AreSpentOn (metric : Metric) (exact : NetValue) (bound conflicts : ℕ) (q : SpentValue) : Type 0 where
   pub level : q.k ≤ bound
   pub net : IsOfTheChain metric exact bound q.net

@@ -1,5 +1,5 @@
 -- The job that the words of the command line name. Source: this tool's own table of commands.
-use Rattle.std.specs.Prelude.{ℕ, ◌-◌, ◌^◌, Bool, true, false, not, ◌&&◌, List, [], ◌∷◌, codes, nat_le, bytes_eq, Option, Some, None, if◌then◌else◌}
+use Rattle.std.specs.Prelude.{ℕ, Bool, true, false, not, ◌&&◌, List, [], ◌∷◌, codes, nat_le, bytes_eq, Option, Some, None, if◌then◌else◌}
 use Rattle.semantics.specs.Texts.{Bytes}
 use Rattle.semantics.specs.Optional.{◌>>=◌}
 use Rattle.semantics.specs.Decimal.{digits_number, is_decimal}

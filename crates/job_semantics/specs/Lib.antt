@@ -17,3 +17,4 @@ pub mod DemoLaws
 pub mod DemoExamples
 pub mod Demonstration
 pub mod Headline
+pub mod VersionExamples

@@ -4,6 +4,12 @@ use Rattle.semantics.specs.Texts.{Bytes, Line, text_of, bits_word}
 use Rattle.semantics.specs.Net.{NetValue, table_count, literal_count}
 use Rattle.semantics.specs.declared.metric.Metric.{Metric}
 use Rattle.semantics.specs.declared.metric.Metric.TheVariants.{Abs, Rel, Ham, Sabs}
+use Rattle.job_semantics.specs.declared.version.Version.{Version}
+use Rattle.job_semantics.specs.declared.version.Version.TheVariants.{One, Two}
+
+abbrev pub version_word : Version → Bytes
+version_word One = codes "1"
+version_word Two = codes "2"
 
 abbrev pub metric_word : Metric → Bytes
 metric_word Abs = codes "abs"
@@ -13,6 +19,7 @@ metric_word Sabs = codes "sabs"
 
 -- `old` counts the net as it was read, and `new` the written net
 pub record Report : Type 0 where
+  pub version : Version
   pub metric : Metric
   pub bound : ℕ
   pub maximum : ℕ
@@ -23,8 +30,9 @@ pub record Report : Type 0 where
   pub new_literals : ℕ
   pub minimal : Bool
 
-abbrev pub report_of : Metric → ℕ → ℕ → List Bool → NetValue → NetValue → Bool → Report
-report_of metric bound maximum witness exact approx minimal = record {
+abbrev pub report_of : Version → Metric → ℕ → ℕ → List Bool → NetValue → NetValue → Bool → Report
+report_of version metric bound maximum witness exact approx minimal = record {
+  version = version;
   metric = metric;
   bound = bound;
   maximum = maximum;
@@ -42,7 +50,7 @@ yes_word false = codes "no"
 
 abbrev pub report_lines : Report → List Line
 report_lines r =
-    (codes "salsa" ∷ codes "1" ∷ [])
+    (codes "salsa" ∷ version_word r.version ∷ [])
     ∷ (codes "metric" ∷ metric_word r.metric ∷ [])
     ∷ (codes "bound" ∷ decimal r.bound ∷ [])
     ∷ (codes "maximum" ∷ decimal r.maximum ∷ [])

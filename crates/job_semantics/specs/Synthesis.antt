@@ -13,9 +13,10 @@ use Rattle.proof_semantics.specs.Queries.{SpentValue, IsMaximum, IsSpentLevel}
 use Rattle.outside_semantics.specs.Outside.{Held, FilesTold, SinkTold, Goes, Rose, WhereTold, Took, TakeFailed, bytes_of}
 use Rattle.outside_semantics.specs.WrittenFiles.{File, FilesWritten, FilesCutShort}
 use Rattle.job_semantics.specs.declared.ending.Ending.TheVariants.{Report}
+use Rattle.job_semantics.specs.declared.version.Version.TheVariants.{Two}
 use Rattle.job_semantics.specs.Endings.{bundle_files, are_bundle_names_steady}
 use Rattle.job_semantics.specs.Bundle.{BundleValue, bundle_text}
-use Rattle.job_semantics.specs.Certificate.{OfBundle, IsNetlist, Certifies}
+use Rattle.job_semantics.specs.Certificate.{OfBundle, OfReport, IsNetlist, Certifies}
 use Rattle.job_semantics.specs.Shrinking.{Shrinking, IsShrinking}
 use Rattle.job_semantics.specs.Input.{IsReadAs, IsAccepted, IsRefusedFor}
 
@@ -46,10 +47,11 @@ pub record IsRefutedBy (f : Formula) (log : List LogItem) : Type 0 where
   pub derivation : IsDerivation f log
   pub unsatisfiable : IsUnsatisfiable f.clauses
 
--- The formula says that some error exceeds the maximum; behind the witness stand the vectors that break moves; that no further move is allowed
+-- The bundle is of version 2. The formula says that some error exceeds the maximum; behind the witness stand the vectors that break moves; that no further move is allowed
 -- is said exactly where no query was spent.
 abbrev pub synth_bundle : NetValue → Metric → ℕ → Simplified → List LogItem → BundleValue
 synth_bundle exact metric bound s log = record {
+  version = Two;
   exact = exact;
   approx = s.net;
   metric = metric;
@@ -86,7 +88,8 @@ pub record IsUntouched (input : Bytes) (old new : FilesTold) (said says : SinkTo
   pub still_told : WhereHeld old input (λ a. new.held ≡ Some a)
   pub sink : says ≡ said
 
--- The net was simplified, the files were written, and then the report was put; the texts of the files are a certificate.
+-- The net was simplified, the files were written, and then the report was put; the texts of the files are a certificate,
+-- and their report is of version 2.
 pub record BundleWritten (metric : Metric) (bound limit : ℕ) (exact : NetValue) (stem : Bytes) (spent : Option SpentValue) (old new : FilesTold) (said says : SinkTold) : Type 0 where
   pub result : Simplified
   pub log : List LogItem
@@ -97,6 +100,7 @@ pub record BundleWritten (metric : Metric) (bound limit : ℕ) (exact : NetValue
   pub report : Took said says (synth_report exact metric bound result log)
   pub netlist : OfBundle old new stem (λ texts. IsNetlist texts result.net)
   pub certificate : OfBundle old new stem (Certifies exact metric bound)
+  pub version : OfBundle old new stem (λ texts. OfReport exact metric bound texts (λ r. r.version ≡ Two))
 
 -- The net was simplified; a file could not be written whole, and nothing was put; or all were, and a first part of the report was put.
 pub record BundleCutShort (metric : Metric) (bound limit : ℕ) (exact : NetValue) (stem : Bytes) (old new : FilesTold) (said says : SinkTold) : Type 0 where

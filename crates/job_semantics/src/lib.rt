@@ -1,4 +1,4 @@
-//! Jobs, reports, certificates, and what each answer of a run says. It has no code but the types `Ending` and `Clause`.
+//! Jobs, reports, certificates, and what each answer of a run says. It has no code but the types `Ending`, `Clause` and `Version`.
 #![tactic(auto)]
 
 pub mod certificate_examples;
@@ -10,3 +10,5 @@ pub mod demo_laws;
 pub mod ending;
 pub mod examples;
 pub mod laws;
+pub mod version;
+pub mod version_examples;

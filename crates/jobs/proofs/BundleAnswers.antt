@@ -10,16 +10,16 @@ use Rattle.proof_semantics.specs.Conflicts.{IsEnough}
 use Rattle.proof_semantics.specs.Queries.{SpentValue}
 use Rattle.job_semantics.specs.declared.ending.Ending.{Ending}
 use Rattle.job_semantics.specs.declared.ending.Ending.TheVariants as file
+use Rattle.job_semantics.specs.declared.version.Version.TheVariants.{Two}
 use Rattle.job_semantics.specs.Endings.{bundle_files, are_bundle_names_steady}
-use Rattle.job_semantics.specs.Bundle.{bundle_text}
-use Rattle.job_semantics.specs.Certificate.{Texts, texts_of, OfBundle, IsNetlist, Certifies}
+use Rattle.job_semantics.specs.Bundle.{BundleValue, bundle_text}
+use Rattle.job_semantics.specs.Certificate.{Texts, texts_of, OfBundle, OfReport, IsNetlist, Certifies}
 use Rattle.job_semantics.proofs.BundleFiles.{bundle_files-holds}
 use Rattle.job_semantics.specs.Shrinking.{IsShownEnd, IsSpentMove}
 use Rattle.job_semantics.specs.Synthesis.{BundleWritten, BundleCutShort}
 use Rattle.job_semantics.specs.Demonstration.{demo_stem, IsQuietDemo}
 use Rattle.worst_case.specs.declared.query.Spent as spent
-use Rattle.bundle.specs.declared.bundle.Bundle.{Bundle}
-use Rattle.bundle.specs.Value.{bundle_value, files_of}
+use Rattle.bundle.specs.Value.{files_of}
 use Rattle.jobs.specs.declared.status.Status.{Status}
 use Rattle.jobs.specs.declared.status.Status.TheVariants.{Done, Verified, Refuted, Usage, Text, NoMemory, Budget, ReadFault, WriteFault, Endless}
 use Rattle.jobs.specs.declared.status.Outcome.{Outcome}
@@ -40,13 +40,13 @@ texts_are : (held : Held) (stem : Bytes) (text : Texts) → texts_of (with_files
 texts_are held stem text = λ i ending. text_is held stem text ending i
 
 -- what holds of a bundle's texts holds of the files, once they were written
-of_written : (P : Texts → Type 0) (stem : Bytes) {old new : FilesTold} (b : Bundle) → FilesWritten old new (files_of stem b) → P (bundle_text (bundle_value b)) → OfBundle old new stem P
+of_written : (P : Texts → Type 0) (stem : Bytes) {old new : FilesTold} (b : BundleValue) → FilesWritten old new (files_of stem b) → P (bundle_text b) → OfBundle old new stem P
 of_written P stem {old} {new} b written p =
     λ a held told tells.
-    let texts = ap (λ h. texts_of h stem) (written.held a held told tells) ∙ texts_are a stem (bundle_text (bundle_value b)) in
+    let texts = ap (λ h. texts_of h stem) (written.held a held told tells) ∙ texts_are a stem (bundle_text b) in
     subst P (sym texts) p
 
-pub BundleWritten-from : {metric : Metric} {bound limit : ℕ} {exact : NetValue} {stem names : Bytes} {old new : FilesTold} {said says : SinkTold} {b : Bundle} {spent : Option spent.Spent}
+pub BundleWritten-from : {metric : Metric} {bound limit : ℕ} {exact : NetValue} {stem names : Bytes} {old new : FilesTold} {said says : SinkTold} {b : BundleValue} {spent : Option spent.Spent}
     → names ≡ stem → IsReady exact metric bound limit b spent → IsDelivered b names old new said says
     → BundleWritten metric bound limit exact stem (told_query spent) old new said says
 BundleWritten-from {metric} {bound} {limit} {exact} {stem} {names} {old} {new} {said} {says} {b} {spent} same ready delivered =
@@ -61,9 +61,10 @@ BundleWritten-from {metric} {bound} {limit} {exact} {stem} {names} {old} {new} {
       report = subst (λ v. Took said says (bundle_text v file.Report)) ready.is delivered.1;
       netlist = of_written (λ texts. IsNetlist texts ready.result.net) stem b all ready.netlist;
       certificate = of_written (Certifies exact metric bound) stem b all ready.certificate;
+      version = of_written (λ texts. OfReport exact metric bound texts (λ r. r.version ≡ Two)) stem b all ready.version;
     }
 
-pub BundleCutShort-from : {metric : Metric} {bound limit : ℕ} {exact : NetValue} {stem names : Bytes} {old new : FilesTold} {said says : SinkTold} {b : Bundle} {spent : Option spent.Spent}
+pub BundleCutShort-from : {metric : Metric} {bound limit : ℕ} {exact : NetValue} {stem names : Bytes} {old new : FilesTold} {said says : SinkTold} {b : BundleValue} {spent : Option spent.Spent}
     → names ≡ stem → IsReady exact metric bound limit b spent → IsDeliveredInPart b names old new said says
     → BundleCutShort metric bound limit exact stem old new said says
 BundleCutShort-from {metric} {bound} {limit} {exact} {stem} {names} {old} {new} {said} {says} {b} {spent} same ready part = record {

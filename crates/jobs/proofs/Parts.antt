@@ -15,16 +15,16 @@ use Rattle.proof_semantics.specs.Formula.{Formula}
 use Rattle.proof_semantics.specs.Logs.{LogItem}
 use Rattle.proof_semantics.specs.Queries.{SpentValue, IsMaximum}
 use Rattle.proof_semantics.proofs.Refutations.{refutes_sound}
-use Rattle.job_semantics.specs.Bundle.{bundle_text}
-use Rattle.job_semantics.specs.Certificate.{IsNetlist, Certifies}
+use Rattle.job_semantics.specs.declared.version.Version.TheVariants.{Two}
+use Rattle.job_semantics.specs.Bundle.{BundleValue, bundle_text}
+use Rattle.job_semantics.specs.Certificate.{IsNetlist, OfReport, Certifies}
 use Rattle.job_semantics.specs.CertificateLaws.{IsRightBundle}
-use Rattle.job_semantics.proofs.Certificates.{net_read, written_certifies}
+use Rattle.job_semantics.proofs.Certificates.{net_read, written_version, written_certifies}
 use Rattle.job_semantics.proofs.SmallNets.{literals_at_most}
 use Rattle.job_semantics.specs.Shrinking.{Shrinking, IsSpentMove, IsShownEnd, IsShrinking}
 use Rattle.job_semantics.specs.Synthesis.{Simplified, shrinking_of, IsSimplifiedFrom, IsRefutedBy, synth_bundle}
 use Rattle.worst_case.specs.declared.query.Spent as spent
-use Rattle.bundle.specs.declared.bundle.Bundle.{Bundle}
-use Rattle.bundle.specs.Value.{FitsReport, bundle_value}
+use Rattle.bundle.specs.Value.{FitsReport}
 use Rattle.jobs.specs.Status.{told_query}
 use Rattle.jobs.specs.declared.preparing.Constraint.{Constraint}
 use Rattle.jobs.specs.declared.preparing.Findings.{Findings}
@@ -94,28 +94,28 @@ module _ {exact : NetValue} {metric : Metric} {bound limit : ℕ} {s : Simplifie
         (shown_end metric exact bound limit s.net s.pool s.spent none parts.search.outcome).minimal;
   }
 
-  FitsReport-from : (b : Bundle) → b.exact ≡ exact → b.approx ≡ s.net → b.witness ≡ s.witness → FitsReport b
-  FitsReport-from b is_exact is_approx is_witness =
+  fits : FitsReport exact s.net s.witness
+  fits =
       let most = literals_at_most exact parts.exact_small parts.exact_sound.tables_formed in
       record {
-        witness = omega (arith, ap length is_witness, parts.most.width, parts.exact_small.inputs);
-        exact = omega (arith, ap literal_count is_exact, most);
-        approx = omega (arith, ap literal_count is_approx, member.no_growth.literals, most);
+        witness = omega (arith, parts.most.width, parts.exact_small.inputs);
+        exact = omega (arith, most);
+        approx = omega (arith, member.no_growth.literals, most);
       }
 
-  ready : (b : Bundle) (spent : Option spent.Spent) → b.exact ≡ exact → b.approx ≡ s.net → b.witness ≡ s.witness → b.log ≡ log → told_query spent ≡ s.spent
-      → bundle_value b ≡ synth_bundle exact metric bound s b.log → IsReady exact metric bound limit b spent
-  ready b spent is_exact is_approx is_witness same_log is_spent is =
-      let whole : bundle_value b ≡ synth_bundle exact metric bound s log = is ∙ ap (λ l. synth_bundle exact metric bound s l) same_log in
+  ready : (b : BundleValue) (spent : Option spent.Spent) → b.log ≡ log → told_query spent ≡ s.spent → b ≡ synth_bundle exact metric bound s b.log
+      → IsReady exact metric bound limit b spent
+  ready b spent same_log is_spent is =
+      let whole : b ≡ synth_bundle exact metric bound s log = is ∙ ap (λ l. synth_bundle exact metric bound s l) same_log in
       record {
         result = s;
         right = subst (IsSimplifiedFrom exact metric bound limit s) (sym same_log) right;
         is_spent = is_spent;
         refuted = subst (IsRefutedBy (miter exact s.net metric s.maximum)) (sym same_log) refuted;
         is = is;
-        fits = FitsReport-from b is_exact is_approx is_witness;
         netlist = subst (λ v. IsNetlist (bundle_text v) s.net) (sym whole) (net_read (synth_bundle exact metric bound s log) right_bundle);
         certificate = subst (λ v. Certifies exact metric bound (bundle_text v)) (sym whole) (written_certifies (synth_bundle exact metric bound s log) right_bundle);
+        version = subst (λ v. OfReport exact metric bound (bundle_text v) (λ r. r.version ≡ Two)) (sym whole) (written_version (synth_bundle exact metric bound s log) right_bundle);
       }
 
 -- a query is told exactly where one is held
@@ -135,9 +135,10 @@ simplified_found found = record {
 
 -- the bundle of what was found, whose formula is the miter
 module _ (exact : NetValue) (aim : Constraint) (found : Findings) (goal : Formula) where
-  bundle_value_is : goal ≡ miter exact found.shrunk.net aim.metric found.maximum
-      → bundle_value (bundle_of exact aim found goal) ≡ synth_bundle exact aim.metric aim.bound (simplified_found found) found.log
-  bundle_value_is is = λ i. record {
+  bundle_of-is : goal ≡ miter exact found.shrunk.net aim.metric found.maximum
+      → bundle_of exact aim found goal ≡ synth_bundle exact aim.metric aim.bound (simplified_found found) found.log
+  bundle_of-is is = λ i. record {
+    version = Two;
     exact = exact;
     approx = found.shrunk.net;
     metric = aim.metric;
@@ -150,22 +151,25 @@ module _ (exact : NetValue) (aim : Constraint) (found : Findings) (goal : Formul
     log = found.log;
   }
 
-  pub gathered-ready : IsSound exact → IsSmall exact → IsSound found.shrunk.net → aim.bound ≤ LARGEST_ERROR → AreFound exact aim.metric aim.bound aim.limit found
-      → goal ≡ miter exact found.shrunk.net aim.metric found.maximum → goal.variables < 2 ^ 31
-      → IsReady exact aim.metric aim.bound aim.limit (bundle_of exact aim found goal) found.shrunk.spent
-  gathered-ready sound small approx_sound few_bits are is variables =
-      let parts : AreParts exact aim.metric aim.bound aim.limit (simplified_found found) found.log goal =
-      record {
-        exact_sound = sound;
-        exact_small = small;
-        approx_sound = approx_sound;
-        search = are.search;
-        most = are.most;
-        few_bits = few_bits;
-        goal_is = is;
-        variables = variables;
-      } in
-      ready parts (bundle_of exact aim found goal) found.shrunk.spent refl refl refl refl refl (bundle_value_is is)
+  module _ (sound : IsSound exact) (small : IsSmall exact) (approx_sound : IsSound found.shrunk.net) (few_bits : aim.bound ≤ LARGEST_ERROR)
+      (are : AreFound exact aim.metric aim.bound aim.limit found) (is : goal ≡ miter exact found.shrunk.net aim.metric found.maximum) (variables : goal.variables < 2 ^ 31) where
+    parts_found : AreParts exact aim.metric aim.bound aim.limit (simplified_found found) found.log goal
+    parts_found = record {
+      exact_sound = sound;
+      exact_small = small;
+      approx_sound = approx_sound;
+      search = are.search;
+      most = are.most;
+      few_bits = few_bits;
+      goal_is = is;
+      variables = variables;
+    }
+
+    pub gathered-fits : FitsReport exact found.shrunk.net found.witness
+    gathered-fits = fits parts_found
+
+    pub gathered-ready : IsReady exact aim.metric aim.bound aim.limit (bundle_of exact aim found goal) found.shrunk.spent
+    gathered-ready = ready parts_found (bundle_of exact aim found goal) found.shrunk.spent refl refl (bundle_of-is is)
 
 -- the simplified net has the original's ports, and is within the bound
 pub found_net : (metric : Metric) (exact : NetValue) (bound limit : ℕ) (s : Shrinking) → IsSound exact → IsShrinking metric exact bound limit s → IsSimplifiedNet metric exact bound s.net

@@ -8,7 +8,7 @@ use Rattle.outside_semantics.specs.WrittenFiles.{FilesWritten}
 use Rattle.blif_semantics.specs.Reading.{input_limit, blif_reading}
 use Rattle.file_core.proofs.Told.{held_before}
 use Rattle.proof_semantics.specs.Queries.{SpentValue}
-use Rattle.job_semantics.specs.Certificate.{Texts, OfBundle, IsNetlist, Certifies}
+use Rattle.job_semantics.specs.Certificate.{Texts, OfBundle, OfReport, IsNetlist, Certifies}
 use Rattle.job_semantics.specs.Synthesis.{WhereHeld, OfInput, IsUntouched, BundleWritten, BundleCutShort, SynthReadFault, SynthWriteFault, CountsAsAccepted, IsQuietSynth}
 use Rattle.job_semantics.specs.Input.{IsReadAs}
 use Rattle.bundle.proofs.FilesInOrder.{FilesWritten-then, FilesCutShort-after}
@@ -56,6 +56,7 @@ written_since {metric} {bound} {limit} {input} {stem} {old} {mid} {new} {said} {
   report = w.report;
   netlist = since stem old mid new (λ texts. IsNetlist texts w.result.net) w.files.goes w.netlist;
   certificate = since stem old mid new (Certifies N metric bound) w.files.goes w.certificate;
+  version = since stem old mid new (λ texts. OfReport N metric bound texts (λ r. r.version ≡ Two)) w.files.goes w.version;
 }
 
 cut_since : {metric : Metric} {bound limit : ℕ} {input stem : Bytes} {old mid new : FilesTold} {said says : SinkTold} {N : NetValue}

@@ -3,13 +3,13 @@ use Rattle.std.specs.Prelude.{◌≡◌, ◌⊎◌}
 use Rattle.semantics.specs.Texts.{Bytes}
 use Rattle.outside_semantics.specs.Outside.{FilesTold, SinkTold, Took, TakeFailed}
 use Rattle.outside_semantics.specs.WrittenFiles.{FilesWritten, FilesCutShort}
-use Rattle.bundle.specs.declared.bundle.Bundle.{Bundle}
+use Rattle.job_semantics.specs.Bundle.{BundleValue}
 use Rattle.bundle.specs.Value.{files_of, report_of_bundle}
 
-abbrev pub IsDelivered : Bundle → Bytes → FilesTold → FilesTold → SinkTold → SinkTold → Type 0
+abbrev pub IsDelivered : BundleValue → Bytes → FilesTold → FilesTold → SinkTold → SinkTold → Type 0
 IsDelivered b stem old new said says = FilesWritten old new (files_of stem b) × Took said says (report_of_bundle b)
 
 -- a file could not be written whole, and nothing was put; or all were, and a first part of the report was put
-abbrev pub IsDeliveredInPart : Bundle → Bytes → FilesTold → FilesTold → SinkTold → SinkTold → Type 0
+abbrev pub IsDeliveredInPart : BundleValue → Bytes → FilesTold → FilesTold → SinkTold → SinkTold → Type 0
 IsDeliveredInPart b stem old new said says =
     (FilesCutShort old new (files_of stem b) × (says ≡ said)) ⊎ (FilesWritten old new (files_of stem b) × TakeFailed said says (report_of_bundle b))

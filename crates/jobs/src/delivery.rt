@@ -1,7 +1,6 @@
 //! A net is simplified, and then its bundle is written and its report put: what a synth and a demo job have in common.
 ghost use Rattle.std.specs.Prelude.{◌≤◌, OnOk, OnErr};
 ghost use Rattle.semantics.specs.Net.{IsSmall};
-ghost use Rattle.bundle.specs.Value.{FitsReport};
 ghost use Rattle.jobs.specs.Delivered.{IsDelivered, IsDeliveredInPart};
 ghost use Rattle.jobs.specs.Run.{BundleAnswer};
 
@@ -24,7 +23,6 @@ fn deliver<F: Files, K: Sink>(
     files: &mut F,
     say: &mut K,
 ) -> Result<(), FileFault>
-    requires { FitsReport bundle.now }
     ensures ok { OnOk result (IsDelivered bundle.now names.now (F.told files.old) (F.told files.new) (K.told say.old) (K.told say.new)) }
     ensures err { OnErr result (IsDeliveredInPart bundle.now names.now (F.told files.old) (F.told files.new) (K.told say.old) (K.told say.new)) }
 {

@@ -2,10 +2,11 @@
 ghost use Rattle.std.specs.Prelude.{◌≡◌, ◌≤◌, IfOk};
 ghost use Rattle.semantics.specs.Net.{IsSmall};
 ghost use Rattle.jobs.specs.declared.preparing.Prepared.TheVariants.{Ready};
+ghost use Rattle.bundle.specs.Value.{FitsReport};
 ghost use Rattle.jobs.specs.Prepared.{bundle_of, AreFound, IsPrepared};
 
 use crate::soundness::see_sound;
-use bundle::bundle::Bundle;
+use bundle::bundle::{Bundle, Version};
 use cnf_core::cnf::Cnf;
 use cnf_core::log::Log;
 use miter::level::miter_of;
@@ -52,12 +53,14 @@ struct Findings {
     log: Log,
 }
 
-/// The bundle of what was found.
+/// The bundle of what was found, of version 2.
 fn gathered(exact: Net, aim: Constraint, found: Findings, goal: Cnf) -> Prepared
+    requires { FitsReport exact found.shrunk.net found.witness }
     ensures { result ≡ Ready (bundle_of exact aim found goal) found.shrunk.spent }
 {
     let shrunk = found.shrunk;
     let bundle = Bundle {
+        version: Version::Two,
         exact,
         approx: shrunk.net,
         metric: aim.metric,

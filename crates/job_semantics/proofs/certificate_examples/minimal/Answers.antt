@@ -15,8 +15,9 @@ use Rattle.chain_semantics.specs.declared.moves.Move.{Move}
 use Rattle.chain_semantics.specs.declared.moves.Move.TheVariants.{Const, DropLiteral}
 use Rattle.chain_semantics.specs.Minimality.{IsBrokenBySome, AreBrokenBySome, IsMinimalBy}
 use Rattle.chain_semantics.specs.SimplificationExamples.{carry_is_b}
+use Rattle.job_semantics.specs.declared.version.Version.TheVariants.{Two}
 use Rattle.job_semantics.specs.Report.{Report, report_text, vectors_text}
-use Rattle.job_semantics.specs.Certificate.{Texts, IsNetlist, IsReportText, IsVectorsText}
+use Rattle.job_semantics.specs.Certificate.{Texts, moves_in, IsNetlist, IsReportText, IsVectorsText}
 use Rattle.job_semantics.specs.CertificateExamples.{both_constant_vectors, carry_copied_texts, carry_copied_report}
 use Rattle.job_semantics.proofs.Certificates.{verified_law}
 use Rattle.job_semantics.proofs.VectorsTexts.{one_pool}
@@ -25,6 +26,7 @@ use Rattle.job_semantics.proofs.certificate_examples.minimal.Goals as goal
 
 abbrev copied_report : Report
 copied_report = record {
+  version = Two;
   metric = Abs;
   bound = 1;
   maximum = 1;
@@ -101,8 +103,10 @@ returns c = record {
       let shown = h.2.2 yes in
       let pool : shown.0 ≡ [] = one_pool 2 (text (codes "10" ∷ [])) (true ∷ false ∷ []) shown.0 []
       (subst (λ r. IsVectorsText 2 (text (codes "10" ∷ [])) r.witness shown.0) report shown.1) witness_read in
+      let of_net = subst (λ N. AreBrokenBySome Abs half_adder 1 N (h.2.0.witness ∷ shown.0) (moves_in h.2.0.version N)) net shown.2 in
+      let of_pool = subst (λ v. AreBrokenBySome Abs half_adder 1 carry_is_b (h.2.0.witness ∷ v) (moves_in h.2.0.version carry_is_b)) pool of_net in
       let minimal : IsMinimalBy Abs half_adder 1 carry_is_b ((true ∷ false ∷ []) ∷ []) =
-      subst (λ v. IsMinimalBy Abs half_adder 1 carry_is_b v) (λ i. (report i).witness ∷ pool i) (subst (λ N. IsMinimalBy Abs half_adder 1 N (h.2.0.witness ∷ shown.0)) net shown.2) in
+      subst (λ r. AreBrokenBySome Abs half_adder 1 carry_is_b (r.witness ∷ []) (moves_in r.version carry_is_b)) report of_pool in
       first_move (moves_of carry_is_b) moves_are minimal;
   without_moves = (both_constant, the.netlist_read, (the.the_report 2 0 true, the.minimal_read, λ yes. (_, vectors_read, constants_break both_constant refl)));
 }

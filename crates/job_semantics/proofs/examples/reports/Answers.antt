@@ -12,6 +12,7 @@ returns c = record {
   both_constant_report = refl;
   both_constant_vectors = refl;
   report = refl;
+  first_version = refl;
   no_bits = refl;
   vectors = refl;
   empty_vectors = refl;
