@@ -110,9 +110,6 @@ is_old (DropLiteral t row pin) = true
 is_old (Signal t s flip) = true
 is_old (Pair t s flip_s u flip_u flip) = false
 
-unfoldable pub old_moves_of : NetValue → List Move
-old_moves_of N = moves_from N 0 N.tables
-
 -- the table that a move changes
 abbrev pub table_of : Move → ℕ
 table_of (Const t value) = t
