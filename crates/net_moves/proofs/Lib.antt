@@ -1,2 +1,4 @@
 pub mod Lists
+pub mod NearOnes
+pub mod PairRows
 pub mod Making

@@ -5,10 +5,11 @@ use Rattle.std.proofs.lemmas.Bool.{cond-true, cond-false}
 use Rattle.std.proofs.lemmas.Bool.Decides.{same_from_decides}
 use Rattle.std.proofs.lemmas.List.{drop_more, drop_all}
 use Rattle.semantics.specs.declared.mark.Mark.{Mark}
-use Rattle.semantics.specs.Net.{NetValue, no_table, table_at, input_count, table_count, signal_count, is_literal, IsAcyclic}
+use Rattle.semantics.specs.Net.{TableValue, NetValue, no_table, table_at, input_count, table_count, signal_count, is_literal, IsAcyclic}
 use Rattle.semantics.specs.Dependence.{DependsOn}
+use Rattle.chain_semantics.specs.declared.moves.Move.{Move}
 use Rattle.chain_semantics.specs.declared.moves.Move.TheVariants.{DropRow, DropLiteral, Signal}
-use Rattle.chain_semantics.specs.Moves.{depends, literal_pins, literal_moves, copies_of, independent_signals, moves_of_table, moves_from}
+use Rattle.chain_semantics.specs.Moves.{depends, literal_pins, literal_moves, copies_of, independent_signals, moves_from}
 use Rattle.chain_semantics.proofs.MoveDependence.{depends-path}
 use Rattle.net_moves.specs.Left.{rows_left, literals_left, signals_from, signals_left, RoomAndMoves}
 
@@ -103,11 +104,12 @@ signals-start N t marks acyclic room marked =
     ∙ ap (λ n. flat_map (copies_of t) (filter (λ u. not (depends (input_count N) N.tables t u)) (range_with_len 0 n))) room
 
 -- the next table's moves, once those of the table at hand are given
-pub next_table : (N : NetValue) (t : ℕ) → t < table_count N → moves_from N t (drop t N.tables) ≡ moves_of_table N t (table_at N.tables t) ++ moves_from N (t + 1) (drop (t + 1) N.tables)
-next_table N t low = ap (moves_from N t) (drop_more N.tables t no_table low)
+pub next_table : (offers : ℕ → TableValue → List Move) (N : NetValue) (t : ℕ) → t < table_count N
+    → moves_from offers t (drop t N.tables) ≡ offers t (table_at N.tables t) ++ moves_from offers (t + 1) (drop (t + 1) N.tables)
+next_table offers N t low = ap (moves_from offers t) (drop_more N.tables t no_table low)
 
-pub no_table_left : (N : NetValue) (t : ℕ) → table_count N ≤ t → moves_from N t (drop t N.tables) ≡ []
-no_table_left N t past = ap (moves_from N t) (drop_all t N.tables past)
+pub no_table_left : (offers : ℕ → TableValue → List Move) (N : NetValue) (t : ℕ) → table_count N ≤ t → moves_from offers t (drop t N.tables) ≡ []
+no_table_left offers N t past = ap (moves_from offers t) (drop_all t N.tables past)
 
 -- all signals are left once they are marked
 pub all_signals_left : (N : NetValue) (t room : ℕ) (marks : List Bool) → IsAcyclic (input_count N) N.tables → length marks ≡ signal_count N → room ≡ signal_count N

@@ -7,7 +7,7 @@ use Rattle.semantics.specs.declared.mark.Mark.{Mark}
 use Rattle.semantics.specs.Net.{TableValue, NetValue, no_table, table_at, input_count, table_count, is_literal, row_literals, table_literals, IsAcyclic, IsSound, IsSmall}
 use Rattle.semantics.specs.Replaced.{replaced}
 use Rattle.chain_semantics.specs.declared.moves.Move.{Move}
-use Rattle.chain_semantics.specs.declared.moves.Move.TheVariants.{Const, DropRow, DropLiteral, Signal}
+use Rattle.chain_semantics.specs.declared.moves.Move.TheVariants.{Const, DropRow, DropLiteral, Signal, Pair}
 use Rattle.chain_semantics.specs.Moves.{table_of, row_at, moved_table}
 use Rattle.chain_semantics.specs.MoveLaws.{IsMoveOf}
 use Rattle.chain_semantics.proofs.MovedNets.{literal_within, moved-acyclic}
@@ -19,6 +19,7 @@ Fits-move N (Const t value) is = tt
 Fits-move N (DropRow t row) is = (is.1, is.2)
 Fits-move N (DropLiteral t row pin) is = (is.1, literal_within (row_at (table_at N.tables t).rows row) pin is.2)
 Fits-move N (Signal t s flip) is = tt
+Fits-move N (Pair t s flip_s u flip_u flip) is = tt
 
 -- the tables with the table that was made
 pub made-acyclic : (N : NetValue) (m : Move) (t : ℕ) (table : TableValue) → IsSound N → IsMoveOf N m → t ≡ table_of m → table ≡ moved_table (table_at N.tables t) m

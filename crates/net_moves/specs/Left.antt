@@ -1,10 +1,13 @@
 -- What is left of lists of moves that are given one after another.
-use Rattle.std.specs.Prelude.{◌≡◌, ℕ, ◌+◌, ◌-◌, ◌<◌, ◌^◌, Bool, true, false, if◌then◌else◌, Option, Some, None, MatchOption, List, [], ◌∷◌, ◌++◌, map, drop, length, All}
+use Rattle.std.specs.Prelude.{◌≡◌, ◌==◌, ℕ, ◌+◌, ◌-◌, ◌<◌, ◌≤◌, ◌^◌, Bool, true, false, ◌||◌, if◌then◌else◌, Option, Some, None, MatchOption, List, [], ◌∷◌, ◌++◌, map, flat_map, take, drop, length, slice_index, All}
 use Rattle.std.specs.List.{range_with_len}
 use Rattle.semantics.specs.declared.mark.Mark.{Mark}
+use Rattle.semantics.specs.Net.{TableValue, NetValue}
 use Rattle.chain_semantics.specs.declared.moves.Move.{Move}
 use Rattle.chain_semantics.specs.declared.moves.Move.TheVariants.{Const, DropRow, DropLiteral, Signal}
-use Rattle.chain_semantics.specs.Moves.{literal_pins, literal_moves, copies_of}
+use Rattle.chain_semantics.specs.declared.moves.TheConstants.{MOST_NEAR_SIGNALS}
+use Rattle.chain_semantics.specs.TidyRules.{has}
+use Rattle.chain_semantics.specs.Moves.{literal_pins, literal_moves, copies_of, each_once, pairs_of, flips_of, old_moves_of_table, moves_of_table}
 
 -- the first of a list is given, or none of the empty list
 abbrev pub GivesFirst : List Move → Option Move → List Move → Type 0
@@ -44,3 +47,33 @@ signals_left t s true marks = Signal t s true ∷ signals_from t (s + 1) (drop (
 pub record RoomAndMoves : Type 0 where
   pub room : ℕ
   pub left : List Move
+
+-- a list of signals, each where it first stands, cut where a table has no more near ones
+abbrev pub first_once : List ℕ → List ℕ
+first_once signals = take MOST_NEAR_SIGNALS (each_once signals)
+
+-- one signal more, unless it is there or there is no room
+abbrev pub with_signal : List ℕ → ℕ → List ℕ
+with_signal near s = if length near == MOST_NEAR_SIGNALS || has near s then near else near ++ s ∷ []
+
+-- the eight moves to a pair
+abbrev pub flips_of_pair : ℕ → ℕ × ℕ → List Move
+flips_of_pair t pair = flips_of t pair.0 pair.1
+
+-- the signal at place i with those from place j on, and then the pairs of later signals
+abbrev pub pairs_from : List ℕ → ℕ → ℕ → List (ℕ × ℕ)
+pairs_from near i j = map (λ u. (slice_index near i, u)) (drop j near) ++ pairs_of (drop (i + 1) near)
+
+-- from move k of the first of those pairs on
+abbrev pub pairs_left : ℕ → List ℕ → ℕ → ℕ → ℕ → List Move
+pairs_left t near i j k = drop k (flat_map (flips_of_pair t) (pairs_from near i j))
+
+-- places of a pair, or past the last pair
+pub record ArePlaces (count first second : ℕ) : Type 0 where
+  pub order : first < second
+  pub last : count ≤ second → count ≤ first + 1
+
+-- the moves that a table offers, with or without those to two signals
+abbrev pub offered : Bool → NetValue → ℕ → TableValue → List Move
+offered false = old_moves_of_table
+offered true = moves_of_table

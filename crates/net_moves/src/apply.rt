@@ -1,5 +1,5 @@
 //! The net after a move: one table is made anew, and the others are copied.
-ghost use Rattle.std.specs.Prelude.{◌≡◌, ◌<◌, [], ◌∷◌, true, length, remove, slice_set, IfOk, All, Contains};
+ghost use Rattle.std.specs.Prelude.{◌≡◌, ◌<◌, [], ◌∷◌, true, false, not, length, slice_index_or, remove, slice_set, IfOk, All, Contains};
 ghost use Rattle.semantics.specs.declared.mark.Mark.TheVariants.{Dash};
 ghost use Rattle.chain_semantics.specs.Moves.{moves_of, table_of, moved_table, moved, copy_mark, row_at};
 ghost use Rattle.net_moves.specs.Fitting.{Fits};
@@ -35,15 +35,42 @@ fn without_literal(alloc: Global, marks: &[Mark], pin: usize) -> Result<Row, All
     Ok(row)
 }
 
+/// The mark that asks for a pin's value as it is, or turned over.
+fn copy_mark(flip: bool) -> Mark
+    ensures { result ≡ copy_mark flip }
+{
+    if flip { Mark::Zero } else { Mark::One }
+}
+
 /// The table of one pin that copies a signal, or its opposite.
 fn copy_table(alloc: Global, name: Name, s: Signal, flip: bool) -> Result<Table, AllocError>
     ensures { IfOk result
         (λ t. t ≡ record { name = name; pins = s ∷ []; rows = (copy_mark flip ∷ []) ∷ []; plane = true }) }
 {
     let pins = Items::from_slice(alloc, &[s])?;
-    let mark = if flip { Mark::Zero } else { Mark::One };
-    let rows = rows_of(alloc, &[[mark]])?;
+    let rows = rows_of(alloc, &[[copy_mark(flip)]])?;
     Ok(Table::new(name, pins, rows, true))
+}
+
+/// The table of two pins that is their conjunction, each of them plain or turned over, or the opposite of that.
+fn pair_table(
+    alloc: Global,
+    name: Name,
+    signals: [Signal; 2],
+    flips: [bool; 2],
+    flip: bool,
+) -> Result<Table, AllocError>
+    ensures { IfOk result
+        (λ t. t ≡ record {
+          name = name;
+          pins = signals;
+          rows = (copy_mark (slice_index_or flips 0 false) ∷ copy_mark (slice_index_or flips 1 false) ∷ []) ∷ [];
+          plane = not flip;
+        }) }
+{
+    let pins = Items::from_slice(alloc, &signals)?;
+    let rows = rows_of(alloc, &[[copy_mark(flips[0]), copy_mark(flips[1])]])?;
+    Ok(Table::new(name, pins, rows, !flip))
 }
 
 /// The table with other rows.
@@ -77,6 +104,14 @@ fn moved_table(alloc: Global, table: &Table, step: Move) -> Result<Table, AllocE
             with_rows(table, table.rows().copy_with(row as usize, changed)?)
         }
         Move::Signal { s, flip, .. } => copy_table(alloc, table.name().copy()?, s, flip),
+        Move::Pair {
+            s,
+            flip_s,
+            u,
+            flip_u,
+            flip,
+            ..
+        } => pair_table(alloc, table.name().copy()?, [s, u], [flip_s, flip_u], flip),
     }
 }
 
@@ -89,6 +124,7 @@ pub fn table_of(step: Move) -> u32
         Move::DropRow { t, .. } => t,
         Move::DropLiteral { t, .. } => t,
         Move::Signal { t, .. } => t,
+        Move::Pair { t, .. } => t,
     }
 }
 

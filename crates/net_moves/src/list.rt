@@ -6,10 +6,12 @@ use chain_semantics::moves::Move;
 use net_core::net::Net;
 use std::marker::Model;
 
-/// The moves of a net that are left: those of the table at hand, and those of the tables from `table` on.
+/// The moves of a net that are left: those of the table at hand, and those of the tables from `table` on; with or without those
+/// to two signals.
 #[derive(Drop)]
 pub struct Moves<'a> {
     pub(crate) net: &'a Net,
+    pub(crate) pairs: bool,
     pub(crate) table: u32,
     pub(crate) moves: TableMoves<'a>,
 }
@@ -19,10 +21,11 @@ impl<'a> Model for Moves<'a> {
     ghost use Rattle.semantics.specs.Net.{IsSmall, signal_count};
     ghost use Rattle.chain_semantics.specs.declared.moves.Move.{Move};
     ghost use Rattle.chain_semantics.specs.Moves.{moves_from};
+    ghost use Rattle.net_moves.specs.Left.{offered};
 
     ghost Value = { List Move };
 
-    ghost view = { λ a. a.moves.left ++ moves_from a.net.now a.table (drop a.table a.net.now.tables) };
+    ghost view = { λ a. a.moves.left ++ moves_from (offered a.pairs a.net.now) a.table (drop a.table a.net.now.tables) };
 
     ghost invariant = { λ a. IsSmall a.net.now × (a.moves.room ≡ signal_count a.net.now) };
 }
@@ -36,7 +39,7 @@ impl<'a> Moves<'a> {
             if let Some(step) = self.moves.next() {
                 return Some(step);
             }
-            self.moves.start(self.net, self.table);
+            self.moves.start(self.net, self.table, self.pairs);
             self.table += 1;
         }
         self.moves.next()

@@ -1,11 +1,11 @@
 //! The moves of one table, kind after kind.
 ghost use Rattle.std.specs.Prelude.{◌≡◌, ◌<◌, [], IfOk};
 ghost use Rattle.semantics.specs.Net.{IsSmall, table_at, table_count, signal_count};
-ghost use Rattle.chain_semantics.specs.Moves.{moves_of_table};
-ghost use Rattle.net_moves.specs.Left.{GivesFirst};
+ghost use Rattle.net_moves.specs.Left.{GivesFirst, offered};
 
 use crate::constants::ConstantMoves;
 use crate::literals::LiteralMoves;
+use crate::pairs::PairMoves;
 use crate::rows::RowMoves;
 use crate::signals::SignalMoves;
 use chain_semantics::moves::Move;
@@ -20,6 +20,7 @@ pub(crate) struct TableMoves<'a> {
     rows: RowMoves,
     literals: LiteralMoves<'a>,
     signals: SignalMoves,
+    pairs: PairMoves,
 }
 
 impl<'a> Model for TableMoves<'a> {
@@ -28,7 +29,7 @@ impl<'a> Model for TableMoves<'a> {
 
     ghost Value = { RoomAndMoves };
 
-    ghost view = { λ a. record { room = a.signals.room; left = a.constants ++ a.rows ++ a.literals ++ a.signals.left } };
+    ghost view = { λ a. record { room = a.signals.room; left = a.constants ++ a.rows ++ a.literals ++ a.signals.left ++ a.pairs } };
 }
 
 impl<'a> TableMoves<'a> {
@@ -41,15 +42,16 @@ impl<'a> TableMoves<'a> {
             rows: RowMoves::new(0, 0),
             literals: LiteralMoves::new(0, &[]),
             signals: SignalMoves::none(alloc, net)?,
+            pairs: PairMoves::none(),
         })
     }
 
-    /// Starts with all moves of a table.
-    pub(crate) fn start(&mut self, net: &'a Net, t: u32)
+    /// Starts with all moves of a table, or with all but those to two signals.
+    pub(crate) fn start(&mut self, net: &'a Net, t: u32, pairs: bool)
         requires small { IsSmall net.now }
         requires room { self.old.room ≡ signal_count net.now }
         requires table { t < table_count net.now }
-        ensures { self.new ≡ record self.old { left = moves_of_table net.now t (table_at net.now.tables t) } }
+        ensures { self.new ≡ record self.old { left = offered pairs net.now t (table_at net.now.tables t) } }
     {
         let table = net.table(t);
         let literals = table.literals();
@@ -66,6 +68,11 @@ impl<'a> TableMoves<'a> {
         } else {
             self.signals.clear();
         }
+        if pairs && literals > 2 && table.pins().len() > 1 {
+            self.pairs.start(net, t);
+        } else {
+            self.pairs.clear();
+        }
     }
 
     pub(crate) fn next(&mut self) -> Option<Move>
@@ -81,6 +88,9 @@ impl<'a> TableMoves<'a> {
         if let Some(literal) = self.literals.next() {
             return Some(literal);
         }
-        self.signals.next()
+        if let Some(signal) = self.signals.next() {
+            return Some(signal);
+        }
+        self.pairs.next()
     }
 }
