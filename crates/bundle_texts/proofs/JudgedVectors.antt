@@ -1,12 +1,11 @@
 -- What each byte of a text of vectors says of it.
-use Rattle.std.proofs.Common.{◌≡◌, ◌≢◌, ℕ, ◌+◌, ◌<◌, ◌≤◌, Bool, true, false, ◌==◌, ◌&&◌, nat_lt, if◌then◌else◌, Option, Some, None, List, [], ◌∷◌, ◌++◌, map, take, drop, length, get_or, refl, ap, sym, subst, ◌∙◌, append_assoc, inl, inr, arith}
+use Rattle.std.proofs.Common.{◌≡◌, ◌≢◌, ℕ, ◌+◌, ◌<◌, ◌≤◌, Bool, true, false, ◌==◌, ◌&&◌, nat_lt, if◌then◌else◌, Option, Some, None, List, [], ◌∷◌, ◌++◌, take, drop, length, get_or, refl, ap, sym, subst, ◌∙◌, append_assoc, inl, inr, arith}
 use Rattle.std.specs.List.{AllByRecursion}
 use Rattle.std.proofs.lemmas.Bool.{and_parts, eqb-true, eqb-false, eq-eqb, ne_eqb, or_cases, lt-ltb}
 use Rattle.std.proofs.lemmas.List.{append-nil, length-append, length-map, length_push, map-append, take_all, take_more, get_or-map, get_or_append_left, take-append-drop}
 use Rattle.std.proofs.lemmas.Grind.{flat_map-append}
 use Rattle.std.proofs.Math.Seq.{get_or-append_seam}
 use Rattle.semantics.specs.Texts.{Bytes, bit_byte, bits_word}
-use Rattle.job_semantics.specs.Report.{vectors_text}
 use Rattle.job_semantics.specs.Certificate.{IsVectorsText}
 use Rattle.blif_semantics.proofs.NetLines.{all_append}
 use Rattle.file_reading.specs.Reading.{IsAllWanted}
@@ -15,7 +14,7 @@ use Rattle.bundle_texts.specs.Pieces.{is_bit_digit}
 use Rattle.bundle_texts.specs.Reading.{HoldsVectors}
 use Rattle.bundle_texts.specs.FilesRead.{AreVectorsIn}
 use Rattle.bundle_texts.specs.VectorLines.{vector_line, vector_lines}
-use Rattle.bundle_texts.specs.VectorsTaken.{TakenValue, taken_text, is_next_byte, with_byte, are_whole, BeginWith, AreVectorsSoFar, NeverVectors}
+use Rattle.bundle_texts.specs.VectorsTaken.{TakenValue, is_next_byte, with_byte, are_whole, BeginWith, AreVectorsSoFar, NeverVectors}
 use Rattle.bundle_texts.specs.TextCheck.{room_at}
 use Rattle.bundle_texts.specs.declared.vectors_check.VectorsCheck.TheInside.{Inside}
 use Rattle.bundle_texts.specs.VectorsStanding.{VectorsText, check_view, StandsAt, Stands}

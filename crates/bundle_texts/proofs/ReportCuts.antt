@@ -5,7 +5,6 @@ use Rattle.semantics.specs.Texts.{Bytes, bits_word, line_text}
 use Rattle.semantics.specs.Decimal.{is_digit}
 use Rattle.semantics.specs.declared.metric.Metric.{Metric}
 use Rattle.job_semantics.specs.declared.version.Version.{Version}
-use Rattle.job_semantics.specs.declared.version.Version.TheVariants.{One, Two}
 use Rattle.job_semantics.specs.Report.{Report, version_word, metric_word, report_text}
 use Rattle.job_semantics.specs.Certificate.{IsReportText}
 use Rattle.job_semantics.proofs.ReportTexts.{report_head, two_words, few_digits, report_text-is, number-cut, bits-cut}
@@ -165,16 +164,6 @@ module _ (inputs : ℕ) (version : Version) (metric : Metric) (bound : ℕ) (tex
       witness = ap length same_witness ∙ front.width_is;
       counts = (tail.few_old_tables, (tail.few_new_tables, (tail.few_old_literals, (tail.few_new_literals, tt))));
     }
-
--- a text that is a report's of neither version is none's
-pub neither_version : (inputs : ℕ) (metric : Metric) (bound : ℕ) (text : Bytes)
-    → ((r : Report) → r.version ≡ Two → ¬ IsReportText inputs metric bound text r) → ((r : Report) → r.version ≡ One → ¬ IsReportText inputs metric bound text r)
-    → (r : Report) → ¬ IsReportText inputs metric bound text r
-neither_version inputs metric bound text not_two not_one r = of_version r.version refl
-  where
-    of_version : (version : Version) → r.version ≡ version → ¬ IsReportText inputs metric bound text r
-    of_version One is = not_one r is
-    of_version Two is = not_two r is
 
 -- ---- the last line
 

@@ -1,15 +1,15 @@
 -- No report of a net within the limits is long.
-use Rattle.std.proofs.Common.{◌≡◌, ◌≢◌, ℕ, ◌+◌, ◌-◌, ◌<◌, ◌≤◌, ◌^◌, Bool, true, false, List, [], ◌∷◌, ◌++◌, length, decimal, codes, lit<, Option, None, Some, inl, inr, ap, sym, subst, ◌∙◌, arith}
+use Rattle.std.proofs.Common.{◌≡◌, ℕ, ◌+◌, ◌-◌, ◌<◌, ◌≤◌, ◌^◌, Bool, true, false, [], ◌∷◌, ◌++◌, length, decimal, codes, lit<, Option, None, Some, inl, inr, ap, sym, subst, ◌∙◌, arith}
 use Rattle.std.proofs.lemmas.Fmt.{length-decimal-le_wide}
 use Rattle.std.proofs.lemmas.List.{length-append, length-map}
 use Rattle.std.proofs.lemmas.Bool.{cases_lt}
-use Rattle.semantics.specs.Texts.{Bytes, bit_byte, bits_word, line_text}
+use Rattle.semantics.specs.Texts.{Bytes, bit_byte, bits_word}
 use Rattle.semantics.specs.declared.metric.Metric.{Metric}
 use Rattle.semantics.specs.declared.metric.Metric.TheVariants.{Abs, Rel, Ham, Sabs}
 use Rattle.file_reading.specs.Reading.{IsAllWanted}
 use Rattle.job_semantics.specs.declared.version.Version.{Version}
 use Rattle.job_semantics.specs.declared.version.Version.TheVariants.{One, Two}
-use Rattle.job_semantics.specs.Report.{Report, version_word, metric_word, yes_word, report_text}
+use Rattle.job_semantics.specs.Report.{Report, version_word, metric_word, yes_word}
 use Rattle.job_semantics.specs.Certificate.{IsReportText}
 use Rattle.job_semantics.proofs.ReportTexts.{report_head, counts_line, report_rest, report_text-is, few_digits}
 use Rattle.bundle_texts.specs.declared.report_reading.ReportRead.{ReportRead}

@@ -1,7 +1,7 @@
 -- The text of vectors is their lines.
-use Rattle.std.proofs.Common.{◌≡◌, ◌≢◌, ℕ, Bool, List, [], ◌∷◌, ◌++◌, map, length, refl, ap, sym, subst, ◌∙◌, append_assoc, arith}
+use Rattle.std.proofs.Common.{◌≡◌, ℕ, Bool, List, [], ◌∷◌, ◌++◌, map, length, refl, ap, sym, ◌∙◌, append_assoc, arith}
 use Rattle.std.specs.List.{AllByRecursion}
-use Rattle.std.proofs.lemmas.List.{append-nil, append_cancel_left, length-append, length_push}
+use Rattle.std.proofs.lemmas.List.{append_cancel_left, length-append, length_push}
 use Rattle.semantics.specs.Texts.{Bytes, bits_word, text_of}
 use Rattle.job_semantics.specs.Report.{vectors_text}
 use Rattle.job_semantics.specs.Certificate.{IsVectorsText}

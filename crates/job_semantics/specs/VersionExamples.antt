@@ -7,7 +7,7 @@ use Rattle.semantics.specs.declared.metric.Metric.TheVariants.{Abs}
 use Rattle.semantics.specs.Examples.{text}
 use Rattle.job_semantics.specs.declared.ending.Ending.TheVariants as file
 use Rattle.job_semantics.specs.declared.clause.Clause.TheVariants as clause
-use Rattle.job_semantics.specs.Certificate.{Texts, Holds, Certifies}
+use Rattle.job_semantics.specs.Certificate.{Texts, Holds, Certifies, IsFirstFailing}
 
 -- y is the exclusive or of w and q, which equals u and v: of all single moves only one to the two signals u and v keeps its values
 abbrev pub conjunction_by_parity : NetValue
@@ -56,9 +56,13 @@ parity_texts first_line formula log file.Log = log
 parity_texts first_line formula log file.Vectors = parity_vectors
 parity_texts first_line formula log file.Report = parity_report first_line
 
--- With a formula and a log of which their clauses hold the bundle is a certificate in version 1.
+-- With a formula and a log of which their clauses hold the bundle is a certificate in version 1. In version 2 its last clause fails, and no other.
 pub record VersionExamples : Type 0 where
   pub first_version : (formula log : Bytes)
       → Holds conjunction_by_parity Abs 0 (parity_texts (codes "salsa 1") formula log) clause.Formula
       → Holds conjunction_by_parity Abs 0 (parity_texts (codes "salsa 1") formula log) clause.Log
       → Certifies conjunction_by_parity Abs 0 (parity_texts (codes "salsa 1") formula log)
+  pub second_version : (formula log : Bytes)
+      → Holds conjunction_by_parity Abs 0 (parity_texts (codes "salsa 2") formula log) clause.Formula
+      → Holds conjunction_by_parity Abs 0 (parity_texts (codes "salsa 2") formula log) clause.Log
+      → IsFirstFailing conjunction_by_parity Abs 0 (parity_texts (codes "salsa 2") formula log) clause.Minimal

@@ -1,6 +1,6 @@
-use Rattle.std.proofs.Common.{◌≡◌, ◌==◌, Bool, length, take, ap, sym, subst, ◌∙◌, arith}
+use Rattle.std.proofs.Common.{◌≡◌, length, take, ap, sym, ◌∙◌, arith}
 use Rattle.std.proofs.lemmas.List.{length-take-le}
-use Rattle.bundle_texts.specs.VectorsTaken.{TakenValue, is_next_byte}
+use Rattle.bundle_texts.specs.VectorsTaken.{TakenValue}
 use Rattle.bundle_texts.proofs.JudgedVectors.{end_test, first_test}
 use Rattle.bundle_texts.proofs.vectors_taken.VectorsTaken.is_next_byte.Goals as goal
 
