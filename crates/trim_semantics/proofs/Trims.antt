@@ -17,7 +17,7 @@ use Rattle.trim_semantics.proofs.Refuting.{trimmed_refutes}
 use Rattle.trim_semantics.proofs.Keeping.{contains_kept, kept_contains, root_kept, has_root, none_behind, kept_in_order}
 
 -- the ids of rising additions rise
-ids_rise : (steps : List StepValue) → AllPairs (λ s t. s.id < t.id) steps → AllPairs (λ a b. a < b) (map (λ s. s.id) steps)
+pub ids_rise : (steps : List StepValue) → AllPairs (λ s t. s.id < t.id) steps → AllPairs (λ a b. a < b) (map (λ s. s.id) steps)
 ids_rise [] h = λ i j d under within. absurd (omega arith)
 ids_rise (s ∷ steps) h =
     AllPairs-cons (λ a b. a < b) s.id (map (λ t. t.id) steps)
