@@ -1,7 +1,7 @@
 -- The ids that a kept step is the last to name: those of its hints that are above the formula's clauses, and not named behind it.
-use Rattle.std.proofs.Common.{◌≡◌, ℕ, ◌+◌, ◌<◌, Bool, true, false, not, ◌==◌, get_or, List, [], ◌∷◌, map, refl, subst, sym, ◌∙◌}
+use Rattle.std.proofs.Common.{◌≡◌, ℕ, ◌+◌, ◌<◌, Bool, false, not, ◌==◌, get_or, List, [], map, subst, sym, ◌∙◌}
 use Rattle.std.specs.Prelude.{◌&&◌, nat_lt, filter, length}
-use Rattle.std.specs.List.{Contains, AllPairs}
+use Rattle.std.specs.List.{Contains}
 use Rattle.std.specs.List.Retain.{IsFiltered, DiffersFromLast}
 use Rattle.std.specs.List.Sorted.{IsPermutation, IsSorted}
 use Rattle.std.specs.Ordering.{nat_cmp}
@@ -12,7 +12,7 @@ use Rattle.std.proofs.lemmas.List.Sorted.{Contains-permutation, IsPermutation-sy
 use Rattle.std.proofs.lemmas.Map.Keys.{IsStrictlyIncreasing-dedup}
 use Rattle.proof_semantics.specs.Clauses.{Clause}
 use Rattle.proof_semantics.specs.Logs.{StepValue, LogItem, Refutes}
-use Rattle.trim_semantics.specs.Trimming.{has_id, is_named, kept_steps, ended_after}
+use Rattle.trim_semantics.specs.Trimming.{has_id, is_named, kept_steps}
 use Rattle.trim_semantics.proofs.Members.{filter_contains, contains_filter, contains_map, same_list}
 use Rattle.trim_semantics.proofs.Naming.{has-contains, contains-has}
 use Rattle.trim_semantics.proofs.Keeping.{named_kept, kept_above, kept_in_order}

@@ -1,9 +1,10 @@
 -- What a pass to the front has kept so far is the trimmed log from that place on, the other way round.
 use Rattle.std.proofs.Common.{◌≡◌, ℕ, suc, ◌<◌, Bool, true, false, cond, ◌||◌, List, [], ◌∷◌, ◌++◌, length, get_or, drop, drop-cons, map, reverse, refl, ap, subst, sym, ◌∙◌, arith, Some}
-use Rattle.std.specs.Prelude.{◌&&◌, not, filter, position}
-use Rattle.std.specs.List.{Contains}
+use Rattle.std.specs.Prelude.{◌&&◌, not, filter, position, ◌==◌}
+use Rattle.std.specs.List.{Contains, list_any}
+use Rattle.std.specs.HashSet.{HashSet}
 use Rattle.std.specs.Bool.{MatchBool}
-use Rattle.std.proofs.lemmas.List.{reverse-append, get_or_read}
+use Rattle.std.proofs.lemmas.List.{reverse-append}
 use Rattle.std.proofs.lemmas.List.Quantifiers.{position-Some}
 use Rattle.proof_semantics.specs.declared.item.Item.TheVariants.{Add, Remove}
 use Rattle.proof_semantics.specs.Clauses.{Clause}
@@ -12,13 +13,16 @@ use Rattle.trim_semantics.specs.Kept.{is_empty_clause}
 use Rattle.trim_semantics.specs.Trimmed.{removal_of}
 use Rattle.trim_semantics.specs.Trimming.{has_id, is_named, kept_steps, ended_after, with_removals}
 use Rattle.trim_semantics.proofs.Members.{contains_first}
-use Rattle.lrat_trim.specs.Backwards.{adds_empty_clause, AreFresh, IsKept, IsPassed, IsVisited}
+use Rattle.lrat_trim.specs.Backwards.{adds_empty_clause, is_in, IsKept, IsPassed, IsVisited}
 use Rattle.lrat_trim.proofs.Roots.{none_before, kept_from}
 use Rattle.lrat_trim.proofs.Fresh.{fresh_ended}
 
 pub record IsSoFar (ids : List ℕ) (steps : List StepValue) (all_named : ℕ → Bool) (items : List LogItem) : Type 0 where
   pub named : (id : ℕ) → all_named id ≡ is_named steps id
   pub kept : reverse items ≡ with_removals ids steps
+
+pub none_in : {S : Type 0} (ids : HashSet ℕ S) → ids.keys ≡ [] → (id : ℕ) → is_in ids id ≡ false
+none_in ids e id = ap (λ keys. list_any (λ other. id == other) keys) e
 
 -- ---- the root
 

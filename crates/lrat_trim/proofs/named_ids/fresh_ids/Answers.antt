@@ -1,4 +1,4 @@
-use Rattle.std.proofs.Common.{◌≡◌, List, ℕ, subst, sym}
+use Rattle.std.proofs.Common.{subst, sym}
 use Rattle.std.proofs.lemmas.Result.{IfOk-weaker}
 use Rattle.lrat_trim.specs.Backwards.{is_in, AreFresh}
 use Rattle.lrat_trim.proofs.Fresh.{are_fresh}
