@@ -1,0 +1,5 @@
+pub mod Members
+pub mod Naming
+pub mod Refuting
+pub mod Keeping
+pub mod Trims
