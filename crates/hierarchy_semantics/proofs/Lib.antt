@@ -1,0 +1,3 @@
+mod Members
+mod Parts
+mod Placed
