@@ -1,3 +1,6 @@
 mod Members
 mod Parts
 mod Placed
+mod TableValues
+mod Only
+mod Some

@@ -66,7 +66,7 @@ pub record IsReached (h : Hierarchy) (path : Path) : Type 0 where
 pub used_model : (h : Hierarchy) (up : Path) (n : ℕ) (c : Subcircuit) → IsUse (model_at h up) n c → model_named h c.model ≡ model_at h (n ∷ up)
 used_model h up n c there = ap (λ p. model_named h (use_of p).model) (sym there.1)
 
-in_uses : (m : BlifModel) (n : ℕ) (c : Subcircuit) → IsUse m n c → IsIn c (uses_of m)
+pub in_uses : (m : BlifModel) (n : ℕ) (c : Subcircuit) → IsUse m n c → IsIn c (uses_of m)
 in_uses m n c there = in_flat_map part_uses (subckt_part c) c m.parts (in_get m.parts n no_part (subckt_part c) there.0 there.1) (inl refl)
 
 reached_next : (h : Hierarchy) (up : Path) (n : ℕ) (c : Subcircuit) → IsUse (model_at h up) n c → (l : ℕ) → is_model_grounded h l (model_at h up) ≡ true
