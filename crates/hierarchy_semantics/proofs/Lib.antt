@@ -4,3 +4,5 @@ mod Placed
 mod TableValues
 mod Only
 mod Some
+mod Accepted
+mod Flattened

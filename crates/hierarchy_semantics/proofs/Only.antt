@@ -3,16 +3,15 @@ use Rattle.std.proofs.Common.{◌≡◌, ℕ, zero, suc, ◌+◌, ◌<◌, Bool,
 use Rattle.std.proofs.lemmas.Option.{none-some, same_Some}
 use Rattle.semantics.specs.declared.mark.Mark.TheVariants.{One}
 use Rattle.semantics.specs.Texts.{Bytes}
-use Rattle.semantics.specs.Net.{table_at, input_count}
 use Rattle.semantics.specs.Value.{Assignment, table_value, IsConsistent}
 use Rattle.blif_semantics.specs.Tables.{NamedTable}
-use Rattle.hierarchy_semantics.specs.Models.{Subcircuit, subckt_part, BlifModel, Hierarchy, main_of, model_named}
+use Rattle.hierarchy_semantics.specs.Models.{Subcircuit, BlifModel, Hierarchy, main_of, model_named}
 use Rattle.hierarchy_semantics.specs.Driven.{Source, by_input, by_table, by_output, Driven, over_parts, inputs_driven, part_driven, driven_of, source_of}
-use Rattle.hierarchy_semantics.specs.Places.{Path, use_at, model_at, IsUse, IsPath, actual_of, values_of, value_at_bits, input_value, source_value, driven_value, place_value}
+use Rattle.hierarchy_semantics.specs.Places.{Path, use_at, model_at, IsUse, IsPath, actual_of, values_of, value_at_bits, source_value, driven_value, place_value}
 use Rattle.hierarchy_semantics.specs.Flat.{source_or, input_or, table_signal, place_signal, flat_table, flat_net}
 use Rattle.hierarchy_semantics.proofs.Members.{IsIn, in_append, found_in, named_in, same_bytes}
-use Rattle.hierarchy_semantics.proofs.Parts.{ComesFrom, from_parts, from_inputs, PartSource, part_source, no_input_part, table_part, output_part}
-use Rattle.hierarchy_semantics.proofs.Placed.{IsGood, fit_at, IsTabled, tabled}
+use Rattle.hierarchy_semantics.proofs.Parts.{from_parts, from_inputs, part_source, no_input_part, output_part}
+use Rattle.hierarchy_semantics.proofs.Placed.{IsGood, IsTabled, tabled}
 use Rattle.hierarchy_semantics.proofs.TableValues.{table_value-pins, values-only}
 
 -- ---- what drives a name, by its source

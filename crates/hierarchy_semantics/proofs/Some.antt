@@ -1,5 +1,5 @@
 -- Some number of steps gives each place a value.
-use Rattle.std.proofs.Common.{◌≡◌, ℕ, zero, suc, ◌+◌, ◌-◌, ◌<◌, Bool, true, false, List, [], ◌∷◌, map, length, get_or, find, bytes_eq, Option, Some, None, option_map, refl, ap, sym, subst, ◌∙◌, inl, inr, arith}
+use Rattle.std.proofs.Common.{◌≡◌, ℕ, zero, suc, ◌+◌, ◌-◌, ◌<◌, Bool, false, List, [], ◌∷◌, map, length, get_or, bytes_eq, Option, Some, None, option_map, refl, ap, sym, subst, ◌∙◌, inl, inr, arith}
 use Rattle.std.specs.List.{AllByRecursion}
 use Rattle.std.proofs.lemmas.Option.{none-some, same_Some}
 use Rattle.semantics.specs.Texts.{Bytes}
@@ -8,13 +8,13 @@ use Rattle.semantics.specs.Value.{value_of}
 use Rattle.semantics.proofs.Values.{value_law, IsGroundedIn-signal}
 use Rattle.semantics.specs.Refusals.{has_name}
 use Rattle.blif_semantics.specs.Tables.{NamedTable}
-use Rattle.hierarchy_semantics.specs.Models.{Binding, Subcircuit, Part, names_part, subckt_part, BlifModel, Hierarchy, main_of, model_named, uses_of}
-use Rattle.hierarchy_semantics.specs.Driven.{Source, by_input, by_table, by_output, Driven, bound_inputs, over_parts, part_driven, driven_of, names_driven, source_of, part_reads, names_read}
+use Rattle.hierarchy_semantics.specs.Models.{Binding, Subcircuit, names_part, subckt_part, BlifModel, Hierarchy, main_of, model_named}
+use Rattle.hierarchy_semantics.specs.Driven.{Source, by_input, by_table, by_output, Driven, bound_inputs, part_driven, driven_of, names_driven, source_of, part_reads, names_read}
 use Rattle.hierarchy_semantics.specs.Places.{Path, use_of, use_at, model_at, IsUse, IsPath, actual_of, and_value, values_of, value_at_bits, source_value, driven_value, place_value, HasValue}
-use Rattle.hierarchy_semantics.specs.Flat.{place_signal, flat_table, flat_net}
-use Rattle.hierarchy_semantics.proofs.Members.{IsIn, in_left, in_right, in_map, from_map, in_filter, found_in, find_there, all_in, in_named, same_bytes, equal_bytes}
+use Rattle.hierarchy_semantics.specs.Flat.{place_signal, flat_net}
+use Rattle.hierarchy_semantics.proofs.Members.{IsIn, in_left, in_right, in_map, from_map, in_filter, found_in, find_there, in_named, same_bytes, equal_bytes}
 use Rattle.hierarchy_semantics.proofs.Parts.{in_get, in_flat_map, no_part, from_parts, part_source, table_part}
-use Rattle.hierarchy_semantics.proofs.Placed.{IsFit, IsGood, fit_at, IsTabled, used_model, in_uses}
+use Rattle.hierarchy_semantics.proofs.Placed.{IsGood, fit_at, used_model, in_uses}
 use Rattle.hierarchy_semantics.proofs.Only.{input_inside, part_inside, output_below, signal-main_input, signal-input, signal-other, stands, only_value}
 
 -- ---- a value stays, whatever the number of further steps
