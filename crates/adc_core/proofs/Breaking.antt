@@ -1,5 +1,5 @@
 -- Where a move changes its table's value, and where it breaks the bound, bit by bit.
-use Rattle.std.proofs.Common.{◌≡◌, ◌≢◌, ◌↔◌, ℕ, ◌+◌, ◌-◌, ◌*◌, ◌^◌, ◌<◌, ◌≤◌, Bool, true, false, not, ◌&&◌, ◌||◌, ltb, List, length, get_or, set, IsTrue, All, w64, refl, ap, sym, subst, ◌∙◌, inl, inr, arith, get_or-set_same, get_or-set_other}
+use Rattle.std.proofs.Common.{◌≡◌, ◌≢◌, ◌↔◌, ◌⊎◌, ℕ, ◌+◌, ◌-◌, ◌*◌, ◌^◌, ◌<◌, ◌≤◌, Bool, true, false, not, ◌&&◌, ◌||◌, ltb, List, length, get_or, set, IsTrue, All, w64, refl, ap, sym, subst, ◌∙◌, inl, inr, arith, get_or-set_same, get_or-set_other}
 use Rattle.std.specs.Prelude.{bit_and, bit_or, bit_xor, ◌==◌}
 use Rattle.std.specs.Int.{bit_not, trailing_zeros}
 use Rattle.std.proofs.lemmas.Bool.{cases_eq, cases_lt, and_parts, and_from, or_cases, or_left, or_right, not-true, not_from_false, false_from_ne_true, lt-ltb, le-ltb, ltb-true}
@@ -20,7 +20,7 @@ use Rattle.lane_bits.proofs.Bits.{and_bit, or_bit, xor_bit}
 use Rattle.lane_nets.specs.Words.{word_bit, values_at, HasValues}
 use Rattle.lane_nets.specs.Blocks.{vector_at, row_at, IsRowWhere, AreBlocksOf, IsWordWhere}
 use Rattle.adc_core.specs.Masks.{IsFirstBroken}
-use Rattle.lane_nets.proofs.WordBits.{not_bit, ones_bit}
+use Rattle.lane_nets.proofs.WordBits.{not_bit, ones_bit, zero_bit}
 use Rattle.lane_nets.proofs.RowBits.{row_bit-word, row_where}
 
 turned-differs : (m v : Bool) → (turned v m ≡ true) ↔ (m ≢ v)
@@ -91,6 +91,45 @@ pub changes_all : (N : NetValue) (m : Move) (blocks : List (List ℕ)) (count k 
 changes_all N m blocks count k row room whole past each vectors long are =
     row_where vectors (Changes N m) row (room ∙ ap word_count (sym long)) (λ j low. each vectors long are j (omega (arith, room, whole)))
 
+-- a bit that tells where a move breaks, from a bit that tells where it matters and one that tells where the net itself exceeds the bound
+abbrev pub TellsBroken : NetValue → Move → List Bool → Bool → Bool → Bool → Type 0
+TellsBroken N m x care exceeds bit = IsTrue bit ↔ ((Changes N m x × IsTrue care) ⊎ ((¬ Changes N m x) × IsTrue exceeds))
+
+pub broken_bits : (N : NetValue) (m : Move) (x : List Bool) (differs care exceeds b : ℕ) → differs < 2 ^ 64 → b < 64 → IsTrue (word_bit differs b) ↔ Changes N m x
+    → TellsBroken N m x (word_bit care b) (word_bit exceeds b) (word_bit (bit_or (bit_and differs care) (bit_and exceeds (bit_not w64 differs))) b)
+broken_bits N m x differs care exceeds b fits inside iff =
+    let c : Bool = word_bit care b in
+    let e : Bool = word_bit exceeds b in
+    let d : Bool = word_bit differs b in
+    let whole : word_bit (bit_or (bit_and differs care) (bit_and exceeds (bit_not w64 differs))) b ≡ ((d && c) || (e && not d)) =
+    or_bit (bit_and differs care) (bit_and exceeds (bit_not w64 differs)) b
+    ∙ (λ j. and_bit differs care b j || (and_bit exceeds (bit_not w64 differs) b ∙ ap (λ y. e && y) (not_bit differs b fits inside)) j) in (
+      λ set. elim (or_cases (d && c) (e && not d) (sym whole ∙ set)) [
+        | inl both ↦ (let parts = and_parts d c both in inl (iff.0 parts.0, parts.1))
+        | inr both ↦
+            let parts = and_parts e (not d) both in
+            let clear : d ≡ false = not-true d parts.1 in
+            inr ((λ changes. (let set' : d ≡ true = iff.1 changes in cc)), parts.0)
+      ],
+      λ h. whole ∙ elim h [
+        | inl changed ↦ or_left (d && c) (e && not d) (and_from d c (iff.1 changed.0) changed.1)
+        | inr left ↦ or_right (d && c) (e && not d) (and_from e (not d) left.1 (not_from_false d (false_from_ne_true d (λ set. left.0 (iff.0 set)))))
+      ],
+    )
+
+-- where neither word has a bit
+pub broken_nowhere : (N : NetValue) (m : Move) (x : List Bool) (care exceeds b : ℕ) → care ≡ 0 → exceeds ≡ 0 → TellsBroken N m x (word_bit care b) (word_bit exceeds b) (word_bit 0 b)
+broken_nowhere N m x care exceeds b no_care none =
+    let clear : word_bit 0 b ≡ false = zero_bit b in
+    let care_is : word_bit care b ≡ false = ap (λ w. word_bit w b) no_care ∙ clear in
+    let exceeds_is : word_bit exceeds b ≡ false = ap (λ w. word_bit w b) none ∙ clear in (
+      λ set. absurd (cc),
+      λ h. elim h [
+        | inl changed ↦ absurd (let set : word_bit care b ≡ true = changed.1 in cc)
+        | inr left ↦ absurd (let set : word_bit exceeds b ≡ true = left.1 in cc)
+      ],
+    )
+
 module _ (metric : Metric) (E N : NetValue) (bound : ℕ) (m : Move) (sound : IsSound N) (is : IsMoveOf N m) (vectors : List (List Bool)) (blocks : List (List ℕ)) (care exceeds : List ℕ)
     (are : AreBlocksOf N vectors blocks) (cared : IsRowWhere vectors (IsCaredFor metric E bound N (table_of m)) care) (exceeded : IsRowWhere vectors (Exceeds metric E bound N) exceeds) where
   abbrev Broken : ℕ → Type 0
@@ -104,44 +143,28 @@ module _ (metric : Metric) (E N : NetValue) (bound : ℕ) (m : Move) (sound : Is
         | inr past ↦ absurd (let clear : row_bit row p ≡ false = holds.clear p past in cc)
       ]
 
-  -- the words of one block
-  abbrev broken_word : ℕ → ℕ → ℕ
-  broken_word k differs = bit_or (bit_and differs (get_or care k 0)) (bit_and (get_or exceeds k 0) (bit_not w64 differs))
-
-  pub broken_bit : (k differs : ℕ) (words : List ℕ) → k < length blocks → words ≡ row_at blocks k → differs < 2 ^ 64
-      → ((b : ℕ) (x : List Bool) → b < 64 → HasValues N words b x → IsTrue (word_bit differs b) ↔ Changes N m x)
-      → (b : ℕ) → b < 64 → (word_bit (bit_or (bit_and differs (get_or care k 0)) (bit_and (get_or exceeds k 0) (bit_not w64 differs))) b ≡ true)
-      ↔ ((64 * k + b < length vectors) × IsBrokenAt metric E bound N m (vector_at vectors (64 * k + b)))
-  broken_bit k differs words low words_are fits tells b inside =
+  pub broken_bit : (k word : ℕ) (words : List ℕ) → k < length blocks → words ≡ row_at blocks k
+      → ((b : ℕ) (x : List Bool) → b < 64 → HasValues N words b x → TellsBroken N m x (word_bit (get_or care k 0) b) (word_bit (get_or exceeds k 0) b) (word_bit word b))
+      → (b : ℕ) → b < 64 → (word_bit word b ≡ true) ↔ ((64 * k + b < length vectors) × IsBrokenAt metric E bound N m (vector_at vectors (64 * k + b)))
+  broken_bit k word words low words_are tells b inside =
       let p : ℕ = 64 * k + b in
       let x : List Bool = vector_at vectors p in
       let values : HasValues N words b x = subst (λ w. HasValues N w b x) (sym words_are) ((are.each k low).values b inside) in
       let iff = tells b x inside values in
       let law = move-broken N m x sound is metric E bound in
-      let c : Bool = word_bit (get_or care k 0) b in
-      let e : Bool = word_bit (get_or exceeds k 0) b in
-      let d : Bool = word_bit differs b in
-      let care_is : row_bit care p ≡ c = row_bit-word care k b inside in
-      let exceeds_is : row_bit exceeds p ≡ e = row_bit-word exceeds k b inside in
-      let whole : word_bit (broken_word k differs) b ≡ ((d && c) || (e && not d)) =
-      or_bit (bit_and differs (get_or care k 0)) (bit_and (get_or exceeds k 0) (bit_not w64 differs)) b
-      ∙ (λ j. and_bit differs (get_or care k 0) b j || (and_bit (get_or exceeds k 0) (bit_not w64 differs) b ∙ ap (λ y. e && y) (not_bit differs b fits inside)) j) in (
-        λ set. elim (or_cases (d && c) (e && not d) (sym whole ∙ set)) [
-          | inl both ↦
-              let parts = and_parts d c both in
-              let here : p < length vectors = at_pattern (IsCaredFor metric E bound N (table_of m)) care cared p (care_is ∙ parts.1) in
-              (here, law.1 (inl (iff.0 parts.0, (cared.bits p here).0 (care_is ∙ parts.1))))
-          | inr both ↦
-              let parts = and_parts e (not d) both in
-              let here : p < length vectors = at_pattern (Exceeds metric E bound N) exceeds exceeded p (exceeds_is ∙ parts.0) in
-              let clear : d ≡ false = not-true d parts.1 in
-              (here, law.1 (inr ((λ changes. (let set' : d ≡ true = iff.1 changes in cc)), (exceeded.bits p here).0 (exceeds_is ∙ parts.0))))
-        ],
-        λ h. whole ∙ elim (law.0 h.1) [
-          | inl changed ↦ or_left (d && c) (e && not d) (and_from d c (iff.1 changed.0) (sym care_is ∙ (cared.bits p h.0).1 changed.1))
+      let care_is : row_bit care p ≡ word_bit (get_or care k 0) b = row_bit-word care k b inside in
+      let exceeds_is : row_bit exceeds p ≡ word_bit (get_or exceeds k 0) b = row_bit-word exceeds k b inside in (
+        λ set. elim (iff.0 set) [
+          | inl changed ↦
+              let here : p < length vectors = at_pattern (IsCaredFor metric E bound N (table_of m)) care cared p (care_is ∙ changed.1) in
+              (here, law.1 (inl (changed.0, (cared.bits p here).0 (care_is ∙ changed.1))))
           | inr left ↦
-              or_right (d && c) (e && not d)
-              (and_from e (not d) (sym exceeds_is ∙ (exceeded.bits p h.0).1 left.1) (not_from_false d (false_from_ne_true d (λ set. left.0 (iff.0 set)))))
+              let here : p < length vectors = at_pattern (Exceeds metric E bound N) exceeds exceeded p (exceeds_is ∙ left.1) in
+              (here, law.1 (inr (left.0, (exceeded.bits p here).0 (exceeds_is ∙ left.1))))
+        ],
+        λ h. elim (law.0 h.1) [
+          | inl changed ↦ iff.1 (inl (changed.0, sym care_is ∙ (cared.bits p h.0).1 changed.1))
+          | inr left ↦ iff.1 (inr (left.0, sym exceeds_is ∙ (exceeded.bits p h.0).1 left.1))
         ],
       )
 

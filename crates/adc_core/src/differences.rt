@@ -1,5 +1,5 @@
 //! At which patterns a move changes its table's value, and where that breaks the bound.
-ghost use Rattle.std.specs.Prelude.{◌≡◌, ◌↔◌, ◌+◌, ◌*◌, ◌<◌, ◌≤◌, ◌^◌, ℕ, Bool, List, true, false, length, nat_lt, IsTrue, MatchOption, Contains};
+ghost use Rattle.std.specs.Prelude.{◌≡◌, ◌↔◌, ◌⊎◌, ◌+◌, ◌*◌, ◌<◌, ◌≤◌, ◌^◌, ℕ, Bool, List, true, false, length, nat_lt, IsTrue, MatchOption, Contains};
 ghost use Rattle.semantics.specs.Net.{NetValue, signal_count};
 ghost use Rattle.semantics.specs.declared.metric.Metric.{Metric};
 ghost use Rattle.chain_semantics.specs.Moves.{moves_of, table_of};
@@ -68,8 +68,23 @@ fn lowest_bit(word: u64) -> Option<u32>
     Some(word.trailing_zeros())
 }
 
-/// The first pattern at which the move breaks the bound: where it changes its table's value and the pattern is cared for, or
-/// where it leaves the value and the net itself exceeds the bound.
+/// Where the move breaks the bound, in one block: where it changes its table's value and the pattern is cared for, or where it
+/// leaves the value and the net itself exceeds the bound.
+fn broken_word(net: &Net, step: Move, words: &[u64], care: u64, exceeds: u64) -> u64
+    requires step { Contains (moves_of net.now) step }
+    requires room { length words.now ≡ signal_count net.now }
+    ensures { (b : ℕ) (x : List Bool) → b < 64 → HasValues net.now words.now b x → IsTrue (word_bit result b)
+        ↔ ((Changes net.now step x × IsTrue (word_bit care b)) ⊎ ((¬ Changes net.now step x) × IsTrue (word_bit exceeds b))) }
+{
+    // Then the block breaks nowhere, whatever the move changes.
+    if care == 0 && exceeds == 0 {
+        return 0;
+    }
+    let differs = difference_word(net, step, words);
+    (differs & care) | (exceeds & !differs)
+}
+
+/// The first pattern at which the move breaks the bound.
 pub(crate) fn first_broken(
     net: &Net,
     step: Move,
@@ -87,9 +102,10 @@ pub(crate) fn first_broken(
         → IsRowWhere vectors (Exceeds metric exact bound net.now) exceeds.now
         → FindsFirstBroken metric exact bound net.now vectors step result }
 {
+    // A net is sound by its type: the call brings that fact here.
+    let _ = net.tables();
     for k in 0..blocks.len() {
-        let differs = difference_word(net, step, blocks[k].as_slice());
-        let broken = (differs & care[k]) | (exceeds[k] & !differs);
+        let broken = broken_word(net, step, blocks[k].as_slice(), care[k], exceeds[k]);
         if let Some(b) = lowest_bit(broken) {
             return Some(64 * k as u64 + u64::from(b));
         }

@@ -1,5 +1,5 @@
 //! The values that a move gives to its table, at 64 patterns at a time. No table is made for it.
-ghost use Rattle.std.specs.Prelude.{◌≡◌, ◌<◌, ℕ, length, remove, slice_set, All, Contains};
+ghost use Rattle.std.specs.Prelude.{◌≡◌, ◌<◌, ◌&&◌, ℕ, length, remove, slice_set, All, Contains};
 ghost use Rattle.semantics.specs.declared.mark.Mark.TheVariants.{Dash};
 ghost use Rattle.semantics.specs.Net.{table_at, signal_count};
 ghost use Rattle.semantics.specs.Value.{row_matches, table_value};
@@ -26,6 +26,13 @@ fn copy_word(word: u64, flip: bool) -> u64
     ensures { (b : ℕ) → b < 64 → word_bit result b ≡ turned flip (word_bit word b) }
 {
     if flip { !word } else { word }
+}
+
+/// The conjunction of two values, or its opposite.
+fn pair_word(first: u64, second: u64, flip: bool) -> u64
+    ensures { (b : ℕ) → b < 64 → word_bit result b ≡ turned flip (word_bit first b && word_bit second b) }
+{
+    copy_word(first & second, flip)
 }
 
 /// The value of a table without one of its rows.
@@ -85,5 +92,17 @@ pub fn moved_word(net: &Net, step: Move, words: &[u64]) -> u64
             without_literal(net.table(t), row as usize, pin as usize, words)
         }
         Move::Signal { s, flip, .. } => copy_word(words[s as usize], flip),
+        Move::Pair {
+            s,
+            flip_s,
+            u,
+            flip_u,
+            flip,
+            ..
+        } => {
+            let first = copy_word(words[s as usize], flip_s);
+            let second = copy_word(words[u as usize], flip_u);
+            pair_word(first, second, flip)
+        }
     }
 }

@@ -9,7 +9,7 @@ use std::alloc::{AllocError, Global};
 use std::test::Fail;
 
 /// Table 0 is the sum, signal 2, and table 1 the carry, signal 3.
-const MOVES: [Move; 24] = [
+const MOVES: [Move; 32] = [
     Move::Const { t: 0, value: false },
     Move::Const { t: 0, value: true },
     Move::DropRow { t: 0, row: 0 },
@@ -62,6 +62,70 @@ const MOVES: [Move; 24] = [
     Move::Signal {
         t: 0,
         s: 3,
+        flip: true,
+    },
+    Move::Pair {
+        t: 0,
+        s: 0,
+        flip_s: false,
+        u: 1,
+        flip_u: false,
+        flip: false,
+    },
+    Move::Pair {
+        t: 0,
+        s: 0,
+        flip_s: false,
+        u: 1,
+        flip_u: false,
+        flip: true,
+    },
+    Move::Pair {
+        t: 0,
+        s: 0,
+        flip_s: false,
+        u: 1,
+        flip_u: true,
+        flip: false,
+    },
+    Move::Pair {
+        t: 0,
+        s: 0,
+        flip_s: false,
+        u: 1,
+        flip_u: true,
+        flip: true,
+    },
+    Move::Pair {
+        t: 0,
+        s: 0,
+        flip_s: true,
+        u: 1,
+        flip_u: false,
+        flip: false,
+    },
+    Move::Pair {
+        t: 0,
+        s: 0,
+        flip_s: true,
+        u: 1,
+        flip_u: false,
+        flip: true,
+    },
+    Move::Pair {
+        t: 0,
+        s: 0,
+        flip_s: true,
+        u: 1,
+        flip_u: true,
+        flip: false,
+    },
+    Move::Pair {
+        t: 0,
+        s: 0,
+        flip_s: true,
+        u: 1,
+        flip_u: true,
         flip: true,
     },
     Move::Const { t: 1, value: false },

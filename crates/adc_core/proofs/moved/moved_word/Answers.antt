@@ -1,9 +1,10 @@
 use Rattle.std.proofs.Common.{◌<◌, length, sym, subst, arith}
 use Rattle.semantics.specs.Net.{TableValue}
+use Rattle.chain_semantics.specs.declared.moves.Move.TheVariants.{Pair}
 use Rattle.chain_semantics.specs.Moves.{row_at}
 use Rattle.chain_semantics.specs.MoveLaws.{IsMoveOf}
 use Rattle.chain_semantics.proofs.MoveMembers.{move_is}
-use Rattle.chain_semantics.proofs.MovedNets.{literal_within}
+use Rattle.chain_semantics.proofs.MovedNets.{literal_within, moved-pins}
 use Rattle.adc_core.proofs.moved.moved_word.Goals as goal
 
 pub table-requires : goal.table-requires
@@ -33,3 +34,15 @@ pub bounds-words-s : goal.bounds-words-s
 bounds-words-s c =
     let is = subst (IsMoveOf c.args.net.now) c.in-Signal.is (move_is c.args.net.now c.tables.ensures.built.sound.acyclic c.args.step c.requires.step) in
     omega (arith, is.2, c.requires.room)
+
+pub bounds-words-s-in-Pair : goal.bounds-words-s-in-Pair
+bounds-words-s-in-Pair c =
+    let is = subst (IsMoveOf c.args.net.now) c.in-Pair.is (move_is c.args.net.now c.tables.ensures.built.sound.acyclic c.args.step c.requires.step) in
+    let pins = moved-pins c.args.net.now (Pair c.in-Pair.t c.in-Pair.s c.in-Pair.flip_s c.in-Pair.u c.in-Pair.flip_u c.in-Pair.flip) c.tables.ensures.built.sound is in
+    omega (arith, pins 0 0 (omega arith), c.requires.room)
+
+pub bounds-words-u : goal.bounds-words-u
+bounds-words-u c =
+    let is = subst (IsMoveOf c.args.net.now) c.in-Pair.is (move_is c.args.net.now c.tables.ensures.built.sound.acyclic c.args.step c.requires.step) in
+    let pins = moved-pins c.args.net.now (Pair c.in-Pair.t c.in-Pair.s c.in-Pair.flip_s c.in-Pair.u c.in-Pair.flip_u c.in-Pair.flip) c.tables.ensures.built.sound is in
+    omega (arith, pins 1 0 (omega arith), c.requires.room)
