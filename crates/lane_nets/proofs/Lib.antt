@@ -3,3 +3,5 @@ pub mod RowBits
 mod Greatest
 pub mod FirstOver
 pub mod Evaluating
+pub mod Comparing
+pub mod LaneErrors

@@ -5,6 +5,7 @@
 
 pub mod blocks;
 pub mod errors;
+pub mod lanes;
 pub mod outputs;
 pub mod trials;
 pub mod values;

@@ -12,7 +12,7 @@ use net_core::net::Net;
 use std::alloc::{AllocError, Global};
 
 /// One bit of a word.
-fn word_bit(word: u64, b: u32) -> bool
+pub(crate) fn word_bit(word: u64, b: u32) -> bool
     requires { b < 64 }
     ensures { result ≡ word_bit word b }
 {
