@@ -1,6 +1,7 @@
 pub mod WordBits
 pub mod RowBits
-mod Greatest
+pub mod Greatest
+pub mod BlockErrors
 pub mod FirstOver
 pub mod Evaluating
 pub mod Comparing

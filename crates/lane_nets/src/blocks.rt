@@ -3,6 +3,7 @@ ghost use Rattle.std.specs.Prelude.{◌≡◌, ◌+◌, ◌*◌, ◌<◌, ◌≤
 ghost use Rattle.semantics.specs.Net.{input_count, signal_count};
 ghost use Rattle.lane_bits.specs.Rows.{word_count};
 ghost use Rattle.lane_bits.specs.Patterns.{pattern_bit};
+ghost use Rattle.net_core.specs.Built.{IsBuilt};
 ghost use Rattle.lane_nets.specs.Words.{values_at};
 ghost use Rattle.lane_nets.specs.Blocks.{IsBlock, AreBlocksOf};
 
@@ -31,7 +32,8 @@ pub(crate) fn set_block(net: &Net, patterns: &Patterns, k: usize, words: &mut [u
     requires inputs { patterns.now.inputs ≡ input_count net.now }
     requires within { k < word_count (length patterns.now.vectors) }
     requires room { length words.old ≡ signal_count net.now }
-    ensures { IsBlock net.now patterns.now.vectors k words.new }
+    ensures block { IsBlock net.now patterns.now.vectors k words.new }
+    ensures built { IsBuilt net.now }
 {
     // A net is sound by its type: the call brings that fact here.
     let _ = net.tables();

@@ -15,13 +15,13 @@ loop-b-preserved c =
           rw w.over-is (over_set P c.loop-b.over c.loop-b.b low (omega (arith, w.lane_error.ensures, w.if-lane_error-level.true)) c.loop-b.invariant)
       | else-word_bit w ↦
           rw w.over-is
-              (elim w.else-word_bit.branch [
-                | else-word_bit-via-then-word_bit+else-lane_error-level w' ↦
-                    over_left P c.loop-b.over c.loop-b.b (λ h. omega (arith, w'.lane_error.ensures, w'.if-lane_error-level.false, h)) c.loop-b.invariant
-                | else-word_bit-via-else-word_bit w' ↦
-                    let same = c.unequal_word-unequal.ensures c.loop-b.b low (sym c.word_bit.ensures ∙ w'.if-word_bit.false) in
-                    over_left P c.loop-b.over c.loop-b.b
-                    (λ h. omega (arith, h, ap (λ l. error_of c.args.metric l (lane_at c.args.approx.now c.loop-b.b)) same, no_error c.args.metric (lane_at c.args.approx.now c.loop-b.b)))
-                    c.loop-b.invariant
-              ])
+          (elim w.else-word_bit.branch [
+            | else-word_bit-via-then-word_bit+else-lane_error-level w' ↦
+                over_left P c.loop-b.over c.loop-b.b (λ h. omega (arith, w'.lane_error.ensures, w'.if-lane_error-level.false, h)) c.loop-b.invariant
+            | else-word_bit-via-else-word_bit w' ↦
+                let same = c.unequal_word-unequal.ensures c.loop-b.b low (sym c.word_bit.ensures ∙ w'.if-word_bit.false) in
+                over_left P c.loop-b.over c.loop-b.b
+                (λ h. omega (arith, h, ap (λ l. error_of c.args.metric l (lane_at c.args.approx.now c.loop-b.b)) same, no_error c.args.metric (lane_at c.args.approx.now c.loop-b.b)))
+                c.loop-b.invariant
+          ])
     ]
