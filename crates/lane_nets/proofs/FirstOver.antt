@@ -1,15 +1,10 @@
 -- How many bits the outputs of nets with the same ports have.
-use Rattle.std.proofs.Common.{◌≡◌, ℕ, ◌*◌, ◌<◌, ◌≤◌, Bool, true, false, Option, Some, None, MatchOption, List, [], length, slice_index_or, All, ap, sym, ◌∙◌, inl, inr, arith}
-use Rattle.std.proofs.lemmas.Bool.{cases_lt}
+use Rattle.std.proofs.Common.{◌≡◌, ℕ, ◌<◌, Bool, List, [], length, slice_index_or, All, ap, sym, ◌∙◌, arith}
 use Rattle.std.proofs.lemmas.List.{length-map}
 use Rattle.std.proofs.lemmas.List.Elements.{All-from_get_or}
 use Rattle.semantics.specs.Net.{NetValue, input_count, signal_names, name_of, HasSamePorts}
 use Rattle.semantics.specs.Value.{value_of, outputs_of}
-use Rattle.semantics.specs.declared.metric.Metric.{Metric}
-use Rattle.semantics.specs.Error.{error_of, net_error}
-use Rattle.lane_bits.specs.Rows.{row_bit, word_count, HasNoneSet, IsFirstSet}
-use Rattle.lane_nets.specs.Blocks.{vector_at, IsRowWhere, AreOutputsOf}
-use Rattle.lane_nets.specs.Errors.{IsOver, FindsFirstOver, IsFirstGreatestOf, IsFirstGreatest}
+use Rattle.lane_nets.specs.Blocks.{vector_at, AreOutputsOf}
 
 pub same_inputs : (E N : NetValue) → HasSamePorts E N → input_count N ≡ input_count E
 same_inputs E N ports = ap length (sym ports.inputs)

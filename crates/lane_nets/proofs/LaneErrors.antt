@@ -1,5 +1,5 @@
 -- Errors lane by lane.
-use Rattle.std.proofs.Common.{◌≡◌, ◌↔◌, ℕ, zero, suc, ◌+◌, ◌*◌, ◌-◌, ◌/◌, ◌%◌, ◌^◌, ◌<◌, ◌≤◌, min, max, Bool, true, false, not, ◌||◌, List, [], ◌∷◌, length, get_or, set, map, w64, IsTrue, refl, ap, sym, ◌∙◌, subst, inl, inr, arith}
+use Rattle.std.proofs.Common.{◌≡◌, ◌↔◌, ℕ, zero, suc, ◌+◌, ◌*◌, ◌-◌, ◌^◌, ◌<◌, ◌≤◌, min, max, Bool, true, false, not, ◌||◌, List, [], ◌∷◌, length, get_or, set, w64, IsTrue, refl, ap, sym, ◌∙◌, subst, inl, inr, arith}
 use Rattle.std.specs.Prelude.{bit_or, bit_xor}
 use Rattle.std.specs.Int.{bit_not}
 use Rattle.std.proofs.Math.Nat.{zero-div, zero-mod}
@@ -7,7 +7,7 @@ use Rattle.std.proofs.lemmas.Bool.{cases_eq}
 use Rattle.std.proofs.lemmas.List.{ext_get_or, length-map, get_or-map}
 use Rattle.semantics.specs.declared.metric.Metric.{Metric}
 use Rattle.semantics.specs.declared.metric.Metric.TheVariants.{Abs, Rel, Ham, Sabs}
-use Rattle.semantics.specs.Error.{bit_number, number_of, sign_of, sign_flipped, distance, rounded_up, differing, error_of}
+use Rattle.semantics.specs.Error.{number_of, sign_of, sign_flipped, distance, rounded_up, differing, error_of}
 use Rattle.semantics.proofs.Signed.{signed_error-naturals, flipped_error}
 use Rattle.lane_bits.specs.Rows.{turned}
 use Rattle.lane_bits.proofs.Bits.{or_bit, xor_bit}

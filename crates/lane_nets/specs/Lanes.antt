@@ -1,5 +1,5 @@
 -- Lists of bits at 64 patterns at a time: one word for each bit of the list, one lane for each pattern. Source: bit-parallel simulation.
-use Rattle.std.specs.Prelude.{◌≡◌, ◌↔◌, ℕ, ◌+◌, ◌*◌, ◌<◌, Bool, List, map, length, slice_index, IsTrue}
+use Rattle.std.specs.Prelude.{◌≡◌, ◌↔◌, ℕ, ◌+◌, ◌*◌, ◌<◌, Bool, List, map, length, slice_index}
 use Rattle.semantics.specs.Net.{NetValue}
 use Rattle.semantics.specs.Value.{outputs_of}
 use Rattle.semantics.specs.Error.{bit_number}

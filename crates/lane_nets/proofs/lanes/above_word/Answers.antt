@@ -1,6 +1,4 @@
-use Rattle.std.proofs.Common.{rules, ◌+◌, ◌<◌, length, arith}
-use Rattle.semantics.specs.Error.{number_of}
-use Rattle.lane_nets.specs.Lanes.{lane_at}
+use Rattle.std.proofs.Common.{rules}
 use Rattle.lane_nets.proofs.Comparing.{compare_more, compare_end}
 use Rattle.lane_nets.proofs.lanes.above_word.Goals as goal
 

@@ -1,4 +1,4 @@
-use Rattle.std.proofs.Common.{ℕ, ◌<◌, ◌≡◌, ap, sym, ◌∙◌, arith}
+use Rattle.std.proofs.Common.{ℕ, ◌<◌, ap, sym, ◌∙◌, arith}
 use Rattle.semantics.specs.Error.{error_of}
 use Rattle.lane_nets.specs.Lanes.{lane_at}
 use Rattle.lane_nets.proofs.RowBits.{over_set, over_left}

@@ -1,4 +1,4 @@
-use Rattle.std.proofs.Common.{ap, length, arith}
+use Rattle.std.proofs.Common.{arith}
 use Rattle.std.proofs.lemmas.List.{length_push}
 use Rattle.lane_nets.proofs.BlockErrors.{widths_more, rows_more, length-output_words}
 use Rattle.lane_nets.proofs.outputs.output_rows.Goals as goal

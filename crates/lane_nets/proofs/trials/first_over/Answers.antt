@@ -1,8 +1,7 @@
-use Rattle.std.proofs.Common.{◌≡◌, ◌-◌, ◌*◌, ℕ, min, [], length, ap, subst, ◌∙◌, arith}
+use Rattle.std.proofs.Common.{◌≡◌, ◌-◌, ◌*◌, ℕ, min, [], ap, subst, ◌∙◌}
 use Rattle.std.proofs.lemmas.List.{get_or_default}
 use Rattle.semantics.specs.Net.{NetValue, IsSound}
-use Rattle.semantics.specs.Value.{outputs_of}
-use Rattle.lane_nets.specs.Blocks.{vector_at, row_at, IsBlock}
+use Rattle.lane_nets.specs.Blocks.{row_at, IsBlock}
 use Rattle.lane_nets.specs.Lanes.{lane_at}
 use Rattle.lane_nets.proofs.BlockErrors.{first_in_block, none_in_block}
 use Rattle.lane_nets.proofs.trials.first_over.Goals as goal

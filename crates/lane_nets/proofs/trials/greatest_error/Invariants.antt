@@ -1,4 +1,4 @@
-use Rattle.std.proofs.Common.{ℕ, ◌*◌, min, length}
+use Rattle.std.proofs.Common.{◌*◌, min, length}
 use Rattle.semantics.specs.Error.{net_error}
 use Rattle.lane_nets.specs.Blocks.{vector_at}
 use Rattle.lane_nets.specs.Errors.{IsGreatestSoFar}

@@ -1,4 +1,4 @@
-use Rattle.std.proofs.Common.{◌≡◌, ◌+◌, ◌<◌, List, Bool, ap, sym, ◌∙◌, arith}
+use Rattle.std.proofs.Common.{◌+◌, ◌<◌, List, Bool, ap, sym, ◌∙◌, arith}
 use Rattle.semantics.specs.Error.{error_of}
 use Rattle.lane_nets.specs.Lanes.{lane_at}
 use Rattle.lane_nets.proofs.BlockErrors.{outputs_lane, block_taken, block_kept, not_over}
