@@ -13,7 +13,7 @@ use Rattle.trim_semantics.specs.Kept.{is_empty_clause}
 use Rattle.trim_semantics.specs.Trimmed.{removal_of}
 use Rattle.trim_semantics.specs.Trimming.{has_id, is_named, kept_steps, ended_after, with_removals}
 use Rattle.trim_semantics.proofs.Members.{contains_first}
-use Rattle.lrat_trim.specs.Backwards.{adds_empty_clause, is_in, IsKept, IsPassed, IsVisited}
+use Rattle.lrat_trim.specs.Backwards.{adds_empty_clause, is_in, KeptStep, Passed, Visited}
 use Rattle.lrat_trim.proofs.Roots.{none_before, kept_from}
 use Rattle.lrat_trim.proofs.Fresh.{fresh_ended}
 
@@ -64,11 +64,11 @@ ended_is ids more s (t ∷ later) id named e = e
 
 module _ (formula : List Clause) (log : List LogItem) (r : Refutes formula log) where
   passed : (steps : List StepValue) (old_named new_named : ℕ → Bool) (old_kept new_kept : List LogItem) → IsSoFar (map (λ t. t.id) (kept_steps log)) steps old_named old_kept
-      → IsPassed old_named old_kept new_named new_kept → IsSoFar (map (λ t. t.id) (kept_steps log)) steps new_named new_kept
+      → Passed old_named old_kept new_named new_kept → IsSoFar (map (λ t. t.id) (kept_steps log)) steps new_named new_kept
   passed steps old_named new_named old_kept new_kept h p = record { named = λ id. p.named id ∙ h.named id; kept = ap reverse p.kept ∙ h.kept }
 
   one_kept : (s : StepValue) (later : List StepValue) (old_named new_named : ℕ → Bool) (old_kept new_kept : List LogItem) → is_named later s.id ≡ true → Contains (kept_steps log) s
-      → IsSoFar (map (λ t. t.id) (kept_steps log)) later old_named old_kept → IsKept (length formula) s old_named old_kept new_named new_kept
+      → IsSoFar (map (λ t. t.id) (kept_steps log)) later old_named old_kept → KeptStep (length formula) s old_named old_kept new_named new_kept
       → IsSoFar (map (λ t. t.id) (kept_steps log)) (s ∷ later) new_named new_kept
   one_kept s later old_named new_named old_kept new_kept is m h k =
       let ends : k.ids ≡ ended_after (map (λ t. t.id) (kept_steps log)) s later =
@@ -85,7 +85,7 @@ module _ (formula : List Clause) (log : List LogItem) (r : Refutes formula log) 
   added : (s : StepValue) (later : List StepValue) (empty named : Bool) (old_named new_named : ℕ → Bool) (old_kept new_kept : List LogItem) → empty ≡ false → is_named later s.id ≡ named
       → (Contains (cond empty (s ∷ []) (cond named (s ∷ later) later)) s → Contains (kept_steps log) s)
       → IsSoFar (map (λ t. t.id) (kept_steps log)) later old_named old_kept
-      → MatchBool named (IsKept (length formula) s old_named old_kept new_named new_kept) (IsPassed old_named old_kept new_named new_kept)
+      → MatchBool named (KeptStep (length formula) s old_named old_kept new_named new_kept) (Passed old_named old_kept new_named new_kept)
       → IsSoFar (map (λ t. t.id) (kept_steps log)) (cond empty (s ∷ []) (cond named (s ∷ later) later)) new_named new_kept
   added s later true named old_named new_named old_kept new_kept e is up h v = cc
   added s later false true old_named new_named old_kept new_kept e is up h v = one_kept s later old_named new_named old_kept new_kept is (up (contains_first s later)) h v
@@ -93,16 +93,16 @@ module _ (formula : List Clause) (log : List LogItem) (r : Refutes formula log) 
 
   visited : (item : LogItem) (rest : List LogItem) (old_named new_named : ℕ → Bool) (old_kept new_kept : List LogItem) → adds_empty_clause item ≡ false
       → ((t : StepValue) → Contains (kept_steps (item ∷ rest)) t → Contains (kept_steps log) t)
-      → IsSoFar (map (λ t. t.id) (kept_steps log)) (kept_steps rest) old_named old_kept → IsVisited (length formula) item old_named old_kept new_named new_kept
+      → IsSoFar (map (λ t. t.id) (kept_steps log)) (kept_steps rest) old_named old_kept → Visited (length formula) item old_named old_kept new_named new_kept
       → IsSoFar (map (λ t. t.id) (kept_steps log)) (kept_steps (item ∷ rest)) new_named new_kept
   visited (Remove gone) rest old_named new_named old_kept new_kept e up h v = passed (kept_steps rest) old_named new_named old_kept new_kept h v
   visited (Add s) rest old_named new_named old_kept new_kept e up h v =
       added s (kept_steps rest) (is_empty_clause s.literals) (is_named (kept_steps rest) s.id) old_named new_named old_kept new_kept e refl (up s) h
-      (subst (λ t. MatchBool t (IsKept (length formula) s old_named old_kept new_named new_kept) (IsPassed old_named old_kept new_named new_kept)) (h.named s.id) v)
+      (subst (λ t. MatchBool t (KeptStep (length formula) s old_named old_kept new_named new_kept) (Passed old_named old_kept new_named new_kept)) (h.named s.id) v)
 
   pub next_kept : (root place next : ℕ) (item : LogItem) (old_named new_named : ℕ → Bool) (old_kept new_kept : List LogItem) → position adds_empty_clause log ≡ Some root → place < root
       → next ≡ suc place → item ≡ get_or log place item
-      → IsSoFar (map (λ t. t.id) (kept_steps log)) (kept_steps (drop next log)) old_named old_kept → IsVisited (length formula) item old_named old_kept new_named new_kept
+      → IsSoFar (map (λ t. t.id) (kept_steps log)) (kept_steps (drop next log)) old_named old_kept → Visited (length formula) item old_named old_kept new_named new_kept
       → IsSoFar (map (λ t. t.id) (kept_steps log)) (kept_steps (drop place log)) new_named new_kept
   next_kept root place next item old_named new_named old_kept new_kept is low at here h v =
       let found = position-Some adds_empty_clause log root item is in

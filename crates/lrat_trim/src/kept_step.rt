@@ -3,7 +3,7 @@ ghost use Rattle.std.specs.Prelude.{◌≡◌, ◌||◌, ◌++◌, ◌∷◌, []
 ghost use Rattle.proof_semantics.specs.declared.item.Item.TheVariants.{Add};
 ghost use Rattle.trim_semantics.specs.Trimmed.{removal_of};
 ghost use Rattle.trim_semantics.specs.Trimming.{has_id};
-ghost use Rattle.lrat_trim.specs.Backwards.{is_in, AreFresh, IsVisited};
+ghost use Rattle.lrat_trim.specs.Backwards.{is_in, AreFresh, Visited};
 
 use crate::named_ids::{fresh_ids, name_all};
 use cnf_core::clause::Lits;
@@ -60,7 +60,7 @@ pub(crate) fn visit(
     named: &mut HashSet<u64>,
     kept: &mut Vec<Item>,
 ) -> Result<(), AllocError>
-    ensures { OnOk result (IsVisited clauses item.now (is_in named.old) kept.old.items (is_in named.new) kept.new.items) }
+    ensures { OnOk result (Visited clauses item.now (is_in named.old) kept.old.items (is_in named.new) kept.new.items) }
 {
     if let Item::Add(s) = item {
         if named.contains(&s.id()) {

@@ -3,3 +3,4 @@ pub mod Naming
 pub mod Refuting
 pub mod Keeping
 pub mod Trims
+pub mod Again

@@ -10,10 +10,8 @@ use Rattle.proof_semantics.specs.Logs.{StepValue, LogItem, Refutes}
 use Rattle.trim_semantics.specs.Kept.{root_of, IsKept}
 use Rattle.trim_semantics.specs.Trimmed.{AreKept, IsLastToName, AreEndedAfter, removal_of, IsListOf, IsTrimmed}
 use Rattle.trim_semantics.specs.Trimming.{has_id, is_named, kept_steps, ended_after, with_removals, trimmed}
-use Rattle.trim_semantics.specs.TrimLaws.{TrimmedLaw, KeptLaw}
 use Rattle.trim_semantics.proofs.Members.{contains_first, contains_later, contains_cases, contains_none, all_contained, filter_contains, contains_filter, map_contains, contains_map, pairs_head, pairs_tail, same_list}
 use Rattle.trim_semantics.proofs.Naming.{has-contains, contains-has, namer, naming}
-use Rattle.trim_semantics.proofs.Refuting.{trimmed_refutes}
 use Rattle.trim_semantics.proofs.Keeping.{contains_kept, kept_contains, root_kept, has_root, none_behind, kept_in_order}
 
 -- the ids of rising additions rise
@@ -142,7 +140,7 @@ module _ (formula : List Clause) (log : List LogItem) (r : Refutes formula log) 
   all_kept : IsTail log 0 (kept_steps log)
   all_kept t = ((λ m. (contains_kept log t m, omega arith)), (λ k. kept_contains formula log r t k.0))
 
-  is_trimmed : IsTrimmed log (trimmed log)
+  pub is_trimmed : IsTrimmed log (trimmed log)
   is_trimmed = record {
     steps = kept_steps log;
     kept = record { exactly = λ t. (contains_kept log t, kept_contains formula log r t); in_order = kept_in_order formula log r };
@@ -154,7 +152,7 @@ module _ (formula : List Clause) (log : List LogItem) (r : Refutes formula log) 
       same_list (λ t. t.id) steps (kept_steps log) h.in_order (kept_in_order formula log r)
       (λ t m. kept_contains formula log r t ((h.exactly t).0 m)) (λ t m. (h.exactly t).1 (contains_kept log t m))
 
-  only_trimmed : (short : List LogItem) → IsTrimmed log short → short ≡ trimmed log
+  pub only_trimmed : (short : List LogItem) → IsTrimmed log short → short ≡ trimmed log
   only_trimmed short h =
       list_only 0 (kept_steps log) short (kept_in_order formula log r) all_kept (subst (λ steps. IsListOf log steps short) (steps_only h.steps h.kept) h.lists)
 
@@ -189,18 +187,9 @@ listed_added ids (t ∷ later) s m = elim (contains_cases t later s m) [
       (behind_removal (ended_after ids t later) (Add s) (with_removals ids later) (listed_added ids later s behind))
 ]
 
-pub trimmed_law : TrimmedLaw
-trimmed_law = record {
-  exactly = λ formula log r short. (only_trimmed formula log r short, λ e. subst (IsTrimmed log) (sym e) (is_trimmed formula log r));
-  refutes = trimmed_refutes;
-}
-
-pub kept_law : KeptLaw
-kept_law = record {
-  root = has_root;
-  none_behind = none_behind;
-  added = λ formula log r s. (
-    (λ m. contains_kept log s (added_listed (map (λ t. t.id) (kept_steps log)) (kept_steps log) s m)),
-    (λ k. listed_added (map (λ t. t.id) (kept_steps log)) (kept_steps log) s (kept_contains formula log r s k)),
-  );
-}
+-- the trimmed log adds just what is kept
+pub added_kept : (formula : List Clause) (log : List LogItem) → Refutes formula log → (s : StepValue) → Contains (trimmed log) (Add s) ↔ IsKept log s
+added_kept formula log r s = (
+  (λ m. contains_kept log s (added_listed (map (λ t. t.id) (kept_steps log)) (kept_steps log) s m)),
+  (λ k. listed_added (map (λ t. t.id) (kept_steps log)) (kept_steps log) s (kept_contains formula log r s k)),
+)

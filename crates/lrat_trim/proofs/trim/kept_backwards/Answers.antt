@@ -1,7 +1,7 @@
 use Rattle.std.proofs.Common.{◌≡◌, ◌-◌, [], ◌∷◌, ◌++◌, length, get_or, map, ap, subst, ◌∙◌, arith}
 use Rattle.proof_semantics.specs.declared.item.Item.TheVariants.{Add}
 use Rattle.trim_semantics.specs.Trimming.{kept_steps}
-use Rattle.lrat_trim.specs.Backwards.{is_in, IsVisited}
+use Rattle.lrat_trim.specs.Backwards.{is_in, Visited}
 use Rattle.lrat_trim.proofs.SoFar.{none_in, first_kept, no_root, next_kept}
 use Rattle.lrat_trim.proofs.trim.kept_backwards.Goals as goal
 use Rattle.lrat_trim.proofs.trim.kept_backwards.Goals.{in-Add+in_ok-keep, in_default}
@@ -30,5 +30,5 @@ loop-place-preserved c =
       so_far =
           next_kept c.args.goal.now.clauses c.args.items.now c.requires.refutes c.args.root (c.loop-place.place - 1) c.loop-place.place c.index-items-place.result (is_in c.loop-place.named)
           (is_in c.visit.new.named) c.loop-place.kept.items c.visit.new.kept.items c.requires.root (omega (arith, within, test)) (omega (arith, test)) c.index-items-place.is c.loop-place.invariant.so_far
-          (subst (λ n. IsVisited n c.index-items-place.result (is_in c.loop-place.named) c.loop-place.kept.items (is_in c.visit.new.named) c.visit.new.kept.items) clauses c.in_ok-visit.ensures);
+          (subst (λ n. Visited n c.index-items-place.result (is_in c.loop-place.named) c.loop-place.kept.items (is_in c.visit.new.named) c.visit.new.kept.items) clauses c.in_ok-visit.ensures);
     }

@@ -3,7 +3,7 @@ use Rattle.std.specs.Prelude.{position}
 use Rattle.std.proofs.lemmas.Result.{IfOk-weaker}
 use Rattle.proof_semantics.specs.Logs.{Refutes}
 use Rattle.trim_semantics.specs.Trimming.{trimmed}
-use Rattle.trim_semantics.proofs.Trims.{trimmed_law}
+use Rattle.trim_semantics.proofs.Again.{trimmed_law}
 use Rattle.lrat_trim.specs.Backwards.{adds_empty_clause}
 use Rattle.lrat_trim.proofs.Roots.{has_place}
 use Rattle.lrat_trim.proofs.trim.trim.Goals as goal

@@ -1,4 +1,4 @@
-use Rattle.trim_semantics.proofs.Trims.{trimmed_law}
+use Rattle.trim_semantics.proofs.Again.{trimmed_law}
 use Rattle.trim_semantics.proofs.trim_laws.trimmed_logs.Goals as goal
 
 pub returns : goal.returns
