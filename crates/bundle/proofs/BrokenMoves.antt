@@ -9,12 +9,13 @@ use Rattle.semantics.specs.Net.{NetValue}
 use Rattle.semantics.specs.declared.metric.Metric.{Metric}
 use Rattle.chain_semantics.specs.declared.moves.Move.{Move}
 use Rattle.chain_semantics.specs.Care.{IsBrokenAt}
-use Rattle.chain_semantics.specs.Moves.{moves_of, old_moves_of}
+use Rattle.chain_semantics.specs.Moves.{moves_of}
 use Rattle.chain_semantics.specs.Minimality.{IsBrokenBySome, AreBrokenBySome}
 use Rattle.job_semantics.specs.declared.version.Version.{Version}
 use Rattle.job_semantics.specs.declared.version.Version.TheVariants.{One, Two}
 use Rattle.job_semantics.specs.Certificate.{moves_in}
 use Rattle.chain_semantics.proofs.MoveLists.{Contains-here}
+use Rattle.chain_semantics.proofs.OldMoves.{old-move}
 use Rattle.adc_core.specs.Masks.{Masks, AreMasksOf, FindsFirstBroken}
 
 -- The moves end with those that are left, and where the masks are those of a net and a bound, all moves are broken exactly where
@@ -51,12 +52,8 @@ decided_member masks moves left rest move is so_far =
     subst (λ l. Contains l move) (sym (so_far.stands ∙ ap (λ l. so_far.before ++ l) is)) (Contains-append_right so_far.before (move ∷ rest) move (Contains-here move rest))
 
 -- the moves that a version knows are moves of the net
-old_move : (N : NetValue) (move : Move) → Contains (old_moves_of N) move → Contains (moves_of N) move
-unfolding moves_of old_moves_of
-old_move N move there = there
-
 pub known_move : (version : Version) (N M : NetValue) (moves : List Move) (move : Move) → moves ≡ moves_in version N → M ≡ N → Contains moves move → Contains (moves_of M) move
-known_move One N M moves move are same there = subst (λ K. Contains (moves_of K) move) (sym same) (old_move N move (subst (λ l. Contains l move) are there))
+known_move One N M moves move are same there = subst (λ K. Contains (moves_of K) move) (sym same) (old-move N move (subst (λ l. Contains l move) are there)).0
 known_move Two N M moves move are same there = subst (λ K. Contains (moves_of K) move) (sym same) (subst (λ l. Contains l move) are there)
 
 module _ (metric : Metric) (exact : NetValue) (bound : ℕ) where

@@ -21,6 +21,6 @@ report_of_bundle b = report_text (bundle_report b)
 
 -- two nets and a witness small enough for a report
 pub record FitsReport (exact approx : NetValue) (witness : List Bool) : Type 0 where
-  pub witness : length witness ≤ 256
-  pub exact : literal_count exact < 2 ^ 63
-  pub approx : literal_count approx < 2 ^ 63
+  pub few_bits : length witness ≤ 256
+  pub few_exact : literal_count exact < 2 ^ 63
+  pub few_approx : literal_count approx < 2 ^ 63

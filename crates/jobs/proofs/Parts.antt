@@ -98,9 +98,9 @@ module _ {exact : NetValue} {metric : Metric} {bound limit : ℕ} {s : Simplifie
   fits =
       let most = literals_at_most exact parts.exact_small parts.exact_sound.tables_formed in
       record {
-        witness = omega (arith, parts.most.width, parts.exact_small.inputs);
-        exact = omega (arith, most);
-        approx = omega (arith, member.no_growth.literals, most);
+        few_bits = omega (arith, parts.most.width, parts.exact_small.inputs);
+        few_exact = omega (arith, most);
+        few_approx = omega (arith, member.no_growth.literals, most);
       }
 
   ready : (b : BundleValue) (spent : Option spent.Spent) → b.log ≡ log → told_query spent ≡ s.spent → b ≡ synth_bundle exact metric bound s b.log

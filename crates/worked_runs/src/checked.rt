@@ -46,7 +46,7 @@ fn bytes_of<'a>(files: &'a MemFiles, name: &[u8]) -> &'a [u8] {
 }
 
 /// The number of the clause that is refuted, 0 for `Verified`; none for another answer.
-fn refuted_clause(status: &Status) -> Option<u8> {
+pub(crate) fn refuted_clause(status: &Status) -> Option<u8> {
     match status {
         Status::Verified => Some(0),
         Status::Refuted(number) => Some(*number),
@@ -84,11 +84,23 @@ fn a_whole_bundle_is_verified(rt: HostRuntime) -> Result<(), Fail> {
 }
 
 #[test]
+fn a_bundle_of_another_version(rt: HostRuntime) -> Result<(), Fail> {
+    let whole = run_on(&rt, LINE, HALF_ADDER, 64, 0, 0)?.files;
+    let first: &[u8] =
+        b"salsa 1\nmetric abs\nbound 1\nmaximum 1\nwitness 10\ntables 2 2\nliterals 6 1\nminimal yes\n";
+    let third: &[u8] =
+        b"salsa 3\nmetric abs\nbound 1\nmaximum 1\nwitness 10\ntables 2 2\nliterals 6 1\nminimal yes\n";
+    assert!(rt; ends_with_clause(&rt, &whole, CHECK, b"out.txt", first, 0)?);
+    assert!(rt; ends_with_clause(&rt, &whole, CHECK, b"out.txt", third, 3)?);
+    Ok(())
+}
+
+#[test]
 fn a_damaged_netlist_or_report_is_refuted(rt: HostRuntime) -> Result<(), Fail> {
     let whole = run_on(&rt, LINE, HALF_ADDER, 64, 0, 0)?.files;
     let ports: &[u8] = b".model ha\n.inputs b a\n.outputs s c\n.names s\n.names b c\n1 1\n.end\n";
     let above: &[u8] =
-        b"salsa 1\nmetric abs\nbound 1\nmaximum 2\nwitness 10\ntables 2 2\nliterals 6 1\nminimal yes\n";
+        b"salsa 2\nmetric abs\nbound 1\nmaximum 2\nwitness 10\ntables 2 2\nliterals 6 1\nminimal yes\n";
     assert!(rt; ends_with_clause(&rt, &whole, CHECK, b"out.blif", b"", 1)?);
     assert!(rt; ends_with_clause(&rt, &whole, CHECK, b"out.blif", ports, 2)?);
     assert!(rt; ends_with_clause(&rt, &whole, CHECK, b"out.txt", above, 4)?);

@@ -13,3 +13,5 @@ mod refused;
 mod simplified;
 #[cfg(test)]
 mod statuses;
+#[cfg(test)]
+mod versions;

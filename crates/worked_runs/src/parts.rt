@@ -22,7 +22,7 @@ pub(crate) const CARRY_COPIED: &[u8] =
 pub(crate) const VECTORS: &[u8] = b"10\n00\n10\n01\n11\n";
 
 pub(crate) const REPORT: &[u8] =
-    b"salsa 1\nmetric abs\nbound 1\nmaximum 1\nwitness 10\ntables 2 2\nliterals 6 1\nminimal yes\n";
+    b"salsa 2\nmetric abs\nbound 1\nmaximum 1\nwitness 10\ntables 2 2\nliterals 6 1\nminimal yes\n";
 
 /// The words of a run on the half adder within bound 1.
 pub(crate) const LINE: &[u8] = b"synth abs 1 1 ha.blif out";

@@ -37,7 +37,7 @@ fn netlists_that_are_simplified(rt: HostRuntime) -> Result<(), Fail> {
             netlist: BOTH_CONSTANT,
             header: b"p cnf 75 242\n",
             vectors: b"11\n00\n10\n01\n11\n",
-            report: b"salsa 1\nmetric abs\nbound 3\nmaximum 2\nwitness 11\ntables 2 2\nliterals 6 0\nminimal yes\n",
+            report: b"salsa 2\nmetric abs\nbound 3\nmaximum 2\nwitness 11\ntables 2 2\nliterals 6 0\nminimal yes\n",
         },
         Simplified {
             line: b"synth abs 1 1 ha.blif out",
@@ -53,7 +53,7 @@ fn netlists_that_are_simplified(rt: HostRuntime) -> Result<(), Fail> {
             netlist: HALF_ADDER,
             header: b"p cnf 78 254\n",
             vectors: b"00\n00\n10\n01\n11\n",
-            report: b"salsa 1\nmetric abs\nbound 0\nmaximum 0\nwitness 00\ntables 2 2\nliterals 6 6\nminimal yes\n",
+            report: b"salsa 2\nmetric abs\nbound 0\nmaximum 0\nwitness 00\ntables 2 2\nliterals 6 6\nminimal yes\n",
         },
         Simplified {
             line: b"synth ham 1 1 ha.blif out",
@@ -61,7 +61,7 @@ fn netlists_that_are_simplified(rt: HostRuntime) -> Result<(), Fail> {
             netlist: BOTH_CONSTANT,
             header: b"p cnf 30 71\n",
             vectors: VECTORS,
-            report: b"salsa 1\nmetric ham\nbound 1\nmaximum 1\nwitness 10\ntables 2 2\nliterals 6 0\nminimal yes\n",
+            report: b"salsa 2\nmetric ham\nbound 1\nmaximum 1\nwitness 10\ntables 2 2\nliterals 6 0\nminimal yes\n",
         },
         Simplified {
             line: b"synth rel 999999 1 ha.blif out",
@@ -69,7 +69,7 @@ fn netlists_that_are_simplified(rt: HostRuntime) -> Result<(), Fail> {
             netlist: b".model ha\n.inputs a b\n.outputs s c\n.names a b s\n1- 1\n-1 1\n.names c\n.end\n",
             header: b"p cnf 2377 8828\n",
             vectors: b"11\n00\n10\n01\n11\n",
-            report: b"salsa 1\nmetric rel\nbound 999999\nmaximum 500000\nwitness 11\ntables 2 2\nliterals 6 2\nminimal yes\n",
+            report: b"salsa 2\nmetric rel\nbound 999999\nmaximum 500000\nwitness 11\ntables 2 2\nliterals 6 2\nminimal yes\n",
         },
         Simplified {
             line: b"synth rel 1000000 1 ha.blif out",
@@ -77,7 +77,7 @@ fn netlists_that_are_simplified(rt: HostRuntime) -> Result<(), Fail> {
             netlist: BOTH_CONSTANT,
             header: b"p cnf 2375 8822\n",
             vectors: VECTORS,
-            report: b"salsa 1\nmetric rel\nbound 1000000\nmaximum 1000000\nwitness 10\ntables 2 2\nliterals 6 0\nminimal yes\n",
+            report: b"salsa 2\nmetric rel\nbound 1000000\nmaximum 1000000\nwitness 10\ntables 2 2\nliterals 6 0\nminimal yes\n",
         },
         Simplified {
             line: b"synth abs 0 1 ha.blif out",
@@ -85,7 +85,7 @@ fn netlists_that_are_simplified(rt: HostRuntime) -> Result<(), Fail> {
             netlist: b".model k\n.inputs\n.outputs y\n.names y\n1\n.end\n",
             header: b"p cnf 44 138\n",
             vectors: b"\n\n",
-            report: b"salsa 1\nmetric abs\nbound 0\nmaximum 0\nwitness \ntables 1 1\nliterals 0 0\nminimal yes\n",
+            report: b"salsa 2\nmetric abs\nbound 0\nmaximum 0\nwitness \ntables 1 1\nliterals 0 0\nminimal yes\n",
         },
         Simplified {
             line: b"synth abs 0 1 ha.blif out",
@@ -93,7 +93,7 @@ fn netlists_that_are_simplified(rt: HostRuntime) -> Result<(), Fail> {
             netlist: b".model w\n.inputs a\n.outputs a\n.end\n",
             header: b"p cnf 41 132\n",
             vectors: b"0\n0\n1\n",
-            report: b"salsa 1\nmetric abs\nbound 0\nmaximum 0\nwitness 0\ntables 0 0\nliterals 0 0\nminimal yes\n",
+            report: b"salsa 2\nmetric abs\nbound 0\nmaximum 0\nwitness 0\ntables 0 0\nliterals 0 0\nminimal yes\n",
         },
         Simplified {
             line: b"synth abs 0 1 ha.blif out",
@@ -101,7 +101,7 @@ fn netlists_that_are_simplified(rt: HostRuntime) -> Result<(), Fail> {
             netlist: b".model m\n.inputs a b\n.outputs y z\n.names z y\n1 1\n.names a b z\n1- 1\n-1 1\n.end\n",
             header: b"p cnf 78 249\n",
             vectors: b"00\n00\n10\n01\n11\n",
-            report: b"salsa 1\nmetric abs\nbound 0\nmaximum 0\nwitness 00\ntables 2 2\nliterals 4 3\nminimal yes\n",
+            report: b"salsa 2\nmetric abs\nbound 0\nmaximum 0\nwitness 00\ntables 2 2\nliterals 4 3\nminimal yes\n",
         },
         Simplified {
             line: b"synth abs 0 1 ha.blif out",
@@ -109,7 +109,7 @@ fn netlists_that_are_simplified(rt: HostRuntime) -> Result<(), Fail> {
             netlist: b".model t\n.inputs a b\n.outputs y\n.names a b y\n11 1\n.end\n",
             header: b"p cnf 46 142\n",
             vectors: b"00\n00\n10\n01\n11\n",
-            report: b"salsa 1\nmetric abs\nbound 0\nmaximum 0\nwitness 00\ntables 1 1\nliterals 2 2\nminimal yes\n",
+            report: b"salsa 2\nmetric abs\nbound 0\nmaximum 0\nwitness 00\ntables 1 1\nliterals 2 2\nminimal yes\n",
         },
     ];
     for (place, row) in rows.iter().enumerate() {

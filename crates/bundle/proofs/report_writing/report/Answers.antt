@@ -2,8 +2,7 @@ use Rattle.std.proofs.Common.{◌≡◌, ℕ, Bool, List, [], ◌∷◌, ◌++�
 use Rattle.std.specs.Prelude.{codes, decimal}
 use Rattle.std.proofs.lemmas.List.{append-nil}
 use Rattle.semantics.specs.Texts.{Bytes, bits_word, line_text, text_of}
-use Rattle.job_semantics.specs.Report.{Report, version_word, metric_word, yes_word, report_text}
-use Rattle.job_semantics.specs.Bundle.{bundle_report}
+use Rattle.job_semantics.specs.Report.{Report, report_of, version_word, metric_word, yes_word, report_text}
 use Rattle.bundle.proofs.report_writing.report.Goals as goal
 
 -- eight texts, one after another
@@ -29,7 +28,10 @@ report_from r {t = t} none version_is metric_is bits a b c d minimal_is e1 e2 e3
 
 pub returns : goal.returns
 returns c =
-    report_from (bundle_report c.args.b.now) c.new-text.ensures c.version_word.ensures.word c.metric_word.ensures.word c.as_slice.ensures
+    rw (← c.b.view_is)
+    (report_from
+    (report_of c.b.inside.version c.b.inside.metric c.b.inside.bound c.b.inside.maximum c.b.inside.witness c.b.inside.exact c.b.inside.approx c.b.inside.minimal)
+    c.new-text.ensures c.version_word.ensures.word c.metric_word.ensures.word c.as_slice.ensures
     (c.into.ensures ∙ c.tables.ensures.value) (c.into-2.ensures ∙ c.tables-2.ensures.value) c.literals.ensures.value c.literals-2.ensures.value c.yes_word.ensures.word
     c.add_word.ensures.bytes c.add_word-2.ensures.bytes c.add_number.ensures.bytes c.add_number-2.ensures.bytes c.add_witness.ensures.bytes
-    c.add_numbers.ensures.bytes c.add_numbers-2.ensures.bytes c.add_word-3.ensures.bytes
+    c.add_numbers.ensures.bytes c.add_numbers-2.ensures.bytes c.add_word-3.ensures.bytes)

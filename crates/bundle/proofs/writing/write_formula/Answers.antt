@@ -8,7 +8,7 @@ returns-in_err-create-clause-err g c =
     rw p.1 (FilesCutShort-create _ c.in_err-create.ensures.err)
 
 pub returns-clause-ok : goal.returns-clause-ok
-returns-clause-ok g c = on_ok_weaker _ (FilesWritten-one c.in_ok-create.ensures.ok) c.write_dimacs.ensures.ok
+returns-clause-ok g c = rw (← c.b.view_is) (on_ok_weaker _ (FilesWritten-one c.in_ok-create.ensures.ok) c.write_dimacs.ensures.ok)
 
 pub returns-clause-err : goal.returns-clause-err
-returns-clause-err g c = on_err_weaker _ (FilesCutShort-write c.in_ok-create.ensures.ok) c.write_dimacs.ensures.err
+returns-clause-err g c = rw (← c.b.view_is) (on_err_weaker _ (FilesCutShort-write c.in_ok-create.ensures.ok) c.write_dimacs.ensures.err)

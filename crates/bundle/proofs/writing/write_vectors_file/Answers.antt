@@ -10,7 +10,7 @@ returns-in_err-create-clause-err g c =
     rw p.1 (FilesCutShort-create _ c.in_err-create.ensures.err)
 
 pub returns-clause-ok : goal.returns-clause-ok
-returns-clause-ok g c = on_ok_weaker _ (λ wrote. FilesWritten-one c.in_ok-create.ensures.ok (Wrote-is (ap (λ w. vectors_text w c.args.b.now.pool.vectors) c.as_slice.ensures) wrote)) c.write_vectors.ensures.ok
+returns-clause-ok g c = rw (← c.b.view_is) (on_ok_weaker _ (λ wrote. FilesWritten-one c.in_ok-create.ensures.ok (Wrote-is (ap (λ w. vectors_text w c.b.inside.pool.vectors) c.as_slice.ensures) wrote)) c.write_vectors.ensures.ok)
 
 pub returns-clause-err : goal.returns-clause-err
-returns-clause-err g c = on_err_weaker _ (λ failed. FilesCutShort-write c.in_ok-create.ensures.ok (WriteFailed-is (ap (λ w. vectors_text w c.args.b.now.pool.vectors) c.as_slice.ensures) failed)) c.write_vectors.ensures.err
+returns-clause-err g c = rw (← c.b.view_is) (on_err_weaker _ (λ failed. FilesCutShort-write c.in_ok-create.ensures.ok (WriteFailed-is (ap (λ w. vectors_text w c.b.inside.pool.vectors) c.as_slice.ensures) failed)) c.write_vectors.ensures.err)
