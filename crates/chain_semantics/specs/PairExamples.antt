@@ -14,7 +14,7 @@ use Rattle.chain_semantics.specs.Moves.{each_once, near_signals, pairs_of, pair_
 abbrev pub table_of_rows : List ℕ → List (List Mark) → TableValue
 table_of_rows pins rows = record { name = codes "y"; pins = pins; rows = rows; plane = true }
 
--- q is 1 where both or neither of w and the conjunction of u and v are; y is the exclusive or of w and q, which is that conjunction
+-- q is 1 where exactly one of w and the conjunction of u and v are; y is the exclusive or of w and q, which is that conjunction
 abbrev pub behind_two : NetValue
 behind_two = record {
   model = codes "p";

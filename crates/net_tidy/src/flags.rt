@@ -5,7 +5,7 @@ ghost use Rattle.semantics.specs.Net.{table_at};
 ghost use Rattle.chain_semantics.specs.TidyRules.{has};
 ghost use Rattle.net_tidy.specs.Flags.{IsDown, IsLeft};
 
-use crate::draft::Draft;
+use crate::table_draft::TableDraft;
 use crate::rules::has;
 use net_core::items::Signal;
 use std::alloc::{AllocError, Global};
@@ -78,7 +78,7 @@ impl Flags {
     }
 
     /// Raises the flags of the tables that read a signal.
-    pub(crate) fn raise_readers(&mut self, tables: &[Draft], s: Signal)
+    pub(crate) fn raise_readers(&mut self, tables: &[TableDraft], s: Signal)
         requires { length self.old ≡ length tables.now }
         ensures count { length self.new ≡ length self.old }
         ensures others { (j : ℕ) → j < length tables.now → IsDown self.new j
@@ -90,7 +90,7 @@ impl Flags {
     }
 
     /// Raises the flags of a table that was edited, and, where it has no pins, of those that read it.
-    pub(crate) fn raise_edited(&mut self, inputs: u32, tables: &[Draft], t: u32)
+    pub(crate) fn raise_edited(&mut self, inputs: u32, tables: &[TableDraft], t: u32)
         requires within { t < length tables.now }
         requires count { length self.old ≡ length tables.now }
         requires few { inputs + length tables.now < 2 ^ 31 }

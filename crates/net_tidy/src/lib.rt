@@ -1,7 +1,7 @@
 //! Tidying of nets.
 #![tactic(auto)]
 
-mod draft;
+mod table_draft;
 mod flags;
 mod marks;
 mod net_draft;

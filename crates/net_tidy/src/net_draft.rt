@@ -12,7 +12,7 @@ ghost use Rattle.net_core.specs.Built.{IsBuilt};
 ghost use Rattle.net_tidy.specs.Rule.{rule_at, made_by};
 ghost use Rattle.net_tidy.specs.Flags.{IsFirstRule};
 
-use crate::draft::{Draft, lower};
+use crate::table_draft::{TableDraft, lower};
 use crate::flags::Flags;
 use crate::rule::Rule;
 use crate::rules::{first_place, has, rule_by};
@@ -27,7 +27,7 @@ use std::marker::Model;
 pub(crate) struct NetDraft {
     model: Name,
     inputs: NameList,
-    tables: Vec<Draft>,
+    tables: Vec<TableDraft>,
     outputs: Vec<Signal>,
     flags: Flags,
 }
@@ -46,18 +46,18 @@ impl Model for NetDraft {
 }
 
 /// The tables of a net.
-fn copied_tables(alloc: Global, net: &Net) -> Result<Vec<Draft>, AllocError>
+fn copied_tables(alloc: Global, net: &Net) -> Result<Vec<TableDraft>, AllocError>
     ensures { IfOk result (λ tables. tables.items ≡ net.now.tables) }
 {
     let mut tables = Vec::new(alloc);
     for t in 0..net.tables() {
-        tables.push(Draft::from_table(alloc, net.table(t))?)?;
+        tables.push(TableDraft::from_table(alloc, net.table(t))?)?;
     }
     Ok(tables)
 }
 
 /// These tables as a list.
-fn table_list(alloc: Global, tables: &[Draft]) -> Result<TableList, AllocError>
+fn table_list(alloc: Global, tables: &[TableDraft]) -> Result<TableList, AllocError>
     requires { All IsTable tables.now }
     ensures { IfOk result (λ list. list ≡ tables.now) }
 {
@@ -69,14 +69,14 @@ fn table_list(alloc: Global, tables: &[Draft]) -> Result<TableList, AllocError>
 }
 
 /// Whether some table reads a signal.
-fn is_read(tables: &[Draft], s: Signal) -> bool
+fn is_read(tables: &[TableDraft], s: Signal) -> bool
     ensures { result ≡ is_read tables.now s }
 {
     tables.iter().any(|table| has(table.pins(), s))
 }
 
 /// Whether a signal is a table without pins.
-fn is_constant_signal(inputs: u32, tables: &[Draft], s: Signal) -> bool
+fn is_constant_signal(inputs: u32, tables: &[TableDraft], s: Signal) -> bool
     requires { s < inputs + length tables.now }
     ensures { result ≡ is_constant_signal inputs tables.now s }
 {
@@ -84,7 +84,7 @@ fn is_constant_signal(inputs: u32, tables: &[Draft], s: Signal) -> bool
 }
 
 /// The first pin of a table that reads a table without pins.
-fn constant_pin(inputs: u32, tables: &[Draft], table: &Draft) -> Option<usize>
+fn constant_pin(inputs: u32, tables: &[TableDraft], table: &TableDraft) -> Option<usize>
     requires { All (λ s. s < inputs + length tables.now) table.now.pins }
     ensures { result ≡ constant_pin inputs tables.now table.now }
 {
@@ -98,7 +98,7 @@ fn constant_pin(inputs: u32, tables: &[Draft], table: &Draft) -> Option<usize>
 }
 
 /// The value of a table without pins.
-fn constant_value(inputs: u32, tables: &[Draft], s: Signal) -> bool
+fn constant_value(inputs: u32, tables: &[TableDraft], s: Signal) -> bool
     requires table { s < inputs + length tables.now }
     requires constant { is_constant_signal inputs tables.now s ≡ true }
     ensures { result ≡ constant_value inputs tables.now s }
@@ -112,7 +112,7 @@ fn constant_value(inputs: u32, tables: &[Draft], s: Signal) -> bool
 }
 
 /// Lets each table that reads a signal read another in its place, with turned marks where the signal is inverted.
-fn read_past(tables: &mut [Draft], from: Signal, to: Signal, inverted: bool)
+fn read_past(tables: &mut [TableDraft], from: Signal, to: Signal, inverted: bool)
     requires { All (λ t. All (λ marks. length marks ≡ length t.pins) t.rows) tables.old }
     ensures { tables.new ≡ map (reading_past from to inverted) tables.old }
 {
@@ -122,7 +122,7 @@ fn read_past(tables: &mut [Draft], from: Signal, to: Signal, inverted: bool)
 }
 
 /// Lowers the pins that read signals above one that goes.
-fn lower_tables(tables: &mut [Draft], gone: Signal)
+fn lower_tables(tables: &mut [TableDraft], gone: Signal)
     ensures { tables.new ≡ map (renamed (lowered gone)) tables.old }
 {
     for table in tables.iter_mut() {

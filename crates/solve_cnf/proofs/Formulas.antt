@@ -10,7 +10,7 @@ use Rattle.solve_cnf.specs.Reading.{Refusal, Header, lines_of, header_of, formul
 use Rattle.solve_cnf.specs.Slices.{line_texts}
 use Rattle.text_words.specs.Slices.{texts}
 use Rattle.solve_cnf.specs.Header.{held_number, held_header}
-use Rattle.solve_cnf.specs.Draft.{DraftValue, clauses_with}
+use Rattle.solve_cnf.specs.FormulaDraft.{DraftValue, clauses_with}
 use Rattle.solve_cnf.proofs.Words.{words_in, clauses_from_start}
 
 -- the header of which a header in memory is made

@@ -12,7 +12,7 @@ use Rattle.proof_semantics.specs.Clauses.{Clause}
 use Rattle.solve_cnf.specs.Reading.{Refusal, number_of, wrong_word, ended_parts, unless_refused, clauses_of}
 use Rattle.solve_cnf.specs.Slices.{line_texts}
 use Rattle.text_words.specs.Slices.{texts}
-use Rattle.solve_cnf.specs.Draft.{DraftValue, gone_on, clauses_with, after_number, with_number}
+use Rattle.solve_cnf.specs.FormulaDraft.{DraftValue, gone_on, clauses_with, after_number, with_number}
 use Rattle.solve_cnf.specs.Refusals.{Tells}
 use Rattle.solve_cnf.specs.declared.error.ReadError.{ReadError}
 

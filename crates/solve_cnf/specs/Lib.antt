@@ -1,7 +1,7 @@
 pub mod Reading
 pub mod Slices
 pub mod Header
-pub mod Draft
+pub mod FormulaDraft
 pub mod Refusals
 pub mod Writing
 pub mod Run

@@ -2,7 +2,7 @@
 //! the log of as many conflicts as the limit allows.
 #![tactic(auto)]
 
-mod draft;
+mod formula_draft;
 mod error;
 mod examples;
 mod header;

@@ -4,7 +4,7 @@ ghost use Rattle.proof_semantics.specs.Logs.{IsDerivation};
 ghost use Rattle.solve_cnf.specs.Reading.{formula_of_text};
 ghost use Rattle.solve_cnf.specs.Refusals.{Tells};
 
-use crate::draft::Draft;
+use crate::formula_draft::FormulaDraft;
 use crate::error::ReadError;
 use crate::header::header_of;
 use crate::lines::{line_number, lines_of};
@@ -28,7 +28,7 @@ pub fn read_formula(alloc: Global, text: &[u8]) -> Result<Cnf, ReadError>
         let line = line_number(first);
         return Err(ReadError::BadHeader { line });
     };
-    let mut draft = Draft::new(alloc, header.vars);
+    let mut draft = FormulaDraft::new(alloc, header.vars);
     draft.take_lines(rest)?;
     draft.finish(header.clauses)
 }

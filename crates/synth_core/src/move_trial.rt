@@ -4,10 +4,12 @@ ghost use Rattle.semantics.specs.Net.{input_count};
 ghost use Rattle.semantics.specs.Vectors.{all_vectors};
 ghost use Rattle.chain_semantics.specs.Moves.{moves_of};
 ghost use Rattle.adc_core.specs.Masks.{AreMasksOf};
+ghost use Rattle.worst_case.specs.VectorsTried.{IsHeldFor};
 ghost use Rattle.synth_core.specs.MoveTrials.{IsTrial};
 
 use adc_core::adc::Adc;
 use chain_semantics::moves::Move;
+use lane_nets::reference::Reference;
 use net_core::items::Bits;
 use net_core::net::Net;
 use net_errors::compared::Compared;
@@ -43,10 +45,12 @@ pub(crate) enum Trial {
 pub(crate) fn try_move(
     alloc: Global,
     nets: &Compared,
+    held: &Option<Reference>,
     terms: Terms,
     adc: &Adc,
     step: Move,
 ) -> Result<Trial, AllocError>
+    requires held { IsHeldFor nets.now.exact held.now }
     requires limit { 1 ≤ terms.limit }
     requires same { adc.now.net ≡ nets.now.approx }
     requires masks { AreMasksOf terms.metric nets.now.exact terms.bound adc.now }
@@ -65,7 +69,14 @@ pub(crate) fn try_move(
         return Ok(Trial::Allowed(moved));
     }
     let moved_nets = Compared::new(nets.exact(), &moved);
-    match within_level(alloc, &moved_nets, terms.metric, terms.bound, terms.limit)? {
+    match within_level(
+        alloc,
+        &moved_nets,
+        held,
+        terms.metric,
+        terms.bound,
+        terms.limit,
+    )? {
         Margin::Over(x) => Ok(Trial::New(x)),
         Margin::Within => Ok(Trial::Allowed(moved)),
         Margin::Spent(spent) => Ok(Trial::Spent(spent)),

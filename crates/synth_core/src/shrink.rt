@@ -2,9 +2,9 @@
 //!
 //! A move that some known input vector breaks is refused by the masks of the member, without making the moved net. With few inputs
 //! every vector is known, so the others are allowed. With more the known vectors are those that broke earlier moves, and each other
-//! move is made and asked about: with at most fifteen inputs by a trial of every vector, with more by a query. An allowed move is
-//! made; then the moved net is tidied, and the moves begin again, since one that was refused before may be allowed now. The chain
-//! ends, since each step removes literals, or with the first query that is spent.
+//! move is made and asked about: with at most sixteen inputs by a trial of every vector, against right outputs that are made once;
+//! with more by a query. An allowed move is made; then the moved net is tidied, and the moves begin again, since one that was refused
+//! before may be allowed now. The chain ends, since each step removes literals, or with the first query that is spent.
 ghost use Rattle.std.specs.Prelude.{◌≡◌, ◌≤◌, length, option_map, IfOk};
 ghost use Rattle.semantics.specs.Net.{input_count, IsSmall};
 ghost use Rattle.job_semantics.specs.Shrinking.{IsShrinking};
@@ -21,6 +21,7 @@ use semantics::limits::{FEW_INPUTS, MOST_OUTPUTS};
 use semantics::metric::Metric;
 use std::alloc::{AllocError, Global};
 use worst_case::query::Spent;
+use worst_case::vectors_tried::hold_every_vector;
 
 /// The last member of the chain that was reached, the vectors that break moves, and the query that was spent, if one was.
 #[derive(Drop)]
@@ -64,10 +65,11 @@ pub fn shrink(
         bound,
         limit,
     };
+    let held = hold_every_vector(alloc, net)?;
     let mut pool = first_pool(alloc, net)?;
     let mut shrunk = tidy(alloc, net.copy()?)?;
     loop {
-        let found = find_step(alloc, &Compared::new(net, &shrunk), terms, &mut pool)?;
+        let found = find_step(alloc, &Compared::new(net, &shrunk), &held, terms, &mut pool)?;
         match found {
             Step::Moved(moved) => shrunk = tidy(alloc, moved)?,
             Step::End => {

@@ -2,12 +2,14 @@
 ghost use Rattle.std.specs.Prelude.{◌≡◌, ◌<◌, ◌≤◌, ◌++◌, ◌∷◌, [], length, Contains, IfOk, OnOk};
 ghost use Rattle.semantics.specs.Net.{input_count, IsSmall};
 ghost use Rattle.chain_semantics.specs.Moves.{moves_of};
+ghost use Rattle.worst_case.specs.VectorsTried.{IsHeldFor};
 ghost use Rattle.synth_core.specs.Steps.{IsPool, AreMasksOver, IsMaskedPool, AreAmong, IsWeighed, IsStep};
 
 use crate::move_trial::{Terms, Trial, try_move};
 use adc_core::adc::Adc;
 use chain_semantics::moves::Move;
 use lane_bits::patterns::Patterns;
+use lane_nets::reference::Reference;
 use net_core::net::Net;
 use net_errors::compared::Compared;
 use net_moves::moves::moves;
@@ -72,11 +74,13 @@ fn add_vector(
 fn weigh(
     alloc: Global,
     nets: &Compared,
+    held: &Option<Reference>,
     terms: Terms,
     pool: &mut Patterns,
     masks: &mut Adc,
     step: Move,
 ) -> Result<Option<Step>, AllocError>
+    requires held { IsHeldFor nets.now.exact held.now }
     requires limit { 1 ≤ terms.limit }
     requires step { Contains (moves_of nets.now.approx) step }
     requires masked { IsMaskedPool terms.metric nets.now.exact terms.bound nets.now.approx pool.old masks.old }
@@ -85,7 +89,7 @@ fn weigh(
     ensures weighed { IfOk result
         (IsWeighed terms.metric nets.now.exact terms.bound terms.limit nets.now.approx pool.new.vectors step) }
 {
-    match try_move(alloc, nets, terms, masks, step)? {
+    match try_move(alloc, nets, held, terms, masks, step)? {
         Trial::Broken => Ok(None),
         Trial::New(x) => {
             add_vector(alloc, nets, terms, pool, masks, x.as_slice())?;
@@ -100,9 +104,11 @@ fn weigh(
 pub(crate) fn find_step(
     alloc: Global,
     nets: &Compared,
+    held: &Option<Reference>,
     terms: Terms,
     pool: &mut Patterns,
 ) -> Result<Step, AllocError>
+    requires held { IsHeldFor nets.now.exact held.now }
     requires small { IsSmall nets.now.approx }
     requires limit { 1 ≤ terms.limit }
     requires pool { IsPool nets.now.exact pool.old }
@@ -113,7 +119,7 @@ pub(crate) fn find_step(
     let mut moves = moves(alloc, nets.approx())?;
     let mut masks = pool_masks(alloc, nets, terms, pool)?;
     while let Some(step) = moves.next() {
-        if let Some(found) = weigh(alloc, nets, terms, pool, &mut masks, step)? {
+        if let Some(found) = weigh(alloc, nets, held, terms, pool, &mut masks, step)? {
             return Ok(found);
         }
     }

@@ -3,7 +3,7 @@ use Rattle.std.proofs.lemmas.Result.{err_from_is_err_and, IfOk-weaker, IfErr-wea
 use Rattle.solve_cnf.specs.Reading.{Refusal}
 use Rattle.solve_cnf.specs.Slices.{line_texts}
 use Rattle.text_words.specs.Slices.{texts}
-use Rattle.solve_cnf.specs.Draft.{clauses_with}
+use Rattle.solve_cnf.specs.FormulaDraft.{clauses_with}
 use Rattle.solve_cnf.proofs.Formulas.{formula_read}
 use Rattle.solve_cnf.proofs.reading.read_formula.Goals as goal
 

@@ -3,7 +3,7 @@ use Rattle.semantics.specs.Net.{input_count, IsSound}
 use Rattle.semantics.specs.Error.{IsCandidate}
 use Rattle.chain_semantics.specs.Moves.{moved}
 use Rattle.adc_core.specs.Masks.{FindsFirstBroken}
-use Rattle.worst_case.specs.VectorsTried.{IsExceededAt}
+use Rattle.worst_case.specs.VectorsTried.{IsExceededAt, IsHeldFor}
 use Rattle.synth_core.proofs.Trying.{found_broken, found_allowed, found_new, moved-candidate}
 use Rattle.synth_core.proofs.move_trial.try_move.Goals as goal
 
@@ -33,6 +33,10 @@ new-moved_nets-requires c =
     subst (λ E. IsCandidate E c.in_ok-moved.moved) (sym c.exact-2.ensures.value)
     (moved-candidate nets.exact nets.approx c.args.step c.in_ok-moved.moved (c.in_ok-moved.ensures ∙ ap (λ N. moved N c.args.step) c.approx-2.ensures.value)
     (subst IsSound c.approx.ensures.value c.inputs.ensures.built.sound) c.requires.step c.exact.ensures.candidate)
+
+pub within_level-requires-clause-held : goal.within_level-requires-clause-held
+within_level-requires-clause-held c =
+    subst (λ E. IsHeldFor E c.args.held.now) (sym (ap (λ P. P.exact) c.new-moved_nets.ensures ∙ c.exact-2.ensures.value)) c.requires.held
 
 pub returns-in-Over : goal.returns-in-Over
 returns-in-Over c =

@@ -3,6 +3,7 @@ use Rattle.semantics.specs.Net.{IsSmall}
 use Rattle.chain_semantics.specs.Chain.IsInChain.{first}
 use Rattle.chain_semantics.specs.Tidy.{IsTidiedFrom}
 use Rattle.chain_semantics.proofs.Simplifications.{simplified, simplified-small, simplification-falls}
+use Rattle.worst_case.specs.VectorsTried.{IsHeldFor}
 use Rattle.synth_core.specs.Steps.{IsPool, IsStep}
 use Rattle.synth_core.proofs.Shrinkings.{tidied_move, next-in_simplification, shrinking-end, shrinking-spent}
 use Rattle.synth_core.proofs.shrink.shrink.Goals as goal
@@ -22,6 +23,9 @@ new-requires c = record {
   ports = (simplified c.args.metric c.args.net.now c.args.bound c.inputs.ensures.built.sound c.loop-shrunk.shrunk c.loop-shrunk.invariant.member).ports;
   few_outputs = c.requires.few_outputs;
 }
+
+pub find_step-requires-clause-held : goal.find_step-requires-clause-held
+find_step-requires-clause-held c = subst (λ P. IsHeldFor P.exact c.in_ok-held.held) (sym c.new.ensures) c.in_ok-held.ensures
 
 pub find_step-requires-clause-small : goal.find_step-requires-clause-small
 find_step-requires-clause-small c =

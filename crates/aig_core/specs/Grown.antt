@@ -1,0 +1,31 @@
+-- Graphs that grow, and what a literal of a graph is. Source: hashed and-inverter graphs.
+use Rattle.std.specs.Prelude.{◌≡◌, ℕ, ◌<◌, ◌≤◌, Bool, false, not, ◌&&◌, ◌||◌, List, length, slice_index_or}
+use Rattle.semantics.specs.Value.{Assignment}
+use Rattle.aig_core.specs.Graph.{GraphValue, gate_at, IsLiteralOf, literal_value, IsConsistent}
+
+-- no node changes
+pub record Grows (old new : GraphValue) : Type 0 where
+  pub inputs : new.inputs ≡ old.inputs
+  pub longer : length old.gates ≤ length new.gates
+  pub same : (i : ℕ) → i < length old.gates → gate_at new i ≡ gate_at old i
+
+-- r has this value at each input
+abbrev pub HasValue : GraphValue → ℕ → (List Bool → Assignment → Bool) → Type 0
+HasValue g r value = (x : List Bool) (v : Assignment) → IsConsistent g x v → literal_value v r ≡ value x v
+
+pub record IsInputOf (g : GraphValue) (i r : ℕ) : Type 0 where
+  pub within : IsLiteralOf g r
+  pub is : HasValue g r (λ x v. slice_index_or x i false)
+
+pub record IsConjunctionOf (g : GraphValue) (a b r : ℕ) : Type 0 where
+  pub within : IsLiteralOf g r
+  pub is : HasValue g r (λ x v. literal_value v a && literal_value v b)
+
+pub record IsDisjunctionOf (g : GraphValue) (a b r : ℕ) : Type 0 where
+  pub within : IsLiteralOf g r
+  pub is : HasValue g r (λ x v. literal_value v a || literal_value v b)
+
+-- r is a literal of the same node with the opposite value
+pub record IsOppositeOf (l r : ℕ) : Type 0 where
+  pub within : (g : GraphValue) → IsLiteralOf g l → IsLiteralOf g r
+  pub is : (v : Assignment) → literal_value v r ≡ not (literal_value v l)

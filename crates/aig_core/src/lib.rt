@@ -1,0 +1,11 @@
+//! Hashed and-inverter graphs: nodes that are conjunctions of two literals, no two of them alike, and the graphs of nets.
+#![tactic(auto)]
+
+pub mod examples;
+pub mod folding;
+pub mod gate;
+pub mod graph;
+pub mod laws;
+pub mod literal;
+pub mod nets;
+pub mod tables;

@@ -1,0 +1,12 @@
+//! The laws about circuits: each function's contract is a law.
+ghost use Rattle.aiger_semantics.specs.Laws.{NetCircuitLaw, NumberedLaw};
+
+/// The circuit of a net has the net's outputs.
+pub fn net_circuits()
+    ensures { NetCircuitLaw }
+{}
+
+/// The variables of the circuit of a net, and what its literals are of.
+pub fn numbered()
+    ensures { NumberedLaw }
+{}

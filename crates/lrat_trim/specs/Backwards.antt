@@ -1,0 +1,43 @@
+-- What a pass from the root to the front of a log does at each item.
+use Rattle.std.specs.Prelude.{◌≡◌, ◌↔◌, ℕ, ◌<◌, Bool, true, false, not, ◌&&◌, ◌||◌, ◌==◌, nat_lt, List, [], ◌∷◌, ◌++◌}
+use Rattle.std.specs.Bool.{MatchBool}
+use Rattle.std.specs.List.{Contains, AllPairs}
+use Rattle.std.specs.HashSet.{HashSet, contains}
+use Rattle.proof_semantics.specs.declared.item.Item.TheVariants.{Add, Remove}
+use Rattle.proof_semantics.specs.Logs.{StepValue, LogItem}
+use Rattle.trim_semantics.specs.Kept.{is_empty_clause}
+use Rattle.trim_semantics.specs.Trimmed.{removal_of}
+use Rattle.trim_semantics.specs.Trimming.{has_id}
+
+abbrev pub adds_empty_clause : LogItem → Bool
+adds_empty_clause (Add s) = is_empty_clause s.literals
+adds_empty_clause (Remove ids) = false
+
+abbrev pub is_in : {S : Type 0} → HashSet ℕ S → ℕ → Bool
+is_in ids id = contains ◌==◌ ids id
+
+-- the id is above those of a formula's clauses, and not named
+abbrev pub is_fresh : ℕ → (ℕ → Bool) → ℕ → Bool
+is_fresh clauses named id = nat_lt clauses id && not (named id)
+
+-- the fresh ones among the hints, in rising order
+pub record AreFresh (clauses : ℕ) (hints : List ℕ) (named : ℕ → Bool) (ids : List ℕ) : Type 0 where
+  pub exactly : (id : ℕ) → Contains ids id ↔ (Contains hints id × (is_fresh clauses named id ≡ true))
+  pub in_order : AllPairs (λ a b. a < b) ids
+
+-- The step is kept: the removal of what it is the last to name and its addition join the kept items, which stand the other way round.
+pub record KeptStep (clauses : ℕ) (s : StepValue) (old_named : ℕ → Bool) (old_kept : List LogItem) (new_named : ℕ → Bool) (new_kept : List LogItem) : Type 0 where
+  pub ids : List ℕ
+  pub fresh : AreFresh clauses s.hints old_named ids
+  pub named : (id : ℕ) → new_named id ≡ (has_id s.hints id || old_named id)
+  pub kept : new_kept ≡ (old_kept ++ removal_of ids) ++ Add s ∷ []
+
+pub record Passed (old_named : ℕ → Bool) (old_kept : List LogItem) (new_named : ℕ → Bool) (new_kept : List LogItem) : Type 0 where
+  pub named : (id : ℕ) → new_named id ≡ old_named id
+  pub kept : new_kept ≡ old_kept
+
+-- an addition is kept where it is named
+abbrev pub Visited : ℕ → LogItem → (ℕ → Bool) → List LogItem → (ℕ → Bool) → List LogItem → Type 0
+Visited clauses (Add s) old_named old_kept new_named new_kept =
+    MatchBool (old_named s.id) (KeptStep clauses s old_named old_kept new_named new_kept) (Passed old_named old_kept new_named new_kept)
+Visited clauses (Remove ids) old_named old_kept new_named new_kept = Passed old_named old_kept new_named new_kept

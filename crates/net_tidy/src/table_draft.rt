@@ -1,0 +1,275 @@
+//! A table that is edited in place.
+ghost use Rattle.std.specs.Prelude.{◌≡◌, ◌<◌, ◌==◌, ℕ, true, not, [], length, map, slice_index, All, IfOk};
+ghost use Rattle.std.specs.List.{filter, list_any, remove};
+ghost use Rattle.semantics.specs.Net.{IsTable, constant_table};
+ghost use Rattle.semantics.specs.Value.{mark_matches};
+ghost use Rattle.semantics.specs.Renamed.{renamed, redirect, lowered};
+ghost use Rattle.chain_semantics.specs.TidyRules.{has, mark_at, clash, pin_at, without_pin, with_pin_fixed, with_pins_joined, with_marks_joined, with_marks_turned, is_inverter, reading_past};
+
+use crate::marks::{Marked, Marks, clash, mark_at};
+use crate::rules::has;
+use net_core::items::{Items, RowList, Signal};
+use net_core::name::Name;
+use net_core::row::Row;
+use net_core::table::{Table, mark_matches};
+use std::alloc::{AllocError, Global};
+use std::marker::Model;
+
+/// A table: its parts, and nothing asked of them.
+#[derive(Drop)]
+pub(crate) struct TableDraft {
+    name: Name,
+    pins: Vec<Signal>,
+    rows: Vec<Marks>,
+    plane: bool,
+}
+
+impl Model for TableDraft {
+    ghost use Rattle.semantics.specs.Net.{TableValue};
+
+    ghost Value = { TableValue };
+
+    ghost view = { λ a. record { name = a.name; pins = a.pins.items; rows = a.rows.items; plane = a.plane } };
+}
+
+/// The marks of these rows.
+fn copied_rows(alloc: Global, rows: &[Row]) -> Result<Vec<Marks>, AllocError>
+    ensures { IfOk result (λ copies. copies.items ≡ rows.now) }
+{
+    let mut copies = Vec::new(alloc);
+    for row in rows {
+        copies.push(Marks::from_slice(alloc, row.as_slice())?)?;
+    }
+    Ok(copies)
+}
+
+/// The rows of a table with these marks.
+fn row_list(alloc: Global, rows: &[Marks]) -> Result<RowList, AllocError>
+    ensures { IfOk result (λ list. list ≡ rows.now) }
+{
+    let mut list = Items::new(alloc);
+    for row in rows {
+        list.push(Row::from_slice(alloc, row.marks())?)?;
+    }
+    Ok(list)
+}
+
+/// Takes out the rows that ask the pin at `q` for the other value.
+fn keep_rows(rows: &mut Vec<Marks>, q: usize, value: bool)
+    ensures { rows.new.items ≡ filter (λ marks. mark_matches (mark_at marks q) value) rows.old.items }
+{
+    rows.retain(|row| mark_matches(mark_at(row.marks(), q), value));
+}
+
+/// Takes out the rows that ask the pins at `p` and `q` for both values.
+fn keep_agreeing(rows: &mut Vec<Marks>, p: usize, q: usize)
+    ensures { rows.new.items ≡ filter (λ marks. not (clash (mark_at marks p) (mark_at marks q))) rows.old.items }
+{
+    rows.retain(|row| !clash(mark_at(row.marks(), p), mark_at(row.marks(), q)));
+}
+
+/// Takes the mark at `q` out of each row.
+fn remove_marks(rows: &mut [Marks], q: usize)
+    requires { All (λ marks. q < length marks) rows.old }
+    ensures { rows.new ≡ map (λ marks. remove marks q) rows.old }
+{
+    for row in rows.iter_mut() {
+        row.remove(q);
+    }
+}
+
+/// In each row, puts the mark at `q` in the place of a dash at `p`.
+fn join_marks(rows: &mut [Marks], p: usize, q: usize)
+    requires { All (λ marks. p < length marks) rows.old }
+    ensures { rows.new ≡ map (with_marks_joined p q) rows.old }
+{
+    for row in rows.iter_mut() {
+        row.join(p, q);
+    }
+}
+
+/// In each row, turns the marks of the pins that read signal `s`.
+fn turn_rows(rows: &mut [Marks], s: Signal, pins: &[Signal])
+    requires { All (λ marks. length marks ≡ length pins.now) rows.old }
+    ensures { rows.new ≡ map (with_marks_turned s pins.now) rows.old }
+{
+    for row in rows.iter_mut() {
+        row.turn(s, pins);
+    }
+}
+
+/// One signal in the place of another.
+fn redirected(pin: Signal, from: Signal, to: Signal) -> Signal
+    ensures { result ≡ redirect from to pin }
+{
+    if pin == from { to } else { pin }
+}
+
+/// A signal's number once another has gone.
+fn lowered(signal: Signal, gone: Signal) -> Signal
+    ensures { result ≡ lowered gone signal }
+{
+    if gone < signal { signal - 1 } else { signal }
+}
+
+/// Puts one signal in the place of another.
+fn redirect(pins: &mut [Signal], from: Signal, to: Signal)
+    ensures { pins.new ≡ map (redirect from to) pins.old }
+{
+    for pin in pins.iter_mut() {
+        *pin = redirected(*pin, from, to);
+    }
+}
+
+/// Lowers the signals above one that goes.
+pub(crate) fn lower(signals: &mut [Signal], gone: Signal)
+    ensures { signals.new ≡ map (lowered gone) signals.old }
+{
+    for signal in signals.iter_mut() {
+        *signal = lowered(*signal, gone);
+    }
+}
+
+impl TableDraft {
+    /// A copy of a table.
+    pub(crate) fn from_table(alloc: Global, table: &Table) -> Result<TableDraft, AllocError>
+        ensures { IfOk result (λ d. d ≡ table.now) }
+    {
+        Ok(TableDraft {
+            name: table.name().copy()?,
+            pins: Vec::from_slice(alloc, table.pins().as_slice())?,
+            rows: copied_rows(alloc, table.rows().as_slice())?,
+            plane: table.plane(),
+        })
+    }
+
+    pub(crate) fn pins(&self) -> &[Signal]
+        ensures { result.now ≡ self.now.pins }
+    {
+        self.pins.as_slice()
+    }
+
+    pub(crate) fn rows(&self) -> &[Marks]
+        ensures { result.now ≡ self.now.rows }
+    {
+        self.rows.as_slice()
+    }
+
+    /// Whether a signal is among the pins.
+    pub(crate) fn reads(&self, s: Signal) -> bool
+        ensures { result ≡ has self.now.pins s }
+    {
+        has(&self.pins, s)
+    }
+
+    pub(crate) fn plane(&self) -> bool
+        ensures { result ≡ self.now.plane }
+    {
+        self.plane
+    }
+
+    /// Whether some row lets the pin at `q` have this value.
+    pub(crate) fn allows(&self, q: usize, value: bool) -> bool
+        ensures { result ≡ list_any (λ marks. mark_matches (mark_at marks q) value) self.now.rows }
+    {
+        self.rows
+            .iter()
+            .any(|row| mark_matches(mark_at(row.marks(), q), value))
+    }
+
+    /// Takes out the rows that ask the pin at `q` for the other value.
+    pub(crate) fn keep_rows(&mut self, q: usize, value: bool)
+        ensures { self.new
+            ≡ record self.old { rows = filter (λ marks. mark_matches (mark_at marks q) value) self.old.rows } }
+    {
+        keep_rows(&mut self.rows, q, value);
+    }
+
+    /// Whether some row does not ask the pins at `p` and `q` for both values.
+    pub(crate) fn agrees(&self, p: usize, q: usize) -> bool
+        ensures { result ≡ list_any (λ marks. not (clash (mark_at marks p) (mark_at marks q))) self.now.rows }
+    {
+        self.rows.iter().any(|row| !clash(mark_at(row.marks(), p), mark_at(row.marks(), q)))
+    }
+
+    /// Takes out the rows that ask the pins at `p` and `q` for both values, and joins the marks of the others at `p`.
+    pub(crate) fn join_rows(&mut self, p: usize, q: usize)
+        requires within { p < length self.old.pins }
+        requires widths { All (λ marks. length marks ≡ length self.old.pins) self.old.rows }
+        ensures { self.new ≡ record self.old {
+          rows = map (with_marks_joined p q) (filter (λ marks. not (clash (mark_at marks p) (mark_at marks q))) self.old.rows);
+        } }
+    {
+        keep_agreeing(&mut self.rows, p, q);
+        join_marks(&mut self.rows, p, q);
+    }
+
+    /// Takes out the pin at `q` with its column.
+    pub(crate) fn remove_pin(&mut self, q: usize)
+        requires within { q < length self.old.pins }
+        requires widths { All (λ marks. length marks ≡ length self.old.pins) self.old.rows }
+        ensures { self.new ≡ without_pin q self.old }
+    {
+        remove_marks(&mut self.rows, q);
+        self.pins.remove(q);
+    }
+
+    /// Makes a constant of the table. A row without marks is made of its first one.
+    pub(crate) fn make_constant(&mut self, value: bool)
+        requires { value ≡ true → 0 < length self.old.rows }
+        ensures { self.new ≡ constant_table self.old.name value }
+    {
+        self.pins.clear();
+        self.plane = true;
+        if value {
+            self.rows.truncate(1);
+            self.rows[0].clear();
+        } else {
+            self.rows.clear();
+        }
+    }
+
+    /// Whether the mark at the first pin of each row differs from the plane.
+    pub(crate) fn inverts(&self) -> bool
+        ensures { result ≡ is_inverter self.now }
+    {
+        let plane = self.plane;
+        self.rows
+            .iter()
+            .all(|row| !mark_matches(mark_at(row.marks(), 0), plane))
+    }
+
+    /// Reads signal `to` in the place of `from`, which has its value, or the opposite one where the marks are inverted.
+    #[tactic(auto, using(crate::proofs::Passing::past_aside))]
+    pub(crate) fn read_past(&mut self, from: Signal, to: Signal, inverted: bool)
+        requires { All (λ marks. length marks ≡ length self.old.pins) self.old.rows }
+        ensures { self.new ≡ reading_past from to inverted self.old }
+    {
+        if !self.reads(from) {
+            return;
+        }
+        if inverted {
+            turn_rows(&mut self.rows, from, &self.pins);
+        }
+        redirect(&mut self.pins, from, to);
+    }
+
+    /// The table of these parts, with a copy of its name.
+    pub(crate) fn to_table(&self) -> Result<Table, AllocError>
+        requires { IsTable self.now }
+        ensures { IfOk result (λ t. t ≡ self.now) }
+    {
+        let alloc = *self.pins.allocator();
+        let name = self.name.copy()?;
+        let pins = Items::from_slice(alloc, &self.pins)?;
+        let rows = row_list(alloc, &self.rows)?;
+        Ok(Table::new(name, pins, rows, self.plane))
+    }
+
+    /// Lowers the pins that read signals above one that goes.
+    pub(crate) fn lower(&mut self, gone: Signal)
+        ensures { self.new ≡ renamed (lowered gone) self.old }
+    {
+        lower(&mut self.pins, gone);
+    }
+}

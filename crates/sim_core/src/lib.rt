@@ -1,0 +1,6 @@
+//! The values of the nodes of graphs at many patterns, in rows of bits.
+#![tactic(auto)]
+
+mod rows;
+pub mod sim;
+mod steps;

@@ -1,0 +1,5 @@
+pub mod Kept
+pub mod Trimmed
+pub mod Trimming
+pub mod TrimLaws
+pub mod TrimExamples

@@ -1,0 +1,16 @@
+# Completions of salsa for bash: jobs, errors, netlists and stems.
+_salsa() {
+    local word=${COMP_WORDS[COMP_CWORD]} job=${COMP_WORDS[1]} files=
+    case $COMP_CWORD,$job in
+    1,*) mapfile -t COMPREPLY < <(compgen -W 'synth check demo --help --version' -- "$word") ;;
+    2,synth | 2,check) mapfile -t COMPREPLY < <(compgen -W 'abs sabs rel ham' -- "$word") ;;
+    5,synth | 4,check) files='!*.blif' ;;
+    6,synth) mapfile -t COMPREPLY < <(compgen -f -- "$word") ;;
+    5,check) mapfile -t COMPREPLY < <(compgen -f -X '!*.txt' -- "$word" | sed 's/\.txt$//') ;;
+    esac
+    if [ -n "$files" ]; then
+        compopt -o filenames 2>/dev/null
+        mapfile -t COMPREPLY < <(compgen -f -X "$files" -- "$word"; compgen -d -- "$word")
+    fi
+}
+complete -F _salsa salsa
