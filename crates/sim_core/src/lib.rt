@@ -4,3 +4,5 @@
 mod rows;
 pub mod sim;
 mod steps;
+#[cfg(test)]
+mod tests;
