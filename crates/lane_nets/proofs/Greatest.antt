@@ -1,14 +1,7 @@
 -- The greatest value of a function and the first place that has it, from the places one after another.
 use Rattle.std.proofs.Common.{◌≡◌, ℕ, ◌+◌, ◌<◌, ◌≤◌, sym, inl, inr, arith}
 use Rattle.std.proofs.lemmas.Bool.{cases_eq, cases_lt}
-use Rattle.lane_nets.specs.Errors.{IsFirstGreatestOf}
-
--- at is the first of the places below the bound that has the greatest value, most, or both are 0
-pub record IsGreatestSoFar (f : ℕ → ℕ) (bound at most : ℕ) : Type 0 where
-  pub within : 0 < at → at < bound
-  pub attained : 0 < most → f at ≡ most
-  pub greatest : (k : ℕ) → k < bound → f k ≤ most
-  pub first : (k : ℕ) → k < at → f k < most
+use Rattle.lane_nets.specs.Errors.{IsFirstGreatestOf, IsGreatestSoFar}
 
 at_most_more : (f : ℕ → ℕ) (bound most next : ℕ) → next ≡ f bound → next ≤ most → ((k : ℕ) → k < bound → f k ≤ most) → (k : ℕ) → k < bound + 1 → f k ≤ most
 at_most_more f bound most next is low before k below =

@@ -1,5 +1,8 @@
 pub mod WordBits
 pub mod RowBits
-mod Greatest
+pub mod Greatest
+pub mod BlockErrors
 pub mod FirstOver
 pub mod Evaluating
+pub mod Comparing
+pub mod LaneErrors

@@ -32,3 +32,10 @@ pub record IsFirstGreatestOf (f : ℕ → ℕ) (count most p : ℕ) : Type 0 whe
 abbrev pub IsFirstGreatest : Metric → NetValue → NetValue → List (List Bool) → ℕ → ℕ → Type 0
 IsFirstGreatest metric exact approx vectors most p =
     IsFirstGreatestOf (λ q. net_error metric exact approx (vector_at vectors q)) (length vectors) most p
+
+-- at is the first of the places below the bound that has the greatest value, most, or both are 0
+pub record IsGreatestSoFar (f : ℕ → ℕ) (bound at most : ℕ) : Type 0 where
+  pub within : 0 < at → at < bound
+  pub attained : 0 < most → f at ≡ most
+  pub greatest : (k : ℕ) → k < bound → f k ≤ most
+  pub first : (k : ℕ) → k < at → f k < most

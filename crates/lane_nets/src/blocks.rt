@@ -1,8 +1,9 @@
 //! The values of a net at all patterns, in blocks of 64.
 ghost use Rattle.std.specs.Prelude.{◌≡◌, ◌+◌, ◌*◌, ◌<◌, ◌≤◌, ℕ, length, IfOk};
-ghost use Rattle.semantics.specs.Net.{input_count};
+ghost use Rattle.semantics.specs.Net.{input_count, signal_count};
 ghost use Rattle.lane_bits.specs.Rows.{word_count};
 ghost use Rattle.lane_bits.specs.Patterns.{pattern_bit};
+ghost use Rattle.net_core.specs.Built.{IsBuilt};
 ghost use Rattle.lane_nets.specs.Words.{values_at};
 ghost use Rattle.lane_nets.specs.Blocks.{IsBlock, AreBlocksOf};
 
@@ -26,6 +27,20 @@ fn set_inputs(patterns: &Patterns, k: usize, words: &mut [u64])
     }
 }
 
+/// Sets `words` to block k of a net's values.
+pub(crate) fn set_block(net: &Net, patterns: &Patterns, k: usize, words: &mut [u64])
+    requires inputs { patterns.now.inputs ≡ input_count net.now }
+    requires within { k < word_count (length patterns.now.vectors) }
+    requires room { length words.old ≡ signal_count net.now }
+    ensures block { IsBlock net.now patterns.now.vectors k words.new }
+    ensures built { IsBuilt net.now }
+{
+    // A net is sound by its type: the call brings that fact here.
+    let _ = net.tables();
+    set_inputs(patterns, k, words);
+    eval_words(net, words);
+}
+
 /// Block k of a net's values.
 fn block(alloc: Global, net: &Net, patterns: &Patterns, k: usize) -> Result<WordList, AllocError>
     requires inputs { patterns.now.inputs ≡ input_count net.now }
@@ -33,8 +48,7 @@ fn block(alloc: Global, net: &Net, patterns: &Patterns, k: usize) -> Result<Word
     ensures { IfOk result (IsBlock net.now patterns.now.vectors k) }
 {
     let mut words = vec![in alloc; 0; net.signals() as usize]?;
-    set_inputs(patterns, k, &mut words);
-    eval_words(net, &mut words);
+    set_block(net, patterns, k, &mut words);
     Ok(WordList::of(words))
 }
 

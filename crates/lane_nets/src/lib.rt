@@ -5,7 +5,9 @@
 
 pub mod blocks;
 pub mod errors;
+pub mod lanes;
 pub mod outputs;
+pub mod reference;
 pub mod trials;
 pub mod values;
 pub mod word_list;

@@ -4,15 +4,18 @@ ghost use Rattle.semantics.specs.Net.{input_count, signal_count};
 ghost use Rattle.net_core.specs.Built.{IsBuilt};
 ghost use Rattle.lane_nets.specs.Words.{word_bit, values_at};
 ghost use Rattle.lane_nets.specs.Blocks.{AreOutputsOf};
+ghost use Rattle.lane_nets.specs.Lanes.{output_words, AreOutputWordsOf};
 
-use crate::blocks::blocks;
+use crate::blocks::{blocks, set_block};
+use crate::word_list::WordList;
+use lane_bits::kernels::word_count;
 use lane_bits::patterns::Patterns;
 use net_core::items::{Bits, Items};
 use net_core::net::Net;
 use std::alloc::{AllocError, Global};
 
 /// One bit of a word.
-fn word_bit(word: u64, b: u32) -> bool
+pub(crate) fn word_bit(word: u64, b: u32) -> bool
     requires { b < 64 }
     ensures { result ≡ word_bit word b }
 {
@@ -30,6 +33,48 @@ pub fn set_outputs(net: &Net, words: &[u64], b: u32, bits: &mut [bool])
     for i in 0..net.outputs() {
         bits[i as usize] = word_bit(words[net.output(i) as usize], b);
     }
+}
+
+/// Sets `outputs` to the words of the outputs.
+pub(crate) fn set_output_words(net: &Net, words: &[u64], outputs: &mut [u64])
+    requires words { length words.now ≡ signal_count net.now }
+    requires room { length outputs.old ≡ length net.now.outputs }
+    ensures { outputs.new ≡ output_words net.now words.now }
+{
+    // A net is sound by its type: the call brings that fact here.
+    let _ = net.tables();
+    for i in 0..net.outputs() {
+        outputs[i as usize] = words[net.output(i) as usize];
+    }
+}
+
+/// The words of the outputs, in memory of their own.
+fn output_row(alloc: Global, net: &Net, words: &[u64]) -> Result<WordList, AllocError>
+    requires { length words.now ≡ signal_count net.now }
+    ensures { IfOk result (λ row. row ≡ output_words net.now words.now) }
+{
+    let mut row = vec![in alloc; 0; net.outputs() as usize]?;
+    set_output_words(net, words, &mut row);
+    Ok(WordList::of(row))
+}
+
+/// The words of a net's outputs at all patterns, in blocks of 64.
+pub(crate) fn output_rows(
+    alloc: Global,
+    net: &Net,
+    patterns: &Patterns,
+) -> Result<Items<WordList>, AllocError>
+    requires { patterns.now.inputs ≡ input_count net.now }
+    ensures { IfOk result (AreOutputWordsOf net.now patterns.now.vectors) }
+{
+    let mut room = vec![in alloc; 0; net.signals() as usize]?;
+    let words = room.as_mut_slice();
+    let mut rows = Items::new(alloc);
+    for k in 0..word_count(patterns.count()) {
+        set_block(net, patterns, k as usize, words);
+        rows.push(output_row(alloc, net, words)?)?;
+    }
+    Ok(rows)
 }
 
 /// The outputs at pattern b, in memory of their own.

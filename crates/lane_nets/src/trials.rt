@@ -1,20 +1,20 @@
 //! Which of some input vectors is the first whose error exceeds a level, and which has the greatest error.
-ghost use Rattle.std.specs.Prelude.{◌≡◌, ◌<◌, ◌≤◌, ℕ, List, [], length, slice_index_or, EachIndex, All, IfOk};
-ghost use Rattle.semantics.specs.Net.{input_count};
+ghost use Rattle.std.specs.Prelude.{◌≡◌, ◌↔◌, ◌+◌, ◌<◌, ◌≤◌, ◌^◌, ℕ, map, length, IsTrue};
+ghost use Rattle.semantics.specs.Net.{input_count, signal_count};
 ghost use Rattle.semantics.specs.Error.{error_of};
-ghost use Rattle.lane_nets.specs.Errors.{FindsFirstOver, IsFirstGreatest, IsFirstGreatestOf};
+ghost use Rattle.lane_nets.specs.Words.{word_bit, values_at};
+ghost use Rattle.lane_nets.specs.Lanes.{lane_at, AreOutputWordsOf};
+ghost use Rattle.lane_nets.specs.Errors.{FindsFirstOver, IsFirstGreatest, IsGreatestSoFar};
 
-use crate::blocks::blocks;
-use crate::errors::{Limit, exceeding_row};
-use crate::outputs::all_outputs;
+use crate::blocks::set_block;
+use crate::lanes::{lane_error, over_word};
+use crate::outputs::{set_output_words, word_bit};
+use crate::word_list::WordList;
 use lane_bits::kernels::first_set;
 use lane_bits::patterns::Patterns;
-use net_core::items::Bits;
 use net_errors::compared::Compared;
-use net_errors::error::error;
 use semantics::limits::MOST_OUTPUTS;
 use semantics::metric::Metric;
-use std::alloc::{AllocError, Global};
 
 /// An error, and the first pattern that has it.
 #[derive(Clone, Copy)]
@@ -23,65 +23,121 @@ pub struct Greatest {
     pub at: u64,
 }
 
-/// The greatest error of these outputs, pattern by pattern.
-fn greatest_of(metric: Metric, exact: &[Bits], approx: &[Bits]) -> Greatest
-    requires some { 0 < length exact.now }
-    requires same { length exact.now ≡ length approx.now }
-    requires few_outputs { All (λ e. length e ≤ MOST_OUTPUTS) exact.now }
-    requires widths { (p : ℕ) → p < length exact.now
-        → length (slice_index_or exact.now p []) ≡ length (slice_index_or approx.now p []) }
-    ensures { IsFirstGreatestOf (λ p. error_of metric (slice_index_or exact.now p []) (slice_index_or approx.now p []))
-        (length exact.now) result.error result.at }
+/// Where the error exceeds the level, at the patterns of one block.
+fn block_over(nets: &Compared, metric: Metric, level: u128, exact: &[u64], words: &[u64]) -> u64
+    requires exact { length exact.now ≡ length nets.now.exact.outputs }
+    requires words { length words.now ≡ signal_count nets.now.approx }
+    ensures { (b : ℕ) → b < 64 → IsTrue (word_bit result b)
+        ↔ (level < error_of metric (lane_at exact.now b) (map (values_at words.now b) nets.now.approx.outputs)) }
 {
-    let mut greatest = Greatest { error: 0, at: 0 };
-    for (p, right) in exact.iter().enumerate() {
-        let error = error(metric, right.as_slice(), approx[p].as_slice());
-        if error > greatest.error {
-            greatest = Greatest {
-                error,
-                at: p as u64,
-            };
+    let mut room = [0; MOST_OUTPUTS];
+    let approx = nets.approx();
+    let outputs = &mut room[..approx.outputs() as usize];
+    set_output_words(approx, words, outputs);
+    over_word(metric, level, exact, outputs)
+}
+
+/// The first pattern whose error exceeds the level, where `outputs` are those of the exact net. The values of the approximate net
+/// are found in `words`, block by block up to that pattern.
+pub(crate) fn first_over(
+    nets: &Compared,
+    metric: Metric,
+    level: u128,
+    patterns: &Patterns,
+    outputs: &[WordList],
+    words: &mut [u64],
+) -> Option<u64>
+    requires inputs { patterns.now.inputs ≡ input_count nets.now.exact }
+    requires outputs { AreOutputWordsOf nets.now.exact patterns.now.vectors outputs.now }
+    requires words { length words.old ≡ signal_count nets.now.approx }
+    ensures { FindsFirstOver metric nets.now.exact nets.now.approx level patterns.now.vectors result }
+{
+    let count = patterns.count();
+    for k in 0..outputs.len() {
+        set_block(nets.approx(), patterns, k, words);
+        let over = block_over(nets, metric, level, outputs[k].as_slice(), words);
+        let from = 64 * k as u64;
+        if let Some(b) = first_set(&[over], (count - from).min(64)) {
+            return Some(from + b);
+        }
+    }
+    None
+}
+
+/// The greater of an error and another one, further on.
+fn greater(so_far: Greatest, error: u128, at: u64) -> Greatest
+    ensures { (f : ℕ → ℕ) → f at ≡ error → IsGreatestSoFar f at so_far.at so_far.error
+        → IsGreatestSoFar f (at + 1) result.at result.error × (so_far.error ≤ result.error) }
+{
+    if error > so_far.error {
+        Greatest { error, at }
+    } else {
+        so_far
+    }
+}
+
+/// The greatest error up to the first `count` patterns of a block that begins at pattern `from`.
+fn greatest_in_block(
+    nets: &Compared,
+    metric: Metric,
+    exact: &[u64],
+    words: &[u64],
+    from: u64,
+    count: u32,
+    so_far: Greatest,
+) -> Greatest
+    requires exact { length exact.now ≡ length nets.now.exact.outputs }
+    requires words { length words.now ≡ signal_count nets.now.approx }
+    requires few { count ≤ 64 }
+    requires room { from + count < 2 ^ 64 }
+    ensures { (f : ℕ → ℕ) → ((b : ℕ) → b < 64 → f (from + b)
+        ≡ error_of metric (lane_at exact.now b) (map (values_at words.now b) nets.now.approx.outputs))
+        → IsGreatestSoFar f from so_far.at so_far.error → IsGreatestSoFar f (from + count) result.at result.error }
+{
+    let mut room = [0; MOST_OUTPUTS];
+    let approx = nets.approx();
+    let outputs = &mut room[..approx.outputs() as usize];
+    set_output_words(approx, words, outputs);
+    let over = over_word(metric, so_far.error, exact, outputs);
+    let mut greatest = so_far;
+    for b in 0..count {
+        if word_bit(over, b) {
+            let error = lane_error(metric, exact, outputs, b);
+            greatest = greater(greatest, error, from + u64::from(b));
         }
     }
     greatest
 }
 
-/// The greatest error of the patterns, and the first of them that has it.
-pub fn greatest_error(
-    alloc: Global,
+/// The greatest error of the patterns, and the first of them that has it, where `outputs` are those of the exact net.
+pub(crate) fn greatest_error(
     nets: &Compared,
     metric: Metric,
     patterns: &Patterns,
-) -> Result<Greatest, AllocError>
+    outputs: &[WordList],
+    words: &mut [u64],
+) -> Greatest
     requires inputs { patterns.now.inputs ≡ input_count nets.now.exact }
     requires some { 0 < length patterns.now.vectors }
-    ensures { IfOk result
-        (λ g. IsFirstGreatest metric nets.now.exact nets.now.approx patterns.now.vectors g.error g.at) }
+    requires outputs { AreOutputWordsOf nets.now.exact patterns.now.vectors outputs.now }
+    requires words { length words.old ≡ signal_count nets.now.approx }
+    ensures { IsFirstGreatest metric nets.now.exact nets.now.approx patterns.now.vectors result.error result.at }
 {
-    let exact = all_outputs(alloc, nets.exact(), patterns)?;
-    let approx = all_outputs(alloc, nets.approx(), patterns)?;
-    Ok(greatest_of(metric, exact.as_slice(), approx.as_slice()))
-}
-
-/// The first pattern whose error exceeds the level.
-pub fn first_over(
-    alloc: Global,
-    nets: &Compared,
-    metric: Metric,
-    level: u128,
-    patterns: &Patterns,
-) -> Result<Option<u64>, AllocError>
-    requires { patterns.now.inputs ≡ input_count nets.now.exact }
-    ensures { IfOk result
-        (FindsFirstOver metric nets.now.exact nets.now.approx level patterns.now.vectors) }
-{
-    let limit = Limit {
-        outputs: all_outputs(alloc, nets.exact(), patterns)?,
-        metric,
-        level,
-    };
-    let approx = nets.approx();
-    let blocks = blocks(alloc, approx, patterns)?;
-    let row = exceeding_row(alloc, approx, blocks.as_slice(), &limit)?;
-    Ok(first_set(row.as_slice(), patterns.count()))
+    let count = patterns.count();
+    let mut greatest = Greatest { error: 0, at: 0 };
+    for k in 0..outputs.len() {
+        set_block(nets.approx(), patterns, k, words);
+        let from = 64 * k as u64;
+        let used = (count - from).min(64) as u32;
+        greatest = greatest_in_block(
+            nets,
+            metric,
+            outputs[k].as_slice(),
+            words,
+            from,
+            used,
+            greatest,
+        );
+    }
+    greatest
 }

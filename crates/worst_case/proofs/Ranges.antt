@@ -1,12 +1,13 @@
 -- The range of levels with which the search for the greatest error begins.
 use Rattle.std.proofs.Common.{◌≡◌, ◌⊎◌, ◌<◌, ◌≤◌, ℕ, min, Bool, List, length, None, inl, inr, arith}
 use Rattle.std.proofs.lemmas.Bool.{cases_lt}
-use Rattle.semantics.specs.declared.limits.TheConstants.{TRIED_INPUTS, LARGEST_ERROR}
+use Rattle.semantics.specs.declared.limits.TheConstants.{LARGEST_ERROR}
 use Rattle.semantics.specs.declared.metric.Metric.{Metric}
 use Rattle.semantics.specs.Net.{NetValue, input_count}
 use Rattle.semantics.specs.Error.{net_error, IsWithin, IsCandidate}
 use Rattle.semantics.proofs.Sizes.{largest}
 use Rattle.lane_bits.specs.Patterns.{PatternSet}
+use Rattle.worst_case.specs.declared.vectors_tried.TheConstants.{LANE_INPUTS}
 use Rattle.worst_case.specs.VectorsTried.{IsTrial, IsFirstGreatestIn}
 use Rattle.worst_case.specs.Maximum.{IsRange}
 use Rattle.worst_case.proofs.FirstGreatest.{IsFirstGreatestAt-all}
@@ -22,8 +23,8 @@ smaller bound high is =
 -- what the trial vectors and the bound make of it
 pub IsRange-first : (metric : Metric) (N M : NetValue) (bound high most : ℕ) (x : List Bool) (s : PatternSet) → IsCandidate N M → IsWithin metric N bound M
     → IsTrial (input_count N) s → IsFirstGreatestIn (net_error metric N M) s.vectors most x → length x ≡ input_count N
-    → ((input_count N ≤ TRIED_INPUTS) × (high ≡ most))
-    ⊎ ((TRIED_INPUTS < input_count N) × (high ≤ bound) × (high ≤ LARGEST_ERROR) × ((high ≡ bound) ⊎ (high ≡ LARGEST_ERROR)))
+    → ((input_count N ≤ LANE_INPUTS) × (high ≡ most))
+    ⊎ ((LANE_INPUTS < input_count N) × (high ≤ bound) × (high ≤ LARGEST_ERROR) × ((high ≡ bound) ⊎ (high ≡ LARGEST_ERROR)))
     → IsRange metric N M bound (record { low = most; witness = x; high = high; log = None })
 IsRange-first metric N M bound high most x s nets within trial best width (inl small) =
     let first = IsFirstGreatestAt-all (input_count N) (net_error metric N M) s.vectors most x (trial.all small.0) best in

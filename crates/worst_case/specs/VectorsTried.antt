@@ -1,17 +1,18 @@
 -- Input vectors that are tried at once, and the greatest of their errors.
 use Rattle.std.specs.Prelude.{◌≡◌, ℕ, ◌<◌, ◌≤◌, Bool, Option, MatchOption, List, [], length, slice_index_or}
-use Rattle.semantics.specs.declared.limits.TheConstants.{TRIED_INPUTS}
 use Rattle.semantics.specs.Net.{NetValue, input_count}
 use Rattle.semantics.specs.declared.metric.Metric.{Metric}
 use Rattle.semantics.specs.Error.{number_of, net_error, IsWithin}
 use Rattle.semantics.specs.Vectors.{all_vectors}
 use Rattle.lane_bits.specs.Patterns.{PatternSet}
+use Rattle.lane_nets.specs.Lanes.{ReferenceValue}
+use Rattle.worst_case.specs.declared.vectors_tried.TheConstants.{LANE_INPUTS}
 
--- some vectors of so many inputs; with at most fifteen inputs all of them in counting order
+-- some vectors of so many inputs; with at most sixteen inputs all of them in counting order
 pub record IsTrial (inputs : ℕ) (s : PatternSet) : Type 0 where
   pub inputs_are : s.inputs ≡ inputs
   pub some : 0 < length s.vectors
-  pub all : inputs ≤ TRIED_INPUTS → s.vectors ≡ all_vectors inputs
+  pub all : inputs ≤ LANE_INPUTS → s.vectors ≡ all_vectors inputs
 
 -- x is the first vector of the list at which f is greatest, and most is f there
 pub record IsFirstGreatestIn (f : List Bool → ℕ) (vectors : List (List Bool)) (most : ℕ) (x : List Bool) : Type 0 where
@@ -35,3 +36,11 @@ pub record IsFirstExceeded (metric : Metric) (exact approx : NetValue) (k : ℕ)
 -- every input vector was tried
 abbrev pub IsTried : Metric → NetValue → NetValue → ℕ → Option (List Bool) → Type 0
 IsTried metric exact approx k found = MatchOption found (IsWithin metric exact k approx) (IsFirstExceeded metric exact approx k)
+
+-- a net and every input vector of it, in counting order
+abbrev pub every_vector : NetValue → ReferenceValue
+every_vector N = record { exact = N; patterns = record { inputs = input_count N; vectors = all_vectors (input_count N) } }
+
+-- with at most sixteen inputs every vector is held, with more none
+abbrev pub IsHeldFor : NetValue → Option ReferenceValue → Type 0
+IsHeldFor N held = MatchOption held (LANE_INPUTS < input_count N) (λ r. r ≡ every_vector N)

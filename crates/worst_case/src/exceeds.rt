@@ -1,4 +1,4 @@
-//! Whether some error exceeds a level. With at most fifteen inputs every vector is tried, and the log is made where the error of none
+//! Whether some error exceeds a level. With at most sixteen inputs every vector is tried, and the log is made where the error of none
 //! exceeds it; with more the solver is asked.
 ghost use Rattle.std.specs.Prelude.{◌≤◌, length, IfOk};
 ghost use Rattle.semantics.specs.Net.{HasSamePorts};
@@ -7,10 +7,10 @@ ghost use Rattle.worst_case.specs.Exceeds.{IsAnswer};
 use crate::query::Exceed;
 use crate::refutation::refute_level;
 use crate::solver_query::ask_solver;
-use crate::vectors_tried::try_vectors;
+use crate::vectors_tried::{hold_every_vector, try_vectors};
 use net_core::net::Net;
 use net_errors::compared::Compared;
-use semantics::limits::{MOST_OUTPUTS, TRIED_INPUTS};
+use semantics::limits::MOST_OUTPUTS;
 use semantics::metric::Metric;
 use std::alloc::{AllocError, Global};
 
@@ -25,10 +25,10 @@ pub(crate) fn exceeds_level(
     requires limit { 1 ≤ limit }
     ensures { IfOk result (IsAnswer metric nets.now.exact nets.now.approx k limit) }
 {
-    if nets.exact().inputs() > TRIED_INPUTS {
+    let Some(held) = hold_every_vector(alloc, nets.exact())? else {
         return ask_solver(alloc, nets, metric, k, limit);
-    }
-    match try_vectors(alloc, nets, metric, k)? {
+    };
+    match try_vectors(alloc, nets, &held, metric, k)? {
         Some(x) => Ok(Exceed::Over(x)),
         None => refute_level(alloc, nets, metric, k, limit),
     }

@@ -9,4 +9,4 @@ pub mod query;
 mod range;
 mod refutation;
 mod solver_query;
-mod vectors_tried;
+pub mod vectors_tried;

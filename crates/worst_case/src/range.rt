@@ -6,12 +6,13 @@ ghost use Rattle.worst_case.specs.Maximum.{IsRange, IsTurn};
 
 use crate::exceeds::exceeds_level;
 use crate::query::{Exceed, Spent};
-use crate::vectors_tried::{greatest_of, trial_vectors};
+use crate::vectors_tried::{LANE_INPUTS, greatest_of, trial_vectors};
 use cnf_core::log::Log;
+use lane_nets::reference::Reference;
 use net_core::items::Bits;
 use net_errors::compared::Compared;
 use net_errors::net_error::error_at;
-use semantics::limits::{LARGEST_ERROR, TRIED_INPUTS};
+use semantics::limits::LARGEST_ERROR;
 use semantics::metric::Metric;
 use std::alloc::{AllocError, Global};
 
@@ -43,8 +44,9 @@ pub fn first_range(
     ensures { IfOk result (IsRange metric nets.now.exact nets.now.approx bound) }
 {
     let vectors = trial_vectors(alloc, nets.exact().inputs())?;
-    let best = greatest_of(alloc, nets, metric, &vectors)?;
-    let high = if nets.exact().inputs() <= TRIED_INPUTS {
+    let held = Reference::new(alloc, nets.exact(), vectors)?;
+    let best = greatest_of(alloc, nets, metric, &held)?;
+    let high = if nets.exact().inputs() <= LANE_INPUTS {
         best.error
     } else {
         bound.min(LARGEST_ERROR)

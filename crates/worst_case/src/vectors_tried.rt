@@ -2,15 +2,19 @@
 ghost use Rattle.std.specs.Prelude.{◌≡◌, ◌≤◌, ◌<◌, [], length, slice_index_or, IfOk};
 ghost use Rattle.semantics.specs.Net.{input_count};
 ghost use Rattle.semantics.specs.Error.{net_error};
-ghost use Rattle.worst_case.specs.VectorsTried.{IsTrial, IsFirstGreatestIn, IsTried};
+ghost use Rattle.worst_case.specs.VectorsTried.{every_vector, IsTrial, IsFirstGreatestIn, IsHeldFor, IsTried};
 
 use lane_bits::patterns::Patterns;
-use lane_nets::trials::{first_over, greatest_error};
+use lane_nets::reference::Reference;
 use net_core::items::Bits;
+use net_core::net::Net;
 use net_errors::compared::Compared;
-use semantics::limits::{MOST_INPUTS, TRIED_INPUTS};
+use semantics::limits::MOST_INPUTS;
 use semantics::metric::Metric;
 use std::alloc::{AllocError, Global};
+
+/// With at most so many inputs every vector is tried.
+pub const LANE_INPUTS: u32 = 16;
 
 /// How many vectors of a net with more inputs are tried.
 const TRIALS: u32 = 256;
@@ -37,12 +41,12 @@ fn set_trial(j: u32, x: &mut [bool]) {
     }
 }
 
-/// The vectors that are tried: with at most fifteen inputs all in counting order, with more a fixed choice.
+/// The vectors that are tried: with at most sixteen inputs all in counting order, with more a fixed choice.
 pub fn trial_vectors(alloc: Global, inputs: u32) -> Result<Patterns, AllocError>
     requires { inputs ≤ MOST_INPUTS }
     ensures { IfOk result (IsTrial inputs) }
 {
-    if inputs <= TRIED_INPUTS {
+    if inputs <= LANE_INPUTS {
         return Patterns::exhaustive(alloc, inputs);
     }
     let mut set = Patterns::new(alloc, inputs);
@@ -66,39 +70,55 @@ fn vector_at(alloc: Global, vectors: &Patterns, at: u64) -> Result<Bits, AllocEr
     Bits::from_slice(alloc, x)
 }
 
-/// The greatest error of the vectors, and the first of them that has it.
+/// The exact net's outputs at every input vector in counting order, where there are at most sixteen inputs.
+pub fn hold_every_vector<'a>(
+    alloc: Global,
+    exact: &'a Net,
+) -> Result<Option<Reference<'a>>, AllocError>
+    ensures { IfOk result (IsHeldFor exact.now) }
+{
+    let inputs = exact.inputs();
+    if inputs > LANE_INPUTS {
+        return Ok(None);
+    }
+    let vectors = Patterns::exhaustive(alloc, inputs)?;
+    Ok(Some(Reference::new(alloc, exact, vectors)?))
+}
+
+/// The greatest error of the vectors that are held, and the first of them that has it.
 pub(crate) fn greatest_of(
     alloc: Global,
     nets: &Compared,
     metric: Metric,
-    vectors: &Patterns,
+    held: &Reference,
 ) -> Result<Attained, AllocError>
-    requires inputs { vectors.now.inputs ≡ input_count nets.now.exact }
-    requires some { 0 < length vectors.now.vectors }
+    requires exact { held.now.exact ≡ nets.now.exact }
+    requires inputs { held.now.patterns.inputs ≡ input_count nets.now.exact }
+    requires some { 0 < length held.now.patterns.vectors }
     ensures greatest { IfOk result
-        (λ a. IsFirstGreatestIn (net_error metric nets.now.exact nets.now.approx) vectors.now.vectors a.error a.witness) }
+        (λ a. IsFirstGreatestIn (net_error metric nets.now.exact nets.now.approx) held.now.patterns.vectors a.error a.witness) }
     ensures width { IfOk result (λ a. length a.witness ≡ input_count nets.now.exact) }
 {
-    let found = greatest_error(alloc, nets, metric, vectors)?;
+    let found = held.greatest_error(alloc, nets.approx(), metric)?;
     Ok(Attained {
         error: found.error,
-        witness: vector_at(alloc, vectors, found.at)?,
+        witness: vector_at(alloc, held.patterns(), found.at)?,
     })
 }
 
-/// The first input vector in counting order whose error exceeds `k`, of nets with at most fifteen inputs.
+/// The first input vector in counting order whose error exceeds `k`, where every vector is held.
 pub(crate) fn try_vectors(
     alloc: Global,
     nets: &Compared,
+    held: &Reference,
     metric: Metric,
     k: u128,
 ) -> Result<Option<Bits>, AllocError>
-    requires { input_count nets.now.exact ≤ TRIED_INPUTS }
+    requires { held.now ≡ every_vector nets.now.exact }
     ensures { IfOk result (IsTried metric nets.now.exact nets.now.approx k) }
 {
-    let vectors = trial_vectors(alloc, nets.exact().inputs())?;
-    match first_over(alloc, nets, metric, k, &vectors)? {
-        Some(at) => Ok(Some(vector_at(alloc, &vectors, at)?)),
+    match held.first_over(alloc, nets.approx(), metric, k)? {
+        Some(at) => Ok(Some(vector_at(alloc, held.patterns(), at)?)),
         None => Ok(None),
     }
 }

@@ -1,26 +1,33 @@
-use Rattle.std.proofs.Common.{length, subst, ap, sym, ◌∙◌, arith}
-use Rattle.semantics.specs.Net.{NetValue}
-use Rattle.lane_nets.specs.Blocks.{IsRowWhere, AreBlocksOf, AreOutputsOf}
-use Rattle.lane_nets.specs.Errors.{IsOver}
-use Rattle.lane_nets.proofs.FirstOver.{output-widths, finds_first, room_for}
+use Rattle.std.proofs.Common.{◌≡◌, ◌-◌, ◌*◌, ℕ, min, [], ap, subst, ◌∙◌}
+use Rattle.std.proofs.lemmas.List.{get_or_default}
+use Rattle.semantics.specs.Net.{NetValue, IsSound}
+use Rattle.lane_nets.specs.Blocks.{row_at, IsBlock}
+use Rattle.lane_nets.specs.Lanes.{lane_at}
+use Rattle.lane_nets.proofs.BlockErrors.{first_in_block, none_in_block}
 use Rattle.lane_nets.proofs.trials.first_over.Goals as goal
 
-pub exceeding_row-requires-clause-widths : goal.exceeding_row-requires-clause-widths
-exceeding_row-requires-clause-widths c =
-    let right = subst (λ (N : NetValue). AreOutputsOf N c.args.patterns.now.vectors c.in_ok-all_outputs.field-0) c.exact.ensures.value c.in_ok-all_outputs.ensures in
-    rw c.approx-approx.ensures.value (output-widths c.args.nets.now.exact c.args.nets.now.approx c.args.patterns.now.vectors c.in_ok-all_outputs.field-0 c.exact.ensures.candidate.ports right)
+pub returns-in-Some : goal.returns-in-Some
+returns-in-Some c =
+    let nets = c.args.nets.now in
+    let k = c.loop-k.k in
+    let exact : c.as_slice.result.now ≡ row_at c.args.outputs.now k =
+    c.as_slice.ensures ∙ c.index-outputs-k.is ∙ get_or_default c.args.outputs.now k c.index-outputs-k.result [] c.loop-k-test.true in
+    first_in_block c.args.metric nets.exact nets.approx c.args.patterns.now.vectors k c.as_slice.result.now c.set_block.new.words
+    (subst IsSound c.approx.ensures.value c.set_block.ensures.built.sound)
+    (subst (λ (N : NetValue). IsBlock N c.args.patterns.now.vectors k c.set_block.new.words) c.approx.ensures.value c.set_block.ensures.block)
+    (λ b low. ap (λ l. lane_at l b) exact ∙ c.requires.outputs.are k b c.loop-k-test.true low)
+    c.args.level c.block_over-over.result c.min.result (c.min.ensures ∙ ap (λ (n : ℕ). min (n - 64 * k) 64) c.count-count.ensures.value) c.block_over-over.ensures c.loop-k.invariant c.in-Some.b
+    c.in-Some.ensures
 
-pub first_set-requires : goal.first_set-requires
-first_set-requires c =
-    let row = c.in_ok-row.ensures c.exact.result.now c.args.patterns.now.vectors c.in_ok-all_outputs.ensures
-    (subst (AreBlocksOf c.approx-approx.result.now c.args.patterns.now.vectors) (sym c.as_slice.ensures) c.in_ok-blocks.ensures) in
-    omega (arith, room_for _ _ (ap length c.as_slice-2.ensures ∙ row.words), c.count.ensures.value)
-
-pub returns : goal.returns
-returns c =
-    let row = c.in_ok-row.ensures c.exact.result.now c.args.patterns.now.vectors c.in_ok-all_outputs.ensures
-    (subst (AreBlocksOf c.approx-approx.result.now c.args.patterns.now.vectors) (sym c.as_slice.ensures) c.in_ok-blocks.ensures) in
-    let over : IsRowWhere c.args.patterns.now.vectors (IsOver c.args.metric c.args.nets.now.exact c.args.nets.now.approx c.args.level) c.as_slice-2.result.now =
-    rw (← c.exact.ensures.value, ← c.approx-approx.ensures.value, c.as_slice-2.ensures) row in
-    finds_first c.args.metric c.args.nets.now.exact c.args.nets.now.approx c.args.level c.args.patterns.now.vectors c.as_slice-2.result.now c.count.result c.first_set.result over
-    c.count.ensures.value c.first_set.ensures
+pub loop-k-preserved : goal.loop-k-preserved
+loop-k-preserved c =
+    let nets = c.args.nets.now in
+    let k = c.loop-k.k in
+    let exact : c.as_slice.result.now ≡ row_at c.args.outputs.now k =
+    c.as_slice.ensures ∙ c.index-outputs-k.is ∙ get_or_default c.args.outputs.now k c.index-outputs-k.result [] c.loop-k-test.true in
+    none_in_block c.args.metric nets.exact nets.approx c.args.patterns.now.vectors k c.as_slice.result.now c.set_block.new.words
+    (subst IsSound c.approx.ensures.value c.set_block.ensures.built.sound)
+    (subst (λ (N : NetValue). IsBlock N c.args.patterns.now.vectors k c.set_block.new.words) c.approx.ensures.value c.set_block.ensures.block)
+    (λ b low. ap (λ l. lane_at l b) exact ∙ c.requires.outputs.are k b c.loop-k-test.true low)
+    c.args.level c.block_over-over.result c.min.result (c.min.ensures ∙ ap (λ (n : ℕ). min (n - 64 * k) 64) c.count-count.ensures.value) c.block_over-over.ensures c.loop-k.invariant
+    c.in_default.ensures

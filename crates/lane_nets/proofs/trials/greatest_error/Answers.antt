@@ -1,27 +1,26 @@
-use Rattle.std.proofs.Common.{subst, sym}
-use Rattle.semantics.specs.Net.{NetValue}
-use Rattle.lane_nets.specs.Blocks.{AreOutputsOf}
-use Rattle.lane_nets.proofs.FirstOver.{few_bits, same_widths, first_greatest}
+use Rattle.std.proofs.Common.{◌≡◌, ◌-◌, ◌*◌, ℕ, min, [], length, ap, sym, subst, ◌∙◌, arith}
+use Rattle.std.proofs.lemmas.List.{get_or_default}
+use Rattle.semantics.specs.Net.{NetValue, IsSound}
+use Rattle.semantics.specs.Error.{net_error}
+use Rattle.lane_nets.specs.Blocks.{vector_at, row_at, IsBlock}
+use Rattle.lane_nets.specs.Lanes.{lane_at}
+use Rattle.lane_nets.proofs.BlockErrors.{error_in_block, block_all}
 use Rattle.lane_nets.proofs.trials.greatest_error.Goals as goal
 
-pub greatest_of-requires-clause-few_outputs : goal.greatest_of-requires-clause-few_outputs
-greatest_of-requires-clause-few_outputs c =
-    let right = subst (λ (N : NetValue). AreOutputsOf N c.args.patterns.now.vectors c.in_ok-exact.exact) c.exact.ensures.value c.in_ok-exact.ensures in
-    few_bits c.args.nets.now.exact c.args.patterns.now.vectors c.as_slice.result.now _ c.exact.ensures.candidate.few_outputs
-    (subst (AreOutputsOf c.args.nets.now.exact c.args.patterns.now.vectors) (sym c.as_slice.ensures) right)
-
-pub greatest_of-requires-clause-widths : goal.greatest_of-requires-clause-widths
-greatest_of-requires-clause-widths c =
-    let right = subst (λ (N : NetValue). AreOutputsOf N c.args.patterns.now.vectors c.in_ok-exact.exact) c.exact.ensures.value c.in_ok-exact.ensures in
-    let outputs = subst (λ (N : NetValue). AreOutputsOf N c.args.patterns.now.vectors c.in_ok-approx.approx) c.approx.ensures.value c.in_ok-approx.ensures in
-    same_widths c.args.nets.now.exact c.args.nets.now.approx c.args.patterns.now.vectors c.as_slice.result.now c.as_slice-2.result.now c.exact.ensures.candidate.ports
-    (subst (AreOutputsOf c.args.nets.now.exact c.args.patterns.now.vectors) (sym c.as_slice.ensures) right)
-    (subst (AreOutputsOf c.args.nets.now.approx c.args.patterns.now.vectors) (sym c.as_slice-2.ensures) outputs)
-
-pub returns : goal.returns
-returns c =
-    let right = subst (λ (N : NetValue). AreOutputsOf N c.args.patterns.now.vectors c.in_ok-exact.exact) c.exact.ensures.value c.in_ok-exact.ensures in
-    let outputs = subst (λ (N : NetValue). AreOutputsOf N c.args.patterns.now.vectors c.in_ok-approx.approx) c.approx.ensures.value c.in_ok-approx.ensures in
-    first_greatest c.args.metric c.args.nets.now.exact c.args.nets.now.approx c.args.patterns.now.vectors c.as_slice.result.now c.as_slice-2.result.now _ _
-    (subst (AreOutputsOf c.args.nets.now.exact c.args.patterns.now.vectors) (sym c.as_slice.ensures) right)
-    (subst (AreOutputsOf c.args.nets.now.approx c.args.patterns.now.vectors) (sym c.as_slice-2.ensures) outputs) c.greatest_of.ensures
+pub loop-k-preserved : goal.loop-k-preserved
+loop-k-preserved c =
+    let nets = c.args.nets.now in
+    let k = c.loop-k.k in
+    let f : ℕ → ℕ = λ q. net_error c.args.metric c.args.nets.now.exact c.args.nets.now.approx (vector_at c.args.patterns.now.vectors q) in
+    let exact : c.as_slice.result.now ≡ row_at c.args.outputs.now k =
+    c.as_slice.ensures ∙ c.index-outputs-k.is ∙ get_or_default c.args.outputs.now k c.index-outputs-k.result [] c.loop-k-test.true in
+    block_all f k (length c.args.patterns.now.vectors) c.min-used.result c.loop-k.greatest.at c.loop-k.greatest.error c.greatest_in_block-greatest.result.at
+    c.greatest_in_block-greatest.result.error (omega (arith, c.loop-k-test.true, c.requires.outputs.count))
+    (c.min-used.ensures ∙ ap (λ (n : ℕ). min (n - 64 * c.loop-k.k) 64) c.count-count.ensures.value)
+    (c.greatest_in_block-greatest.ensures f
+    (λ b low. sym
+    (error_in_block c.args.metric nets.exact nets.approx c.args.patterns.now.vectors k c.as_slice.result.now c.set_block.new.words
+    (subst IsSound c.approx.ensures.value c.set_block.ensures.built.sound)
+    (subst (λ (N : NetValue). IsBlock N c.args.patterns.now.vectors c.loop-k.k c.set_block.new.words) c.approx.ensures.value c.set_block.ensures.block)
+    (λ b low. ap (λ l. lane_at l b) exact ∙ c.requires.outputs.are k b c.loop-k-test.true low) b low)))
+    c.loop-k.invariant

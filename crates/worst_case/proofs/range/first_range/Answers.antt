@@ -3,18 +3,18 @@ use Rattle.semantics.specs.Net.{input_count}
 use Rattle.worst_case.specs.VectorsTried.{IsTrial}
 use Rattle.worst_case.proofs.Ranges.{smaller, IsRange-first}
 use Rattle.worst_case.proofs.range.first_range.Goals as goal
-use Rattle.worst_case.proofs.range.first_range.Goals.{then-inputs-le-TRIED_INPUTS, else-inputs-le-TRIED_INPUTS}
+use Rattle.worst_case.proofs.range.first_range.Goals.{then-inputs-le-LANE_INPUTS, else-inputs-le-LANE_INPUTS}
 
 pub returns : goal.returns
 returns c =
     let nets = c.args.nets.now in
     let count = c.inputs-2.ensures.value ∙ ap input_count c.exact-2.ensures.value in
-    IsRange-first c.args.metric nets.exact nets.approx c.args.bound c.if-inputs-le-TRIED_INPUTS.high c.in_ok-best.best.error c.in_ok-best.best.witness
+    IsRange-first c.args.metric nets.exact nets.approx c.args.bound c.if-inputs-le-LANE_INPUTS.high c.in_ok-best.best.error c.in_ok-best.best.witness
     c.in_ok-vectors.vectors c.exact.ensures.candidate c.requires.within
     (subst (λ n. IsTrial n c.in_ok-vectors.vectors) (c.inputs.ensures.value ∙ ap input_count c.exact.ensures.value) c.in_ok-vectors.ensures)
     c.in_ok-best.ensures.greatest c.in_ok-best.ensures.width
-    (elim c.if-inputs-le-TRIED_INPUTS.branch [
-      | then-inputs-le-TRIED_INPUTS w ↦ inl (omega (arith, w.if-inputs-le-TRIED_INPUTS.true, count), w.high-is)
-      | else-inputs-le-TRIED_INPUTS w ↦ let low = smaller c.args.bound c.if-inputs-le-TRIED_INPUTS.high (w.high-is ∙ w.min-high.ensures) in
-          inr (omega (arith, w.if-inputs-le-TRIED_INPUTS.false, count), low.0, low.1, low.2)
+    (elim c.if-inputs-le-LANE_INPUTS.branch [
+      | then-inputs-le-LANE_INPUTS w ↦ inl (omega (arith, w.if-inputs-le-LANE_INPUTS.true, count), w.high-is)
+      | else-inputs-le-LANE_INPUTS w ↦ let low = smaller c.args.bound c.if-inputs-le-LANE_INPUTS.high (w.high-is ∙ w.min-high.ensures) in
+          inr (omega (arith, w.if-inputs-le-LANE_INPUTS.false, count), low.0, low.1, low.2)
     ])

@@ -4,8 +4,8 @@ use Rattle.std.proofs.lemmas.Result.{IfOk-weaker}
 use Rattle.semantics.proofs.Vectors.{length-all_vectors}
 use Rattle.worst_case.proofs.vectors_tried.trial_vectors.Goals as goal
 
-pub returns-then-inputs-le-TRIED_INPUTS : goal.returns-then-inputs-le-TRIED_INPUTS
-returns-then-inputs-le-TRIED_INPUTS c =
+pub returns-then-inputs-le-LANE_INPUTS : goal.returns-then-inputs-le-LANE_INPUTS
+returns-then-inputs-le-LANE_INPUTS c =
     IfOk-weaker c.exhaustive.result _ _
     (λ s is. record {
       inputs_are = ap (λ t. t.inputs) is;

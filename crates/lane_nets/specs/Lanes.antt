@@ -1,0 +1,36 @@
+-- Lists of bits at 64 patterns at a time: one word for each bit of the list, one lane for each pattern. Source: bit-parallel simulation.
+use Rattle.std.specs.Prelude.{◌≡◌, ◌↔◌, ℕ, ◌+◌, ◌*◌, ◌<◌, Bool, List, map, length, slice_index}
+use Rattle.semantics.specs.Net.{NetValue}
+use Rattle.semantics.specs.Value.{outputs_of}
+use Rattle.semantics.specs.Error.{bit_number}
+use Rattle.lane_bits.specs.Rows.{word_count}
+use Rattle.lane_bits.specs.Patterns.{PatternSet}
+use Rattle.lane_nets.specs.Words.{word_bit}
+use Rattle.lane_nets.specs.Blocks.{vector_at, row_at}
+
+-- the bits of one pattern
+abbrev pub lane_at : List ℕ → ℕ → List Bool
+lane_at words b = map (λ word. word_bit word b) words
+
+abbrev pub lane_number : ℕ → ℕ → ℕ
+lane_number word b = bit_number (word_bit word b)
+
+-- the words of the outputs, out of those of all signals
+abbrev pub output_words : NetValue → List ℕ → List ℕ
+output_words N words = map (slice_index words) N.outputs
+
+-- the words in which the comparison of two numbers goes on: their lowest bits are taken off, with what is carried and how they compare
+abbrev pub GoesOn : (low high one : ℕ) → (carry above new_carry new_above : ℕ) → Type 0
+GoesOn low high one carry above new_carry new_above =
+    (x y : ℕ) → (low + 2 * x + one + carry < high + 2 * y + above) ↔ (x + new_carry < y + new_above)
+
+-- the net's outputs at each pattern, in blocks of 64
+pub record AreOutputWordsOf (N : NetValue) (vectors : List (List Bool)) (blocks : List (List ℕ)) : Type 0 where
+  pub count : length blocks ≡ word_count (length vectors)
+  pub widths : (k : ℕ) → k < length blocks → length (row_at blocks k) ≡ length N.outputs
+  pub are : (k b : ℕ) → k < length blocks → b < 64 → lane_at (row_at blocks k) b ≡ outputs_of N (vector_at vectors (64 * k + b))
+
+-- an exact net and a set of patterns
+pub record ReferenceValue : Type 0 where
+  pub exact : NetValue
+  pub patterns : PatternSet

@@ -1,0 +1,157 @@
+//! Errors at 64 patterns at a time: outputs are a word each, the first for bit 0 of a number, and lane b has the outputs at pattern b.
+ghost use Rattle.std.specs.Prelude.{◌≡◌, ◌↔◌, ◌+◌, ◌<◌, ◌≤◌, ℕ, false, length, IsTrue};
+ghost use Rattle.semantics.specs.Error.{bit_number, number_of, sign_flipped, distance, error_of};
+ghost use Rattle.semantics.specs.declared.metric.Metric.TheVariants.{Sabs};
+ghost use Rattle.lane_nets.specs.Words.{word_bit};
+ghost use Rattle.lane_nets.specs.Lanes.{lane_at, lane_number, GoesOn};
+
+use crate::outputs::word_bit;
+use net_errors::error::error;
+use semantics::limits::MOST_OUTPUTS;
+use semantics::metric::Metric;
+
+/// How the bits so far compare: what their sum carries, and where the higher number is above it.
+#[derive(Clone, Copy)]
+struct Comparison {
+    carry: u64,
+    above: u64,
+}
+
+/// The comparison after one more bit of both numbers and of the constant that is added to the lower.
+fn compare_bit(low: u64, high: u64, one: bool, so_far: Comparison) -> Comparison
+    ensures { (b : ℕ) → b < 64 → GoesOn (lane_number low b) (lane_number high b) (bit_number one)
+        (lane_number so_far.carry b) (lane_number so_far.above b) (lane_number result.carry b) (lane_number result.above b) }
+{
+    let constant = if one { u64::MAX } else { 0 };
+    let half = low ^ constant;
+    let sum = half ^ so_far.carry;
+    Comparison {
+        carry: (low & constant) | (half & so_far.carry),
+        above: (high & !sum) | (so_far.above & !(high ^ sum)),
+    }
+}
+
+/// Where the lower number and `level` are together less than the higher.
+fn above_word(low: &[u64], high: &[u64], level: u128) -> u64
+    requires { length low.now ≡ length high.now }
+    ensures { (b : ℕ) → b < 64
+        → IsTrue (word_bit result b) ↔ (number_of (lane_at low.now b) + level < number_of (lane_at high.now b)) }
+{
+    let mut rest = level;
+    let mut so_far = Comparison { carry: 0, above: 0 };
+    for (i, bit) in low.iter().enumerate() {
+        so_far = compare_bit(*bit, high[i], rest % 2 == 1, so_far);
+        rest /= 2;
+    }
+    if rest == 0 {
+        so_far.above & !so_far.carry
+    } else {
+        0
+    }
+}
+
+/// Where the numbers are further apart than the level.
+fn apart_word(exact: &[u64], approx: &[u64], level: u128) -> u64
+    requires { length exact.now ≡ length approx.now }
+    ensures { (b : ℕ) → b < 64 → IsTrue (word_bit result b)
+        ↔ (level < distance (number_of (lane_at exact.now b)) (number_of (lane_at approx.now b))) }
+{
+    above_word(exact, approx, level) | above_word(approx, exact, level)
+}
+
+/// Sets `turned` to the words with the last one, that of the signs, turned over.
+fn set_turned(words: &[u64], turned: &mut [u64])
+    requires { length words.now ≡ length turned.old }
+    ensures { (b : ℕ) → b < 64 → lane_at turned.new b ≡ sign_flipped (lane_at words.now b) }
+{
+    turned.copy_from_slice(words);
+    if let Some(last) = turned.last_mut() {
+        *last = !*last;
+    }
+}
+
+/// Where the signed numbers are further apart than the level.
+fn signed_apart_word(exact: &[u64], approx: &[u64], level: u128) -> u64
+    requires same { length exact.now ≡ length approx.now }
+    requires few { length exact.now ≤ MOST_OUTPUTS }
+    ensures { (b : ℕ) → b < 64 → IsTrue (word_bit result b)
+        ↔ (level < error_of Sabs (lane_at exact.now b) (lane_at approx.now b)) }
+{
+    let mut exact_room = [0; MOST_OUTPUTS];
+    let mut approx_room = [0; MOST_OUTPUTS];
+    let right = &mut exact_room[..exact.len()];
+    let outputs = &mut approx_room[..exact.len()];
+    set_turned(exact, right);
+    set_turned(approx, outputs);
+    apart_word(right, outputs, level)
+}
+
+/// Where some outputs differ: elsewhere all are the same.
+fn unequal_word(exact: &[u64], approx: &[u64]) -> u64
+    requires { length exact.now ≡ length approx.now }
+    ensures { (b : ℕ) → b < 64 → word_bit result b ≡ false → lane_at exact.now b ≡ lane_at approx.now b }
+{
+    let mut unequal = 0;
+    for (i, word) in exact.iter().enumerate() {
+        unequal |= *word ^ approx[i];
+    }
+    unequal
+}
+
+/// Sets `bits` to the outputs at pattern b.
+fn set_lane(words: &[u64], b: u32, bits: &mut [bool])
+    requires pattern { b < 64 }
+    requires room { length bits.old ≡ length words.now }
+    ensures { bits.new ≡ lane_at words.now b }
+{
+    for (i, word) in words.iter().enumerate() {
+        bits[i] = word_bit(*word, b);
+    }
+}
+
+/// The error at pattern b.
+pub(crate) fn lane_error(metric: Metric, exact: &[u64], approx: &[u64], b: u32) -> u128
+    requires pattern { b < 64 }
+    requires same { length exact.now ≡ length approx.now }
+    requires few { length exact.now ≤ MOST_OUTPUTS }
+    ensures { result ≡ error_of metric (lane_at exact.now b) (lane_at approx.now b) }
+{
+    let mut exact_room = [false; MOST_OUTPUTS];
+    let mut approx_room = [false; MOST_OUTPUTS];
+    let right = &mut exact_room[..exact.len()];
+    let outputs = &mut approx_room[..exact.len()];
+    set_lane(exact, b, right);
+    set_lane(approx, b, outputs);
+    error(metric, right, outputs)
+}
+
+/// Where the error exceeds the level, found at one pattern after the other where outputs differ.
+fn single_errors(metric: Metric, level: u128, exact: &[u64], approx: &[u64]) -> u64
+    requires same { length exact.now ≡ length approx.now }
+    requires few { length exact.now ≤ MOST_OUTPUTS }
+    ensures { (b : ℕ) → b < 64
+        → IsTrue (word_bit result b) ↔ (level < error_of metric (lane_at exact.now b) (lane_at approx.now b)) }
+{
+    let unequal = unequal_word(exact, approx);
+    let mut over = 0;
+    for b in 0..64 {
+        if word_bit(unequal, b) && lane_error(metric, exact, approx, b) > level {
+            over |= 1 << b;
+        }
+    }
+    over
+}
+
+/// Where the error exceeds the level.
+pub fn over_word(metric: Metric, level: u128, exact: &[u64], approx: &[u64]) -> u64
+    requires same { length exact.now ≡ length approx.now }
+    requires few { length exact.now ≤ MOST_OUTPUTS }
+    ensures { (b : ℕ) → b < 64
+        → IsTrue (word_bit result b) ↔ (level < error_of metric (lane_at exact.now b) (lane_at approx.now b)) }
+{
+    match metric {
+        Metric::Abs => apart_word(exact, approx, level),
+        Metric::Sabs => signed_apart_word(exact, approx, level),
+        Metric::Rel | Metric::Ham => single_errors(metric, level, exact, approx),
+    }
+}

@@ -1,0 +1,107 @@
+//! The right outputs at a set of patterns, made once and held for many approximate nets.
+ghost use Rattle.std.specs.Prelude.{◌≡◌, ◌<◌, length, IfOk};
+ghost use Rattle.semantics.specs.Net.{input_count};
+ghost use Rattle.semantics.specs.Error.{IsCandidate};
+ghost use Rattle.lane_nets.specs.Errors.{FindsFirstOver, IsFirstGreatest};
+
+use crate::outputs::output_rows;
+use crate::trials::{Greatest, first_over, greatest_error};
+use crate::word_list::WordList;
+use lane_bits::patterns::Patterns;
+use net_core::items::Items;
+use net_core::net::Net;
+use net_errors::compared::Compared;
+use semantics::metric::Metric;
+use std::alloc::{AllocError, Global};
+use std::marker::Model;
+
+/// An exact net, a set of patterns, and the words of the net's outputs at them, in blocks of 64.
+#[derive(Drop)]
+pub struct Reference<'a> {
+    exact: &'a Net,
+    patterns: Patterns,
+    outputs: Items<WordList>,
+}
+
+impl<'a> Model for Reference<'a> {
+    ghost use Rattle.std.specs.Prelude.{◌≡◌};
+    ghost use Rattle.semantics.specs.Net.{input_count};
+    ghost use Rattle.lane_nets.specs.Lanes.{ReferenceValue, AreOutputWordsOf};
+
+    ghost Value = { ReferenceValue };
+
+    ghost view = { λ r. record { exact = r.exact.now; patterns = r.patterns } };
+
+    ghost invariant = { λ r. (r.patterns.inputs ≡ input_count r.exact.now) × AreOutputWordsOf r.exact.now r.patterns.vectors r.outputs };
+}
+
+impl<'a> Reference<'a> {
+    /// The net's outputs at these patterns.
+    pub fn new(
+        alloc: Global,
+        exact: &'a Net,
+        patterns: Patterns,
+    ) -> Result<Reference<'a>, AllocError>
+        requires { patterns.inputs ≡ input_count exact.now }
+        ensures { IfOk result (λ r. r ≡ record { exact = exact.now; patterns = patterns }) }
+    {
+        let outputs = output_rows(alloc, exact, &patterns)?;
+        Ok(Reference {
+            exact,
+            patterns,
+            outputs,
+        })
+    }
+
+    /// The patterns.
+    pub fn patterns(&self) -> &Patterns
+        ensures { result.now ≡ self.now.patterns }
+    {
+        &self.patterns
+    }
+
+    /// The first pattern at which the error of a net exceeds the level. It takes memory for one block of the net's values.
+    pub fn first_over(
+        &self,
+        alloc: Global,
+        approx: &Net,
+        metric: Metric,
+        level: u128,
+    ) -> Result<Option<u64>, AllocError>
+        requires { IsCandidate self.now.exact approx.now }
+        ensures { IfOk result (FindsFirstOver metric self.now.exact approx.now level self.now.patterns.vectors) }
+    {
+        let mut words = vec![in alloc; 0; approx.signals() as usize]?;
+        Ok(first_over(
+            &Compared::new(self.exact, approx),
+            metric,
+            level,
+            &self.patterns,
+            self.outputs.as_slice(),
+            &mut words,
+        ))
+    }
+
+    /// The greatest error of a net at the patterns, and the first of them that has it. It takes memory for one block of the net's
+    /// values.
+    pub fn greatest_error(
+        &self,
+        alloc: Global,
+        approx: &Net,
+        metric: Metric,
+    ) -> Result<Greatest, AllocError>
+        requires candidate { IsCandidate self.now.exact approx.now }
+        requires some { 0 < length self.now.patterns.vectors }
+        ensures { IfOk result
+            (λ g. IsFirstGreatest metric self.now.exact approx.now self.now.patterns.vectors g.error g.at) }
+    {
+        let mut words = vec![in alloc; 0; approx.signals() as usize]?;
+        Ok(greatest_error(
+            &Compared::new(self.exact, approx),
+            metric,
+            &self.patterns,
+            self.outputs.as_slice(),
+            &mut words,
+        ))
+    }
+}
