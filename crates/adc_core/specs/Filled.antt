@@ -24,3 +24,8 @@ pub record AreFilled (N : NetValue) (count : ℕ) (held rows : List (List ℕ)) 
   pub care : (t : ℕ) → t < table_count N → IsRowFor count (row_at rows t)
   pub exceeds : IsRowFor count last
   pub differs : length room ≡ word_count count
+
+-- words of outputs for so many patterns: in each block as many as the net has outputs
+pub record FitsOutputs (N : NetValue) (count : ℕ) (outputs : List (List ℕ)) : Type 0 where
+  pub blocks : length outputs ≡ word_count count
+  pub widths : (k : ℕ) → k < length outputs → length (row_at outputs k) ≡ length N.outputs

@@ -9,14 +9,13 @@ ghost use Rattle.adc_core.specs.Masks.{AreMasksOf, FindsFirstBroken};
 ghost use Rattle.adc_core.specs.Filled.{vectors_in, AreFilled};
 ghost use Rattle.adc_core.specs.Lending.{StayTheSame};
 
-use crate::care::care_rows;
+use crate::care::{Limit, care_rows, exceeding_row};
 use crate::differences::{first_broken, set_differences};
 use chain_semantics::moves::Move;
 use lane_bits::kernels::word_count;
 use lane_bits::patterns::Patterns;
 use lane_nets::blocks::blocks;
-use lane_nets::errors::{Limit, exceeding_row};
-use lane_nets::outputs::all_outputs;
+use lane_nets::outputs::output_rows;
 use lane_nets::word_list::WordList;
 use net_core::items::Items;
 use net_core::net::Net;
@@ -95,7 +94,8 @@ impl Adc {
         ensures masks { IfOk result (AreMasksOf metric exact.now bound) }
     {
         let limit = Limit {
-            outputs: all_outputs(alloc, exact, patterns)?,
+            outputs: output_rows(alloc, exact, patterns)?,
+            count: patterns.count(),
             metric,
             level: bound,
         };

@@ -1,55 +1,126 @@
-//! Rows of bits that tell which patterns are cared for: at which the error exceeds the bound with a table turned over.
-ghost use Rattle.std.specs.Prelude.{◌≡◌, ◌<◌, ◌≤◌, ℕ, Bool, List, length, All, IfOk};
-ghost use Rattle.semantics.specs.Net.{NetValue, signal_count, table_count};
-ghost use Rattle.chain_semantics.specs.Care.{IsCaredFor};
-ghost use Rattle.lane_bits.specs.Rows.{word_count};
+//! Rows of bits that tell where the error exceeds the bound: with the net as it is, and with a table turned over.
+ghost use Rattle.std.specs.Prelude.{◌≡◌, ◌↔◌, ◌+◌, ◌*◌, ◌<◌, ◌≤◌, ℕ, Bool, false, List, map, length, slice_index_or, IsTrue, IfOk};
+ghost use Rattle.semantics.specs.Net.{NetValue, input_count, signal_count, table_count};
+ghost use Rattle.semantics.specs.Error.{error_of};
+ghost use Rattle.semantics.specs.Dependence.{DependsOn};
+ghost use Rattle.chain_semantics.specs.Care.{IsCaredFor, Exceeds};
 ghost use Rattle.net_core.specs.Built.{IsBuilt};
-ghost use Rattle.lane_nets.specs.Blocks.{row_at, IsRowWhere, AreBlocksOf, AreOutputsOf};
+ghost use Rattle.lane_nets.specs.Words.{word_bit, values_at};
+ghost use Rattle.lane_nets.specs.Blocks.{row_at, IsRowWhere, AreBlocksOf};
+ghost use Rattle.lane_nets.specs.Lanes.{lane_at, AreOutputWordsOf};
+ghost use Rattle.adc_core.specs.Filled.{FitsOutputs};
 
+use crate::differences::used_word;
 use crate::flips::flip_words;
-use lane_nets::errors::{Limit, chunk, exceeding_word};
+use lane_nets::lanes::over_word;
+use lane_nets::outputs::set_output_words;
 use lane_nets::word_list::WordList;
 use net_core::items::Items;
 use net_core::net::Net;
 use semantics::limits::MOST_OUTPUTS;
+use semantics::metric::Metric;
 use std::alloc::{AllocError, Global};
 
-/// The row of the patterns that are cared for at table `t`.
-fn care_row(
+/// The words of the exact outputs in blocks of 64 patterns, the number of the patterns, and how far other outputs may err.
+#[derive(Drop)]
+pub(crate) struct Limit {
+    pub(crate) outputs: Items<WordList>,
+    pub(crate) count: u64,
+    pub(crate) metric: Metric,
+    pub(crate) level: u128,
+}
+
+/// Where the error exceeds the level at the patterns of block k, in which the signals have these words. The words of the outputs are
+/// gathered on the stack.
+fn exceeding_word(net: &Net, words: &[u64], limit: &Limit, k: usize) -> u64
+    requires words { length words.now ≡ signal_count net.now }
+    requires few_outputs { length net.now.outputs ≤ MOST_OUTPUTS }
+    requires limit { FitsOutputs net.now limit.now.count limit.now.outputs }
+    requires within { k < length limit.now.outputs }
+    ensures word { (b : ℕ) → b < 64 → IsTrue (word_bit result b) ↔ ((64 * k + b < limit.now.count)
+        × (limit.now.level < error_of limit.now.metric (lane_at (row_at limit.now.outputs k) b) (map (values_at words.now b) net.now.outputs))) }
+    ensures built { IsBuilt net.now }
+{
+    let mut room = [0; MOST_OUTPUTS];
+    let outputs = &mut room[..net.outputs() as usize];
+    set_output_words(net, words, outputs);
+    let exact = limit.outputs.get(k).as_slice();
+    over_word(limit.metric, limit.level, exact, outputs) & used_word(limit.count, k)
+}
+
+/// Sets `row` to the patterns at which the net itself exceeds the level.
+fn set_exceeding_row(net: &Net, blocks: &[WordList], limit: &Limit, row: &mut [u64])
+    requires few_outputs { length net.now.outputs ≤ MOST_OUTPUTS }
+    requires limit { FitsOutputs net.now limit.now.count limit.now.outputs }
+    requires same { length blocks.now ≡ length limit.now.outputs }
+    requires blocks { (k : ℕ) → k < length blocks.now → length (row_at blocks.now k) ≡ signal_count net.now }
+    requires row { length row.old ≡ length blocks.now }
+    ensures { (exact : NetValue) (vectors : List (List Bool))
+        → length vectors ≡ limit.now.count → AreOutputWordsOf exact vectors limit.now.outputs → AreBlocksOf net.now vectors blocks.now
+        → IsRowWhere vectors (Exceeds limit.now.metric exact limit.now.level net.now) row.new }
+{
+    // A net is sound by its type: the call brings that fact here.
+    let _ = net.tables();
+    for k in 0..blocks.len() {
+        row[k] = exceeding_word(net, blocks[k].as_slice(), limit, k);
+    }
+}
+
+/// The row of the patterns at which the net itself exceeds the level.
+pub(crate) fn exceeding_row(
     alloc: Global,
     net: &Net,
-    t: u32,
     blocks: &[WordList],
     limit: &Limit,
 ) -> Result<WordList, AllocError>
-    requires table { t < table_count net.now }
     requires few_outputs { length net.now.outputs ≤ MOST_OUTPUTS }
-    requires widths { All (λ e. length e ≡ length net.now.outputs) limit.now.outputs }
-    requires count { length blocks.now ≡ word_count (length limit.now.outputs) }
+    requires limit { FitsOutputs net.now limit.now.count limit.now.outputs }
+    requires same { length blocks.now ≡ length limit.now.outputs }
     requires blocks { (k : ℕ) → k < length blocks.now → length (row_at blocks.now k) ≡ signal_count net.now }
     ensures { IfOk result (λ row. (exact : NetValue) (vectors : List (List Bool))
-        → AreOutputsOf exact vectors limit.now.outputs → AreBlocksOf net.now vectors blocks.now
-        → IsRowWhere vectors (IsCaredFor limit.now.metric exact limit.now.level net.now t) row) }
+        → length vectors ≡ limit.now.count → AreOutputWordsOf exact vectors limit.now.outputs → AreBlocksOf net.now vectors blocks.now
+        → IsRowWhere vectors (Exceeds limit.now.metric exact limit.now.level net.now) row) }
 {
-    let mut outputs = vec![in alloc; false; net.outputs() as usize]?;
-    let bits = outputs.as_mut_slice();
-    let mut dependents = vec![in alloc; false; net.signals() as usize]?;
-    let marks = dependents.as_mut_slice();
-    net.mark_dependents(t, marks);
-    let mut values = vec![in alloc; 0; net.signals() as usize]?;
-    let words = values.as_mut_slice();
-    let mut row = Vec::new(alloc);
-    for (k, block) in blocks.iter().enumerate() {
-        words.copy_from_slice(block.as_slice());
-        flip_words(net, t, marks, words);
-        let exact = chunk(limit.outputs.as_slice(), k);
-        let word = exceeding_word(net, words, exact, limit.metric, limit.level, bits);
-        row.push(word)?;
-    }
+    let mut row = vec![in alloc; 0; blocks.len()]?;
+    set_exceeding_row(net, blocks, limit, &mut row);
     Ok(WordList::of(row))
 }
 
-/// For each table the row of the patterns that are cared for.
+/// Sets `row` to the patterns that are cared for at table `t`, whose dependents are marked. Each block's values with the table turned
+/// over are found in `words`.
+fn set_care_row(
+    net: &Net,
+    t: u32,
+    marks: &[bool],
+    blocks: &[WordList],
+    limit: &Limit,
+    words: &mut [u64],
+    row: &mut [u64],
+)
+    requires table { t < table_count net.now }
+    requires marks_room { length marks.now ≡ signal_count net.now }
+    requires marks { (s : ℕ) → s < signal_count net.now → IsTrue (slice_index_or marks.now s false)
+        ↔ DependsOn (input_count net.now) net.now.tables t s }
+    requires few_outputs { length net.now.outputs ≤ MOST_OUTPUTS }
+    requires limit { FitsOutputs net.now limit.now.count limit.now.outputs }
+    requires same { length blocks.now ≡ length limit.now.outputs }
+    requires blocks { (k : ℕ) → k < length blocks.now → length (row_at blocks.now k) ≡ signal_count net.now }
+    requires words { length words.old ≡ signal_count net.now }
+    requires row { length row.old ≡ length blocks.now }
+    ensures { (exact : NetValue) (vectors : List (List Bool))
+        → length vectors ≡ limit.now.count → AreOutputWordsOf exact vectors limit.now.outputs → AreBlocksOf net.now vectors blocks.now
+        → IsRowWhere vectors (IsCaredFor limit.now.metric exact limit.now.level net.now t) row.new }
+{
+    // A net is sound by its type: the call brings that fact here.
+    let _ = net.tables();
+    for k in 0..blocks.len() {
+        words.copy_from_slice(blocks[k].as_slice());
+        flip_words(net, t, marks, words);
+        row[k] = exceeding_word(net, words, limit, k);
+    }
+}
+
+/// For each table the row of the patterns that are cared for. The loop takes memory for the rows alone.
 pub(crate) fn care_rows(
     alloc: Global,
     net: &Net,
@@ -57,19 +128,26 @@ pub(crate) fn care_rows(
     limit: &Limit,
 ) -> Result<Items<WordList>, AllocError>
     requires few_outputs { length net.now.outputs ≤ MOST_OUTPUTS }
-    requires widths { All (λ e. length e ≡ length net.now.outputs) limit.now.outputs }
-    requires count { length blocks.now ≡ word_count (length limit.now.outputs) }
+    requires limit { FitsOutputs net.now limit.now.count limit.now.outputs }
+    requires same { length blocks.now ≡ length limit.now.outputs }
     requires blocks { (k : ℕ) → k < length blocks.now → length (row_at blocks.now k) ≡ signal_count net.now }
     ensures count { IfOk result (λ rows. length rows ≡ table_count net.now) }
     ensures rows { IfOk result (λ rows. (exact : NetValue) (vectors : List (List Bool))
-        → AreOutputsOf exact vectors limit.now.outputs → AreBlocksOf net.now vectors blocks.now
+        → length vectors ≡ limit.now.count → AreOutputWordsOf exact vectors limit.now.outputs → AreBlocksOf net.now vectors blocks.now
         → (t : ℕ) → t < table_count net.now
         → IsRowWhere vectors (IsCaredFor limit.now.metric exact limit.now.level net.now t) (row_at rows t)) }
     ensures built { IsBuilt net.now }
 {
+    let mut dependents = vec![in alloc; false; net.signals() as usize]?;
+    let marks = dependents.as_mut_slice();
+    let mut values = vec![in alloc; 0; net.signals() as usize]?;
+    let words = values.as_mut_slice();
     let mut rows = Items::new(alloc);
     for t in 0..net.tables() {
-        rows.push(care_row(alloc, net, t, blocks, limit)?)?;
+        let mut row = vec![in alloc; 0; blocks.len()]?;
+        net.mark_dependents(t, marks);
+        set_care_row(net, t, marks, blocks, limit, words, &mut row);
+        rows.push(WordList::of(row))?;
     }
     Ok(rows)
 }

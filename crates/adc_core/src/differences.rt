@@ -29,7 +29,7 @@ fn difference_word(net: &Net, step: Move, words: &[u64]) -> u64
 }
 
 /// The bits of block k that are patterns.
-fn used_word(count: u64, k: usize) -> u64
+pub(crate) fn used_word(count: u64, k: usize) -> u64
     requires { k < word_count count }
     ensures { (b : ℕ) → b < 64 → word_bit result b ≡ nat_lt (64 * k + b) count }
 {

@@ -1,7 +1,6 @@
 -- Patterns in blocks of 64, rows of a bit for each pattern, and what is found out block by block. Source: bit-parallel simulation.
 use Rattle.std.specs.Prelude.{◌≡◌, ◌↔◌, ℕ, ◌+◌, ◌*◌, ◌<◌, ◌≤◌, Bool, false, List, [], length, slice_index_or, IsTrue}
 use Rattle.semantics.specs.Net.{NetValue, signal_count}
-use Rattle.semantics.specs.Value.{outputs_of}
 use Rattle.lane_bits.specs.Rows.{row_bit, word_count}
 use Rattle.lane_nets.specs.Words.{word_bit, HasValues}
 
@@ -26,18 +25,7 @@ pub record AreBlocksOf (N : NetValue) (vectors : List (List Bool)) (blocks : Lis
   pub count : length blocks ≡ word_count (length vectors)
   pub each : (k : ℕ) → k < length blocks → IsBlock N vectors k (row_at blocks k)
 
--- the net's outputs at each pattern
-pub record AreOutputsOf (N : NetValue) (vectors outputs : List (List Bool)) : Type 0 where
-  pub count : length outputs ≡ length vectors
-  pub are : (p : ℕ) → p < length vectors → slice_index_or outputs p [] ≡ outputs_of N (vector_at vectors p)
-
 -- word k of a row: its bits are 1 exactly at the patterns where P holds
 abbrev pub IsWordWhere : List (List Bool) → (List Bool → Type 0) → ℕ → ℕ → Type 0
 IsWordWhere vectors P k word =
     (b : ℕ) → b < 64 → IsTrue (word_bit word b) ↔ ((64 * k + b < length vectors) × P (vector_at vectors (64 * k + b)))
-
--- the outputs at the patterns of block k
-pub record IsChunkOf (outputs : List (List Bool)) (k : ℕ) (chunk : List (List Bool)) : Type 0 where
-  pub few : length chunk ≤ 64
-  pub within : (b : ℕ) → b < 64 → (b < length chunk) ↔ (64 * k + b < length outputs)
-  pub are : (b : ℕ) → b < length chunk → slice_index_or chunk b [] ≡ slice_index_or outputs (64 * k + b) []

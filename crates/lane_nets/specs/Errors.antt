@@ -5,10 +5,6 @@ use Rattle.semantics.specs.declared.metric.Metric.{Metric}
 use Rattle.semantics.specs.Error.{net_error}
 use Rattle.lane_nets.specs.Blocks.{vector_at}
 
--- the error at x exceeds the level
-abbrev pub IsOver : Metric → NetValue → NetValue → ℕ → List Bool → Type 0
-IsOver metric exact approx level x = level < net_error metric exact approx x
-
 -- p is the first pattern whose error exceeds the level
 pub record IsFirstOver (metric : Metric) (exact approx : NetValue) (level : ℕ) (vectors : List (List Bool)) (p : ℕ) : Type 0 where
   pub within : p < length vectors

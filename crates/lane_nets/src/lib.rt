@@ -4,7 +4,6 @@
 #![tactic(auto)]
 
 pub mod blocks;
-pub mod errors;
 pub mod lanes;
 pub mod outputs;
 pub mod reference;

@@ -1,16 +1,14 @@
-//! The outputs of a net at one pattern, out of words of 64.
-ghost use Rattle.std.specs.Prelude.{◌≡◌, ◌<◌, map, length, IfOk};
+//! The outputs of a net at 64 patterns at a time: a word each.
+ghost use Rattle.std.specs.Prelude.{◌≡◌, ◌<◌, length, IfOk};
 ghost use Rattle.semantics.specs.Net.{input_count, signal_count};
-ghost use Rattle.net_core.specs.Built.{IsBuilt};
-ghost use Rattle.lane_nets.specs.Words.{word_bit, values_at};
-ghost use Rattle.lane_nets.specs.Blocks.{AreOutputsOf};
+ghost use Rattle.lane_nets.specs.Words.{word_bit};
 ghost use Rattle.lane_nets.specs.Lanes.{output_words, AreOutputWordsOf};
 
-use crate::blocks::{blocks, set_block};
+use crate::blocks::set_block;
 use crate::word_list::WordList;
 use lane_bits::kernels::word_count;
 use lane_bits::patterns::Patterns;
-use net_core::items::{Bits, Items};
+use net_core::items::Items;
 use net_core::net::Net;
 use std::alloc::{AllocError, Global};
 
@@ -22,21 +20,8 @@ pub(crate) fn word_bit(word: u64, b: u32) -> bool
     (word >> b) & 1 == 1
 }
 
-/// Sets `bits` to the outputs at pattern b.
-pub fn set_outputs(net: &Net, words: &[u64], b: u32, bits: &mut [bool])
-    requires pattern { b < 64 }
-    requires words { length words.now ≡ signal_count net.now }
-    requires room { length bits.old ≡ length net.now.outputs }
-    ensures bits { bits.new ≡ map (values_at words.now b) net.now.outputs }
-    ensures built { IsBuilt net.now }
-{
-    for i in 0..net.outputs() {
-        bits[i as usize] = word_bit(words[net.output(i) as usize], b);
-    }
-}
-
 /// Sets `outputs` to the words of the outputs.
-pub(crate) fn set_output_words(net: &Net, words: &[u64], outputs: &mut [u64])
+pub fn set_output_words(net: &Net, words: &[u64], outputs: &mut [u64])
     requires words { length words.now ≡ signal_count net.now }
     requires room { length outputs.old ≡ length net.now.outputs }
     ensures { outputs.new ≡ output_words net.now words.now }
@@ -59,7 +44,7 @@ fn output_row(alloc: Global, net: &Net, words: &[u64]) -> Result<WordList, Alloc
 }
 
 /// The words of a net's outputs at all patterns, in blocks of 64.
-pub(crate) fn output_rows(
+pub fn output_rows(
     alloc: Global,
     net: &Net,
     patterns: &Patterns,
@@ -75,32 +60,4 @@ pub(crate) fn output_rows(
         rows.push(output_row(alloc, net, words)?)?;
     }
     Ok(rows)
-}
-
-/// The outputs at pattern b, in memory of their own.
-fn outputs_at(alloc: Global, net: &Net, words: &[u64], b: u32) -> Result<Bits, AllocError>
-    requires pattern { b < 64 }
-    requires words { length words.now ≡ signal_count net.now }
-    ensures bits { IfOk result (λ bits. bits ≡ map (values_at words.now b) net.now.outputs) }
-    ensures built { IsBuilt net.now }
-{
-    let mut bits = Items::new(alloc);
-    for i in 0..net.outputs() {
-        bits.push(word_bit(words[net.output(i) as usize], b))?;
-    }
-    Ok(bits)
-}
-
-/// The outputs of a net at each pattern.
-pub fn all_outputs(alloc: Global, net: &Net, patterns: &Patterns) -> Result<Items<Bits>, AllocError>
-    requires { patterns.now.inputs ≡ input_count net.now }
-    ensures { IfOk result (AreOutputsOf net.now patterns.now.vectors) }
-{
-    let blocks = blocks(alloc, net, patterns)?;
-    let mut outputs = Items::new(alloc);
-    for p in 0..patterns.count() {
-        let words = blocks.get((p / 64) as usize).as_slice();
-        outputs.push(outputs_at(alloc, net, words, (p % 64) as u32)?)?;
-    }
-    Ok(outputs)
 }
