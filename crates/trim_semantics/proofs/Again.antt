@@ -8,7 +8,7 @@ use Rattle.trim_semantics.specs.Trimmed.{IsLastToName, AreEndedAfter, removal_of
 use Rattle.trim_semantics.specs.Trimming.{is_named, kept_steps, ended_after, with_removals, trimmed}
 use Rattle.trim_semantics.specs.TrimLaws.{TrimmedLaw, KeptLaw}
 use Rattle.trim_semantics.proofs.Refuting.{trimmed_refutes}
-use Rattle.trim_semantics.proofs.Keeping.{kept_added, kept_contains, has_root, none_behind}
+use Rattle.trim_semantics.proofs.Keeping.{kept_added, kept_contains, has_root, none_behind, in_order}
 use Rattle.trim_semantics.proofs.Trims.{is_trimmed, only_trimmed, added_kept}
 
 -- ---- the root stays
@@ -84,6 +84,7 @@ trimmed_law = record {
 
 pub kept_law : KeptLaw
 kept_law = record {
+  in_order = in_order;
   root = has_root;
   none_behind = none_behind;
   added = added_kept;

@@ -1,5 +1,5 @@
 -- The kept additions, found from the end, are those that the root reaches through hints.
-use Rattle.std.proofs.Common.{◌≡◌, ℕ, suc, ◌+◌, ◌<◌, ◌≤◌, Bool, true, false, cond, List, [], ◌∷◌, length, map, refl, ap, subst, sym, ◌∙◌, arith, inl, inr, Option, None, Some}
+use Rattle.std.proofs.Common.{◌≡◌, ℕ, suc, ◌+◌, ◌<◌, ◌≤◌, Bool, true, false, cond, List, [], ◌∷◌, ◌++◌, length, map, refl, ap, subst, sym, ◌∙◌, arith, inl, inr, Option, None, Some}
 use Rattle.std.specs.Prelude.{◌⊎◌}
 use Rattle.std.specs.List.{Contains, AllPairs}
 use Rattle.std.specs.Ordering.{nat_cmp}
@@ -57,6 +57,18 @@ later_id (Add s ∷ log) held last (rises, derives, h) t m = elim (added_cases s
   | inr later ↦ let behind = later_id log (insert held s.id s.literals) s.id h t later in omega (arith, rises, behind)
 ]
 later_id (Remove ids ∷ log) held last h t m = later_id log (removed_from held ids) last h t (added_behind ids t log m)
+
+sound_behind : (before rest : List LogItem) (held : Held) (last : ℕ) → IsSoundFrom held last (before ++ rest) → (later : Held) × (id : ℕ) × IsSoundFrom later id rest
+sound_behind [] rest held last h = (held, last, h)
+sound_behind (Add s ∷ before) rest held last (rises, derives, h) = sound_behind before rest (insert held s.id s.literals) s.id h
+sound_behind (Remove ids ∷ before) rest held last h = sound_behind before rest (removed_from held ids) last h
+
+-- an addition behind another has a greater id
+pub in_order : (formula : List Clause) (log : List LogItem) → Refutes formula log → (before behind : List LogItem) (s t : StepValue) → log ≡ before ++ Add s ∷ behind
+    → Contains behind (Add t) → s.id < t.id
+in_order formula log r before behind s t is m =
+    let rest = sound_behind before (Add s ∷ behind) (held_of formula) (length formula) (subst (IsSoundFrom (held_of formula) (length formula)) is r.sound) in
+    later_id behind (insert rest.0 s.id s.literals) s.id rest.2.2 t m
 
 -- no id above the last one is held
 abbrev pub IsBelow : Held → ℕ → Type 0

@@ -1,5 +1,5 @@
 -- The laws about trimmed logs, each the contract of a function without parameters.
-use Rattle.std.specs.Prelude.{◌≡◌, ◌↔◌, ◌≤◌, List, Some}
+use Rattle.std.specs.Prelude.{◌≡◌, ◌↔◌, ◌<◌, ◌≤◌, List, ◌∷◌, ◌++◌, Some}
 use Rattle.std.specs.List.{Contains}
 use Rattle.proof_semantics.specs.declared.item.Item.TheVariants.{Add}
 use Rattle.proof_semantics.specs.Clauses.{Clause}
@@ -14,9 +14,11 @@ pub record TrimmedLaw : Type 0 where
   pub refutes : (formula : List Clause) (log : List LogItem) → Refutes formula log → Refutes formula (trimmed log)
   pub again : (formula : List Clause) (log : List LogItem) → Refutes formula log → trimmed (trimmed log) ≡ trimmed log
 
--- A log that refutes a formula has a root, behind which nothing is kept. The trimmed log adds what is kept, and each of its additions is
+-- Ids rise along a log that refutes a formula. It has a root, behind which nothing is kept. The trimmed log adds what is kept, and each of its additions is
 -- reached from its own root.
 pub record KeptLaw : Type 0 where
+  pub in_order : (formula : List Clause) (log : List LogItem) → Refutes formula log → (before behind : List LogItem) (s t : StepValue) → log ≡ before ++ Add s ∷ behind
+      → Contains behind (Add t) → s.id < t.id
   pub root : (formula : List Clause) (log : List LogItem) → Refutes formula log → (s : StepValue) × (root_of log ≡ Some s)
   pub none_behind : (formula : List Clause) (log : List LogItem) → Refutes formula log → (s t : StepValue) → root_of log ≡ Some s → IsKept log t → t.id ≤ s.id
   pub added : (formula : List Clause) (log : List LogItem) → Refutes formula log → (s : StepValue) → Contains (trimmed log) (Add s) ↔ IsKept log s
