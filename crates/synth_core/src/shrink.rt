@@ -65,11 +65,12 @@ pub fn shrink(
         bound,
         limit,
     };
-    let held = hold_every_vector(alloc, net)?;
+    let vectors = hold_every_vector(alloc, net)?;
+    let held = &vectors;
     let mut pool = first_pool(alloc, net)?;
     let mut shrunk = tidy(alloc, net.copy()?)?;
     loop {
-        let found = find_step(alloc, &Compared::new(net, &shrunk), &held, terms, &mut pool)?;
+        let found = find_step(alloc, &Compared::new(net, &shrunk), held, terms, &mut pool)?;
         match found {
             Step::Moved(moved) => shrunk = tidy(alloc, moved)?,
             Step::End => {

@@ -25,7 +25,7 @@ new-requires c = record {
 }
 
 pub find_step-requires-clause-held : goal.find_step-requires-clause-held
-find_step-requires-clause-held c = subst (λ P. IsHeldFor P.exact c.in_ok-held.held) (sym c.new.ensures) c.in_ok-held.ensures
+find_step-requires-clause-held c = subst (λ P. IsHeldFor P.exact c.in_ok-vectors.vectors) (sym c.new.ensures) c.in_ok-vectors.ensures
 
 pub find_step-requires-clause-small : goal.find_step-requires-clause-small
 find_step-requires-clause-small c =
