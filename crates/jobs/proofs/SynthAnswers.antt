@@ -8,6 +8,7 @@ use Rattle.outside_semantics.specs.WrittenFiles.{FilesWritten}
 use Rattle.blif_semantics.specs.Reading.{input_limit, blif_reading}
 use Rattle.file_core.proofs.Told.{held_before}
 use Rattle.proof_semantics.specs.Queries.{SpentValue}
+use Rattle.job_semantics.specs.declared.version.Version.TheVariants.{Two}
 use Rattle.job_semantics.specs.Certificate.{Texts, OfBundle, OfReport, IsNetlist, Certifies}
 use Rattle.job_semantics.specs.Synthesis.{WhereHeld, OfInput, IsUntouched, BundleWritten, BundleCutShort, SynthReadFault, SynthWriteFault, CountsAsAccepted, IsQuietSynth}
 use Rattle.job_semantics.specs.Input.{IsReadAs}
