@@ -106,7 +106,7 @@ impl Aig {
         2 * (1 + i)
     }
 
-    /// A literal whose value is the conjunction of two. A graph of 2^31 nodes takes no more memory.
+    /// A literal whose value is the conjunction of two. A node past the most that a graph may have counts as out of memory.
     pub fn and(&mut self, a: Literal, b: Literal) -> Result<Literal, AllocError>
         requires a { IsLiteralOf self.old a }
         requires b { IsLiteralOf self.old b }
