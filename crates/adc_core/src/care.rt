@@ -1,17 +1,17 @@
 //! Rows of bits that tell where the error exceeds the bound: with the net as it is, and with a table turned over.
-ghost use Rattle.std.specs.Prelude.{◌≡◌, ◌↔◌, ◌+◌, ◌*◌, ◌<◌, ◌≤◌, ℕ, Bool, false, List, map, length, slice_index_or, IsTrue, IfOk};
-ghost use Rattle.semantics.specs.Net.{NetValue, input_count, signal_count, table_count};
+ghost use Rattle.std.specs.Prelude.{◌≡◌, ◌↔◌, ◌+◌, ◌*◌, ◌<◌, ◌≤◌, ℕ, Bool, List, map, length, IsTrue, IfOk};
+ghost use Rattle.semantics.specs.Net.{NetValue, signal_count, table_count};
 ghost use Rattle.semantics.specs.Error.{error_of};
-ghost use Rattle.semantics.specs.Dependence.{DependsOn};
 ghost use Rattle.chain_semantics.specs.Care.{IsCaredFor, Exceeds};
 ghost use Rattle.net_core.specs.Built.{IsBuilt};
 ghost use Rattle.lane_nets.specs.Words.{word_bit, values_at};
 ghost use Rattle.lane_nets.specs.Blocks.{row_at, IsRowWhere, AreBlocksOf};
 ghost use Rattle.lane_nets.specs.Lanes.{lane_at, AreOutputWordsOf};
 ghost use Rattle.adc_core.specs.Filled.{FitsOutputs};
+ghost use Rattle.adc_core.specs.Flips.{AreLater};
 
 use crate::differences::used_word;
-use crate::flips::flip_words;
+use crate::flips::{flip_words, list_later};
 use lane_nets::lanes::over_word;
 use lane_nets::outputs::set_output_words;
 use lane_nets::word_list::WordList;
@@ -86,21 +86,19 @@ pub(crate) fn exceeding_row(
     Ok(WordList::of(row))
 }
 
-/// Sets `row` to the patterns that are cared for at table `t`, whose dependents are marked. Each block's values with the table turned
-/// over are found in `words`.
+/// Sets `row` to the patterns that are cared for at table `t`, on which the tables `later` depend. Each block's values with the table
+/// turned over are found in `words`.
 fn set_care_row(
     net: &Net,
     t: u32,
-    marks: &[bool],
+    later: &[u32],
     blocks: &[WordList],
     limit: &Limit,
     words: &mut [u64],
     row: &mut [u64],
 )
     requires table { t < table_count net.now }
-    requires marks_room { length marks.now ≡ signal_count net.now }
-    requires marks { (s : ℕ) → s < signal_count net.now → IsTrue (slice_index_or marks.now s false)
-        ↔ DependsOn (input_count net.now) net.now.tables t s }
+    requires later { AreLater net.now t later.now }
     requires few_outputs { length net.now.outputs ≤ MOST_OUTPUTS }
     requires limit { FitsOutputs net.now limit.now.count limit.now.outputs }
     requires same { length blocks.now ≡ length limit.now.outputs }
@@ -115,7 +113,7 @@ fn set_care_row(
     let _ = net.tables();
     for k in 0..blocks.len() {
         words.copy_from_slice(blocks[k].as_slice());
-        flip_words(net, t, marks, words);
+        flip_words(net, t, later, words);
         row[k] = exceeding_word(net, words, limit, k);
     }
 }
@@ -142,11 +140,15 @@ pub(crate) fn care_rows(
     let marks = dependents.as_mut_slice();
     let mut values = vec![in alloc; 0; net.signals() as usize]?;
     let words = values.as_mut_slice();
+    let order = net.order();
+    let mut tables = vec![in alloc; 0; order.len()]?;
+    let later = tables.as_mut_slice();
     let mut rows = Items::new(alloc);
     for t in 0..net.tables() {
         let mut row = vec![in alloc; 0; blocks.len()]?;
         net.mark_dependents(t, marks);
-        set_care_row(net, t, marks, blocks, limit, words, &mut row);
+        let count = list_later(net, order, t, marks, later);
+        set_care_row(net, t, &later[..count], blocks, limit, words, &mut row);
         rows.push(WordList::of(row))?;
     }
     Ok(rows)

@@ -1,9 +1,10 @@
 //! The values of all signals at 64 patterns at a time where a table is turned over.
-ghost use Rattle.std.specs.Prelude.{◌≡◌, ◌==◌, ◌&&◌, ◌↔◌, ◌<◌, not, ℕ, List, Bool, false, length, slice_index_or, IsTrue};
+ghost use Rattle.std.specs.Prelude.{◌≡◌, ◌==◌, ◌&&◌, ◌↔◌, ◌<◌, ◌≤◌, not, ℕ, List, Bool, false, length, take, slice_index_or, IsTrue};
 ghost use Rattle.semantics.specs.Net.{input_count, table_count, signal_count};
 ghost use Rattle.semantics.specs.Dependence.{DependsOn};
+ghost use Rattle.semantics.specs.Order.{IsOrderOf};
 ghost use Rattle.lane_nets.specs.Words.{HasValues};
-ghost use Rattle.adc_core.specs.Flips.{HasFlippedValues};
+ghost use Rattle.adc_core.specs.Flips.{HasFlippedValues, AreLater};
 
 use lane_nets::words::table_word;
 use net_core::net::Net;
@@ -15,21 +16,39 @@ fn is_found_again(i: u32, t: u32, marked: bool) -> bool
     i != t && marked
 }
 
-/// Turns over the words of table `t`, and finds again those that depend on it, which are marked.
-pub fn flip_words(net: &Net, t: u32, marks: &[bool], words: &mut [u64])
-    requires table { t < table_count net.now }
-    requires room { length words.old ≡ signal_count net.now }
+/// Sets the first of `later` to the tables other than `t` that depend on it, which are marked, in an order of evaluation: so many are
+/// they.
+pub fn list_later(net: &Net, order: &[u32], t: u32, marks: &[bool], later: &mut [u32]) -> usize
+    requires order { IsOrderOf (input_count net.now) net.now.tables order.now }
+    requires room { length later.old ≡ length order.now }
     requires marks_room { length marks.now ≡ signal_count net.now }
     requires marks { (s : ℕ) → s < signal_count net.now → IsTrue (slice_index_or marks.now s false)
         ↔ DependsOn (input_count net.now) net.now.tables t s }
+    ensures few { result ≤ length order.now }
+    ensures later { AreLater net.now t (take result later.new) }
+{
+    let inputs = net.inputs() as usize;
+    let mut count = 0;
+    for i in order {
+        if is_found_again(*i, t, marks[inputs + *i as usize]) {
+            later[count] = *i;
+            count += 1;
+        }
+    }
+    count
+}
+
+/// Turns over the words of table `t`, and finds again those of the tables that depend on it.
+pub fn flip_words(net: &Net, t: u32, later: &[u32], words: &mut [u64])
+    requires table { t < table_count net.now }
+    requires room { length words.old ≡ signal_count net.now }
+    requires later { AreLater net.now t later.now }
     ensures { (b : ℕ) (x : List Bool) → b < 64 → HasValues net.now words.old b x → HasFlippedValues net.now t words.new b x }
 {
     let inputs = net.inputs() as usize;
     words[inputs + t as usize] = !words[inputs + t as usize];
-    for i in net.order() {
-        if is_found_again(*i, t, marks[inputs + *i as usize]) {
-            let word = table_word(net.table(*i), words);
-            words[inputs + *i as usize] = word;
-        }
+    for i in later {
+        let word = table_word(net.table(*i), words);
+        words[inputs + *i as usize] = word;
     }
 }

@@ -1,5 +1,5 @@
 -- Rows and blocks, bit by bit.
-use Rattle.std.proofs.Common.{◌≡◌, ◌↔◌, ℕ, ◌+◌, ◌*◌, ◌/◌, ◌%◌, ◌^◌, ◌<◌, ◌≤◌, Bool, true, false, List, map, length, get_or, set, IsTrue, w64, All, ap, sym, subst, ◌∙◌, inl, inr, arith, get_or-set_same, get_or-set_other}
+use Rattle.std.proofs.Common.{◌≡◌, ◌↔◌, ℕ, ◌+◌, ◌*◌, ◌/◌, ◌%◌, ◌^◌, ◌<◌, Bool, true, false, List, map, length, get_or, set, IsTrue, w64, All, ap, sym, subst, ◌∙◌, inl, inr, arith, get_or-set_same, get_or-set_other}
 use Rattle.std.specs.Prelude.{bit_or, ◌==◌}
 use Rattle.std.proofs.lemmas.Nat.Bits.{bit_at_set_same, bit_at_set_other}
 use Rattle.std.proofs.lemmas.Bool.{cases_eq, cases_lt, false_from_ne_true}
@@ -9,7 +9,7 @@ use Rattle.semantics.specs.Value.{value_of, outputs_of}
 use Rattle.lane_bits.specs.Rows.{row_bit, word_count}
 use Rattle.lane_bits.specs.Patterns.{pattern_bit}
 use Rattle.lane_nets.specs.Words.{word_bit, values_at, HasValues}
-use Rattle.lane_nets.specs.Blocks.{vector_at, row_at, IsRowWhere, IsWordWhere}
+use Rattle.lane_nets.specs.Blocks.{vector_at, IsRowWhere, IsWordWhere}
 use Rattle.lane_nets.proofs.WordBits.{zero_bit}
 
 -- bit b of word k
