@@ -1,11 +1,11 @@
 -- What the parts of a model give, and what drives a name.
-use Rattle.std.proofs.Common.{◌≡◌, ◌⊎◌, ℕ, zero, suc, ◌+◌, ◌<◌, Bool, true, false, List, [], ◌∷◌, ◌++◌, map, flat_map, length, get_or, Option, Some, None, refl, ap, sym, subst, ◌∙◌, inl, inr, arith}
+use Rattle.std.proofs.Common.{◌≡◌, ℕ, zero, suc, ◌+◌, ◌<◌, true, List, [], ◌∷◌, flat_map, length, get_or, refl, ap, sym, subst, ◌∙◌, inl, inr, arith}
 use Rattle.semantics.specs.Texts.{Bytes}
 use Rattle.semantics.specs.Refusals.{has_name}
 use Rattle.blif_semantics.specs.Tables.{NamedTable}
-use Rattle.hierarchy_semantics.specs.Models.{Binding, Subcircuit, Part, names_part, subckt_part, BlifModel, Hierarchy, model_named, part_uses, uses_of}
-use Rattle.hierarchy_semantics.specs.Driven.{Source, by_input, by_table, by_output, Driven, bound_outputs, over_parts, inputs_driven, part_driven, driven_of}
-use Rattle.hierarchy_semantics.specs.Places.{no_use, IsUse}
+use Rattle.hierarchy_semantics.specs.Models.{Subcircuit, Part, names_part, subckt_part, BlifModel, Hierarchy, model_named}
+use Rattle.hierarchy_semantics.specs.Driven.{Source, by_input, by_table, by_output, Driven, bound_outputs, over_parts, inputs_driven, part_driven}
+use Rattle.hierarchy_semantics.specs.Places.{no_use}
 use Rattle.hierarchy_semantics.proofs.Members.{IsIn, in_left, in_right, in_append, from_map, from_filter}
 
 pub in_get : {X : Type 0} (xs : List X) (i : ℕ) (d x : X) → i < length xs → get_or xs i d ≡ x → IsIn x xs

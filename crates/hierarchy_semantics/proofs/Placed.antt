@@ -1,9 +1,9 @@
 -- Each place that a table or an output drives stands in the flat list, and what stands there is what drives it.
-use Rattle.std.proofs.Common.{◌≡◌, ◌⊎◌, ℕ, zero, suc, ◌+◌, ◌<◌, ◌&&◌, Bool, true, false, cond, List, [], ◌∷◌, ◌++◌, map, length, get_or, bytes_eq, Option, Some, None, refl, ap, sym, subst, ◌∙◌, inl, inr, arith}
-use Rattle.std.specs.List.{list_all, position_from}
+use Rattle.std.proofs.Common.{◌≡◌, ℕ, zero, suc, ◌+◌, ◌<◌, ◌&&◌, Bool, true, false, List, [], ◌∷◌, length, get_or, bytes_eq, Some, None, refl, ap, sym, subst, ◌∙◌, inl, inr, arith}
+use Rattle.std.specs.List.{position_from}
 use Rattle.std.proofs.lemmas.Bool.{false≢true}
 use Rattle.semantics.specs.Texts.{Bytes}
-use Rattle.semantics.specs.Net.{TableValue, table_at}
+use Rattle.semantics.specs.Net.{table_at}
 use Rattle.semantics.specs.Refusals.{first_doubled}
 use Rattle.hierarchy_semantics.specs.Models.{Subcircuit, Part, names_part, subckt_part, BlifModel, Hierarchy, main_of, model_named, part_uses, uses_of}
 use Rattle.hierarchy_semantics.specs.Driven.{Source, Driven, over_parts, inputs_driven, part_driven, driven_of, names_driven, names_read, source_of}
@@ -11,7 +11,7 @@ use Rattle.hierarchy_semantics.specs.Refusals.{is_model_grounded, formals_of}
 use Rattle.hierarchy_semantics.specs.Places.{Path, use_of, use_at, model_at, IsUse, IsPath}
 use Rattle.hierarchy_semantics.specs.Flat.{FlatItem, items_at, part_items, items_of, flat_items, is_place, table_signal, flat_name, flat_table, tables_from, flat_net}
 use Rattle.hierarchy_semantics.proofs.Members.{IsIn, in_left, in_right, in_append, in_map, from_map, found_in, passed_in, same_bytes, equal_bytes, one_of_name}
-use Rattle.hierarchy_semantics.proofs.Parts.{in_get, in_flat_map, no_part, ComesFrom, from_parts, to_parts}
+use Rattle.hierarchy_semantics.proofs.Parts.{in_get, in_flat_map, no_part, from_parts, to_parts}
 
 -- ---- the table of an item
 
@@ -66,7 +66,7 @@ pub record IsReached (h : Hierarchy) (path : Path) : Type 0 where
 pub used_model : (h : Hierarchy) (up : Path) (n : ℕ) (c : Subcircuit) → IsUse (model_at h up) n c → model_named h c.model ≡ model_at h (n ∷ up)
 used_model h up n c there = ap (λ p. model_named h (use_of p).model) (sym there.1)
 
-in_uses : (m : BlifModel) (n : ℕ) (c : Subcircuit) → IsUse m n c → IsIn c (uses_of m)
+pub in_uses : (m : BlifModel) (n : ℕ) (c : Subcircuit) → IsUse m n c → IsIn c (uses_of m)
 in_uses m n c there = in_flat_map part_uses (subckt_part c) c m.parts (in_get m.parts n no_part (subckt_part c) there.0 there.1) (inl refl)
 
 reached_next : (h : Hierarchy) (up : Path) (n : ℕ) (c : Subcircuit) → IsUse (model_at h up) n c → (l : ℕ) → is_model_grounded h l (model_at h up) ≡ true

@@ -1,5 +1,5 @@
 -- The names that a model drives, each with what drives it, and the names that it reads. Source: BLIF's `.inputs`, `.names` and `.subckt`.
-use Rattle.std.specs.Prelude.{ℕ, ◌+◌, List, [], ◌∷◌, ◌++◌, map, flat_map, filter, bytes_eq, Option, Some, None}
+use Rattle.std.specs.Prelude.{ℕ, ◌+◌, List, [], ◌∷◌, ◌++◌, map, flat_map, filter, bytes_eq, Option}
 use Rattle.std.specs.List.{find}
 use Rattle.semantics.specs.Texts.{Bytes}
 use Rattle.semantics.specs.Refusals.{has_name}

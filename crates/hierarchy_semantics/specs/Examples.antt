@@ -1,14 +1,13 @@
 -- Worked examples, computed from the definitions.
-use Rattle.std.specs.Prelude.{◌≡◌, ℕ, Bool, true, false, List, [], ◌∷◌, ◌++◌, map, flat_map, length, replicate, codes, Option, Some, None, Result, Ok, Err}
+use Rattle.std.specs.Prelude.{◌≡◌, ℕ, Bool, true, false, List, [], ◌∷◌, ◌++◌, map, codes, Option, Some, None, Result, Ok, Err}
 use Rattle.semantics.specs.declared.mark.Mark.{Mark}
 use Rattle.semantics.specs.declared.mark.Mark.TheVariants.{Zero, One, Dash}
-use Rattle.semantics.specs.declared.which.Which.TheVariants as which
-use Rattle.semantics.specs.Texts.{Bytes, Line}
+use Rattle.semantics.specs.Texts.{Bytes}
 use Rattle.semantics.specs.Net.{NetValue, TableValue, literal_count}
 use Rattle.semantics.specs.Value.{outputs_of}
 use Rattle.semantics.specs.Vectors.{all_vectors}
-use Rattle.blif_semantics.specs.Statements.{bad_byte, command, stray_row, after_end, bad_name}
-use Rattle.blif_semantics.specs.Reading.{Refusal, text_long, wrong_line, doubled, no_output, undriven, cycle, limit, input_limit}
+use Rattle.blif_semantics.specs.Statements.{stray_row, after_end, bad_name}
+use Rattle.blif_semantics.specs.Reading.{text_long, wrong_line, doubled, no_output, undriven, cycle, input_limit}
 use Rattle.blif_semantics.specs.Examples.{lf}
 use Rattle.hierarchy_semantics.specs.Models.{Hierarchy}
 use Rattle.hierarchy_semantics.specs.Refusals.{HierRefusal, line, same_model, no_model_named, recursive, ports, formal, unbound, part, taken, flat}

@@ -6,3 +6,4 @@ pub mod Places
 pub mod Flat
 pub mod Reading
 pub mod Examples
+pub mod Laws

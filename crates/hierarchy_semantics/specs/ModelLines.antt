@@ -4,7 +4,7 @@ use Rattle.std.specs.List.{list_all}
 use Rattle.semantics.specs.Texts.{Bytes, Line}
 use Rattle.blif_semantics.specs.Lines.{Statement}
 use Rattle.blif_semantics.specs.Statements.{kind_of, first_word, arguments, is_printable, is_name, is_model, is_end, Place, table_before, Wrong, bad_byte, after_end, bad_name, unless, wrong_by, WrongLine}
-use Rattle.hierarchy_semantics.specs.Models.{Binding, is_subckt, binding_of}
+use Rattle.hierarchy_semantics.specs.Models.{is_subckt, binding_of}
 
 -- the latest line, which stands first, is `.end`
 abbrev pub has_ended : List Line → Bool

@@ -1,5 +1,5 @@
 -- The models of a text and their statements. Source: BLIF's `.model` and `.subckt`.
-use Rattle.std.specs.Prelude.{ℕ, ◌+◌, ◌==◌, not, ◌&&◌, ◌||◌, Bool, List, [], ◌∷◌, ◌++◌, map, flat_map, length, take, drop, position, codes, bytes_eq, Option, Some, None, if◌then◌else◌}
+use Rattle.std.specs.Prelude.{ℕ, ◌+◌, ◌==◌, not, ◌&&◌, ◌||◌, Bool, List, [], ◌∷◌, ◌++◌, map, flat_map, length, take, drop, position, codes, bytes_eq, Some, None, if◌then◌else◌}
 use Rattle.std.specs.List.{find}
 use Rattle.semantics.specs.Texts.{Bytes, Line}
 use Rattle.blif_semantics.specs.declared.kind.Kind.{Kind}

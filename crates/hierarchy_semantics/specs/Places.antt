@@ -2,10 +2,9 @@
 use Rattle.std.specs.Prelude.{◌≡◌, ℕ, zero, suc, ◌<◌, Bool, false, List, [], ◌∷◌, length, slice_index_or, bytes_eq, Option, Some, None, option_map}
 use Rattle.std.specs.List.{find, range_with_len}
 use Rattle.semantics.specs.Texts.{Bytes}
-use Rattle.semantics.specs.Net.{TableValue}
 use Rattle.semantics.specs.Value.{table_value}
 use Rattle.blif_semantics.specs.Tables.{NamedTable}
-use Rattle.hierarchy_semantics.specs.Models.{Binding, Subcircuit, Part, names_part, subckt_part, BlifModel, Hierarchy, main_of, model_named}
+use Rattle.hierarchy_semantics.specs.Models.{Subcircuit, Part, names_part, subckt_part, BlifModel, Hierarchy, main_of, model_named}
 use Rattle.hierarchy_semantics.specs.Driven.{Source, by_input, by_table, by_output, Driven, source_of}
 
 -- A path of `.subckt` statements from the main model, as the numbers of the parts; the last stands first. A place is a path with a name there.

@@ -1,7 +1,7 @@
 -- The reading of a text of several models: its hierarchy, or one refusal. Source: BLIF; the order of the refusals is this tool's own.
-use Rattle.std.specs.Prelude.{ℕ, not, nat_le, length, Option, Some, None, Result, Ok, Err, if◌then◌else◌}
+use Rattle.std.specs.Prelude.{ℕ, not, nat_le, length, Some, None, Result, Ok, Err, if◌then◌else◌}
 use Rattle.semantics.specs.Texts.{Bytes}
-use Rattle.blif_semantics.specs.Lines.{Statement, logical_lines, statements}
+use Rattle.blif_semantics.specs.Lines.{logical_lines, statements}
 use Rattle.blif_semantics.specs.Reading.{text_long, wrong_line}
 use Rattle.hierarchy_semantics.specs.Models.{Hierarchy, hierarchy_of}
 use Rattle.hierarchy_semantics.specs.ModelLines.{first_wrong}

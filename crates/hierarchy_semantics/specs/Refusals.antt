@@ -1,6 +1,6 @@
 -- What keeps the models of a text from being a hierarchy, in the order in which it is told. Source: BLIF's `.model` and `.subckt`; the order is
 -- this tool's own.
-use Rattle.std.specs.Prelude.{ℕ, zero, suc, ◌==◌, Bool, false, not, ◌||◌, ◌&&◌, List, [], ◌∷◌, ◌++◌, map, flat_map, length, take, drop, codes, bytes_eq, Option, Some, None, option_map, if◌then◌else◌}
+use Rattle.std.specs.Prelude.{ℕ, zero, suc, ◌==◌, Bool, false, not, ◌||◌, ◌&&◌, List, [], ◌∷◌, ◌++◌, map, length, take, drop, codes, bytes_eq, Option, Some, None, option_map, if◌then◌else◌}
 use Rattle.std.specs.List.{list_all, find}
 use Rattle.semantics.specs.Texts.{Bytes}
 use Rattle.semantics.specs.Decimal.{is_digit}

@@ -1,0 +1,7 @@
+//! The laws about what a text of several models means: each function's contract is a law.
+ghost use Rattle.hierarchy_semantics.specs.Laws.{FlatLaw};
+
+/// The flat net gives each place of the hierarchy its value.
+pub fn flat_nets()
+    ensures { FlatLaw }
+{}
