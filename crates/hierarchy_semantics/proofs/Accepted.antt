@@ -159,6 +159,9 @@ read_parts text most h e =
     let parts = text_parts lines h (leb (length text) most) (first_wrong lines) refl e in
     record { right = parts.0; is = parts.2; none = has_no_refusal h parts.1 }
 
-pub good_reading : (text : Bytes) (most : ℕ) (h : Hierarchy) → IsRead text most h → IsGood h
+pub main_read : (text : Bytes) (most : ℕ) (h : Hierarchy) → IsRead text most h → IsIn (main_of h) h
 unfolding HasMain
-good_reading text most h read = good_from h read.none (subst HasMain read.is (main_inside (statements (logical_lines text))))
+main_read text most h read = subst HasMain read.is (main_inside (statements (logical_lines text)))
+
+pub good_reading : (text : Bytes) (most : ℕ) (h : Hierarchy) → IsRead text most h → IsGood h
+good_reading text most h read = good_from h read.none (main_read text most h read)

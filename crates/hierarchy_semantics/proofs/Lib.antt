@@ -6,3 +6,8 @@ mod Only
 mod Some
 mod Accepted
 mod Flattened
+mod Distinct
+mod FlatNames
+mod PlainLines
+mod Formed
+mod Sound

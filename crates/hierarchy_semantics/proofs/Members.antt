@@ -125,7 +125,7 @@ in_named (name ∷ names) word (inr h) = at_test (bytes_eq word name) (in_named 
     at_test false e = e
 
 -- where no name is doubled, none stands before
-not_before : (earlier names : List Bytes) (name : Bytes) → first_doubled_after earlier names ≡ None → IsIn name names → IsIn name earlier → ⊥
+pub not_before : (earlier names : List Bytes) (name : Bytes) → first_doubled_after earlier names ≡ None → IsIn name names → IsIn name earlier → ⊥
 not_before earlier [] name e h old = h
 not_before earlier (n ∷ names) name e (inl is) old =
     false≢true (sym (none_if (has_name earlier n) n (first_doubled_after (earlier ++ n ∷ []) names) e).0 ∙ in_named earlier n (subst (λ m. IsIn m earlier) (sym is) old))

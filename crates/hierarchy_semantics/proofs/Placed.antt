@@ -97,17 +97,15 @@ reached h grounded (n ∷ up) is =
 
 pub record IsPlaced (h : Hierarchy) (item : FlatItem) : Type 0 where
   pub path : IsPath h item.path
-  pub driven : IsIn item.driven (driven_of h (model_at h item.path))
+  pub by_part : IsIn item.driven (over_parts (part_driven h) 0 (model_at h item.path).parts)
 
 own_placed : (h : Hierarchy) (path : Path) (m : BlifModel) (i : ℕ) (p : Part) (item : FlatItem) → IsPath h path → m ≡ model_at h path → i < length m.parts → get_or m.parts i no_part ≡ p
     → IsIn item (items_at path (part_driven h i p)) → IsPlaced h item
 own_placed h path m i p item path_is same within is inside =
     let from = from_map (λ d. record { path = path; driven = d }) item (part_driven h i p) inside in
     let number : i ≡ 0 + i = omega arith in
-    let driven : IsIn from.from (driven_of h m) =
-    in_right from.from (inputs_driven 0 m.inputs) (over_parts (part_driven h) 0 m.parts)
-    (to_parts (part_driven h) 0 m.parts i p from.from within is (subst (λ k. IsIn from.from (part_driven h k p)) number from.inside)) in
-    let here : IsPlaced h (record { path = path; driven = from.from }) = record { path = path_is; driven = subst (λ k. IsIn from.from (driven_of h k)) same driven } in
+    let by_part : IsIn from.from (over_parts (part_driven h) 0 m.parts) = to_parts (part_driven h) 0 m.parts i p from.from within is (subst (λ k. IsIn from.from (part_driven h k p)) number from.inside) in
+    let here : IsPlaced h (record { path = path; driven = from.from }) = record { path = path_is; by_part = subst (λ (k : BlifModel). IsIn from.from (over_parts (part_driven h) 0 k.parts)) same by_part } in
     subst (IsPlaced h) from.is here
 
 part_placed : (h : Hierarchy) (l : ℕ) (path : Path) (m : BlifModel) (i : ℕ) (p : Part) (item : FlatItem) → IsPath h path → m ≡ model_at h path → i < length m.parts → get_or m.parts i no_part ≡ p
@@ -182,7 +180,9 @@ same_item h path name d item fit driven named placed passes =
     let tests = both_true (bytes_eq item.path path) (bytes_eq item.driven.name name) passes in
     let there : item.path ≡ path = same_bytes item.path path tests.0 in
     let of_name : item.driven.name ≡ name = same_bytes item.driven.name name tests.1 in
-    let inside : IsIn item.driven (driven_of h (model_at h path)) = subst (λ p. IsIn item.driven (driven_of h (model_at h p))) there placed.driven in
+    let inside : IsIn item.driven (driven_of h (model_at h path)) =
+    subst (λ p. IsIn item.driven (driven_of h (model_at h p))) there
+    (in_right item.driven (inputs_driven 0 (model_at h item.path).inputs) (over_parts (part_driven h) 0 (model_at h item.path).parts) placed.by_part) in
     (there, one_of_name (λ d. d.name) [] (driven_of h (model_at h path)) item.driven d fit.once inside driven (of_name ∙ sym named))
 
 pub tabled : (h : Hierarchy) → IsGood h → (path : Path) → IsPath h path → (name : Bytes) (d : Driven) → source_of h (model_at h path) name ≡ Some d

@@ -1,7 +1,7 @@
 -- The laws about hierarchies, each the contract of a function without parameters.
 use Rattle.std.specs.Prelude.{◌≡◌, ℕ, ◌<◌, Bool, false, List, [], length, slice_index_or, Contains, Ok}
 use Rattle.semantics.specs.Texts.{Bytes}
-use Rattle.semantics.specs.Net.{NetValue, name_of, IsAcyclic, IsSmall}
+use Rattle.semantics.specs.Net.{NetValue, name_of, IsSound, IsSmall}
 use Rattle.semantics.specs.Value.{value_of, outputs_of}
 use Rattle.hierarchy_semantics.specs.Models.{Hierarchy, main_of}
 use Rattle.hierarchy_semantics.specs.Driven.{names_driven}
@@ -14,11 +14,11 @@ pub record IsFlattened (text : Bytes) (most : ℕ) (h : Hierarchy) (N : NetValue
   pub read : hier_reading text most ≡ Ok h
   pub flat : flattened h ≡ Ok N
 
--- What is given is the flat net, acyclic and small. Each place of the hierarchy has a value, which is that of its signal in the flat net; so each
+-- What is given is the flat net, sound and small. Each place of the hierarchy has a value, which is that of its signal in the flat net; so each
 -- output of the main model has a value, which is the one that the flat net gives.
 pub record FlatLaw : Type 0 where
   pub is_flat : (text : Bytes) (most : ℕ) (h : Hierarchy) (N : NetValue) → IsFlattened text most h N → N ≡ flat_net h
-  pub acyclic : (text : Bytes) (most : ℕ) (h : Hierarchy) (N : NetValue) → IsFlattened text most h N → IsAcyclic (length N.inputs) N.tables
+  pub sound : (text : Bytes) (most : ℕ) (h : Hierarchy) (N : NetValue) → IsFlattened text most h N → IsSound N
   pub small : (text : Bytes) (most : ℕ) (h : Hierarchy) (N : NetValue) → IsFlattened text most h N → IsSmall N
   pub places : (text : Bytes) (most : ℕ) (h : Hierarchy) (N : NetValue) → IsFlattened text most h N → (x : List Bool) (path : Path) (name : Bytes) → IsPath h path
       → Contains (names_driven h (model_at h path)) name → HasValue h x path name (value_of (length N.inputs) N.tables x (place_signal h path name))
