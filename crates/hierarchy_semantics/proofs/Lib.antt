@@ -11,3 +11,4 @@ mod FlatNames
 mod PlainLines
 mod Formed
 mod Sound
+mod Hierarchies

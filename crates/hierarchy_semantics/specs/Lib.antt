@@ -2,6 +2,7 @@ pub mod Models
 pub mod ModelLines
 pub mod Driven
 pub mod Refusals
+pub mod RefusalLaws
 pub mod Places
 pub mod Flat
 pub mod Reading
