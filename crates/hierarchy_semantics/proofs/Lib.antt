@@ -12,3 +12,4 @@ mod PlainLines
 mod Formed
 mod Sound
 mod Hierarchies
+mod Counted

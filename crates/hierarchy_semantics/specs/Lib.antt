@@ -8,3 +8,4 @@ pub mod Flat
 pub mod Reading
 pub mod Examples
 pub mod Laws
+pub mod Counts
