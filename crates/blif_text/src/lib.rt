@@ -3,6 +3,7 @@
 
 mod joining;
 mod judging;
+pub mod line_list;
 mod lines;
 mod message;
 mod named_net;

@@ -22,11 +22,11 @@ none_of : {X R : Type 0} (o : Option X) (f : X → R) (rest : Option R) → or_e
 none_of None f rest e = (refl, e)
 none_of (Some x) f rest e = absurd (none-some (f x) (sym e))
 
-none_mapped : {X R : Type 0} (f : X → R) (o : Option X) → option_map f o ≡ None → o ≡ None
+pub none_mapped : {X R : Type 0} (f : X → R) (o : Option X) → option_map f o ≡ None → o ≡ None
 none_mapped f None e = refl
 none_mapped f (Some x) e = absurd (none-some (f x) (sym e))
 
-abbrev first_answer : {Y : Type 0} → Option Y → Option Y → Option Y
+abbrev pub first_answer : {Y : Type 0} → Option Y → Option Y → Option Y
 first_answer o rest = elim o [ None ↦ rest | Some y ↦ Some y ]
 
 none_first : {X Y : Type 0} (f : X → Option Y) (x : X) (xs : List X) → first_found f xs ≡ None → IsIn x xs → f x ≡ None
@@ -69,14 +69,16 @@ pub record HasNoFault (h : Hierarchy) (m : BlifModel) : Type 0 where
   pub some_output : 0 < length m.outputs
   pub reads : find (λ name. not (has_name (names_driven h m) name)) (names_read h m) ≡ None
 
-pub no_fault : (h : Hierarchy) (m : BlifModel) → HasNoRefusal h → IsIn m h → HasNoFault h m
-no_fault h m none inside =
-    let whole : model_refusal h m ≡ None = none_mapped (part m.name) (model_refusal h m) (none_first (part_refusal h) m h none.parts inside) in
+pub fault_parts : (h : Hierarchy) (m : BlifModel) → model_refusal h m ≡ None → HasNoFault h m
+fault_parts h m whole =
     let reads : Option Refusal = option_map undriven (find (λ name. not (has_name (names_driven h m) name)) (names_read h m)) in
     let names = none_of (first_doubled (names_driven h m)) doubled (cond (length m.outputs == 0) (Some no_output) reads) whole in
     let outputs = none_if (length m.outputs == 0) no_output reads names.1 in
     let some = eqb-false (length m.outputs) 0 outputs.0 in
     record { once = names.0; some_output = omega (arith, some); reads = none_mapped undriven (find (λ name. not (has_name (names_driven h m) name)) (names_read h m)) outputs.1 }
+
+pub no_fault : (h : Hierarchy) (m : BlifModel) → HasNoRefusal h → IsIn m h → HasNoFault h m
+no_fault h m none inside = fault_parts h m (none_mapped (part m.name) (model_refusal h m) (none_first (part_refusal h) m h none.parts inside))
 
 pub fit_model : (h : Hierarchy) (m : BlifModel) → HasNoRefusal h → IsIn m h → IsFit h m
 fit_model h m none inside =

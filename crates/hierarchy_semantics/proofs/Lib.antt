@@ -11,3 +11,5 @@ mod FlatNames
 mod PlainLines
 mod Formed
 mod Sound
+mod Hierarchies
+mod Counted

@@ -208,9 +208,6 @@ not_at_once : (n : ℕ) (tables : List TableValue) (at s : ℕ) → s ≡ n + at
 not_at_once n tables at s is low = omega (arith, is, low)
 
 module _ (h : Hierarchy) (good : IsGood h) (x : List Bool) where
-  n : ℕ
-  n = length (main_of h).inputs
-
   IsSettled : ℕ → Path → Bytes → Type 0
   IsSettled k path name = IsGroundedIn (length (main_of h).inputs) (flat_net h).tables k (place_signal h path name) → HasSome h x path name
 

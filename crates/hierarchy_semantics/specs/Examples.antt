@@ -1,13 +1,14 @@
 -- Worked examples, computed from the definitions.
-use Rattle.std.specs.Prelude.{◌≡◌, ℕ, Bool, true, false, List, [], ◌∷◌, ◌++◌, map, codes, Option, Some, None, Result, Ok, Err}
+use Rattle.std.specs.Prelude.{◌≡◌, ℕ, Bool, true, false, List, [], ◌∷◌, ◌++◌, map, codes, Option, Some, None, Result, Ok, Err, flat_map, replicate}
 use Rattle.semantics.specs.declared.mark.Mark.{Mark}
 use Rattle.semantics.specs.declared.mark.Mark.TheVariants.{Zero, One, Dash}
+use Rattle.semantics.specs.declared.which.Which.TheVariants as which
 use Rattle.semantics.specs.Texts.{Bytes}
 use Rattle.semantics.specs.Net.{NetValue, TableValue, literal_count}
 use Rattle.semantics.specs.Value.{outputs_of}
 use Rattle.semantics.specs.Vectors.{all_vectors}
 use Rattle.blif_semantics.specs.Statements.{stray_row, after_end, bad_name}
-use Rattle.blif_semantics.specs.Reading.{text_long, wrong_line, doubled, no_output, undriven, cycle, input_limit}
+use Rattle.blif_semantics.specs.Reading.{text_long, wrong_line, doubled, no_output, undriven, cycle, input_limit, limit}
 use Rattle.blif_semantics.specs.Examples.{lf}
 use Rattle.hierarchy_semantics.specs.Models.{Hierarchy}
 use Rattle.hierarchy_semantics.specs.Refusals.{HierRefusal, line, same_model, no_model_named, recursive, ports, formal, unbound, part, taken, flat}
@@ -113,6 +114,10 @@ main_with lines = lf (codes ".model m" ∷ codes ".inputs a" ∷ codes ".outputs
 abbrev pub inverter : List Bytes
 inverter = codes ".model inv" ∷ codes ".inputs p" ∷ codes ".outputs q" ∷ codes ".names p q" ∷ codes "0 1" ∷ []
 
+-- a table that reads itself, and 65 outputs
+abbrev pub many_outputs : List Bytes
+many_outputs = (codes ".outputs" ++ flat_map (λ (word : Bytes). 32 ∷ word) (replicate 65 (codes "y"))) ∷ codes ".names y y" ∷ codes "1 1" ∷ []
+
 abbrev pub at : ℕ → Bytes → Option HierRefusal
 at number name = Some (formal number name)
 
@@ -151,3 +156,4 @@ pub record HierRefusalExamples : Type 0 where
         outputs = 1 ∷ [];
       })
   pub cycle_through_a_use : flat_reading (main_with (codes ".subckt inv p=y q=y" ∷ inverter)) ≡ Err (flat (cycle (codes "$u0")))
+  pub limit_before_cycle : flat_reading (lf (codes ".model m" ∷ many_outputs)) ≡ Err (flat (limit which.Outputs))

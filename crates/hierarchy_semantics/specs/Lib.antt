@@ -2,8 +2,10 @@ pub mod Models
 pub mod ModelLines
 pub mod Driven
 pub mod Refusals
+pub mod RefusalLaws
 pub mod Places
 pub mod Flat
 pub mod Reading
 pub mod Examples
 pub mod Laws
+pub mod Counts

@@ -39,4 +39,5 @@ returns c = record {
   name_taken_inside = refl;
   output_left_unbound = refl;
   cycle_through_a_use = refl;
+  limit_before_cycle = refl;
 }
