@@ -1,33 +1,32 @@
 -- What a check job comes to, from what its steps say.
-use Rattle.std.proofs.Common.{◌≡◌, ◌≢◌, ◌≤◌, ◌^◌, ℕ, true, false, length, inl, inr, refl, ap, sym, subst, ◌∙◌, Option, None, Some, Result, Ok, Err, arith}
+use Rattle.std.proofs.Common.{◌≡◌, ◌≢◌, ◌≤◌, ℕ, false, length, inl, inr, refl, sym, subst, ◌∙◌, Option, None, Some, Result, Ok, Err, arith}
 use Rattle.std.specs.Prelude.{IfOk, IfErr}
 use Rattle.std.proofs.lemmas.Bool.{false_from_ne_true}
 use Rattle.semantics.specs.Texts.{Bytes}
 use Rattle.semantics.specs.Net.{NetValue, IsSound}
 use Rattle.semantics.specs.declared.metric.Metric.{Metric}
-use Rattle.outside_semantics.specs.Outside.{Held, FilesTold, SinkTold, Goes, WhereTold, turn_budget, bytes_of}
+use Rattle.outside_semantics.specs.Outside.{FilesTold, SinkTold, Goes, turn_budget, bytes_of}
 use Rattle.blif_semantics.specs.Reading.{input_limit, Refusal, blif_reading}
 use Rattle.file_core.proofs.Told.{Goes-Goes, held_before}
 use Rattle.file_reading.specs.declared.unread.Unread.{Unread}
 use Rattle.file_reading.specs.declared.unread.Unread.TheVariants as unread
-use Rattle.file_reading.specs.Reading.{FilesStay, FileFailed}
+use Rattle.file_reading.specs.Reading.{FilesStay}
 use Rattle.job_semantics.specs.declared.clause.Clause.{Clause}
 use Rattle.job_semantics.specs.declared.ending.Ending.{Ending}
 use Rattle.job_semantics.specs.Endings.{bundle_name}
 use Rattle.job_semantics.specs.Input.{IsReadAs}
 use Rattle.job_semantics.specs.Certificate.{Texts, texts_of, OfBundle, Certifies, IsFirstFailing, IsNeededFor, clause_number}
 use Rattle.job_semantics.proofs.Certificates.{verified_law}
-use Rattle.job_semantics.proofs.CheckedFiles.{one_net, not_quiet_check}
+use Rattle.job_semantics.proofs.CheckedFiles.{not_quiet_check}
 use Rattle.job_semantics.specs.Synthesis.{OfInput, WhereHeld, InputRefused}
-use Rattle.job_semantics.specs.Checking.{IsLeftAlone, ShowsItsBound, CheckVerified, CheckRefuted, IsNeeded, CheckReadFault, CheckEndless, CheckEnd, verified, refuted, refused, out_of_memory, not_read, endless, IsQuietCheck}
+use Rattle.job_semantics.specs.Checking.{IsLeftAlone, ShowsItsBound, CheckVerified, CheckRefuted, IsNeeded, CheckEnd, verified, refuted, refused, out_of_memory, not_read, endless, IsQuietCheck}
 use Rattle.blif_text.specs.declared.refusal.BlifRefusal.{BlifRefusal}
 use Rattle.bundle.specs.declared.verdict.Verdict.{Verdict}
-use Rattle.bundle.specs.declared.verdict.Verdict.TheVariants as verdict
 use Rattle.bundle.specs.Judging.{FilesKept, IsVerdict, IsFirstFault, verdict_of, IsCause, NothingKnown}
 use Rattle.jobs.specs.declared.input.NoNet.{NoNet}
 use Rattle.jobs.specs.declared.input.NoNet.TheVariants as none
 use Rattle.jobs.specs.declared.status.Status.{Status}
-use Rattle.jobs.specs.declared.status.Status.TheVariants.{Done, Verified, Refuted, Usage, Text, NoMemory, Budget, ReadFault, WriteFault, Endless}
+use Rattle.jobs.specs.declared.status.Status.TheVariants.{Verified, Refuted, Usage, Text, NoMemory, ReadFault, WriteFault, Endless}
 use Rattle.jobs.specs.Status.{SpendsAs, status_without_net, status_of_check}
 use Rattle.jobs.specs.Input.{NetRead, NetRefused, TextRefused}
 use Rattle.jobs.specs.Run.{IsAnswerFor, CheckAnswer, IsCheckAnswerTo, EndsWell}

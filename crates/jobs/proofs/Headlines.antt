@@ -1,5 +1,5 @@
 -- The headline, from what each answer says.
-use Rattle.std.proofs.Common.{◌≡◌, ◌≢◌, ◌⊎◌, ◌≤◌, ℕ, Bool, List, [], ◌∷◌, ◌++◌, Option, Some, None, MatchOption, Result, Ok, Err, Contains, inl, inr, refl, ap, sym, subst, ◌∙◌, arith}
+use Rattle.std.proofs.Common.{◌≡◌, ◌≢◌, ◌⊎◌, ℕ, Bool, List, ◌∷◌, ◌++◌, Option, Some, None, MatchOption, Result, Ok, Err, Contains, inl, inr, refl, sym, subst, ◌∙◌, arith}
 use Rattle.std.specs.Prelude.{IsTrue}
 use Rattle.std.proofs.lemmas.List.Elements.{Contains-append_right}
 use Rattle.chain_semantics.proofs.MoveLists.{Contains-here}
@@ -8,17 +8,15 @@ use Rattle.semantics.specs.Net.{NetValue, HasSamePorts}
 use Rattle.semantics.specs.declared.metric.Metric.{Metric}
 use Rattle.outside_semantics.specs.Outside.{Held, FilesTold, SinkTold, bytes_of}
 use Rattle.blif_semantics.specs.Reading.{Refusal}
-use Rattle.chain_semantics.specs.declared.moves.Move.{Move}
-use Rattle.chain_semantics.specs.Moves.{moves_of, moved}
 use Rattle.chain_semantics.specs.Simplification.{IsInSimplification, IsSimplificationEnd}
 use Rattle.proof_semantics.specs.Queries.{SpentValue, IsSpentLevel}
-use Rattle.job_semantics.specs.Job.{synth, check, are_file_words, job_of}
+use Rattle.job_semantics.specs.Job.{synth, check, are_file_words}
 use Rattle.job_semantics.specs.Input.{IsReadAs}
 use Rattle.job_semantics.specs.Certificate.{Texts, texts_of, IsNetlist, Certifies}
-use Rattle.job_semantics.specs.Checking.{ShowsItsBound, CheckVerified}
+use Rattle.job_semantics.specs.Checking.{ShowsItsBound}
 use Rattle.job_semantics.specs.Shrinking.{IsShownEnd, IsSpentMove}
-use Rattle.job_semantics.specs.Synthesis.{OfInput, BundleWritten, MaximumSpent, SynthDone, IsQuietSynth}
-use Rattle.job_semantics.specs.Headline.{KeepsItsPromise, AdmitsNoMore, IsOfTheChain, AreSpentOn, Headline}
+use Rattle.job_semantics.specs.Synthesis.{OfInput, MaximumSpent, SynthDone}
+use Rattle.job_semantics.specs.Headline.{KeepsItsPromise, AdmitsNoMore, AreSpentOn, Headline}
 use Rattle.job_semantics.proofs.Certificates.{verified_law}
 use Rattle.job_semantics.proofs.FileWords.{file_words_law}
 use Rattle.job_semantics.proofs.CheckedFiles.{one_net, joined_runs_law}

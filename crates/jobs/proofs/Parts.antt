@@ -1,8 +1,8 @@
 -- What is ready before the first file is touched, from its parts.
-use Rattle.std.proofs.Common.{◌≡◌, ◌^◌, ◌<◌, ◌≤◌, ℕ, Option, Some, None, is_none, MatchOption, List, [], ◌∷◌, length, refl, ap, sym, subst, ◌∙◌, arith}
+use Rattle.std.proofs.Common.{◌≡◌, ◌^◌, ◌<◌, ◌≤◌, ℕ, Option, Some, None, is_none, MatchOption, List, [], ◌∷◌, refl, ap, sym, subst, ◌∙◌, arith}
 use Rattle.std.specs.Prelude.{Bool, IsTrue}
 use Rattle.semantics.specs.declared.limits.TheConstants.{LARGEST_ERROR}
-use Rattle.semantics.specs.Net.{NetValue, IsSound, IsSmall, literal_count}
+use Rattle.semantics.specs.Net.{NetValue, IsSound, IsSmall}
 use Rattle.semantics.specs.declared.metric.Metric.{Metric}
 use Rattle.chain_semantics.specs.declared.moves.Move.{Move}
 use Rattle.chain_semantics.specs.Moves.{moves_of}

@@ -1,5 +1,3 @@
-use Rattle.std.proofs.Common.{subst}
-use Rattle.worst_case.specs.Maximum.{IsMaximumAnswer}
 use Rattle.jobs.proofs.Parts.{found_net}
 use Rattle.jobs.proofs.preparing.prepare.Goals as goal
 
