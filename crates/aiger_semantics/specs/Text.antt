@@ -9,7 +9,7 @@ use Rattle.aiger_semantics.specs.Circuit.{CircuitValue, literal_of_variable}
 -- the greatest variable, and how many inputs, latches, outputs and AND lines there are
 abbrev pub header_line : CircuitValue → Line
 header_line c =
-    codes "aag" ∷ decimal (length c.inputs + length c.ands) ∷ decimal (length c.inputs) ∷ decimal 0 ∷ decimal (length c.outputs)
+    codes "aag" ∷ decimal (length c.inputs + length c.ands) ∷ decimal (length c.inputs) ∷ codes "0" ∷ decimal (length c.outputs)
     ∷ decimal (length c.ands) ∷ []
 
 abbrev pub number_line : ℕ → Line

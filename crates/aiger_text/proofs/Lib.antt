@@ -1,0 +1,4 @@
+pub mod JoinedLiterals
+pub mod TableLines
+pub mod NetLiterals
+pub mod NetAnds
