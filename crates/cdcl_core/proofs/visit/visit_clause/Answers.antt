@@ -16,9 +16,11 @@ pub is_true-requires : goal.is_true-requires
 is_true-requires c = first_literal c.args.clauses.now c.args.trail.now c.args.watches.now c.args.x c.args.at c.args.clause c.args.first c.requires.handling c.requires.at c.requires.clause c.requires.first
 
 pub returns-then-is_true-clause-visited : goal.returns-then-is_true-clause-visited
-returns-then-is_true-clause-visited c =
-    (next_by c.args.clauses.now c.args.trail.now c.args.watches.now c.args.x c.args.at c.args.clause c.args.first c.requires.handling c.requires.clause
-    (first_in c.args.clauses.now c.args.trail.now c.args.watches.now c.args.x c.args.at c.args.clause c.args.first c.requires.handling c.requires.at c.requires.clause c.requires.first) (c.is_true.ensures.0 c.if-is_true.true), refl)
+returns-then-is_true-clause-visited c = (
+  next_by c.args.clauses.now c.args.trail.now c.args.watches.now c.args.x c.args.at c.args.clause c.args.first c.requires.handling c.requires.clause
+      (first_in c.args.clauses.now c.args.trail.now c.args.watches.now c.args.x c.args.at c.args.clause c.args.first c.requires.handling c.requires.at c.requires.clause c.requires.first) (c.is_true.ensures.0 c.if-is_true.true),
+  refl,
+)
 
 pub is_false-requires : goal.is_false-requires
 is_false-requires c = first_literal c.args.clauses.now c.args.trail.now c.args.watches.now c.args.x c.args.at c.args.clause c.args.first c.requires.handling c.requires.at c.requires.clause c.requires.first
