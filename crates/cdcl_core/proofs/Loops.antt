@@ -49,10 +49,3 @@ pub record IsReaching (trail : List ℤ) (old marks : List Bool) (start top : �
   pub within : top < length trail
   pub marked : mark_at marks top ≡ true
   pub last : (p : ℕ) → top < p → p < length trail → mark_at marks p ≡ false
-
--- the clauses so far are settled, unless an entry was added
-pub record IsPassSoFar (clauses : List Clause) (old new : TrailValue) (changed : Bool) (j : ℕ) : Type 0 where
-  pub extended : IsExtended clauses old new
-  pub settled : changed ≡ false → IsSettled (Holds new.literals) (take j clauses)
-  pub same : changed ≡ false → new ≡ old
-  pub grown : changed ≡ true → length old.literals < length new.literals

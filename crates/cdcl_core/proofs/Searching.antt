@@ -22,6 +22,7 @@ use Rattle.cdcl_core.specs.Settled.{IsSettled, IsSettledAt, IsOpen}
 use Rattle.cdcl_core.specs.Trail.{IsConsistent}
 use Rattle.cdcl_core.specs.Explained.{Holds}
 use Rattle.cdcl_core.specs.Placed.{TrailValue}
+use Rattle.cdcl_core.specs.Watches.{WatchesValue}
 use Rattle.cdcl_core.specs.Propagation.{IsExtended}
 use Rattle.cdcl_core.specs.Jump.{IsRunning}
 use Rattle.cdcl_core.specs.Decided.{IsFull, AreValues}
@@ -187,8 +188,8 @@ has_ended clauses before after hints s r is few logged = record {
 }
 
 -- a search whose trail went on
-pub search_found : (f : Formula) (merged : List LogItem) (k : ℕ) (s : Search) (t : TrailValue) → IsSearch f merged k s → IsSearching s.clauses t s.order → IsSearch f merged k (record s { trail = t })
-search_found f merged k s t h searching = record {
+pub search_found : (f : Formula) (merged : List LogItem) (k : ℕ) (s : Search) (t : TrailValue) (w : WatchesValue) → IsSearch f merged k s → IsSearching s.clauses t s.order → IsSearch f merged k (record s { trail = t; watches = w })
+search_found f merged k s t w h searching = record {
   searching = searching;
   variables = sym searching.variables ∙ h.searching.variables ∙ h.variables;
   clauses = h.clauses;

@@ -20,6 +20,18 @@ pub record HasLast (t : TrailValue) (s : ℕ) (C : Clause) (m : ℕ) : Type 0 wh
   pub is : literal_at t.literals place ≡ neg_ℤ literal
   pub last : All (λ r. r ≤ place) (take m t.starts)
 
+-- the same of a given literal
+pub record HasLastAs (t : TrailValue) (s : ℕ) (C : Clause) (m : ℕ) (literal : ℤ) : Type 0 where
+  pub inside : Contains C literal
+  pub place : ℕ
+  pub below : place < s
+  pub is : literal_at t.literals place ≡ neg_ℤ literal
+  pub last : All (λ r. r ≤ place) (take m t.starts)
+
+-- what the learned clause watches besides u
+abbrev pub IsJumpPair : TrailValue → ℕ → Clause → ℤ → ℕ → ℤ → Type 0
+IsJumpPair t s C u m other = ((m ≡ 0) × (other ≡ u)) ⊎ HasLastAs t s C m other
+
 -- the levels that stay are those of the literals other than u
 pub record IsJump (t : TrailValue) (s : ℕ) (C : Clause) (u : ℤ) (m : ℕ) : Type 0 where
   pub within : m < length t.starts

@@ -3,8 +3,12 @@ pub mod Settled
 pub mod Trail
 pub mod Explained
 pub mod Placed
-pub mod ClauseState
+pub mod Watched
+pub mod Watches
+pub mod Watching
 pub mod Propagation
+pub mod Visited
+pub mod Started
 pub mod Analysis
 pub mod Refuted
 pub mod Analysed

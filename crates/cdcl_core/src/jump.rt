@@ -3,14 +3,17 @@
 //! The search goes back to the greatest level among the other literals of the learned clause, where they are all false and its
 //! literal of the conflict's level follows. No level between is worth keeping: there the clause would force that literal
 //! already. Source: the jump of GRASP and Chaff.
-ghost use Rattle.std.specs.Prelude.{◌≡◌, ◌⊎◌, ◌+◌, ◌-◌, ◌<◌, ◌≤◌, [], ◌∷◌, ◌++◌, length, neg_ℤ, All, OnOk, slice_index_or};
-ghost use Rattle.cdcl_core.specs.Trail.{literal_at, IsTrueBelow, IsLearned};
+ghost use Rattle.std.specs.Prelude.{◌≡◌, ◌⊎◌, ◌+◌, ◌<◌, ◌≤◌, [], ◌∷◌, ◌++◌, length, neg_ℤ, All, OnOk, slice_index_or};
+ghost use Rattle.proof_semantics.specs.Clauses.{IsLiteralOf};
+ghost use Rattle.cdcl_core.specs.Trail.{literal_at, IsTrueBelow, IsLearned, AreLevels};
+ghost use Rattle.cdcl_core.specs.Watching.{IsWatching, IsWatchedBelow};
 ghost use Rattle.cdcl_core.specs.Placed.{last_start};
-ghost use Rattle.cdcl_core.specs.Jump.{IsRunning, IsLastOther, later_of};
+ghost use Rattle.cdcl_core.specs.Jump.{IsRunning, IsJump, IsJumpPair, IsLastOther, later_of};
 
 use crate::clause::{Clause, ClauseList};
 use crate::literal::Literal;
 use crate::trail::Trail;
+use crate::watches::Watches;
 use std::alloc::AllocError;
 
 fn later(last: Option<usize>, place: usize) -> usize
@@ -37,31 +40,61 @@ fn last_other(trail: &Trail, clause: &[Literal], own: Literal, start: usize) -> 
     last
 }
 
+/// The number of levels that stay, and the literal that is watched besides the one that follows.
+#[derive(Drop)]
+struct Target {
+    level: usize,
+    other: Literal,
+}
+
+/// Where a learned clause leads, whose literal of the last level is `own`.
+fn jump_target(trail: &Trail, clause: &[Literal], own: Literal) -> Target
+    requires levels { 0 < length trail.now.starts }
+    requires rising { AreLevels trail.now.literals trail.now.starts }
+    requires others { All (λ a. (a ≡ own) ⊎ IsTrueBelow trail.now.literals (last_start trail.now) (neg_ℤ a)) clause.now }
+    ensures jump { IsJump trail.now (last_start trail.now) clause.now own result.level }
+    ensures pair { IsJumpPair trail.now (last_start trail.now) clause.now own result.level result.other }
+{
+    let start = trail.start(trail.levels() - 1);
+    match last_other(trail, clause, own, start) {
+        None => Target {
+            level: 0,
+            other: own,
+        },
+        Some(last) => Target {
+            level: trail.levels_until(last),
+            other: trail.literal(last).negated(),
+        },
+    }
+}
+
 /// Adds a learned clause, whose literal of the last level stands at `place`; closes the levels that none of its other literals
 /// has; and adds the literal that follows.
 pub fn jump(
     trail: &mut Trail,
+    watches: &mut Watches,
     clauses: &mut ClauseList,
     clause: Clause,
     place: usize,
 ) -> Result<(), AllocError>
     requires running { IsRunning clauses.old trail.old }
+    requires watched { IsWatchedBelow clauses.old trail.old watches.old }
     requires levels { 0 < length trail.old.starts }
+    requires literals { All (IsLiteralOf trail.old.variables) clause }
     requires learned { IsLearned trail.old.literals (last_start trail.old) clause
         (neg_ℤ (literal_at trail.old.literals place)) place }
     ensures running { OnOk result (IsRunning clauses.new trail.new) }
+    ensures watching { OnOk result (IsWatching clauses.new trail.new watches.new) }
     ensures added { OnOk result (clauses.new ≡ clauses.old ++ clause ∷ []) }
     ensures variables { OnOk result (trail.new.variables ≡ trail.old.variables) }
 {
     trail.consistent();
-    let start = trail.start(trail.levels() - 1);
     let own = trail.literal(place).negated();
-    let level = match last_other(trail, clause.as_slice(), own, start) {
-        None => 0,
-        Some(other) => trail.levels_until(other),
-    };
+    let Target { level, other } = jump_target(trail, clause.as_slice(), own);
     let reason = clauses.len();
     clauses.push(clause)?;
+    watches.add(own, other)?;
+    watches.set_handled(trail.start(level));
     trail.close(level);
     trail.push_implied(own, reason)?;
     Ok(())

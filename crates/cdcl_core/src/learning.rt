@@ -5,6 +5,7 @@
 ghost use Rattle.std.specs.Prelude.{◌≡◌, ◌+◌, ◌<◌, ◌^◌, [], length, IfOk, OnOk};
 ghost use Rattle.cdcl_core.specs.Propagation.{IsConflict};
 ghost use Rattle.cdcl_core.specs.Searched.{IsSearching, HasEnded, HasLearned};
+ghost use Rattle.cdcl_core.specs.Watching.{IsWatching, IsWatchedBelow};
 
 use crate::analysis::{Learned, learn};
 use crate::clause::{ClauseList, count, written};
@@ -68,6 +69,8 @@ pub fn learn_from(alloc: Global, search: &mut Search, conflict: usize) -> Result
     requires searching { IsSearching search.old.clauses search.old.trail search.old.order }
     requires conflict { IsConflict search.old.clauses search.old.trail conflict }
     requires levels { 0 < length search.old.trail.starts }
+    requires watched { IsWatchedBelow search.old.clauses search.old.trail search.old.watches }
+    ensures watching { OnOk result (IsWatching search.new.clauses search.new.trail search.new.watches) }
     ensures searching { OnOk result (IsSearching search.new.clauses search.new.trail search.new.order) }
     ensures variables { OnOk result (search.new.trail.variables ≡ search.old.trail.variables) }
     ensures logged { OnOk result (HasLearned search.old search.new) }
@@ -87,6 +90,12 @@ pub fn learn_from(alloc: Global, search: &mut Search, conflict: usize) -> Result
     keep_values(&mut search.order, &search.trail, search.trail.start(0));
     let step = next_step(alloc, &search.clauses, clause.as_slice(), hints)?;
     search.log.push(Item::Add(step))?;
-    jump(&mut search.trail, &mut search.clauses, clause, place)?;
+    jump(
+        &mut search.trail,
+        &mut search.watches,
+        &mut search.clauses,
+        clause,
+        place,
+    )?;
     Ok(())
 }

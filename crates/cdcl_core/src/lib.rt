@@ -4,8 +4,8 @@
 mod analysis;
 pub mod answer;
 mod clause;
-mod clause_state;
 mod decision;
+mod first_watches;
 mod jump;
 pub mod laws;
 mod learning;
@@ -19,3 +19,5 @@ mod resolution;
 mod search;
 pub mod solve;
 mod trail;
+mod visit;
+mod watches;

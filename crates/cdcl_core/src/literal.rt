@@ -2,6 +2,7 @@
 ghost use Rattle.std.specs.Prelude.{◌≡◌, ◌<◌, ◌^◌, ◌↔◌, if◌then◌else◌, int_lt, IsTrue, pos, neg_ℤ, nat_abs};
 ghost use Rattle.proof_semantics.specs.Clauses.{IsLiteralOf};
 ghost use Rattle.cnf_core.specs.Literals.{IsLiteral};
+ghost use Rattle.cdcl_core.specs.Watched.{index_of};
 
 use std::marker::Model;
 
@@ -76,5 +77,12 @@ impl Literal {
         ensures { IsTrue result ↔ (self ≡ other) }
     {
         self.code == other.code
+    }
+
+    /// Where the watchers of the literal are held.
+    pub fn index(self) -> usize
+        ensures { result ≡ index_of self }
+    {
+        self.variable() * 2 + (if self.sign() { 1 } else { 0 })
     }
 }

@@ -1,65 +1,62 @@
-//! Propagation: a clause whose literals are all false but one, which is open, forces it. All clauses are scanned until nothing
-//! changes, so at the end each is settled, or one is false.
-//!
-//! A scan reads every clause, where two watched literals a clause would read few. `propagate` says no more than what is true when
-//! it ends, so that watches can take its place. Source: unit propagation of Davis, Logemann and Loveland.
-ghost use Rattle.std.specs.Prelude.{◌≡◌, ◌<◌, length, All, IfOk};
-ghost use Rattle.proof_semantics.specs.Clauses.{AreClausesOf};
-ghost use Rattle.cdcl_core.specs.Propagation.{IsPass, IsExtended, IsComplete};
+//! Propagation by watched literals: each entry of the trail is handled once, by a visit of the clauses that watch the literal that
+//! it makes false. When all are handled every clause is settled, or one is false. Source: Chaff and MiniSat.
+ghost use Rattle.std.specs.Prelude.{◌≡◌, ◌+◌, ◌<◌, length, neg_ℤ, IfOk, OnOk};
+ghost use Rattle.proof_semantics.specs.Clauses.{IsLiteralOf};
+ghost use Rattle.cdcl_core.specs.Propagation.{IsExtended};
+ghost use Rattle.cdcl_core.specs.Watching.{IsWatching, IsHandling};
+ghost use Rattle.cdcl_core.specs.Visited.{IsHandled, IsComplete};
 
 use crate::clause::ClauseList;
-use crate::clause_state::{ClauseState, state_of};
+use crate::literal::Literal;
 use crate::trail::Trail;
+use crate::visit::{Visit, visit_watcher};
+use crate::watches::Watches;
 use std::alloc::AllocError;
 
-#[derive(Drop)]
-pub enum Pass {
-    Unchanged,
-    Changed,
-    Conflict(usize),
-}
-
-fn scan(trail: &mut Trail, clauses: &ClauseList) -> Result<Pass, AllocError>
-    requires { AreClausesOf trail.old.variables clauses.now }
-    ensures extended { IfOk result (λ _. IsExtended clauses.now trail.old trail.new) }
-    ensures pass { IfOk result (IsPass clauses.now trail.old trail.new) }
+/// Visits the clauses that watch a literal that became false by the next entry, and answers one that is false.
+fn handle(
+    trail: &mut Trail,
+    watches: &mut Watches,
+    clauses: &ClauseList,
+    x: Literal,
+) -> Result<Option<usize>, AllocError>
+    requires handling { IsHandling clauses.now trail.old watches.old x 0 }
+    requires literal { IsLiteralOf trail.old.variables x }
+    ensures found { IfOk result (IsHandled clauses.now trail.new watches.new) }
+    ensures extended { OnOk result (IsExtended clauses.now trail.old trail.new) }
+    ensures handled { OnOk result (watches.new.handled ≡ watches.old.handled) }
 {
-    let mut changed = false;
-    for j in 0..clauses.len() {
-        match state_of(trail, clauses.get(j).as_slice()) {
-            ClauseState::Settled => {}
-            ClauseState::AllFalse => {
-                return Ok(Pass::Conflict(j));
+    let mut at = 0;
+    'along: while at < watches.count(x) {
+        match visit_watcher(trail, watches, clauses, x, at)? {
+            Visit::Next => {
+                at += 1;
             }
-            ClauseState::OneOpen(literal) => {
-                trail.push_implied(literal, j)?;
-                changed = true;
-            }
+            Visit::Again => {}
+            Visit::Conflict(clause) => return Ok(Some(clause)),
         }
     }
-    if changed {
-        Ok(Pass::Changed)
-    } else {
-        Ok(Pass::Unchanged)
-    }
+    Ok(None)
 }
 
 /// The clause that is false, or None where every clause is settled.
-pub fn propagate(trail: &mut Trail, clauses: &ClauseList) -> Result<Option<usize>, AllocError>
-    requires { AreClausesOf trail.old.variables clauses.now }
-    ensures extended { IfOk result (λ _. IsExtended clauses.now trail.old trail.new) }
-    ensures complete { IfOk result (IsComplete clauses.now trail.new) }
+pub fn propagate(
+    trail: &mut Trail,
+    watches: &mut Watches,
+    clauses: &ClauseList,
+) -> Result<Option<usize>, AllocError>
+    requires { IsWatching clauses.now trail.old watches.old }
+    ensures extended { OnOk result (IsExtended clauses.now trail.old trail.new) }
+    ensures complete { IfOk result (IsComplete clauses.now trail.new watches.new) }
 {
-    loop {
+    'entries: while watches.handled() < trail.len() {
         trail.consistent();
-        match scan(trail, clauses)? {
-            Pass::Unchanged => {
-                return Ok(None);
-            }
-            Pass::Conflict(clause) => {
-                return Ok(Some(clause));
-            }
-            Pass::Changed => {}
+        let entry = watches.handled();
+        let x = trail.literal(entry).negated();
+        if let Some(clause) = handle(trail, watches, clauses, x)? {
+            return Ok(Some(clause));
         }
+        watches.set_handled(entry + 1);
     }
+    Ok(None)
 }

@@ -2,10 +2,12 @@
 //!
 //! Before each decision every clause is settled: it has a true literal, or two that are open. This is what makes each learned
 //! clause new, so a decision never comes before propagation has ended. Source: the loop of GRASP, Chaff and MiniSat.
-ghost use Rattle.std.specs.Prelude.{◌≡◌, MatchOption, IfOk};
+ghost use Rattle.std.specs.Prelude.{◌≡◌, [], MatchOption, IfOk};
 ghost use Rattle.proof_semantics.specs.Logs.{IsDerivation};
 ghost use Rattle.proof_semantics.specs.Conflicts.{clauses_with};
 ghost use Rattle.cdcl_core.specs.Propagation.{IsConflict};
+ghost use Rattle.cdcl_core.specs.Watches.{no_watches};
+ghost use Rattle.cdcl_core.specs.Watching.{IsWatching, IsWatchedBelow};
 ghost use Rattle.cdcl_core.specs.Searched.{IsSearch, IsSearching, IsModelTrail};
 
 use crate::clause::{ClauseList, push_added, push_all};
@@ -14,17 +16,19 @@ use crate::log_copy::log_copy;
 use crate::order::Order;
 use crate::propagation::propagate;
 use crate::trail::Trail;
+use crate::watches::Watches;
 use cnf_core::cnf::Cnf;
 use cnf_core::log::Log;
 use net_core::items::Items;
 use std::alloc::{AllocError, Global};
 
-/// The clauses that are held, the literals that are true, the order of the variables, the log of what was derived, and room for the
+/// The clauses that are held, the literals that are true, the watches, the order of the variables, the log of what was derived, and room for the
 /// marks of an analysis.
 #[derive(Drop)]
 pub struct Search {
     pub clauses: ClauseList,
     pub trail: Trail,
+    pub watches: Watches,
     pub order: Order,
     pub log: Log,
     pub marks: Vec<bool>,
@@ -43,17 +47,21 @@ fn all_clauses(alloc: Global, cnf: &Cnf, log: &Log) -> Result<ClauseList, AllocE
 /// No variable has a value, and the log is `merged`.
 pub fn start(alloc: Global, cnf: &Cnf, merged: &Log) -> Result<Search, AllocError>
     requires { IsDerivation cnf.now merged.now }
-    ensures { IfOk result (IsSearch cnf.now merged.now 0) }
+    ensures search { IfOk result (IsSearch cnf.now merged.now 0) }
+    ensures starts { IfOk result (λ search. search.trail.starts ≡ []) }
+    ensures watches { IfOk result (λ search. search.watches ≡ no_watches search.trail.variables) }
 {
     let variables = cnf.vars();
     let clauses = all_clauses(alloc, cnf, merged)?;
     let trail = Trail::new(alloc, variables)?;
+    let watches = Watches::new(alloc, variables)?;
     let order = Order::new(alloc, variables)?;
     let log = log_copy(alloc, merged.as_slice())?;
     let marks = Vec::new(alloc);
     Ok(Search {
         clauses,
         trail,
+        watches,
         order,
         log,
         marks,
@@ -63,17 +71,20 @@ pub fn start(alloc: Global, cnf: &Cnf, merged: &Log) -> Result<Search, AllocErro
 /// Decides, each time after complete propagation, until a clause is false, or every variable has a value.
 pub fn next_conflict(
     trail: &mut Trail,
+    watches: &mut Watches,
     clauses: &ClauseList,
     order: &Order,
 ) -> Result<Option<usize>, AllocError>
     requires searching { IsSearching clauses.now trail.old order.now }
+    requires watching { IsWatching clauses.now trail.old watches.old }
     ensures searching { IfOk result (λ _. IsSearching clauses.now trail.new order.now) }
+    ensures watched { IfOk result (λ _. IsWatchedBelow clauses.now trail.new watches.new) }
     ensures found { IfOk result (λ found. MatchOption found
         (IsModelTrail clauses.now trail.new) (IsConflict clauses.now trail.new)) }
 {
     loop {
         trail.consistent();
-        if let Some(conflict) = propagate(trail, clauses)? {
+        if let Some(conflict) = propagate(trail, watches, clauses)? {
             return Ok(Some(conflict));
         }
         match decide(trail, order) {

@@ -9,6 +9,7 @@ ghost use Rattle.cdcl_core.specs.Trail.{IsConsistent};
 ghost use Rattle.cdcl_core.specs.Decided.{AreValues};
 
 use crate::answer::Answer;
+use crate::first_watches::watch_all;
 use crate::learning::{learn_from, log_refutation};
 use crate::literal::Literal;
 use crate::search::{next_conflict, start};
@@ -40,8 +41,18 @@ pub fn solve(alloc: Global, cnf: &Cnf, merged: &Log, limit: u64) -> Result<Answe
     ensures { IfOk result (IsAnswer cnf.now merged.now limit) }
 {
     let mut search = start(alloc, cnf, merged)?;
+    let at_once = watch_all(&mut search.trail, &mut search.watches, &search.clauses)?;
+    if let Some(conflict) = at_once {
+        log_refutation(alloc, &mut search, conflict)?;
+        return Ok(Answer::Refuted(search.log));
+    }
     for _conflicts in 0..limit {
-        let found = next_conflict(&mut search.trail, &search.clauses, &search.order)?;
+        let found = next_conflict(
+            &mut search.trail,
+            &mut search.watches,
+            &search.clauses,
+            &search.order,
+        )?;
         let Some(conflict) = found else {
             return Ok(Answer::Model(values(alloc, &search.trail)?));
         };

@@ -1,23 +1,34 @@
-use Rattle.std.proofs.Common.{◌≡◌, ◌∙◌, ℕ, ◌-◌, get_or, ap, subst, neg_ℤ, Some, [], ◌∷◌, ◌++◌}
+use Rattle.std.proofs.Common.{◌≡◌, ◌∙◌, ap, subst, sym, neg_ℤ, Some, [], ◌∷◌, ◌++◌}
+use Rattle.std.specs.List.{Contains}
 use Rattle.cdcl_core.specs.Placed.{TrailValue, last_start}
 use Rattle.cdcl_core.specs.Trail.{literal_at}
-use Rattle.cdcl_core.specs.Jump.{IsJump}
-use Rattle.cdcl_core.proofs.Jumping.{jump_none, jump_some, jump_done}
+use Rattle.cdcl_core.specs.Jump.{IsJump, IsJumpPair}
+use Rattle.cdcl_core.proofs.Jumping.{jump_done}
+use Rattle.cdcl_core.specs.Explained.{Holds}
+use Rattle.cdcl_core.specs.Settled.{IsOpen}
+use Rattle.cdcl_core.proofs.WatchJump.{jump_watching, own_open}
 use Rattle.cdcl_core.proofs.jump.jump.Goals as goal
-use Rattle.cdcl_core.proofs.jump.jump.Goals.{in-None, in-Some}
 
 pub returns-clause-running : goal.returns-clause-running
 returns-clause-running c =
     let own : c.negated-own.result ≡ neg_ℤ (literal_at c.args.trail.now.literals c.args.place) = c.negated-own.ensures ∙ ap neg_ℤ c.literal.ensures in
-    let start_is : c.start-start.result ≡ last_start c.args.trail.now = c.start-start.ensures ∙ ap (λ (levels : ℕ). get_or c.args.trail.now.starts (levels - 1) 0) c.levels.ensures in
-    let step : IsJump c.args.trail.now c.start-start.result c.args.clause c.negated-own.result c.match-last_other.level = elim c.match-last_other.branch [
-      | in-None w ↦
-          jump_none c.args.trail.now c.start-start.result c.args.clause c.as_slice.result.now c.negated-own.result c.last_other.result c.match-last_other.level
-          c.requires.levels c.last_other.ensures c.as_slice.ensures w.in-None.is w.level-is
-      | in-Some w ↦
-          jump_some c.args.trail.now c.start-start.result c.args.clause c.as_slice.result.now c.negated-own.result c.last_other.result w.in-Some.other w.levels_until-level.result c.match-last_other.level
-          c.requires.levels start_is c.last_other.ensures c.as_slice.ensures w.in-Some.is w.levels_until-level.ensures.before w.levels_until-level.ensures.after w.level-is
-    ] in
-    jump_done c.args.clauses.now c.push.new.self c.args.trail.now c.push_implied.new.self (last_start c.args.trail.now) c.args.clause _ c.negated-own.result c.args.place c.match-last_other.level c.len-reason.result
-    c.consistent.ensures.consistent c.requires.running c.requires.learned own (subst (λ start. IsJump c.args.trail.now start c.args.clause c.negated-own.result c.match-last_other.level) start_is step) c.in_ok-push.ensures.ok c.len-reason.ensures
+    jump_done c.args.clauses.now c.push.new.self c.args.trail.now c.push_implied.new.self (last_start c.args.trail.now) c.args.clause _ c.negated-own.result c.args.place c.jump_target-level.result.level c.len-reason.result
+    c.consistent.ensures.consistent c.requires.running c.requires.learned own
+    (subst (λ C. IsJump c.args.trail.now (last_start c.args.trail.now) C c.negated-own.result c.jump_target-level.result.level) c.as_slice.ensures c.jump_target-level.ensures.jump) c.in_ok-push.ensures.ok c.len-reason.ensures
     (c.in_ok-push_implied.ensures ∙ ap (λ (t : TrailValue). record t { literals = t.literals ++ c.negated-own.result ∷ []; reasons = t.reasons ++ Some c.len-reason.result ∷ [] }) c.close.ensures)
+
+pub returns-clause-watching : goal.returns-clause-watching
+returns-clause-watching c =
+    let own : c.negated-own.result ≡ neg_ℤ (literal_at c.args.trail.now.literals c.args.place) = c.negated-own.ensures ∙ ap neg_ℤ c.literal.ensures in
+    jump_watching c.args.clauses.now c.push.new.self c.args.trail.now c.push_implied.new.self c.args.watches.now c.add.new.self c.set_handled.new.self (last_start c.args.trail.now) c.args.clause _ c.negated-own.result c.args.place
+    c.jump_target-level.result.level c.len-reason.result c.start.result c.jump_target-level.result.other
+    c.consistent.ensures.consistent c.requires.running c.requires.watched c.requires.learned own c.jump_target-level.ensures.jump.within
+    (subst (λ C. IsJumpPair c.args.trail.now (last_start c.args.trail.now) C c.negated-own.result c.jump_target-level.result.level c.jump_target-level.result.other) c.as_slice.ensures c.jump_target-level.ensures.pair)
+    c.requires.literals c.in_ok-push.ensures.ok c.len-reason.ensures c.in_ok-add.ensures c.start.ensures c.set_handled.ensures
+    (c.in_ok-push_implied.ensures ∙ ap (λ (t : TrailValue). record t { literals = t.literals ++ c.negated-own.result ∷ []; reasons = t.reasons ++ Some c.len-reason.result ∷ [] }) c.close.ensures)
+
+pub push_implied-requires-clause-open : goal.push_implied-requires-clause-open
+push_implied-requires-clause-open c =
+    let own : c.negated-own.result ≡ neg_ℤ (literal_at c.args.trail.now.literals c.args.place) = c.negated-own.ensures ∙ ap neg_ℤ c.literal.ensures in
+    subst (λ (t : TrailValue). IsOpen (Holds t.literals) c.negated-own.result) (sym c.close.ensures)
+    (own_open c.args.trail.now c.args.clause _ c.negated-own.result c.args.place c.jump_target-level.result.level c.consistent.ensures.consistent c.requires.running.levels c.requires.learned own c.jump_target-level.ensures.jump.within)

@@ -1,9 +1,9 @@
-use Rattle.std.proofs.Common.{◌-◌, ◌+◌, length}
-use Rattle.cdcl_core.specs.Propagation.{IsExtended}
+use Rattle.std.proofs.Common.{◌-◌, ◌+◌}
+use Rattle.cdcl_core.proofs.Handled.{IsHandledSoFar}
 use Rattle.cdcl_core.proofs.propagation.propagate.Given as goal
 
-abbrev pub invariant-loop-clause : goal.invariant-loop-clause
-invariant-loop-clause l = IsExtended l.clauses l.initial.trail l.trail
+abbrev pub invariant-entries : goal.invariant-entries
+invariant-entries l = IsHandledSoFar l.clauses l.fn.trail l.trail l.watches
 
-abbrev pub decreases-loop-clause : goal.decreases-loop-clause
-decreases-loop-clause l = (l.trail.variables + 2) - length l.trail.literals
+abbrev pub decreases-entries : goal.decreases-entries
+decreases-entries l = (l.trail.variables + 2) - l.watches.handled

@@ -1,0 +1,9 @@
+use Rattle.cdcl_core.specs.Propagation.{IsExtended}
+use Rattle.cdcl_core.specs.Started.{IsStarting}
+use Rattle.cdcl_core.proofs.first_watches.watch_all.Given as goal
+
+abbrev pub invariant-loop-place : goal.invariant-loop-place
+invariant-loop-place l = record {
+  starting : IsStarting l.clauses l.place l.trail l.watches;
+  extended : IsExtended l.clauses l.initial.trail l.trail;
+}

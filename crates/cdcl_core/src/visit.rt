@@ -1,0 +1,133 @@
+//! A visit of a clause that watches a literal which became false: the clause is true, or another of its literals is watched, or
+//! the other one that it watches follows, or it is false. Source: Chaff; the blockers are MiniSat's.
+ghost use Rattle.std.specs.Prelude.{◌≡◌, ◌<◌, length, All, IfOk, OnOk, IfSome, IsNone};
+ghost use Rattle.proof_semantics.specs.Clauses.{IsLiteralOf};
+ghost use Rattle.cdcl_core.specs.Propagation.{IsExtended};
+ghost use Rattle.cdcl_core.specs.Watches.{list_at, watch_at, pair_at};
+ghost use Rattle.cdcl_core.specs.Watching.{IsOneOf, IsHandling};
+ghost use Rattle.cdcl_core.specs.Visited.{IsPartner, IsOtherWatch, AreOthersFalse, IsVisited};
+
+use crate::clause::ClauseList;
+use crate::literal::Literal;
+use crate::trail::Trail;
+use crate::watches::{Pair, Watch, Watches};
+use std::alloc::AllocError;
+
+/// What became of a watcher.
+#[derive(Drop)]
+pub enum Visit {
+    /// It stays.
+    Next,
+    /// It was taken out, and another one stands in its place.
+    Again,
+    /// Its clause is false.
+    Conflict(usize),
+}
+
+/// A literal of the clause that is not false, other than `first`.
+pub fn other_watch(trail: &Trail, clause: &[Literal], first: Literal) -> Option<Literal>
+    requires { All (IsLiteralOf trail.now.variables) clause.now }
+    ensures some { IfSome result (IsOtherWatch trail.now.literals clause.now first) }
+    ensures none { IsNone result → AreOthersFalse trail.now.literals clause.now first }
+{
+    for literal in clause {
+        if !literal.is(first) && !trail.is_false(*literal) {
+            return Some(*literal);
+        }
+    }
+    None
+}
+
+/// What the clause watches besides `literal`, if it watches that one.
+fn partner(pair: Pair, literal: Literal) -> Option<Literal>
+    ensures some { IfSome result (IsPartner pair literal) }
+    ensures none { IsNone result → IsOneOf pair literal → ⊥ }
+{
+    if pair.one.is(literal) {
+        Some(pair.other)
+    } else if pair.other.is(literal) {
+        Some(pair.one)
+    } else {
+        None
+    }
+}
+
+/// A visit of a clause that watches `x` and `first`.
+fn visit_clause(
+    trail: &mut Trail,
+    watches: &mut Watches,
+    clauses: &ClauseList,
+    x: Literal,
+    at: usize,
+    clause: usize,
+    first: Literal,
+) -> Result<Visit, AllocError>
+    requires handling { IsHandling clauses.now trail.old watches.old x at }
+    requires at { at < length (list_at watches.old.lists x) }
+    requires clause { (watch_at (list_at watches.old.lists x) at).clause ≡ clause }
+    requires first { IsPartner (pair_at watches.old.pairs clause) x first }
+    ensures visited { IfOk result (IsVisited clauses.now trail.new watches.old watches.new x at) }
+    ensures extended { OnOk result (IsExtended clauses.now trail.old trail.new) }
+    ensures handled { OnOk result (watches.new.handled ≡ watches.old.handled) }
+{
+    if first.is(x) {
+        return Ok(Visit::Next);
+    }
+    if trail.is_true(first) {
+        return Ok(Visit::Next);
+    }
+    match other_watch(trail, clauses.get(clause).as_slice(), first) {
+        Some(literal) => {
+            watches.push(
+                literal,
+                Watch {
+                    clause,
+                    blocker: first,
+                },
+            )?;
+            watches.set_pair(
+                clause,
+                Pair {
+                    one: first,
+                    other: literal,
+                },
+            );
+            watches.remove(x, at);
+            Ok(Visit::Again)
+        }
+        None => {
+            if trail.is_false(first) {
+                return Ok(Visit::Conflict(clause));
+            }
+            trail.push_implied(first, clause)?;
+            Ok(Visit::Next)
+        }
+    }
+}
+
+/// A visit of the clause of the watcher at `at` of a literal that became false by the next entry.
+pub fn visit_watcher(
+    trail: &mut Trail,
+    watches: &mut Watches,
+    clauses: &ClauseList,
+    x: Literal,
+    at: usize,
+) -> Result<Visit, AllocError>
+    requires handling { IsHandling clauses.now trail.old watches.old x at }
+    requires at { at < length (list_at watches.old.lists x) }
+    ensures visited { IfOk result (IsVisited clauses.now trail.new watches.old watches.new x at) }
+    ensures extended { OnOk result (IsExtended clauses.now trail.old trail.new) }
+    ensures handled { OnOk result (watches.new.handled ≡ watches.old.handled) }
+{
+    let watch = watches.get(x, at);
+    if trail.is_true(watch.blocker) {
+        return Ok(Visit::Next);
+    }
+    match partner(watches.pair(watch.clause), x) {
+        Some(first) => visit_clause(trail, watches, clauses, x, at, watch.clause, first),
+        None => {
+            watches.remove(x, at);
+            Ok(Visit::Again)
+        }
+    }
+}

@@ -1,0 +1,160 @@
+//! The watches: for each literal the clauses that watch it, for each clause the two literals that it watches, and how many entries
+//! of the trail have been handled.
+//!
+//! The literals of a clause keep their places, since the log speaks of them; so the two that are watched stand beside the clause.
+//! A watcher may be stale: its clause watches the literal no more. A visit takes it out. Source: Chaff; the blockers are MiniSat's.
+ghost use Rattle.std.specs.Prelude.{◌≡◌, ◌<◌, ◌^◌, [], length, map, replicate, slice_set, IfOk, OnOk};
+ghost use Rattle.std.specs.List.{swap_remove};
+ghost use Rattle.cdcl_core.specs.Watched.{index_of};
+ghost use Rattle.cdcl_core.specs.Watches.{list_at, watch_at, pair_at, lists_with, watches_with, no_watches};
+
+use crate::literal::Literal;
+use std::alloc::{AllocError, Global};
+use std::marker::Model;
+
+/// A clause that watches a literal, and one of its literals that may show that it is true.
+#[derive(Clone, Copy, Drop)]
+pub struct Watch {
+    pub clause: usize,
+    pub blocker: Literal,
+}
+
+/// The two literals that a clause watches.
+#[derive(Clone, Copy, Drop)]
+pub struct Pair {
+    pub one: Literal,
+    pub other: Literal,
+}
+
+#[derive(Drop)]
+pub struct Watches {
+    lists: Vec<Vec<Watch>>,
+    pairs: Vec<Pair>,
+    handled: usize,
+}
+
+impl Model for Watches {
+    ghost use Rattle.std.specs.Prelude.{map};
+    ghost use Rattle.cdcl_core.specs.Watches.{WatchesValue};
+
+    ghost Value = { WatchesValue };
+
+    ghost view = { λ w. record { lists = map (λ v. v.items) w.lists.items; pairs = w.pairs.items; handled = w.handled } };
+}
+
+/// So many empty lists.
+fn no_watchers(alloc: Global, lists: usize) -> Result<Vec<Vec<Watch>>, AllocError>
+    ensures { IfOk result (λ made. map (λ v. v.items) made.items ≡ replicate lists []) }
+{
+    let mut made = Vec::new(alloc);
+    for _list in 0..lists {
+        made.push(Vec::new(alloc))?;
+    }
+    Ok(made)
+}
+
+impl Watches {
+    /// No clause is watched yet.
+    pub fn new(alloc: Global, variables: u32) -> Result<Watches, AllocError>
+        requires { variables < 2 ^ 31 }
+        ensures { IfOk result (λ watches. watches ≡ no_watches variables) }
+    {
+        Ok(Watches {
+            lists: no_watchers(alloc, variables as usize * 2 + 2)?,
+            pairs: Vec::new(alloc),
+            handled: 0,
+        })
+    }
+
+    /// How many watchers a literal has.
+    pub fn count(&self, literal: Literal) -> usize
+        requires { index_of literal < length self.now.lists }
+        ensures { result ≡ length (list_at self.now.lists literal) }
+    {
+        self.lists[literal.index()].len()
+    }
+
+    pub fn get(&self, literal: Literal, at: usize) -> Watch
+        requires literal { index_of literal < length self.now.lists }
+        requires at { at < length (list_at self.now.lists literal) }
+        ensures { result ≡ watch_at (list_at self.now.lists literal) at }
+    {
+        self.lists[literal.index()][at]
+    }
+
+    /// One watcher more.
+    pub fn push(&mut self, literal: Literal, watch: Watch) -> Result<(), AllocError>
+        requires { index_of literal < length self.old.lists }
+        ensures { OnOk result (self.new ≡ record self.old { lists = lists_with self.old.lists literal watch }) }
+    {
+        self.lists[literal.index()].push(watch)?;
+        Ok(())
+    }
+
+    /// Takes a watcher out; the last one takes its place.
+    pub fn remove(&mut self, literal: Literal, at: usize)
+        requires literal { index_of literal < length self.old.lists }
+        requires at { at < length (list_at self.old.lists literal) }
+        ensures { self.new ≡ record self.old {
+          lists = slice_set self.old.lists (index_of literal)
+              (swap_remove (list_at self.old.lists literal) at (watch_at (list_at self.old.lists literal) at));
+        } }
+    {
+        self.lists[literal.index()].swap_remove(at);
+    }
+
+    /// The two literals that a clause watches.
+    pub fn pair(&self, clause: usize) -> Pair
+        requires { clause < length self.now.pairs }
+        ensures { result ≡ pair_at self.now.pairs clause }
+    {
+        self.pairs[clause]
+    }
+
+    /// The clause watches these two.
+    pub fn set_pair(&mut self, clause: usize, pair: Pair)
+        requires { clause < length self.old.pairs }
+        ensures { self.new ≡ record self.old { pairs = slice_set self.old.pairs clause pair } }
+    {
+        self.pairs[clause] = pair;
+    }
+
+    /// The next clause watches these two.
+    pub fn add(&mut self, one: Literal, other: Literal) -> Result<(), AllocError>
+        requires one { index_of one < length self.old.lists }
+        requires other { index_of other < length self.old.lists }
+        ensures { OnOk result (self.new ≡ watches_with self.old one other) }
+    {
+        let clause = self.pairs.len();
+        self.push(
+            one,
+            Watch {
+                clause,
+                blocker: other,
+            },
+        )?;
+        self.push(
+            other,
+            Watch {
+                clause,
+                blocker: one,
+            },
+        )?;
+        self.pairs.push(Pair { one, other })?;
+        Ok(())
+    }
+
+    /// How many entries of the trail have been handled.
+    pub fn handled(&self) -> usize
+        ensures { result ≡ self.now.handled }
+    {
+        self.handled
+    }
+
+    /// So many entries of the trail have been handled.
+    pub fn set_handled(&mut self, handled: usize)
+        ensures { self.new ≡ record self.old { handled = handled } }
+    {
+        self.handled = handled;
+    }
+}
