@@ -59,8 +59,7 @@ abbrev pub turns_after : Option Bytes → ℕ → ℕ → List Bytes → List By
 turns_after None asked n turns = turns
 turns_after (Some name) asked n turns = if is_turn asked n then name ∷ turns else turns
 
--- Between two moments there were so many read turns on a name that it was read no further. Where the files tell nothing, this is why a
--- file counts as one without an end.
+-- between two moments there were at least as many read turns on the name as the budget of turns
 abbrev pub IsReadOut : FilesTold → FilesTold → Bytes → Type 0
 IsReadOut old new name = turns_on old name + turn_budget ≤ turns_on new name
 
@@ -85,7 +84,7 @@ pub record StaysCalm (old new : FilesTold) : Type 0 where
   pub read : IsTrue old.calm_read → IsTrue new.calm_read
   pub write : IsTrue old.calm_write → IsTrue new.calm_write
 
--- what is read stays, and no read turn was made
+-- the name that is open for reading stays, and the read turns are those that were
 pub record KeepsTurns (old new : FilesTold) : Type 0 where
   pub opened : new.opened ≡ old.opened
   pub turns : new.turns ≡ old.turns
