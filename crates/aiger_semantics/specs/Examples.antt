@@ -26,7 +26,7 @@ two_rows = record {
   outputs = 3 ∷ [];
 }
 
--- the variables of n inputs, AND lines and outputs with names
+-- the variables of the inputs, the AND lines, the literals of the outputs, and the names of both
 abbrev pub circuit : List ℕ → List AndLine → List ℕ → List Bytes → List Bytes → CircuitValue
 circuit inputs ands outputs input_names output_names = record {
   inputs = inputs;
@@ -36,7 +36,7 @@ circuit inputs ands outputs input_names output_names = record {
   output_names = output_names;
 }
 
--- A row takes a line less than it has literals, and so do the rows. Tables may stand before those that they read; an inverter and a
+-- A row takes a line less than it has literals, and a table a line less than it has rows besides. Tables may stand before those that they read; an inverter and a
 -- constant take no line.
 pub record CircuitExamples : Type 0 where
   pub of_half_adder :

@@ -1,6 +1,5 @@
 //! Whether the vectors of a bundle show that its net is minimal: each move of the net that the bundle's version knows is broken by
-//! one of them. The masks of the
-//! net at these vectors tell it move by move, and no moved net is made.
+//! one of them. The masks of the net at these vectors tell it move by move, and no moved net is made.
 ghost use Rattle.std.specs.Prelude.{◌≡◌, ◌≤◌, ◌↔◌, ℕ, length, Contains, IsTrue, IfOk};
 ghost use Rattle.semantics.specs.Net.{NetValue, HasSamePorts, IsSmall, input_count};
 ghost use Rattle.semantics.specs.declared.metric.Metric.{Metric as ErrorMetric};

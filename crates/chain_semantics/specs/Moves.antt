@@ -102,7 +102,7 @@ moves_of N = moves_from (moves_of_table N) 0 N.tables
 unfoldable pub old_moves_of : NetValue → List Move
 old_moves_of N = moves_from (old_moves_of_table N) 0 N.tables
 
--- a move of the other four kinds
+-- a move that is not to two signals
 abbrev pub is_old : Move → Bool
 is_old (Const t value) = true
 is_old (DropRow t row) = true

@@ -29,11 +29,11 @@ full_adder_lines first =
 abbrev pub full_adder : Bytes
 full_adder = lf (full_adder_lines (codes ".subckt ha a=a b=b s=t c=u" ∷ []) ++ half_adder_lines)
 
--- the half adder uses the full adder
+-- the half adder uses itself, and the full adder, which stands first, uses it
 abbrev pub in_a_circle : Bytes
 in_a_circle =
     lf (full_adder_lines (codes ".subckt ha a=a b=b s=t c=u" ∷ []) ++ codes ".model ha" ∷ codes ".inputs a b" ∷ codes ".outputs s c" ∷ codes ".names a b s" ∷ codes "10 1" ∷ codes "01 1"
-    ∷ codes ".names a b c" ∷ codes "11 1" ∷ codes ".subckt fa a=a b=b s=z" ∷ codes ".end" ∷ [])
+    ∷ codes ".names a b c" ∷ codes "11 1" ∷ codes ".subckt ha a=a b=b s=z" ∷ codes ".end" ∷ [])
 
 abbrev pub refused : Result Hierarchy HierRefusal → Option HierRefusal
 refused (Ok h) = None

@@ -47,8 +47,8 @@ pub record IsRefutedBy (f : Formula) (log : List LogItem) : Type 0 where
   pub derivation : IsDerivation f log
   pub unsatisfiable : IsUnsatisfiable f.clauses
 
--- The bundle is of version 2. The formula says that some error exceeds the maximum; behind the witness stand the vectors that break moves; that no further move is allowed
--- is said exactly where no query was spent.
+-- The bundle is of version 2. The formula says that some error exceeds the maximum; behind the witness stand the vectors that break moves;
+-- that no further move is allowed is said exactly where no query was spent.
 abbrev pub synth_bundle : NetValue → Metric → ℕ → Simplified → List LogItem → BundleValue
 synth_bundle exact metric bound s log = record {
   version = Two;

@@ -1,5 +1,6 @@
 -- Trimmed logs: of a log that refutes a formula only the additions from which its empty clause follows, each removed as soon as
--- no further one names it. Its order is that of the ids, which rise along such a log.
+-- no further one names it, but for those that the empty clause is the last to name. Its order is that of the ids, which rise along such
+-- a log.
 -- Source: proof trimming by backward checking, with the removals of LRAT.
 use Rattle.std.specs.Prelude.{◌≡◌, ◌↔◌, ℕ, ◌<◌, ◌≤◌, List, [], ◌∷◌, ◌++◌, Some}
 use Rattle.std.specs.List.{Contains, AllPairs}

@@ -1,4 +1,4 @@
-//! The two versions of a bundle: a net of which only a move to two signals takes a literal away.
+//! The two versions of a bundle: a net of which only a move to two signals keeps every output.
 use crate::checked::refuted_clause;
 use crate::parts::{holds, run_on, words};
 use blif_text::reading::read_blif;
@@ -21,9 +21,11 @@ use worst_case::exceeds::exceeds;
 use worst_case::query::Exceed;
 
 /// y is the exclusive or of w and q, which equals u and v.
-const PARITY: &[u8] = b".model p\n.inputs u v w\n.outputs q y\n.names u v w q\n110 1\n0-1 1\n-01 1\n.names w q y\n10 1\n01 1\n.end\n";
+const PARITY: &[u8] =
+    b".model p\n.inputs u v w\n.outputs q y\n.names u v w q\n110 1\n0-1 1\n-01 1\n.names w q y\n10 1\n01 1\n.end\n";
 
-const CONJUNCTION: &[u8] = b".model p\n.inputs u v w\n.outputs q y\n.names u v w q\n110 1\n0-1 1\n-01 1\n.names u v y\n11 1\n.end\n";
+const CONJUNCTION: &[u8] =
+    b".model p\n.inputs u v w\n.outputs q y\n.names u v w q\n110 1\n0-1 1\n-01 1\n.names u v y\n11 1\n.end\n";
 
 const FIRST_VERSION: &[u8] =
     b"salsa 1\nmetric abs\nbound 0\nmaximum 0\nwitness 000\ntables 2 2\nliterals 11 11\nminimal yes\n";
@@ -54,10 +56,12 @@ fn write_shown(net: &Net, files: &mut MemFiles, alloc: Global) -> Result<bool, A
         return Ok(false);
     };
     let goal = miter_of(alloc, &Compared::new(net, net), Metric::Abs, 0)?;
-    Ok(files.create(b"out.cnf").is_ok()
-        && write_dimacs(&goal, files).is_ok()
-        && files.create(b"out.lrat").is_ok()
-        && write_lrat(&log, files).is_ok())
+    Ok(
+        files.create(b"out.cnf").is_ok()
+            && write_dimacs(&goal, files).is_ok()
+            && files.create(b"out.lrat").is_ok()
+            && write_lrat(&log, files).is_ok(),
+    )
 }
 
 /// The net and its bundle with itself, with this report.
