@@ -45,8 +45,8 @@ module _ (N : NetValue) (vectors : List (List Bool)) (rows : List (List ℕ)) (k
       elim (cases_eq j k) [
         | inl e ↦
             rw e
-                (ap (λ l. lane_at l b) (get_or_push rows row [] k long) ∙ outputs_lane N N words row b refl is
-                ∙ outputs_from_values N words b (vector_at vectors (64 * k + b)) sound (block.values b within))
+            (ap (λ l. lane_at l b) (get_or_push rows row [] k long) ∙ outputs_lane N N words row b refl is
+            ∙ outputs_from_values N words b (vector_at vectors (64 * k + b)) sound (block.values b within))
         | inr other ↦ rw (get_or_append_left rows (row ∷ []) [] j (omega arith)) (before j b (omega arith) within)
       ]
 

@@ -5,8 +5,8 @@ ghost use Rattle.semantics.specs.Net.{table_at};
 ghost use Rattle.chain_semantics.specs.TidyRules.{has};
 ghost use Rattle.net_tidy.specs.Flags.{IsDown, IsLeft};
 
-use crate::table_draft::TableDraft;
 use crate::rules::has;
+use crate::table_draft::TableDraft;
 use net_core::items::Signal;
 use std::alloc::{AllocError, Global};
 use std::marker::Model;

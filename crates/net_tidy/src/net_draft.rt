@@ -12,10 +12,10 @@ ghost use Rattle.net_core.specs.Built.{IsBuilt};
 ghost use Rattle.net_tidy.specs.Rule.{rule_at, made_by};
 ghost use Rattle.net_tidy.specs.Flags.{IsFirstRule};
 
-use crate::table_draft::{TableDraft, lower};
 use crate::flags::Flags;
 use crate::rule::Rule;
 use crate::rules::{first_place, has, rule_by};
+use crate::table_draft::{TableDraft, lower};
 use net_core::items::{Items, NameList, Signal, TableList};
 use net_core::name::Name;
 use net_core::net::Net;

@@ -2,9 +2,9 @@
 //! the log of as many conflicts as the limit allows.
 #![tactic(auto)]
 
-mod formula_draft;
 mod error;
 mod examples;
+mod formula_draft;
 mod header;
 mod laws;
 mod lines;

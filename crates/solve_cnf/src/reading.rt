@@ -4,8 +4,8 @@ ghost use Rattle.proof_semantics.specs.Logs.{IsDerivation};
 ghost use Rattle.solve_cnf.specs.Reading.{formula_of_text};
 ghost use Rattle.solve_cnf.specs.Refusals.{Tells};
 
-use crate::formula_draft::FormulaDraft;
 use crate::error::ReadError;
+use crate::formula_draft::FormulaDraft;
 use crate::header::header_of;
 use crate::lines::{line_number, lines_of};
 use cnf_core::cnf::Cnf;

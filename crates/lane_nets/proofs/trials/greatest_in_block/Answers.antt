@@ -16,10 +16,10 @@ loop-b-preserved c = λ f value start.
     elim c.if-word_bit.branch [
       | then-word_bit w ↦
           rw w.greatest-is
-              (block_taken f c.args.from b _ c.loop-b.greatest.at c.loop-b.greatest.error w.greater-greatest.result.at w.greater-greatest.result.error c.args.so_far.error
-              w.lane_error-error.result (ap (λ n. c.args.from + n) w.from.ensures) (value b low ∙ sym (w.lane_error-error.ensures ∙ error)) w.greater-greatest.ensures before)
+          (block_taken f c.args.from b _ c.loop-b.greatest.at c.loop-b.greatest.error w.greater-greatest.result.at w.greater-greatest.result.error c.args.so_far.error
+          w.lane_error-error.result (ap (λ n. c.args.from + n) w.from.ensures) (value b low ∙ sym (w.lane_error-error.ensures ∙ error)) w.greater-greatest.ensures before)
       | else-word_bit w ↦
           rw w.greatest-is
-              (block_kept f c.args.from b c.loop-b.greatest.at c.loop-b.greatest.error c.args.so_far.error _ (value b low)
-              (not_over c.over_word-over.result b c.args.so_far.error _ _ error (c.over_word-over.ensures b low) (sym c.word_bit.ensures ∙ w.if-word_bit.false)) before)
+          (block_kept f c.args.from b c.loop-b.greatest.at c.loop-b.greatest.error c.args.so_far.error _ (value b low)
+          (not_over c.over_word-over.result b c.args.so_far.error _ _ error (c.over_word-over.ensures b low) (sym c.word_bit.ensures ∙ w.if-word_bit.false)) before)
     ]
