@@ -64,22 +64,29 @@ fn write_shown(net: &Net, files: &mut MemFiles, alloc: Global) -> Result<bool, A
     )
 }
 
+/// Adds a file.
+fn push_file(
+    alloc: Global,
+    files: &mut FileList,
+    name: &[u8],
+    text: &[u8],
+) -> Result<(), AllocError> {
+    let name = Word::new(alloc, name)?;
+    let text = Word::new(alloc, text)?;
+    files.push((name, text))
+}
+
 /// The net and its bundle with itself, with this report.
 fn bundle_files(alloc: Global, shown: &MemFiles, report: &[u8]) -> Result<FileList, AllocError> {
     let formula = shown.bytes(b"out.cnf").unwrap_or(b"");
     let log = shown.bytes(b"out.lrat").unwrap_or(b"");
-    let texts: [(&[u8], &[u8]); 6] = [
-        (b"ha.blif", PARITY),
-        (b"out.blif", PARITY),
-        (b"out.cnf", formula),
-        (b"out.lrat", log),
-        (b"out.wit", ALL_EIGHT),
-        (b"out.txt", report),
-    ];
     let mut files = FileList::new(alloc);
-    for (name, text) in texts {
-        files.push((Word::new(alloc, name)?, Word::new(alloc, text)?))?;
-    }
+    push_file(alloc, &mut files, b"ha.blif", PARITY)?;
+    push_file(alloc, &mut files, b"out.blif", PARITY)?;
+    push_file(alloc, &mut files, b"out.cnf", formula)?;
+    push_file(alloc, &mut files, b"out.lrat", log)?;
+    push_file(alloc, &mut files, b"out.wit", ALL_EIGHT)?;
+    push_file(alloc, &mut files, b"out.txt", report)?;
     Ok(files)
 }
 
