@@ -13,5 +13,3 @@ mod refused;
 mod simplified;
 #[cfg(test)]
 mod statuses;
-#[cfg(test)]
-mod versions;
