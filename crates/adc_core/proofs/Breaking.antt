@@ -130,43 +130,9 @@ broken_nowhere N m x care exceeds b no_care none =
       ],
     )
 
-module _ (metric : Metric) (E N : NetValue) (bound : ℕ) (m : Move) (sound : IsSound N) (is : IsMoveOf N m) (vectors : List (List Bool)) (blocks : List (List ℕ)) (care exceeds : List ℕ)
-    (are : AreBlocksOf N vectors blocks) (cared : IsRowWhere vectors (IsCaredFor metric E bound N (table_of m)) care) (exceeded : IsRowWhere vectors (Exceeds metric E bound N) exceeds) where
+module _ (metric : Metric) (E N : NetValue) (bound : ℕ) (m : Move) (vectors : List (List Bool)) where
   abbrev Broken : ℕ → Type 0
   Broken p = IsBrokenAt metric E bound N m (vector_at vectors p)
-
-  -- a bit of a row is 1 at a pattern alone
-  at_pattern : (P : List Bool → Type 0) (row : List ℕ) → IsRowWhere vectors P row → (p : ℕ) → row_bit row p ≡ true → p < length vectors
-  at_pattern P row holds p set =
-      elim (cases_lt p (length vectors)) [
-        | inl low ↦ low
-        | inr past ↦ absurd (let clear : row_bit row p ≡ false = holds.clear p past in cc)
-      ]
-
-  pub broken_bit : (k word : ℕ) (words : List ℕ) → k < length blocks → words ≡ row_at blocks k
-      → ((b : ℕ) (x : List Bool) → b < 64 → HasValues N words b x → TellsBroken N m x (word_bit (get_or care k 0) b) (word_bit (get_or exceeds k 0) b) (word_bit word b))
-      → (b : ℕ) → b < 64 → (word_bit word b ≡ true) ↔ ((64 * k + b < length vectors) × IsBrokenAt metric E bound N m (vector_at vectors (64 * k + b)))
-  broken_bit k word words low words_are tells b inside =
-      let p : ℕ = 64 * k + b in
-      let x : List Bool = vector_at vectors p in
-      let values : HasValues N words b x = subst (λ w. HasValues N w b x) (sym words_are) ((are.each k low).values b inside) in
-      let iff = tells b x inside values in
-      let law = move-broken N m x sound is metric E bound in
-      let care_is : row_bit care p ≡ word_bit (get_or care k 0) b = row_bit-word care k b inside in
-      let exceeds_is : row_bit exceeds p ≡ word_bit (get_or exceeds k 0) b = row_bit-word exceeds k b inside in (
-        λ set. elim (iff.0 set) [
-          | inl changed ↦
-              let here : p < length vectors = at_pattern (IsCaredFor metric E bound N (table_of m)) care cared p (care_is ∙ changed.1) in
-              (here, law.1 (inl (changed.0, (cared.bits p here).0 (care_is ∙ changed.1))))
-          | inr left ↦
-              let here : p < length vectors = at_pattern (Exceeds metric E bound N) exceeds exceeded p (exceeds_is ∙ left.1) in
-              (here, law.1 (inr (left.0, (exceeded.bits p here).0 (exceeds_is ∙ left.1))))
-        ],
-        λ h. elim (law.0 h.1) [
-          | inl changed ↦ iff.1 (inl (changed.0, sym care_is ∙ (cared.bits p h.0).1 changed.1))
-          | inr left ↦ iff.1 (inr (left.0, sym exceeds_is ∙ (exceeded.bits p h.0).1 left.1))
-        ],
-      )
 
   -- the first bit of a block behind blocks that break nowhere
   pub broken_first : (k word t p : ℕ) → p ≡ 64 * k + t
@@ -206,3 +172,38 @@ module _ (metric : Metric) (E N : NetValue) (bound : ℕ) (m : Move) (sound : Is
             let clear : word_bit word b ≡ false = none b (omega arith) in
             cc
       ]
+
+module _ (metric : Metric) (E N : NetValue) (bound : ℕ) (m : Move) (sound : IsSound N) (is : IsMoveOf N m) (vectors : List (List Bool)) (blocks : List (List ℕ)) (care exceeds : List ℕ)
+    (are : AreBlocksOf N vectors blocks) (cared : IsRowWhere vectors (IsCaredFor metric E bound N (table_of m)) care) (exceeded : IsRowWhere vectors (Exceeds metric E bound N) exceeds) where
+  -- a bit of a row is 1 at a pattern alone
+  at_pattern : (P : List Bool → Type 0) (row : List ℕ) → IsRowWhere vectors P row → (p : ℕ) → row_bit row p ≡ true → p < length vectors
+  at_pattern P row holds p set =
+      elim (cases_lt p (length vectors)) [
+        | inl low ↦ low
+        | inr past ↦ absurd (let clear : row_bit row p ≡ false = holds.clear p past in cc)
+      ]
+
+  pub broken_bit : (k word : ℕ) (words : List ℕ) → k < length blocks → words ≡ row_at blocks k
+      → ((b : ℕ) (x : List Bool) → b < 64 → HasValues N words b x → TellsBroken N m x (word_bit (get_or care k 0) b) (word_bit (get_or exceeds k 0) b) (word_bit word b))
+      → (b : ℕ) → b < 64 → (word_bit word b ≡ true) ↔ ((64 * k + b < length vectors) × IsBrokenAt metric E bound N m (vector_at vectors (64 * k + b)))
+  broken_bit k word words low words_are tells b inside =
+      let p : ℕ = 64 * k + b in
+      let x : List Bool = vector_at vectors p in
+      let values : HasValues N words b x = subst (λ w. HasValues N w b x) (sym words_are) ((are.each k low).values b inside) in
+      let iff = tells b x inside values in
+      let law = move-broken N m x sound is metric E bound in
+      let care_is : row_bit care p ≡ word_bit (get_or care k 0) b = row_bit-word care k b inside in
+      let exceeds_is : row_bit exceeds p ≡ word_bit (get_or exceeds k 0) b = row_bit-word exceeds k b inside in (
+        λ set. elim (iff.0 set) [
+          | inl changed ↦
+              let here : p < length vectors = at_pattern (IsCaredFor metric E bound N (table_of m)) care cared p (care_is ∙ changed.1) in
+              (here, law.1 (inl (changed.0, (cared.bits p here).0 (care_is ∙ changed.1))))
+          | inr left ↦
+              let here : p < length vectors = at_pattern (Exceeds metric E bound N) exceeds exceeded p (exceeds_is ∙ left.1) in
+              (here, law.1 (inr (left.0, (exceeded.bits p here).0 (exceeds_is ∙ left.1))))
+        ],
+        λ h. elim (law.0 h.1) [
+          | inl changed ↦ iff.1 (inl (changed.0, sym care_is ∙ (cared.bits p h.0).1 changed.1))
+          | inr left ↦ iff.1 (inr (left.0, sym exceeds_is ∙ (exceeded.bits p h.0).1 left.1))
+        ],
+      )

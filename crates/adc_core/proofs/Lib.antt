@@ -3,3 +3,5 @@ mod CareBits
 mod MovedWords
 mod Breaking
 mod Filling
+mod GrownBlocks
+pub mod Fronts

@@ -2,3 +2,4 @@ pub mod Flips
 pub mod Masks
 pub mod Filled
 pub mod Lending
+pub mod Growing

@@ -17,7 +17,7 @@ use net_core::net::Net;
 use net_moves::apply::table_of;
 
 /// Where the move changes its table's value, in one block.
-fn difference_word(net: &Net, step: Move, words: &[u64]) -> u64
+pub(crate) fn difference_word(net: &Net, step: Move, words: &[u64]) -> u64
     requires step { Contains (moves_of net.now) step }
     requires room { length words.now ≡ signal_count net.now }
     ensures bits { (b : ℕ) (x : List Bool) → b < 64 → HasValues net.now words.now b x
@@ -58,7 +58,7 @@ pub(crate) fn set_differences(
 }
 
 /// The lowest bit that is 1.
-fn lowest_bit(word: u64) -> Option<u32>
+pub(crate) fn lowest_bit(word: u64) -> Option<u32>
     ensures { MatchOption result ((b : ℕ) → b < 64 → word_bit word b ≡ false)
         (λ t. (t < 64) × (word_bit word t ≡ true) × ((b : ℕ) → b < t → word_bit word b ≡ false)) }
 {

@@ -11,4 +11,7 @@ pub mod adc;
 mod care;
 mod differences;
 mod flips;
+pub mod growing;
+mod growing_blocks;
+mod judged;
 mod moved;

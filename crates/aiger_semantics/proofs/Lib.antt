@@ -5,3 +5,8 @@ pub mod Bits
 pub mod SignalLiterals
 pub mod NetOutputs
 pub mod Numbered
+pub mod ReadWired
+pub mod ReadLines
+pub mod ReadSound
+pub mod ReadOutputs
+pub mod TextLong

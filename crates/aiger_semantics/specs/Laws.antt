@@ -1,9 +1,14 @@
 -- The laws about circuits, each the contract of a function without parameters.
-use Rattle.std.specs.Prelude.{◌≡◌, ℕ, ◌+◌, ◌*◌, ◌<◌, Bool, List, ◌++◌, map, length}
+use Rattle.std.specs.Prelude.{◌≡◌, ◌↔◌, ℕ, ◌+◌, ◌*◌, ◌<◌, ◌≤◌, Bool, Ok, Err, List, ◌++◌, map, length}
 use Rattle.std.specs.List.{AllByRecursion, range_with_len}
-use Rattle.semantics.specs.Net.{TableValue, NetValue, table_at, IsAcyclic, IsSound}
+use Rattle.semantics.specs.Texts.{Bytes}
+use Rattle.semantics.specs.Net.{TableValue, NetValue, table_at, IsAcyclic, IsSound, IsSmall}
 use Rattle.semantics.specs.Value.{outputs_of}
 use Rattle.aiger_semantics.specs.Circuit.{CircuitValue, HasOutputs}
+use Rattle.aiger_semantics.specs.TextLines.{text_lines}
+use Rattle.aiger_semantics.specs.CircuitLines.{text_long, circuit_reading}
+use Rattle.aiger_semantics.specs.ReadNet.{net_of}
+use Rattle.aiger_semantics.specs.Reading.{aiger_reading}
 use Rattle.aiger_semantics.specs.NetCircuit.{Literals, table_literal, first_variable, input_literal, signal_literal, ands_of}
 
 -- literals that are those of the inputs' variables, and of each table's rows
@@ -32,3 +37,13 @@ pub record NumberedLaw : Type 0 where
       → (ands_of N).inputs ++ map (λ a. a.variable) (ands_of N).ands ≡ range_with_len 1 (variable_count (ands_of N))
   pub lines : (N : NetValue) → IsSound N → AllByRecursion (λ a. IsLiteralOf (ands_of N) a.left × IsLiteralOf (ands_of N) a.right) (ands_of N).ands
   pub outputs : (N : NetValue) → IsSound N → AllByRecursion (IsLiteralOf (ands_of N)) (ands_of N).outputs
+
+-- What is read is a small sound net: that of the circuit that the text's lines are, with the circuit's outputs at every input vector. The text
+-- keeps the limit, and exactly the texts beyond it are refused for their length.
+pub record ReadingLaw : Type 0 where
+  pub short : (text : Bytes) (most : ℕ) (N : NetValue) → aiger_reading text most ≡ Ok N → length text ≤ most
+  pub long : (text : Bytes) (most : ℕ) → (aiger_reading text most ≡ Err text_long) ↔ (most < length text)
+  pub sound : (text : Bytes) (most : ℕ) (N : NetValue) → aiger_reading text most ≡ Ok N → IsSound N
+  pub small : (text : Bytes) (most : ℕ) (N : NetValue) → aiger_reading text most ≡ Ok N → IsSmall N
+  pub circuit : (text : Bytes) (most : ℕ) (N : NetValue) → aiger_reading text most ≡ Ok N
+      → (c : CircuitValue) × (circuit_reading (text_lines text) ≡ Ok c) × (net_of c ≡ N) × ((x : List Bool) → HasOutputs c x (outputs_of N x))

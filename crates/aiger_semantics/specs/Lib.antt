@@ -2,4 +2,9 @@ pub mod Circuit
 pub mod NetCircuit
 pub mod Text
 pub mod Examples
+pub mod TextLines
+pub mod CircuitLines
+pub mod ReadNet
+pub mod Reading
+pub mod ReadExamples
 pub mod Laws

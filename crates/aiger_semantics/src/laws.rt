@@ -1,5 +1,5 @@
 //! The laws about circuits: each function's contract is a law.
-ghost use Rattle.aiger_semantics.specs.Laws.{NetCircuitLaw, NumberedLaw};
+ghost use Rattle.aiger_semantics.specs.Laws.{NetCircuitLaw, NumberedLaw, ReadingLaw};
 
 /// The circuit of a net has the net's outputs.
 pub fn net_circuits()
@@ -9,4 +9,9 @@ pub fn net_circuits()
 /// The variables of the circuit of a net, and what its literals are of.
 pub fn numbered()
     ensures { NumberedLaw }
+{}
+
+/// What is read is a small sound net, with the outputs of the circuit of the text's lines.
+pub fn readings()
+    ensures { ReadingLaw }
 {}

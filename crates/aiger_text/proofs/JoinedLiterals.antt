@@ -2,10 +2,9 @@
 use Rattle.std.proofs.Common.{◌≡◌, ℕ, zero, suc, ◌+◌, ◌-◌, ◌*◌, ◌<◌, ◌≤◌, List, [], ◌∷◌, ◌++◌, length, take, get_or, refl, sym, ap, ◌∙◌, append_assoc, arith}
 use Rattle.std.proofs.lemmas.List.{append-nil}
 use Rattle.semantics.specs.declared.mark.Mark.{Mark}
-use Rattle.semantics.specs.declared.mark.Mark.TheVariants.{Zero, One, Dash}
 use Rattle.aiger_semantics.specs.declared.and_line.AndLine.{AndLine}
-use Rattle.aiger_semantics.specs.Circuit.{literal_of_variable, negated}
-use Rattle.aiger_semantics.specs.NetCircuit.{Literals, joins_after, joins, joined_after, joined, marked, row_inputs}
+use Rattle.aiger_semantics.specs.Circuit.{literal_of_variable}
+use Rattle.aiger_semantics.specs.NetCircuit.{Literals, joins_after, joined_after, joined, marked, row_inputs}
 
 -- one more pin
 row_inputs-suc : (literals : Literals) (marks : List Mark) (pins : List ℕ) (i : ℕ) (d : Mark) (e : ℕ) → i < length marks → i < length pins

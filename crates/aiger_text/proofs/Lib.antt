@@ -2,3 +2,8 @@ pub mod JoinedLiterals
 pub mod TableLines
 pub mod NetLiterals
 pub mod NetAnds
+pub mod CircuitTexts
+pub mod NumberSteps
+pub mod Turns
+pub mod SectionSteps
+pub mod HeaderWords

@@ -1,5 +1,5 @@
 -- The parts of the circuit of a net, made of the literals of its signals.
-use Rattle.std.proofs.Common.{◌≡◌, ℕ, zero, suc, ◌+◌, ◌^◌, ◌<◌, ◌≤◌, List, [], ◌∷◌, ◌++◌, length, map, get_or, refl, sym, ap, ◌∙◌, arith}
+use Rattle.std.proofs.Common.{◌≡◌, ℕ, zero, suc, ◌+◌, ◌^◌, ◌<◌, ◌≤◌, List, [], ◌∷◌, ◌++◌, length, map, get_or, refl, ap, ◌∙◌, arith}
 use Rattle.std.specs.Prelude.{All}
 use Rattle.std.specs.List.{AllByRecursion, sum_by, range_with_len}
 use Rattle.std.proofs.lemmas.List.FromFn.{length-range_with_len}
@@ -7,8 +7,6 @@ use Rattle.std.proofs.lemmas.List.Elements.{recursion_from_All, All-weaker}
 use Rattle.semantics.specs.declared.mark.Mark.{Mark}
 use Rattle.semantics.specs.Texts.{Bytes}
 use Rattle.semantics.specs.Net.{TableValue, NetValue, input_count, signal_count, signal_names, name_of, IsSound}
-use Rattle.semantics.proofs.Members.{each_weaker}
-use Rattle.net_core.proofs.Eval.{acyclic-pins}
 use Rattle.aiger_semantics.specs.declared.and_line.AndLine.{AndLine}
 use Rattle.aiger_semantics.specs.Circuit.{CircuitValue, negated}
 use Rattle.aiger_semantics.specs.NetCircuit.{Literals, joins, joined, row_inputs, row_ands, rows_ands, table_ands, rows_joins, rows_joined, no_rows, table_joins, tables_joins, signal_literal, ands_of}

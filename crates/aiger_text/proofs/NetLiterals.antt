@@ -1,5 +1,5 @@
 -- The first variable of each table and the literal of each signal, one after another.
-use Rattle.std.proofs.Common.{◌≡◌, ℕ, suc, ◌+◌, ◌*◌, ◌^◌, ◌<◌, ◌≤◌, Bool, List, [], ◌∷◌, ◌++◌, length, map, take, get_or, refl, sym, ap, subst, ◌∙◌, arith, below_more, get_or-set_same, get_or-set_other}
+use Rattle.std.proofs.Common.{◌≡◌, ℕ, suc, ◌+◌, ◌*◌, ◌^◌, ◌<◌, ◌≤◌, List, [], ◌∷◌, ◌++◌, length, map, take, get_or, sym, ap, ◌∙◌, arith, below_more, get_or-set_same, get_or-set_other}
 use Rattle.std.specs.Prelude.{All, slice_set}
 use Rattle.std.specs.List.{AllByRecursion, sum_by, range_with_len}
 use Rattle.std.proofs.Math.ListN.{length-set}
@@ -7,7 +7,7 @@ use Rattle.std.proofs.lemmas.List.Sums.{sum_by-cons, sum_by_more, sum_by_more_le
 use Rattle.std.proofs.lemmas.List.FromFn.{map-range_with_len_more, get_or-map-range_with_len, length-map-range_with_len}
 use Rattle.semantics.specs.declared.mark.Mark.{Mark}
 use Rattle.semantics.specs.declared.limits.TheConstants.{MOST_TABLE_PINS}
-use Rattle.semantics.specs.Net.{TableValue, NetValue, no_table, table_at, is_literal, IsTable, IsSmall, IsAcyclic, row_count}
+use Rattle.semantics.specs.Net.{TableValue, NetValue, no_table, table_at, is_literal, IsTable, IsSmall, IsAcyclic}
 use Rattle.semantics.specs.Order.{IsKnown, IsNext, IsOrderOf}
 use Rattle.semantics.proofs.Members.{each_weaker}
 use Rattle.semantics.proofs.Ordered.{order-acyclic}

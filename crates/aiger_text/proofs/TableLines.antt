@@ -1,6 +1,6 @@
 -- The lines and literals of rows and tables, one after another.
-use Rattle.std.proofs.Common.{◌≡◌, ℕ, zero, suc, ◌+◌, ◌-◌, ◌<◌, ◌≤◌, Bool, cond, List, [], ◌∷◌, ◌++◌, length, map, take, get_or, refl, sym, ap, subst, ◌∙◌, append_assoc, arith}
-use Rattle.std.specs.List.{AllByRecursion, sum_by}
+use Rattle.std.proofs.Common.{◌≡◌, ℕ, zero, suc, ◌+◌, ◌-◌, ◌<◌, ◌≤◌, List, [], ◌∷◌, ◌++◌, length, map, take, get_or, refl, sym, ap, ◌∙◌, append_assoc, arith}
+use Rattle.std.specs.List.{sum_by}
 use Rattle.std.specs.Prelude.{All}
 use Rattle.std.proofs.lemmas.List.{append-nil, take_all, length-map}
 use Rattle.std.proofs.lemmas.List.Sums.{sum_by-cons, sum_by_more, sum_by_more_le}
@@ -8,7 +8,7 @@ use Rattle.semantics.specs.declared.mark.Mark.{Mark}
 use Rattle.semantics.specs.Net.{TableValue, row_literals}
 use Rattle.aiger_semantics.specs.declared.and_line.AndLine.{AndLine}
 use Rattle.aiger_semantics.specs.Circuit.{negated}
-use Rattle.aiger_semantics.specs.NetCircuit.{Literals, joins, joined, row_inputs, row_ands, rows_ands, table_ands, rows_joins, rows_joined, no_rows, table_joins, disjunction, table_literal, tables_joins}
+use Rattle.aiger_semantics.specs.NetCircuit.{Literals, joins, joined, row_inputs, row_ands, rows_ands, table_ands, rows_joins, rows_joined, table_joins, tables_joins}
 use Rattle.aiger_semantics.proofs.Numbered.{row_inputs-length}
 
 rows_joins-suc : (literals : Literals) (pins : List ℕ) (next m : ℕ) (rows : List (List Mark)) (i : ℕ) (d : List Mark) → i < length rows → m ≡ next + rows_ands (take i rows)

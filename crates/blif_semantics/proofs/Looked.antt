@@ -9,7 +9,7 @@ use Rattle.semantics.specs.Texts.{Bytes}
 use Rattle.semantics.specs.Net.{name_of}
 use Rattle.semantics.specs.Refusals.{has_name}
 use Rattle.blif_semantics.specs.Reading.{signal_named}
-use Rattle.blif_semantics.proofs.RightLines.{none_if}
+use Rattle.semantics.proofs.FirstFound.{none_if}
 
 found_first : (names : List Bytes) (word : Bytes) (s : ℕ) → position (λ name. bytes_eq word name) names ≡ Some s → signal_named names word ≡ s
 found_first names word s e = rw (e, signal_named) refl

@@ -17,7 +17,8 @@ use Rattle.blif_semantics.specs.Tables.{NamedTable, mark_of, last_word, marks_of
 use Rattle.blif_semantics.specs.Reading.{text_long, wrong_line, NamedNet, is_inputs, is_outputs, listed, model_of, named_net, names_of, first_undriven_name, signal_named, numbered, unless_refused, lines_reading, blif_reading}
 use Rattle.blif_semantics.specs.Named.{IsNamedTable, IsNamedNet, with_signals, IsDriven}
 use Rattle.blif_semantics.proofs.Names.{IsName-from_test, IsName-from_are_names}
-use Rattle.blif_semantics.proofs.RightLines.{open_table, none_if, good, right_by, AllRight, all_right}
+use Rattle.semantics.proofs.FirstFound.{none_if}
+use Rattle.blif_semantics.proofs.RightLines.{open_table, good, right_by, AllRight, all_right}
 use Rattle.blif_semantics.proofs.Rows.{rows_more, row_right}
 use Rattle.blif_semantics.proofs.Numbered.{signal_names-numbered, signals_below}
 use Rattle.blif_semantics.proofs.Accepted.{IsAccepted, IsReadAs, read_parts, read_parts-if, accepted}

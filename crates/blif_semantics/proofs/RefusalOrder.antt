@@ -6,13 +6,16 @@ use Rattle.semantics.specs.declared.which.Which.{Which}
 use Rattle.semantics.specs.Texts.{Bytes, Line}
 use Rattle.semantics.specs.Net.{NetValue, input_count, signal_names, name_of, IsSmall}
 use Rattle.semantics.specs.Refusals.{first_doubled, first_ungrounded, first_limit}
+use Rattle.semantics.specs.RefusalOrder.{IsFirstPassed, IsFirstDoubled}
+use Rattle.semantics.proofs.FirstFound.{first_doubled-first}
+use Rattle.semantics.proofs.RefusalOrder.{first_passed, passed_first}
 use Rattle.semantics.proofs.Refused.{undoubled, differ-undoubled, grounded as all_grounded, acyclic-grounded, ungrounded, first-ungrounded, small, limits-small}
 use Rattle.blif_semantics.specs.Lines.{Statement, logical_lines, statements}
 use Rattle.blif_semantics.specs.Statements.{Wrong, WrongLine, first_wrong}
 use Rattle.blif_semantics.specs.Reading.{Refusal, text_long, wrong_line, doubled, no_output, undriven, cycle, limit, NamedNet, names_of, named_net, first_undriven_name, numbered, unless_refused, single, lines_reading, blif_reading}
-use Rattle.blif_semantics.specs.FirstRefusals.{IsFirstWrong, IsFirstDoubled, IsFirstUndriven}
+use Rattle.blif_semantics.specs.FirstRefusals.{IsFirstWrong, IsFirstUndriven}
 use Rattle.blif_semantics.specs.RefusalOrder.{NamesDiffer, HasOutput, ReadsDriven, IsGrounded, IsFirstOnCycle}
-use Rattle.blif_semantics.proofs.FirstRefusals.{first_wrong-first, first_doubled-first, first_undriven-first, driven-each}
+use Rattle.blif_semantics.proofs.FirstRefusals.{first_wrong-first, first_undriven-first, driven-each}
 
 -- what is told of a net, by what the five tests find
 abbrev told : NetValue → (ℕ → Bytes) → Option Bytes → Bool → Option Bytes → Option ℕ → Option Which → Result NetValue Refusal
@@ -173,14 +176,14 @@ module _ (d : NamedNet) where
         at_grounded (Some i) tests.0 tests.1 ((driven-each d).1 h.0.1) (first-ungrounded (input_count N) N.tables i h.1.1) ∙ ap (λ name. Err (cycle name)) h.1.2,
   )
 
-  pub of-limit : (which : Which) → (single d ≡ Err (limit which)) ↔ (IsGrounded d × (first_limit (numbered d) ≡ Some which))
+  pub of-limit : (which : Which) → (single d ≡ Err (limit which)) ↔ (IsGrounded d × IsFirstPassed (numbered d) which)
   of-limit which = (
     λ e.
         let found = told-limit N name_at (first_doubled (names_of d)) (eqb (length d.outputs) 0) (first_undriven_name d) (first_ungrounded (input_count N) N.tables) (first_limit N) which e in
-        (is_grounded found.0 found.1 found.2 found.3, found.4),
+        (is_grounded found.0 found.1 found.2 found.3, first_passed N which found.4),
     λ h.
         let tests = output_test h.0.0.0 in
-        at_sized (Some which) tests.0 tests.1 ((driven-each d).1 h.0.0.1) (acyclic-grounded (input_count N) N.tables h.0.1) h.1,
+        at_sized (Some which) tests.0 tests.1 ((driven-each d).1 h.0.0.1) (acyclic-grounded (input_count N) N.tables h.0.1) (passed_first N which h.1),
   )
 
   pub of-accepted : (M : NetValue) → (single d ≡ Ok M) ↔ (IsGrounded d × IsSmall (numbered d) × (numbered d ≡ M))

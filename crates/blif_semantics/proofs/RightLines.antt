@@ -3,13 +3,9 @@ use Rattle.std.proofs.Common.{◌≡◌, ℕ, Bool, true, false, not, cond, List
 use Rattle.std.specs.List.{list_all}
 use Rattle.std.proofs.lemmas.Option.{none-some}
 use Rattle.semantics.specs.Texts.{Line}
+use Rattle.semantics.proofs.FirstFound.{none_if}
 use Rattle.blif_semantics.specs.Lines.{Statement}
 use Rattle.blif_semantics.specs.Statements.{is_printable, bad_byte, after_end, unless, OpenTable, kind_of, wrong_by, Place, place_after, Wrong, WrongLine, wrong, first_wrong_after, first_wrong}
-
--- nothing is told by a test that fails, and nothing after it
-pub none_if : {X : Type 0} (told : Bool) (x : X) (rest : Option X) → cond told (Some x) rest ≡ None → (told ≡ false) × (rest ≡ None)
-none_if false x rest none = (refl, none)
-none_if true x rest none = absurd (none-some x (sym none))
 
 -- a table with so many pins whose rows may come, and its plane
 abbrev pub open_table : ℕ → Option Bool → Option OpenTable

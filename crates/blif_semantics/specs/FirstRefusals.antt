@@ -1,5 +1,5 @@
--- What the refusals of lines and of names say: each tells the first of its kind.
-use Rattle.std.specs.Prelude.{◌≡◌, ◌≢◌, List, ◌∷◌, ◌++◌, map, reverse, Some, None, All, AllPairs, Contains}
+-- What the refusals of lines and of names that are read say: each tells the first of its kind.
+use Rattle.std.specs.Prelude.{◌≡◌, List, ◌∷◌, ◌++◌, map, reverse, Some, None, All, Contains}
 use Rattle.semantics.specs.Texts.{Bytes}
 use Rattle.blif_semantics.specs.Lines.{Statement}
 use Rattle.blif_semantics.specs.Statements.{place_after, wrong, WrongLine, first_wrong}
@@ -14,14 +14,6 @@ pub record IsFirstWrong (lines : List Statement) (w : WrongLine) : Type 0 where
   pub none_before : first_wrong before ≡ None
   pub line : statement.line ≡ w.line
   pub is_wrong : wrong (place_after (reverse (map (λ s. s.words) before))) statement.words ≡ Some w.wrong
-
--- the names before it differ, and it is one of them
-pub record IsFirstDoubled (names : List Bytes) (name : Bytes) : Type 0 where
-  pub before : List Bytes
-  pub after : List Bytes
-  pub split : names ≡ before ++ name ∷ after
-  pub differ : AllPairs ◌≢◌ before
-  pub again : Contains before name
 
 -- the names that are read before it are those of an input or a table, and it is none of these
 pub record IsFirstUndriven (d : NamedNet) (name : Bytes) : Type 0 where

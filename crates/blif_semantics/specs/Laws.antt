@@ -5,13 +5,14 @@ use Rattle.semantics.specs.Texts.{Bytes}
 use Rattle.semantics.specs.Net.{NetValue, signal_names, name_of, pin_count, IsSound, IsSmall}
 use Rattle.semantics.specs.Refusals.{first_doubled, NetRefused, net_refusal}
 use Rattle.semantics.specs.Refusals.NetRefused.{doubled as parts_doubled, no_output as parts_no_output, undriven as parts_undriven, cycle as parts_cycle, limit as parts_limit}
+use Rattle.semantics.specs.RefusalOrder.{IsFirstDoubled}
 use Rattle.semantics.specs.Blif.{blif_text}
 use Rattle.blif_semantics.specs.declared.kind.Kind.TheVariants as kind
 use Rattle.blif_semantics.specs.Lines.{Statement, logical_lines, statements}
 use Rattle.blif_semantics.specs.Statements.{kind_of, arguments, WrongLine, first_wrong}
 use Rattle.blif_semantics.specs.Tables.{last_word, is_one, named, with_rows, rows_first}
 use Rattle.blif_semantics.specs.Reading.{bundle_limit, Refusal, text_long, doubled, no_output, undriven, cycle, limit, NamedNet, names_of, names_read, first_undriven_name, numbered, single, blif_reading}
-use Rattle.blif_semantics.specs.FirstRefusals.{IsFirstWrong, IsFirstDoubled, IsFirstUndriven}
+use Rattle.blif_semantics.specs.FirstRefusals.{IsFirstWrong, IsFirstUndriven}
 
 -- with a CR before each LF
 abbrev pub with_carriage_returns : Bytes → Bytes

@@ -3,11 +3,12 @@ use Rattle.std.specs.Prelude.{◌≡◌, ◌≢◌, ◌↔◌, ℕ, ◌+◌, ◌
 use Rattle.semantics.specs.declared.which.Which.{Which}
 use Rattle.semantics.specs.Texts.{Bytes}
 use Rattle.semantics.specs.Net.{NetValue, input_count, signal_names, name_of, IsAcyclic, IsSmall}
-use Rattle.semantics.specs.Refusals.{IsFirstUngrounded, first_limit}
+use Rattle.semantics.specs.Refusals.{IsFirstUngrounded}
+use Rattle.semantics.specs.RefusalOrder.{IsFirstPassed, IsFirstDoubled}
 use Rattle.blif_semantics.specs.Lines.{logical_lines, statements}
 use Rattle.blif_semantics.specs.Statements.{Wrong}
 use Rattle.blif_semantics.specs.Reading.{doubled, no_output, undriven, cycle, limit, wrong_line, NamedNet, names_of, names_read, numbered, single, blif_reading}
-use Rattle.blif_semantics.specs.FirstRefusals.{IsFirstWrong, IsFirstDoubled, IsFirstUndriven}
+use Rattle.blif_semantics.specs.FirstRefusals.{IsFirstWrong, IsFirstUndriven}
 
 -- no name is driven twice
 abbrev pub NamesDiffer : NamedNet → Type 0
@@ -36,7 +37,7 @@ pub record RefusalOrderLaw : Type 0 where
   pub of_no_output : (d : NamedNet) → (single d ≡ Err no_output) ↔ (NamesDiffer d × (d.outputs ≡ []))
   pub of_undriven : (d : NamedNet) (name : Bytes) → (single d ≡ Err (undriven name)) ↔ (HasOutput d × IsFirstUndriven d name)
   pub of_cycle : (d : NamedNet) (name : Bytes) → (single d ≡ Err (cycle name)) ↔ (ReadsDriven d × IsFirstOnCycle d name)
-  pub of_limit : (d : NamedNet) (which : Which) → (single d ≡ Err (limit which)) ↔ (IsGrounded d × (first_limit (numbered d) ≡ Some which))
+  pub of_limit : (d : NamedNet) (which : Which) → (single d ≡ Err (limit which)) ↔ (IsGrounded d × IsFirstPassed (numbered d) which)
   pub accepted : (d : NamedNet) (N : NetValue) → (single d ≡ Ok N) ↔ (IsGrounded d × IsSmall (numbered d) × (numbered d ≡ N))
   -- before all of them comes the first wrong line, in a text that keeps the limit
   pub of_wrong_line : (text : Bytes) (most line : ℕ) (w : Wrong)

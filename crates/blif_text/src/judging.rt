@@ -59,7 +59,7 @@ fn wrong_row(table: Option<OpenTable>, words: &[&[u8]]) -> Option<Wrong>
 }
 
 /// What is wrong unless a test is passed.
-fn unless(good: bool, wrong: Wrong) -> Option<Wrong>
+pub fn unless(good: bool, wrong: Wrong) -> Option<Wrong>
     ensures { result ≡ (if good then None else Some wrong) }
 {
     if good { None } else { Some(wrong) }
@@ -81,7 +81,7 @@ fn with_plane(table: Option<OpenTable>, words: &[&[u8]]) -> Option<OpenTable>
 }
 
 /// The table to whose rows the line after this one may belong.
-fn table_by(kind: Kind, words: &[&[u8]], before: Option<OpenTable>) -> Option<OpenTable>
+pub fn table_by(kind: Kind, words: &[&[u8]], before: Option<OpenTable>) -> Option<OpenTable>
     ensures { table_of result ≡ table_by kind (texts words.now) (table_of before) }
 {
     match kind {
@@ -106,6 +106,17 @@ impl Place {
         }
     }
 
+    /// Where a `.model` or `.end` line stood before or did not, and a table may get rows.
+    pub fn new(had_model: bool, had_end: bool, table: Option<OpenTable>) -> Place
+        ensures { place_of result ≡ record { had_model = had_model; had_end = had_end; table = table_of table } }
+    {
+        Place {
+            had_model,
+            had_end,
+            table,
+        }
+    }
+
     /// Behind one line more.
     pub fn next(&self, words: &[&[u8]]) -> Place
         ensures { place_of result ≡ place_next (place_of self.now) (texts words.now) }
@@ -119,7 +130,7 @@ impl Place {
     }
 
     /// What is wrong with a line of printable words that does not stand behind the end.
-    fn wrong_by(&self, kind: Kind, words: &[&[u8]]) -> Option<Wrong>
+    pub fn wrong_by(&self, kind: Kind, words: &[&[u8]]) -> Option<Wrong>
         ensures { wrong_if result (texts words.now) ≡ wrong_by kind (place_of self.now) (texts words.now) }
     {
         let arguments = arguments(words);
@@ -151,7 +162,7 @@ impl Place {
 }
 
 /// The refusal of a line of these words.
-fn refusal(alloc: Global, line: u64, wrong: Wrong, words: &[&[u8]]) -> BlifRefusal
+pub fn refusal(alloc: Global, line: u64, wrong: Wrong, words: &[&[u8]]) -> BlifRefusal
     ensures { Tells result (Err (wrong_line line (wrong_of wrong (texts words.now)))) }
 {
     match wrong {

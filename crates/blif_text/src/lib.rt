@@ -2,15 +2,15 @@
 #![tactic(auto)]
 
 mod joining;
-mod judging;
+pub mod judging;
 pub mod line_list;
 mod lines;
 mod message;
 mod named_net;
-mod named_table;
+pub mod named_table;
 mod names;
 mod numbering;
 pub mod reading;
 pub mod refusal;
-mod statements;
+pub mod statements;
 pub mod writing;

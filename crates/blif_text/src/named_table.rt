@@ -122,6 +122,26 @@ impl<'a> NamedTable<'a> {
         self.name
     }
 
+    /// The names of the pins, in the order of a row's marks.
+    pub fn pins(&self) -> &[&'a [u8]]
+        ensures { texts result.now ≡ self.now.pins }
+    {
+        &self.pins
+    }
+
+    pub fn rows(&self) -> &RowList
+        ensures { result.now ≡ self.now.rows }
+    {
+        &self.rows
+    }
+
+    /// The output plane of all rows.
+    pub fn plane(&self) -> bool
+        ensures { result ≡ self.now.plane }
+    {
+        self.plane
+    }
+
     /// The table with signals in the place of names, or the refusal of its first pin that is no signal.
     pub fn numbered(self, names: &Names) -> Result<Table, BlifRefusal>
         requires { IsNamedTable self }

@@ -66,7 +66,8 @@ fn has_name_bytes(word: &[u8]) -> bool
     word.iter().all(|b| is_printable(*b) && *b != b'#')
 }
 
-fn is_name(word: &[u8]) -> bool
+/// Whether the word is a name.
+pub fn is_name(word: &[u8]) -> bool
     ensures { result ≡ is_name word.now }
 {
     if word.is_empty() || word.len() > LONGEST_NAME || !has_name_bytes(word) {

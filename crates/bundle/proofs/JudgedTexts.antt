@@ -1,11 +1,11 @@
 -- Which clause fails first, and which files are needed, by what is known of the texts.
-use Rattle.std.proofs.Common.{◌≡◌, ◌≢◌, ℕ, ◌≤◌, Bool, IsTrue, List, [], ◌∷◌, refl, sym, ap, subst, ◌∙◌, arith}
+use Rattle.std.proofs.Common.{◌≡◌, ◌≢◌, ℕ, ◌≤◌, Bool, IsTrue, List, [], ◌∷◌, Some, refl, sym, ap, subst, ◌∙◌, arith}
 use Rattle.semantics.specs.Net.{NetValue, HasSamePorts}
 use Rattle.semantics.specs.Error.{net_error}
 use Rattle.semantics.specs.declared.metric.Metric.{Metric}
 use Rattle.chain_semantics.specs.Minimality.{AreBrokenBySome}
-use Rattle.proof_semantics.specs.Formula.{dimacs_text}
-use Rattle.proof_semantics.specs.Logs.{LogItem}
+use Rattle.proof_semantics.specs.Formula.{Formula, dimacs_text}
+use Rattle.proof_semantics.specs.Logs.{LogItem, Refutes}
 use Rattle.proof_semantics.specs.Miter.{miter}
 use Rattle.job_semantics.specs.declared.ending.Ending.TheVariants as file
 use Rattle.job_semantics.specs.declared.clause.Clause.TheVariants as clause
@@ -14,7 +14,9 @@ use Rattle.job_semantics.specs.Certificate.{IsNeededFor, Texts, moves_in, IsNetl
 use Rattle.job_semantics.proofs.Certificates.{verified_law}
 use Rattle.lane_bits.specs.Patterns.{PatternSet}
 use Rattle.bundle_texts.specs.LogTold.{IsRefutingText}
-use Rattle.bundle.specs.Judging.{NetKnown, ReportKnown, WitnessKnown, FormulaKnown, LogKnown}
+use Rattle.bundle_texts.specs.LogJudged.{IsLogIn}
+use Rattle.bundle.specs.declared.judged.Judged.TheVariants.{Good}
+use Rattle.bundle.specs.Judging.{IsJudged, NetKnown, ReportKnown, WitnessKnown, FormulaKnown, LogKnown}
 
 -- the vectors break each move of the net that the report's version knows
 abbrev pub BreaksAll : NetValue → Metric → ℕ → NetValue → Report → List (List Bool) → Type 0
@@ -129,6 +131,26 @@ module _ (exact : NetValue) (metric : Metric) (bound : ℕ) (texts : Texts) wher
                   let here = of_both (λ N s. (log : List LogItem) × IsRefutation exact N metric s.maximum texts log) M r k.net.netlist k.report some in
                   other (here.0, here.1.read, here.1.refutes);
             }
+
+        -- what was kept of the log's text, which refutes the formula
+        module _ {L : Type 0} (holds : L → List LogItem → Type 0) (known : FormulaKnown exact metric bound M r set texts) (goal : Formula) (same : goal ≡ miter exact M metric r.maximum)
+            (kept : L) (found : IsLogIn holds goal.clauses (Some kept) (texts file.Log)) where
+          pub known_log : LogKnown exact metric bound M r set texts
+          known_log =
+              let (log, read, refutes, held) = found in
+              record { formula = known; refutation = (log, read, subst (λ (f : Formula). Refutes f.clauses log) same refutes) }
+
+          pub certificate_of : Certifies exact metric bound texts → IsJudged holds exact metric bound texts (Good goal kept)
+          certificate_of certifies =
+              let (log, read, refutes, held) = found in
+              let k = known.witness.report in (
+                log,
+                held,
+                record {
+                  certifies = certifies;
+                  parts = (M, k.net.netlist, (r, k.report, (same, record { read = read; refutes = subst (λ (f : Formula). Refutes f.clauses log) same refutes })));
+                },
+              )
 
         module _ (known : LogKnown exact metric bound M r set texts) where
           n : IsNetlist texts M

@@ -1,5 +1,5 @@
 -- How what the files tell joins from one file to the next.
-use Rattle.std.proofs.Common.{◌≡◌, ℕ, ◌≤◌, false, length, sym, subst, ◌∙◌, Option, Result, Ok, Err, arith}
+use Rattle.std.proofs.Common.{◌≡◌, ℕ, ◌≤◌, false, List, length, refl, sym, subst, ◌∙◌, Result, Ok, Err, arith}
 use Rattle.std.proofs.lemmas.Bool.{false_from_ne_true}
 use Rattle.semantics.specs.Texts.{Bytes}
 use Rattle.semantics.specs.Net.{NetValue}
@@ -12,10 +12,14 @@ use Rattle.file_reading.specs.Reading.{FilesStay, FileRead, IsAllWanted}
 use Rattle.file_reading.specs.Refused.{FileUnread}
 use Rattle.job_semantics.specs.declared.ending.Ending.{Ending}
 use Rattle.job_semantics.specs.Endings.{bundle_name}
-use Rattle.job_semantics.specs.Certificate.{Texts, texts_of, OfBundle, IsNeededFor}
+use Rattle.job_semantics.specs.Certificate.{Texts, texts_of, OfBundle, IsNeededFor, IsFirstFailing}
 use Rattle.job_semantics.specs.declared.clause.Clause.{Clause}
 use Rattle.bundle.specs.declared.verdict.Verdict.{Verdict}
-use Rattle.bundle.specs.Judging.{FilesKept, IsFirstFault, IsVerdict, IsCause, verdict_of, Answers, NothingKnown, TextRead, TextUnread}
+use Rattle.bundle.specs.declared.judged.Judged.{Judged}
+use Rattle.bundle.specs.declared.judged.Judged.TheVariants.{Good, Failing}
+use Rattle.bundle.specs.Judging.{FilesKept, IsFirstFault, IsVerdict, IsCause, verdict_of, failing_of, IsJudged, IsProved, Answers, NothingKnown, TextRead, TextUnread}
+use Rattle.bundle.specs.Loading.{IsCertificateOf, IsLoaded, loaded_of}
+use Rattle.proof_semantics.specs.Logs.{LogItem, Refutes}
 
 -- ---- the reading of one file
 
@@ -33,7 +37,7 @@ text_unread old new name text unread.Endless h = (h.stay, h.read_out, h.long)
 
 -- ---- the answers behind it
 
-module _ (exact : NetValue) (metric : Metric) (bound : ℕ) (stem : Bytes) where
+module _ {L : Type 0} (holds : L → List LogItem → Type 0) (exact : NetValue) (metric : Metric) (bound : ℕ) (stem : Bytes) where
   abbrev Keeps : (Texts → Type 0) → FilesTold → FilesTold → Type 0
   Keeps K old new = FilesKept exact metric bound stem K old new
 
@@ -90,26 +94,36 @@ module _ (exact : NetValue) (metric : Metric) (bound : ℕ) (stem : Bytes) where
   -- a file was read, and the check went on with what is known of it
   pub answers_later : (old mid new : FilesTold) (ending : Ending) (Q : Bytes → Type 0) (K K' : Texts → Type 0) → TextRead old mid (bundle_name stem ending) Q
       → ((texts : Texts) → K texts → Needs ending texts) → ((texts : Texts) → K texts → Q (texts ending) → K' texts)
-      → (answer : Result (Option Clause) Unread) → Answers exact metric bound stem K' mid new answer → Answers exact metric bound stem K old new answer
-  answers_later old mid new ending Q K K' read needed step (Ok failing) (kept, judged) =
-      (kept_later old mid new ending Q K K' read needed step kept, later old mid new ending Q K K' read needed step kept (λ texts. IsFirstFault exact metric bound texts failing) judged)
+      → (answer : Result (Judged L) Unread) → Answers holds exact metric bound stem K' mid new answer → Answers holds exact metric bound stem K old new answer
+  answers_later old mid new ending Q K K' read needed step (Ok judged) (kept, proved, h) = (
+    kept_later old mid new ending Q K K' read needed step kept,
+    proved,
+    later old mid new ending Q K K' read needed step kept (λ texts. IsJudged holds exact metric bound texts judged) h,
+  )
   answers_later old mid new ending Q K K' read needed step (Err reason) (kept, cause) =
       (kept_later old mid new ending Q K K' read needed step kept, cause_later old mid new ending Q K K' read needed step kept reason cause)
 
-  -- a file was read, and the first clause that fails is known
-  pub answers_now : (old new : FilesTold) (ending : Ending) (Q : Bytes → Type 0) (K : Texts → Type 0) (failing : Option Clause) → TextRead old new (bundle_name stem ending) Q
-      → ((texts : Texts) → K texts → Needs ending texts) → ((texts : Texts) → K texts → Q (texts ending) → IsFirstFault exact metric bound texts failing)
-      → Answers exact metric bound stem K old new (Ok failing)
-  answers_now old new ending Q K failing read needed step = (
+  -- a file was read, and what the clauses come to is known
+  pub answers_now : (old new : FilesTold) (ending : Ending) (Q : Bytes → Type 0) (K : Texts → Type 0) (judged : Judged L) → TextRead old new (bundle_name stem ending) Q
+      → ((texts : Texts) → K texts → Needs ending texts) → IsProved holds judged → ((texts : Texts) → K texts → Q (texts ending) → IsJudged holds exact metric bound texts judged)
+      → Answers holds exact metric bound stem K old new (Ok judged)
+  answers_now old new ending Q K judged read needed proved step = (
     kept_by old new ending K read.stay needed,
+    proved,
     λ a b told tells k.
         step (texts_of b stem) k
         (subst (λ (h : Held). Q (bytes_of h (bundle_name stem ending))) (sym (read.stay.stays a b told tells)) (read.content a b told tells)),
   )
 
+  -- a file was read, and this clause is the first that fails
+  pub answers_failing : (old new : FilesTold) (ending : Ending) (Q : Bytes → Type 0) (K : Texts → Type 0) (c : Clause) → TextRead old new (bundle_name stem ending) Q
+      → ((texts : Texts) → K texts → Needs ending texts) → ((texts : Texts) → K texts → Q (texts ending) → IsFirstFailing exact metric bound texts c)
+      → Answers holds exact metric bound stem K old new (Ok (Failing c))
+  answers_failing old new ending Q K c read needed step = answers_now old new ending Q K (Failing c) read needed tt step
+
   -- a file was not read
   pub answers_unread : (old new : FilesTold) (ending : Ending) (K : Texts → Type 0) (reason : Unread) → TextUnread old new (bundle_name stem ending) reason
-      → ((texts : Texts) → K texts → Needs ending texts) → Answers exact metric bound stem K old new (Err reason)
+      → ((texts : Texts) → K texts → Needs ending texts) → Answers holds exact metric bound stem K old new (Err reason)
   answers_unread old new ending K unread.Fault h needed =
       (kept_by old new ending K h.stay needed, (h.rose, (ending, (λ a b told tells k. needed (texts_of b stem) k), h.not_steady)))
   answers_unread old new ending K unread.OutOfMemory h needed = (kept_by old new ending K h needed, tt)
@@ -124,20 +138,34 @@ module _ (exact : NetValue) (metric : Metric) (bound : ℕ) (stem : Bytes) where
   )
 
   -- no file was touched, and there was no memory
-  pub answers_memory : (told : FilesTold) (K : Texts → Type 0) → Answers exact metric bound stem K told told (Err unread.OutOfMemory)
+  pub answers_memory : (told : FilesTold) (K : Texts → Type 0) → Answers holds exact metric bound stem K told told (Err unread.OutOfMemory)
   answers_memory told K = (record { goes = Goes-same told; stays = λ h k old new. cc; still_told = λ a was known held. was }, tt)
 
   -- a file was read, and then there was no memory
   pub answers_then_memory : (old new : FilesTold) (ending : Ending) (Q : Bytes → Type 0) (K : Texts → Type 0) → TextRead old new (bundle_name stem ending) Q
-      → ((texts : Texts) → K texts → Needs ending texts) → Answers exact metric bound stem K old new (Err unread.OutOfMemory)
+      → ((texts : Texts) → K texts → Needs ending texts) → Answers holds exact metric bound stem K old new (Err unread.OutOfMemory)
   answers_then_memory old new ending Q K read needed = (kept_by old new ending K read.stay needed, tt)
 
   -- the parts of an answer
   module _ (old new : FilesTold) where
-    pub answer_kept : (answer : Result (Option Clause) Unread) → Answers exact metric bound stem NothingKnown old new answer → Keeps NothingKnown old new
+    pub answer_kept : (answer : Result (Judged L) Unread) → Answers holds exact metric bound stem NothingKnown old new answer → Keeps NothingKnown old new
     answer_kept (Ok failing) h = h.0
     answer_kept (Err reason) h = h.0
 
-    pub verdict_told : (failing : Option Clause) (verdict : Verdict) → verdict ≡ verdict_of failing → Answers exact metric bound stem NothingKnown old new (Ok failing)
+    -- the certificate's clauses hold, or this one fails first
+    first_fault : (judged : Judged L) (texts : Texts) → IsJudged holds exact metric bound texts judged → IsFirstFault exact metric bound texts (failing_of judged)
+    first_fault (Good goal kept) texts (log, held, certificate) = certificate.certifies
+    first_fault (Failing c) texts h = h
+
+    pub verdict_told : (judged : Judged L) (verdict : Verdict) → verdict ≡ verdict_of (failing_of judged) → Answers holds exact metric bound stem NothingKnown old new (Ok judged)
         → IsVerdict exact metric bound stem old new verdict
-    verdict_told failing verdict is h = record { failing = failing; is = is; judged = λ a b told tells. h.1 a b told tells tt }
+    verdict_told judged verdict is (kept, proved, h) = record { failing = failing_of judged; is = is; judged = λ a b told tells. first_fault judged (texts_of b stem) (h a b told tells tt) }
+
+-- what was loaded
+pub loaded_told : (exact : NetValue) (metric : Metric) (bound : ℕ) (stem : Bytes) (old new : FilesTold) (judged : Judged (List LogItem))
+    → Answers (λ kept log. kept ≡ log) exact metric bound stem NothingKnown old new (Ok judged) → IsLoaded exact metric bound stem old new (loaded_of judged)
+loaded_told exact metric bound stem old new (Good goal kept) (stays, (log, refutes, held), h) = (
+  subst (Refutes goal.clauses) (sym held) refutes,
+  λ a b told tells. let (other, same, certificate) = h a b told tells tt in subst (IsCertificateOf exact metric bound (texts_of b stem) goal) (sym same) certificate,
+)
+loaded_told exact metric bound stem old new (Failing c) (stays, proved, h) = (c, refl, λ a b told tells. h a b told tells tt)

@@ -1,5 +1,5 @@
 -- What the check of a bundle's files comes to.
-use Rattle.std.specs.Prelude.{◌≡◌, ℕ, ◌≤◌, false, length, Option, None, Some, Result, Ok, Err}
+use Rattle.std.specs.Prelude.{◌≡◌, ℕ, ◌≤◌, false, List, length, Option, None, Some, Result, Ok, Err}
 use Rattle.semantics.specs.Texts.{Bytes}
 use Rattle.semantics.specs.Net.{NetValue, input_count, HasSamePorts}
 use Rattle.semantics.specs.Error.{net_error}
@@ -9,6 +9,7 @@ use Rattle.file_reading.specs.declared.unread.Unread.{Unread}
 use Rattle.file_reading.specs.declared.unread.Unread.TheVariants.{Fault, OutOfMemory, Endless}
 use Rattle.file_reading.specs.Reading.{FilesStay, FileFailed}
 use Rattle.proof_semantics.specs.Formula.{dimacs_text}
+use Rattle.proof_semantics.specs.Logs.{LogItem}
 use Rattle.proof_semantics.specs.Miter.{miter}
 use Rattle.job_semantics.specs.declared.ending.Ending.{Ending}
 use Rattle.job_semantics.specs.declared.ending.Ending.TheVariants as file
@@ -18,7 +19,11 @@ use Rattle.job_semantics.specs.Report.{Report}
 use Rattle.job_semantics.specs.Certificate.{Texts, texts_of, OfBundle, AreNeededHeld, IsNetlist, IsReport, Certifies, IsFirstFailing, IsNeededFor, clause_number}
 use Rattle.lane_bits.specs.Patterns.{PatternSet}
 use Rattle.bundle_texts.specs.LogTold.{IsRefutingText}
+use Rattle.bundle_texts.specs.LogJudged.{IsOfRefutation}
 use Rattle.bundle_texts.specs.Reading.{HoldsVectors}
+use Rattle.bundle.specs.Loading.{IsCertificateOf}
+use Rattle.bundle.specs.declared.judged.Judged.{Judged}
+use Rattle.bundle.specs.declared.judged.Judged.TheVariants.{Good, Failing}
 use Rattle.bundle.specs.declared.verdict.Verdict.{Verdict}
 use Rattle.bundle.specs.declared.verdict.Verdict.TheVariants.{Verified, Refuted}
 
@@ -53,11 +58,27 @@ IsCause exact metric bound stem K old new Endless =
     (ending : Ending) × OfBundle old new stem (λ texts. K texts → IsNeededFor exact metric bound texts ending)
     × IsReadOut old new (bundle_name stem ending) × OfBundle old new stem (λ texts. turn_budget ≤ length (texts ending))
 
--- what the check answers, where K holds of the texts
-abbrev pub Answers : NetValue → Metric → ℕ → Bytes → (Texts → Type 0) → FilesTold → FilesTold → Result (Option Clause) Unread → Type 0
-Answers exact metric bound stem K old new (Ok failing) =
-    FilesKept exact metric bound stem K old new × OfBundle old new stem (λ texts. K texts → IsFirstFault exact metric bound texts failing)
-Answers exact metric bound stem K old new (Err reason) = FilesKept exact metric bound stem K old new × IsCause exact metric bound stem K old new reason
+-- the first clause that fails, if one does
+abbrev pub failing_of : {L : Type 0} → Judged L → Option Clause
+failing_of (Good goal kept) = None
+failing_of (Failing c) = Some c
+
+module _ {L : Type 0} (holds : L → List LogItem → Type 0) where
+  -- the certificate's formula and what was kept of its log, or the first clause that fails
+  abbrev pub IsJudged : NetValue → Metric → ℕ → Texts → Judged L → Type 0
+  IsJudged exact metric bound texts (Good goal kept) = (log : List LogItem) × holds kept log × IsCertificateOf exact metric bound texts goal log
+  IsJudged exact metric bound texts (Failing c) = IsFirstFailing exact metric bound texts c
+
+  -- whatever the files tell, the log that was kept refutes the formula
+  abbrev pub IsProved : Judged L → Type 0
+  IsProved (Good goal kept) = IsOfRefutation holds goal.clauses kept
+  IsProved (Failing c) = Unit {0}
+
+  -- what the check answers, where K holds of the texts
+  abbrev pub Answers : NetValue → Metric → ℕ → Bytes → (Texts → Type 0) → FilesTold → FilesTold → Result (Judged L) Unread → Type 0
+  Answers exact metric bound stem K old new (Ok judged) =
+      FilesKept exact metric bound stem K old new × IsProved judged × OfBundle old new stem (λ texts. K texts → IsJudged exact metric bound texts judged)
+  Answers exact metric bound stem K old new (Err reason) = FilesKept exact metric bound stem K old new × IsCause exact metric bound stem K old new reason
 
 -- a file was read to its end, or as far as Q of its bytes asks
 pub record TextRead (old new : FilesTold) (name : Bytes) (Q : Bytes → Type 0) : Type 0 where

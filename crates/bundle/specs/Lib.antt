@@ -1,3 +1,4 @@
 pub mod Names
 pub mod Value
 pub mod Judging
+pub mod Loading

@@ -2,13 +2,14 @@
 ghost use Rattle.std.specs.Prelude.{◌≡◌, ◌↔◌, ◌≤◌, length, IsTrue, IfSome, IfOk, IfErr};
 ghost use Rattle.semantics.specs.Net.{IsSmall};
 ghost use Rattle.proof_semantics.specs.Formula.{dimacs_text};
-ghost use Rattle.bundle_texts.specs.LogTold.{IsRefutingText};
+ghost use Rattle.bundle_texts.specs.LogJudged.{IsOfRefutation, IsLogIn};
 ghost use Rattle.bundle_texts.specs.FilesRead.{IsNetIn, IsReportIn, AreVectorsIn};
 ghost use Rattle.bundle.specs.Judging.{TextRead, TextUnread};
 
 use blif_text::reading::read_blif;
 use blif_text::refusal::BlifRefusal;
 use bundle_texts::formula_check::FormulaCheck;
+use bundle_texts::item_sink::ItemSink;
 use bundle_texts::log_check::LogCheck;
 use bundle_texts::report_lines::REPORT_LIMIT;
 use bundle_texts::report_reading::{ReportRead, read_report};
@@ -104,19 +105,19 @@ pub(crate) fn is_formula<F: Files>(
     Ok(check.finish())
 }
 
-/// Whether a file is a log that refutes the formula.
-pub(crate) fn is_refuted<F: Files>(
+/// What is kept of a file's log, if it refutes the formula.
+pub(crate) fn read_log<F: Files, L: ItemSink>(
     alloc: Global,
     files: &mut F,
     name: &[u8],
     formula: &Cnf,
-) -> Result<bool, Unread>
+) -> Result<Option<L>, Unread>
     ensures ok { IfOk result
-        (λ yes. TextRead (F.told files.old) (F.told files.new) name.now
-        (λ content. IsTrue yes ↔ IsRefutingText formula.now.clauses content)) }
+        (λ log. TextRead (F.told files.old) (F.told files.new) name.now (IsLogIn L.holds formula.now.clauses log)) }
+    ensures refutes { IfOk result (λ log. IfSome log (IsOfRefutation L.holds formula.now.clauses)) }
     ensures err { IfErr result (TextUnread (F.told files.old) (F.told files.new) name.now) }
 {
-    let mut check = LogCheck::new(alloc, formula)?;
+    let mut check: LogCheck<L> = LogCheck::new(alloc, formula)?;
     read_file(files, name, &mut check)?;
     Ok(check.finish()?)
 }

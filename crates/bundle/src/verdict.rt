@@ -14,7 +14,7 @@ pub enum Verdict {
 }
 
 /// The number of a clause, from 1.
-fn clause_number(clause: Clause) -> u8
+pub(crate) fn clause_number(clause: Clause) -> u8
     ensures { result ≡ clause_number clause }
 {
     match clause {

@@ -4,6 +4,7 @@ pub mod ReportParts
 pub mod Reading
 pub mod TextCheck
 pub mod LogTold
+pub mod LogJudged
 pub mod LogStanding
 pub mod FormulaStanding
 pub mod VectorsTaken

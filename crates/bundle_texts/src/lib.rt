@@ -4,6 +4,8 @@
 
 pub mod bits;
 pub mod formula_check;
+pub mod item_sink;
+mod judge;
 pub mod log_check;
 mod pieces;
 pub mod report_lines;

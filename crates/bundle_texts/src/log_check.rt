@@ -1,57 +1,40 @@
 //! A log is checked as its text is read, so that the text is never held.
-ghost use Rattle.std.specs.Prelude.{◌≡◌, ◌↔◌, ℕ, ◌+◌, ◌≤◌, ◌<◌, ◌^◌, [], ◌∷◌, ◌++◌, List, length, false, None, IsTrue, IfOk};
+ghost use Rattle.std.specs.Prelude.{◌≡◌, ℕ, ◌+◌, ◌≤◌, ◌<◌, ◌^◌, [], ◌++◌, List, length, false, None, IsTrue, IfOk};
 ghost use Rattle.semantics.specs.Texts.{Bytes};
 ghost use Rattle.proof_semantics.specs.Clauses.{Clause};
-ghost use Rattle.proof_semantics.specs.Logs.{LogItem};
 ghost use Rattle.file_reading.specs.Reading.{IsAllWanted};
 ghost use Rattle.cnf_core.specs.LratReads.{read_items};
-ghost use Rattle.lrat_check.specs.Checker.{StandsAfter};
-ghost use Rattle.bundle_texts.specs.LogTold.{AreJudged, IsInStep, SoFar, IsSoundSoFar, IsRefutingText};
+ghost use Rattle.bundle_texts.specs.LogTold.{AreJudged, IsInStep, SoFar, IsSoundSoFar};
+ghost use Rattle.bundle_texts.specs.LogJudged.{HasTaken, IsLogIn};
 
+use crate::item_sink::ItemSink;
+use crate::judge::Judge;
 use cnf_core::cnf::Cnf;
-use cnf_core::log::Item;
 use cnf_core::lrat_reader::LratReader;
 use file_reading::intake::Intake;
 use lrat_check::checker::Checker;
 use proof_semantics::lrat_refusal::LratRefusal;
-use proof_semantics::step_refusal::StepRefusal;
 use std::alloc::{AllocError, Global};
 use std::marker::Model;
 
 /// What the length of a log's text stays below; no file is read so far.
 const LONGEST: usize = 1 << 62;
 
-/// Whether the checker accepts the item.
-fn accepts(checker: &mut Checker, item: &Item) -> Result<bool, AllocError>
-    ensures { IfOk result (λ accepted. (clauses : List Clause) (log : List LogItem)
-        → StandsAfter clauses log checker.old → AreJudged accepted clauses (log ++ item.now ∷ []) checker.new) }
-{
-    match item {
-        Item::Add(step) => match checker.step(step) {
-            Ok(()) => Ok(true),
-            Err(refusal) => match refusal {
-                StepRefusal::OutOfMemory => Err(AllocError),
-                _ => Ok(false),
-            },
-        },
-        Item::Remove(ids) => {
-            checker.remove(ids);
-            Ok(true)
-        }
-    }
-}
-
-/// Whether the checker accepts the whole items that were not given yet.
-fn accepts_all(reader: &mut LratReader, checker: &mut Checker) -> Result<bool, AllocError>
+/// Whether the whole items that were not given yet are accepted.
+fn accepts_all<L: ItemSink>(
+    reader: &mut LratReader,
+    judge: &mut Judge<L>,
+) -> Result<bool, AllocError>
     requires { reader.old.given ≤ length (read_items reader.old) }
     ensures reading { (given : ℕ) × (reader.new ≡ record reader.old { given = given }) }
     ensures all_given { IfOk result (λ accepted. IsTrue accepted
         → reader.new.given ≡ length (read_items reader.old)) }
     ensures judged { IfOk result (λ accepted. (clauses : List Clause)
-        → IsInStep clauses reader.old checker.old → AreJudged accepted clauses (read_items reader.old) checker.new) }
+        → IsInStep (HasTaken L.holds) clauses reader.old judge.old
+        → AreJudged (HasTaken L.holds) accepted clauses (read_items reader.old) judge.new) }
 {
     while let Some(item) = reader.next() {
-        if !accepts(checker, &item)? {
+        if !judge.accepts(item)? {
             return Ok(false);
         }
     }
@@ -59,17 +42,22 @@ fn accepts_all(reader: &mut LratReader, checker: &mut Checker) -> Result<bool, A
 }
 
 /// Takes the next piece of the text, and answers whether it may still refute the formula.
-fn goes_on(reader: &mut LratReader, checker: &mut Checker, piece: &[u8]) -> Result<bool, AllocError>
+fn goes_on<L: ItemSink>(
+    reader: &mut LratReader,
+    judge: &mut Judge<L>,
+    piece: &[u8],
+) -> Result<bool, AllocError>
     requires going { reader.old.finished ≡ false }
     requires calm { reader.old.refused ≡ None }
     requires given { reader.old.given ≤ length (read_items reader.old) }
     requires size { length reader.old.text + length piece.now < 2 ^ 63 }
     ensures text { IfOk result (λ _. reader.new.text ≡ reader.old.text ++ piece.now) }
     ensures judged { IfOk result (λ more. (clauses : List Clause)
-        → IsSoundSoFar clauses reader.old checker.old → SoFar more clauses reader.new checker.new) }
+        → IsSoundSoFar (HasTaken L.holds) clauses reader.old judge.old
+        → SoFar (HasTaken L.holds) more clauses reader.new judge.new) }
 {
     match reader.feed(piece) {
-        Ok(()) => accepts_all(reader, checker),
+        Ok(()) => accepts_all(reader, judge),
         Err(refusal) => match refusal {
             LratRefusal::OutOfMemory => Err(AllocError),
             _ => Ok(false),
@@ -77,20 +65,26 @@ fn goes_on(reader: &mut LratReader, checker: &mut Checker, piece: &[u8]) -> Resu
     }
 }
 
-/// Ends the text, and answers whether it refutes the formula.
-fn refutes(reader: &mut LratReader, checker: &mut Checker) -> Result<bool, AllocError>
+/// Ends the text, and answers what is kept of it where it refutes the formula.
+fn refuting<L: ItemSink>(reader: &mut LratReader, judge: Judge<L>) -> Result<Option<L>, AllocError>
     requires going { reader.old.finished ≡ false }
     requires given { reader.old.given ≤ length (read_items reader.old) }
     requires size { length reader.old.text < 2 ^ 63 }
-    ensures { IfOk result (λ refutes. (clauses : List Clause)
-        → IsSoundSoFar clauses reader.old checker.old
-        → IsTrue refutes ↔ IsRefutingText clauses reader.old.text) }
+    ensures { IfOk result (λ kept. (clauses : List Clause)
+        → IsSoundSoFar (HasTaken L.holds) clauses reader.old judge
+        → IsLogIn L.holds clauses kept reader.old.text) }
 {
+    let mut judge = judge;
     match reader.finish() {
-        Ok(()) => Ok(accepts_all(reader, checker)? && checker.done()),
+        Ok(()) => {
+            if !accepts_all(reader, &mut judge)? {
+                return Ok(None);
+            }
+            Ok(judge.finish())
+        }
         Err(refusal) => match refusal {
             LratRefusal::OutOfMemory => Err(AllocError),
-            _ => Ok(false),
+            _ => Ok(None),
         },
     }
 }
@@ -107,16 +101,16 @@ enum Standing {
 }
 
 /// Callers see the formula, the text so far, and how many bytes more are wanted. The memory goes with what the checker
-/// holds and the items of one piece.
+/// holds, the items of one piece, and what the sink keeps.
 #[derive(Drop)]
-pub struct LogCheck<'a> {
+pub struct LogCheck<'a, L: ItemSink> {
     formula: &'a Cnf,
     reader: LratReader,
-    checker: Checker,
+    judge: Judge<L>,
     standing: Standing,
 }
 
-impl<'a> Model for LogCheck<'a> {
+impl<'a, L: ItemSink> Model for LogCheck<'a, L> {
     ghost use Rattle.bundle_texts.specs.TextCheck.{TextCheck};
 
     ghost Value = { TextCheck };
@@ -125,42 +119,45 @@ impl<'a> Model for LogCheck<'a> {
 
     ghost view = { check_view };
 
-    ghost invariant = { Stands };
+    ghost invariant = { Stands L.holds };
 }
 
-impl<'a> LogCheck<'a> {
+impl<'a, L: ItemSink> LogCheck<'a, L> {
     /// At the start of a log over the formula.
-    pub fn new(alloc: Global, formula: &'a Cnf) -> Result<LogCheck<'a>, AllocError>
+    pub fn new(alloc: Global, formula: &'a Cnf) -> Result<LogCheck<'a, L>, AllocError>
         ensures { IfOk result (λ check. check ≡ record { formula = formula.now; text = []; room = LONGEST }) }
     {
         Ok(LogCheck {
             formula,
             reader: LratReader::new(alloc),
-            checker: Checker::new(alloc, formula)?,
+            judge: Judge {
+                checker: Checker::new(alloc, formula)?,
+                kept: L::empty(alloc),
+            },
             standing: Standing::Accepted(LONGEST),
         })
     }
 
-    /// Whether the text, once all of it that is wanted was taken, is a log that refutes the formula.
-    pub fn finish(self) -> Result<bool, AllocError>
-        ensures { IfOk result (λ refutes. (content : Bytes) → IsAllWanted content self.entry.text self.entry.room
-            → IsTrue refutes ↔ IsRefutingText self.entry.formula.clauses content) }
+    /// What is kept of the text, once all of it that is wanted was taken, if it is a log that refutes the formula.
+    pub fn finish(self) -> Result<Option<L>, AllocError>
+        ensures { IfOk result (λ kept. (content : Bytes) → IsAllWanted content self.entry.text self.entry.room
+            → IsLogIn L.holds self.entry.formula.clauses kept content) }
     {
         let LogCheck {
             mut reader,
-            mut checker,
+            judge,
             standing,
             ..
         } = self;
         match standing {
-            Standing::Accepted(room) if room > 0 => refutes(&mut reader, &mut checker),
-            Standing::Refused => Ok(false),
+            Standing::Accepted(room) if room > 0 => refuting(&mut reader, judge),
+            Standing::Refused => Ok(None),
             _ => Err(AllocError),
         }
     }
 }
 
-impl Intake for LogCheck<'_> {
+impl<L: ItemSink> Intake for LogCheck<'_, L> {
     /// The formula that is to be refuted.
     type Aim = Cnf;
 
@@ -181,7 +178,7 @@ impl Intake for LogCheck<'_> {
         let Standing::Accepted(room) = self.standing else {
             return Ok(());
         };
-        match goes_on(&mut self.reader, &mut self.checker, piece) {
+        match goes_on(&mut self.reader, &mut self.judge, piece) {
             Ok(true) => self.standing = Standing::Accepted(room - piece.len()),
             Ok(false) => self.standing = Standing::Refused,
             Err(error) => {

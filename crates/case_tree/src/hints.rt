@@ -6,11 +6,11 @@ ghost use Rattle.net_core.specs.Built.{IsBuilt};
 ghost use Rattle.proof_semantics.specs.Variables.{table_clause_count};
 ghost use Rattle.case_tree.specs.Cases.{row_hint, table_hints, first_ids, ordered_hints};
 
-use cnf_core::log::Ids;
 use net_core::items::{Items, Signal};
 use net_core::mark::Mark;
 use net_core::net::Net;
 use net_core::table::{Table, is_literal, mark_matches, row_literals, row_matches};
+use proof_parts::log::Ids;
 use std::alloc::{AllocError, Global};
 
 /// The clause that decides a row, of those from the id `next` on.

@@ -9,12 +9,12 @@ ghost use Rattle.proof_semantics.specs.Variables.{table_clause_count};
 ghost use Rattle.case_tree.specs.Cases.{negation_from, negation, first_ids, vector_step, join_step, step_count, cases_from};
 
 use crate::hints::{first_ids, vector_hints};
-use cnf_core::clause::Lits;
-use cnf_core::cnf::Cnf;
-use cnf_core::literal::literal_at;
-use cnf_core::log::{Item, Log, Step};
 use net_core::items::Items;
 use net_core::net::Net;
+use proof_parts::clause::Lits;
+use proof_parts::cnf::Cnf;
+use proof_parts::literal::literal_at;
+use proof_parts::log::{Item, Log, Step};
 use std::alloc::{AllocError, Global};
 
 /// The clause that is false exactly where the first inputs have these bits.

@@ -12,7 +12,7 @@ use Rattle.cdcl_core.specs.Trail.{IsTrueBelow, IsConsistent, AreLevels, IsLearne
 use Rattle.cdcl_core.specs.Explained.{Holds}
 use Rattle.cdcl_core.specs.Placed.{TrailValue}
 use Rattle.cdcl_core.specs.Propagation.{IsExtended}
-use Rattle.cdcl_core.specs.Jump.{IsRunning, IsJump, HasLast, jumped, IsLastOther}
+use Rattle.cdcl_core.specs.Jump.{IsRunning, IsJump, HasLast, jumped, closed, IsLastOther}
 use Rattle.cdcl_core.proofs.Back.{true-same, back-learned, back-cut}
 use Rattle.cdcl_core.proofs.Trails.{trail-implied, trail-decided, levels-decided, trail-closed, trail-added}
 
@@ -51,6 +51,22 @@ running_jumped clauses t s C u at m c h learned jump =
           (omega arith) (omega (arith, length-append (take q t.literals) (u ∷ [])))
           (same ∙ sym (take-append-le q (take q t.literals) (u ∷ []) (omega arith)))
           (stays_settled clauses t s C u at m c h.settled learned jump.last);
+    }
+
+pub running_closed : (clauses : List Clause) (t : TrailValue) (m : ℕ) → IsRunning clauses t → m < length t.starts → IsRunning clauses (closed t m)
+running_closed clauses t m h m_low =
+    let q : ℕ = get_or t.starts m 0 in
+    let q_within : q < length t.literals = h.levels.within m 0 m_low in
+    let cut : length (take q t.literals) ≡ q = omega (arith, length-take q t.literals) in
+    let same : take q t.literals ≡ take q (take q t.literals) = sym (ap (λ n. take n (take q t.literals)) (sym cut) ∙ take-length (take q t.literals)) in
+    let stays = trail-closed clauses t.literals t.reasons t.starts m h.trail h.levels m_low in
+    record {
+      trail = stays.0;
+      levels = stays.1;
+      settled = back-cut clauses t.literals (take q t.literals) (take m t.starts) q
+          (All-weaker (λ r. r < length (take q t.literals)) (λ r. r ≤ q) (λ r low. omega arith) (take m t.starts) stays.1.within)
+          (omega arith) (omega arith) same
+          (All-take (λ r. IsSettled (IsTrueBelow t.literals r) clauses) m t.starts h.settled);
     }
 
 -- the starts of the levels are not after the end

@@ -13,6 +13,7 @@ pub mod Visiting
 pub mod Starting
 pub mod Handled
 pub mod Analysed
+pub mod Touching
 pub mod Marking
 pub mod Resolving
 pub mod FromConflict

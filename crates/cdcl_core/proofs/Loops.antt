@@ -1,5 +1,5 @@
 -- What the loops keep, and where a false clause was made false.
-use Rattle.std.specs.Prelude.{◌≡◌, ◌⊎◌, ℕ, ◌<◌, ◌≤◌, Bool, true, false, List, take, length, ℤ, neg_ℤ, All}
+use Rattle.std.specs.Prelude.{◌≡◌, ◌⊎◌, ℕ, ◌<◌, ◌≤◌, Bool, true, false, List, take, length, slice_index, ℤ, neg_ℤ, All}
 use Rattle.std.specs.List.{Contains}
 use Rattle.proof_semantics.specs.Clauses.{Clause}
 use Rattle.cdcl_core.specs.Settled.{IsSettled}
@@ -18,9 +18,9 @@ pub record HasEntryFrom (trail : List ℤ) (s : ℕ) (D : Clause) : Type 0 where
   pub within : place < length trail
   pub is : literal_at trail place ≡ neg_ℤ literal
 
--- C is the negations of the literals of the marked entries below i
-pub record IsClauseSoFar (trail : List ℤ) (marks : List Bool) (C : Clause) (i : ℕ) : Type 0 where
-  pub each : (p : ℕ) → p < i → mark_at marks p ≡ true → Contains C (neg_ℤ (literal_at trail p))
+-- C is the negations of the literals of the marked entries among the first i places that are listed
+pub record IsClauseSoFar (trail : List ℤ) (marks : List Bool) (touched : List ℕ) (C : Clause) (i : ℕ) : Type 0 where
+  pub each : (k : ℕ) → k < i → slice_index touched k < length trail → mark_at marks (slice_index touched k) ≡ true → Contains C (neg_ℤ (literal_at trail (slice_index touched k)))
   pub all : All (λ a. IsMarked trail marks (neg_ℤ a)) C
 
 -- nothing after place p is marked

@@ -10,7 +10,8 @@ use Rattle.std.proofs.lemmas.List.Elements.{All-weaker, All-push, Contains-appen
 use Rattle.proof_semantics.specs.Clauses.{Clause}
 use Rattle.cdcl_core.specs.Trail.{literal_at, IsTrueBelow, IsConsistent}
 use Rattle.cdcl_core.specs.Explained.{IsMarked}
-use Rattle.cdcl_core.specs.Analysis.{mark_at}
+use Rattle.cdcl_core.specs.Analysis.{mark_at, IsClauseOf}
+use Rattle.cdcl_core.specs.Touched.{IsListed, AreTouched}
 use Rattle.cdcl_core.proofs.Loops.{IsMarking, IsClauseSoFar}
 
 -- one literal more
@@ -39,7 +40,7 @@ mark_kept marks p q within m = elim (cases_eq q p) [
 marked_set : (trail : List ℤ) (marks : List Bool) (p : ℕ) (l : ℤ) → p < length marks → IsMarked trail marks l → IsMarked trail (set marks p true) l
 marked_set trail marks p l within m = record { place = m.place; within = m.within; marked = mark_kept marks p m.place within m.marked; is = m.is }
 
-pub marking_set : (trail : List ℤ) (old marks : List Bool) (C : Clause) (own : ℤ) (bound n : ℕ) (x : ℤ) (t : Bool) (p : ℕ) → IsConsistent trail → length old ≡ length trail
+pub marking_set : (trail : List ℤ) (old marks : List Bool) (C : Clause) (own : ℤ) (bound n : ℕ) (x : ℤ) (t : Bool) (p : ℕ) → IsConsistent trail → length trail ≤ length old
     → IsMarking trail old marks C own bound n → n < length C → x ≡ get_or C n x → All (λ a. (a ≡ own) ⊎ IsTrueBelow trail bound (neg_ℤ a)) C
     → (IsTrue t ↔ (x ≡ own)) → t ≡ false → p < length trail → literal_at trail p ≡ neg_ℤ x → IsMarking trail old (set marks p true) C own bound (n + 1)
 marking_set trail old marks C own bound n x t p c len h within is others says e p_within p_is =
@@ -66,37 +67,42 @@ pub marking_done : (trail : List ℤ) (old marks : List Bool) (C : Clause) (own 
     → All (λ a. (a ≡ own) ⊎ IsMarked trail marks (neg_ℤ a)) C
 marking_done trail old marks C own bound n h past = subst (All (λ a. (a ≡ own) ⊎ IsMarked trail marks (neg_ℤ a))) (take_all n C past) h.marked
 
--- a literal whose entry is not marked
-pub unmarked : (trail : List ℤ) (marks : List Bool) (C : Clause) (own : ℤ) (n : ℕ) (x : ℤ) (t : Bool) (at : ℕ) → IsConsistent trail → n < length C → x ≡ get_or C n x
-    → (IsTrue t ↔ (x ≡ own)) → t ≡ false → at < length trail → literal_at trail at ≡ neg_ℤ x → mark_at marks at ≡ false
-    → All (λ a. (a ≡ own) ⊎ IsMarked trail marks (neg_ℤ a)) C → ⊥
-unmarked trail marks C own n x t at c within is says e at_within at_is off all =
-    elim (subst (λ a. (a ≡ own) ⊎ IsMarked trail marks (neg_ℤ a)) (sym is) (all n x within)) [
-      | inl own_x ↦ let this : t ≡ true = says.1 own_x in cc
-      | inr m ↦
-          let same : m.place ≡ at = c.distinct m.place at m.within at_within (m.is ∙ sym at_is) in
-          let on : mark_at marks at ≡ true = ap (mark_at marks) (sym same) ∙ m.marked in
-          cc
-    ]
-
-pub clause_unmarked : (trail : List ℤ) (marks : List Bool) (C D : Clause) (i : ℕ) → IsClauseSoFar trail marks C i → mark_at marks i ≡ false → D ≡ C → IsClauseSoFar trail marks D (i + 1)
-clause_unmarked trail marks C D i h not_marked e = rw e (record {
-  each = λ p low m. elim (cases_lt p i) [
-    | inl before ↦ h.each p before m
-    | inr high ↦ let here : p ≡ i = omega arith in let this : mark_at marks i ≡ true = ap (mark_at marks) (sym here) ∙ m in absurd (cc)
+-- a place that is not marked or that no entry has
+pub clause_skipped : (trail : List ℤ) (marks : List Bool) (touched : List ℕ) (C : Clause) (i : ℕ) → IsClauseSoFar trail marks touched C i
+    → (get_or touched i 0 < length trail → mark_at marks (get_or touched i 0) ≡ true → ⊥) → IsClauseSoFar trail marks touched C (i + 1)
+clause_skipped trail marks touched C i h never = record {
+  each = λ k low within m. elim (cases_lt k i) [
+    | inl before ↦ h.each k before within m
+    | inr high ↦
+        let here : k ≡ i = omega arith in
+        absurd (never (subst (λ j. get_or touched j 0 < length trail) here within) (subst (λ j. mark_at marks (get_or touched j 0) ≡ true) here m))
   ];
   all = h.all;
-})
+}
 
-pub clause_marked : (trail : List ℤ) (marks : List Bool) (C D : Clause) (i : ℕ) (l n : ℤ) → IsClauseSoFar trail marks C i → mark_at marks i ≡ true → i < length trail
-    → l ≡ literal_at trail i → n ≡ neg_ℤ l → D ≡ C ++ n ∷ [] → IsClauseSoFar trail marks D (i + 1)
-clause_marked trail marks C D i l n h marked within is negated e =
-    let x : ℤ = neg_ℤ (literal_at trail i) in
+pub clause_marked : (trail : List ℤ) (marks : List Bool) (touched : List ℕ) (C D : Clause) (i p : ℕ) (l n : ℤ) → IsClauseSoFar trail marks touched C i → p ≡ get_or touched i 0 → mark_at marks p ≡ true → p < length trail
+    → l ≡ literal_at trail p → n ≡ neg_ℤ l → D ≡ C ++ n ∷ [] → IsClauseSoFar trail marks touched D (i + 1)
+clause_marked trail marks touched C D i p l n h place marked within is negated e =
+    let x : ℤ = neg_ℤ (literal_at trail p) in
     let same : n ≡ x = negated ∙ ap neg_ℤ is in
     rw (e, same) (record {
-      each = λ p low m. elim (cases_lt p i) [
-        | inl before ↦ Contains-append_left C (x ∷ []) (neg_ℤ (literal_at trail p)) (h.each p before m)
-        | inr high ↦ let here : i ≡ p = omega arith in subst (λ q. Contains (C ++ x ∷ []) (neg_ℤ (literal_at trail q))) here (Contains-push C x)
+      each = λ k low in_trail m. elim (cases_lt k i) [
+        | inl before ↦ Contains-append_left C (x ∷ []) (neg_ℤ (literal_at trail (get_or touched k 0))) (h.each k before in_trail m)
+        | inr high ↦
+            let here : k ≡ i = omega arith in
+            let same_place : p ≡ get_or touched k 0 = place ∙ ap (λ j. get_or touched j 0) (sym here) in
+            subst (λ q. Contains (C ++ x ∷ []) (neg_ℤ (literal_at trail q))) same_place (Contains-push C x)
       ];
-      all = All-push (λ a. IsMarked trail marks (neg_ℤ a)) C x h.all (record { place = i; within = within; marked = marked; is = sym (neg_ℤ-neg_ℤ (literal_at trail i)) });
+      all = All-push (λ a. IsMarked trail marks (neg_ℤ a)) C x h.all (record { place = p; within = within; marked = marked; is = sym (neg_ℤ-neg_ℤ (literal_at trail p)) });
     })
+
+-- each marked place is listed
+pub clause_whole : (trail : List ℤ) (marks : List Bool) (touched : List ℕ) (C : Clause) (i : ℕ) → IsClauseSoFar trail marks touched C i → AreTouched marks touched → length touched ≤ i → IsClauseOf trail marks C
+clause_whole trail marks touched C i h t past = record {
+  each = λ p within m.
+      let l : IsListed touched 0 p = t.listed p m in
+      let inside = l.within in
+      subst (λ q. Contains C (neg_ℤ (literal_at trail q))) l.is
+      (h.each l.at (omega arith) (subst (λ q. q < length trail) (sym l.is) within) (subst (λ q. mark_at marks q ≡ true) (sym l.is) m));
+  all = h.all;
+}

@@ -1,13 +1,13 @@
 -- Resolving an entry.
 use Rattle.std.specs.Prelude.{ℤ, neg_ℤ, ◌≢◌, ◌⊎◌, All}
-use Rattle.std.proofs.Common.{◌≡◌, ℕ, suc, Bool, true, false, ◌<◌, ◌≤◌, List, [], ◌∷◌, ◌++◌, length, get_or, reverse, ap, sym, ◌∙◌, inl, inr}
+use Rattle.std.proofs.Common.{◌≡◌, ℕ, suc, Bool, true, false, ◌<◌, ◌≤◌, List, [], ◌∷◌, ◌++◌, length, get_or, reverse, refl, ap, sym, ◌∙◌, inl, inr, arith}
 use Rattle.std.proofs.lemmas.Bool.{cases_eq}
 use Rattle.std.proofs.lemmas.List.{get_or-set_same, get_or-set_other, reverse-append}
 use Rattle.std.proofs.Math.ListN.{set}
 use Rattle.proof_semantics.specs.Clauses.{Clause}
 use Rattle.cdcl_core.specs.Trail.{literal_at, IsTrueBelow, IsConsistent, IsReason}
 use Rattle.cdcl_core.specs.Explained.{IsMarked, IsExplained}
-use Rattle.cdcl_core.specs.Analysis.{mark_at}
+use Rattle.cdcl_core.specs.Analysis.{mark_at, AreOthersMarked, IsShortened}
 use Rattle.cdcl_core.proofs.Derived.{marks-resolved}
 use Rattle.cdcl_core.proofs.Propagating.{clause_read}
 
@@ -35,3 +35,46 @@ resolved_below old new i p within below high m = elim (cases_eq p i) [
   | inl e ↦ let one : mark_at (set old i false) i ≡ true = ap (mark_at (set old i false)) (sym e) ∙ below p high m in let two = get_or-set_same old i false false within in absurd (cc)
   | inr other ↦ (other, sym (get_or-set_other old i p false false other) ∙ below p high m)
 ]
+
+-- the mark of an entry was taken away, and then others were set before it
+pub replaced_kept : (trail : List ℤ) (old unset new : List Bool) (C : Clause) (own : ℤ) (entry : ℕ) → unset ≡ set old entry false → AreOthersMarked trail unset new C own entry
+    → (p : ℕ) → p ≢ entry → mark_at old p ≡ true → mark_at new p ≡ true
+replaced_kept trail old unset new C own entry e h p other m = h.kept p (ap (λ xs. mark_at xs p) e ∙ get_or-set_other old entry p false false other ∙ m)
+
+pub replaced_below : (trail : List ℤ) (old unset new : List Bool) (C : Clause) (own : ℤ) (entry : ℕ) → unset ≡ set old entry false → entry < length old → AreOthersMarked trail unset new C own entry
+    → (p : ℕ) → entry ≤ p → mark_at new p ≡ true → (p ≢ entry) × (mark_at old p ≡ true)
+replaced_below trail old unset new C own entry e inside h p high m =
+    let was : mark_at (set old entry false) p ≡ true = ap (λ xs. mark_at xs p) (sym e) ∙ h.below p high m in
+    elim (cases_eq p entry) [
+      | inl here ↦
+          let off : mark_at (set old entry false) p ≡ false = ap (mark_at (set old entry false)) here ∙ get_or-set_same old entry false false inside in
+          absurd (cc)
+      | inr other ↦ (other, sym (get_or-set_other old entry p false false other) ∙ was)
+    ]
+
+-- one entry less before start
+pub shortened_resolved : (old new : List Bool) (place start : ℕ) → length new ≡ length old → ((p : ℕ) → p ≢ place → mark_at old p ≡ true → mark_at new p ≡ true)
+    → ((p : ℕ) → place ≤ p → mark_at new p ≡ true → (p ≢ place) × (mark_at old p ≡ true)) → place < start → IsShortened old new start
+shortened_resolved old new place start same kept below low = record {
+  same_length = same;
+  kept = λ p high m. kept p (λ e. omega arith) m;
+  only = λ p high m. (below p (omega arith) m).1;
+}
+
+pub shortened_same : (marks : List Bool) (start : ℕ) → IsShortened marks marks start
+shortened_same marks start = record { same_length = refl; kept = λ p high m. m; only = λ p high m. m }
+
+pub shortened_more : (one two three : List Bool) (start : ℕ) → IsShortened one two start → IsShortened two three start → IsShortened one three start
+shortened_more one two three start a b = record {
+  same_length = b.same_length ∙ a.same_length;
+  kept = λ p high m. b.kept p high (a.kept p high m);
+  only = λ p high m. a.only p high (b.only p high m);
+}
+
+-- what stays from an earlier place on stays from a later one on
+pub shortened_later : (old new : List Bool) (first start : ℕ) → first ≤ start → IsShortened old new first → IsShortened old new start
+shortened_later old new first start low h = record {
+  same_length = h.same_length;
+  kept = λ p high m. h.kept p (omega arith) m;
+  only = λ p high m. h.only p (omega arith) m;
+}

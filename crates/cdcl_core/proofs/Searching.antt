@@ -24,16 +24,16 @@ use Rattle.cdcl_core.specs.Explained.{Holds}
 use Rattle.cdcl_core.specs.Placed.{TrailValue}
 use Rattle.cdcl_core.specs.Watches.{WatchesValue}
 use Rattle.cdcl_core.specs.Propagation.{IsExtended}
-use Rattle.cdcl_core.specs.Jump.{IsRunning}
+use Rattle.cdcl_core.specs.Jump.{IsRunning, closed}
 use Rattle.cdcl_core.specs.Decided.{IsFull, AreValues}
-use Rattle.cdcl_core.specs.Searched.{IsSearching, IsModelTrail, IsSearch, HasEnded, HasLearned}
+use Rattle.cdcl_core.specs.Searched.{IsSearching, IsModelTrail, IsSearch, HasMoved, HasEnded, HasLearned}
 use Rattle.cdcl_core.specs.Answers.{IsModel, IsRefutation}
 use Rattle.cdcl_core.specs.Refuted.{IsRefuted}
 use Rattle.cdcl_core.specs.Analysed.{IsAnalysed}
 use Rattle.cdcl_core.specs.declared.analysis.Learned.{Learned}
 use Rattle.cdcl_core.specs.declared.search.Search.{Search}
 use Rattle.cdcl_core.proofs.NewClauses.{not_both}
-use Rattle.cdcl_core.proofs.Jumping.{running_decided, running_extended}
+use Rattle.cdcl_core.proofs.Jumping.{running_decided, running_extended, running_closed}
 
 -- ---- between the steps
 
@@ -188,14 +188,56 @@ has_ended clauses before after hints s r is few logged = record {
 }
 
 -- a search whose trail went on
-pub search_found : (f : Formula) (merged : List LogItem) (k : ℕ) (s : Search) (t : TrailValue) (w : WatchesValue) → IsSearch f merged k s → IsSearching s.clauses t s.order → IsSearch f merged k (record s { trail = t; watches = w })
-search_found f merged k s t w h searching = record {
+pub search_found : (f : Formula) (merged : List LogItem) (k : ℕ) (s : Search) (t : TrailValue) (w : WatchesValue) (order : ℕ) → IsSearch f merged k s → IsSearching s.clauses t order → order ≡ s.order
+    → IsSearch f merged k (record s { trail = t; watches = w; order = order })
+search_found f merged k s t w order h searching same = record {
   searching = searching;
-  variables = sym searching.variables ∙ h.searching.variables ∙ h.variables;
+  variables = sym searching.variables ∙ same ∙ h.searching.variables ∙ h.variables;
   clauses = h.clauses;
   begins = h.begins;
   chain = h.chain;
 }
+
+pub moved_none : (s : Search) → IsSearching s.clauses s.trail s.order → HasMoved s s
+moved_none s h = record { searching = h; variables = refl; clauses = refl; log = refl }
+
+pub moved_again : (a b c : Search) → HasMoved a b → HasMoved b c → HasMoved a c
+moved_again a b c one two = record {
+  searching = two.searching;
+  variables = two.variables ∙ one.variables;
+  clauses = two.clauses ∙ one.clauses;
+  log = two.log ∙ one.log;
+}
+
+pub moved_found : (s : Search) (t : TrailValue) (w : WatchesValue) (order : ℕ) → IsSearching s.clauses s.trail s.order → IsSearching s.clauses t order → order ≡ s.order → HasMoved s (record s { trail = t; watches = w; order = order })
+moved_found s t w order h searching same = record {
+  searching = searching;
+  variables = sym searching.variables ∙ same ∙ h.variables;
+  clauses = refl;
+  log = refl;
+}
+
+-- a search whose trail went on or back
+pub search_moved : (f : Formula) (merged : List LogItem) (k : ℕ) (old new : Search) → IsSearch f merged k old → HasMoved old new → IsSearch f merged k new
+search_moved f merged k old new h m = record {
+  searching = m.searching;
+  variables = m.variables ∙ h.variables;
+  clauses = m.clauses ∙ h.clauses ∙ ap (clauses_with f.clauses) (sym m.log);
+  begins = ap (take (length merged)) m.log ∙ h.begins;
+  chain = subst (IsConflictChain f (length merged) k) (sym m.log) h.chain;
+}
+
+pub searching_closed : (clauses : List Clause) (t u : TrailValue) (order after m : ℕ) → IsSearching clauses t order → after ≡ order → m < length t.starts → u ≡ closed t m → IsSearching clauses u after
+searching_closed clauses t u order after m h same m_low e = rw (e, same) (record {
+  running = running_closed clauses t m h.running m_low;
+  literals = h.literals;
+  variables = h.variables;
+  small = h.small;
+})
+
+-- the order keeps its variables
+pub searching_ordered : (clauses : List Clause) (t : TrailValue) (order after : ℕ) → after ≡ order → IsSearching clauses t order → IsSearching clauses t after
+searching_ordered clauses t order after same h = subst (IsSearching clauses t) (sym same) h
 
 -- ---- values
 

@@ -15,7 +15,7 @@ use Rattle.cdcl_core.specs.Placed.{TrailValue, last_start}
 use Rattle.cdcl_core.specs.Watched.{index_of}
 use Rattle.cdcl_core.specs.Watches.{WatchesValue, watches_with}
 use Rattle.cdcl_core.specs.Watching.{AreFree, AreKept, AreKeptAt, IsWatchedBelow, IsWatching}
-use Rattle.cdcl_core.specs.Jump.{IsRunning, IsLastOther, HasLastAs, IsJumpPair, jumped}
+use Rattle.cdcl_core.specs.Jump.{IsRunning, IsLastOther, HasLastAs, IsJumpPair, jumped, closed}
 use Rattle.cdcl_core.specs.declared.watches.Pair.{Pair}
 use Rattle.cdcl_core.proofs.Back.{open-below, true-same}
 use Rattle.cdcl_core.proofs.Trails.{kept-below}
@@ -96,6 +96,36 @@ pub jump_watching : (clauses more : List Clause) (t u : TrailValue) (w added new
 jump_watching clauses more t u w added new s C x own at m n q other c running h learned same m_low pair literals more_is count added_is q_is new_is e =
     rw (more_is, e, new_is, added_is, q_is, count)
     (watching_jumped clauses t w s C own at m other c running h (subst (λ y. IsLearned t.literals s C y at) (sym same) learned) m_low pair literals)
+
+watching_closed : (clauses : List Clause) (t : TrailValue) (w : WatchesValue) (m : ℕ) → IsRunning clauses t → IsWatchedBelow clauses t w → m < length t.starts
+    → IsWatching clauses (closed t m) (record w { handled = get_or t.starts m 0 })
+watching_closed clauses t w m running h m_low =
+    let q : ℕ = get_or t.starts m 0 in
+    let after : List ℤ = take q t.literals in
+    let q_within : q < length t.literals = running.levels.within m 0 m_low in
+    let cut : length after ≡ q = omega (arith, length-take q t.literals) in
+    let same : take q t.literals ≡ take q after = sym (ap (λ n. take n after) (sym cut) ∙ take-length after) in
+    let below_q : (k d : ℕ) → k < length (take m t.starts) → get_or (take m t.starts) k d < q = λ k d within.
+    let k_low : k < m = omega (arith, length-take m t.starts) in
+    rw (get_or-take m t.starts k d k_low) (kept-below t.starts m k d running.levels.rising m_low k_low) in
+    let at_q : AreKeptAt clauses after w.pairs q = kept_at_same clauses w.pairs t.literals after q q (omega arith) (omega arith) (omega arith) same (h.below m 0 m_low) in
+    record {
+      base = record {
+        formed = h.formed;
+        low = λ k d within. let low = below_q k d within in omega arith;
+        below = λ k d within.
+            let r : ℕ = get_or (take m t.starts) k d in
+            let low : r < q = below_q k d within in
+            kept_at_same clauses w.pairs t.literals after q r (omega arith) (omega arith) (omega arith) same (All-take (AreKeptAt clauses t.literals w.pairs) m t.starts h.below k d within);
+      };
+      within = omega arith;
+      kept = kept_same (IsTrueBelow after q) (IsTrueBelow after q) (Holds after) (IsTrueBelow after q) clauses w.pairs (λ l. below_holds after q l) (λ l f. f) at_q;
+    }
+
+-- the same of the values that the code has
+pub restart_watching : (clauses : List Clause) (t u : TrailValue) (w new : WatchesValue) (m q : ℕ) → IsRunning clauses t → IsWatchedBelow clauses t w → m < length t.starts
+    → q ≡ get_or t.starts m 0 → new ≡ record w { handled = q } → u ≡ closed t m → IsWatching clauses u new
+restart_watching clauses t u w new m q running h m_low q_is new_is e = rw (e, new_is, q_is) (watching_closed clauses t w m running h m_low)
 
 pub pair_low : (clauses : List Clause) (t : TrailValue) (w : WatchesValue) (C : Clause) (l : ℤ) → IsWatchedBelow clauses t w → All (IsLiteralOf t.variables) C → Contains C l → index_of l < length w.lists
 pair_low clauses t w C l h literals inside = rw h.formed.lists_length (index_low t.variables l (All-contains (IsLiteralOf t.variables) C l literals inside))

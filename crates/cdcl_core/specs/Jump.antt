@@ -46,6 +46,14 @@ jumped clauses t u m = record t {
   starts = take m t.starts;
 }
 
+-- m levels stay
+abbrev pub closed : TrailValue → ℕ → TrailValue
+closed t m = record t {
+  literals = take (slice_index_or t.starts m 0) t.literals;
+  reasons = take (slice_index_or t.starts m 0) t.reasons;
+  starts = take m t.starts;
+}
+
 abbrev pub later_of : Option ℕ → ℕ → ℕ
 later_of None p = p
 later_of (Some q) p = max q p

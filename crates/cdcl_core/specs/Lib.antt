@@ -1,4 +1,5 @@
 pub mod Links
+pub mod Touched
 pub mod Settled
 pub mod Trail
 pub mod Explained

@@ -1,10 +1,11 @@
--- The ring in which the order of the variables is held.
-use Rattle.std.specs.Prelude.{◌≡◌, ℕ, ◌<◌, Bool, List, length, All}
+-- The ring in which the variables stand that are decided.
+use Rattle.std.specs.Prelude.{◌≡◌, ℕ, ◌<◌, List, length, All}
 
--- each number has a next one, one before it, and a value
-pub record AreLinks (after before : List ℕ) (values : List Bool) : Type 0 where
+-- each number has a next one, one before it, and a stamp; the search begins at one of the numbers
+pub record AreLinks (after before stamps : List ℕ) (search : ℕ) : Type 0 where
   pub some : 0 < length after
   pub before_length : length before ≡ length after
-  pub values_length : length values ≡ length after
+  pub stamps_length : length stamps ≡ length after
   pub after_within : All (λ v. v < length after) after
   pub before_within : All (λ v. v < length after) before
+  pub search_within : search < length after

@@ -1,5 +1,5 @@
 -- What holds of a search between its steps.
-use Rattle.std.specs.Prelude.{◌≡◌, ℕ, ◌+◌, ◌<◌, ◌^◌, List, [], ◌∷◌, ◌++◌, take, length, All}
+use Rattle.std.specs.Prelude.{◌≡◌, ℕ, ◌+◌, ◌<◌, ◌^◌, Option, Some, None, List, [], ◌∷◌, ◌++◌, take, length, All}
 use Rattle.proof_semantics.specs.Clauses.{Clause, IsLiteralOf, AreClausesOf}
 use Rattle.proof_semantics.specs.declared.item.Item.TheVariants.{Add}
 use Rattle.proof_semantics.specs.Formula.{Formula}
@@ -8,6 +8,9 @@ use Rattle.proof_semantics.specs.Conflicts.{IsNew, clauses_with, IsConflictChain
 use Rattle.cdcl_core.specs.Settled.{IsSettled}
 use Rattle.cdcl_core.specs.Explained.{Holds}
 use Rattle.cdcl_core.specs.Placed.{TrailValue}
+use Rattle.cdcl_core.specs.Propagation.{IsConflict}
+use Rattle.cdcl_core.specs.Watches.{WatchesValue}
+use Rattle.cdcl_core.specs.Watching.{IsWatching, IsWatchedBelow}
 use Rattle.cdcl_core.specs.Jump.{IsRunning}
 use Rattle.cdcl_core.specs.Decided.{IsFull}
 use Rattle.cdcl_core.specs.declared.search.Search.{Search}
@@ -23,6 +26,18 @@ pub record IsSearching (clauses : List Clause) (t : TrailValue) (order : ℕ) : 
 pub record IsModelTrail (clauses : List Clause) (t : TrailValue) : Type 0 where
   pub full : IsFull t
   pub settled : IsSettled (Holds t.literals) clauses
+
+-- the trail went on or back, and nothing was learned
+pub record HasMoved (old new : Search) : Type 0 where
+  pub searching : IsSearching new.clauses new.trail new.order
+  pub variables : new.trail.variables ≡ old.trail.variables
+  pub clauses : new.clauses ≡ old.clauses
+  pub log : new.log ≡ old.log
+
+-- the step of the sweep is over, or a clause is false
+abbrev pub IsSwept : List Clause → TrailValue → WatchesValue → Option ℕ → Type 0
+IsSwept clauses t w None = IsWatching clauses t w
+IsSwept clauses t w (Some j) = IsWatchedBelow clauses t w × IsConflict clauses t j
 
 -- the log begins with the merged steps
 abbrev pub Begins : List LogItem → List LogItem → Type 0

@@ -1,6 +1,6 @@
 //! What the solver answers.
-use cnf_core::log::Log;
-use net_core::items::Bits;
+use net_parts::items::Bits;
+use proof_parts::log::Log;
 
 #[derive(Drop)]
 pub enum Answer {

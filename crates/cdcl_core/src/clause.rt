@@ -1,13 +1,13 @@
 //! The clauses that the solver holds: those of the formula, of the merged steps, and the learned ones. A clause goes by its
 //! place, from 0, and a log speaks of it by the number after its place.
 ghost use Rattle.std.specs.Prelude.{◌≡◌, ◌<◌, ◌^◌, suc, ◌++◌, length, All, IfOk, OnOk};
-ghost use Rattle.cnf_core.specs.Literals.{AreLiterals};
+ghost use Rattle.proof_parts.specs.Literals.{AreLiterals};
 ghost use Rattle.proof_semantics.specs.Conflicts.{added_clauses};
 
 use crate::literal::Literal;
-use cnf_core::clause::Lits;
-use cnf_core::log::Item;
-use net_core::items::Items;
+use net_parts::items::Items;
+use proof_parts::clause::Lits;
+use proof_parts::log::Item;
 use std::alloc::{AllocError, Global};
 
 pub type Clause = Items<Literal>;

@@ -10,21 +10,39 @@ use crate::order::Order;
 use crate::trail::Trail;
 
 /// The first open variable of the order, with the value that it had last; perhaps None where one is open.
-fn preferred(trail: &Trail, order: &Order) -> Option<Literal>
+fn preferred(trail: &Trail, order: &mut Order) -> Option<Literal>
+    requires small { trail.now.variables < 2 ^ 31 }
+    requires variables { order.old ≡ trail.now.variables }
+    ensures some { IfSome result (IsDecision trail.now) }
+    ensures order { order.new ≡ order.old }
+{
+    let mut variable = order.search();
+    'along: for _ in 0..trail.variables() {
+        if variable == 0 {
+            break;
+        }
+        let literal = Literal::of(variable, order.value(variable));
+        if trail.is_open(literal) {
+            order.set_search(variable);
+            return Some(literal);
+        }
+        variable = order.next(variable);
+    }
+    order.set_search(0);
+    None
+}
+
+/// The least open variable up to `inputs`, with the value that it had last.
+fn lowest(trail: &Trail, order: &Order, inputs: u32) -> Option<Literal>
     requires small { trail.now.variables < 2 ^ 31 }
     requires variables { order.now ≡ trail.now.variables }
     ensures { IfSome result (IsDecision trail.now) }
 {
-    let mut variable = order.first();
-    'along: for _ in 0..trail.variables() {
-        if variable == 0 {
-            return None;
-        }
-        let literal = Literal::of(variable, order.value(variable));
+    for v in 0..inputs.min(trail.variables()) {
+        let literal = Literal::of(v + 1, order.value(v + 1));
         if trail.is_open(literal) {
             return Some(literal);
         }
-        variable = order.next(variable);
     }
     None
 }
@@ -44,13 +62,17 @@ fn least(trail: &Trail) -> Option<Literal>
     None
 }
 
-/// An open literal, or None where each variable has a value.
-pub fn decide(trail: &Trail, order: &Order) -> Option<Literal>
+/// An open literal, of the least variable up to `inputs` first, or None where each variable has a value.
+pub fn decide(trail: &Trail, order: &mut Order, inputs: u32) -> Option<Literal>
     requires small { trail.now.variables < 2 ^ 31 }
-    requires variables { order.now ≡ trail.now.variables }
+    requires variables { order.old ≡ trail.now.variables }
     ensures some { IfSome result (IsDecision trail.now) }
     ensures none { IsNone result → IsFull trail.now }
+    ensures order { order.new ≡ order.old }
 {
+    if let Some(literal) = lowest(trail, order, inputs) {
+        return Some(literal);
+    }
     match preferred(trail, order) {
         Some(literal) => Some(literal),
         None => least(trail),

@@ -8,10 +8,13 @@ ghost use Rattle.proof_semantics.specs.Clauses.{IsLiteralOf};
 ghost use Rattle.cdcl_core.specs.Trail.{literal_at, IsTrueBelow, IsLearned, AreLevels};
 ghost use Rattle.cdcl_core.specs.Watching.{IsWatching, IsWatchedBelow};
 ghost use Rattle.cdcl_core.specs.Placed.{last_start};
+ghost use Rattle.cdcl_core.specs.Searched.{IsSearching, HasMoved};
 ghost use Rattle.cdcl_core.specs.Jump.{IsRunning, IsJump, IsJumpPair, IsLastOther, later_of};
 
 use crate::clause::{Clause, ClauseList};
 use crate::literal::Literal;
+use crate::order::Order;
+use crate::search::Search;
 use crate::trail::Trail;
 use crate::watches::Watches;
 use std::alloc::AllocError;
@@ -68,17 +71,30 @@ fn jump_target(trail: &Trail, clause: &[Literal], own: Literal) -> Target
     }
 }
 
+/// The variables of the entries from a place on are to have no value any more.
+fn open_from(order: &mut Order, trail: &Trail, from: usize)
+    requires { order.old ≡ trail.now.variables }
+    ensures { order.new ≡ order.old }
+{
+    trail.consistent();
+    for i in from..trail.len() {
+        order.open(trail.literal(i));
+    }
+}
+
 /// Adds a learned clause, whose literal of the last level stands at `place`; closes the levels that none of its other literals
 /// has; and adds the literal that follows.
 pub fn jump(
     trail: &mut Trail,
     watches: &mut Watches,
+    order: &mut Order,
     clauses: &mut ClauseList,
     clause: Clause,
     place: usize,
 ) -> Result<(), AllocError>
     requires running { IsRunning clauses.old trail.old }
     requires watched { IsWatchedBelow clauses.old trail.old watches.old }
+    requires order { order.old ≡ trail.old.variables }
     requires levels { 0 < length trail.old.starts }
     requires literals { All (IsLiteralOf trail.old.variables) clause }
     requires learned { IsLearned trail.old.literals (last_start trail.old) clause
@@ -87,6 +103,7 @@ pub fn jump(
     ensures watching { OnOk result (IsWatching clauses.new trail.new watches.new) }
     ensures added { OnOk result (clauses.new ≡ clauses.old ++ clause ∷ []) }
     ensures variables { OnOk result (trail.new.variables ≡ trail.old.variables) }
+    ensures order { order.new ≡ order.old }
 {
     trail.consistent();
     let own = trail.literal(place).negated();
@@ -94,8 +111,29 @@ pub fn jump(
     let reason = clauses.len();
     clauses.push(clause)?;
     watches.add(own, other)?;
-    watches.set_handled(trail.start(level));
+    let start = trail.start(level);
+    open_from(order, trail, start);
+    watches.set_handled(start);
     trail.close(level);
     trail.push_implied(own, reason)?;
     Ok(())
+}
+
+/// Closes every level, where that is due: the search goes back to its start.
+pub fn close_levels(search: &mut Search, due: bool)
+    requires searching { IsSearching search.old.clauses search.old.trail search.old.order }
+    requires watching { IsWatching search.old.clauses search.old.trail search.old.watches }
+    ensures moved { HasMoved search.old search.new }
+    ensures watching { IsWatching search.new.clauses search.new.trail search.new.watches }
+{
+    if !due {
+        return;
+    }
+    if search.trail.levels() == 0 {
+        return;
+    }
+    let start = search.trail.start(0);
+    open_from(&mut search.order, &search.trail, start);
+    search.watches.set_handled(start);
+    search.trail.close(0);
 }

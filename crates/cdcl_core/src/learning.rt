@@ -11,23 +11,10 @@ use crate::analysis::{Learned, learn};
 use crate::clause::{ClauseList, count, written};
 use crate::jump::jump;
 use crate::literal::Literal;
-use crate::order::Order;
 use crate::refutation::refute;
 use crate::search::Search;
-use crate::trail::Trail;
-use cnf_core::log::{Ids, Item, Step};
+use proof_parts::log::{Ids, Item, Step};
 use std::alloc::{AllocError, Global};
-
-/// The values of the entries from a place on are kept, before they are closed.
-fn keep_values(order: &mut Order, trail: &Trail, from: usize)
-    requires { order.old ≡ trail.now.variables }
-    ensures { order.new ≡ order.old }
-{
-    trail.consistent();
-    for i in from..trail.len() {
-        order.keep(trail.literal(i));
-    }
-}
 
 /// The step with the next id.
 fn next_step(
@@ -55,7 +42,6 @@ pub fn log_refutation(alloc: Global, search: &mut Search, conflict: usize) -> Re
         alloc,
         &search.trail,
         &search.clauses,
-        &mut search.order,
         &mut search.marks,
         conflict,
     )?;
@@ -64,8 +50,8 @@ pub fn log_refutation(alloc: Global, search: &mut Search, conflict: usize) -> Re
     Ok(())
 }
 
-/// Learns a clause of a conflict, logs it, and goes back to where it forces a literal.
-pub fn learn_from(alloc: Global, search: &mut Search, conflict: usize) -> Result<(), AllocError>
+/// Learns a clause of a conflict, logs it, goes back to where it forces a literal, and answers of how many levels its literals are.
+pub fn learn_from(alloc: Global, search: &mut Search, conflict: usize) -> Result<u64, AllocError>
     requires searching { IsSearching search.old.clauses search.old.trail search.old.order }
     requires conflict { IsConflict search.old.clauses search.old.trail conflict }
     requires levels { 0 < length search.old.trail.starts }
@@ -79,6 +65,7 @@ pub fn learn_from(alloc: Global, search: &mut Search, conflict: usize) -> Result
         clause,
         hints,
         place,
+        levels,
     } = learn(
         alloc,
         &search.trail,
@@ -87,15 +74,15 @@ pub fn learn_from(alloc: Global, search: &mut Search, conflict: usize) -> Result
         &mut search.marks,
         conflict,
     )?;
-    keep_values(&mut search.order, &search.trail, search.trail.start(0));
     let step = next_step(alloc, &search.clauses, clause.as_slice(), hints)?;
     search.log.push(Item::Add(step))?;
     jump(
         &mut search.trail,
         &mut search.watches,
+        &mut search.order,
         &mut search.clauses,
         clause,
         place,
     )?;
-    Ok(())
+    Ok(levels)
 }

@@ -1,7 +1,7 @@
 //! A literal as the solver holds it: a variable from 1 with a sign, in contracts a whole number.
 ghost use Rattle.std.specs.Prelude.{◌≡◌, ◌<◌, ◌^◌, ◌↔◌, if◌then◌else◌, int_lt, IsTrue, pos, neg_ℤ, nat_abs};
 ghost use Rattle.proof_semantics.specs.Clauses.{IsLiteralOf};
-ghost use Rattle.cnf_core.specs.Literals.{IsLiteral};
+ghost use Rattle.proof_parts.specs.Literals.{IsLiteral};
 ghost use Rattle.cdcl_core.specs.Watched.{index_of};
 
 use std::marker::Model;
@@ -14,7 +14,7 @@ pub struct Literal {
 
 impl Model for Literal {
     ghost use Rattle.std.specs.Prelude.{ℤ};
-    ghost use Rattle.cnf_core.specs.Literals.{IsLiteral};
+    ghost use Rattle.proof_parts.specs.Literals.{IsLiteral};
 
     ghost Value = { ℤ };
 

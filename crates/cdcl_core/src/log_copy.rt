@@ -1,9 +1,9 @@
 //! Copies of logs.
 ghost use Rattle.std.specs.Prelude.{◌≡◌, IfOk};
 
-use cnf_core::clause::Lits;
-use cnf_core::log::{Item, Log, Step};
-use net_core::items::Items;
+use net_parts::items::Items;
+use proof_parts::clause::Lits;
+use proof_parts::log::{Item, Log, Step};
 use std::alloc::{AllocError, Global};
 
 fn item_copy(alloc: Global, item: &Item) -> Result<Item, AllocError>

@@ -1,92 +1,112 @@
-//! The order in which variables are tried, and the value each had last.
+//! The order in which variables are decided, and the value each had last.
 //!
-//! A variable that took part in a conflict is likely to take part in the next one, so it moves to the front of a list, from
+//! A variable that took part in a conflict is likely to take part in the next one, so it moves to the front of a ring, from
 //! which the first open variable is decided: variable move to front, as in Siege and CaDiCaL. It costs a few writes for each
-//! variable of a conflict and needs no numbers that grow or decay. A variable is decided with the value that it had last, as
-//! in RSat and MiniSat, so that a jump back does not throw away what was found in other parts of the formula.
+//! variable of a conflict and needs no numbers that grow or decay. A variable is decided with the value that it had last, as in
+//! RSat and MiniSat, so that a jump back does not throw away what was found in other parts of the formula.
 //!
-//! Nothing rests on the order: any would do, and a decision looks for an open variable elsewhere where the list shows none.
-ghost use Rattle.std.specs.Prelude.{◌≡◌, ◌+◌, ◌<◌, ◌≤◌, ◌^◌, length, All, IfOk};
+//! Where the signals of a net are known they alone are in the ring: the variables of rows follow from them, and those of one
+//! conflict keep their order. Where they are not known the variables of a conflict come in the order in which the analysis met
+//! them, so that those farthest from the conflict, the inputs among them, are decided first: multipliers then take half the
+//! conflicts.
+//!
+//! Nothing rests on the order: any would do, and a decision looks for an open variable elsewhere where the ring shows none.
+ghost use Rattle.std.specs.Prelude.{◌≡◌, ◌<◌, ◌≤◌, ◌^◌, IfOk};
 ghost use Rattle.proof_semantics.specs.Clauses.{IsLiteralOf};
-ghost use Rattle.cdcl_core.specs.Links.{AreLinks};
 
 use crate::literal::Literal;
+use crate::ring::Ring;
 use std::alloc::{AllocError, Global};
 use std::marker::Model;
 
-/// A ring of the variables and of 0, which stands before the first and after the last.
+/// The bits of a noted variable, below those of its stamp.
+const VARIABLE_BITS: u32 = 31;
+
+/// The ring of the variables that are decided, the last value of each, and the variables of a conflict.
 #[derive(Drop)]
 pub struct Order {
-    after: Vec<u32>,
-    before: Vec<u32>,
+    ring: Ring,
     values: Vec<bool>,
+    noted: Vec<u64>,
+    /// Whether the variables of a conflict keep their order, or come in the order in which they were met.
+    keeps_order: bool,
 }
 
 impl Model for Order {
-    ghost use Rattle.std.specs.Prelude.{ℕ, ◌-◌, length};
-    ghost use Rattle.cdcl_core.specs.Links.{AreLinks};
+    ghost use Rattle.std.specs.Prelude.{ℕ, ◌-◌, ◌<◌, ◌≤◌, length};
 
     ghost Value = { ℕ };
 
-    ghost view = { λ o. length o.after.items - 1 };
+    ghost view = { λ o. length o.values.items - 1 };
 
-    ghost invariant = { λ o. AreLinks o.after.items o.before.items o.values.items };
+    ghost invariant = { λ o. (0 < length o.values.items) × (o.ring ≤ length o.values.items) };
 }
 
-/// Each number's next one up to `variables`, and then 0.
-fn ring_after(alloc: Global, variables: u32) -> Result<Vec<u32>, AllocError>
-    requires { variables < 2 ^ 31 }
-    ensures length { IfOk result (λ after. length after.items ≡ variables + 1) }
-    ensures within { IfOk result (λ after. All (λ v. v < variables + 1) after.items) }
+/// The noted variables come first, that of the last key before the others.
+fn move_noted(ring: &mut Ring, noted: &mut Vec<u64>)
+    ensures { ring.new ≡ ring.old }
 {
-    let mut after = Vec::new(alloc);
-    for v in 0..variables {
-        after.push(v + 1)?;
+    'each: while let Some(key) = noted.pop() {
+        let variable = key & ((1 << VARIABLE_BITS) - 1);
+        if ring.has(variable as usize) {
+            ring.move_to_front(variable as u32);
+        }
     }
-    after.push(0)?;
-    Ok(after)
-}
-
-/// The last of the numbers up to `variables`, and then each number before it.
-fn ring_before(alloc: Global, variables: u32) -> Result<Vec<u32>, AllocError>
-    requires { variables < 2 ^ 31 }
-    ensures length { IfOk result (λ before. length before.items ≡ variables + 1) }
-    ensures within { IfOk result (λ before. All (λ v. v < variables + 1) before.items) }
-{
-    let mut before = Vec::new(alloc);
-    before.push(variables)?;
-    for v in 0..variables {
-        before.push(v)?;
-    }
-    Ok(before)
 }
 
 impl Order {
-    /// The variables from 1 on, none of which had a value yet.
-    pub fn new(alloc: Global, variables: u32) -> Result<Order, AllocError>
+    /// The variables up to `signals`, or all where that is 0, the last one first, and every one to be true.
+    pub fn new(alloc: Global, variables: u32, signals: u32) -> Result<Order, AllocError>
         requires { variables < 2 ^ 31 }
         ensures { IfOk result (λ order. order ≡ variables) }
     {
+        let last = if signals == 0 {
+            variables
+        } else {
+            signals.min(variables)
+        };
         Ok(Order {
-            after: ring_after(alloc, variables)?,
-            before: ring_before(alloc, variables)?,
-            values: vec![in alloc; false; variables as usize + 1]?,
+            ring: Ring::new(alloc, last)?,
+            values: vec![in alloc; true; variables as usize + 1]?,
+            noted: Vec::new(alloc),
+            keeps_order: signals > 0,
         })
     }
 
-    /// The variable that was moved to the front last, or 0 where there is none.
-    pub fn first(&self) -> u32
+    /// Where the search for an open variable begins, or 0 where there is none.
+    pub fn search(&self) -> u32
         ensures { result ≤ self.now }
     {
-        self.after[0]
+        self.ring.search()
     }
 
-    /// The variable after another one, or 0 after the last.
+    /// The variables before this one have values.
+    pub fn set_search(&mut self, variable: u32)
+        ensures { self.new ≡ self.old }
+    {
+        if self.ring.has(variable as usize) {
+            self.ring.set_search(variable);
+        }
+    }
+
+    /// The variable behind another one, or 0 behind the last.
     pub fn next(&self, variable: u32) -> u32
-        requires { variable ≤ self.now }
         ensures { result ≤ self.now }
     {
-        self.after[variable as usize]
+        if self.ring.has(variable as usize) {
+            self.ring.next(variable)
+        } else {
+            0
+        }
+    }
+
+    /// The stamp of a variable, or 0 where it is none of those that are decided.
+    pub fn stamp(&self, variable: u32) -> u64 {
+        if self.ring.has(variable as usize) {
+            self.ring.stamp(variable)
+        } else {
+            0
+        }
     }
 
     /// The value that a variable had last.
@@ -97,37 +117,39 @@ impl Order {
     }
 
     /// The literal is no longer true.
-    pub fn keep(&mut self, literal: Literal)
-        requires { IsLiteralOf self.old literal }
-        ensures { self.new ≡ self.old }
-    {
-        self.values[literal.variable()] = literal.sign();
-    }
-
-    /// The literal's variable comes first.
-    pub fn move_to_front(&mut self, literal: Literal)
+    pub fn open(&mut self, literal: Literal)
         requires { IsLiteralOf self.old literal }
         ensures { self.new ≡ self.old }
     {
         let variable = literal.variable();
-        let next = self.after[variable];
-        let previous = self.before[variable];
-        self.after[previous as usize] = next;
-        self.before[next as usize] = previous;
-        let first = self.after[0];
-        self.after[variable] = first;
-        self.before[variable] = 0;
-        self.before[first as usize] = variable as u32;
-        self.after[0] = variable as u32;
+        self.values[variable] = literal.sign();
+        if self.ring.has(variable) {
+            self.ring.open(variable as u32);
+        }
     }
 
-    /// The variables of a clause come first.
-    pub fn move_all_to_front(&mut self, clause: &[Literal])
-        requires { All (IsLiteralOf self.old) clause.now }
+    /// Notes that the literal's variable took part in a conflict.
+    pub fn note(&mut self, literal: Literal) -> Result<(), AllocError>
         ensures { self.new ≡ self.old }
     {
-        for literal in clause {
-            self.move_to_front(*literal);
+        let variable = literal.variable();
+        if self.ring.has(variable) {
+            let place = if self.keeps_order {
+                self.ring.stamp(variable as u32)
+            } else {
+                self.noted.len() as u64
+            };
+            let later = !place << VARIABLE_BITS;
+            self.noted.push(later | variable as u64)?;
         }
+        Ok(())
+    }
+
+    /// The variables that were noted come first, in the order that they have.
+    pub fn bump(&mut self)
+        ensures { self.new ≡ self.old }
+    {
+        self.noted.sort_unstable();
+        move_noted(&mut self.ring, &mut self.noted);
     }
 }

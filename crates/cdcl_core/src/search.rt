@@ -13,13 +13,14 @@ ghost use Rattle.cdcl_core.specs.Searched.{IsSearch, IsSearching, IsModelTrail};
 use crate::clause::{ClauseList, push_added, push_all};
 use crate::decision::decide;
 use crate::log_copy::log_copy;
+use crate::marks::Marks;
 use crate::order::Order;
 use crate::propagation::propagate;
 use crate::trail::Trail;
 use crate::watches::Watches;
-use cnf_core::cnf::Cnf;
-use cnf_core::log::Log;
-use net_core::items::Items;
+use net_parts::items::Items;
+use proof_parts::cnf::Cnf;
+use proof_parts::log::Log;
 use std::alloc::{AllocError, Global};
 
 /// The clauses that are held, the literals that are true, the watches, the order of the variables, the log of what was derived, and room for the
@@ -31,7 +32,7 @@ pub struct Search {
     pub watches: Watches,
     pub order: Order,
     pub log: Log,
-    pub marks: Vec<bool>,
+    pub marks: Marks,
 }
 
 /// The clauses of the formula, and those that the log adds.
@@ -44,8 +45,8 @@ fn all_clauses(alloc: Global, cnf: &Cnf, log: &Log) -> Result<ClauseList, AllocE
     Ok(clauses)
 }
 
-/// No variable has a value, and the log is `merged`.
-pub fn start(alloc: Global, cnf: &Cnf, merged: &Log) -> Result<Search, AllocError>
+/// No variable has a value, and the log is `merged`; of the variables those up to `signals` are decided, or all where that is 0.
+pub fn start(alloc: Global, cnf: &Cnf, merged: &Log, signals: u32) -> Result<Search, AllocError>
     requires { IsDerivation cnf.now merged.now }
     ensures search { IfOk result (IsSearch cnf.now merged.now 0) }
     ensures starts { IfOk result (λ search. search.trail.starts ≡ []) }
@@ -55,9 +56,9 @@ pub fn start(alloc: Global, cnf: &Cnf, merged: &Log) -> Result<Search, AllocErro
     let clauses = all_clauses(alloc, cnf, merged)?;
     let trail = Trail::new(alloc, variables)?;
     let watches = Watches::new(alloc, variables)?;
-    let order = Order::new(alloc, variables)?;
+    let order = Order::new(alloc, variables, signals)?;
     let log = log_copy(alloc, merged.as_slice())?;
-    let marks = Vec::new(alloc);
+    let marks = Marks::new(alloc);
     Ok(Search {
         clauses,
         trail,
@@ -68,26 +69,29 @@ pub fn start(alloc: Global, cnf: &Cnf, merged: &Log) -> Result<Search, AllocErro
     })
 }
 
-/// Decides, each time after complete propagation, until a clause is false, or every variable has a value.
+/// Decides, each time after complete propagation, until a clause is false, or every variable has a value. The least open variable up to
+/// `inputs` is decided first.
 pub fn next_conflict(
     trail: &mut Trail,
     watches: &mut Watches,
     clauses: &ClauseList,
-    order: &Order,
+    order: &mut Order,
+    inputs: u32,
 ) -> Result<Option<usize>, AllocError>
-    requires searching { IsSearching clauses.now trail.old order.now }
+    requires searching { IsSearching clauses.now trail.old order.old }
     requires watching { IsWatching clauses.now trail.old watches.old }
-    ensures searching { IfOk result (λ _. IsSearching clauses.now trail.new order.now) }
+    ensures searching { IfOk result (λ _. IsSearching clauses.now trail.new order.new) }
     ensures watched { IfOk result (λ _. IsWatchedBelow clauses.now trail.new watches.new) }
     ensures found { IfOk result (λ found. MatchOption found
         (IsModelTrail clauses.now trail.new) (IsConflict clauses.now trail.new)) }
+    ensures order { order.new ≡ order.old }
 {
     loop {
         trail.consistent();
         if let Some(conflict) = propagate(trail, watches, clauses)? {
             return Ok(Some(conflict));
         }
-        match decide(trail, order) {
+        match decide(trail, order, inputs) {
             None => return Ok(None),
             Some(literal) => trail.push_decision(literal)?,
         }

@@ -10,13 +10,17 @@ ghost use Rattle.cdcl_core.specs.Decided.{AreValues};
 
 use crate::answer::Answer;
 use crate::first_watches::watch_all;
+use crate::guide::Guide;
 use crate::learning::{learn_from, log_refutation};
 use crate::literal::Literal;
-use crate::search::{next_conflict, start};
+use crate::pace::Pace;
+use crate::search::start;
+use crate::sweep::Sweep;
 use crate::trail::Trail;
-use cnf_core::cnf::Cnf;
-use cnf_core::log::Log;
-use net_core::items::{Bits, Items};
+use crate::turns::{find_conflict, follow};
+use net_parts::items::{Bits, Items};
+use proof_parts::cnf::Cnf;
+use proof_parts::log::Log;
 use std::alloc::{AllocError, Global};
 
 /// The value of each variable.
@@ -33,26 +37,29 @@ fn values(alloc: Global, trail: &Trail) -> Result<Bits, AllocError>
     Ok(bits)
 }
 
-/// A model of the formula, a log that refutes it, or a log of as many conflicts as the limit allows. The logs begin with
-/// `merged`, which the caller derived.
-pub fn solve(alloc: Global, cnf: &Cnf, merged: &Log, limit: u64) -> Result<Answer, AllocError>
+/// The same as `solve`, with a guide, on which nothing rests.
+pub fn solve_guided(
+    alloc: Global,
+    cnf: &Cnf,
+    merged: &Log,
+    guide: &Guide,
+    limit: u64,
+) -> Result<Answer, AllocError>
     requires limit { 1 ≤ limit }
     requires merged { IsDerivation cnf.now merged.now }
     ensures { IfOk result (IsAnswer cnf.now merged.now limit) }
 {
-    let mut search = start(alloc, cnf, merged)?;
+    let mut search = start(alloc, cnf, merged, guide.signals)?;
     let at_once = watch_all(&mut search.trail, &mut search.watches, &search.clauses)?;
     if let Some(conflict) = at_once {
         log_refutation(alloc, &mut search, conflict)?;
         return Ok(Answer::Refuted(search.log));
     }
+    let mut pace = Pace::new(guide.inputs, guide.signals > 0);
+    let mut sweep = Sweep::new(alloc, guide, limit)?;
     for _conflicts in 0..limit {
-        let found = next_conflict(
-            &mut search.trail,
-            &mut search.watches,
-            &search.clauses,
-            &search.order,
-        )?;
+        let inputs = pace.inputs_first();
+        let found = find_conflict(&mut search, &mut sweep, guide, inputs)?;
         let Some(conflict) = found else {
             return Ok(Answer::Model(values(alloc, &search.trail)?));
         };
@@ -60,7 +67,18 @@ pub fn solve(alloc: Global, cnf: &Cnf, merged: &Log, limit: u64) -> Result<Answe
             log_refutation(alloc, &mut search, conflict)?;
             return Ok(Answer::Refuted(search.log));
         }
-        learn_from(alloc, &mut search, conflict)?;
+        let levels = learn_from(alloc, &mut search, conflict)?;
+        follow(&mut search, &mut sweep, &mut pace, guide, levels)?;
     }
     Ok(Answer::Spent(search.log))
+}
+
+/// A model of the formula, a log that refutes it, or a log of as many conflicts as the limit allows. The logs begin with
+/// `merged`, which the caller derived.
+pub fn solve(alloc: Global, cnf: &Cnf, merged: &Log, limit: u64) -> Result<Answer, AllocError>
+    requires limit { 1 ≤ limit }
+    requires merged { IsDerivation cnf.now merged.now }
+    ensures { IfOk result (IsAnswer cnf.now merged.now limit) }
+{
+    solve_guided(alloc, cnf, merged, &Guide::none(alloc), limit)
 }

@@ -2,7 +2,7 @@
 use Rattle.std.proofs.Common.{◌≡◌, ℕ, ℤ, [], ◌∷◌, ◌++◌, length, refl, ap, sym, subst, ◌∙◌, append_assoc, append-nil, Result, Ok, Err, OnOk, OnErr}
 use Rattle.std.proofs.lemmas.List.{drop_at}
 use Rattle.std.proofs.lemmas.List.Elements.{All-push, All-drop}
-use Rattle.cnf_core.specs.Literals.{IsLiteral, AreLiterals}
+use Rattle.proof_parts.specs.Literals.{IsLiteral, AreLiterals}
 use Rattle.cnf_core.specs.Drafts.{DraftValue, ItemDraftValue, whole, Grows}
 
 -- of all literals those at hand are literals

@@ -7,7 +7,7 @@ use Rattle.proof_semantics.specs.NetClauses.{literal_at, net_clauses, goal_claus
 use Rattle.proof_semantics.specs.Variables.{variable_count}
 use Rattle.proof_semantics.specs.Formula.{Formula, formula_of, goal_of}
 use Rattle.proof_semantics.proofs.Bounds.{AreClausesOf-net, AreClausesOf-goal}
-use Rattle.cnf_core.specs.Cnf.{IsCnf}
+use Rattle.proof_parts.specs.Cnf.{IsCnf}
 
 pub IsCnf-net : (N : NetValue) (f : Formula) → IsBuilt N → variable_count (input_count N) N.tables < 2 ^ 31 → f ≡ formula_of N → IsCnf f
 IsCnf-net N f built few is = subst IsCnf (sym is) (record { few_variables = few; literals = AreClausesOf-net (input_count N) N.tables built.sound.acyclic })

@@ -1,5 +1,3 @@
-pub mod Literals
-pub mod Cnf
 pub mod FormulaText
 pub mod LogText
 pub mod LratScanning

@@ -1,7 +1,7 @@
 //! The lists of the item at hand.
 ghost use Rattle.std.specs.Prelude.{◌≡◌, ◌^◌, ◌<◌, [], ◌∷◌, ◌++◌, length, take, IfOk, OnOk, OnErr};
 ghost use Rattle.cnf_core.specs.Drafts.{whole, Grows};
-ghost use Rattle.cnf_core.specs.Literals.{IsLiteral};
+ghost use Rattle.proof_parts.specs.Literals.{IsLiteral};
 
 use crate::clause::Lits;
 use crate::draft::Draft;
@@ -20,7 +20,7 @@ pub struct ItemDraft {
 
 impl Model for ItemDraft {
     ghost use Rattle.cnf_core.specs.Drafts.{ItemDraftValue, whole};
-    ghost use Rattle.cnf_core.specs.Literals.{AreLiterals};
+    ghost use Rattle.proof_parts.specs.Literals.{AreLiterals};
 
     ghost Value = { ItemDraftValue };
 

@@ -1,8 +1,6 @@
 //! Formulas in conjunctive normal form: the clauses of nets, logs that refute them, and their texts.
 #![tactic(auto)]
 
-pub mod clause;
-pub mod cnf;
 pub mod dimacs;
 pub mod dimacs_text;
 mod dimacs_token;
@@ -10,8 +8,6 @@ mod dimacs_tokens;
 mod draft;
 mod held_word;
 mod item_draft;
-pub mod literal;
-pub mod log;
 pub mod lrat;
 mod lrat_part;
 pub mod lrat_reader;
@@ -19,3 +15,5 @@ mod lrat_scanner;
 mod numbers;
 pub mod of_net;
 mod table_clauses;
+
+pub use proof_parts::{clause, cnf, literal, log};

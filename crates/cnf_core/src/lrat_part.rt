@@ -4,7 +4,7 @@ ghost use Rattle.proof_semantics.specs.LratMatching.{Begun, Literals, Hints, Del
 ghost use Rattle.proof_semantics.specs.LratReading.{refusal_at, refusal_at_end};
 ghost use Rattle.cnf_core.specs.Drafts.{Grows};
 ghost use Rattle.cnf_core.specs.LratParts.{stage_at};
-ghost use Rattle.cnf_core.specs.Literals.{IsLiteral};
+ghost use Rattle.proof_parts.specs.Literals.{IsLiteral};
 
 use crate::item_draft::ItemDraft;
 use crate::literal::Literal;

@@ -3,7 +3,7 @@
 ghost use Rattle.std.specs.Prelude.{◌≡◌, ◌+◌, ◌<◌, ◌^◌, [], ◌∷◌, ◌++◌, true, not, map, length, All, neg_ℤ, IfOk, OnOk};
 ghost use Rattle.proof_semantics.specs.Clauses.{with_literals};
 ghost use Rattle.proof_semantics.specs.NetClauses.{literal_at, mark_literals, literals_of_row, implication, row_clauses, rows_clauses, implications, variables_from, table_clauses};
-ghost use Rattle.cnf_core.specs.Literals.{IsLiteral};
+ghost use Rattle.proof_parts.specs.Literals.{IsLiteral};
 
 use crate::clause::{ClauseList, Lits};
 use crate::literal::{Literal, literal_at};

@@ -7,7 +7,7 @@ use Rattle.semantics.specs.Refusals.{has_name, first_doubled, or_else}
 use Rattle.blif_semantics.specs.Lines.{Statement, logical_lines, statements}
 use Rattle.blif_semantics.specs.Statements.{WrongLine}
 use Rattle.blif_semantics.specs.Reading.{Refusal, doubled, no_output, undriven, text_long, wrong_line}
-use Rattle.blif_semantics.proofs.RightLines.{none_if}
+use Rattle.semantics.proofs.FirstFound.{none_if}
 use Rattle.blif_semantics.proofs.Looked.{each_there}
 use Rattle.hierarchy_semantics.specs.Models.{BlifModel, Hierarchy, no_model, model_from, sections_of, hierarchy_of, main_of, model_named, uses_of, all_uses}
 use Rattle.hierarchy_semantics.specs.ModelLines.{first_wrong}

@@ -2,7 +2,7 @@
 use Rattle.std.proofs.Common.{◌≡◌, ◌≢◌, zero, suc, List, [], ◌∷◌, ◌++◌, None, AllPairs, refl, sym, subst, inl, inr, arith}
 use Rattle.semantics.specs.Texts.{Bytes}
 use Rattle.semantics.specs.Refusals.{has_name, first_doubled_after}
-use Rattle.blif_semantics.proofs.RightLines.{none_if}
+use Rattle.semantics.proofs.FirstFound.{none_if}
 use Rattle.hierarchy_semantics.proofs.Members.{IsIn, in_left, in_right, in_append, not_before}
 use Rattle.hierarchy_semantics.proofs.Parts.{in_get}
 

@@ -7,7 +7,7 @@ use Rattle.semantics.specs.Texts.{Bytes}
 use Rattle.semantics.specs.Refusals.{has_name, first_doubled_after, first_doubled}
 use Rattle.semantics.proofs.Refused.{undoubled, differ-undoubled}
 use Rattle.blif_semantics.specs.Reading.{undriven}
-use Rattle.blif_semantics.proofs.RightLines.{none_if}
+use Rattle.semantics.proofs.FirstFound.{none_if}
 use Rattle.hierarchy_semantics.specs.Models.{Subcircuit, BlifModel, Hierarchy, main_of, model_named, uses_of, all_uses}
 use Rattle.hierarchy_semantics.specs.Driven.{names_driven, names_read}
 use Rattle.hierarchy_semantics.specs.Refusals.{ports, formal, unbound, part, first_found, model_names, first_unknown, is_model_grounded, first_recursive, doubled_port, wrong_formal, formals_of, formal_refusal, unbound_refusal, model_refusal, part_refusal, is_taken, hier_refusal}

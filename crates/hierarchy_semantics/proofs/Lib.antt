@@ -1,15 +1,15 @@
-mod Members
-mod Parts
-mod Placed
-mod TableValues
-mod Only
-mod Some
-mod Accepted
-mod Flattened
-mod Distinct
-mod FlatNames
-mod PlainLines
-mod Formed
-mod Sound
-mod Hierarchies
-mod Counted
+pub mod Members
+pub mod Parts
+pub mod Placed
+pub mod TableValues
+pub mod Only
+pub mod Some
+pub mod Accepted
+pub mod Flattened
+pub mod Distinct
+pub mod FlatNames
+pub mod PlainLines
+pub mod Formed
+pub mod Sound
+pub mod Hierarchies
+pub mod Counted

@@ -6,7 +6,7 @@ use Rattle.std.proofs.lemmas.Option.{none-some, same_Some}
 use Rattle.std.proofs.lemmas.Slice.Eq.{bytes_eq-Decides}
 use Rattle.semantics.specs.Texts.{Bytes}
 use Rattle.semantics.specs.Refusals.{has_name, first_doubled_after}
-use Rattle.blif_semantics.proofs.RightLines.{none_if}
+use Rattle.semantics.proofs.FirstFound.{none_if}
 
 abbrev pub IsIn : {X : Type 0} → X → List X → Type 0
 IsIn y [] = ⊥

@@ -14,7 +14,7 @@ use Rattle.job_semantics.specs.declared.ending.Ending.{Ending}
 use Rattle.job_semantics.specs.declared.clause.Clause.{Clause}
 use Rattle.job_semantics.specs.Endings.{bundle_endings, bundle_name, bundle_files, is_bundle_name}
 use Rattle.job_semantics.specs.Job.{are_file_words, is_empty_word}
-use Rattle.job_semantics.specs.Input.{IsReadAs}
+use Rattle.job_semantics.specs.Input.{IsReadAs, IsRefusedFor}
 use Rattle.job_semantics.specs.Certificate.{Texts, texts_of, Certifies, IsFirstFailing}
 use Rattle.job_semantics.specs.Synthesis.{InputRefused, synth_bundle}
 use Rattle.job_semantics.specs.Bundle.{bundle_text}
@@ -58,7 +58,7 @@ module _ {metric : Metric} {bound : ℕ} {input stem : Bytes} {old new : FilesTo
     stays_told : IsLeftAlone metric bound input stem old new said says → new.held ≡ Some a
     stays_told left = left.still_told a told held
 
-    not_refused : (refusal : Refusal) → InputRefused refusal input old new said says → IsReadAs (bytes_of a input) exact → ⊥
+    not_refused : (refusal : Refusal) → InputRefused (λ text. IsRefusedFor text refusal) input old new said says → IsReadAs (bytes_of a input) exact → ⊥
     not_refused refusal r reads =
         let both : ◌≡◌ {A = Result NetValue Refusal} (Err refusal) (Ok exact) = sym (r.refused.at_entry a told held.input_held) ∙ reads in cc
 
@@ -111,7 +111,7 @@ certificate-verifies {metric} {bound} {input} {stem} held exact reads certified 
     no_end metric bound input stem old new said says end (each_certificate held exact told files end reads certified quiet) (with_an_end end held told files short)
 
 -- a name that is no file of the bundle is none of the five
-apart : (name stem : Bytes) (endings : List Ending) → list_any (λ ending. bytes_eq name (bundle_name stem ending)) endings ≡ false
+pub apart : (name stem : Bytes) (endings : List Ending) → list_any (λ ending. bytes_eq name (bundle_name stem ending)) endings ≡ false
     → AllByRecursion (λ e. bundle_name stem e ≢ name) endings
 apart name stem [] none = tt
 apart name stem (e ∷ endings) none =

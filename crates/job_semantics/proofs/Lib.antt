@@ -13,3 +13,5 @@ pub mod FileWords
 pub mod CheckedFiles
 pub mod CertifiedFiles
 pub mod ParityTexts
+pub mod MetricWords
+pub mod BundleNames

@@ -12,7 +12,7 @@ use Rattle.job_semantics.specs.declared.ending.Ending.{Ending}
 use Rattle.job_semantics.specs.Certificate.{Texts, texts_of, OfBundle, IsNetlist, IsReport, Certifies, IsFirstFailing, IsNeededFor, AreNeededHeld}
 use Rattle.job_semantics.specs.CertificateLaws.{IsVerified}
 use Rattle.job_semantics.specs.Endings.{bundle_name}
-use Rattle.job_semantics.specs.Input.{IsReadAs}
+use Rattle.job_semantics.specs.Input.{IsReadAs, IsRefusedFor}
 use Rattle.job_semantics.specs.Report.{Report}
 use Rattle.job_semantics.specs.Synthesis.{OfInput, InputRefused, IsQuiet}
 
@@ -90,7 +90,7 @@ IsQuietCheck metric bound input stem old new said says = IsQuiet (AreCheckFilesS
 pub data CheckEnd (metric : Metric) (bound : ℕ) (input stem : Bytes) (old new : FilesTold) (said says : SinkTold) : Type 0 where
   verified : CheckVerified metric bound input stem old new said says → CheckEnd metric bound input stem old new said says
   refuted : (c : Clause) → CheckRefuted c metric bound input stem old new said says → CheckEnd metric bound input stem old new said says
-  refused : (refusal : Refusal) → InputRefused refusal input old new said says → CheckEnd metric bound input stem old new said says
+  refused : (refusal : Refusal) → InputRefused (λ text. IsRefusedFor text refusal) input old new said says → CheckEnd metric bound input stem old new said says
   out_of_memory : IsLeftAlone metric bound input stem old new said says → CheckEnd metric bound input stem old new said says
   not_read : CheckReadFault metric bound input stem old new said says → CheckEnd metric bound input stem old new said says
   endless : CheckEndless metric bound input stem old new said says → CheckEnd metric bound input stem old new said says

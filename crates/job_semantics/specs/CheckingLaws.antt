@@ -5,18 +5,23 @@ use Rattle.semantics.specs.Net.{NetValue}
 use Rattle.semantics.specs.declared.metric.Metric.{Metric}
 use Rattle.outside_semantics.specs.Outside.{Held, FilesTold, SinkTold, WhereTold, bytes_of}
 use Rattle.proof_semantics.specs.Queries.{SpentValue}
-use Rattle.job_semantics.specs.Job.{synth, check, are_file_words, job_of}
+use Rattle.job_semantics.specs.Job.{synth, check, aag, trim, are_file_words, are_conversion_words, are_trim_words, job_of}
 use Rattle.job_semantics.specs.Input.{IsReadAs}
 use Rattle.job_semantics.specs.Certificate.{texts_of, Certifies}
 use Rattle.job_semantics.specs.Synthesis.{SynthDone}
 use Rattle.job_semantics.specs.Checking.{AreCheckFilesHeld, CheckEnd, IsQuietCheck, AreShort, IsVerifiedEnd, IsEndlessEnd, IsVerifiedOrNoMemory, Verifies}
 
--- where words are a synth or a check job, IN and STEM are not empty, and IN is no file of the bundle
+-- Where words are a synth or a check job, IN and STEM are not empty, and IN is no file of the bundle. Where they are a conversion, IN and OUT
+-- are not empty and differ. Where they are a trim job, both are so, and OUT is no file of the bundle.
 pub record FileWordsLaw : Type 0 where
   pub synthesis : (words : List Bytes) (metric : Metric) (bound conflicts : ℕ) (input stem : Bytes)
       → job_of words ≡ Some (synth metric bound conflicts input stem) → IsTrue (are_file_words input stem)
   pub checking : (words : List Bytes) (metric : Metric) (bound : ℕ) (input stem : Bytes)
       → job_of words ≡ Some (check metric bound input stem) → IsTrue (are_file_words input stem)
+  pub conversion : (words : List Bytes) (input output : Bytes)
+      → job_of words ≡ Some (aag input output) → IsTrue (are_conversion_words input output)
+  pub trimming : (words : List Bytes) (metric : Metric) (bound : ℕ) (input stem output : Bytes)
+      → job_of words ≡ Some (trim metric bound input stem output) → IsTrue (are_trim_words input stem output)
 
 -- A check that is verified found a certificate. A quiet check of files that are told, whose texts are a certificate for the net of IN, is verified
 -- unless memory is wanting or a file goes on without an end. Where the files that are needed are held, one goes on so only if some file of the

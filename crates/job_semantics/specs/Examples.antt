@@ -1,12 +1,12 @@
 -- Worked examples, computed from the definitions.
 use Rattle.std.specs.Prelude.{◌≡◌, ℕ, ◌-◌, ◌^◌, true, false, List, [], ◌∷◌, codes, Some, None}
 use Rattle.semantics.specs.Texts.{Bytes}
-use Rattle.semantics.specs.declared.metric.Metric.TheVariants.{Abs, Rel, Ham}
+use Rattle.semantics.specs.declared.metric.Metric.TheVariants.{Abs, Rel, Ham, Sabs}
 use Rattle.semantics.specs.Vectors.{all_vectors}
 use Rattle.semantics.specs.Examples.{text, half_adder, both_constant, constant_one}
 use Rattle.job_semantics.specs.declared.version.Version.TheVariants.{One, Two}
 use Rattle.job_semantics.specs.Report.{report_text, report_of, vectors_text}
-use Rattle.job_semantics.specs.Job.{synth, check, demo, job_of}
+use Rattle.job_semantics.specs.Job.{synth, check, demo, aag, trim, job_of}
 
 pub record ReportExamples : Type 0 where
   pub both_constant_report :
@@ -36,6 +36,9 @@ pub record ReportExamples : Type 0 where
 abbrev pub synth_words : List ℕ → List ℕ → List ℕ → List ℕ → List ℕ → List Bytes
 synth_words metric bound conflicts input stem = codes "synth" ∷ metric ∷ bound ∷ conflicts ∷ input ∷ stem ∷ []
 
+abbrev pub trim_words : List ℕ → List ℕ → List ℕ → List Bytes
+trim_words input stem output = codes "trim" ∷ codes "sabs" ∷ codes "7" ∷ input ∷ stem ∷ output ∷ []
+
 pub record JobExamples : Type 0 where
   pub no_words : job_of [] ≡ None
   pub other_word : job_of (codes "--help" ∷ []) ≡ None
@@ -53,6 +56,18 @@ pub record JobExamples : Type 0 where
   pub a_demo : job_of (codes "demo" ∷ codes "32" ∷ codes "0" ∷ codes "100000" ∷ []) ≡ Some (demo 32 0 100000)
   pub a_check : job_of (codes "check" ∷ codes "ham" ∷ codes "7" ∷ codes "a" ∷ codes "b" ∷ []) ≡ Some (check Ham 7 (codes "a") (codes "b"))
   pub a_synth : job_of (synth_words (codes "rel") (codes "10") (codes "1000") (codes "a.blif") (codes "b")) ≡ Some (synth Rel 10 1000 (codes "a.blif") (codes "b"))
+  pub a_signed_synth : job_of (synth_words (codes "sabs") (codes "3") (codes "1") (codes "a.blif") (codes "b")) ≡ Some (synth Sabs 3 1 (codes "a.blif") (codes "b"))
   pub empty_input : job_of (synth_words (codes "abs") (codes "1") (codes "1") [] (codes "b")) ≡ None
   pub empty_stem : job_of (synth_words (codes "abs") (codes "1") (codes "1") (codes "a") []) ≡ None
   pub sign : job_of (synth_words (codes "abs") (codes "-1") (codes "1") (codes "a") (codes "b")) ≡ None
+  pub an_aag : job_of (codes "aag" ∷ codes "a" ∷ codes "b" ∷ []) ≡ Some (aag (codes "a") (codes "b"))
+  pub a_trim : job_of (trim_words (codes "a") (codes "b") (codes "c")) ≡ Some (trim Sabs 7 (codes "a") (codes "b") (codes "c"))
+  pub onto_itself : job_of (codes "aag" ∷ codes "a" ∷ codes "a" ∷ []) ≡ None
+  pub from_nothing : job_of (codes "aag" ∷ [] ∷ codes "b" ∷ []) ≡ None
+  pub into_nothing : job_of (codes "aag" ∷ codes "a" ∷ [] ∷ []) ≡ None
+  pub one_word : job_of (codes "aag" ∷ codes "a" ∷ []) ≡ None
+  pub three_words : job_of (codes "aag" ∷ codes "a" ∷ codes "b" ∷ codes "c" ∷ []) ≡ None
+  pub trimmed_onto_itself : job_of (trim_words (codes "a") (codes "b") (codes "a")) ≡ None
+  pub trimmed_into_the_bundle : job_of (trim_words (codes "a") (codes "b") (codes "b.lrat")) ≡ None
+  pub trimmed_from_the_bundle : job_of (trim_words (codes "b.blif") (codes "b") (codes "c")) ≡ None
+  pub trimmed_into_nothing : job_of (trim_words (codes "a") (codes "b") []) ≡ None

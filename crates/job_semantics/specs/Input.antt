@@ -1,8 +1,12 @@
 -- What IN must be. Source: BLIF, as this tool reads it.
-use Rattle.std.specs.Prelude.{◌≡◌, Ok, Err}
+use Rattle.std.specs.Prelude.{◌≡◌, Result, Ok, Err}
 use Rattle.semantics.specs.Texts.{Bytes}
 use Rattle.semantics.specs.Net.{NetValue}
 use Rattle.blif_semantics.specs.Reading.{input_limit, Refusal, blif_reading}
+
+-- IN as a net, or why it is refused
+abbrev pub input_reading : Bytes → Result NetValue Refusal
+input_reading text = blif_reading text input_limit
 
 -- the bytes are read as the net
 abbrev pub IsReadAs : Bytes → NetValue → Type 0

@@ -12,6 +12,10 @@ pub data Job : Type 0 where
   synth : Metric → (bound conflicts : ℕ) → (input stem : Bytes) → Job
   check : Metric → (bound : ℕ) → (input stem : Bytes) → Job
   demo : (width bound conflicts : ℕ) → Job
+  -- a net is turned into an AND circuit
+  aag : (input output : Bytes) → Job
+  -- the log of a bundle is trimmed
+  trim : Metric → (bound : ℕ) → (input stem output : Bytes) → Job
 
 -- the number that the word is, if it is a decimal number from low to high
 abbrev pub number_from_to : ℕ → ℕ → Bytes → Option ℕ
@@ -45,6 +49,18 @@ is_empty_word (c ∷ cs) = false
 abbrev pub are_file_words : Bytes → Bytes → Bool
 are_file_words input stem = not (is_empty_word input) && (not (is_empty_word stem) && not (is_bundle_name stem input))
 
+-- OUT is not empty, and is not IN
+abbrev pub is_output_word : Bytes → Bytes → Bool
+is_output_word input output = not (is_empty_word output) && not (bytes_eq input output)
+
+-- IN and OUT of a conversion
+abbrev pub are_conversion_words : Bytes → Bytes → Bool
+are_conversion_words input output = not (is_empty_word input) && is_output_word input output
+
+-- IN, STEM and OUT of a trim job: OUT is no file of the bundle either
+abbrev pub are_trim_words : Bytes → Bytes → Bytes → Bool
+are_trim_words input stem output = are_file_words input stem && (is_output_word input output && not (is_bundle_name stem output))
+
 abbrev pub synth_of : List Bytes → Option Job
 synth_of (m ∷ b ∷ c ∷ input ∷ stem ∷ []) = do
   metric ← metric_of m
@@ -68,10 +84,23 @@ demo_of (w ∷ b ∷ c ∷ []) = do
   Some (demo width bound conflicts)
 demo_of _ = None
 
+abbrev pub conversion_of : (Bytes → Bytes → Job) → List Bytes → Option Job
+conversion_of job (input ∷ output ∷ []) = if are_conversion_words input output then Some (job input output) else None
+conversion_of job _ = None
+
+abbrev pub trim_of : List Bytes → Option Job
+trim_of (m ∷ b ∷ input ∷ stem ∷ output ∷ []) = do
+  metric ← metric_of m
+  bound ← bound_of b
+  if are_trim_words input stem output then Some (trim metric bound input stem output) else None
+trim_of _ = None
+
 unfoldable pub job_of : List Bytes → Option Job
 job_of [] = None
 job_of (command ∷ words) =
     if bytes_eq command (codes "synth") then synth_of words
     else (if bytes_eq command (codes "check") then check_of words
     else (if bytes_eq command (codes "demo") then demo_of words
-    else None))
+    else (if bytes_eq command (codes "aag") then conversion_of aag words
+    else (if bytes_eq command (codes "trim") then trim_of words
+    else None))))

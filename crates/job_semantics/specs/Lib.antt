@@ -10,6 +10,8 @@ pub mod Examples
 pub mod Certificate
 pub mod CertificateLaws
 pub mod Checking
+pub mod Conversion
+pub mod Trimming
 pub mod CheckingLaws
 pub mod CertificateExamples
 pub mod Demo

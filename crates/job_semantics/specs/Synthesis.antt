@@ -4,7 +4,6 @@ use Rattle.std.specs.FinMap.{contains_key}
 use Rattle.semantics.specs.Texts.{Bytes}
 use Rattle.semantics.specs.Net.{NetValue, table_count, literal_count}
 use Rattle.semantics.specs.declared.metric.Metric.{Metric}
-use Rattle.blif_semantics.specs.Reading.{Refusal}
 use Rattle.proof_semantics.specs.Clauses.{IsUnsatisfiable}
 use Rattle.proof_semantics.specs.Formula.{Formula}
 use Rattle.proof_semantics.specs.Miter.{miter}
@@ -18,7 +17,7 @@ use Rattle.job_semantics.specs.Endings.{bundle_files, are_bundle_names_steady}
 use Rattle.job_semantics.specs.Bundle.{BundleValue, bundle_text}
 use Rattle.job_semantics.specs.Certificate.{OfBundle, OfReport, IsNetlist, Certifies}
 use Rattle.job_semantics.specs.Shrinking.{Shrinking, IsShrinking}
-use Rattle.job_semantics.specs.Input.{IsReadAs, IsAccepted, IsRefusedFor}
+use Rattle.job_semantics.specs.Input.{IsReadAs, IsAccepted}
 
 -- What a net is simplified to within a limit of conflicts for each query: the member of the chain that was reached, the vectors that broke
 -- moves, the query that was spent, where one was, the exact maximum error, and an input that attains it.
@@ -133,13 +132,13 @@ pub record SynthBudget (metric : Metric) (bound limit : ℕ) (input : Bytes) (sp
   pub search : MaximumSpent metric bound limit exact spent level
 
 -- IN is held and is refused
-pub record InputRefused (refusal : Refusal) (input : Bytes) (old new : FilesTold) (said says : SinkTold) : Type 0 where
+pub record InputRefused (IsRefused : Bytes → Type 0) (input : Bytes) (old new : FilesTold) (said says : SinkTold) : Type 0 where
   pub untouched : IsUntouched input old new said says
   pub held : WhereTold old new (λ a b. IsTrue (contains_key a input))
-  pub refused : OfInput old new input (λ text. IsRefusedFor text refusal)
+  pub refused : OfInput old new input IsRefused
 
 -- a fault came while IN was read, and IN is not steady
-pub record SynthReadFault (input : Bytes) (old new : FilesTold) (said says : SinkTold) : Type 0 where
+pub record InputReadFault (input : Bytes) (old new : FilesTold) (said says : SinkTold) : Type 0 where
   pub untouched : IsUntouched input old new said says
   pub rose : Rose old.faults new.faults
   pub not_steady : old.steady_read input ≡ false
@@ -151,14 +150,14 @@ pub record SynthWriteFault (metric : Metric) (bound limit : ℕ) (input stem : B
   pub left : BundleCutShort metric bound limit exact stem old new said says
 
 -- IN is accepted; where the files are not told both at entry and at exit, it counts as accepted
-abbrev pub CountsAsAccepted : FilesTold → FilesTold → Bytes → Type 0
-CountsAsAccepted old new input = WhereTold old new (λ a b. IsAccepted (bytes_of a input))
+abbrev pub CountsAs : (Bytes → Type 0) → FilesTold → FilesTold → Bytes → Type 0
+CountsAs IsAcceptable old new input = WhereTold old new (λ a b. IsAcceptable (bytes_of a input))
 
--- The files that a synth job needs are steady at entry: IN for reading and, where IN is accepted, those that are written for
--- writing.
-pub record AreSynthFilesSteady (old new : FilesTold) (input stem : Bytes) : Type 0 where
+-- The files that are needed by a job that turns IN into files are steady at entry: IN for reading and, where IN is accepted, those that are
+-- written for writing.
+pub record AreFilesSteady (IsAcceptable : Bytes → Type 0) (AreWrittenSteady : Type 0) (old new : FilesTold) (input : Bytes) : Type 0 where
   pub read : IsTrue (old.steady_read input)
-  pub written : CountsAsAccepted old new input → IsTrue (are_bundle_names_steady old stem)
+  pub written : CountsAs IsAcceptable old new input → AreWrittenSteady
 
 -- No count of faults rose in the call; or the files' count may have risen, but every file that is needed is steady.
 pub record IsQuiet (NeededAreSteady : Type 0) (old new : FilesTold) (said says : SinkTold) : Type 0 where
@@ -166,4 +165,4 @@ pub record IsQuiet (NeededAreSteady : Type 0) (old new : FilesTold) (said says :
   pub sink : ¬ Rose said.faults says.faults
 
 abbrev pub IsQuietSynth : Bytes → Bytes → FilesTold → FilesTold → SinkTold → SinkTold → Type 0
-IsQuietSynth input stem old new said says = IsQuiet (AreSynthFilesSteady old new input stem) old new said says
+IsQuietSynth input stem old new said says = IsQuiet (AreFilesSteady IsAccepted (IsTrue (are_bundle_names_steady old stem)) old new input) old new said says

@@ -20,8 +20,8 @@ use Rattle.job_semantics.specs.Synthesis.{BundleWritten, BundleCutShort}
 use Rattle.job_semantics.specs.Demonstration.{demo_stem, IsQuietDemo}
 use Rattle.worst_case.specs.declared.query.Spent as spent
 use Rattle.bundle.specs.Value.{files_of}
-use Rattle.jobs.specs.declared.status.Status.{Status}
-use Rattle.jobs.specs.declared.status.Status.TheVariants.{Done, Verified, Refuted, Usage, Text, NoMemory, Budget, ReadFault, WriteFault, Endless}
+use Rattle.job_answers.specs.declared.status.Status.{Status}
+use Rattle.job_answers.specs.declared.status.Status.TheVariants.{Done, Verified, Refuted, Usage, Text, NoMemory, Budget, ReadFault, WriteFault, Endless}
 use Rattle.jobs.specs.declared.status.Outcome.{Outcome}
 use Rattle.jobs.specs.Status.{told_query}
 use Rattle.jobs.specs.Prepared.{IsReady}
@@ -120,9 +120,4 @@ quiet_demo_ends metric bound limit exact old new said says spent level Done answ
 quiet_demo_ends metric bound limit exact old new said says spent level Budget answer quiet = answer.4.query.query.not_enough
 quiet_demo_ends metric bound limit exact old new said says spent level NoMemory answer quiet = tt
 quiet_demo_ends metric bound limit exact old new said says spent level WriteFault answer quiet = absurd (not_quiet_cut answer.0 quiet.files quiet.sink)
-quiet_demo_ends metric bound limit exact old new said says spent level Verified answer quiet = answer
-quiet_demo_ends metric bound limit exact old new said says spent level (Refuted number) answer quiet = answer
-quiet_demo_ends metric bound limit exact old new said says spent level Usage answer quiet = answer
-quiet_demo_ends metric bound limit exact old new said says spent level (Text reason) answer quiet = answer
-quiet_demo_ends metric bound limit exact old new said says spent level ReadFault answer quiet = answer
-quiet_demo_ends metric bound limit exact old new said says spent level Endless answer quiet = answer
+quiet_demo_ends metric bound limit exact old new said says spent level _ answer quiet = absurd answer

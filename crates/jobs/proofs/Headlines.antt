@@ -20,12 +20,12 @@ use Rattle.job_semantics.specs.Headline.{KeepsItsPromise, AdmitsNoMore, AreSpent
 use Rattle.job_semantics.proofs.Certificates.{verified_law}
 use Rattle.job_semantics.proofs.FileWords.{file_words_law}
 use Rattle.job_semantics.proofs.CheckedFiles.{one_net, joined_runs_law}
-use Rattle.jobs.specs.declared.status.Status.{Status}
-use Rattle.jobs.specs.declared.status.Status.TheVariants.{Done, Verified, Refuted, Usage, Text, NoMemory, Budget, ReadFault, WriteFault, Endless}
+use Rattle.job_answers.specs.declared.status.Status.{Status}
+use Rattle.job_answers.specs.declared.status.Status.TheVariants.{Done, Verified, Refuted, Usage, Text, NoMemory, Budget, ReadFault, WriteFault, Endless}
 use Rattle.jobs.specs.declared.status.Outcome.{Outcome}
 use Rattle.jobs.specs.Status.{told_query, NothingSpent}
 use Rattle.jobs.specs.Run.{SynthAnswerAt, RunSays}
-use Rattle.jobs.proofs.CheckAnswers.{verified_end}
+use Rattle.check_jobs.proofs.CheckAnswers.{verified_end}
 use Rattle.jobs.proofs.SynthAnswers.{quiet_ends}
 
 keeps : {exact : NetValue} {metric : Metric} {bound : ℕ} {texts : Texts} → ShowsItsBound exact metric bound texts → KeepsItsPromise metric bound exact texts
@@ -81,10 +81,7 @@ module _ (metric : Metric) (bound limit : ℕ) (input stem : Bytes) (files_named
   settled NoMemory answer read written memory none no_level a b told tells exact reads = absurd (memory refl)
   settled ReadFault answer read written memory none no_level a b told tells exact reads = absurd (read refl)
   settled WriteFault answer read written memory none no_level a b told tells exact reads = absurd (written refl)
-  settled Verified answer read written memory none no_level a b told tells exact reads = absurd answer
-  settled (Refuted number) answer read written memory none no_level a b told tells exact reads = absurd answer
-  settled Usage answer read written memory none no_level a b told tells exact reads = absurd answer
-  settled Endless answer read written memory none no_level a b told tells exact reads = absurd answer
+  settled _ answer read written memory none no_level a b told tells exact reads = absurd answer
 
 -- ---- what a spent query is
 
@@ -135,10 +132,7 @@ spent_in metric bound limit input stem old new said says spent level (Text reaso
 spent_in metric bound limit input stem old new said says spent level NoMemory q answer is = absurd (none_is q spent level answer.1 is)
 spent_in metric bound limit input stem old new said says spent level ReadFault q answer is = absurd (none_is q spent level answer.1 is)
 spent_in metric bound limit input stem old new said says spent level WriteFault q answer is = absurd (none_is q spent level answer.1 is)
-spent_in metric bound limit input stem old new said says spent level Verified q answer is = absurd answer
-spent_in metric bound limit input stem old new said says spent level (Refuted number) q answer is = absurd answer
-spent_in metric bound limit input stem old new said says spent level Usage q answer is = absurd answer
-spent_in metric bound limit input stem old new said says spent level Endless q answer is = absurd answer
+spent_in metric bound limit input stem old new said says spent level _ q answer is = absurd answer
 
 pub headline-from : (words : List Bytes) (old new : FilesTold) (said says : SinkTold) (o : Outcome) → RunSays words old new said says o
     → Headline words (o.status ≡ Verified) (o.status ≡ Done) (o.status ≡ NoMemory) (told_query o.spent) (told_query o.level) old new said says

@@ -1,8 +1,6 @@
-pub mod InputReadings
 pub mod JobWords
 pub mod Parts
 pub mod BundleAnswers
 pub mod SynthAnswers
-pub mod CheckAnswers
 pub mod Runs
 pub mod Headlines

@@ -6,17 +6,24 @@ use Rattle.semantics.specs.declared.metric.Metric.{Metric}
 use Rattle.semantics.specs.declared.metric.Metric.TheVariants.{Abs}
 use Rattle.outside_semantics.specs.Outside.{FilesTold, SinkTold}
 use Rattle.proof_semantics.specs.Queries.{SpentValue}
-use Rattle.job_semantics.specs.Job.{Job, synth, check, demo, job_of}
+use Rattle.job_semantics.specs.Job.{Job, synth, check, demo, aag, trim, job_of}
 use Rattle.job_semantics.specs.Demo.{demo_net}
 use Rattle.job_semantics.specs.Demonstration.{demo_stem}
-use Rattle.jobs.specs.declared.status.Status.{Status}
-use Rattle.jobs.specs.declared.status.Status.TheVariants.{Done, Verified, Refuted, Usage, Text, NoMemory, Budget, ReadFault, WriteFault, Endless}
+use Rattle.job_answers.specs.declared.status.Status.{Status}
+use Rattle.job_answers.specs.declared.status.Status.TheVariants.{Done, Verified, Refuted, Usage, Text, NoMemory, Budget, ReadFault, WriteFault, Endless}
 use Rattle.jobs.specs.declared.status.Outcome.{Outcome}
 use Rattle.jobs.specs.Status.{told_query, SpendsAs, SpendsAsTold}
-use Rattle.jobs.specs.Run.{SynthAnswerAt, SynthAnswer, BundleAnswerAt, BundleAnswer, CheckAnswer, JobAnswer, RunSays, IsQuietJob, EndsAsAsked}
+use Rattle.job_answers.specs.Refused.{TellsBlif}
+use Rattle.job_answers.proofs.Refusals.{AsksNothing, no_usage_asked, blif_is_refusal}
+use Rattle.conversions.specs.Texts.{aag_text}
+use Rattle.conversions.specs.Answers.{ConversionAnswer}
+use Rattle.conversions.proofs.Conversions.{quiet_conversion_ends, conversion_asks_nothing}
+use Rattle.check_jobs.specs.Answers.{CheckAnswer, TrimAnswer}
+use Rattle.jobs.specs.Run.{SynthAnswerAt, SynthAnswer, BundleAnswerAt, BundleAnswer, JobAnswer, RunSays, IsQuietJob, EndsAsAsked}
 use Rattle.jobs.proofs.BundleAnswers.{quiet_demo_ends}
-use Rattle.jobs.proofs.CheckAnswers.{check_spends_nothing, check_is_no_usage, quiet_check_ends}
+use Rattle.check_jobs.proofs.CheckAnswers.{check_asks_nothing, quiet_check_ends}
 use Rattle.jobs.proofs.SynthAnswers.{quiet_ends}
+use Rattle.check_jobs.proofs.TrimAnswers.{trim_asks_nothing, quiet_trim_ends}
 
 module _ (metric : Metric) (bound limit : ℕ) (input stem : Bytes) (old new : FilesTold) (said says : SinkTold) (spent level : Option SpentValue) where
   synth_spends : (status : Status) → SynthAnswerAt metric bound limit input stem old new said says spent level status → SpendsAs spent level status
@@ -26,10 +33,7 @@ module _ (metric : Metric) (bound limit : ℕ) (input stem : Bytes) (old new : F
   synth_spends NoMemory answer = answer.1
   synth_spends ReadFault answer = answer.1
   synth_spends WriteFault answer = answer.1
-  synth_spends Verified answer = absurd answer
-  synth_spends (Refuted number) answer = absurd answer
-  synth_spends Usage answer = absurd answer
-  synth_spends Endless answer = absurd answer
+  synth_spends _ answer = absurd answer
 
   synth_is_no_usage : (status : Status) → SynthAnswerAt metric bound limit input stem old new said says spent level status → status ≢ Usage
   synth_is_no_usage status answer usage = subst (SynthAnswerAt metric bound limit input stem old new said says spent level) usage answer
@@ -40,15 +44,15 @@ module _ (metric : Metric) (bound limit : ℕ) (exact : NetValue) (stem : Bytes)
   bundle_spends Budget answer = (answer.2, answer.3)
   bundle_spends NoMemory answer = answer.2
   bundle_spends WriteFault answer = answer.1
-  bundle_spends Verified answer = absurd answer
-  bundle_spends (Refuted number) answer = absurd answer
-  bundle_spends Usage answer = absurd answer
-  bundle_spends (Text reason) answer = absurd answer
-  bundle_spends ReadFault answer = absurd answer
-  bundle_spends Endless answer = absurd answer
+  bundle_spends _ answer = absurd answer
 
   bundle_is_no_usage : (status : Status) → BundleAnswerAt metric bound limit exact stem old new said says spent level status → status ≢ Usage
   bundle_is_no_usage status answer usage = subst (BundleAnswerAt metric bound limit exact stem old new said says spent level) usage answer
+
+asks_nothing_spends : (status : Status) → AsksNothing status → SpendsAs None None status
+asks_nothing_spends Done is = refl
+asks_nothing_spends Budget is = absurd is
+asks_nothing_spends _ is = (refl, refl)
 
 module _ {words : List Bytes} {old new : FilesTold} {said says : SinkTold} where
   job_says : (job : Job) (o : Outcome) → job_of words ≡ Some job → o.status ≢ Usage → SpendsAsTold o → JobAnswer job old new said says o → RunSays words old new said says o
@@ -73,11 +77,26 @@ module _ {words : List Bytes} {old new : FilesTold} {said says : SinkTold} where
       job_says (synth metric bound limit input stem) o named (synth_is_no_usage metric bound limit input stem old new said says (told_query o.spent) (told_query o.level) o.status answer)
       (synth_spends metric bound limit input stem old new said says (told_query o.spent) (told_query o.level) o.status answer) answer
 
+  -- a job that asks the solver nothing
+  asking_nothing : (job : Job) (o : Outcome) (status : Status) → o ≡ record { status = status; spent = None; level = None } → job_of words ≡ Some job → AsksNothing status
+      → JobAnswer job old new said says (record { status = status; spent = None; level = None }) → RunSays words old new said says o
+  asking_nothing job o status is named nothing answer = subst (RunSays words old new said says) (sym is)
+      (job_says job (record { status = status; spent = None; level = None }) named (no_usage_asked status nothing) (asks_nothing_spends status nothing) answer)
+
   pub check-says : {metric : Metric} {bound : ℕ} {input stem : Bytes} (o : Outcome) (status : Status) → o ≡ record { status = status; spent = None; level = None }
       → job_of words ≡ Some (check metric bound input stem) → CheckAnswer metric bound input stem old new said says status → RunSays words old new said says o
-  check-says {metric} {bound} {input} {stem} o status is named answer = subst (RunSays words old new said says) (sym is)
-      (job_says (check metric bound input stem) (record { status = status; spent = None; level = None }) named (check_is_no_usage status answer.0 answer.1)
-      (check_spends_nothing status answer.0 answer.1) answer)
+  check-says {metric} {bound} {input} {stem} o status is named answer =
+      asking_nothing (check metric bound input stem) o status is named (check_asks_nothing status answer.0 answer.1) answer
+
+  pub aag-says : {input output : Bytes} (o : Outcome) (status : Status) → o ≡ record { status = status; spent = None; level = None }
+      → job_of words ≡ Some (aag input output) → ConversionAnswer aag_text TellsBlif input output old new said says status → RunSays words old new said says o
+  aag-says {input} {output} o status is named answer =
+      asking_nothing (aag input output) o status is named (conversion_asks_nothing aag_text TellsBlif blif_is_refusal input output status answer.0 answer.1) (answer, (refl, refl))
+
+  pub trim-says : {metric : Metric} {bound : ℕ} {input stem output : Bytes} (o : Outcome) (status : Status) → o ≡ record { status = status; spent = None; level = None }
+      → job_of words ≡ Some (trim metric bound input stem output) → TrimAnswer metric bound input stem output old new said says status → RunSays words old new said says o
+  trim-says {metric} {bound} {input} {stem} {output} o status is named answer =
+      asking_nothing (trim metric bound input stem output) o status is named (trim_asks_nothing status answer.0 answer.1) (answer, (refl, refl))
 
   pub demo-says : {width bound limit : ℕ} (o : Outcome) → job_of words ≡ Some (demo width bound limit)
       → BundleAnswer Abs bound limit (demo_net width) demo_stem old new said says o → RunSays words old new said says o
@@ -92,3 +111,6 @@ quiet_job_ends (synth metric bound conflicts input stem) old new said says o ans
 quiet_job_ends (check metric bound input stem) old new said says o answer quiet = quiet_check_ends o.status answer.0 answer.1 quiet
 quiet_job_ends (demo width bound conflicts) old new said says o answer quiet =
     quiet_demo_ends Abs bound conflicts (demo_net width) old new said says (told_query o.spent) (told_query o.level) o.status answer quiet
+quiet_job_ends (aag input output) old new said says o answer quiet =
+    quiet_conversion_ends aag_text TellsBlif blif_is_refusal input output o.status answer.0.0 answer.0.1 quiet
+quiet_job_ends (trim metric bound input stem output) old new said says o answer quiet = quiet_trim_ends o.status answer.0.0 answer.0.1 quiet

@@ -5,23 +5,24 @@ use Rattle.semantics.specs.Net.{NetValue}
 use Rattle.semantics.specs.declared.metric.Metric.{Metric}
 use Rattle.outside_semantics.specs.Outside.{FilesTold, SinkTold, Goes, bytes_of}
 use Rattle.outside_semantics.specs.WrittenFiles.{FilesWritten}
-use Rattle.blif_semantics.specs.Reading.{input_limit, blif_reading}
 use Rattle.file_core.proofs.Told.{held_before}
 use Rattle.proof_semantics.specs.Queries.{SpentValue}
 use Rattle.job_semantics.specs.declared.version.Version.TheVariants.{Two}
 use Rattle.job_semantics.specs.Certificate.{Texts, OfBundle, OfReport, IsNetlist, Certifies}
-use Rattle.job_semantics.specs.Synthesis.{WhereHeld, OfInput, IsUntouched, BundleWritten, BundleCutShort, SynthReadFault, SynthWriteFault, CountsAsAccepted, IsQuietSynth}
-use Rattle.job_semantics.specs.Input.{IsReadAs}
+use Rattle.job_semantics.specs.Synthesis.{WhereHeld, OfInput, IsUntouched, BundleWritten, BundleCutShort, SynthWriteFault, CountsAs, IsQuietSynth}
+use Rattle.job_semantics.specs.Input.{input_reading, IsReadAs, IsAccepted}
 use Rattle.bundle.proofs.FilesInOrder.{FilesWritten-then, FilesCutShort-after}
-use Rattle.jobs.specs.declared.status.Status.{Status}
-use Rattle.jobs.specs.declared.status.Status.TheVariants.{Done, Verified, Refuted, Usage, Text, NoMemory, Budget, ReadFault, WriteFault, Endless}
+use Rattle.job_answers.specs.declared.status.Status.{Status}
+use Rattle.job_answers.specs.declared.status.Status.TheVariants.{Done, Verified, Refuted, Usage, Text, NoMemory, Budget, ReadFault, WriteFault, Endless}
 use Rattle.jobs.specs.declared.status.Outcome.{Outcome}
-use Rattle.jobs.specs.declared.input.NoNet.{NoNet}
-use Rattle.jobs.specs.declared.input.NoNet.TheVariants as none
-use Rattle.jobs.specs.Status.{told_query, status_without_net}
-use Rattle.jobs.specs.Input.{NetRead, NetRefused}
-use Rattle.jobs.specs.Run.{SynthAnswerAt, SynthAnswer, BundleAnswerAt, BundleAnswer, IsAnswerTo, EndsWell}
-use Rattle.jobs.proofs.InputReadings.{OfInput-later}
+use Rattle.job_answers.specs.Ends.{EndsWell}
+use Rattle.conversions.specs.Input.{NetRead, NetUnread}
+use Rattle.conversions.proofs.InputReadings.{OfInput-later}
+use Rattle.conversions.proofs.Conversions.{read_fault, not_quiet_read}
+use Rattle.conversions.proofs.Conversions as conversions
+use Rattle.jobs.specs.Status.{told_query}
+use Rattle.jobs.specs.Run.{SynthAnswerAt, SynthAnswer, BundleAnswerAt, BundleAnswer, IsAnswerTo}
+use Rattle.check_jobs.proofs.CheckAnswers.{input_refused}
 use Rattle.jobs.proofs.BundleAnswers.{enough_spends_nothing, not_quiet_cut}
 
 -- nothing was written while IN was read
@@ -77,26 +78,17 @@ goes_cut : {metric : Metric} {bound limit : ℕ} {stem : Bytes} {mid new : Files
 goes_cut c = elim c.left [ inl cut ↦ cut.0.goes | inr put ↦ put.0.goes ]
 
 -- IN gives no net
-synth-no_net : (metric : Metric) (bound limit : ℕ) (input stem : Bytes) (old new : FilesTold) (said : SinkTold) (reason : NoNet) → NetRefused old new input reason
-    → SynthAnswerAt metric bound limit input stem old new said said None None (status_without_net reason)
-synth-no_net metric bound limit input stem old new said (none.Refused reason) (refusal, told, r) = (
-  (refusal, told, record { untouched = record { goes = r.stay.goes; files = r.stay.stays; still_told = r.stay.still_told; sink = refl }; held = r.held; refused = r.refused }),
-  (refl, refl),
-)
-synth-no_net metric bound limit input stem old new said none.Fault failed = (
-  record {
-    untouched = record { goes = failed.stay.goes; files = failed.stay.stays; still_told = failed.stay.still_told; sink = refl };
-    rose = failed.rose;
-    not_steady = failed.not_steady;
-  },
-  (refl, refl),
-)
-synth-no_net metric bound limit input stem old new said none.OutOfMemory stay = (record { goes = stay.goes; files = stay.stays; still_told = stay.still_told; sink = refl }, (refl, refl))
+synth-no_net : (metric : Metric) (bound limit : ℕ) (input stem : Bytes) (old new : FilesTold) (said : SinkTold) (answer : Status) → NetUnread old new input answer
+    → SynthAnswerAt metric bound limit input stem old new said said None None answer
+synth-no_net metric bound limit input stem old new said (Text reason) (refusal, told, r) = ((refusal, told, input_refused refusal r), (refl, refl))
+synth-no_net metric bound limit input stem old new said ReadFault failed = (read_fault failed, (refl, refl))
+synth-no_net metric bound limit input stem old new said NoMemory stay = (conversions.untouched stay, (refl, refl))
+synth-no_net metric bound limit input stem old new said _ bad = absurd bad
 
-pub synth_answer-no_net : (metric : Metric) (bound limit : ℕ) (input stem : Bytes) (old new : FilesTold) (said : SinkTold) (reason : NoNet) (o : Outcome)
-    → o ≡ record { status = status_without_net reason; spent = None; level = None } → NetRefused old new input reason → SynthAnswer metric bound limit input stem old new said said o
-synth_answer-no_net metric bound limit input stem old new said reason o is refused =
-    subst (SynthAnswer metric bound limit input stem old new said said) (sym is) (synth-no_net metric bound limit input stem old new said reason refused)
+pub synth_answer-no_net : (metric : Metric) (bound limit : ℕ) (input stem : Bytes) (old new : FilesTold) (said : SinkTold) (answer : Status) (o : Outcome)
+    → o ≡ record { status = answer; spent = None; level = None } → NetUnread old new input answer → SynthAnswer metric bound limit input stem old new said said o
+synth_answer-no_net metric bound limit input stem old new said answer o is unread =
+    subst (SynthAnswer metric bound limit input stem old new said said) (sym is) (synth-no_net metric bound limit input stem old new said answer unread)
 
 pub SynthAnswer-from : (metric : Metric) (bound limit : ℕ) (input stem : Bytes) (old mid new : FilesTold) (said says : SinkTold) (N : NetValue) (spent level : Option SpentValue) (status : Status)
     → NetRead old mid input N → BundleAnswerAt metric bound limit N stem mid new said says spent level status
@@ -116,12 +108,7 @@ SynthAnswer-from metric bound limit input stem old mid new said says N spent lev
 SynthAnswer-from metric bound limit input stem old mid new said says N spent level NoMemory read answer = (untouched read new says answer.0 answer.1, answer.2)
 SynthAnswer-from metric bound limit input stem old mid new said says N spent level WriteFault read answer =
     (record { exact = N; read = read_later read (goes_cut answer.0); left = cut_since read answer.0 }, answer.1)
-SynthAnswer-from metric bound limit input stem old mid new said says N spent level Verified read answer = answer
-SynthAnswer-from metric bound limit input stem old mid new said says N spent level (Refuted number) read answer = answer
-SynthAnswer-from metric bound limit input stem old mid new said says N spent level Usage read answer = answer
-SynthAnswer-from metric bound limit input stem old mid new said says N spent level (Text reason) read answer = absurd answer
-SynthAnswer-from metric bound limit input stem old mid new said says N spent level ReadFault read answer = absurd answer
-SynthAnswer-from metric bound limit input stem old mid new said says N spent level Endless read answer = answer
+SynthAnswer-from metric bound limit input stem old mid new said says N spent level _ read answer = absurd answer
 
 pub SynthAnswer-of : (metric : Metric) (bound limit : ℕ) (input stem : Bytes) {names : Bytes} {old mid : FilesTold} (new : FilesTold) (said says : SinkTold) {N : NetValue} (o : Outcome)
     → names ≡ stem → NetRead old mid input N → BundleAnswer metric bound limit N names mid new said says o → SynthAnswer metric bound limit input stem old new said says o
@@ -131,7 +118,7 @@ SynthAnswer-of metric bound limit input stem {names} {old} {mid} new said says {
 
 -- what could not be written is read as some net
 accepted_at_fault : {metric : Metric} {bound limit : ℕ} {input stem : Bytes} {old new : FilesTold} {said says : SinkTold}
-    → SynthWriteFault metric bound limit input stem old new said says → CountsAsAccepted old new input
+    → SynthWriteFault metric bound limit input stem old new said says → CountsAs IsAccepted old new input
 accepted_at_fault fault = λ a b told tells. (fault.exact, fault.read.told a b told tells)
 
 -- a call with a fault in writing is not quiet
@@ -143,19 +130,10 @@ not_quiet {metric} {bound} {limit} {input} {stem} {old} {new} fault quiet =
       | inr steady ↦ not_quiet_cut fault.left (inr (steady.written (accepted_at_fault fault))) quiet.sink
     ]
 
--- nor is one with a fault in reading
-not_quiet_read : {input stem : Bytes} {old new : FilesTold} {said says : SinkTold}
-    → SynthReadFault input old new said says → IsQuietSynth input stem old new said says → ⊥
-not_quiet_read {input} {stem} {old} fault quiet =
-    elim quiet.files [
-      | inl calm ↦ calm fault.rose
-      | inr steady ↦ let yes : old.steady_read input ≡ true = steady.read in let no : old.steady_read input ≡ false = fault.not_steady in cc
-    ]
-
 -- an answer without a fault is the one that the reading of IN and the conflicts ask for
 answers_reading : (metric : Metric) (bound limit : ℕ) (input stem : Bytes) (old new : FilesTold) (said says : SinkTold) (spent level : Option SpentValue) (status : Status)
     → SynthAnswerAt metric bound limit input stem old new said says spent level status → status ≢ ReadFault → status ≢ WriteFault
-    → WhereHeld old input (λ a. IsAnswerTo limit spent (blif_reading (bytes_of a input) input_limit) status)
+    → WhereHeld old input (λ a. IsAnswerTo limit spent (input_reading (bytes_of a input)) status)
 answers_reading metric bound limit input stem old new said says spent level Done answer read written =
     λ a told has. (answer.0.exact, answer.0.read.at_entry a told has, enough_spends_nothing answer.0.written)
 answers_reading metric bound limit input stem old new said says spent level Budget answer read written =
@@ -165,14 +143,11 @@ answers_reading metric bound limit input stem old new said says spent level (Tex
 answers_reading metric bound limit input stem old new said says spent level NoMemory answer read written = λ a told has. tt
 answers_reading metric bound limit input stem old new said says spent level ReadFault answer read written = absurd (read refl)
 answers_reading metric bound limit input stem old new said says spent level WriteFault answer read written = absurd (written refl)
-answers_reading metric bound limit input stem old new said says spent level Verified answer read written = absurd answer
-answers_reading metric bound limit input stem old new said says spent level (Refuted number) answer read written = absurd answer
-answers_reading metric bound limit input stem old new said says spent level Usage answer read written = absurd answer
-answers_reading metric bound limit input stem old new said says spent level Endless answer read written = absurd answer
+answers_reading metric bound limit input stem old new said says spent level _ answer read written = absurd answer
 
 -- a quiet call has no fault, and is answered as the reading of IN and the conflicts ask
 pub quiet_ends : (metric : Metric) (bound limit : ℕ) (input stem : Bytes) (old new : FilesTold) (said says : SinkTold) (spent level : Option SpentValue) (status : Status)
-    → SynthAnswerAt metric bound limit input stem old new said says spent level status → IsQuietSynth input stem old new said says → EndsWell (IsAnswerTo limit spent) input old status
+    → SynthAnswerAt metric bound limit input stem old new said says spent level status → IsQuietSynth input stem old new said says → EndsWell input_reading (IsAnswerTo limit spent) input old status
 quiet_ends metric bound limit input stem old new said says spent level status answer quiet =
     let no_read : status ≢ ReadFault = λ is. not_quiet_read (subst (SynthAnswerAt metric bound limit input stem old new said says spent level) is answer).0 quiet in
     let no_write : status ≢ WriteFault = λ is. not_quiet (subst (SynthAnswerAt metric bound limit input stem old new said says spent level) is answer).0 quiet in

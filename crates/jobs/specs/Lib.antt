@@ -1,5 +1,4 @@
 pub mod Words
-pub mod Input
 pub mod Status
 pub mod Prepared
 pub mod Delivered

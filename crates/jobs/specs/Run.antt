@@ -1,29 +1,37 @@
 -- What each answer of a run says.
-use Rattle.std.specs.Prelude.{◌≡◌, ◌≢◌, ◌↔◌, ℕ, Option, Some, None, Result, Ok, Err, List}
+use Rattle.std.specs.Prelude.{◌≡◌, ◌↔◌, ℕ, Option, Some, None, Result, Ok, List}
 use Rattle.semantics.specs.Texts.{Bytes}
 use Rattle.semantics.specs.Net.{NetValue, input_count}
 use Rattle.semantics.specs.declared.metric.Metric.{Metric}
 use Rattle.semantics.specs.declared.metric.Metric.TheVariants.{Abs}
-use Rattle.outside_semantics.specs.Outside.{FilesTold, SinkTold, bytes_of}
-use Rattle.blif_semantics.specs.Reading.{input_limit, Refusal, blif_reading}
+use Rattle.outside_semantics.specs.Outside.{FilesTold, SinkTold}
+use Rattle.blif_semantics.specs.Reading.{Refusal}
 use Rattle.proof_semantics.specs.Conflicts.{IsEnough}
 use Rattle.proof_semantics.specs.Queries.{SpentValue}
-use Rattle.job_semantics.specs.Job.{Job, synth, check, demo, job_of}
-use Rattle.job_semantics.specs.Certificate.{clause_number}
-use Rattle.job_semantics.specs.Synthesis.{WhereHeld, IsUntouched, InputRefused, BundleWritten, BundleCutShort, MaximumSpent, SynthDone, SynthBudget, SynthReadFault, SynthWriteFault, IsQuietSynth}
-use Rattle.job_semantics.specs.Checking.{CheckEnd, verified, refuted, refused, out_of_memory, not_read, endless, IsQuietCheck}
+use Rattle.job_semantics.specs.Job.{Job, synth, check, demo, aag, trim, job_of}
+use Rattle.job_semantics.specs.Input.{input_reading, IsRefusedFor}
+use Rattle.job_semantics.specs.Synthesis.{IsUntouched, InputRefused, InputReadFault, BundleWritten, BundleCutShort, MaximumSpent, SynthDone, SynthBudget, SynthWriteFault, IsQuietSynth}
+use Rattle.job_semantics.specs.Checking.{IsQuietCheck}
+use Rattle.job_semantics.specs.Conversion.{IsQuietConversion}
+use Rattle.job_semantics.specs.Trimming.{IsQuietTrim}
 use Rattle.job_semantics.specs.Demo.{demo_net}
 use Rattle.job_semantics.specs.Demonstration.{demo_stem, IsQuietDemo}
 use Rattle.blif_text.specs.Refusals.{refusal_of}
 use Rattle.blif_text.specs.declared.refusal.BlifRefusal.{BlifRefusal}
-use Rattle.jobs.specs.declared.status.Status.{Status}
-use Rattle.jobs.specs.declared.status.Status.TheVariants.{Done, Verified, Refuted, Usage, Text, NoMemory, Budget, ReadFault, WriteFault, Endless}
+use Rattle.job_answers.specs.declared.status.Status.{Status}
+use Rattle.job_answers.specs.declared.status.Status.TheVariants.{Done, Usage, Text, NoMemory, Budget, ReadFault, WriteFault}
+use Rattle.job_answers.specs.Refused.{TellsBlif}
+use Rattle.job_answers.specs.Ends.{EndsWell}
+use Rattle.check_jobs.specs.Answers.{CheckAnswer, TrimAnswer, Refuses, IsCheckAnswerTo, IsTrimAnswerTo}
+use Rattle.conversions.specs.Texts.{aag_text}
+use Rattle.conversions.specs.Answers.{ConversionAnswer, IsConvertedAs}
 use Rattle.jobs.specs.declared.status.Outcome.{Outcome}
 use Rattle.jobs.specs.Status.{told_query, NothingSpent, SpendsAsTold}
 
 -- IN is refused for the reason that is told, which is not want of memory
 abbrev pub IsToldRefused : BlifRefusal → Bytes → FilesTold → FilesTold → SinkTold → SinkTold → Type 0
-IsToldRefused reason input old new said says = (refusal : Refusal) × (refusal_of reason ≡ Some refusal) × InputRefused refusal input old new said says
+IsToldRefused reason input old new said says =
+    (refusal : Refusal) × (refusal_of reason ≡ Some refusal) × InputRefused (λ text. IsRefusedFor text refusal) input old new said says
 
 -- what a synth job comes to, by its answer and the queries that are told as spent
 abbrev pub SynthAnswerAt : Metric → ℕ → ℕ → Bytes → Bytes → FilesTold → FilesTold → SinkTold → SinkTold → Option SpentValue → Option SpentValue → Status → Type 0
@@ -32,12 +40,9 @@ SynthAnswerAt metric bound limit input stem old new said says spent level Budget
     (q : SpentValue) × (level ≡ Some q) × SynthBudget metric bound limit input spent q old new said says
 SynthAnswerAt metric bound limit input stem old new said says spent level (Text reason) = IsToldRefused reason input old new said says × NothingSpent spent level
 SynthAnswerAt metric bound limit input stem old new said says spent level NoMemory = IsUntouched input old new said says × NothingSpent spent level
-SynthAnswerAt metric bound limit input stem old new said says spent level ReadFault = SynthReadFault input old new said says × NothingSpent spent level
+SynthAnswerAt metric bound limit input stem old new said says spent level ReadFault = InputReadFault input old new said says × NothingSpent spent level
 SynthAnswerAt metric bound limit input stem old new said says spent level WriteFault = SynthWriteFault metric bound limit input stem old new said says × NothingSpent spent level
-SynthAnswerAt metric bound limit input stem old new said says spent level Verified = ⊥
-SynthAnswerAt metric bound limit input stem old new said says spent level (Refuted number) = ⊥
-SynthAnswerAt metric bound limit input stem old new said says spent level Usage = ⊥
-SynthAnswerAt metric bound limit input stem old new said says spent level Endless = ⊥
+SynthAnswerAt metric bound limit input stem old new said says spent level _ = ⊥
 
 abbrev pub SynthAnswer : Metric → ℕ → ℕ → Bytes → Bytes → FilesTold → FilesTold → SinkTold → SinkTold → Outcome → Type 0
 SynthAnswer metric bound limit input stem old new said says o =
@@ -50,46 +55,18 @@ BundleAnswerAt metric bound limit exact stem old new said says spent level Budge
     (new ≡ old) × (says ≡ said) × (q : SpentValue) × (level ≡ Some q) × MaximumSpent metric bound limit exact spent q
 BundleAnswerAt metric bound limit exact stem old new said says spent level NoMemory = (new ≡ old) × (says ≡ said) × NothingSpent spent level
 BundleAnswerAt metric bound limit exact stem old new said says spent level WriteFault = BundleCutShort metric bound limit exact stem old new said says × NothingSpent spent level
-BundleAnswerAt metric bound limit exact stem old new said says spent level Verified = ⊥
-BundleAnswerAt metric bound limit exact stem old new said says spent level (Refuted number) = ⊥
-BundleAnswerAt metric bound limit exact stem old new said says spent level Usage = ⊥
-BundleAnswerAt metric bound limit exact stem old new said says spent level (Text reason) = ⊥
-BundleAnswerAt metric bound limit exact stem old new said says spent level ReadFault = ⊥
-BundleAnswerAt metric bound limit exact stem old new said says spent level Endless = ⊥
+BundleAnswerAt metric bound limit exact stem old new said says spent level _ = ⊥
 
 abbrev pub BundleAnswer : Metric → ℕ → ℕ → NetValue → Bytes → FilesTold → FilesTold → SinkTold → SinkTold → Outcome → Type 0
 BundleAnswer metric bound limit exact stem old new said says o =
     BundleAnswerAt metric bound limit exact stem old new said says (told_query o.spent) (told_query o.level) o.status
-
--- the answer for each end of a check
-abbrev pub IsAnswerFor : {metric : Metric} {bound : ℕ} {input stem : Bytes} {old new : FilesTold} {said says : SinkTold}
-    → CheckEnd metric bound input stem old new said says → Status → Type 0
-IsAnswerFor (verified v) status = status ≡ Verified
-IsAnswerFor (refuted c r) status = status ≡ Refuted (clause_number c)
-IsAnswerFor (refused refusal r) status = (reason : BlifRefusal) × (refusal_of reason ≡ Some refusal) × (status ≡ Text reason)
-IsAnswerFor (out_of_memory left) status = status ≡ NoMemory
-IsAnswerFor (not_read fault) status = status ≡ ReadFault
-IsAnswerFor (endless e) status = status ≡ Endless
-
--- what a check job comes to, by its answer
-abbrev pub CheckAnswer : Metric → ℕ → Bytes → Bytes → FilesTold → FilesTold → SinkTold → SinkTold → Status → Type 0
-CheckAnswer metric bound input stem old new said says status = (end : CheckEnd metric bound input stem old new said says) × IsAnswerFor end status
-
-abbrev pub Refuses : Result NetValue Refusal → BlifRefusal → Type 0
-Refuses reading reason = (refusal : Refusal) × (reading ≡ Err refusal) × (refusal_of reason ≡ Some refusal)
 
 -- Where the conflicts are enough for so many inputs, a bundle is written and no query is spent.
 abbrev pub IsWorkOf : ℕ → ℕ → Option SpentValue → Status → Type 0
 IsWorkOf limit inputs spent Done = IsEnough limit inputs → spent ≡ None
 IsWorkOf limit inputs spent Budget = ¬ IsEnough limit inputs
 IsWorkOf limit inputs spent NoMemory = Unit {0}
-IsWorkOf limit inputs spent Verified = ⊥
-IsWorkOf limit inputs spent (Refuted number) = ⊥
-IsWorkOf limit inputs spent Usage = ⊥
-IsWorkOf limit inputs spent (Text reason) = ⊥
-IsWorkOf limit inputs spent ReadFault = ⊥
-IsWorkOf limit inputs spent WriteFault = ⊥
-IsWorkOf limit inputs spent Endless = ⊥
+IsWorkOf limit inputs spent _ = ⊥
 
 -- the reading gives a net of which P holds
 abbrev pub GivesNet : Result NetValue Refusal → (NetValue → Type 0) → Type 0
@@ -101,37 +78,19 @@ IsAnswerTo limit spent reading Done = GivesNet reading (λ N. IsWorkOf limit (in
 IsAnswerTo limit spent reading Budget = GivesNet reading (λ N. IsWorkOf limit (input_count N) spent Budget)
 IsAnswerTo limit spent reading (Text reason) = Refuses reading reason
 IsAnswerTo limit spent reading NoMemory = Unit {0}
-IsAnswerTo limit spent reading Verified = ⊥
-IsAnswerTo limit spent reading (Refuted number) = ⊥
-IsAnswerTo limit spent reading Usage = ⊥
-IsAnswerTo limit spent reading ReadFault = ⊥
-IsAnswerTo limit spent reading WriteFault = ⊥
-IsAnswerTo limit spent reading Endless = ⊥
+IsAnswerTo limit spent reading _ = ⊥
 
--- and a check job
-abbrev pub IsCheckAnswerTo : Result NetValue Refusal → Status → Type 0
-IsCheckAnswerTo reading Verified = (N : NetValue) × (reading ≡ Ok N)
-IsCheckAnswerTo reading (Refuted number) = (N : NetValue) × (reading ≡ Ok N)
-IsCheckAnswerTo reading Endless = (N : NetValue) × (reading ≡ Ok N)
-IsCheckAnswerTo reading (Text reason) = Refuses reading reason
-IsCheckAnswerTo reading NoMemory = Unit {0}
-IsCheckAnswerTo reading Done = ⊥
-IsCheckAnswerTo reading Budget = ⊥
-IsCheckAnswerTo reading Usage = ⊥
-IsCheckAnswerTo reading ReadFault = ⊥
-IsCheckAnswerTo reading WriteFault = ⊥
-
--- a job that ends without a fault, and as P asks of the reading of IN where IN is held at entry
-pub record EndsWell (P : Result NetValue Refusal → Status → Type 0) (input : Bytes) (old : FilesTold) (status : Status) : Type 0 where
-  pub read : status ≢ ReadFault
-  pub written : status ≢ WriteFault
-  pub answers : WhereHeld old input (λ a. P (blif_reading (bytes_of a input) input_limit) status)
+-- the solver was asked nothing
+abbrev pub AsksNoQuery : Outcome → Type 0
+AsksNoQuery o = NothingSpent (told_query o.spent) (told_query o.level)
 
 -- what the answer to a job says
 abbrev pub JobAnswer : Job → FilesTold → FilesTold → SinkTold → SinkTold → Outcome → Type 0
 JobAnswer (synth metric bound conflicts input stem) old new said says o = SynthAnswer metric bound conflicts input stem old new said says o
 JobAnswer (check metric bound input stem) old new said says o = CheckAnswer metric bound input stem old new said says o.status
 JobAnswer (demo width bound conflicts) old new said says o = BundleAnswer Abs bound conflicts (demo_net width) demo_stem old new said says o
+JobAnswer (aag input output) old new said says o = ConversionAnswer aag_text TellsBlif input output old new said says o.status × AsksNoQuery o
+JobAnswer (trim metric bound input stem output) old new said says o = TrimAnswer metric bound input stem output old new said says o.status × AsksNoQuery o
 
 -- What every run says, by its words, its answer, and what files and sink told at entry and at exit: words that are no job, and only those, are
 -- `Usage`; a spent query is told with `Budget` and with `Done` alone, that of the search for the greatest error exactly with `Budget`; and the
@@ -146,9 +105,13 @@ abbrev pub IsQuietJob : Job → FilesTold → FilesTold → SinkTold → SinkTol
 IsQuietJob (synth metric bound conflicts input stem) old new said says = IsQuietSynth input stem old new said says
 IsQuietJob (check metric bound input stem) old new said says = IsQuietCheck metric bound input stem old new said says
 IsQuietJob (demo width bound conflicts) old new said says = IsQuietDemo old new said says
+IsQuietJob (aag input output) old new said says = IsQuietConversion aag_text input output old new said says
+IsQuietJob (trim metric bound input stem output) old new said says = IsQuietTrim metric bound input stem output old new said says
 
 -- the job ends without a fault, and as the reading of IN and the conflicts ask, unless memory is wanting
 abbrev pub EndsAsAsked : Job → FilesTold → Outcome → Type 0
-EndsAsAsked (synth metric bound conflicts input stem) old o = EndsWell (IsAnswerTo conflicts (told_query o.spent)) input old o.status
-EndsAsAsked (check metric bound input stem) old o = EndsWell IsCheckAnswerTo input old o.status
+EndsAsAsked (synth metric bound conflicts input stem) old o = EndsWell input_reading (IsAnswerTo conflicts (told_query o.spent)) input old o.status
+EndsAsAsked (check metric bound input stem) old o = EndsWell input_reading IsCheckAnswerTo input old o.status
 EndsAsAsked (demo width bound conflicts) old o = IsWorkOf conflicts (input_count (demo_net width)) (told_query o.spent) o.status
+EndsAsAsked (aag input output) old o = EndsWell aag_text (IsConvertedAs TellsBlif) input old o.status
+EndsAsAsked (trim metric bound input stem output) old o = EndsWell input_reading IsTrimAnswerTo input old o.status

@@ -2,16 +2,20 @@
 use Rattle.std.specs.Prelude.{◌≤◌}
 use Rattle.semantics.specs.declared.limits.TheConstants.{LARGEST_ERROR}
 use Rattle.jobs.specs.declared.words.Command.{Command}
-use Rattle.jobs.specs.declared.words.Command.TheVariants.{Synth, Check, Demo}
+use Rattle.jobs.specs.declared.words.Command.TheVariants.{Synth, Check, Demo, Aag, Trim}
 use Rattle.job_semantics.specs.Job as words
 
 abbrev pub job_meaning : Command → words.Job
 job_meaning (Synth metric bound conflicts input stem) = words.synth metric bound conflicts input.now stem.now
 job_meaning (Check metric bound input stem) = words.check metric bound input.now stem.now
 job_meaning (Demo width bound conflicts) = words.demo width bound conflicts
+job_meaning (Aag input output) = words.aag input.now output.now
+job_meaning (Trim metric bound input stem output) = words.trim metric bound input.now stem.now output.now
 
 -- the numbers of a job are in their ranges
 abbrev pub HasRanges : Command → Type 0
 HasRanges (Synth metric bound conflicts input stem) = (bound ≤ LARGEST_ERROR) × (1 ≤ conflicts)
 HasRanges (Check metric bound input stem) = bound ≤ LARGEST_ERROR
 HasRanges (Demo width bound conflicts) = (bound ≤ LARGEST_ERROR) × (1 ≤ conflicts) × (1 ≤ width) × (width ≤ 32)
+HasRanges (Aag input output) = Unit {0}
+HasRanges (Trim metric bound input stem output) = bound ≤ LARGEST_ERROR

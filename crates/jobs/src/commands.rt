@@ -2,12 +2,14 @@
 ghost use Rattle.std.specs.Prelude.{◌≡◌};
 ghost use Rattle.jobs.specs.Run.{RunSays};
 
-use crate::checking::check;
 use crate::demonstration::demonstrate;
 use crate::preparing::Constraint;
 use crate::status::{Outcome, Status, only};
 use crate::synthesis::synthesize;
 use crate::words::{Command, command_named};
+use check_jobs::checking::check;
+use check_jobs::trimming::trim_bundle;
+use conversions::conversion::aag;
 use file_core::files::Files;
 use file_core::sink::Sink;
 use file_core::word::Word;
@@ -56,5 +58,15 @@ pub fn carry_out<F: Files, K: Sink>(
                 conflicts,
             },
         ) => demonstrate(alloc, width, bound, u64::from(conflicts), files, say),
+        Some(Command::Aag { input, output }) => only(aag(alloc, input, output, files)),
+        Some(
+            Command::Trim {
+                metric,
+                bound,
+                input,
+                stem,
+                output,
+            },
+        ) => only(trim_bundle(alloc, metric, bound, input, stem, output, files)),
     }
 }

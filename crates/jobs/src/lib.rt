@@ -3,11 +3,9 @@
 #![tactic(auto)]
 
 mod bundle_names;
-mod checking;
 mod commands;
 mod delivery;
 mod demonstration;
-mod input;
 mod preparing;
 pub mod run;
 mod soundness;

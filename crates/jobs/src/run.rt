@@ -11,7 +11,8 @@ ghost use Rattle.job_semantics.specs.Job.{Job, synth, check, demo, job_of};
 ghost use Rattle.job_semantics.specs.Demo.{demo_net};
 ghost use Rattle.file_core.specs.Sure.{sure_told, sure_sink_told};
 ghost use Rattle.jobs.specs.Status.{told_query};
-ghost use Rattle.jobs.specs.Run.{RunSays, IsQuietJob, EndsAsAsked, IsAnswerTo, IsCheckAnswerTo, IsWorkOf};
+ghost use Rattle.check_jobs.specs.Answers.{IsCheckAnswerTo};
+ghost use Rattle.jobs.specs.Run.{RunSays, IsQuietJob, EndsAsAsked, IsAnswerTo, IsWorkOf};
 
 use crate::commands::carry_out;
 use crate::status::{Outcome, Status};
@@ -82,6 +83,9 @@ pub fn run_surely(
     ensures demo_answers { (width bound conflicts : ℕ)
         → job_of words.now ≡ Some (demo width bound conflicts)
         → IsWorkOf conflicts (input_count (demo_net width)) (told_query result.spent) result.status }
+
+    // Every job ends as the reading of IN and the conflicts ask, unless memory is wanting.
+    ensures complete { (job : Job) → job_of words.now ≡ Some job → EndsAsAsked job (sure_told files.old) result }
 {
     run(alloc, words, files, say)
 }

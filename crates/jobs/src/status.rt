@@ -1,74 +1,8 @@
 //! What a run comes to.
 ghost use Rattle.std.specs.Prelude.{◌≡◌, None};
-ghost use Rattle.jobs.specs.Status.{exit_number};
 
-use blif_text::refusal::BlifRefusal;
-use std::fmt;
+pub use job_answers::status::Status;
 use worst_case::query::Spent;
-
-/// The answer of a run.
-#[derive(Debug, Drop)]
-pub enum Status {
-    /// The files were written and the report was put.
-    Done,
-    /// The files of the bundle are a certificate.
-    Verified,
-    /// The clause of this number, from 1, is the first of a certificate that fails.
-    Refuted(u8),
-    /// The words are no job.
-    Usage,
-    /// The input is refused.
-    Text(BlifRefusal),
-    /// Want of memory.
-    NoMemory,
-    /// The search for the greatest error spent its conflicts.
-    Budget,
-    /// A file that is needed could not be read.
-    ReadFault,
-    /// A file or the report could not be written.
-    WriteFault,
-    /// A file of the bundle goes on past the budget of turns.
-    Endless,
-}
-
-impl Status {
-    /// The exit number of the process.
-    pub fn exit(&self) -> u8
-        ensures { result ≡ exit_number self.now }
-    {
-        match self {
-            Status::Done | Status::Verified => 0,
-            Status::Usage => 1,
-            Status::Text(_) => 2,
-            Status::NoMemory => 3,
-            Status::Budget => 4,
-            Status::ReadFault => 5,
-            Status::WriteFault => 6,
-            Status::Refuted(_) => 7,
-            Status::Endless => 8,
-        }
-    }
-}
-
-/// The line on standard error, without the program's name.
-impl fmt::Display for Status {
-    fn fmt<W: fmt::Write>(&self, f: &mut fmt::Formatter<W>) -> fmt::Result {
-        match self {
-            Status::Done => f.write_str("done"),
-            Status::Verified => f.write_str("verified"),
-            Status::Refuted(number) => write!(f, "refuted by clause {number}"),
-            Status::Endless => f.write_str("input without end"),
-            Status::Usage => f.write_str(
-                "usage: synth METRIC BOUND CONFLICTS IN STEM, check METRIC BOUND IN STEM, or demo WIDTH BOUND CONFLICTS",
-            ),
-            Status::Text(reason) => reason.fmt(f),
-            Status::NoMemory => f.write_str("out of memory"),
-            Status::Budget => f.write_str("conflicts spent"),
-            Status::ReadFault => f.write_str("read fault"),
-            Status::WriteFault => f.write_str("write fault"),
-        }
-    }
-}
 
 /// What a run answers.
 #[derive(Drop)]

@@ -3,10 +3,10 @@ ghost use Rattle.std.specs.Prelude.{◌≤◌};
 ghost use Rattle.jobs.specs.Run.{SynthAnswer};
 
 use crate::delivery::finish;
-use crate::input::{answer_without_net, read_net};
 use crate::preparing::Constraint;
 use crate::status::{Outcome, Status, only};
 use bundle::stem::Stem;
+use conversions::input::read_net;
 use file_core::files::Files;
 use file_core::sink::Sink;
 use semantics::limits::LARGEST_ERROR;
@@ -37,7 +37,7 @@ pub fn synthesize<F: Files, K: Sink>(
 {
     let exact = match read_net(alloc, files, input) {
         Ok(net) => net,
-        Err(reason) => return only(answer_without_net(reason)),
+        Err(answer) => return only(answer),
     };
     let Ok(names) = Stem::new(alloc, stem) else {
         return only(Status::NoMemory);

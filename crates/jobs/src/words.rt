@@ -1,6 +1,7 @@
 //! The words of the command line, and the job that they name.
 ghost use Rattle.std.specs.Prelude.{◌≡◌, option_map, IfSome};
-ghost use Rattle.job_semantics.specs.Job.{job_of, synth_of, check_of, demo_of, metric_of, bound_of, conflicts_of, are_file_words};
+ghost use Rattle.semantics.specs.Texts.{Bytes};
+ghost use Rattle.job_semantics.specs.Job.{Job, job_of, synth_of, check_of, demo_of, conversion_of, trim_of, aag, metric_of, bound_of, conflicts_of, are_file_words, is_output_word, are_trim_words};
 ghost use Rattle.jobs.specs.Words.{job_meaning, HasRanges};
 
 use crate::bundle_names::is_bundle_name;
@@ -9,7 +10,7 @@ use file_core::word::Word;
 use semantics::limits::LARGEST_ERROR;
 use semantics::metric::Metric;
 
-/// A job with its values. `input` and `stem` are names of files.
+/// A job with its values. `input`, `stem` and `output` are names of files.
 #[derive(Clone, Copy, Debug)]
 pub enum Command<'a> {
     Synth {
@@ -29,6 +30,17 @@ pub enum Command<'a> {
         width: u32,
         bound: u128,
         conflicts: u32,
+    },
+    Aag {
+        input: &'a [u8],
+        output: &'a [u8],
+    },
+    Trim {
+        metric: Metric,
+        bound: u128,
+        input: &'a [u8],
+        stem: &'a [u8],
+        output: &'a [u8],
     },
 }
 
@@ -52,6 +64,18 @@ fn are_file_words(input: &[u8], stem: &[u8]) -> bool
     ensures { result ≡ are_file_words input.now stem.now }
 {
     !input.is_empty() && !stem.is_empty() && !is_bundle_name(stem, input)
+}
+
+fn is_output_word(input: &[u8], output: &[u8]) -> bool
+    ensures { result ≡ is_output_word input.now output.now }
+{
+    !output.is_empty() && input != output
+}
+
+fn are_trim_words(input: &[u8], stem: &[u8], output: &[u8]) -> bool
+    ensures { result ≡ are_trim_words input.now stem.now output.now }
+{
+    are_file_words(input, stem) && is_output_word(input, output) && !is_bundle_name(stem, output)
 }
 
 #[tactic(auto, using(crate::proofs::JobWords::number_within))]
@@ -120,6 +144,54 @@ fn demo(words: &[Word]) -> Option<Command<'_>>
     })
 }
 
+/// IN and OUT of a conversion.
+fn conversion(words: &[Word]) -> Option<(&[u8], &[u8])>
+    ensures { (job : Bytes → Bytes → Job) → option_map (λ pair. job pair.0.now pair.1.now) result ≡ conversion_of job words.now }
+{
+    let [input, output] = words else {
+        return None;
+    };
+    let input = input.bytes();
+    let output = output.bytes();
+    if input.is_empty() || !is_output_word(input, output) {
+        return None;
+    }
+    Some((input, output))
+}
+
+fn aag(words: &[Word]) -> Option<Command<'_>>
+    ensures job { option_map job_meaning result ≡ conversion_of aag words.now }
+    ensures ranges { IfSome result HasRanges }
+{
+    let (input, output) = conversion(words)?;
+    Some(Command::Aag { input, output })
+}
+
+#[tactic(auto, using(crate::proofs::JobWords::number_within))]
+fn trim(words: &[Word]) -> Option<Command<'_>>
+    ensures job { option_map job_meaning result ≡ trim_of words.now }
+    ensures ranges { IfSome result HasRanges }
+{
+    let [metric_word, bound_word, input, stem, output] = words else {
+        return None;
+    };
+    let metric = metric(metric_word.bytes())?;
+    let bound = number_from_to(bound_word.bytes(), 0, LARGEST_ERROR)?;
+    let input = input.bytes();
+    let stem = stem.bytes();
+    let output = output.bytes();
+    if !are_trim_words(input, stem, output) {
+        return None;
+    }
+    Some(Command::Trim {
+        metric,
+        bound,
+        input,
+        stem,
+        output,
+    })
+}
+
 /// The job that the words name, if they name one. It takes no memory.
 #[tactic(auto, unfolding(job_semantics::specs::Job::job_of))]
 pub fn command_named(words: &[Word]) -> Option<Command<'_>>
@@ -134,6 +206,10 @@ pub fn command_named(words: &[Word]) -> Option<Command<'_>>
         check(rest)
     } else if command == b"demo".as_slice() {
         demo(rest)
+    } else if command == b"aag".as_slice() {
+        aag(rest)
+    } else if command == b"trim".as_slice() {
+        trim(rest)
     } else {
         None
     }

@@ -9,7 +9,7 @@ use Rattle.semantics.specs.Error.{error_of, net_error}
 use Rattle.lane_bits.specs.Rows.{row_bit, HasNoneSet, IsFirstSet}
 use Rattle.lane_nets.specs.Words.{word_bit, values_at}
 use Rattle.lane_nets.specs.Blocks.{vector_at, row_at, IsBlock}
-use Rattle.lane_nets.specs.Lanes.{lane_at, output_words}
+use Rattle.lane_nets.specs.Lanes.{lane_at, output_words, IsOutputBlock}
 use Rattle.lane_nets.specs.Errors.{IsFirstOver, IsGreatestSoFar}
 use Rattle.lane_nets.proofs.RowBits.{row_bit-word, outputs_from_values}
 use Rattle.lane_nets.proofs.Greatest.{greatest_kept}
@@ -52,6 +52,13 @@ module _ (N : NetValue) (vectors : List (List Bool)) (rows : List (List ℕ)) (k
 
 pub length-output_words : (N : NetValue) (words row : List ℕ) → row ≡ output_words N words → length row ≡ length N.outputs
 length-output_words N words row is = ap length is ∙ length-map N.outputs (slice_index words)
+
+pub output_block_is : (N : NetValue) (vectors : List (List Bool)) (k : ℕ) (words row : List ℕ) → IsSound N → IsBlock N vectors k words → row ≡ output_words N words
+    → IsOutputBlock N vectors k row
+output_block_is N vectors k words row sound block is = record {
+  width = length-output_words N words row is;
+  lanes = λ b low. outputs_lane N N words row b refl is ∙ outputs_from_values N words b (vector_at vectors (64 * k + b)) sound (block.values b low);
+}
 
 -- ---- the errors of a block
 

@@ -18,7 +18,7 @@ use Rattle.lane_nets.proofs.WordBits.{not_bit}
 pub length-lane : (words : List ℕ) (b : ℕ) → length (lane_at words b) ≡ length words
 length-lane words b = length-map words (λ word. word_bit word b)
 
-lane-bit : (words : List ℕ) (b i : ℕ) → i < length words → get_or (lane_at words b) i false ≡ word_bit (get_or words i 0) b
+pub lane-bit : (words : List ℕ) (b i : ℕ) → i < length words → get_or (lane_at words b) i false ≡ word_bit (get_or words i 0) b
 lane-bit words b i low = get_or-map (λ word. word_bit word b) words i 0 false low
 
 -- ---- signs

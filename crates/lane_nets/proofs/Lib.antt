@@ -6,3 +6,5 @@ pub mod FirstOver
 pub mod Evaluating
 pub mod Comparing
 pub mod LaneErrors
+pub mod Counting
+pub mod WideWords

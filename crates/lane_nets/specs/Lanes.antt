@@ -1,5 +1,5 @@
 -- Lists of bits at 64 patterns at a time: one word for each bit of the list, one lane for each pattern. Source: bit-parallel simulation.
-use Rattle.std.specs.Prelude.{◌≡◌, ◌↔◌, ℕ, ◌+◌, ◌*◌, ◌<◌, Bool, List, map, length, slice_index}
+use Rattle.std.specs.Prelude.{◌≡◌, ◌↔◌, ℕ, ◌+◌, ◌*◌, ◌<◌, nat_lt, Bool, List, map, length, slice_index}
 use Rattle.semantics.specs.Net.{NetValue}
 use Rattle.semantics.specs.Value.{outputs_of}
 use Rattle.semantics.specs.Error.{bit_number}
@@ -19,10 +19,19 @@ lane_number word b = bit_number (word_bit word b)
 abbrev pub output_words : NetValue → List ℕ → List ℕ
 output_words N words = map (slice_index words) N.outputs
 
+-- word j tells at lane b whether n is more than j
+abbrev pub HasReached : List ℕ → ℕ → ℕ → Type 0
+HasReached words b n = (j : ℕ) → j < length words → word_bit (slice_index words j) b ≡ nat_lt j n
+
 -- the words in which the comparison of two numbers goes on: their lowest bits are taken off, with what is carried and how they compare
 abbrev pub GoesOn : (low high one : ℕ) → (carry above new_carry new_above : ℕ) → Type 0
 GoesOn low high one carry above new_carry new_above =
     (x y : ℕ) → (low + 2 * x + one + carry < high + 2 * y + above) ↔ (x + new_carry < y + new_above)
+
+-- the words of the net's outputs in block k
+pub record IsOutputBlock (N : NetValue) (vectors : List (List Bool)) (k : ℕ) (words : List ℕ) : Type 0 where
+  pub width : length words ≡ length N.outputs
+  pub lanes : (b : ℕ) → b < 64 → lane_at words b ≡ outputs_of N (vector_at vectors (64 * k + b))
 
 -- the net's outputs at each pattern, in blocks of 64
 pub record AreOutputWordsOf (N : NetValue) (vectors : List (List Bool)) (blocks : List (List ℕ)) : Type 0 where

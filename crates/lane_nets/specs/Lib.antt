@@ -2,3 +2,4 @@ pub mod Words
 pub mod Blocks
 pub mod Errors
 pub mod Lanes
+pub mod Wide

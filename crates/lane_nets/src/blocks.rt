@@ -28,7 +28,7 @@ fn set_inputs(patterns: &Patterns, k: usize, words: &mut [u64])
 }
 
 /// Sets `words` to block k of a net's values.
-pub(crate) fn set_block(net: &Net, patterns: &Patterns, k: usize, words: &mut [u64])
+pub fn set_block(net: &Net, patterns: &Patterns, k: usize, words: &mut [u64])
     requires inputs { patterns.now.inputs ≡ input_count net.now }
     requires within { k < word_count (length patterns.now.vectors) }
     requires room { length words.old ≡ signal_count net.now }
@@ -42,7 +42,12 @@ pub(crate) fn set_block(net: &Net, patterns: &Patterns, k: usize, words: &mut [u
 }
 
 /// Block k of a net's values.
-fn block(alloc: Global, net: &Net, patterns: &Patterns, k: usize) -> Result<WordList, AllocError>
+pub fn block(
+    alloc: Global,
+    net: &Net,
+    patterns: &Patterns,
+    k: usize,
+) -> Result<WordList, AllocError>
     requires inputs { patterns.now.inputs ≡ input_count net.now }
     requires within { k < word_count (length patterns.now.vectors) }
     ensures { IfOk result (IsBlock net.now patterns.now.vectors k) }

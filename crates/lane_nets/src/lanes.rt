@@ -1,9 +1,9 @@
 //! Errors at 64 patterns at a time: outputs are a word each, the first for bit 0 of a number, and lane b has the outputs at pattern b.
 ghost use Rattle.std.specs.Prelude.{◌≡◌, ◌↔◌, ◌+◌, ◌<◌, ◌≤◌, ℕ, false, length, IsTrue};
-ghost use Rattle.semantics.specs.Error.{bit_number, number_of, sign_flipped, distance, error_of};
-ghost use Rattle.semantics.specs.declared.metric.Metric.TheVariants.{Sabs};
+ghost use Rattle.semantics.specs.Error.{bit_number, number_of, sign_flipped, distance, differing, error_of};
+ghost use Rattle.semantics.specs.declared.metric.Metric.TheVariants.{Rel, Sabs};
 ghost use Rattle.lane_nets.specs.Words.{word_bit};
-ghost use Rattle.lane_nets.specs.Lanes.{lane_at, lane_number, GoesOn};
+ghost use Rattle.lane_nets.specs.Lanes.{lane_at, lane_number, HasReached, GoesOn};
 
 use crate::outputs::word_bit;
 use net_errors::error::error;
@@ -125,6 +125,81 @@ pub(crate) fn lane_error(metric: Metric, exact: &[u64], approx: &[u64], b: u32) 
     error(metric, right, outputs)
 }
 
+/// Counts one more output: word j of `reached` tells where more than j outputs differ.
+fn count_differing(reached: &mut [u64], differs: u64)
+    ensures { (b n : ℕ) → b < 64 → HasReached reached.old b n → HasReached reached.new b (n + lane_number differs b) }
+{
+    let mut below = u64::MAX;
+    for j in 0..reached.len() {
+        let before = reached[j];
+        reached[j] = before | (differs & below);
+        below = before;
+    }
+}
+
+/// Where more outputs differ than the level.
+fn differing_word(level: u128, exact: &[u64], approx: &[u64]) -> u64
+    requires same { length exact.now ≡ length approx.now }
+    requires few { length exact.now ≤ MOST_OUTPUTS }
+    ensures { (b : ℕ) → b < 64
+        → IsTrue (word_bit result b) ↔ (level < differing (lane_at exact.now b) (lane_at approx.now b)) }
+{
+    if level >= exact.len() as u128 {
+        return 0;
+    }
+    let mut room = [0; MOST_OUTPUTS];
+    let reached = &mut room[..level as usize + 1];
+    reached.fill(0);
+    for (i, word) in exact.iter().enumerate() {
+        count_differing(reached, *word ^ approx[i]);
+    }
+    reached[level as usize]
+}
+
+/// The number of the outputs at pattern b.
+fn lane_value(words: &[u64], b: u32) -> u64
+    requires pattern { b < 64 }
+    requires few { length words.now ≤ MOST_OUTPUTS }
+    ensures { result ≡ number_of (lane_at words.now b) }
+{
+    let mut number: u64 = 0;
+    for i in 0..words.len() {
+        number = number * 2 + u64::from(word_bit(words[words.len() - 1 - i], b));
+    }
+    number
+}
+
+/// Whether the relative error at pattern b exceeds the level: a quotient that is rounded up exceeds a number exactly where what is
+/// divided exceeds the number's multiple.
+fn is_over_relative(level: u64, exact: &[u64], approx: &[u64], b: u32) -> bool
+    requires pattern { b < 64 }
+    requires same { length exact.now ≡ length approx.now }
+    requires few { length exact.now ≤ MOST_OUTPUTS }
+    ensures { IsTrue result ↔ (level < error_of Rel (lane_at exact.now b) (lane_at approx.now b)) }
+{
+    let whole = lane_value(exact, b);
+    let apart = u128::from(whole.abs_diff(lane_value(approx, b))) * 1_000_000;
+    let most = u128::from(level) * u128::from(whole.max(1));
+    most < apart
+}
+
+/// Where the relative error exceeds the level, found at one pattern after the other where outputs differ.
+fn relative_word(level: u64, exact: &[u64], approx: &[u64]) -> u64
+    requires same { length exact.now ≡ length approx.now }
+    requires few { length exact.now ≤ MOST_OUTPUTS }
+    ensures { (b : ℕ) → b < 64
+        → IsTrue (word_bit result b) ↔ (level < error_of Rel (lane_at exact.now b) (lane_at approx.now b)) }
+{
+    let unequal = unequal_word(exact, approx);
+    let mut over = 0;
+    for b in 0..64 {
+        if word_bit(unequal, b) && is_over_relative(level, exact, approx, b) {
+            over |= 1 << b;
+        }
+    }
+    over
+}
+
 /// Where the error exceeds the level, found at one pattern after the other where outputs differ.
 fn single_errors(metric: Metric, level: u128, exact: &[u64], approx: &[u64]) -> u64
     requires same { length exact.now ≡ length approx.now }
@@ -152,6 +227,10 @@ pub fn over_word(metric: Metric, level: u128, exact: &[u64], approx: &[u64]) -> 
     match metric {
         Metric::Abs => apart_word(exact, approx, level),
         Metric::Sabs => signed_apart_word(exact, approx, level),
-        Metric::Rel | Metric::Ham => single_errors(metric, level, exact, approx),
+        Metric::Rel => match u64::try_from(level) {
+            Ok(level) => relative_word(level, exact, approx),
+            Err(_) => single_errors(metric, level, exact, approx),
+        },
+        Metric::Ham => differing_word(level, exact, approx),
     }
 }

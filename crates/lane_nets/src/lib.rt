@@ -9,5 +9,7 @@ pub mod outputs;
 pub mod reference;
 pub mod trials;
 pub mod values;
+mod wide_blocks;
+mod wide_words;
 pub mod word_list;
 pub mod words;

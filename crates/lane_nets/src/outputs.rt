@@ -2,7 +2,8 @@
 ghost use Rattle.std.specs.Prelude.{◌≡◌, ◌<◌, length, IfOk};
 ghost use Rattle.semantics.specs.Net.{input_count, signal_count};
 ghost use Rattle.lane_nets.specs.Words.{word_bit};
-ghost use Rattle.lane_nets.specs.Lanes.{output_words, AreOutputWordsOf};
+ghost use Rattle.lane_bits.specs.Rows.{word_count};
+ghost use Rattle.lane_nets.specs.Lanes.{output_words, IsOutputBlock, AreOutputWordsOf};
 
 use crate::blocks::set_block;
 use crate::word_list::WordList;
@@ -41,6 +42,23 @@ fn output_row(alloc: Global, net: &Net, words: &[u64]) -> Result<WordList, Alloc
     let mut row = vec![in alloc; 0; net.outputs() as usize]?;
     set_output_words(net, words, &mut row);
     Ok(WordList::of(row))
+}
+
+/// The words of a net's outputs in block k.
+pub fn output_block(
+    alloc: Global,
+    net: &Net,
+    patterns: &Patterns,
+    k: usize,
+) -> Result<WordList, AllocError>
+    requires inputs { patterns.now.inputs ≡ input_count net.now }
+    requires within { k < word_count (length patterns.now.vectors) }
+    ensures { IfOk result (IsOutputBlock net.now patterns.now.vectors k) }
+{
+    let mut room = vec![in alloc; 0; net.signals() as usize]?;
+    let words = room.as_mut_slice();
+    set_block(net, patterns, k, words);
+    output_row(alloc, net, words)
 }
 
 /// The words of a net's outputs at all patterns, in blocks of 64.

@@ -14,6 +14,7 @@ use net_errors::compared::Compared;
 use semantics::metric::Metric;
 use std::alloc::{AllocError, Global};
 use std::marker::Model;
+use std::simd::u64x8;
 
 /// An exact net, a set of patterns, and the words of the net's outputs at them, in blocks of 64.
 #[derive(Drop)]
@@ -60,7 +61,7 @@ impl<'a> Reference<'a> {
         &self.patterns
     }
 
-    /// The first pattern at which the error of a net exceeds the level. It takes memory for one block of the net's values.
+    /// The first pattern at which the error of a net exceeds the level. It takes memory for eight blocks of the net's values.
     pub fn first_over(
         &self,
         alloc: Global,
@@ -71,18 +72,18 @@ impl<'a> Reference<'a> {
         requires { IsCandidate self.now.exact approx.now }
         ensures { IfOk result (FindsFirstOver metric self.now.exact approx.now level self.now.patterns.vectors) }
     {
-        let mut words = vec![in alloc; 0; approx.signals() as usize]?;
+        let mut wides = vec![in alloc; u64x8::splat(0); approx.signals() as usize]?;
         Ok(first_over(
             &Compared::new(self.exact, approx),
             metric,
             level,
             &self.patterns,
             self.outputs.as_slice(),
-            &mut words,
+            &mut wides,
         ))
     }
 
-    /// The greatest error of a net at the patterns, and the first of them that has it. It takes memory for one block of the net's
+    /// The greatest error of a net at the patterns, and the first of them that has it. It takes memory for eight blocks of the net's
     /// values.
     pub fn greatest_error(
         &self,
@@ -95,13 +96,13 @@ impl<'a> Reference<'a> {
         ensures { IfOk result
             (λ g. IsFirstGreatest metric self.now.exact approx.now self.now.patterns.vectors g.error g.at) }
     {
-        let mut words = vec![in alloc; 0; approx.signals() as usize]?;
+        let mut wides = vec![in alloc; u64x8::splat(0); approx.signals() as usize]?;
         Ok(greatest_error(
             &Compared::new(self.exact, approx),
             metric,
             &self.patterns,
             self.outputs.as_slice(),
-            &mut words,
+            &mut wides,
         ))
     }
 }

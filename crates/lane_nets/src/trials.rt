@@ -4,17 +4,19 @@ ghost use Rattle.semantics.specs.Net.{input_count, signal_count};
 ghost use Rattle.semantics.specs.Error.{error_of};
 ghost use Rattle.lane_nets.specs.Words.{word_bit, values_at};
 ghost use Rattle.lane_nets.specs.Lanes.{lane_at, AreOutputWordsOf};
+ghost use Rattle.lane_nets.specs.Wide.{lane_words};
 ghost use Rattle.lane_nets.specs.Errors.{FindsFirstOver, IsFirstGreatest, IsGreatestSoFar};
 
-use crate::blocks::set_block;
 use crate::lanes::{lane_error, over_word};
-use crate::outputs::{set_output_words, word_bit};
+use crate::outputs::word_bit;
+use crate::wide_blocks::{reach_block, set_lane_outputs};
 use crate::word_list::WordList;
 use lane_bits::kernels::first_set;
 use lane_bits::patterns::Patterns;
 use net_errors::compared::Compared;
 use semantics::limits::MOST_OUTPUTS;
 use semantics::metric::Metric;
+use std::simd::u64x8;
 
 /// An error, and the first pattern that has it.
 #[derive(Clone, Copy)]
@@ -23,39 +25,47 @@ pub struct Greatest {
     pub at: u64,
 }
 
-/// Where the error exceeds the level, at the patterns of one block.
-fn block_over(nets: &Compared, metric: Metric, level: u128, exact: &[u64], words: &[u64]) -> u64
+/// Where the error exceeds the level, at the patterns of one of the eight blocks.
+fn block_over(
+    nets: &Compared,
+    metric: Metric,
+    level: u128,
+    exact: &[u64],
+    wides: &[u64x8],
+    j: usize,
+) -> u64
+    requires lane { j < 8 }
     requires exact { length exact.now ≡ length nets.now.exact.outputs }
-    requires words { length words.now ≡ signal_count nets.now.approx }
+    requires wides { length wides.now ≡ signal_count nets.now.approx }
     ensures { (b : ℕ) → b < 64 → IsTrue (word_bit result b)
-        ↔ (level < error_of metric (lane_at exact.now b) (map (values_at words.now b) nets.now.approx.outputs)) }
+        ↔ (level < error_of metric (lane_at exact.now b) (map (values_at (lane_words wides.now j) b) nets.now.approx.outputs)) }
 {
     let mut room = [0; MOST_OUTPUTS];
     let approx = nets.approx();
     let outputs = &mut room[..approx.outputs() as usize];
-    set_output_words(approx, words, outputs);
+    set_lane_outputs(approx, wides, j, outputs);
     over_word(metric, level, exact, outputs)
 }
 
 /// The first pattern whose error exceeds the level, where `outputs` are those of the exact net. The values of the approximate net
-/// are found in `words`, block by block up to that pattern.
+/// are found in `wides`, eight blocks at a time up to that pattern.
 pub(crate) fn first_over(
     nets: &Compared,
     metric: Metric,
     level: u128,
     patterns: &Patterns,
     outputs: &[WordList],
-    words: &mut [u64],
+    wides: &mut [u64x8],
 ) -> Option<u64>
     requires inputs { patterns.now.inputs ≡ input_count nets.now.exact }
     requires outputs { AreOutputWordsOf nets.now.exact patterns.now.vectors outputs.now }
-    requires words { length words.old ≡ signal_count nets.now.approx }
+    requires wides { length wides.old ≡ signal_count nets.now.approx }
     ensures { FindsFirstOver metric nets.now.exact nets.now.approx level patterns.now.vectors result }
 {
     let count = patterns.count();
     for k in 0..outputs.len() {
-        set_block(nets.approx(), patterns, k, words);
-        let over = block_over(nets, metric, level, outputs[k].as_slice(), words);
+        reach_block(nets.approx(), patterns, k, wides);
+        let over = block_over(nets, metric, level, outputs[k].as_slice(), wides, k % 8);
         let from = 64 * k as u64;
         if let Some(b) = first_set(&[over], (count - from).min(64)) {
             return Some(from + b);
@@ -76,28 +86,30 @@ fn greater(so_far: Greatest, error: u128, at: u64) -> Greatest
     }
 }
 
-/// The greatest error up to the first `count` patterns of a block that begins at pattern `from`.
+/// The greatest error up to the first `count` patterns of one of the eight blocks, which begins at pattern `from`.
 fn greatest_in_block(
     nets: &Compared,
     metric: Metric,
     exact: &[u64],
-    words: &[u64],
+    wides: &[u64x8],
+    j: usize,
     from: u64,
     count: u32,
     so_far: Greatest,
 ) -> Greatest
+    requires lane { j < 8 }
     requires exact { length exact.now ≡ length nets.now.exact.outputs }
-    requires words { length words.now ≡ signal_count nets.now.approx }
+    requires wides { length wides.now ≡ signal_count nets.now.approx }
     requires few { count ≤ 64 }
     requires room { from + count < 2 ^ 64 }
     ensures { (f : ℕ → ℕ) → ((b : ℕ) → b < 64 → f (from + b)
-        ≡ error_of metric (lane_at exact.now b) (map (values_at words.now b) nets.now.approx.outputs))
+        ≡ error_of metric (lane_at exact.now b) (map (values_at (lane_words wides.now j) b) nets.now.approx.outputs))
         → IsGreatestSoFar f from so_far.at so_far.error → IsGreatestSoFar f (from + count) result.at result.error }
 {
     let mut room = [0; MOST_OUTPUTS];
     let approx = nets.approx();
     let outputs = &mut room[..approx.outputs() as usize];
-    set_output_words(approx, words, outputs);
+    set_lane_outputs(approx, wides, j, outputs);
     let over = over_word(metric, so_far.error, exact, outputs);
     let mut greatest = so_far;
     for b in 0..count {
@@ -115,25 +127,26 @@ pub(crate) fn greatest_error(
     metric: Metric,
     patterns: &Patterns,
     outputs: &[WordList],
-    words: &mut [u64],
+    wides: &mut [u64x8],
 ) -> Greatest
     requires inputs { patterns.now.inputs ≡ input_count nets.now.exact }
     requires some { 0 < length patterns.now.vectors }
     requires outputs { AreOutputWordsOf nets.now.exact patterns.now.vectors outputs.now }
-    requires words { length words.old ≡ signal_count nets.now.approx }
+    requires wides { length wides.old ≡ signal_count nets.now.approx }
     ensures { IsFirstGreatest metric nets.now.exact nets.now.approx patterns.now.vectors result.error result.at }
 {
     let count = patterns.count();
     let mut greatest = Greatest { error: 0, at: 0 };
     for k in 0..outputs.len() {
-        set_block(nets.approx(), patterns, k, words);
+        reach_block(nets.approx(), patterns, k, wides);
         let from = 64 * k as u64;
         let used = (count - from).min(64) as u32;
         greatest = greatest_in_block(
             nets,
             metric,
             outputs[k].as_slice(),
-            words,
+            wides,
+            k % 8,
             from,
             used,
             greatest,

@@ -1,6 +1,7 @@
 //! Words in memory of their own: a block's, one for each signal, or a row's, one for each 64 patterns.
-ghost use Rattle.std.specs.Prelude.{◌≡◌};
+ghost use Rattle.std.specs.Prelude.{◌≡◌, [], ◌∷◌, ◌++◌, length, take, OnOk, OnErr};
 
+use std::alloc::{AllocError, Global};
 use std::marker::Model;
 
 /// A list of words.
@@ -18,6 +19,15 @@ impl Model for WordList {
 }
 
 impl WordList {
+    /// The list without words, which takes no memory.
+    pub fn new(alloc: Global) -> WordList
+        ensures { result ≡ [] }
+    {
+        WordList {
+            words: Vec::new(alloc),
+        }
+    }
+
     pub fn of(words: Vec<u64>) -> WordList
         ensures { result ≡ words.items }
     {
@@ -28,5 +38,27 @@ impl WordList {
         ensures { result.now ≡ self.now }
     {
         self.words.as_slice()
+    }
+
+    pub fn len(&self) -> usize
+        ensures { result ≡ length self.now }
+    {
+        self.words.len()
+    }
+
+    /// Adds a word at the end.
+    pub fn push(&mut self, word: u64) -> Result<(), AllocError>
+        ensures ok { OnOk result (self.new ≡ self.old ++ word ∷ []) }
+        ensures err { OnErr result (self.new ≡ self.old) }
+    {
+        self.words.push(word)?;
+        Ok(())
+    }
+
+    /// Keeps the first words alone.
+    pub fn truncate(&mut self, count: usize)
+        ensures { self.new ≡ take count self.old }
+    {
+        self.words.truncate(count);
     }
 }

@@ -1,2 +1,5 @@
 pub mod Checker
 pub mod Found
+pub mod Marks
+pub mod SetStanding
+pub mod HeldEntries

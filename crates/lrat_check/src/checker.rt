@@ -1,26 +1,29 @@
 //! The checker of steps. Source: LRAT with positive hints.
-ghost use Rattle.std.specs.Prelude.{◌≡◌, ◌⊎◌, ◌↔◌, true, [], ◌∷◌, ◌++◌, List, Some, IfOk, OnOk, OnErr};
+ghost use Rattle.std.specs.Prelude.{◌≡◌, ◌⊎◌, ◌↔◌, ◌<◌, length, true, [], ◌∷◌, ◌++◌, List, Some, IfOk, OnOk, OnErr};
 ghost use Rattle.proof_semantics.specs.declared.item.Item.TheVariants.{Add, Remove};
 ghost use Rattle.proof_semantics.specs.Clauses.{Clause, IsUnsatisfiable};
 ghost use Rattle.proof_semantics.specs.Logs.{LogItem, held_of, step_answer, last_added};
 ghost use Rattle.lrat_check.specs.Checker.{start_of, stepped, removed, StandsAfter};
 
 use crate::held_clauses::HeldClauses;
-use crate::hints::{follow, negations};
-use cnf_core::clause::Lits;
-use cnf_core::cnf::Cnf;
-use cnf_core::log::{Ids, Step};
+use crate::hints::{follow, insert_negations};
+use crate::literal_set::LiteralSet;
+use proof_parts::clause::Lits;
+use proof_parts::cnf::Cnf;
+use proof_parts::log::{Ids, Step};
 use proof_semantics::step_refusal::StepRefusal;
 use std::alloc::{AllocError, Global};
 use std::marker::Model;
 
-/// What was accepted so far. Its memory goes with the clauses that are held, however far apart their ids are. A step
-/// needs a set of literals besides, and finds each hint in time logarithmic in the number of held clauses.
+/// What was accepted so far. Its memory goes with the clauses that are held, however far apart their ids are, and with the
+/// formula's variables. A step uses one set of literals again and again, and finds each hint in time logarithmic in the number of held
+/// clauses.
 #[derive(Drop)]
 pub struct Checker {
     alloc: Global,
     held: HeldClauses,
-    last: u64,
+    /// What a step takes for true; each step empties it first.
+    set: LiteralSet,
     done: bool,
 }
 
@@ -31,12 +34,12 @@ impl Model for Checker {
 
     ghost coded = { checker_code };
 
-    ghost view = { λ a. record { held = a.held; last = a.last; done = a.done } };
+    ghost view = { λ a. record { held = a.held.held; last = a.held.last; done = a.done } };
 }
 
 /// Holds the clauses with the ids from 1 on.
 fn hold_all(alloc: Global, clauses: &[Lits]) -> Result<HeldClauses, AllocError>
-    ensures { IfOk result (λ held. held ≡ held_of clauses.now) }
+    ensures { IfOk result (λ held. held ≡ record { held = held_of clauses.now; last = length clauses.now }) }
 {
     let mut held = HeldClauses::new(alloc);
     for (i, clause) in clauses.iter().enumerate() {
@@ -48,6 +51,7 @@ fn hold_all(alloc: Global, clauses: &[Lits]) -> Result<HeldClauses, AllocError>
 impl Checker {
     /// Holds the clause of an accepted step.
     fn hold(&mut self, s: &Step) -> Result<(), StepRefusal>
+        requires { self.old.last < s.now.id }
         ensures answer { (result ≡ Err StepRefusal.OutOfMemory) ⊎ (result ≡ Ok tt) }
         ensures ok { OnOk result (self.new ≡ stepped self.old s.now) }
         ensures err { OnErr result (self.new ≡ self.old) }
@@ -60,7 +64,6 @@ impl Checker {
             Ok(()) => {}
             Err(_) => return Err(StepRefusal::OutOfMemory),
         }
-        self.last = s.id();
         self.done = literals.is_empty();
         Ok(())
     }
@@ -74,7 +77,7 @@ impl Checker {
         Ok(Checker {
             alloc,
             held: hold_all(alloc, clauses)?,
-            last: clauses.len() as u64,
+            set: LiteralSet::new(alloc, cnf.vars())?,
             done: false,
         })
     }
@@ -88,15 +91,16 @@ impl Checker {
             → StandsAfter formula log self.old → StandsAfter formula (log ++ Add s.now ∷ []) self.new) }
         ensures err { OnErr result (self.new ≡ self.old) }
     {
-        if s.id() <= self.last {
+        if s.id() <= self.held.last() {
             return Err(StepRefusal::NotRising(s.id()));
         }
         let literals = s.lits().as_slice();
-        let mut set = match negations(self.alloc, literals) {
-            Ok(set) => set,
+        self.set.clear();
+        match insert_negations(&mut self.set, literals) {
+            Ok(()) => {}
             Err(_) => return Err(StepRefusal::OutOfMemory),
-        };
-        follow(&self.held, &mut set, s.hints().as_slice())?;
+        }
+        follow(&self.held, &mut self.set, s.hints().as_slice())?;
         self.hold(s)
     }
 

@@ -1,26 +1,24 @@
 //! Unit propagation along hints. Source: LRAT with positive hints.
-ghost use Rattle.std.specs.Prelude.{◌≡◌, ◌⊎◌, IfOk, IfSome};
+ghost use Rattle.std.specs.Prelude.{◌≡◌, ◌⊎◌, IfOk, IfSome, OnOk};
 ghost use Rattle.std.specs.FinMap.{get};
-ghost use Rattle.std.specs.FinSet as set;
 ghost use Rattle.proof_semantics.specs.Logs.{with_negations, open_literals, hint_answer, hints_answer};
-ghost use Rattle.cnf_core.specs.Literals.{IsLiteral, AreLiterals};
+ghost use Rattle.proof_parts.specs.Literals.{IsLiteral, AreLiterals};
 
 use crate::held_clauses::HeldClauses;
 use crate::literal_set::{LiteralSet, negation};
-use cnf_core::literal::Literal;
+use proof_parts::literal::Literal;
 use proof_semantics::step_refusal::StepRefusal;
-use std::alloc::{AllocError, Global};
+use std::alloc::AllocError;
 
-/// The set of the negations of the literals.
-pub fn negations(alloc: Global, literals: &[Literal]) -> Result<LiteralSet, AllocError>
+/// Puts the negations of the literals into the set.
+pub fn insert_negations(set: &mut LiteralSet, literals: &[Literal]) -> Result<(), AllocError>
     requires { AreLiterals literals.now }
-    ensures { IfOk result (λ negations. negations ≡ with_negations set.empty literals.now) }
+    ensures { OnOk result (set.new ≡ with_negations set.old literals.now) }
 {
-    let mut negations = LiteralSet::new(alloc);
     for literal in literals {
-        negations.insert(negation(*literal))?;
+        set.insert(negation(*literal))?;
     }
-    Ok(negations)
+    Ok(())
 }
 
 /// What a clause gives as a hint, given the set so far.
@@ -62,7 +60,7 @@ fn hint_gives(
 
 /// Takes the hints in order; the literal that each gives joins the set.
 pub fn follow(held: &HeldClauses, set: &mut LiteralSet, hints: &[u64]) -> Result<(), StepRefusal>
-    ensures { (result ≡ Err StepRefusal.OutOfMemory) ⊎ (result ≡ hints_answer (get held.now) set.old hints.now) }
+    ensures { (result ≡ Err StepRefusal.OutOfMemory) ⊎ (result ≡ hints_answer (get held.now.held) set.old hints.now) }
 {
     for (i, hint) in hints.iter().enumerate() {
         let last = i + 1 == hints.len();

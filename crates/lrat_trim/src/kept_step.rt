@@ -6,8 +6,8 @@ ghost use Rattle.trim_semantics.specs.Trimming.{has_id};
 ghost use Rattle.lrat_trim.specs.Backwards.{is_in, AreFresh, Visited};
 
 use crate::named_ids::{fresh_ids, name_all};
-use cnf_core::clause::Lits;
-use cnf_core::log::{Ids, Item, Step};
+use proof_parts::clause::Lits;
+use proof_parts::log::{Ids, Item, Step};
 use std::alloc::{AllocError, Global};
 use std::collections::HashSet;
 

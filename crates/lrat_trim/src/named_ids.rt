@@ -3,7 +3,7 @@ ghost use Rattle.std.specs.Prelude.{◌≡◌, ◌||◌, ℕ, IfOk, OnOk, filter
 ghost use Rattle.trim_semantics.specs.Trimming.{has_id};
 ghost use Rattle.lrat_trim.specs.Backwards.{is_in, is_fresh, AreFresh};
 
-use cnf_core::log::Ids;
+use proof_parts::log::Ids;
 use std::alloc::{AllocError, Global};
 use std::collections::HashSet;
 

@@ -2,7 +2,7 @@
 ghost use Rattle.std.specs.Prelude.{◌≡◌, position};
 ghost use Rattle.lrat_trim.specs.Backwards.{adds_empty_clause};
 
-use cnf_core::log::Item;
+use proof_parts::log::Item;
 
 fn adds_empty_clause(item: &Item) -> bool
     ensures { result ≡ adds_empty_clause item.now }

@@ -7,8 +7,8 @@ ghost use Rattle.lrat_trim.specs.Backwards.{adds_empty_clause};
 
 use crate::kept_step::{keep, visit};
 use crate::root::root_place;
-use cnf_core::cnf::Cnf;
-use cnf_core::log::{Item, Log};
+use proof_parts::cnf::Cnf;
+use proof_parts::log::{Item, Log};
 use std::alloc::{AllocError, Global};
 use std::collections::HashSet;
 

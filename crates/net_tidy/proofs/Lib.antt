@@ -7,3 +7,4 @@ pub mod Likeness
 pub mod Fixing
 pub mod Passing
 pub mod Tidied
+pub mod Marking

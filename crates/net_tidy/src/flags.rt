@@ -1,6 +1,6 @@
 //! A flag for each table, which is raised where a rule may apply.
 ghost use Rattle.std.specs.Prelude.{◌≡◌, ◌≢◌, ◌<◌, ◌^◌, ◌+◌, ℕ, true, false, not, length, replicate, slice_index_or, slice_set, All, IfOk};
-ghost use Rattle.std.specs.List.{remove};
+ghost use Rattle.std.specs.List.{list_any, remove};
 ghost use Rattle.semantics.specs.Net.{table_at};
 ghost use Rattle.chain_semantics.specs.TidyRules.{has};
 ghost use Rattle.net_tidy.specs.Flags.{IsDown, IsLeft};
@@ -39,6 +39,13 @@ impl Flags {
         ensures { result ≡ slice_index_or self.now t true }
     {
         self.flags[t as usize]
+    }
+
+    /// Whether some flag is raised.
+    pub(crate) fn has_raised(&self) -> bool
+        ensures { result ≡ list_any (λ flag. flag) self.now }
+    {
+        self.flags.iter().any(|flag| *flag)
     }
 
     pub(crate) fn take_down(&mut self, t: u32)

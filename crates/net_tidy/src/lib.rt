@@ -1,6 +1,7 @@
 //! Tidying of nets.
 #![tactic(auto)]
 
+mod first_flags;
 mod flags;
 mod marks;
 mod net_draft;

@@ -10,7 +10,7 @@ ghost use Rattle.chain_semantics.specs.TidyRules.{has, mark_at, clash, pin_at, i
 ghost use Rattle.chain_semantics.specs.Tidy.{IsTidy};
 ghost use Rattle.net_core.specs.Built.{IsBuilt};
 ghost use Rattle.net_tidy.specs.Rule.{rule_at, made_by};
-ghost use Rattle.net_tidy.specs.Flags.{IsFirstRule};
+ghost use Rattle.net_tidy.specs.Flags.{IsFirstRule, IsFlagged};
 
 use crate::flags::Flags;
 use crate::rule::Rule;
@@ -131,17 +131,20 @@ fn lower_tables(tables: &mut [TableDraft], gone: Signal)
 }
 
 impl NetDraft {
-    /// A copy of a net, with all flags raised.
-    pub(crate) fn from_net(alloc: Global, net: &Net) -> Result<NetDraft, AllocError>
+    /// A copy of a net, with these flags.
+    pub(crate) fn from_net(alloc: Global, net: &Net, flags: Flags) -> Result<NetDraft, AllocError>
+        requires { IsFlagged net.now flags }
         ensures ok { IfOk result (λ d. d ≡ net.now) }
         ensures built { OnOk result (IsBuilt net.now) }
     {
+        // A net is sound by its type: the call brings that fact here.
+        let _ = net.tables();
         Ok(NetDraft {
             model: net.model().copy()?,
             inputs: Items::from_slice(alloc, net.input_names())?,
             tables: copied_tables(alloc, net)?,
             outputs: Vec::from_slice(alloc, net.output_signals())?,
-            flags: Flags::raised(alloc, net.tables() as usize)?,
+            flags,
         })
     }
 

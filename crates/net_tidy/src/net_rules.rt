@@ -44,7 +44,7 @@ fn is_constant_signal(net: &Net, s: Signal) -> bool
 }
 
 /// The first pin of a table that reads a table without pins.
-fn constant_pin(net: &Net, table: &Table) -> Option<usize>
+pub(crate) fn constant_pin(net: &Net, table: &Table) -> Option<usize>
     requires { All (λ s. s < signal_count net.now) table.now.pins }
     ensures { result ≡ constant_pin (input_count net.now) net.now.tables table.now }
 {

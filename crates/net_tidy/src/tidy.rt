@@ -1,21 +1,38 @@
 //! Tidying, and whether it is needed.
 ghost use Rattle.std.specs.Prelude.{◌↔◌, IsTrue, IfOk};
 ghost use Rattle.chain_semantics.specs.Tidy.{IsTidy, IsTidiedFrom};
+ghost use Rattle.net_tidy.specs.Flags.{IsFlagged};
 
+use crate::first_flags::first_flags;
+use crate::flags::Flags;
 use crate::net_draft::NetDraft;
 use crate::net_rules::rule_at;
 use net_core::net::Net;
 use std::alloc::{AllocError, Global};
 
-/// The net after all steps of tidying. What it keeps of the net follows from the laws about tidying.
-pub fn tidy(alloc: Global, net: Net) -> Result<Net, AllocError>
-    ensures { IfOk result (λ n. IsTidiedFrom net n) }
+/// The net after all steps of tidying, where these tables have a rule at the start.
+fn apply_rules(alloc: Global, net: &Net, flags: Flags) -> Result<Net, AllocError>
+    requires { IsFlagged net.now flags }
+    ensures { IfOk result (λ n. IsTidiedFrom net.now n) }
 {
-    let mut draft = NetDraft::from_net(alloc, &net)?;
+    let mut draft = NetDraft::from_net(alloc, net, flags)?;
     while let Some((t, rule)) = draft.first_rule() {
         draft.apply(t, rule);
     }
     draft.into_net()
+}
+
+/// The net after all steps of tidying. What it keeps of the net follows from the laws about tidying. A net of which no table has a rule
+/// is not copied.
+pub fn tidy(alloc: Global, net: Net) -> Result<Net, AllocError>
+    ensures { IfOk result (λ n. IsTidiedFrom net n) }
+{
+    let flags = first_flags(alloc, &net)?;
+    if flags.has_raised() {
+        apply_rules(alloc, &net, flags)
+    } else {
+        Ok(net)
+    }
 }
 
 /// Whether no rule applies to a net. It takes no memory.

@@ -17,3 +17,4 @@ pub mod OpenLiterals
 pub mod Conflicts
 pub mod LratDerivations
 pub mod LratRefusals
+pub mod Alike

@@ -16,5 +16,9 @@ pub mod LratExamples
 pub mod Conflicts
 pub mod ConflictLaws
 pub mod ConflictExamples
+pub mod Alike
+pub mod AlikeLaws
+pub mod AlikeExamples
+pub mod Merges
 pub mod Queries
 pub mod QueryExamples

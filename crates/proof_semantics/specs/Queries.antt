@@ -1,14 +1,16 @@
 -- Queries whether some input's error exceeds a level, and what their three answers must be. Source: SALSA's queries on the quality
 -- function circuit, here answered by a witness, by a refutation, or by the conflicts that were spent.
-use Rattle.std.specs.Prelude.{◌≡◌, ℕ, ◌<◌, ◌≤◌, Bool, List, length}
+use Rattle.std.specs.Prelude.{◌≡◌, ℕ, ◌<◌, ◌≤◌, Bool, List, take, length}
 use Rattle.semantics.specs.Net.{NetValue, input_count}
 use Rattle.semantics.specs.declared.metric.Metric.{Metric}
-use Rattle.semantics.specs.declared.limits.TheConstants.{FEW_INPUTS}
+use Rattle.semantics.specs.declared.limits.TheConstants.{FEW_INPUTS, TRIED_INPUTS}
 use Rattle.semantics.specs.Error.{number_of, net_error, IsWithin}
 use Rattle.semantics.specs.Vectors.{IsFirstGreatestAt}
+use Rattle.quality_semantics.specs.Joint.{joint_net}
 use Rattle.proof_semantics.specs.Logs.{LogItem, Refutes, IsDerivation}
 use Rattle.proof_semantics.specs.Miter.{miter}
 use Rattle.proof_semantics.specs.Conflicts.{IsConflictChain, IsEnough}
+use Rattle.proof_semantics.specs.Merges.{IsMergeLog, BeginsWithMerges}
 
 -- an input vector whose error exceeds the level; with few inputs the first in counting order
 pub record IsOver (metric : Metric) (exact approx : NetValue) (k : ℕ) (x : List Bool) : Type 0 where
@@ -16,11 +18,13 @@ pub record IsOver (metric : Metric) (exact approx : NetValue) (k : ℕ) (x : Lis
   pub exceeds : k < net_error metric exact approx x
   pub first : input_count exact ≤ FEW_INPUTS → (y : List Bool) → length y ≡ input_count exact → number_of y < number_of x → net_error metric exact approx y ≤ k
 
--- the log refutes the miter, so no input's error exceeds the level
+-- The log refutes the miter, so no input's error exceeds the level. Where the inputs are too many to be answered by all cases it begins with the
+-- merges of the joint net.
 pub record IsNever (metric : Metric) (exact approx : NetValue) (k : ℕ) (log : List LogItem) : Type 0 where
   pub refutes : Refutes (miter exact approx metric k).clauses log
   pub derivation : IsDerivation (miter exact approx metric k) log
   pub within : IsWithin metric exact k approx
+  pub merged : TRIED_INPUTS < input_count exact → BeginsWithMerges (joint_net exact approx metric k) log
 
 -- a query that ended without an answer: the approximate net, the level, how many steps were merged, and the log
 pub record SpentValue : Type 0 where
@@ -29,11 +33,11 @@ pub record SpentValue : Type 0 where
   pub merged : ℕ
   pub log : List LogItem
 
--- The limit is not enough for the inputs, and the log has spent it: exactly so many conflicts over the miter after the merged steps, of
--- which there are none so far.
+-- The limit is not enough for the inputs, and the log has spent it: it begins with the merges of the joint net, and behind these come exactly so
+-- many conflicts over the miter.
 pub record IsSpentQuery (metric : Metric) (exact : NetValue) (limit : ℕ) (s : SpentValue) : Type 0 where
   pub not_enough : ¬ IsEnough limit (input_count exact)
-  pub merged : s.merged ≡ 0
+  pub merged : IsMergeLog (joint_net exact s.net metric s.k) (take s.merged s.log)
   pub chain : IsConflictChain (miter exact s.net metric s.k) s.merged limit s.log
 
 -- The greatest error over all inputs, an input that has it, and a log that refutes the miter at it; with few inputs the input is the first in

@@ -2,6 +2,8 @@
 //! definitions and code share.
 #![tactic(auto)]
 
+pub mod alike_examples;
+pub mod alike_laws;
 pub mod conflict_examples;
 pub mod conflict_laws;
 pub mod examples;

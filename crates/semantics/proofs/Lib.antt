@@ -10,6 +10,7 @@ pub mod Copied
 pub mod Renamed
 pub mod Without
 pub mod Refused
+pub mod FirstFound
 pub mod RefusalOrder
 pub mod Vectors
 pub mod Signed

@@ -1,19 +1,19 @@
 -- Which refusal of parts is told.
-use Rattle.std.proofs.Common.{◌≡◌, ◌≢◌, ℕ, zero, suc, ◌+◌, ◌<◌, ◌⊎◌, inl, inr, Bool, true, false, cond, not, ltb, leb, eqb, List, [], ◌∷◌, ◌++◌, length, take, get_or, slice_get, find, AllPairs, Option, Some, None, Decides, refl, ap, sym, subst, ◌∙◌, append_assoc, arith}
-use Rattle.std.specs.List.{list_all, Contains}
-use Rattle.std.proofs.lemmas.Bool.{cases_eq, not-false, eqb-true, eqb-false, ltb-true, ltb-false, le-leb, leb-true}
+use Rattle.std.proofs.Common.{◌≡◌, ◌≢◌, ◌↔◌, ℕ, zero, suc, ◌+◌, ◌<◌, ◌⊎◌, inl, inr, Bool, true, false, cond, not, ltb, leb, eqb, List, [], ◌∷◌, ◌++◌, length, find, All, AllPairs, Option, Some, None, Decides, refl, ap, sym, subst, ◌∙◌, arith}
+use Rattle.std.specs.List.{list_all}
+use Rattle.std.proofs.lemmas.Bool.{cases_eq, not-false, eqb-true, eqb-false, eq-eqb, ne_eqb, ltb-true, ltb-false, lt-ltb, le-leb, leb-true, false_from_ne_true}
 use Rattle.std.proofs.lemmas.Bool.Decides.{not_from_Decides}
-use Rattle.std.proofs.lemmas.List.Quantifiers.{all_pairs_push}
+use Rattle.std.proofs.lemmas.List.Elements.{All-weaker, recursion_from_All, All-from_recursion}
 use Rattle.std.proofs.lemmas.Option.{none-some, same_Some}
-use Rattle.std.proofs.Math.Seq.{take-append_seam}
 use Rattle.semantics.specs.declared.which.Which.{Which}
 use Rattle.semantics.specs.declared.which.Which.TheVariants.{Inputs, Outputs, Tables, Pins, AllPins, Rows}
 use Rattle.semantics.specs.declared.limits.TheConstants.{MOST_INPUTS, MOST_OUTPUTS, MOST_TABLES, MOST_TABLE_PINS, MOST_PINS, MOST_ROWS}
 use Rattle.semantics.specs.Texts.{Bytes}
 use Rattle.semantics.specs.Net.{NetValue, input_count, signal_count, signal_names, pin_count, row_count}
-use Rattle.semantics.specs.Refusals.{NetRefused, doubled, no_output, undriven, cycle, limit, has_name, first_doubled_after, first_doubled, signals_read, first_undriven, first_ungrounded, first_limit, or_else, net_refusal}
+use Rattle.semantics.specs.Refusals.{NetRefused, doubled, no_output, undriven, cycle, limit, first_doubled, signals_read, first_undriven, first_ungrounded, first_limit, or_else, net_refusal}
 use Rattle.semantics.specs.RefusalOrder.{IsKept, limit_place, IsFirstPassed, IsFirstDoubled, IsFirstUndriven, IsDriven, IsTold}
-use Rattle.semantics.proofs.Refused.{Decides-has_name, apart_from, Decides-narrow, undoubled, driven, grounded, ungrounded}
+use Rattle.semantics.proofs.FirstFound.{first_doubled-first, first_found, found_first}
+use Rattle.semantics.proofs.Refused.{Decides-narrow, undoubled, differ-undoubled, driven, signals-driven, grounded, acyclic-grounded, ungrounded, first-ungrounded}
 
 -- ---- answers
 
@@ -112,66 +112,66 @@ first_passed N r e =
       ]
     ]
 
--- ---- doubled names
+-- one limit that is kept, and then the rest; one that is passed
+limit_then : (N : NetValue) (w : Which) (rest goal : Option Which) → IsKept N w → rest ≡ goal → cond (not (is_kept N w)) (Some w) rest ≡ goal
+limit_then N w rest goal kept e = ap (λ t. cond (not t) (Some w) rest) ((Decides-kept N w).1 kept) ∙ e
 
-slice_get-seam : (front : List Bytes) (name : Bytes) (rest : List Bytes) → slice_get (front ++ name ∷ rest) (length front) ≡ Some name
-slice_get-seam [] name rest = refl
-slice_get-seam (x ∷ front) name rest = slice_get-seam front name rest
+limit_is : (N : NetValue) (w : Which) (rest : Option Which) → (¬ IsKept N w) → cond (not (is_kept N w)) (Some w) rest ≡ Some w
+limit_is N w rest over = ap (λ t. cond (not t) (Some w) rest) (false_from_ne_true (is_kept N w) (λ t. over ((Decides-kept N w).0 t)))
 
-doubled_after : (earlier names : List Bytes) (r : Bytes) → AllPairs ◌≢◌ earlier → first_doubled_after earlier names ≡ Some r → IsFirstDoubled (earlier ++ names) r
-doubled_after earlier [] r differ e = absurd (none-some r e)
-doubled_after earlier (name ∷ names) r differ e =
-    elim (told_if (has_name earlier name) name (first_doubled_after (earlier ++ name ∷ []) names) r e) [
-      | inl h ↦
-          let front : take (length earlier) (earlier ++ name ∷ names) ≡ earlier = take-append_seam earlier (name ∷ names) in
-          let found = (Decides-has_name earlier name).0 h.0 in
-          subst (IsFirstDoubled (earlier ++ name ∷ names)) h.1
-          (record {
-            at = length earlier;
-            is = slice_get-seam earlier name names;
-            again = subst (λ xs. Contains xs name) (sym front) (found.0, found.1, sym (found.2 name));
-            differ = subst (AllPairs ◌≢◌) (sym front) differ;
-          })
-      | inr h ↦ subst (λ all. IsFirstDoubled all r) (append_assoc earlier (name ∷ []) names)
-          (doubled_after (earlier ++ name ∷ []) names r (all_pairs_push ◌≢◌ earlier name differ (apart_from earlier name h.0)) h.1)
-    ]
-
-pub first-doubled : (names : List Bytes) (r : Bytes) → first_doubled names ≡ Some r → IsFirstDoubled names r
-first-doubled names r e = doubled_after [] names r (λ i j d low short. absurd (omega arith)) e
+pub passed_first : (N : NetValue) (w : Which) → IsFirstPassed N w → first_limit N ≡ Some w
+passed_first N Inputs h = limit_is N Inputs _ h.over
+passed_first N Outputs h = limit_then N Inputs _ _ (h.before Inputs (omega arith)) (limit_is N Outputs _ h.over)
+passed_first N Tables h =
+    limit_then N Inputs _ _ (h.before Inputs (omega arith))
+    (limit_then N Outputs _ _ (h.before Outputs (omega arith))
+    (limit_is N Tables _ h.over))
+passed_first N Pins h =
+    limit_then N Inputs _ _ (h.before Inputs (omega arith))
+    (limit_then N Outputs _ _ (h.before Outputs (omega arith))
+    (limit_then N Tables _ _ (h.before Tables (omega arith))
+    (limit_is N Pins _ h.over)))
+passed_first N AllPins h =
+    limit_then N Inputs _ _ (h.before Inputs (omega arith))
+    (limit_then N Outputs _ _ (h.before Outputs (omega arith))
+    (limit_then N Tables _ _ (h.before Tables (omega arith))
+    (limit_then N Pins _ _ (h.before Pins (omega arith))
+    (limit_is N AllPins _ h.over))))
+passed_first N Rows h =
+    limit_then N Inputs _ _ (h.before Inputs (omega arith))
+    (limit_then N Outputs _ _ (h.before Outputs (omega arith))
+    (limit_then N Tables _ _ (h.before Tables (omega arith))
+    (limit_then N Pins _ _ (h.before Pins (omega arith))
+    (limit_then N AllPins _ _ (h.before AllPins (omega arith))
+    (limit_is N Rows _ h.over)))))
 
 -- ---- what is read and is no signal
 
-record IsFirstFound (p : ℕ → Bool) (xs : List ℕ) (s : ℕ) : Type 0 where
-  at : ℕ
-  is : slice_get xs at ≡ Some s
-  passes : p s ≡ true
-  before : (j : ℕ) → j < at → p (get_or xs j 0) ≡ false
+abbrev is_no_signal : NetValue → ℕ → Bool
+is_no_signal N s = not (ltb s (signal_count N))
 
-before_more : (p : ℕ → Bool) (x : ℕ) (xs : List ℕ) (at : ℕ) → p x ≡ false → ((j : ℕ) → j < at → p (get_or xs j 0) ≡ false)
-    → (j : ℕ) → j < suc at → p (get_or (x ∷ xs) j 0) ≡ false
-before_more p x xs at here rest zero low = here
-before_more p x xs at here rest (suc j) low = rest j (omega (arith, low))
+signal_before : (N : NetValue) (s : ℕ) → is_no_signal N s ≡ false → s < signal_count N
+signal_before N s e = ltb-true s (signal_count N) (not-false (ltb s (signal_count N)) e)
 
-first_found : (p : ℕ → Bool) (xs : List ℕ) (s : ℕ) → find p xs ≡ Some s → IsFirstFound p xs s
-first_found p [] s e = absurd (none-some s e)
-first_found p (x ∷ xs) s e =
-    elim (told_if (p x) x (find p xs) s e) [
-      | inl h ↦ record { at = 0; is = ap Some h.1; passes = subst (λ y. p y ≡ true) h.1 h.0; before = λ j low. absurd (omega (arith, low)) }
-      | inr h ↦
-          let rest = first_found p xs s h.1 in
-          record { at = suc rest.at; is = rest.is; passes = rest.passes; before = before_more p x xs rest.at h.0 rest.before }
-    ]
+no_signal_there : (N : NetValue) (s : ℕ) → s < signal_count N → is_no_signal N s ≡ false
+no_signal_there N s low = ap not (lt-ltb s (signal_count N) low)
 
-pub first-undriven : (N : NetValue) (s : ℕ) → first_undriven N ≡ Some s → IsFirstUndriven N s
-first-undriven N s e =
-    let bound : ℕ = signal_count N in
-    let found = first_found (λ r. not (ltb r bound)) (signals_read N) s e in
-    record {
-      at = found.at;
-      is = found.is;
-      no_signal = λ low. let past = ltb-false s bound (not-true (ltb s bound) found.passes) in omega (arith, past, low);
-      before = λ j low. ltb-true (get_or (signals_read N) j 0) bound (not-false (ltb (get_or (signals_read N) j 0) bound) (found.before j low));
-    }
+pub first-undriven : (N : NetValue) (s : ℕ) → (first_undriven N ≡ Some s) ↔ IsFirstUndriven N s
+first-undriven N s = (
+  λ e.
+      let found = first_found (is_no_signal N) (signals_read N) s e in
+      record {
+        before = found.before;
+        after = found.after;
+        split = found.split;
+        driven = All-weaker (λ r. is_no_signal N r ≡ false) (λ r. r < signal_count N) (signal_before N) found.before (All-from_recursion (λ r. is_no_signal N r ≡ false) found.before found.fail);
+        no_signal = λ low. let past = ltb-false s (signal_count N) (not-true (ltb s (signal_count N)) found.passes) in omega (arith, past, low);
+      },
+  λ h. ap (find (is_no_signal N)) h.split
+      ∙ found_first (is_no_signal N) h.before s h.after
+      (recursion_from_All (λ r. is_no_signal N r ≡ false) h.before (All-weaker (λ r. r < signal_count N) (λ r. is_no_signal N r ≡ false) (no_signal_there N) h.before h.driven))
+      (ap not (false_from_ne_true (ltb s (signal_count N)) (λ t. h.no_signal (ltb-true s (signal_count N) t)))),
+)
 
 -- ---- the whole
 
@@ -183,7 +183,7 @@ pub refusal_told : (N : NetValue) (r : NetRefused) → net_refusal N ≡ Some r 
 unfolding net_refusal
 refusal_told N r e =
     elim (told_or_else (first_doubled (signal_names N)) doubled _ r e) [
-      | inl h ↦ subst (IsTold N) h.2 (first-doubled (signal_names N) h.0 h.1)
+      | inl h ↦ subst (IsTold N) h.2 ((first_doubled-first (signal_names N) h.0).0 h.1)
       | inr a ↦
           let names : AllPairs ◌≢◌ (signal_names N) = undoubled (signal_names N) a.0 in
           elim (told_if (eqb (length N.outputs) 0) no_output _ r a.1) [
@@ -191,7 +191,7 @@ refusal_told N r e =
             | inr b ↦
                 let outputs : 0 < length N.outputs = (let some : length N.outputs ≢ 0 = eqb-false (length N.outputs) 0 b.0 in omega arith) in
                 elim (told_or_else (first_undriven N) undriven _ r b.1) [
-                  | inl h ↦ subst (IsTold N) h.2 (names, outputs, first-undriven N h.0 h.1)
+                  | inl h ↦ subst (IsTold N) h.2 (names, outputs, (first-undriven N h.0).0 h.1)
                   | inr c ↦
                       let all = driven N c.0 in
                       let signals : IsDriven N = record { pins = all.0; outputs = all.1 } in
@@ -205,3 +205,42 @@ refusal_told N r e =
                 ]
           ]
     ]
+
+-- ---- and from what holds to what is told
+
+or_else_is : {X R : Type 0} (o : Option X) (refuse : X → R) (rest : Option R) (x : X) → o ≡ Some x → or_else o refuse rest ≡ Some (refuse x)
+or_else_is o refuse rest x e = ap (λ o. or_else o refuse rest) e
+
+or_else_then : {X R : Type 0} (o : Option X) (refuse : X → R) (rest goal : Option R) → o ≡ None → rest ≡ goal → or_else o refuse rest ≡ goal
+or_else_then o refuse rest goal none e = ap (λ o. or_else o refuse rest) none ∙ e
+
+if_is : {X : Type 0} (told : Bool) (x : X) (rest : Option X) → told ≡ true → cond told (Some x) rest ≡ Some x
+if_is told x rest on = ap (λ t. cond t (Some x) rest) on
+
+if_then : {X : Type 0} (told : Bool) (x : X) (rest goal : Option X) → told ≡ false → rest ≡ goal → cond told (Some x) rest ≡ goal
+if_then told x rest goal off e = ap (λ t. cond t (Some x) rest) off ∙ e
+
+some_output : (N : NetValue) → 0 < length N.outputs → eqb (length N.outputs) 0 ≡ false
+some_output N some = ne_eqb (length N.outputs) 0 (λ e. omega (arith, e, some))
+
+pub told_refusal : (N : NetValue) (r : NetRefused) → IsTold N r → net_refusal N ≡ Some r
+unfolding net_refusal
+told_refusal N (doubled name) h = or_else_is _ doubled _ name ((first_doubled-first (signal_names N) name).1 h)
+told_refusal N no_output h =
+    or_else_then _ doubled _ _ (differ-undoubled (signal_names N) h.0)
+    (if_is _ no_output _ (eq-eqb (length N.outputs) 0 (ap length h.1)))
+told_refusal N (undriven s) h =
+    or_else_then _ doubled _ _ (differ-undoubled (signal_names N) h.0)
+    (if_then _ no_output _ _ (some_output N h.1)
+    (or_else_is _ undriven _ s ((first-undriven N s).1 h.2)))
+told_refusal N (cycle s) h =
+    or_else_then _ doubled _ _ (differ-undoubled (signal_names N) h.0)
+    (if_then _ no_output _ _ (some_output N h.1)
+    (or_else_then _ undriven _ _ (signals-driven N (h.2.pins, h.2.outputs))
+    (or_else_is _ (λ i. cycle (input_count N + i)) _ h.3.0 (first-ungrounded (input_count N) N.tables h.3.0 h.3.2) ∙ ap (λ t. Some (cycle t)) (sym h.3.1))))
+told_refusal N (limit w) h =
+    or_else_then _ doubled _ _ (differ-undoubled (signal_names N) h.0)
+    (if_then _ no_output _ _ (some_output N h.1)
+    (or_else_then _ undriven _ _ (signals-driven N (h.2.pins, h.2.outputs))
+    (or_else_then _ (λ i. cycle (input_count N + i)) _ _ (acyclic-grounded (input_count N) N.tables h.3)
+    (or_else_is _ limit None w (passed_first N w h.4)))))

@@ -151,7 +151,7 @@ pub record WithoutLaw : Type 0 where
       → (x : List Bool) (s : ℕ) → s + 1 < n + length tables → value_of n tables x (raised (n + t) s) ≡ value_of n (without n tables t) x s
 
 -- Each refusal is absent exactly where what it refuses is, and all of them exactly where well-formed parts are a small sound net. The one
--- that is told holds, and none that stands before it.
+-- that is told is the one that holds where none that stands before it does.
 pub record RefusalLaw : Type 0 where
   pub undoubled : (names : List Bytes) → (first_doubled names ≡ None) ↔ AllPairs ◌≢◌ names
   pub driven : (N : NetValue)
@@ -159,5 +159,5 @@ pub record RefusalLaw : Type 0 where
   pub grounded : (n : ℕ) (tables : List TableValue) → (first_ungrounded n tables ≡ None) ↔ IsAcyclic n tables
   pub ungrounded : (n : ℕ) (tables : List TableValue) (i : ℕ) → (first_ungrounded n tables ≡ Some i) ↔ IsFirstUngrounded n tables i
   pub small : (N : NetValue) → (first_limit N ≡ None) ↔ IsSmall N
-  pub told : (N : NetValue) (r : NetRefused) → net_refusal N ≡ Some r → IsTold N r
+  pub told : (N : NetValue) (r : NetRefused) → (net_refusal N ≡ Some r) ↔ IsTold N r
   pub whole : (N : NetValue) → IsName N.model → All IsName N.inputs → All IsTable N.tables → (net_refusal N ≡ None) ↔ (IsSound N × IsSmall N)

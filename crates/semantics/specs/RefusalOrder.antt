@@ -1,6 +1,6 @@
 -- Which refusal of parts is told, and what stands before it: names, outputs, signals, cycles, and then the limits one by one.
 -- Source: this tool's own reading of BLIF.
-use Rattle.std.specs.Prelude.{◌≡◌, ◌≢◌, ℕ, ◌+◌, ◌<◌, ◌≤◌, List, [], length, take, slice_get, slice_index_or, Some, All, AllPairs, Contains}
+use Rattle.std.specs.Prelude.{◌≡◌, ◌≢◌, ℕ, ◌+◌, ◌<◌, ◌≤◌, List, [], ◌∷◌, ◌++◌, length, All, AllPairs, Contains}
 use Rattle.semantics.specs.declared.which.Which.{Which}
 use Rattle.semantics.specs.declared.which.Which.TheVariants.{Inputs, Outputs, Tables, Pins, AllPins, Rows}
 use Rattle.semantics.specs.declared.limits.TheConstants.{MOST_INPUTS, MOST_OUTPUTS, MOST_TABLES, MOST_TABLE_PINS, MOST_PINS, MOST_ROWS}
@@ -30,19 +30,21 @@ pub record IsFirstPassed (N : NetValue) (passed : Which) : Type 0 where
   pub over : ¬ IsKept N passed
   pub before : (other : Which) → limit_place other < limit_place passed → IsKept N other
 
--- the name stands at a place behind names that differ, one of which it is
+-- the names before it differ, and it is one of them
 pub record IsFirstDoubled (names : List Bytes) (name : Bytes) : Type 0 where
-  pub at : ℕ
-  pub is : slice_get names at ≡ Some name
-  pub again : Contains (take at names) name
-  pub differ : AllPairs ◌≢◌ (take at names)
+  pub before : List Bytes
+  pub after : List Bytes
+  pub split : names ≡ before ++ name ∷ after
+  pub differ : AllPairs ◌≢◌ before
+  pub again : Contains before name
 
--- what is read at a place is no signal, and what is read before is one
+-- what is read before it are signals, and it is none
 pub record IsFirstUndriven (N : NetValue) (s : ℕ) : Type 0 where
-  pub at : ℕ
-  pub is : slice_get (signals_read N) at ≡ Some s
+  pub before : List ℕ
+  pub after : List ℕ
+  pub split : signals_read N ≡ before ++ s ∷ after
+  pub driven : All (λ r. r < signal_count N) before
   pub no_signal : ¬ s < signal_count N
-  pub before : (j : ℕ) → j < at → slice_index_or (signals_read N) j 0 < signal_count N
 
 -- each pin and each output is a signal
 pub record IsDriven (N : NetValue) : Type 0 where

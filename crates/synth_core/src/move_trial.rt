@@ -1,4 +1,4 @@
-//! Whether a move keeps the bound: by the masks, and where they tell nothing, by a trial of every vector or by a query.
+//! Whether a move keeps the bound: by the masks, and where they tell nothing, by a trial of every vector, by diagrams or by a query.
 ghost use Rattle.std.specs.Prelude.{◌≡◌, ◌≤◌, IfOk, Contains};
 ghost use Rattle.semantics.specs.Net.{input_count};
 ghost use Rattle.semantics.specs.Vectors.{all_vectors};
@@ -8,6 +8,7 @@ ghost use Rattle.worst_case.specs.VectorsTried.{IsHeldFor};
 ghost use Rattle.synth_core.specs.MoveTrials.{IsTrial};
 
 use adc_core::adc::Adc;
+use bdd_levels::decider::Decider;
 use chain_semantics::moves::Move;
 use lane_nets::reference::Reference;
 use net_core::items::Bits;
@@ -46,17 +47,20 @@ pub(crate) fn try_move(
     alloc: Global,
     nets: &Compared,
     held: &Option<Reference>,
+    decider: &mut Decider,
     terms: Terms,
     adc: &Adc,
     step: Move,
 ) -> Result<Trial, AllocError>
     requires held { IsHeldFor nets.now.exact held.now }
+    requires decider { decider.old ≡ nets.now.exact }
     requires limit { 1 ≤ terms.limit }
     requires same { adc.now.net ≡ nets.now.approx }
     requires masks { AreMasksOf terms.metric nets.now.exact terms.bound adc.now }
     requires counting { input_count nets.now.exact ≤ FEW_INPUTS → adc.now.vectors ≡ all_vectors (input_count nets.now.exact) }
     requires step { Contains (moves_of nets.now.approx) step }
-    ensures { IfOk result
+    ensures same { decider.new ≡ decider.old }
+    ensures trial { IfOk result
         (IsTrial terms.metric nets.now.exact terms.bound terms.limit nets.now.approx adc.now.vectors step) }
 {
     let None = adc.breaks(step) else {
@@ -73,6 +77,7 @@ pub(crate) fn try_move(
         alloc,
         &moved_nets,
         held,
+        decider,
         terms.metric,
         terms.bound,
         terms.limit,

@@ -3,7 +3,7 @@
 //! A move that some known input vector breaks is refused by the masks of the member, without making the moved net. With few inputs
 //! every vector is known, so the others are allowed. With more the known vectors are those that broke earlier moves, and each other
 //! move is made and asked about: with at most sixteen inputs by a trial of every vector, against right outputs that are made once;
-//! with more by a query. An allowed move is made; then the moved net is tidied, and the moves begin again, since one that was refused
+//! with more by diagrams, which are kept over the whole chain, or by a query. An allowed move is made; then the moved net is tidied, and the moves begin again, since one that was refused
 //! before may be allowed now. The chain ends, since each step removes literals, or with the first query that is spent.
 ghost use Rattle.std.specs.Prelude.{◌≡◌, ◌≤◌, length, option_map, IfOk};
 ghost use Rattle.semantics.specs.Net.{input_count, IsSmall};
@@ -20,6 +20,7 @@ use net_tidy::tidy::tidy;
 use semantics::limits::{FEW_INPUTS, MOST_OUTPUTS};
 use semantics::metric::Metric;
 use std::alloc::{AllocError, Global};
+use worst_case::policy::decider_for;
 use worst_case::query::Spent;
 use worst_case::vectors_tried::hold_every_vector;
 
@@ -67,10 +68,12 @@ pub fn shrink(
     };
     let vectors = hold_every_vector(alloc, net)?;
     let held = &vectors;
+    let mut decider = decider_for(alloc, net)?;
     let mut pool = first_pool(alloc, net)?;
     let mut shrunk = tidy(alloc, net.copy()?)?;
     loop {
-        let found = find_step(alloc, &Compared::new(net, &shrunk), held, terms, &mut pool)?;
+        let nets = Compared::new(net, &shrunk);
+        let found = find_step(alloc, &nets, held, &mut decider, terms, &mut pool)?;
         match found {
             Step::Moved(moved) => shrunk = tidy(alloc, moved)?,
             Step::End => {

@@ -7,6 +7,7 @@ ghost use Rattle.synth_core.specs.Steps.{IsPool, AreMasksOver, IsMaskedPool, Are
 
 use crate::move_trial::{Terms, Trial, try_move};
 use adc_core::adc::Adc;
+use bdd_levels::decider::Decider;
 use chain_semantics::moves::Move;
 use lane_bits::patterns::Patterns;
 use lane_nets::reference::Reference;
@@ -75,21 +76,24 @@ fn weigh(
     alloc: Global,
     nets: &Compared,
     held: &Option<Reference>,
+    decider: &mut Decider,
     terms: Terms,
     pool: &mut Patterns,
     masks: &mut Adc,
     step: Move,
 ) -> Result<Option<Step>, AllocError>
     requires held { IsHeldFor nets.now.exact held.now }
+    requires decider { decider.old ≡ nets.now.exact }
     requires limit { 1 ≤ terms.limit }
     requires step { Contains (moves_of nets.now.approx) step }
     requires masked { IsMaskedPool terms.metric nets.now.exact terms.bound nets.now.approx pool.old masks.old }
+    ensures same { decider.new ≡ decider.old }
     ensures masked { IfOk result (λ _. IsMaskedPool terms.metric nets.now.exact terms.bound nets.now.approx pool.new masks.new) }
     ensures among { IfOk result (λ _. AreAmong pool.old.vectors pool.new.vectors) }
     ensures weighed { IfOk result
         (IsWeighed terms.metric nets.now.exact terms.bound terms.limit nets.now.approx pool.new.vectors step) }
 {
-    match try_move(alloc, nets, held, terms, masks, step)? {
+    match try_move(alloc, nets, held, decider, terms, masks, step)? {
         Trial::Broken => Ok(None),
         Trial::New(x) => {
             add_vector(alloc, nets, terms, pool, masks, x.as_slice())?;
@@ -105,13 +109,16 @@ pub(crate) fn find_step(
     alloc: Global,
     nets: &Compared,
     held: &Option<Reference>,
+    decider: &mut Decider,
     terms: Terms,
     pool: &mut Patterns,
 ) -> Result<Step, AllocError>
     requires held { IsHeldFor nets.now.exact held.now }
+    requires decider { decider.old ≡ nets.now.exact }
     requires small { IsSmall nets.now.approx }
     requires limit { 1 ≤ terms.limit }
     requires pool { IsPool nets.now.exact pool.old }
+    ensures same { decider.new ≡ decider.old }
     ensures pool { IfOk result (λ _. IsPool nets.now.exact pool.new) }
     ensures step { IfOk result
         (IsStep terms.metric nets.now.exact terms.bound terms.limit nets.now.approx pool.new.vectors) }
@@ -119,7 +126,7 @@ pub(crate) fn find_step(
     let mut moves = moves(alloc, nets.approx())?;
     let mut masks = pool_masks(alloc, nets, terms, pool)?;
     while let Some(step) = moves.next() {
-        if let Some(found) = weigh(alloc, nets, held, terms, pool, &mut masks, step)? {
+        if let Some(found) = weigh(alloc, nets, held, decider, terms, pool, &mut masks, step)? {
             return Ok(found);
         }
     }

@@ -2,3 +2,4 @@ pub mod Queries
 pub mod FirstGreatest
 pub mod Ranges
 pub mod Tried
+pub mod Decided

@@ -14,6 +14,7 @@ use Rattle.proof_semantics.specs.Formula.{Formula}
 use Rattle.proof_semantics.specs.Variables.{by_place}
 use Rattle.proof_semantics.specs.Logs.{LogItem, Refutes, IsDerivation}
 use Rattle.proof_semantics.specs.Miter.{miter, joint_output, IsJointModelAt}
+use Rattle.proof_semantics.specs.Merges.{IsMergeLog, BeginsWithMerges}
 use Rattle.proof_semantics.specs.Queries.{IsOver, IsNever}
 use Rattle.proof_semantics.proofs.NetValues.{goal_clauses-value}
 use Rattle.proof_semantics.proofs.Miters.{miter_law}
@@ -45,14 +46,21 @@ module _ (metric : Metric) (N M : NetValue) (k : ℕ) (h : AreComparable N M) wh
         first = λ few. absurd (omega (arith, few, many));
       }
 
-  -- a log that refutes the miter
-  pub IsNever-from : (f : Formula) → f ≡ miter N M metric k → (log : List LogItem) → Refutes f.clauses log → IsDerivation f log → IsNever metric N M k log
-  IsNever-from f is log refutes derivation =
+  -- the merges of the joint net, which a log begins with
+  pub merges_of : (J : NetValue) → J ≡ joint_net N M metric k → (merged log : List LogItem) → IsMergeLog J merged → take (length merged) log ≡ merged
+      → IsMergeLog (joint_net N M metric k) (take (length merged) log)
+  merges_of J is merged log h begins = subst (IsMergeLog (joint_net N M metric k)) (sym begins) (subst (λ K. IsMergeLog K merged) is h)
+
+  -- a log that refutes the miter, and begins with the merges of the joint net
+  pub IsNever-from : (f : Formula) → f ≡ miter N M metric k → (log : List LogItem) → Refutes f.clauses log → IsDerivation f log → BeginsWithMerges (joint_net N M metric k) log
+      → IsNever metric N M k log
+  IsNever-from f is log refutes derivation merged =
       let shown : Refutes (miter N M metric k).clauses log = subst (λ g. Refutes g.clauses log) is refutes in
       record {
         refutes = shown;
         derivation = subst (λ g. IsDerivation g log) is derivation;
         within = miter_law.refuted N M metric k h log shown;
+        merged = λ many. merged;
       }
 
   -- where no error exceeds the level the joint net's output is always 0

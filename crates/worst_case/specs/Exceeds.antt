@@ -1,8 +1,10 @@
 -- What a query answers whether some input's error exceeds a level.
-use Rattle.std.specs.Prelude.{◌≡◌, ℕ}
+use Rattle.std.specs.Prelude.{◌≡◌, ℕ, take}
 use Rattle.semantics.specs.Net.{NetValue}
 use Rattle.semantics.specs.declared.metric.Metric.{Metric}
+use Rattle.quality_semantics.specs.Joint.{joint_net}
 use Rattle.proof_semantics.specs.Conflicts.{IsConflictChain}
+use Rattle.proof_semantics.specs.Merges.{IsMergeLog}
 use Rattle.proof_semantics.specs.Miter.{miter}
 use Rattle.proof_semantics.specs.Queries.{IsOver, IsNever, SpentValue, IsSpentQuery}
 use Rattle.worst_case.specs.declared.query.Spent as spent
@@ -23,11 +25,11 @@ IsAnswer metric exact approx k limit (Over x) = IsOver metric exact approx k x
 IsAnswer metric exact approx k limit (Never log) = IsNever metric exact approx k log
 IsAnswer metric exact approx k limit (Spent s) = IsSpentOn metric exact approx k limit s
 
--- so many conflicts over the miter of these two nets at this level, with no step merged before them
+-- the merges of the joint net of these two nets at this level, and behind them so many conflicts over the miter
 pub record IsChainOn (metric : Metric) (exact approx : NetValue) (k conflicts : ℕ) (s : spent.Spent) : Type 0 where
   pub net : s.net ≡ approx
   pub level : s.k ≡ k
-  pub merged : s.merged ≡ 0
+  pub merged : IsMergeLog (joint_net exact s.net metric s.k) (take s.merged s.log)
   pub chain : IsConflictChain (miter exact s.net metric s.k) s.merged conflicts s.log
 
 -- the solver was asked

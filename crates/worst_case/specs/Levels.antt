@@ -12,3 +12,9 @@ abbrev pub IsLevelAnswer : Metric → NetValue → NetValue → ℕ → ℕ → 
 IsLevelAnswer metric exact approx k limit (Over x) = IsExceededAt metric exact approx k x
 IsLevelAnswer metric exact approx k limit Within = IsWithin metric exact k approx
 IsLevelAnswer metric exact approx k limit (Spent s) = IsSpentOn metric exact approx k limit s
+
+-- an answer for which nothing was spent
+abbrev pub IsSureAnswer : Metric → NetValue → NetValue → ℕ → Margin → Type 0
+IsSureAnswer metric exact approx k (Over x) = IsExceededAt metric exact approx k x
+IsSureAnswer metric exact approx k Within = IsWithin metric exact k approx
+IsSureAnswer metric exact approx k (Spent s) = ⊥

@@ -5,6 +5,7 @@ mod comparable;
 pub mod exceeds;
 pub mod margin;
 pub mod maximum;
+pub mod policy;
 pub mod query;
 mod range;
 mod refutation;

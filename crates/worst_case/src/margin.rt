@@ -1,11 +1,15 @@
 //! Whether the error stays within a level, where nobody asks for a log.
-ghost use Rattle.std.specs.Prelude.{◌≤◌, IfOk};
-ghost use Rattle.worst_case.specs.Levels.{IsLevelAnswer};
+ghost use Rattle.std.specs.Prelude.{◌≡◌, ◌<◌, ◌≤◌, IfOk, IfSome};
+ghost use Rattle.semantics.specs.Net.{input_count};
+ghost use Rattle.worst_case.specs.Levels.{IsLevelAnswer, IsSureAnswer};
 ghost use Rattle.worst_case.specs.VectorsTried.{IsHeldFor};
 
 use crate::query::{Exceed, Spent};
 use crate::solver_query::ask_solver;
-use crate::vectors_tried::try_vectors;
+use crate::vectors_tried::{LANE_INPUTS, try_vectors};
+use bdd_levels::budgets::{LAST_STEPS, QUESTION_STEPS};
+use bdd_levels::decider::Decider;
+use bdd_nets::decision::Decision;
 use lane_nets::reference::Reference;
 use net_core::items::Bits;
 use net_errors::compared::Compared;
@@ -23,19 +27,73 @@ pub enum Margin {
     Spent(Spent),
 }
 
+/// What diagrams answer within so many steps, if they do.
+#[tactic(auto, using(crate::proofs::Decided::answer_over, crate::proofs::Decided::answer_within))]
+pub(crate) fn by_diagrams(
+    alloc: Global,
+    nets: &Compared,
+    decider: &mut Decider,
+    metric: Metric,
+    k: u128,
+    steps: u64,
+) -> Result<Option<Margin>, AllocError>
+    requires decider { decider.old ≡ nets.now.exact }
+    ensures same { decider.new ≡ decider.old }
+    ensures answer { IfOk result
+        (λ found. IfSome found (IsSureAnswer metric nets.now.exact nets.now.approx k)) }
+{
+    match decider.decide(alloc, nets.approx(), metric, k, steps)? {
+        Decision::Never => Ok(Some(Margin::Within)),
+        Decision::At(x) => Ok(Some(Margin::Over(Bits::from_slice(alloc, &x)?))),
+        Decision::Unknown => Ok(None),
+    }
+}
+
+/// What the solver answers; where its conflicts are spent, diagrams are asked once more.
+#[tactic(auto, using(crate::proofs::Decided::sure_answer))]
+fn by_solver(
+    alloc: Global,
+    nets: &Compared,
+    decider: &mut Decider,
+    metric: Metric,
+    k: u128,
+    limit: u64,
+) -> Result<Margin, AllocError>
+    requires many_inputs { LANE_INPUTS < input_count nets.now.exact }
+    requires decider { decider.old ≡ nets.now.exact }
+    requires limit { 1 ≤ limit }
+    ensures same { decider.new ≡ decider.old }
+    ensures answer { IfOk result (IsLevelAnswer metric nets.now.exact nets.now.approx k limit) }
+{
+    match ask_solver(alloc, nets, metric, k, limit)? {
+        Exceed::Over(x) => Ok(Margin::Over(x)),
+        Exceed::Never(_) => Ok(Margin::Within),
+        Exceed::Spent(spent) => {
+            match by_diagrams(alloc, nets, decider, metric, k, LAST_STEPS)? {
+                Some(margin) => Ok(margin),
+                None => Ok(Margin::Spent(spent)),
+            }
+        }
+    }
+}
+
 /// An input whose error exceeds `k`, or that there is none. With at most sixteen inputs every vector is held and tried, and nothing is
-/// spent; with more it is a query.
+/// spent; with more, diagrams are asked, and then the solver.
+#[tactic(auto, using(crate::proofs::Decided::sure_answer))]
 pub fn within_level(
     alloc: Global,
     nets: &Compared,
     held: &Option<Reference>,
+    decider: &mut Decider,
     metric: Metric,
     k: u128,
     limit: u64,
 ) -> Result<Margin, AllocError>
     requires held { IsHeldFor nets.now.exact held.now }
+    requires decider { decider.old ≡ nets.now.exact }
     requires limit { 1 ≤ limit }
-    ensures { IfOk result (IsLevelAnswer metric nets.now.exact nets.now.approx k limit) }
+    ensures same { decider.new ≡ decider.old }
+    ensures answer { IfOk result (IsLevelAnswer metric nets.now.exact nets.now.approx k limit) }
 {
     if let Some(vectors) = held {
         return Ok(match try_vectors(alloc, nets, vectors, metric, k)? {
@@ -43,9 +101,8 @@ pub fn within_level(
             None => Margin::Within,
         });
     }
-    match ask_solver(alloc, nets, metric, k, limit)? {
-        Exceed::Over(x) => Ok(Margin::Over(x)),
-        Exceed::Never(_) => Ok(Margin::Within),
-        Exceed::Spent(spent) => Ok(Margin::Spent(spent)),
+    match by_diagrams(alloc, nets, decider, metric, k, QUESTION_STEPS)? {
+        Some(margin) => Ok(margin),
+        None => by_solver(alloc, nets, decider, metric, k, limit),
     }
 }

@@ -7,6 +7,7 @@ ghost use Rattle.semantics.specs.Net.{HasSamePorts, IsSmall};
 ghost use Rattle.semantics.specs.Error.{IsWithin};
 ghost use Rattle.worst_case.specs.Maximum.{IsRange, IsMaximumAnswer};
 
+use crate::policy::decider_for;
 use crate::query::{Exceed, Maximum};
 use crate::range::{Range, Turn, first_range, narrow};
 use crate::refutation::refute_level;
@@ -65,8 +66,9 @@ pub fn maximum(
 {
     let nets = Compared::new(exact, approx);
     let mut range = first_range(alloc, &nets, metric, bound)?;
+    let mut decider = decider_for(alloc, exact)?;
     while range.low < range.high {
-        match narrow(alloc, &nets, metric, limit, range)? {
+        match narrow(alloc, &nets, &mut decider, metric, limit, range)? {
             Turn::Narrowed(next) => range = next,
             Turn::Spent(spent) => return Ok(Maximum::Spent(spent)),
         }

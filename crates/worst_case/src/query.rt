@@ -1,7 +1,7 @@
 //! What a query answers, and the search for the greatest error.
-use cnf_core::log::Log;
 use net_core::items::Bits;
 use net_core::net::Net;
+use proof_parts::log::Log;
 
 /// A query that ended without an answer.
 #[derive(Drop)]

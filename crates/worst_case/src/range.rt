@@ -1,17 +1,20 @@
 //! The levels between which the greatest error lies, and one query that narrows them.
-ghost use Rattle.std.specs.Prelude.{◌≤◌, ◌<◌, ℕ, IfOk};
+ghost use Rattle.std.specs.Prelude.{◌≡◌, ◌≤◌, ◌<◌, ℕ, IfOk};
 ghost use Rattle.semantics.specs.Net.{IsSmall};
 ghost use Rattle.semantics.specs.Error.{IsWithin};
 ghost use Rattle.worst_case.specs.Maximum.{IsRange, IsTurn};
 
 use crate::exceeds::exceeds_level;
+use crate::margin::{Margin, by_diagrams};
 use crate::query::{Exceed, Spent};
 use crate::vectors_tried::{LANE_INPUTS, greatest_of, trial_vectors};
-use cnf_core::log::Log;
+use bdd_levels::budgets::QUESTION_STEPS;
+use bdd_levels::decider::Decider;
 use lane_nets::reference::Reference;
 use net_core::items::Bits;
 use net_errors::compared::Compared;
 use net_errors::net_error::error_at;
+use proof_parts::log::Log;
 use semantics::limits::LARGEST_ERROR;
 use semantics::metric::Metric;
 use std::alloc::{AllocError, Global};
@@ -59,8 +62,8 @@ pub fn first_range(
     })
 }
 
-/// Asks whether some error exceeds the middle of the range.
-pub fn narrow(
+/// Asks the solver whether some error exceeds the middle of the range.
+fn narrow_by_solver(
     alloc: Global,
     nets: &Compared,
     metric: Metric,
@@ -90,5 +93,42 @@ pub fn narrow(
             log: Some(log),
         })),
         Exceed::Spent(spent) => Ok(Turn::Spent(spent)),
+    }
+}
+
+/// Asks whether some error exceeds the middle of the range: the solver where diagrams do not tell.
+pub fn narrow(
+    alloc: Global,
+    nets: &Compared,
+    decider: &mut Decider,
+    metric: Metric,
+    limit: u64,
+    range: Range,
+) -> Result<Turn, AllocError>
+    requires decider { decider.old ≡ nets.now.exact }
+    requires limit { 1 ≤ limit }
+    requires open { range.low < range.high }
+    ensures same { decider.new ≡ decider.old }
+    ensures turn { IfOk result (λ turn. (bound : ℕ) → IsRange metric nets.now.exact nets.now.approx bound range
+        → IsTurn metric nets.now.exact nets.now.approx bound limit range turn) }
+{
+    let middle = range.low + (range.high - range.low) / 2;
+    match by_diagrams(alloc, nets, decider, metric, middle, QUESTION_STEPS)? {
+        Some(Margin::Over(x)) => {
+            let error = error_at(alloc, nets, metric, x.as_slice())?;
+            Ok(Turn::Narrowed(Range {
+                low: error,
+                witness: x,
+                high: range.high,
+                log: range.log,
+            }))
+        }
+        Some(Margin::Within) => Ok(Turn::Narrowed(Range {
+            low: range.low,
+            witness: range.witness,
+            high: middle,
+            log: None,
+        })),
+        _ => narrow_by_solver(alloc, nets, metric, limit, range),
     }
 }

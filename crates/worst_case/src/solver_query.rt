@@ -1,4 +1,4 @@
-//! Whether some error exceeds a level, asked of the solver.
+//! Whether some error exceeds a level, asked of the solver, which is first told which tables of the joint net are alike.
 ghost use Rattle.std.specs.Prelude.{◌≡◌, ◌<◌, ◌≤◌, ◌^◌, length, take, IfOk};
 ghost use Rattle.semantics.specs.Net.{input_count};
 ghost use Rattle.worst_case.specs.Exceeds.{IsAsked};
@@ -6,21 +6,15 @@ ghost use Rattle.worst_case.specs.Exceeds.{IsAsked};
 use crate::comparable::see_comparable;
 use crate::query::{Exceed, Spent};
 use cdcl_core::answer::Answer;
-use cdcl_core::solve::solve;
-use cnf_core::cnf::Cnf;
-use miter::level::miter_of;
-use net_core::items::{Bits, Items};
+use cdcl_core::solve::solve_guided;
+use merge_log::merges::merges;
+use miter::level::joint_miter;
+use net_core::items::Bits;
 use net_core::net::Net;
 use net_errors::compared::Compared;
 use semantics::metric::Metric;
 use std::alloc::{AllocError, Global};
-
-/// Shows that a formula has few clauses, as many as there is memory for.
-fn see_few(goal: &Cnf)
-    ensures { length goal.now.clauses < 2 ^ 63 }
-{
-    let _ = goal.clauses().as_slice().len();
-}
+use sweep_guide::guide::guide_of;
 
 /// The first bits of a model, one for each input.
 fn input_bits(alloc: Global, net: &Net, values: &Bits) -> Result<Bits, AllocError>
@@ -30,7 +24,7 @@ fn input_bits(alloc: Global, net: &Net, values: &Bits) -> Result<Bits, AllocErro
     Bits::from_slice(alloc, &values.as_slice()[..net.inputs() as usize])
 }
 
-/// An input whose error exceeds `k`, a log that refutes that there is one, or a log of `limit` conflicts.
+/// An input whose error exceeds `k`, a log that refutes that there is one, or a log of `limit` conflicts behind the merges.
 pub(crate) fn ask_solver(
     alloc: Global,
     nets: &Compared,
@@ -43,15 +37,17 @@ pub(crate) fn ask_solver(
     ensures { IfOk result (IsAsked metric nets.now.exact nets.now.approx k limit) }
 {
     see_comparable(nets);
-    let goal = miter_of(alloc, nets, metric, k)?;
-    see_few(&goal);
-    match solve(alloc, &goal, &Items::new(alloc), limit)? {
+    let joint = joint_miter(alloc, nets, metric, k)?;
+    let merged = merges(alloc, &joint.net, &joint.formula)?;
+    let count = merged.as_slice().len() as u64;
+    let guide = guide_of(alloc, &joint.net, true)?;
+    match solve_guided(alloc, &joint.formula, &merged, &guide, limit)? {
         Answer::Model(values) => Ok(Exceed::Over(input_bits(alloc, nets.exact(), &values)?)),
         Answer::Refuted(log) => Ok(Exceed::Never(log)),
         Answer::Spent(log) => Ok(Exceed::Spent(Spent {
             net: nets.approx().copy()?,
             k,
-            merged: 0,
+            merged: count,
             log,
         })),
     }

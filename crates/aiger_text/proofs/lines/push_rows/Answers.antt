@@ -1,6 +1,5 @@
-use Rattle.std.proofs.Common.{◌≡◌, ◌+◌, ◌-◌, ◌≤◌, ◌^◌, ◌++◌, List, length, get_or, ap, ◌∙◌, arith}
+use Rattle.std.proofs.Common.{◌+◌, ◌^◌, ◌++◌, List, length, get_or, ap, ◌∙◌, arith}
 use Rattle.semantics.specs.declared.mark.Mark.{Mark}
-use Rattle.semantics.specs.Net.{row_literals}
 use Rattle.aiger_semantics.specs.NetCircuit.{joins, row_inputs}
 use Rattle.aiger_text.proofs.TableLines.{asked-length, next-row, next-row_fits, rows_joined-more}
 use Rattle.aiger_text.proofs.lines.push_rows.Goals as goal

@@ -1,6 +1,6 @@
-use Rattle.std.proofs.Common.{◌≡◌, ◌+◌, ◌^◌, ◌<◌, ℕ, List, length, get_or, refl, ap, ◌∙◌, arith}
+use Rattle.std.proofs.Common.{◌+◌, ◌^◌, ℕ, List, get_or, refl, ap, ◌∙◌, arith}
 use Rattle.std.specs.Prelude.{slice_set}
-use Rattle.semantics.specs.Net.{TableValue, input_count}
+use Rattle.semantics.specs.Net.{input_count}
 use Rattle.aiger_semantics.specs.NetCircuit.{table_literal}
 use Rattle.aiger_text.proofs.NetLiterals.{first_read, first_fits, firsts_length, signals_none, member_within, signals_more, signals_all}
 use Rattle.aiger_text.proofs.signals.signal_literals.Goals as goal

@@ -1,4 +1,5 @@
-use Rattle.blif_semantics.proofs.FirstRefusals.{first_wrong-first, first_doubled-first, first_undriven-first, driven-each}
+use Rattle.semantics.proofs.FirstFound.{first_doubled-first}
+use Rattle.blif_semantics.proofs.FirstRefusals.{first_wrong-first, first_undriven-first, driven-each}
 use Rattle.blif_semantics.proofs.laws.first_refusals.Goals as goal
 
 pub returns : goal.returns

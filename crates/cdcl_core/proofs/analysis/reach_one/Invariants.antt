@@ -1,4 +1,4 @@
-use Rattle.std.proofs.Common.{◌≡◌, reverse}
+use Rattle.std.proofs.Common.{reverse}
 use Rattle.cdcl_core.specs.Explained.{IsExplained}
 use Rattle.cdcl_core.proofs.Loops.{IsReaching}
 use Rattle.cdcl_core.proofs.analysis.reach_one.Given as goal
@@ -7,7 +7,6 @@ abbrev pub invariant-down : goal.invariant-down
 invariant-down l = record {
   reaching : IsReaching l.trail.literals l.fn.marks l.marks l.start l.top;
   explained : IsExplained l.clauses l.trail.literals l.marks (reverse l.hints);
-  order : l.order ≡ l.fn.order;
 }
 
 abbrev pub decreases-down : goal.decreases-down

@@ -1,15 +1,13 @@
-use Rattle.std.proofs.Common.{◌≡◌, reverse, ◌≤◌}
+use Rattle.std.proofs.Common.{reverse}
 use Rattle.cdcl_core.specs.Explained.{IsExplained}
 use Rattle.cdcl_core.specs.Analysis.{IsShortened}
 use Rattle.cdcl_core.proofs.analysis.shorten.Given as goal
 
 abbrev pub invariant-down : goal.invariant-down
 invariant-down l = record {
-  low : l.place ≤ l.start;
   shortened : IsShortened l.fn.marks l.marks l.start;
   explained : IsExplained l.clauses l.trail.literals l.marks (reverse l.hints);
-  order : l.order ≡ l.fn.order;
 }
 
 abbrev pub decreases-down : goal.decreases-down
-decreases-down l = l.place
+decreases-down l = l.rest

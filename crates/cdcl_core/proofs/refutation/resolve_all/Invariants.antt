@@ -9,7 +9,6 @@ invariant-down l = record {
   within : l.top ≤ length l.trail.literals;
   none : (p : ℕ) → l.top ≤ p → p < length l.trail.literals → mark_at l.marks p ≡ false;
   explained : IsExplained l.clauses l.trail.literals l.marks (reverse l.hints);
-  order : l.order ≡ l.fn.order;
 }
 
 abbrev pub decreases-down : goal.decreases-down

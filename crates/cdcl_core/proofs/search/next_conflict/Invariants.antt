@@ -1,4 +1,4 @@
-use Rattle.std.proofs.Common.{◌+◌, ◌-◌, length}
+use Rattle.std.proofs.Common.{◌≡◌, ◌+◌, ◌-◌, length}
 use Rattle.cdcl_core.specs.Searched.{IsSearching}
 use Rattle.cdcl_core.specs.Watching.{IsWatching}
 use Rattle.cdcl_core.proofs.search.next_conflict.Given as goal
@@ -7,6 +7,7 @@ abbrev pub invariant-loop-conflict : goal.invariant-loop-conflict
 invariant-loop-conflict l = record {
   searching : IsSearching l.clauses l.trail l.order;
   watching : IsWatching l.clauses l.trail l.watches;
+  order : l.order ≡ l.fn.order;
 }
 
 abbrev pub decreases-loop-conflict : goal.decreases-loop-conflict

@@ -1,9 +1,15 @@
 use Rattle.std.proofs.Common.{◌∙◌, ap, sym, Some}
+use Rattle.job_semantics.proofs.FileWords.{file_words_law}
+use Rattle.job_answers.specs.Refused.{TellsBlif}
+use Rattle.job_answers.proofs.Refusals.{no_usage_asked, blif_is_refusal}
+use Rattle.conversions.specs.Texts.{aag_text}
+use Rattle.conversions.proofs.Conversions.{conversion_asks_nothing}
 use Rattle.jobs.specs.declared.status.Outcome.{Outcome}
 use Rattle.jobs.specs.declared.words.Command.{Command}
 use Rattle.jobs.specs.Words.{job_meaning}
-use Rattle.jobs.proofs.CheckAnswers.{check_is_no_usage}
-use Rattle.jobs.proofs.Runs.{check-says}
+use Rattle.check_jobs.proofs.CheckAnswers.{check_asks_nothing}
+use Rattle.check_jobs.proofs.TrimAnswers.{trim_asks_nothing}
+use Rattle.jobs.proofs.Runs.{check-says, aag-says, trim-says}
 use Rattle.jobs.proofs.commands.carry_out.Goals as goal
 
 pub returns-in-Some-Check-clause-says : goal.returns-in-Some-Check-clause-says
@@ -14,4 +20,29 @@ returns-in-Some-Check-clause-says g c =
 pub returns-in-Some-Check-clause-usage_touches_nothing : goal.returns-in-Some-Check-clause-usage_touches_nothing
 returns-in-Some-Check-clause-usage_touches_nothing g c = λ usage.
     let answer = c.check.ensures (g.K.Sink.told c.args.say.now) in
-    absurd (check_is_no_usage c.check.result answer.0 answer.1 (sym (ap (λ (o : Outcome). o.status) c.only-in-Some-Check.ensures) ∙ usage))
+    absurd (no_usage_asked c.check.result (check_asks_nothing c.check.result answer.0 answer.1) (sym (ap (λ (o : Outcome). o.status) c.only-in-Some-Check.ensures) ∙ usage))
+
+pub returns-in-Some-Aag-clause-says : goal.returns-in-Some-Aag-clause-says
+returns-in-Some-Aag-clause-says g c =
+    aag-says c.only-in-Some-Aag.result c.aag.result c.only-in-Some-Aag.ensures
+    (sym c.in-Some-Aag.ensures.job ∙ ap (λ (f : Command). Some (job_meaning f)) c.in-Some-Aag.field-0-is) (c.aag.ensures (g.K.Sink.told c.args.say.now))
+
+pub returns-in-Some-Aag-clause-usage_touches_nothing : goal.returns-in-Some-Aag-clause-usage_touches_nothing
+returns-in-Some-Aag-clause-usage_touches_nothing g c = λ usage.
+    let answer = c.aag.ensures (g.K.Sink.told c.args.say.now) in
+    absurd (no_usage_asked c.aag.result (conversion_asks_nothing aag_text TellsBlif blif_is_refusal _ _ c.aag.result answer.0 answer.1) (sym (ap (λ (o : Outcome). o.status) c.only-in-Some-Aag.ensures) ∙ usage))
+
+pub returns-in-Some-Trim-clause-says : goal.returns-in-Some-Trim-clause-says
+returns-in-Some-Trim-clause-says g c =
+    trim-says c.only-in-Some-Trim.result c.trim_bundle.result c.only-in-Some-Trim.ensures
+    (sym c.in-Some-Trim.ensures.job ∙ ap (λ (f : Command). Some (job_meaning f)) c.in-Some-Trim.field-0-is) (c.trim_bundle.ensures (g.K.Sink.told c.args.say.now))
+
+pub returns-in-Some-Trim-clause-usage_touches_nothing : goal.returns-in-Some-Trim-clause-usage_touches_nothing
+returns-in-Some-Trim-clause-usage_touches_nothing g c = λ usage.
+    let answer = c.trim_bundle.ensures (g.K.Sink.told c.args.say.now) in
+    absurd (no_usage_asked c.trim_bundle.result (trim_asks_nothing c.trim_bundle.result answer.0 answer.1) (sym (ap (λ (o : Outcome). o.status) c.only-in-Some-Trim.ensures) ∙ usage))
+
+pub trim_bundle-requires : goal.trim_bundle-requires
+trim_bundle-requires g c =
+    file_words_law.trimming c.args.words.now _ _ _ _ _
+    (sym c.in-Some-Trim.ensures.job ∙ ap (λ (f : Command). Some (job_meaning f)) c.in-Some-Trim.field-0-is)

@@ -14,6 +14,6 @@ loop-i-preserved c =
     let unit : hint_answer hint last (open_literals c.loop-i.set c.in-Some.clause.now) ≡ Ok (Some l) =
     ap (λ k. hint_answer hint last (open_literals c.loop-i.set k)) (sym c.as_slice.ensures.value)
     ∙ sym c.in_ok-hint_gives.ensures.value ∙ ap Ok c.in-Some-2.is in
-    hints_next (get c.args.held.now) c.loop-i.set c.insert.new.self c.args.hints.now c.loop-i.i hint last c.in-Some.clause.now l c.loop-i-test.true refl refl
+    hints_next (get c.args.held.now.held) c.loop-i.set c.insert.new.self c.args.hints.now c.loop-i.i hint last c.in-Some.clause.now l c.loop-i-test.true refl refl
     (sym c.in-Some.ensures) unit (c.in-Ok.ensures ∙ ap (literals.insert c.loop-i.set) read)
     ∙ c.loop-i.invariant

@@ -2,7 +2,7 @@ use Rattle.std.proofs.Common.{◌≡◌, drop, not, true, None}
 use Rattle.std.specs.Prelude.{filter, IfSome}
 use Rattle.proof_semantics.specs.Clauses.{with_literals}
 use Rattle.proof_semantics.specs.Logs.{is_false_in, open_literals}
-use Rattle.cnf_core.specs.Literals.{IsLiteral}
+use Rattle.proof_parts.specs.Literals.{IsLiteral}
 use Rattle.lrat_check.specs.Found.{at_most_one}
 use Rattle.lrat_check.proofs.hints.hint_gives.Given as goal
 

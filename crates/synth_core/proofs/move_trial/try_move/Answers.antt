@@ -7,15 +7,15 @@ use Rattle.worst_case.specs.VectorsTried.{IsExceededAt, IsHeldFor}
 use Rattle.synth_core.proofs.Trying.{found_broken, found_allowed, found_new, moved-candidate}
 use Rattle.synth_core.proofs.move_trial.try_move.Goals as goal
 
-pub returns-in_default : goal.returns-in_default
-returns-in_default c =
+pub returns-in_default-clause-trial : goal.returns-in_default-clause-trial
+returns-in_default-clause-trial c =
     let nets = c.args.nets.now in
     let found = subst (λ N. FindsFirstBroken c.args.terms.metric nets.exact c.args.terms.bound N c.args.adc.now.vectors c.args.step c.breaks.result) c.requires.same
     (c.breaks.ensures c.args.terms.metric nets.exact c.args.terms.bound c.requires.masks) in
     found_broken c.args.terms.metric nets.exact c.args.terms.bound nets.approx c.args.adc.now.vectors c.args.step c.breaks.result c.in_default.field-0 c.in_default.is found
 
-pub returns-then-inputs-le-FEW_INPUTS : goal.returns-then-inputs-le-FEW_INPUTS
-returns-then-inputs-le-FEW_INPUTS c =
+pub returns-then-inputs-le-FEW_INPUTS-clause-trial : goal.returns-then-inputs-le-FEW_INPUTS-clause-trial
+returns-then-inputs-le-FEW_INPUTS-clause-trial c =
     let nets = c.args.nets.now in
     let found = subst (λ N. FindsFirstBroken c.args.terms.metric nets.exact c.args.terms.bound N c.args.adc.now.vectors c.args.step c.breaks.result) c.requires.same
     (c.breaks.ensures c.args.terms.metric nets.exact c.args.terms.bound c.requires.masks) in
@@ -38,13 +38,16 @@ pub within_level-requires-clause-held : goal.within_level-requires-clause-held
 within_level-requires-clause-held c =
     subst (λ E. IsHeldFor E c.args.held.now) (sym (ap (λ P. P.exact) c.new-moved_nets.ensures ∙ c.exact-2.ensures.value)) c.requires.held
 
-pub returns-in-Over : goal.returns-in-Over
-returns-in-Over c =
+pub within_level-requires-clause-decider : goal.within_level-requires-clause-decider
+within_level-requires-clause-decider c = c.requires.decider ∙ sym (ap (λ P. P.exact) c.new-moved_nets.ensures ∙ c.exact-2.ensures.value)
+
+pub returns-in-Over-clause-trial : goal.returns-in-Over-clause-trial
+returns-in-Over-clause-trial c =
     let nets = c.args.nets.now in
     let found = subst (λ N. FindsFirstBroken c.args.terms.metric nets.exact c.args.terms.bound N c.args.adc.now.vectors c.args.step c.breaks.result) c.requires.same
     (c.breaks.ensures c.args.terms.metric nets.exact c.args.terms.bound c.requires.masks) in
     let count = c.inputs-2.ensures.value ∙ ap input_count c.exact.ensures.value in
-    let over = rw c.in-Over.is at c.in_ok-x.ensures in
+    let over = rw c.in-Over.is at c.in_ok-x.ensures.answer in
     let of_nets = subst (λ P. IsExceededAt c.args.terms.metric P.exact P.approx c.args.terms.bound c.in-Over.x) c.new-moved_nets.ensures over in
     found_new c.args.terms.metric nets.exact c.args.terms.bound nets.approx c.args.adc.now.vectors c.args.step c.breaks.result c.in-None.is found
     c.in_ok-moved.moved c.in-Over.x (c.in_ok-moved.ensures ∙ ap (λ N. moved N c.args.step) c.approx-2.ensures.value) (omega (arith, count, c.if-inputs-le-FEW_INPUTS.false))

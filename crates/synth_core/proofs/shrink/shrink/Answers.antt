@@ -1,4 +1,4 @@
-use Rattle.std.proofs.Common.{subst, sym}
+use Rattle.std.proofs.Common.{subst, sym, ap, ◌∙◌}
 use Rattle.semantics.specs.Net.{IsSmall}
 use Rattle.chain_semantics.specs.Chain.IsInChain.{first}
 use Rattle.chain_semantics.specs.Tidy.{IsTidiedFrom}
@@ -10,6 +10,7 @@ use Rattle.synth_core.proofs.shrink.shrink.Goals as goal
 
 pub loop-shrunk-init : goal.loop-shrunk-init
 loop-shrunk-init c = record {
+  decider = c.in_ok-decider.ensures;
   member = record {
     start = c.in_ok-shrunk.shrunk;
     tidied = subst (λ N. IsTidiedFrom N c.in_ok-shrunk.shrunk) c.in_ok-copy.ensures c.in_ok-shrunk.ensures;
@@ -18,46 +19,50 @@ loop-shrunk-init c = record {
   pool = c.in_ok-pool.ensures;
 }
 
-pub new-requires : goal.new-requires
-new-requires c = record {
+pub new-nets-requires : goal.new-nets-requires
+new-nets-requires c = record {
   ports = (simplified c.args.metric c.args.net.now c.args.bound c.inputs.ensures.built.sound c.loop-shrunk.shrunk c.loop-shrunk.invariant.member).ports;
   few_outputs = c.requires.few_outputs;
 }
 
 pub find_step-requires-clause-held : goal.find_step-requires-clause-held
-find_step-requires-clause-held c = subst (λ P. IsHeldFor P.exact c.in_ok-vectors.vectors) (sym c.new.ensures) c.in_ok-vectors.ensures
+find_step-requires-clause-held c = subst (λ P. IsHeldFor P.exact c.in_ok-vectors.vectors) (sym c.new-nets.ensures) c.in_ok-vectors.ensures
+
+pub find_step-requires-clause-decider : goal.find_step-requires-clause-decider
+find_step-requires-clause-decider c = c.loop-shrunk.invariant.decider ∙ sym (ap (λ P. P.exact) c.new-nets.ensures)
 
 pub find_step-requires-clause-small : goal.find_step-requires-clause-small
 find_step-requires-clause-small c =
-    subst (λ P. IsSmall P.approx) (sym c.new.ensures)
+    subst (λ P. IsSmall P.approx) (sym c.new-nets.ensures)
     (simplified-small c.args.metric c.args.net.now c.args.bound c.inputs.ensures.built.sound c.loop-shrunk.shrunk c.requires.small c.loop-shrunk.invariant.member)
 
 pub loop-shrunk-smaller : goal.loop-shrunk-smaller
 loop-shrunk-smaller c =
-    let told = subst (λ P. IsStep c.args.metric P.exact c.args.bound c.args.limit P.approx c.find_step.new.pool.vectors c.in_ok-found.found) c.new.ensures c.in_ok-found.ensures.step in
+    let told = subst (λ P. IsStep c.args.metric P.exact c.args.bound c.args.limit P.approx c.find_step.new.pool.vectors c.in_ok-found.found) c.new-nets.ensures c.in_ok-found.ensures.step in
     let step = rw c.in-Moved.is at told in
     simplification-falls c.args.metric c.args.net.now c.args.bound c.inputs.ensures.built.sound c.loop-shrunk.shrunk c.in_ok-shrunk-in-Moved.shrunk step.move c.loop-shrunk.invariant.member step.first
     (tidied_move c.args.metric c.args.net.now c.args.bound c.loop-shrunk.shrunk c.in-Moved.moved c.in_ok-shrunk-in-Moved.shrunk step c.in_ok-shrunk-in-Moved.ensures)
 
 pub loop-shrunk-preserved : goal.loop-shrunk-preserved
 loop-shrunk-preserved c =
-    let told = subst (λ P. IsStep c.args.metric P.exact c.args.bound c.args.limit P.approx c.find_step.new.pool.vectors c.in_ok-found.found) c.new.ensures c.in_ok-found.ensures.step in
+    let told = subst (λ P. IsStep c.args.metric P.exact c.args.bound c.args.limit P.approx c.find_step.new.pool.vectors c.in_ok-found.found) c.new-nets.ensures c.in_ok-found.ensures.step in
     let step = rw c.in-Moved.is at told in
     record {
+      decider = c.find_step.ensures.same ∙ c.loop-shrunk.invariant.decider;
       member = next-in_simplification c.args.metric c.args.net.now c.args.bound c.loop-shrunk.shrunk c.in-Moved.moved c.in_ok-shrunk-in-Moved.shrunk c.loop-shrunk.invariant.member step c.in_ok-shrunk-in-Moved.ensures;
-      pool = subst (λ P. IsPool P.exact c.find_step.new.pool) c.new.ensures c.in_ok-found.ensures.pool;
+      pool = subst (λ P. IsPool P.exact c.find_step.new.pool) c.new-nets.ensures c.in_ok-found.ensures.pool;
     }
 
 pub returns-in-End-clause-shrinking : goal.returns-in-End-clause-shrinking
 returns-in-End-clause-shrinking c =
-    let told = subst (λ P. IsStep c.args.metric P.exact c.args.bound c.args.limit P.approx c.find_step.new.pool.vectors c.in_ok-found.found) c.new.ensures c.in_ok-found.ensures.step in
+    let told = subst (λ P. IsStep c.args.metric P.exact c.args.bound c.args.limit P.approx c.find_step.new.pool.vectors c.in_ok-found.found) c.new-nets.ensures c.in_ok-found.ensures.step in
     let minimal = rw c.in-End.is at told in
     shrinking-end c.args.metric c.args.net.now c.args.bound c.args.limit c.loop-shrunk.shrunk c.find_step.new.pool c.loop-shrunk.invariant.member
-    (subst (λ P. IsPool P.exact c.find_step.new.pool) c.new.ensures c.in_ok-found.ensures.pool) minimal
+    (subst (λ P. IsPool P.exact c.find_step.new.pool) c.new-nets.ensures c.in_ok-found.ensures.pool) minimal
 
 pub returns-in-Spent-clause-shrinking : goal.returns-in-Spent-clause-shrinking
 returns-in-Spent-clause-shrinking c =
-    let told = subst (λ P. IsStep c.args.metric P.exact c.args.bound c.args.limit P.approx c.find_step.new.pool.vectors c.in_ok-found.found) c.new.ensures c.in_ok-found.ensures.step in
+    let told = subst (λ P. IsStep c.args.metric P.exact c.args.bound c.args.limit P.approx c.find_step.new.pool.vectors c.in_ok-found.found) c.new-nets.ensures c.in_ok-found.ensures.step in
     let spent = rw c.in-Spent.is at told in
     shrinking-spent c.args.metric c.args.net.now c.args.bound c.args.limit c.loop-shrunk.shrunk c.find_step.new.pool c.loop-shrunk.invariant.member
-    (subst (λ P. IsPool P.exact c.find_step.new.pool) c.new.ensures c.in_ok-found.ensures.pool) c.in-Spent.spent spent
+    (subst (λ P. IsPool P.exact c.find_step.new.pool) c.new-nets.ensures c.in_ok-found.ensures.pool) c.in-Spent.spent spent

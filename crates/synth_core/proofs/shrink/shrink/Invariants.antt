@@ -1,3 +1,4 @@
+use Rattle.std.proofs.Common.{◌≡◌}
 use Rattle.semantics.specs.Net.{literal_count}
 use Rattle.chain_semantics.specs.Simplification.{IsInSimplification}
 use Rattle.synth_core.specs.Steps.{IsPool}
@@ -6,6 +7,7 @@ use Rattle.synth_core.proofs.shrink.shrink.Given as goal
 -- the net is a member of the chain
 abbrev pub invariant-loop-shrunk : goal.invariant-loop-shrunk
 invariant-loop-shrunk l = record {
+  decider : l.decider ≡ l.net;
   member : IsInSimplification l.fn.metric l.net l.bound l.shrunk;
   pool : IsPool l.net l.pool;
 }

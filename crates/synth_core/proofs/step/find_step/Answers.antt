@@ -1,4 +1,4 @@
-use Rattle.std.proofs.Common.{subst, ap, ◌∙◌}
+use Rattle.std.proofs.Common.{subst, ap, refl, ◌∙◌}
 use Rattle.chain_semantics.specs.Moves.{moves_of}
 use Rattle.synth_core.specs.Steps.{IsWeighed}
 use Rattle.synth_core.proofs.Searching.{searched-none, searched-still, searched-more, searched-member, searched-step}
@@ -6,6 +6,7 @@ use Rattle.synth_core.proofs.step.find_step.Goals as goal
 
 pub loop-step-init : goal.loop-step-init
 loop-step-init c = record {
+  decider = refl;
   searched = searched-none _ _ _ _ _ _ (c.in_ok-moves.ensures ∙ ap moves_of c.approx.ensures.value);
   masked = record { pool = c.requires.pool; masks = c.in_ok-masks.ensures };
 }
@@ -20,6 +21,7 @@ returns-in-Some-2-clause-step c =
 
 pub loop-step-preserved : goal.loop-step-preserved
 loop-step-preserved c = record {
+  decider = c.weigh.ensures.same ∙ c.loop-step.invariant.decider;
   searched =
       searched-more _ _ _ _ _ _ _ _ c.in-Some.ensures (searched-still _ _ _ _ _ _ _ c.in_ok-found.ensures.among c.loop-step.invariant.searched)
       (subst

@@ -4,6 +4,7 @@ use Rattle.synth_core.proofs.step.weigh.Goals as goal
 pub try_move-requires : goal.try_move-requires
 try_move-requires c = record {
   held = c.requires.held;
+  decider = c.requires.decider;
   limit = c.requires.limit;
   same = c.requires.masked.masks.net;
   masks = c.requires.masked.masks.are;

@@ -1,9 +1,12 @@
-use Rattle.std.proofs.Common.{◌-◌}
+use Rattle.std.proofs.Common.{◌≡◌, ◌-◌}
 use Rattle.worst_case.specs.Maximum.{IsRange}
 use Rattle.worst_case.proofs.maximum.maximum.Given as goal
 
 abbrev pub invariant-loop-range : goal.invariant-loop-range
-invariant-loop-range l = IsRange l.metric l.nets.exact l.nets.approx l.bound l.range
+invariant-loop-range l = record {
+  range : IsRange l.metric l.nets.exact l.nets.approx l.bound l.range;
+  decider : l.decider ≡ l.nets.exact;
+}
 
 abbrev pub decreases-loop-range : goal.decreases-loop-range
 decreases-loop-range l = l.range.high - l.range.low

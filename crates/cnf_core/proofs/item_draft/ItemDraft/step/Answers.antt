@@ -1,5 +1,5 @@
 use Rattle.std.proofs.Common.{sym, subst}
-use Rattle.cnf_core.specs.Literals.{AreLiterals}
+use Rattle.proof_parts.specs.Literals.{AreLiterals}
 use Rattle.cnf_core.proofs.Drafts.{AreLiterals-at_hand}
 use Rattle.cnf_core.proofs.item_draft.ItemDraft.step.Goals as goal
 

@@ -1,0 +1,22 @@
+use Rattle.std.proofs.Common.{List, ap, sym, subst, ◌∙◌}
+use Rattle.semantics.specs.Net.{NetValue, IsSound}
+use Rattle.lane_nets.specs.Blocks.{IsBlock}
+use Rattle.lane_nets.specs.Lanes.{IsOutputBlock}
+use Rattle.adc_core.proofs.GrownBlocks.{exceeding_told, TellsOverUsed}
+use Rattle.adc_core.proofs.growing_blocks.block_of.Goals as goal
+
+pub returns : goal.returns
+returns c =
+    let j = c.args.judged.now in
+    let vectors = c.args.patterns.now.vectors in
+    let values = subst (λ (N : NetValue). IsBlock N c.args.patterns.now.vectors c.args.k c.in_ok-words.words) c.approx-net.ensures.value c.in_ok-words.ensures in
+    let outputs = subst (λ (N : NetValue). IsOutputBlock N c.args.patterns.now.vectors c.args.k c.in_ok-outputs.outputs) c.exact.ensures.value c.in_ok-outputs.ensures in
+    let sound = subst IsSound c.approx-net.ensures.value c.tables.ensures.built.sound in
+    record {
+      values = values;
+      outputs = outputs;
+      exceeds =
+          exceeding_told j.metric j.nets.exact j.nets.approx j.bound c.args.k c.count.result vectors c.in_ok-words.words c.in_ok-outputs.outputs c.over_bound-exceeds.result
+          c.used_word-used.result (sym c.count.ensures.value) outputs c.used_word-used.ensures
+          (rw (← c.as_slice.ensures, ← c.as_slice-2.ensures) c.over_bound-exceeds.ensures) sound values;
+    }

@@ -1,0 +1,8 @@
+use Rattle.std.proofs.Common.{◌≡◌}
+use Rattle.aiger_semantics.specs.CircuitLines.{and_of, all_read}
+use Rattle.text_words.specs.Slices.{texts}
+use Rattle.aiger_text.proofs.SectionSteps.{put_all, rest_read}
+use Rattle.aiger_text.proofs.sections.read_ands.Given as goal
+
+abbrev pub invariant-loop-i : goal.invariant-loop-i
+invariant-loop-i l = put_all l.ands (rest_read (and_of l.most) l.first l.count (texts l.lines) l.i) ≡ all_read (and_of l.most) l.first l.count (texts l.lines)

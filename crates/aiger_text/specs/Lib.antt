@@ -1,0 +1,2 @@
+pub mod CircuitText
+pub mod Refusals

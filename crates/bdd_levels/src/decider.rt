@@ -1,0 +1,189 @@
+//! Whether the error of an approximate net exceeds a level, by diagrams that are kept over many questions.
+ghost use Rattle.std.specs.Prelude.{◌≡◌, ◌≤◌, length, IfOk, IfSome};
+ghost use Rattle.semantics.specs.Error.{IsCandidate};
+ghost use Rattle.bdd_levels.specs.Levels.{AreInputVariables, IsLevelDecided, IsLevelOf};
+
+use crate::budgets::{GROWTH, MOST_OPEN_QUESTIONS, QUESTION_STEPS, SPARE_NODES, TRIAL_NODES};
+use crate::drawn::Drawn;
+use crate::level::Level;
+use crate::orders::{HEURISTICS, input_variables};
+use bdd_core::stop::Stop;
+use bdd_nets::decision::Decision;
+use bdd_nets::distinct::are_distinct;
+use net_core::net::Net;
+use semantics::limits::MOST_OUTPUTS;
+use semantics::metric::Metric;
+use std::alloc::{AllocError, Global};
+use std::marker::Model;
+
+/// An exact net, and its diagrams in the order of inputs that takes the fewest nodes, where one fits.
+#[derive(Drop)]
+pub struct Decider<'a> {
+    exact: &'a Net,
+    drawn: Option<Drawn<'a>>,
+    /// The nodes of the exact net alone.
+    first: usize,
+    /// The level that was asked about last.
+    level: Option<Level>,
+    /// How many questions were left open, one after another.
+    open_questions: u32,
+}
+
+impl<'a> Model for Decider<'a> {
+    ghost use Rattle.std.specs.Prelude.{◌≡◌, IfSome};
+    ghost use Rattle.semantics.specs.Net.{NetValue};
+    ghost use Rattle.bdd_levels.specs.Levels.{IsLevelOf};
+
+    ghost Value = { NetValue };
+
+    ghost view = { λ d. d.exact.now };
+
+    ghost invariant = { λ d. IfSome d.drawn (λ e. e ≡ d.exact.now) × IfSome d.level (IsLevelOf d.exact.now) };
+}
+
+/// The net's diagrams where its inputs have these variables, if they take fewer than so many nodes.
+fn try_order<'a>(
+    alloc: Global,
+    exact: &'a Net,
+    variables: Vec<u32>,
+    nodes: u32,
+) -> Result<Option<Drawn<'a>>, AllocError>
+    ensures { IfOk result (λ found. IfSome found (λ d. d ≡ exact.now)) }
+{
+    if variables.len() != exact.inputs() as usize || !are_distinct(&variables) {
+        return Ok(None);
+    }
+    match Drawn::new(alloc, exact, variables, nodes) {
+        Ok(drawn) => Ok(Some(drawn)),
+        Err(Stop::Spent) => Ok(None),
+        Err(Stop::OutOfMemory) => Err(AllocError),
+    }
+}
+
+/// The net's diagrams in the order that takes the fewest nodes, if they are fewer than so many.
+fn best_order<'a>(
+    alloc: Global,
+    exact: &'a Net,
+    nodes: u32,
+) -> Result<Option<Drawn<'a>>, AllocError>
+    ensures { IfOk result (λ found. IfSome found (λ d. d ≡ exact.now)) }
+{
+    let mut best = None;
+    let mut least = nodes;
+    for heuristic in HEURISTICS.iter() {
+        let variables = input_variables(alloc, exact, *heuristic)?;
+        if let Some(drawn) = try_order(alloc, exact, variables, least)? {
+            least = (least as usize).min(drawn.nodes()) as u32;
+            best = Some(drawn);
+        }
+    }
+    Ok(best)
+}
+
+impl<'a> Decider<'a> {
+    /// For nets that are decided in another way.
+    pub fn none(exact: &'a Net) -> Decider<'a>
+        ensures { result ≡ exact.now }
+    {
+        Decider {
+            exact,
+            drawn: None,
+            first: 0,
+            level: None,
+            open_questions: 0,
+        }
+    }
+
+    /// Looks for an order of the net's inputs in which its diagrams are few.
+    pub fn new(alloc: Global, exact: &'a Net) -> Result<Decider<'a>, AllocError>
+        ensures { IfOk result (λ d. d ≡ exact.now) }
+    {
+        for nodes in TRIAL_NODES.iter() {
+            if let Some(drawn) = best_order(alloc, exact, *nodes)? {
+                let first = drawn.nodes();
+                return Ok(Decider {
+                    exact,
+                    drawn: Some(drawn),
+                    first,
+                    level: None,
+                    open_questions: 0,
+                });
+            }
+        }
+        Ok(Decider::none(exact))
+    }
+
+    /// The network of a level: that of the last question, if it is the same.
+    fn take_level(&mut self, alloc: Global, metric: Metric, k: u128) -> Result<Level, AllocError>
+        requires { length self.old.outputs ≤ MOST_OUTPUTS }
+        ensures same { self.new ≡ self.old }
+        ensures metric { IfOk result (λ level. level.metric ≡ metric) }
+        ensures k { IfOk result (λ level. level.k ≡ k) }
+        ensures level { IfOk result (IsLevelOf self.old) }
+    {
+        if let Some(level) = self.level.take() {
+            if level.metric == metric && level.k == k {
+                return Ok(level);
+            }
+        }
+        Level::new(alloc, self.exact, metric, k)
+    }
+
+    /// Whether the error of an approximate net exceeds `k`, within so many steps. After some questions that were left open, one after
+    /// another, only one that may take more steps is tried.
+    pub fn decide(
+        &mut self,
+        alloc: Global,
+        approx: &Net,
+        metric: Metric,
+        k: u128,
+        steps: u64,
+    ) -> Result<Decision, AllocError>
+        requires candidate { IsCandidate self.old approx.now }
+        ensures same { self.new ≡ self.old }
+        ensures decided { IfOk result (IsLevelDecided metric self.old approx.now k) }
+    {
+        let hopeless = self.open_questions >= MOST_OPEN_QUESTIONS && steps <= QUESTION_STEPS;
+        if self.drawn.is_none() || hopeless {
+            return Ok(Decision::Unknown);
+        }
+        let level = self.take_level(alloc, metric, k)?;
+        let decision = self.decide_level(alloc, approx, &level, steps)?;
+        self.level = Some(level);
+        self.open_questions = match decision {
+            Decision::Unknown => self.open_questions.saturating_add(1),
+            _ => 0,
+        };
+        Ok(decision)
+    }
+
+    /// The same where the level's network is made. Diagrams that have become many are begun anew before.
+    fn decide_level(
+        &mut self,
+        alloc: Global,
+        approx: &Net,
+        level: &Level,
+        steps: u64,
+    ) -> Result<Decision, AllocError>
+        requires candidate { IsCandidate self.old approx.now }
+        requires level { IsLevelOf self.old level.now }
+        ensures same { self.new ≡ self.old }
+        ensures decided { IfOk result (IsLevelDecided level.now.metric self.old approx.now level.now.k) }
+    {
+        let most = self
+            .first
+            .saturating_mul(GROWTH)
+            .saturating_add(SPARE_NODES);
+        let Some(drawn) = &mut self.drawn else {
+            return Ok(Decision::Unknown);
+        };
+        if drawn.nodes() > most {
+            match drawn.renew(alloc) {
+                Ok(()) => {}
+                Err(Stop::Spent) => return Ok(Decision::Unknown),
+                Err(Stop::OutOfMemory) => return Err(AllocError),
+            }
+        }
+        drawn.decide(alloc, approx, level, steps)
+    }
+}

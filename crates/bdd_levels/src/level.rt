@@ -1,0 +1,43 @@
+//! A level that the error of nets with so many outputs may not exceed, and the network that says whether it does.
+ghost use Rattle.std.specs.Prelude.{◌≡◌, ◌≤◌, length, IfOk};
+ghost use Rattle.quality_semantics.specs.Quality.{quality_net};
+ghost use Rattle.bdd_levels.specs.Levels.{IsLevelOf};
+
+use net_core::net::Net;
+use semantics::limits::MOST_OUTPUTS;
+use semantics::metric::Metric;
+use std::alloc::{AllocError, Global};
+
+/// A level, and the network over two words that says whether their error exceeds it.
+#[derive(Drop)]
+pub struct Level {
+    pub metric: Metric,
+    pub k: u128,
+    pub network: Net,
+}
+
+/// The net whose output says whether the error of two words of so many bits exceeds `k`.
+fn quality(alloc: Global, metric: Metric, width: u32, k: u128) -> Result<Net, AllocError>
+    requires { width ≤ MOST_OUTPUTS }
+    ensures { IfOk result (λ n. n ≡ quality_net metric width k) }
+{
+    match metric {
+        Metric::Abs => quality_abs::quality(alloc, width, k),
+        Metric::Rel => quality_rel::quality(alloc, width, k),
+        Metric::Ham => quality_ham::quality(alloc, width, k),
+        Metric::Sabs => quality_abs::quality_signed(alloc, width, k),
+    }
+}
+
+impl Level {
+    /// The level `k` of the errors of approximate nets of this one.
+    pub fn new(alloc: Global, exact: &Net, metric: Metric, k: u128) -> Result<Level, AllocError>
+        requires { length exact.now.outputs ≤ MOST_OUTPUTS }
+        ensures metric { IfOk result (λ level. level.metric ≡ metric) }
+        ensures k { IfOk result (λ level. level.k ≡ k) }
+        ensures level { IfOk result (IsLevelOf exact.now) }
+    {
+        let network = quality(alloc, metric, exact.outputs(), k)?;
+        Ok(Level { metric, k, network })
+    }
+}

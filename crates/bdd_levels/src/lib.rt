@@ -1,0 +1,12 @@
+//! Whether the error of an approximate net exceeds a level, decided by diagrams, without a log.
+//!
+//! `level` has the quality network of a level. `drawn` has the exact net's diagrams, made once, and over the same nodes those of each
+//! approximate net: what both have in common is found again. `orders` has orders of inputs, and `decider` keeps the diagrams of the
+//! best of them over many questions. What may be spent on each stands in `budgets`.
+#![tactic(auto)]
+
+pub mod budgets;
+pub mod decider;
+mod drawn;
+pub mod level;
+mod orders;

@@ -1,0 +1,225 @@
+//! Orders of a net's inputs, from its structure and its names alone. Nothing rests on them but how many nodes diagrams take.
+//! Source: Malik's and Fujita's walks from the outputs; words interleaved by bits, as for adders and comparators.
+use net_core::items::Signal;
+use net_core::net::Net;
+use std::alloc::{AllocError, Global};
+
+/// How inputs are put in order.
+#[derive(Clone, Copy)]
+pub(crate) enum Heuristic {
+    /// As a walk from the last output meets them, the pin nearest to the inputs first.
+    LastShallowFirst,
+    /// The words' highest bits first, by the numbers at the ends of the names.
+    HighestBitFirst,
+    /// As a walk from the last output meets them.
+    LastOutputFirst,
+    /// As a walk from the first output meets them, turned round.
+    FirstOutputLast,
+    /// As a walk from the first output meets them.
+    FirstOutputFirst,
+    /// The words' lowest bits first.
+    LowestBitFirst,
+}
+
+/// All of them, the best first.
+pub(crate) const HEURISTICS: [Heuristic; 6] = [
+    Heuristic::LastShallowFirst,
+    Heuristic::HighestBitFirst,
+    Heuristic::LastOutputFirst,
+    Heuristic::FirstOutputLast,
+    Heuristic::FirstOutputFirst,
+    Heuristic::LowestBitFirst,
+];
+
+/// One more than the greatest depth of these signals.
+fn depth_over(depths: &[u32], pins: &[Signal]) -> u32 {
+    let mut most = 0;
+    for pin in pins {
+        let at = *pin as usize;
+        if at < depths.len() && depths[at] > most {
+            most = depths[at];
+        }
+    }
+    most.saturating_add(1)
+}
+
+/// How far each signal is from the inputs.
+fn depths(alloc: Global, net: &Net) -> Result<Vec<u32>, AllocError> {
+    let inputs = net.inputs() as usize;
+    let mut depths = vec![in alloc; 0; net.signals() as usize]?;
+    for t in net.order() {
+        let at = inputs.saturating_add(*t as usize);
+        if *t < net.tables() && at < depths.len() {
+            let depth = depth_over(&depths, net.table(*t).pins().as_slice());
+            depths[at] = depth;
+        }
+    }
+    Ok(depths)
+}
+
+/// These signals in the order of their keys, each beside its key.
+fn sorted(alloc: Global, keys: &[u32]) -> Result<Vec<u64>, AllocError> {
+    let mut both = Vec::new(alloc);
+    for (place, key) in keys.iter().enumerate() {
+        both.push((u64::from(*key) << 32) | place as u64)?;
+    }
+    both.sort_unstable();
+    Ok(both)
+}
+
+/// The depths of pins, or 0 for each where they do not matter.
+fn pin_keys(
+    alloc: Global,
+    depths: &[u32],
+    pins: &[Signal],
+    by_depth: bool,
+) -> Result<Vec<u32>, AllocError> {
+    let mut keys = Vec::new(alloc);
+    for pin in pins {
+        let at = *pin as usize;
+        keys.push(if by_depth && at < depths.len() {
+            depths[at]
+        } else {
+            0
+        })?;
+    }
+    Ok(keys)
+}
+
+/// Puts pins on a stack, so that the one with the least depth, or else the first, is taken first.
+fn push_pins(
+    alloc: Global,
+    left: &mut Vec<Signal>,
+    depths: &[u32],
+    pins: &[Signal],
+    by_depth: bool,
+) -> Result<(), AllocError> {
+    let keys = pin_keys(alloc, depths, pins, by_depth)?;
+    let both = sorted(alloc, &keys)?;
+    for both in both.iter().rev() {
+        let place = (*both & 0xffff_ffff) as usize;
+        if place < pins.len() {
+            left.push(pins[place])?;
+        }
+    }
+    Ok(())
+}
+
+/// Whether a signal is seen for the first time.
+fn is_new(seen: &mut [bool], signal: Signal) -> bool {
+    let at = signal as usize;
+    if at >= seen.len() || seen[at] {
+        return false;
+    }
+    seen[at] = true;
+    true
+}
+
+/// The inputs in the order in which a walk from these outputs meets them; the last one is gone from first.
+fn walk(
+    alloc: Global,
+    net: &Net,
+    outputs: Vec<Signal>,
+    by_depth: bool,
+) -> Result<Vec<Signal>, AllocError> {
+    let depths = depths(alloc, net)?;
+    let mut seen = vec![in alloc; false; net.signals() as usize]?;
+    let mut left = outputs;
+    let mut met = Vec::new(alloc);
+    for _ in 0..u64::MAX {
+        let Some(signal) = left.pop() else {
+            break;
+        };
+        if !is_new(&mut seen, signal) {
+            continue;
+        }
+        if signal < net.inputs() {
+            met.push(signal)?;
+        } else if signal - net.inputs() < net.tables() {
+            let pins = net.table(signal - net.inputs()).pins();
+            push_pins(alloc, &mut left, &depths, pins.as_slice(), by_depth)?;
+        }
+    }
+    Ok(met)
+}
+
+/// The number at the end of a name, before a bracket that closes.
+fn name_number(name: &[u8]) -> u32 {
+    let mut number = 0u32;
+    let mut unit = 1u32;
+    for byte in name.iter().rev() {
+        if !byte.is_ascii_digit() {
+            if *byte == b']' && unit == 1 {
+                continue;
+            }
+            break;
+        }
+        number = number.saturating_add(unit.saturating_mul(u32::from(*byte - b'0')));
+        unit = unit.saturating_mul(10);
+    }
+    number
+}
+
+/// The inputs by the numbers at the ends of their names.
+fn by_names(alloc: Global, net: &Net, highest_first: bool) -> Result<Vec<Signal>, AllocError> {
+    let mut keys = Vec::new(alloc);
+    for name in net.input_names() {
+        let number = name_number(name.bytes());
+        keys.push(if highest_first {
+            u32::MAX - number
+        } else {
+            number
+        })?;
+    }
+    let mut met = Vec::new(alloc);
+    for both in sorted(alloc, &keys)?.iter() {
+        met.push((*both & 0xffff_ffff) as u32)?;
+    }
+    Ok(met)
+}
+
+/// The rank of each input, where some were met in this order; the others come behind them.
+fn ranks(alloc: Global, inputs: u32, met: &[Signal]) -> Result<Vec<u32>, AllocError> {
+    let mut ranks = vec![in alloc; u32::MAX; inputs as usize]?;
+    let mut next = 0;
+    for input in met {
+        let at = *input as usize;
+        if at < ranks.len() && ranks[at] == u32::MAX && next < inputs {
+            ranks[at] = next;
+            next += 1;
+        }
+    }
+    for rank in ranks.iter_mut() {
+        if *rank == u32::MAX && next < inputs {
+            *rank = next;
+            next += 1;
+        }
+    }
+    Ok(ranks)
+}
+
+/// The variable of each input, the least of which is split on first.
+pub(crate) fn input_variables(
+    alloc: Global,
+    net: &Net,
+    heuristic: Heuristic,
+) -> Result<Vec<u32>, AllocError> {
+    let mut outputs = net.output_signals().to_vec(alloc)?;
+    let met = match heuristic {
+        Heuristic::LastShallowFirst => walk(alloc, net, outputs, true)?,
+        Heuristic::HighestBitFirst => by_names(alloc, net, true)?,
+        Heuristic::LastOutputFirst => walk(alloc, net, outputs, false)?,
+        Heuristic::FirstOutputLast => {
+            outputs.reverse();
+            let mut met = walk(alloc, net, outputs, false)?;
+            met.reverse();
+            met
+        }
+        Heuristic::FirstOutputFirst => {
+            outputs.reverse();
+            walk(alloc, net, outputs, false)?
+        }
+        Heuristic::LowestBitFirst => by_names(alloc, net, false)?,
+    };
+    ranks(alloc, net.inputs(), &met)
+}

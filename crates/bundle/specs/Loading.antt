@@ -1,0 +1,33 @@
+-- What a bundle is loaded as.
+use Rattle.std.specs.Prelude.{◌≡◌, ℕ, List}
+use Rattle.semantics.specs.Texts.{Bytes}
+use Rattle.semantics.specs.Net.{NetValue}
+use Rattle.semantics.specs.declared.metric.Metric.{Metric}
+use Rattle.outside_semantics.specs.Outside.{FilesTold}
+use Rattle.proof_semantics.specs.Formula.{Formula}
+use Rattle.proof_semantics.specs.Logs.{LogItem, Refutes}
+use Rattle.proof_semantics.specs.Miter.{miter}
+use Rattle.job_semantics.specs.declared.clause.Clause.{Clause}
+use Rattle.job_semantics.specs.Certificate.{Texts, OfBundle, OfBoth, IsRefutation, Certifies, IsFirstFailing, clause_number}
+use Rattle.bundle.specs.declared.judged.Judged.{Judged}
+use Rattle.bundle.specs.declared.judged.Judged.TheVariants as judged
+use Rattle.bundle.specs.declared.loaded.Loaded.{Loaded}
+use Rattle.bundle.specs.declared.loaded.Loaded.TheVariants.{Good, Refuted}
+
+-- the texts are a certificate, with this miter as its formula and these items as its log
+pub record IsCertificateOf (exact : NetValue) (metric : Metric) (bound : ℕ) (texts : Texts) (goal : Formula) (log : List LogItem) : Type 0 where
+  pub certifies : Certifies exact metric bound texts
+  pub parts : OfBoth exact metric bound texts (λ M r. (goal ≡ miter exact M metric r.maximum) × IsRefutation exact M metric r.maximum texts log)
+
+-- a certificate whose log's items were all kept, or the number of the first clause that fails
+abbrev pub loaded_of : Judged (List LogItem) → Loaded
+loaded_of (judged.Good goal log) = Good goal log
+loaded_of (judged.Failing c) = Refuted (clause_number c)
+
+-- What was loaded, where the files are told: a certificate's formula and log, or the first clause that fails. Whatever is told, the
+-- log refutes the formula.
+abbrev pub IsLoaded : NetValue → Metric → ℕ → Bytes → FilesTold → FilesTold → Loaded → Type 0
+IsLoaded exact metric bound stem old new (Good goal log) =
+    Refutes goal.clauses log × OfBundle old new stem (λ texts. IsCertificateOf exact metric bound texts goal log)
+IsLoaded exact metric bound stem old new (Refuted number) =
+    (c : Clause) × (number ≡ clause_number c) × OfBundle old new stem (λ texts. IsFirstFailing exact metric bound texts c)

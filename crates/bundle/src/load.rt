@@ -1,0 +1,35 @@
+//! A bundle is checked, and the proof in it is kept.
+ghost use Rattle.std.specs.Prelude.{IfOk, IfErr};
+ghost use Rattle.semantics.specs.Net.{IsSmall};
+ghost use Rattle.bundle.specs.Judging.{FilesKept, IsCause, NothingKnown};
+ghost use Rattle.bundle.specs.Loading.{IsLoaded};
+
+use crate::judging::check_netlist;
+use crate::loaded::Loaded;
+use crate::stem::Stem;
+use file_core::files::Files;
+use file_reading::unread::Unread;
+use net_core::net::Net;
+use semantics::metric::Metric;
+use std::alloc::Global;
+
+/// The formula and the log of the bundle of the stem, if its files are a certificate that a simplified net is within the bound.
+/// It reads and judges the files as `check_bundle` does, and keeps the log's items besides.
+pub fn load_bundle<F: Files>(
+    alloc: Global,
+    net: &Net,
+    metric: Metric,
+    bound: u128,
+    stem: &Stem,
+    files: &mut F,
+) -> Result<Loaded, Unread>
+    requires { IsSmall net.now }
+    ensures kept { FilesKept net.now metric bound stem.now NothingKnown (F.told files.old) (F.told files.new) }
+    ensures loaded { IfOk result
+        (IsLoaded net.now metric bound stem.now (F.told files.old) (F.told files.new)) }
+    ensures cause { IfErr result
+        (IsCause net.now metric bound stem.now NothingKnown (F.told files.old) (F.told files.new)) }
+{
+    let judged = check_netlist(alloc, net, metric, bound, stem, files)?;
+    Ok(Loaded::of(judged))
+}

@@ -1,5 +1,0 @@
-use Rattle.cdcl_core.proofs.Loops.{IsMarking}
-use Rattle.cdcl_core.proofs.marks.mark_others.Given as goal
-
-abbrev pub invariant-loop-literal : goal.invariant-loop-literal
-invariant-loop-literal l = IsMarking l.trail.literals l.initial.marks l.marks l.clause l.own l.bound l.literal-index

@@ -1,0 +1,9 @@
+use Rattle.std.proofs.Common.{◌≡◌, ◌+◌, ◌<◌, length}
+use Rattle.std.specs.Prelude.{All}
+use Rattle.cdcl_core.proofs.ring.ring_after.Given as goal
+
+abbrev pub invariant-loop-v : goal.invariant-loop-v
+invariant-loop-v l = record {
+  length : length l.after.items ≡ l.v + 1;
+  within : All (λ v. v < l.last + 1) l.after.items;
+}

@@ -1,0 +1,85 @@
+//! When the search goes back to its start.
+//!
+//! A learned clause of few levels is likely to be used again. Where the last ones are of more levels than those of the whole search, on
+//! average, the decisions are not worth keeping: the search restarts. The averages weigh a clause the less the older it is, in fixed
+//! point with 32 bits behind it. Source: Glucose, with the averages of Biere and Froehlich, which CaDiCaL has.
+//!
+//! Where nothing is known of a net behind the formula the search does not restart: formulas of multipliers then take half the conflicts.
+//!
+//! With few inputs a search ends soonest, once it has gone on for long, if it decides them in the order of their numbers, without
+//! restarts: then it goes over their vectors, as far as clauses do not rule them out many at a time.
+ghost use Rattle.std.specs.Prelude.{◌<◌, ◌≤◌};
+
+/// How many inputs are few.
+const FEW_INPUTS: u32 = 16;
+
+/// How far the averages reach: a clause weighs 1 / 2 ^ n of the fast or the slow one.
+const FAST: u32 = 5;
+
+const SLOW: u32 = 14;
+
+/// The averages, the clauses that were learned, those since the last restart, and the number of inputs where they are few.
+#[derive(Drop)]
+pub struct Pace {
+    fast: u64,
+    slow: u64,
+    learned: u64,
+    since: u64,
+    inputs: u32,
+    is_net: bool,
+}
+
+/// An average with one number more, which is a plain one at the beginning.
+fn average(so_far: u64, levels: u64, learned: u64, shift: u32) -> u64
+    requires some { 0 < shift }
+    requires small { shift ≤ 32 }
+{
+    let weight = learned.saturating_add(1).ilog2().clamp(1, shift);
+    so_far
+        .wrapping_sub(so_far >> weight)
+        .wrapping_add(levels << (32 - weight))
+}
+
+impl Pace {
+    /// Nothing was learned yet. `is_net`: the signals of a net are known.
+    pub fn new(inputs: u32, is_net: bool) -> Pace {
+        Pace {
+            fast: 0,
+            slow: 0,
+            learned: 0,
+            since: 0,
+            inputs: if inputs <= FEW_INPUTS { inputs } else { 0 },
+            is_net,
+        }
+    }
+
+    /// A clause of so many levels was learned.
+    pub fn note(&mut self, levels: u64) {
+        self.fast = average(self.fast, levels, self.learned, FAST);
+        self.slow = average(self.slow, levels, self.learned, SLOW);
+        self.learned = self.learned.saturating_add(1);
+        self.since = self.since.saturating_add(1);
+    }
+
+    /// How many inputs are decided first, in the order of their numbers.
+    pub fn inputs_first(&self) -> u32 {
+        let few: u64 = 1 << self.inputs.min(FEW_INPUTS);
+        if self.learned >= few / 8 {
+            self.inputs
+        } else {
+            0
+        }
+    }
+
+    /// Whether the search goes back to its start now.
+    pub fn restarts(&mut self) -> bool {
+        let due = self.is_net
+            && self.since >= 2
+            && self.inputs_first() == 0
+            && self.fast / 65536 * 100 > self.slow / 65536 * 105;
+        if due {
+            self.since = 0;
+        }
+        due
+    }
+}

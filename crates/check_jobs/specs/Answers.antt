@@ -1,0 +1,76 @@
+-- What each answer of a check or a trim job says.
+use Rattle.std.specs.Prelude.{◌≡◌, ℕ, Some, Result, Ok, Err}
+use Rattle.semantics.specs.Texts.{Bytes}
+use Rattle.semantics.specs.Net.{NetValue}
+use Rattle.semantics.specs.declared.metric.Metric.{Metric}
+use Rattle.outside_semantics.specs.Outside.{FilesTold, SinkTold}
+use Rattle.blif_semantics.specs.Reading.{Refusal}
+use Rattle.file_reading.specs.declared.unread.Unread.{Unread}
+use Rattle.file_reading.specs.declared.unread.Unread.TheVariants as unread
+use Rattle.job_semantics.specs.Certificate.{clause_number}
+use Rattle.job_semantics.specs.Checking.{CheckEnd, verified, refuted, refused, out_of_memory, not_read, endless}
+use Rattle.job_semantics.specs.Trimming as trimming
+use Rattle.blif_text.specs.Refusals.{refusal_of}
+use Rattle.blif_text.specs.declared.refusal.BlifRefusal.{BlifRefusal}
+use Rattle.bundle.specs.declared.verdict.Verdict.{Verdict}
+use Rattle.bundle.specs.declared.verdict.Verdict.TheVariants as verdict
+use Rattle.job_answers.specs.declared.status.Status.{Status}
+use Rattle.job_answers.specs.declared.status.Status.TheVariants.{Done, Verified, Refuted, Text, NoMemory, ReadFault, WriteFault, Endless}
+use Rattle.job_answers.specs.Refused.{TellsBlif}
+
+-- the answer where a needed file of a bundle was not read
+abbrev pub status_of_unread : Unread → Status
+status_of_unread unread.Fault = ReadFault
+status_of_unread unread.OutOfMemory = NoMemory
+status_of_unread unread.Endless = Endless
+
+-- the answer to a check job whose IN gives a net
+abbrev pub status_of_check : Result Verdict Unread → Status
+status_of_check (Ok verdict.Verified) = Verified
+status_of_check (Ok (verdict.Refuted number)) = Refuted number
+status_of_check (Err reason) = status_of_unread reason
+
+-- the answer for each end of a check
+abbrev pub IsAnswerFor : {metric : Metric} {bound : ℕ} {input stem : Bytes} {old new : FilesTold} {said says : SinkTold}
+    → CheckEnd metric bound input stem old new said says → Status → Type 0
+IsAnswerFor (verified v) status = status ≡ Verified
+IsAnswerFor (refuted c r) status = status ≡ Refuted (clause_number c)
+IsAnswerFor (refused refusal r) status = TellsBlif refusal status
+IsAnswerFor (out_of_memory left) status = status ≡ NoMemory
+IsAnswerFor (not_read fault) status = status ≡ ReadFault
+IsAnswerFor (endless e) status = status ≡ Endless
+
+-- what a check job comes to, by its answer
+abbrev pub CheckAnswer : Metric → ℕ → Bytes → Bytes → FilesTold → FilesTold → SinkTold → SinkTold → Status → Type 0
+CheckAnswer metric bound input stem old new said says status = (end : CheckEnd metric bound input stem old new said says) × IsAnswerFor end status
+
+-- the answer for each end of a trim job
+abbrev pub IsTrimAnswer : {metric : Metric} {bound : ℕ} {input stem output : Bytes} {old new : FilesTold} {said says : SinkTold}
+    → trimming.TrimEnd metric bound input stem output old new said says → Status → Type 0
+IsTrimAnswer (trimming.done d) status = status ≡ Done
+IsTrimAnswer (trimming.not_written cut) status = status ≡ WriteFault
+IsTrimAnswer (trimming.not_verified end not) status = IsAnswerFor end status
+
+-- what a trim job comes to, by its answer
+abbrev pub TrimAnswer : Metric → ℕ → Bytes → Bytes → Bytes → FilesTold → FilesTold → SinkTold → SinkTold → Status → Type 0
+TrimAnswer metric bound input stem output old new said says status =
+    (end : trimming.TrimEnd metric bound input stem output old new said says) × IsTrimAnswer end status
+
+-- the reading is refused for the reason that is told, which is not want of memory
+abbrev pub Refuses : Result NetValue Refusal → BlifRefusal → Type 0
+Refuses reading reason = (refusal : Refusal) × (reading ≡ Err refusal) × (refusal_of reason ≡ Some refusal)
+
+-- the answer that the reading of IN asks a check job for, unless memory is wanting
+abbrev pub IsCheckAnswerTo : Result NetValue Refusal → Status → Type 0
+IsCheckAnswerTo reading Verified = (N : NetValue) × (reading ≡ Ok N)
+IsCheckAnswerTo reading (Refuted number) = (N : NetValue) × (reading ≡ Ok N)
+IsCheckAnswerTo reading Endless = (N : NetValue) × (reading ≡ Ok N)
+IsCheckAnswerTo reading (Text reason) = Refuses reading reason
+IsCheckAnswerTo reading NoMemory = Unit {0}
+IsCheckAnswerTo reading _ = ⊥
+
+-- and a trim job: as a check, with `Done` in the place of `Verified`
+abbrev pub IsTrimAnswerTo : Result NetValue Refusal → Status → Type 0
+IsTrimAnswerTo reading Done = (N : NetValue) × (reading ≡ Ok N)
+IsTrimAnswerTo reading Verified = ⊥
+IsTrimAnswerTo reading status = IsCheckAnswerTo reading status

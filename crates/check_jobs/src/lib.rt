@@ -1,0 +1,5 @@
+//! Jobs that check a bundle: a check, and the trimming of a log whose certificate stands.
+#![tactic(auto)]
+
+pub mod checking;
+pub mod trimming;

@@ -1,0 +1,5 @@
+pub mod Told
+pub mod InputReadings
+pub mod OneFile
+pub mod Conversions
+pub mod Texts

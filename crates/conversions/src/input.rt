@@ -1,0 +1,47 @@
+//! IN as a text, and as the net that it holds.
+ghost use Rattle.std.specs.Prelude.{IfOk, IfErr};
+ghost use Rattle.conversions.specs.Input.{FrontRead, FrontUnread, NetRead, NetUnread};
+
+use blif_text::reading::read_blif;
+use file_core::files::Files;
+use file_reading::front::Front;
+use file_reading::reading::read_file;
+use file_reading::unread::Unread;
+use job_answers::refused::blif_answer;
+use job_answers::status::Status;
+use net_core::net::Net;
+use std::alloc::Global;
+
+/// The most bytes of IN that are read.
+pub const INPUT_LIMIT: usize = 4_194_304;
+
+/// Reads a file no further than one byte past the limit, so that none is endless. Where it cannot be read, that is the answer.
+pub fn read_front<F: Files>(alloc: Global, files: &mut F, name: &[u8]) -> Result<Front, Status>
+    ensures ok { IfOk result (λ front. FrontRead (F.told files.old) (F.told files.new) name.now front.bytes) }
+    ensures err { IfErr result (FrontUnread (F.told files.old) (F.told files.new) name.now) }
+{
+    let mut front = Front::new(alloc, INPUT_LIMIT);
+    let read = read_file(files, name, &mut front);
+    let _ = front.bytes();
+    match read {
+        Ok(()) => Ok(front),
+        Err(Unread::Fault) => Err(Status::ReadFault),
+        Err(Unread::OutOfMemory) => Err(Status::NoMemory),
+        Err(Unread::Endless) => unreachable!(),
+    }
+}
+
+/// Reads a file, and makes the net of its text. Where there is none, that is the answer.
+pub fn read_net<F: Files>(alloc: Global, files: &mut F, name: &[u8]) -> Result<Net, Status>
+    ensures ok { IfOk result (NetRead (F.told files.old) (F.told files.new) name.now) }
+    ensures err { IfErr result (NetUnread (F.told files.old) (F.told files.new) name.now) }
+{
+    let front = match read_front(alloc, files, name) {
+        Ok(front) => front,
+        Err(answer) => return Err(answer),
+    };
+    match read_blif(alloc, front.bytes(), INPUT_LIMIT as u64) {
+        Ok(net) => Ok(net),
+        Err(reason) => Err(blif_answer(reason)),
+    }
+}

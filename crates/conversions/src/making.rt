@@ -1,0 +1,26 @@
+//! What the conversions make of a text, before OUT is touched.
+ghost use Rattle.std.specs.Prelude.{◌≡◌, Ok, IfOk, IfErr};
+ghost use Rattle.job_semantics.specs.Input.{input_reading};
+ghost use Rattle.blif_text.specs.Refusals as blif;
+ghost use Rattle.conversions.specs.Texts.{circuit_reading};
+
+use crate::input::INPUT_LIMIT;
+use aiger_text::ands::Ands;
+use blif_text::reading::read_blif;
+use blif_text::refusal::BlifRefusal;
+use std::alloc::Global;
+
+/// The circuit of the net of a text.
+pub(crate) fn circuit(alloc: Global, text: &[u8]) -> Result<Ands, BlifRefusal>
+    ensures ok { IfOk result (λ circuit. circuit_reading text.now ≡ Ok circuit) }
+    ensures err { IfErr result (λ told. blif.Tells told (input_reading text.now)) }
+{
+    let net = match read_blif(alloc, text, INPUT_LIMIT as u64) {
+        Ok(net) => net,
+        Err(reason) => return Err(reason),
+    };
+    match Ands::of_net(alloc, &net) {
+        Ok(circuit) => Ok(circuit),
+        Err(_) => Err(BlifRefusal::OutOfMemory),
+    }
+}

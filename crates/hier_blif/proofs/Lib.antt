@@ -1,0 +1,6 @@
+mod Cuts
+mod Judged
+mod Sets
+mod Read
+mod Found
+mod Tested

@@ -1,0 +1,9 @@
+pub mod Refusals
+pub mod Hierarchies
+pub mod Judging
+pub mod Sections
+pub mod Sets
+pub mod Tested
+pub mod Faults
+pub mod Whole
+pub mod Tests

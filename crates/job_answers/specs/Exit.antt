@@ -1,0 +1,16 @@
+-- The exit number of each answer. Source: this tool's own table.
+use Rattle.std.specs.Prelude.{ℕ}
+use Rattle.job_answers.specs.declared.status.Status.{Status}
+use Rattle.job_answers.specs.declared.status.Status.TheVariants.{Done, Verified, Refuted, Usage, Text, NoMemory, Budget, ReadFault, WriteFault, Endless}
+
+abbrev pub exit_number : Status → ℕ
+exit_number Done = 0
+exit_number Verified = 0
+exit_number Usage = 1
+exit_number (Text reason) = 2
+exit_number NoMemory = 3
+exit_number Budget = 4
+exit_number ReadFault = 5
+exit_number WriteFault = 6
+exit_number (Refuted number) = 7
+exit_number Endless = 8

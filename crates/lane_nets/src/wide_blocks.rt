@@ -1,0 +1,84 @@
+//! The values of a net in blocks of 512 patterns: eight blocks of 64 at a time.
+ghost use Rattle.std.specs.Prelude.{◌≡◌, ◌+◌, ◌*◌, ◌/◌, ◌%◌, ◌<◌, ◌≤◌, ℕ, length, slice_index};
+ghost use Rattle.semantics.specs.Net.{input_count, signal_count};
+ghost use Rattle.lane_bits.specs.Rows.{word_count};
+ghost use Rattle.lane_bits.specs.Patterns.{pattern_bit};
+ghost use Rattle.net_core.specs.Built.{IsBuilt};
+ghost use Rattle.lane_nets.specs.Words.{values_at};
+ghost use Rattle.lane_nets.specs.Lanes.{output_words};
+ghost use Rattle.lane_nets.specs.Wide.{lane_words, IsWideBlock};
+
+use crate::wide_words::eval_wides;
+use lane_bits::patterns::Patterns;
+use net_core::net::Net;
+use std::simd::u64x8;
+
+/// The eight words of a row from this one on; there are zeros past its end.
+fn wide_at(row: &[u64], from: usize) -> u64x8
+    requires { from ≤ length row.now }
+    ensures { (j : ℕ) → j < 8 → slice_index result j ≡ slice_index row.now (from + j) }
+{
+    let rest = &row[from..];
+    if rest.len() >= 8 {
+        return u64x8::from_slice(rest);
+    }
+    let mut words = [0; 8];
+    words[..rest.len()].copy_from_slice(rest);
+    u64x8::from_array(words)
+}
+
+/// Sets the words of the inputs to those of wide block q.
+fn set_wide_inputs(patterns: &Patterns, q: usize, wides: &mut [u64x8])
+    requires room { patterns.now.inputs ≤ length wides.old }
+    requires within { 8 * q ≤ word_count (length patterns.now.vectors) }
+    ensures { (j b s : ℕ) → j < 8 → b < 64 → s < patterns.now.inputs
+        → values_at (lane_words wides.new j) b s ≡ pattern_bit patterns.now.vectors s (64 * (8 * q + j) + b) }
+{
+    for s in 0..patterns.inputs() {
+        wides[s as usize] = wide_at(patterns.row(s), 8 * q);
+    }
+}
+
+/// Sets `wides` to wide block q of a net's values.
+fn set_wide_block(net: &Net, patterns: &Patterns, q: usize, wides: &mut [u64x8])
+    requires inputs { patterns.now.inputs ≡ input_count net.now }
+    requires within { 8 * q ≤ word_count (length patterns.now.vectors) }
+    requires room { length wides.old ≡ signal_count net.now }
+    ensures { IsWideBlock net.now patterns.now.vectors q wides.new }
+{
+    // A net is sound by its type: the call brings that fact here.
+    let _ = net.tables();
+    set_wide_inputs(patterns, q, wides);
+    eval_wides(net, wides);
+}
+
+/// Lets `wides` have the wide block that block k is in. It is made where that is the first of the eight, and is there else.
+pub(crate) fn reach_block(net: &Net, patterns: &Patterns, k: usize, wides: &mut [u64x8])
+    requires inputs { patterns.now.inputs ≡ input_count net.now }
+    requires within { k < word_count (length patterns.now.vectors) }
+    requires room { length wides.old ≡ signal_count net.now }
+    requires there { 0 < k % 8 → IsWideBlock net.now patterns.now.vectors (k / 8) wides.old }
+    ensures block { IsWideBlock net.now patterns.now.vectors (k / 8) wides.new }
+    ensures built { IsBuilt net.now }
+{
+    let _ = net.tables();
+    if k % 8 != 0 {
+        return;
+    }
+    set_wide_block(net, patterns, k / 8, wides);
+}
+
+/// Sets `outputs` to the words of the outputs in one of the eight blocks.
+#[tactic(auto, using(crate::proofs::WideWords::lane_words_get))]
+pub(crate) fn set_lane_outputs(net: &Net, wides: &[u64x8], j: usize, outputs: &mut [u64])
+    requires lane { j < 8 }
+    requires wides { length wides.now ≡ signal_count net.now }
+    requires room { length outputs.old ≡ length net.now.outputs }
+    ensures { outputs.new ≡ output_words net.now (lane_words wides.now j) }
+{
+    // A net is sound by its type: the call brings that fact here.
+    let _ = net.tables();
+    for i in 0..net.outputs() {
+        outputs[i as usize] = wides[net.output(i) as usize].to_array()[j];
+    }
+}

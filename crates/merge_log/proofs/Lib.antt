@@ -1,0 +1,17 @@
+pub mod Chained
+pub mod ClauseIds
+pub mod Carried
+pub mod RowSteps
+pub mod TableSteps
+pub mod Adding
+pub mod LevelSteps
+pub mod Loops
+pub mod RowLoops
+pub mod FormsSame
+pub mod Merging
+pub mod Placed
+pub mod Ends
+pub mod TablesBy
+pub mod TableParts
+pub mod Ready
+pub mod Numbered

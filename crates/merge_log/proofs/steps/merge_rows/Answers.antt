@@ -1,0 +1,37 @@
+use Rattle.std.proofs.Common.{sym, subst}
+use Rattle.merge_log.specs.Steps.{Adds}
+use Rattle.merge_log.proofs.Adding.{adds-both, merged-more}
+use Rattle.merge_log.proofs.RowLoops.{rows_turn, few_turn, pairs_more, width_at}
+use Rattle.merge_log.proofs.steps.merge_rows.Goals as goal
+
+pub merge_row-requires-clause-merged : goal.merge_row-requires-clause-merged
+merge_row-requires-clause-merged c = merged-more c.args.goal.now c.args.log.now c.loop-j.log _ c.args.merged.now c.loop-j.invariant.adds c.requires.merged
+
+pub merge_row-requires-clause-clauses : goal.merge_row-requires-clause-clauses
+merge_row-requires-clause-clauses c =
+    rw c.as_slice-marks.ensures
+    (rows_turn c.args.goal.now.clauses c.args.at.row c.loop-j.j c.loop-j.id c.args.pins.now c.args.rows.now c.index-rows-j.result c.loop-j-test.true c.index-rows-j.is
+    (width_at c.args.rows.now c.args.pins.now c.loop-j.j c.index-rows-j.result c.loop-j-test.true c.index-rows-j.is c.requires.widths) c.loop-j.invariant.clauses).0
+
+pub merge_row-requires-clause-other_clauses : goal.merge_row-requires-clause-other_clauses
+merge_row-requires-clause-other_clauses c =
+    rw c.as_slice-marks.ensures
+    (rows_turn c.args.goal.now.clauses c.args.other.row c.loop-j.j c.loop-j.behind c.args.others.now c.args.rows.now c.index-rows-j.result c.loop-j-test.true c.index-rows-j.is
+    (width_at c.args.rows.now c.args.others.now c.loop-j.j c.index-rows-j.result c.loop-j-test.true c.index-rows-j.is c.requires.other_widths) c.loop-j.invariant.other_clauses).0
+
+pub loop-j-preserved : goal.loop-j-preserved
+loop-j-preserved c =
+    let own = rows_turn c.args.goal.now.clauses c.args.at.row c.loop-j.j c.loop-j.id c.args.pins.now c.args.rows.now c.index-rows-j.result c.loop-j-test.true c.index-rows-j.is
+    (width_at c.args.rows.now c.args.pins.now c.loop-j.j c.index-rows-j.result c.loop-j-test.true c.index-rows-j.is c.requires.widths) c.loop-j.invariant.clauses in
+    let others = rows_turn c.args.goal.now.clauses c.args.other.row c.loop-j.j c.loop-j.behind c.args.others.now c.args.rows.now c.index-rows-j.result c.loop-j-test.true c.index-rows-j.is
+    (width_at c.args.rows.now c.args.others.now c.loop-j.j c.index-rows-j.result c.loop-j-test.true c.index-rows-j.is c.requires.other_widths) c.loop-j.invariant.other_clauses in
+    let few = few_turn c.loop-j.id _ c.loop-j.j c.args.rows.now c.index-rows-j.result c.loop-j-test.true c.index-rows-j.is c.loop-j.invariant.few in
+    let other_few = few_turn c.loop-j.behind _ c.loop-j.j c.args.rows.now c.index-rows-j.result c.loop-j-test.true c.index-rows-j.is c.loop-j.invariant.other_few in
+    record {
+      adds = subst (Adds c.args.goal.now c.args.log.now c.merge_row.new.log) (sym (pairs_more c.args.at.row c.args.other.row c.loop-j.j))
+          (adds-both c.args.goal.now c.args.log.now c.loop-j.log c.merge_row.new.log _ _ c.loop-j.invariant.adds c.in_ok-merge_row.ensures);
+      clauses = rw (c.row_literals.ensures, c.as_slice-marks.ensures) own.1;
+      other_clauses = rw (c.row_literals.ensures, c.as_slice-marks.ensures) others.1;
+      few = rw (c.row_literals.ensures, c.as_slice-marks.ensures) few;
+      other_few = rw (c.row_literals.ensures, c.as_slice-marks.ensures) other_few;
+    }

@@ -1,0 +1,100 @@
+//! The hints of a step as they grow: unit propagation, one clause at a time.
+ghost use Rattle.std.specs.Prelude.{◌≡◌, ◌+◌, ◌<◌, ◌^◌, not, neg_ℤ, IfOk, OnOk};
+ghost use Rattle.proof_semantics.specs.NetClauses.{literal_at};
+ghost use Rattle.proof_semantics.specs.Clauses.{has_literal};
+ghost use Rattle.proof_parts.specs.Literals.{IsLiteral};
+ghost use Rattle.merge_log.specs.Chains.{started, implied, ended_with};
+
+use net_core::items::Items;
+use proof_parts::clause::Lits;
+use proof_parts::literal::{Literal, literal_at};
+use proof_parts::log::Ids;
+use std::alloc::{AllocError, Global};
+use std::marker::Model;
+
+/// The hints so far, the literals that are true behind them, and whether two of these are opposite.
+#[derive(Drop)]
+pub(crate) struct Chain {
+    hints: Ids,
+    literals: Lits,
+    ended: bool,
+}
+
+impl Model for Chain {
+    ghost use Rattle.merge_log.specs.Chains.{ChainValue};
+
+    ghost Value = { ChainValue };
+
+    ghost view = { λ a. record { hints = a.hints; literals = a.literals; ended = a.ended } };
+}
+
+/// The literal that is true where this one is false.
+fn opposite(literal: Literal) -> Literal
+    requires { IsLiteral literal }
+    ensures { result ≡ neg_ℤ literal }
+{
+    -literal
+}
+
+impl Chain {
+    /// No hint yet: the variable of place s has the value `sign`, and that of place u has not.
+    pub(crate) fn new(alloc: Global, s: u32, u: u32, sign: bool) -> Result<Chain, AllocError>
+        requires s { s + 1 < 2 ^ 31 }
+        requires u { u + 1 < 2 ^ 31 }
+        ensures { IfOk result (λ c. c ≡ started (literal_at s sign) (literal_at u (not sign))) }
+    {
+        let mut literals = Lits::new(alloc);
+        literals.push(literal_at(s, sign))?;
+        literals.push(literal_at(u, !sign))?;
+        Ok(Chain {
+            hints: Items::new(alloc),
+            literals,
+            ended: false,
+        })
+    }
+
+    /// Whether the literal is true behind the hints.
+    fn knows(&self, literal: Literal) -> bool
+        ensures { result ≡ has_literal self.now.literals literal }
+    {
+        self.literals.as_slice().contains(&literal)
+    }
+
+    /// The clause of this id gives the variable of a place this value, since its other literals are false.
+    pub(crate) fn imply(&mut self, id: u64, place: u32, sign: bool) -> Result<(), AllocError>
+        requires { place + 1 < 2 ^ 31 }
+        ensures { OnOk result (self.new ≡ implied self.old id (literal_at place sign)) }
+    {
+        self.imply_literal(id, literal_at(place, sign))
+    }
+
+    /// The clause of this id makes the literal true.
+    fn imply_literal(&mut self, id: u64, literal: Literal) -> Result<(), AllocError>
+        requires { IsLiteral literal }
+        ensures { OnOk result (self.new ≡ implied self.old id literal) }
+    {
+        if self.ended || self.knows(literal) {
+            return Ok(());
+        }
+        let against = self.knows(opposite(literal));
+        self.hints.push(id)?;
+        self.literals.push(literal)?;
+        self.ended = against;
+        Ok(())
+    }
+
+    /// The hints, where the clause of this id is false, unless a conflict came before.
+    pub(crate) fn finish(self, id: u64) -> Result<Ids, AllocError>
+        ensures { IfOk result (λ hints. hints ≡ ended_with self id) }
+    {
+        let Chain {
+            mut hints,
+            ended,
+            ..
+        } = self;
+        if !ended {
+            hints.push(id)?;
+        }
+        Ok(hints)
+    }
+}

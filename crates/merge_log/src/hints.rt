@@ -1,0 +1,79 @@
+//! The hints of the steps that make two rows, or two tables, equal.
+ghost use Rattle.std.specs.Prelude.{◌≡◌, ◌+◌, ◌*◌, ◌<◌, ◌^◌, length, All, IfOk};
+ghost use Rattle.semantics.specs.Net.{row_literals};
+ghost use Rattle.merge_log.specs.Chains.{ended_with, asked, row_chain, table_chain};
+
+use crate::chain::Chain;
+use crate::merged::Merged;
+use net_core::items::Signal;
+use net_core::mark::Mark;
+use net_core::table::row_literals;
+use proof_parts::log::Ids;
+use std::alloc::AllocError;
+
+/// What a mark asks of its pin.
+pub(crate) fn asked(mark: Mark) -> Option<bool>
+    ensures { result ≡ asked mark }
+{
+    match mark {
+        Mark::Zero => Some(false),
+        Mark::One => Some(true),
+        Mark::Dash => None,
+    }
+}
+
+/// The hints that one row implies another, which has the same marks and pins that were made equal to its own. The clauses of the row
+/// have the ids from `id` on, and those of the other one from `behind` on.
+pub(crate) fn row_hints(
+    mut chain: Chain,
+    merged: &Merged,
+    marks: &[Mark],
+    id: u64,
+    pins: &[Signal],
+    behind: u64,
+    others: &[Signal],
+) -> Result<Ids, AllocError>
+    requires width { length marks.now ≡ length pins.now }
+    requires other_width { length marks.now ≡ length others.now }
+    requires pins { All (λ s. s < length merged.now.firsts) pins.now }
+    requires others { All (λ s. s < length merged.now.firsts) others.now }
+    requires ids { id < 2 ^ 62 }
+    requires behind { behind < 2 ^ 62 }
+    ensures { IfOk result (λ hints. hints
+        ≡ ended_with (row_chain merged.now id marks.now pins.now others.now chain) (behind + row_literals marks.now)) }
+{
+    let mut next = id;
+    for (i, mark) in marks.iter().enumerate() {
+        if let Some(sign) = asked(*mark) {
+            merged.imply(&mut chain, next, pins[i], sign)?;
+            merged.carry(&mut chain, pins[i], others[i], sign)?;
+            next += 1;
+        }
+    }
+    chain.finish(behind + row_literals(marks) as u64)
+}
+
+/// The hints that one table's plane implies another's, which has the same plane, and so many rows that were made equal to its own: the
+/// rows of the other one from the place `row` on are false by the clauses from the id `implication` on, those of the table from the
+/// place `own` on by each second clause from the id `equal` on, and then the clause of the id `last` is false.
+pub(crate) fn table_hints(
+    mut chain: Chain,
+    rows: u32,
+    row: u32,
+    implication: u64,
+    own: u32,
+    equal: u64,
+    last: u64,
+) -> Result<Ids, AllocError>
+    requires places { row + rows < 2 ^ 31 }
+    requires own_places { own + rows < 2 ^ 31 }
+    requires ids { implication < 2 ^ 62 }
+    requires equal_ids { equal < 2 ^ 62 }
+    ensures { IfOk result (λ hints. hints ≡ ended_with (table_chain row own implication equal rows chain) last) }
+{
+    for j in 0..rows {
+        chain.imply(implication + u64::from(j), row + j, false)?;
+        chain.imply(equal + 2 * u64::from(j), own + j, false)?;
+    }
+    chain.finish(last)
+}

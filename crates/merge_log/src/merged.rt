@@ -1,0 +1,133 @@
+//! Which signals were made equal, and by which clauses.
+ghost use Rattle.std.specs.Prelude.{◌≡◌, ℕ, ◌+◌, ◌<◌, ◌^◌, length, slice_set, IfOk, OnOk};
+ghost use Rattle.proof_semantics.specs.NetClauses.{literal_at};
+ghost use Rattle.merge_log.specs.Chains.{first_of, id_of, implied, carried, to_first, from_first};
+
+use crate::chain::Chain;
+use net_core::items::Signal;
+use std::alloc::{AllocError, Global};
+use std::marker::Model;
+
+/// For each signal the first one that it was made equal to, itself where there is none, and the id of the first of the two clauses
+/// that say so.
+#[derive(Drop)]
+pub(crate) struct Merged {
+    firsts: Vec<Signal>,
+    ids: Vec<u64>,
+}
+
+impl Model for Merged {
+    ghost use Rattle.std.specs.Prelude.{◌≡◌, ◌<◌, ◌^◌, length, All};
+    ghost use Rattle.merge_log.specs.Chains.{MergedValue};
+
+    ghost Value = { MergedValue };
+
+    ghost view = { λ a. record { firsts = a.firsts.items; ids = a.ids.items } };
+
+    ghost invariant = { λ a. (length a.ids.items ≡ length a.firsts.items) × (length a.firsts.items < 2 ^ 31)
+        × All (λ f. f < length a.firsts.items) a.firsts.items × All (λ id. id < 2 ^ 62) a.ids.items };
+}
+
+impl Merged {
+    /// Of so many signals each is alone.
+    pub(crate) fn new(alloc: Global, signals: u32) -> Result<Merged, AllocError>
+        requires { signals < 2 ^ 31 }
+        ensures count { IfOk result (λ m. length m.firsts ≡ signals) }
+        ensures alone { IfOk result (λ m. (s : ℕ) → first_of m s ≡ s) }
+    {
+        let mut firsts = Vec::new(alloc);
+        for s in 0..signals {
+            firsts.push(s)?;
+        }
+        let ids = vec![in alloc; 0; signals as usize]?;
+        Ok(Merged { firsts, ids })
+    }
+
+    /// The first signal that this one was made equal to, or itself.
+    pub(crate) fn first(&self, s: Signal) -> Signal
+        requires { s < length self.now.firsts }
+        ensures value { result ≡ first_of self.now s }
+        ensures within { result < length self.now.firsts }
+        ensures few { length self.now.firsts < 2 ^ 31 }
+    {
+        self.firsts[s as usize]
+    }
+
+    /// The id of the first of the two clauses that made this signal equal to another.
+    fn id(&self, s: Signal) -> u64
+        requires { s < length self.now.firsts }
+        ensures value { result ≡ id_of self.now s }
+        ensures few { result < 2 ^ 62 }
+    {
+        self.ids[s as usize]
+    }
+
+    /// Signal s is made equal to signal u, by the clause of this id and the next one.
+    pub(crate) fn merge(&mut self, s: Signal, u: Signal, id: u64)
+        requires s_within { s < length self.old.firsts }
+        requires u_within { u < length self.old.firsts }
+        requires few { id < 2 ^ 62 }
+        ensures merged { self.new ≡ record { firsts = slice_set self.old.firsts s u; ids = slice_set self.old.ids s id } }
+        ensures room { length self.old.ids ≡ length self.old.firsts }
+    {
+        self.firsts[s as usize] = u;
+        self.ids[s as usize] = id;
+    }
+
+    /// The clause of this id gives signal p this value.
+    pub(crate) fn imply(
+        &self,
+        chain: &mut Chain,
+        id: u64,
+        p: Signal,
+        sign: bool,
+    ) -> Result<(), AllocError>
+        requires { p < length self.now.firsts }
+        ensures { OnOk result (chain.new ≡ implied chain.old id (literal_at p sign)) }
+    {
+        let _first = self.first(p);
+        chain.imply(id, p, sign)
+    }
+
+    /// Signal p has this value, so the first one that it was made equal to has it.
+    fn follow_to_first(&self, chain: &mut Chain, p: Signal, sign: bool) -> Result<(), AllocError>
+        requires { p < length self.now.firsts }
+        ensures { OnOk result (chain.new ≡ to_first chain.old self.now p sign) }
+    {
+        let first = self.first(p);
+        if first == p {
+            return Ok(());
+        }
+        chain.imply(self.id(p) + u64::from(!sign), first, sign)
+    }
+
+    /// The first one that signal q was made equal to has this value, so q has it.
+    fn follow_from_first(&self, chain: &mut Chain, q: Signal, sign: bool) -> Result<(), AllocError>
+        requires { q < length self.now.firsts }
+        ensures { OnOk result (chain.new ≡ from_first chain.old self.now q sign) }
+    {
+        if self.first(q) == q {
+            return Ok(());
+        }
+        chain.imply(self.id(q) + u64::from(sign), q, sign)
+    }
+
+    /// Signal p has this value, so signal q has it, which was made equal to the same first one.
+    pub(crate) fn carry(
+        &self,
+        chain: &mut Chain,
+        p: Signal,
+        q: Signal,
+        sign: bool,
+    ) -> Result<(), AllocError>
+        requires p_within { p < length self.now.firsts }
+        requires q_within { q < length self.now.firsts }
+        ensures { OnOk result (chain.new ≡ carried chain.old self.now p q sign) }
+    {
+        if p == q {
+            return Ok(());
+        }
+        self.follow_to_first(chain, p, sign)?;
+        self.follow_from_first(chain, q, sign)
+    }
+}

@@ -1,0 +1,192 @@
+//! The merges of a net: each table that is alike to an earlier one is made equal to the first of these.
+//!
+//! The tables are taken by rising level, and in their order at each level. So the pins of a table are made equal to others before it is
+//! taken, and of alike tables, which have one level, the first one is taken first. A table is alike to one that was taken exactly where
+//! its form is the same, which a set of forms tells.
+ghost use Rattle.std.specs.Prelude.{◌≡◌, ◌+◌, ◌<◌, ◌≤◌, ◌^◌, ℕ, List, length, sum_by, slice_index_or, IfOk, OnOk};
+ghost use Rattle.semantics.specs.Net.{input_count, table_count};
+ghost use Rattle.net_core.specs.Built.{IsBuilt};
+ghost use Rattle.proof_semantics.specs.Formula.{goal_of};
+ghost use Rattle.proof_semantics.specs.Merges.{IsMergeLog};
+ghost use Rattle.proof_semantics.specs.Variables.{variable_count, table_clause_count};
+ghost use Rattle.merge_log.specs.Levels.{AreLevels};
+ghost use Rattle.merge_log.specs.Merging.{IsMerging, IsFound};
+ghost use Rattle.merge_log.specs.Places.{IsPlaceList};
+
+use crate::form::{FormSet, form_of};
+use crate::levels::{depth, levels};
+use crate::merged::Merged;
+use crate::places::places;
+use crate::steps::Place;
+use crate::table_steps::merge_tables;
+use net_core::items::Items;
+use net_core::net::Net;
+use proof_parts::cnf::Cnf;
+use proof_parts::log::Log;
+use std::alloc::{AllocError, Global};
+use std::marker::Model;
+
+/// The log so far, what it made equal, the forms of the tables that are the first of their kind, and these tables.
+#[derive(Drop)]
+struct Merging {
+    log: Log,
+    merged: Merged,
+    forms: FormSet,
+    tables: Vec<u32>,
+}
+
+impl Model for Merging {
+    ghost use Rattle.merge_log.specs.Merging.{MergingValue};
+
+    ghost Value = { MergingValue };
+
+    ghost view = { λ a. record { log = a.log; merged = a.merged; forms = a.forms; tables = a.tables.items } };
+}
+
+/// Makes table t equal to the table at place `kind` of those that are the first of their kind.
+fn merge_found(
+    alloc: Global,
+    goal: &Cnf,
+    net: &Net,
+    places: &[Place],
+    merging: &mut Merging,
+    t: u32,
+    kind: usize,
+) -> Result<(), AllocError>
+    requires goal { goal.now ≡ goal_of net.now }
+    requires places { IsPlaceList (input_count net.now) net.now.tables (table_count net.now) places.now }
+    requires clauses { sum_by table_clause_count net.now.tables < 2 ^ 60 }
+    requires found { (levels : List ℕ) × (level : ℕ) × IsFound net.now levels level t merging.old kind }
+    ensures { OnOk result ((levels : List ℕ) (level : ℕ) → IsFound net.now levels level t merging.old kind → IsMerging net.now levels level (t + 1) merging.new) }
+{
+    let first = merging.tables[kind];
+    let inputs = net.inputs();
+    let id = merge_tables(
+        alloc,
+        goal,
+        &mut merging.log,
+        &merging.merged,
+        inputs + t,
+        net.table(t),
+        places[t as usize],
+        inputs + first,
+        net.table(first),
+        places[first as usize],
+    )?;
+    merging.merged.merge(inputs + t, inputs + first, id);
+    Ok(())
+}
+
+/// Takes table t: it is made equal to the first one of its kind, or is itself the first.
+fn take_table(
+    alloc: Global,
+    goal: &Cnf,
+    net: &Net,
+    places: &[Place],
+    merging: &mut Merging,
+    t: u32,
+) -> Result<(), AllocError>
+    requires goal { goal.now ≡ goal_of net.now }
+    requires places { IsPlaceList (input_count net.now) net.now.tables (table_count net.now) places.now }
+    requires clauses { sum_by table_clause_count net.now.tables < 2 ^ 60 }
+    requires table { t < table_count net.now }
+    requires merging { (levels : List ℕ) × (level : ℕ) × AreLevels (input_count net.now) net.now.tables levels
+        × (slice_index_or levels (input_count net.now + t) 0 ≡ level) × IsMerging net.now levels level t merging.old }
+    ensures { OnOk result ((levels : List ℕ) (level : ℕ) → AreLevels (input_count net.now) net.now.tables levels
+        → slice_index_or levels (input_count net.now + t) 0 ≡ level → IsMerging net.now levels level t merging.old → IsMerging net.now levels level (t + 1) merging.new) }
+{
+    let form = form_of(alloc, &merging.merged, net.table(t))?;
+    let kind = merging.forms.number(form)?;
+    if kind < merging.tables.len() {
+        merge_found(alloc, goal, net, places, merging, t, kind)
+    } else {
+        merging.tables.push(t)?;
+        Ok(())
+    }
+}
+
+/// Takes the tables of a level.
+fn take_level(
+    alloc: Global,
+    goal: &Cnf,
+    net: &Net,
+    places: &[Place],
+    levels: &[u32],
+    level: u32,
+    merging: &mut Merging,
+) -> Result<(), AllocError>
+    requires goal { goal.now ≡ goal_of net.now }
+    requires places { IsPlaceList (input_count net.now) net.now.tables (table_count net.now) places.now }
+    requires clauses { sum_by table_clause_count net.now.tables < 2 ^ 60 }
+    requires count { length levels.now ≡ input_count net.now + table_count net.now }
+    requires levels { AreLevels (input_count net.now) net.now.tables levels.now }
+    requires merging { IsMerging net.now levels.now level 0 merging.old }
+    ensures { OnOk result (IsMerging net.now levels.now (level + 1) 0 merging.new) }
+{
+    let inputs = net.inputs() as usize;
+    for t in 0..net.tables() {
+        if levels[inputs + t as usize] == level {
+            take_table(alloc, goal, net, places, merging, t)?;
+        }
+    }
+    Ok(())
+}
+
+/// How many clauses a formula has.
+fn clause_count(goal: &Cnf) -> usize
+    ensures value { result ≡ length goal.now.clauses }
+    ensures few { length goal.now.clauses < 2 ^ 58 }
+{
+    goal.clauses().as_slice().len()
+}
+
+/// Shows that there are few variables and clauses, as many as there is memory for.
+fn see_few(net: &Net, goal: &Cnf)
+    requires { goal.now ≡ goal_of net.now }
+    ensures variables { variable_count (input_count net.now) net.now.tables < 2 ^ 31 }
+    ensures tables { sum_by table_clause_count net.now.tables < 2 ^ 60 }
+    ensures formula { length (goal_of net.now).clauses < 2 ^ 61 }
+{
+    let _inputs = net.inputs();
+    let _variables = goal.vars();
+    let _count = clause_count(goal);
+}
+
+/// Nothing is taken but the inputs.
+fn start(alloc: Global, net: &Net) -> Result<Merging, AllocError>
+    requires { length (goal_of net.now).clauses < 2 ^ 61 }
+    ensures { IfOk result (λ merging. (levels : List ℕ) → AreLevels (input_count net.now) net.now.tables levels → IsMerging net.now levels 1 0 merging) }
+{
+    let merged = Merged::new(alloc, net.signals())?;
+    Ok(Merging {
+        log: Items::new(alloc),
+        merged,
+        forms: FormSet::new(alloc),
+        tables: Vec::new(alloc),
+    })
+}
+
+/// The log that makes each table that is alike to an earlier one equal to the first of these: two steps for each of its rows, and then
+/// two.
+pub fn merges(alloc: Global, joint: &Net, goal: &Cnf) -> Result<Log, AllocError>
+    requires its_goal { goal.now ≡ goal_of joint.now }
+    ensures { IfOk result (IsMergeLog joint.now) }
+{
+    see_few(joint, goal);
+    let places = places(alloc, joint)?;
+    let levels = levels(alloc, joint)?;
+    let mut merging = start(alloc, joint)?;
+    let most = depth(&levels);
+    for below in 0..most {
+        take_level(
+            alloc,
+            goal,
+            joint,
+            &places,
+            &levels,
+            below + 1,
+            &mut merging,
+        )?;
+    }
+    Ok(merging.log)
+}

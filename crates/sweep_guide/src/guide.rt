@@ -1,0 +1,60 @@
+//! The guide of a net.
+use crate::classes::Signatures;
+use cdcl_core::guide::{Candidate, Guide};
+use net_core::items::{Items, Signal, SignalList};
+use net_core::net::Net;
+use std::alloc::{AllocError, Global};
+use std::collections::HashMap;
+
+/// The signals that each table reads.
+fn pins_of(alloc: Global, net: &Net) -> Result<Items<SignalList>, AllocError> {
+    let mut pins = Items::new(alloc);
+    for t in 0..net.tables() {
+        pins.push(net.table(t).pins().copy()?)?;
+    }
+    Ok(pins)
+}
+
+/// The signals of the tables, each after those that it reads.
+fn order_of(alloc: Global, net: &Net) -> Result<SignalList, AllocError> {
+    let mut order = Items::new(alloc);
+    for table in net.order() {
+        order.push(table.saturating_add(net.inputs()))?;
+    }
+    Ok(order)
+}
+
+/// The tables' signals that may be equal to an earlier one, in their order: the first of those that have the same key.
+fn candidates_of(
+    alloc: Global,
+    net: &Net,
+    order: &[Signal],
+) -> Result<Items<Candidate>, AllocError> {
+    let signatures = Signatures::of(alloc, net)?;
+    let mut firsts = HashMap::new(alloc);
+    let mut candidates = Items::new(alloc);
+    for input in 0..net.inputs() {
+        let _first = signatures.pair(&mut firsts, input)?;
+    }
+    for signal in order {
+        if let Some(candidate) = signatures.pair(&mut firsts, *signal)? {
+            candidates.push(candidate)?;
+        }
+    }
+    Ok(candidates)
+}
+
+/// A guide for the formula of a net: its inputs, its tables, and the pairs of signals that agree at 256 patterns, or are opposite at all of
+/// them. `search_first` says that the search goes first for a while, before the pairs are tried.
+pub fn guide_of(alloc: Global, net: &Net, search_first: bool) -> Result<Guide, AllocError> {
+    let order = order_of(alloc, net)?;
+    let candidates = candidates_of(alloc, net, order.as_slice())?;
+    Ok(Guide {
+        inputs: net.inputs(),
+        signals: net.signals(),
+        pins: pins_of(alloc, net)?,
+        order,
+        candidates,
+        search_first,
+    })
+}
