@@ -7,8 +7,8 @@
 //!
 //! Where the signals of a net are known they alone are in the ring: the variables of rows follow from them, and those of one
 //! conflict keep their order. Where they are not known the variables of a conflict come in the order in which the analysis met
-//! them, so that those farthest from the conflict, the inputs among them, are decided first: multipliers then take half the
-//! conflicts.
+//! them, so that those farthest from the conflict, the inputs among them, are decided first: in a trial outside of this repository
+//! formulas of multipliers then took about half the conflicts.
 //!
 //! Nothing rests on the order: any would do, and a decision looks for an open variable elsewhere where the ring shows none.
 ghost use Rattle.std.specs.Prelude.{◌≡◌, ◌<◌, ◌≤◌, ◌^◌, IfOk};

@@ -4,7 +4,8 @@
 //! average, the decisions are not worth keeping: the search restarts. The averages weigh a clause the less the older it is, in fixed
 //! point with 32 bits behind it. Source: Glucose, with the averages of Biere and Froehlich, which CaDiCaL has.
 //!
-//! Where nothing is known of a net behind the formula the search does not restart: formulas of multipliers then take half the conflicts.
+//! Where nothing is known of a net behind the formula the search does not restart: in a trial outside of this repository formulas of
+//! multipliers then took about half the conflicts.
 //!
 //! With few inputs a search ends soonest, once it has gone on for long, if it decides them in the order of their numbers, without
 //! restarts: then it goes over their vectors, as far as clauses do not rule them out many at a time.

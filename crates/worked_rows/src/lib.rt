@@ -14,6 +14,8 @@ mod masks;
 #[cfg(test)]
 mod merged_steps;
 #[cfg(test)]
+mod merges;
+#[cfg(test)]
 mod nets;
 #[cfg(test)]
 mod parts;

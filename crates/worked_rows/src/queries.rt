@@ -92,7 +92,9 @@ fn is_answered(
             let goal = miter_of(alloc, &Compared::new(exact, approx), metric, 0)?;
             Ok(over.is_empty() && accepts(alloc, &goal, &log)?)
         }
-        Exceed::Spent(spent) => Ok(may_be_spent && spent.log.len() as u64 == limit),
+        Exceed::Spent(spent) => {
+            Ok(may_be_spent && spent.log.len() as u64 == spent.merged.saturating_add(limit))
+        }
     }
 }
 
