@@ -19,6 +19,7 @@ use crate::sweep::Sweep;
 use crate::trail::Trail;
 use crate::turns::{find_conflict, follow};
 use net_parts::items::{Bits, Items};
+use progress::progress::{Progress, Silent};
 use proof_parts::cnf::Cnf;
 use proof_parts::log::Log;
 use std::alloc::{AllocError, Global};
@@ -37,13 +38,14 @@ fn values(alloc: Global, trail: &Trail) -> Result<Bits, AllocError>
     Ok(bits)
 }
 
-/// The same as `solve`, with a guide, on which nothing rests.
-pub fn solve_guided(
+/// The same as `solve`, with a guide, on which nothing rests, and with one who is told of each conflict.
+pub fn solve_guided<P: Progress>(
     alloc: Global,
     cnf: &Cnf,
     merged: &Log,
     guide: &Guide,
     limit: u64,
+    progress: &mut P,
 ) -> Result<Answer, AllocError>
     requires limit { 1 ≤ limit }
     requires merged { IsDerivation cnf.now merged.now }
@@ -57,7 +59,7 @@ pub fn solve_guided(
     }
     let mut pace = Pace::new(guide.inputs, guide.signals > 0);
     let mut sweep = Sweep::new(alloc, guide, limit)?;
-    for _conflicts in 0..limit {
+    for conflicts in 0..limit {
         let inputs = pace.inputs_first();
         let found = find_conflict(&mut search, &mut sweep, guide, inputs)?;
         let Some(conflict) = found else {
@@ -69,6 +71,7 @@ pub fn solve_guided(
         }
         let levels = learn_from(alloc, &mut search, conflict)?;
         follow(&mut search, &mut sweep, &mut pace, guide, levels)?;
+        progress.conflicts(conflicts + 1);
     }
     Ok(Answer::Spent(search.log))
 }
@@ -80,5 +83,5 @@ pub fn solve(alloc: Global, cnf: &Cnf, merged: &Log, limit: u64) -> Result<Answe
     requires merged { IsDerivation cnf.now merged.now }
     ensures { IfOk result (IsAnswer cnf.now merged.now limit) }
 {
-    solve_guided(alloc, cnf, merged, &Guide::none(alloc), limit)
+    solve_guided(alloc, cnf, merged, &Guide::none(alloc), limit, &mut Silent)
 }

@@ -13,14 +13,16 @@ use conversions::conversion::aag;
 use file_core::files::Files;
 use file_core::sink::Sink;
 use file_core::word::Word;
+use progress::progress::Progress;
 use std::alloc::Global;
 
-/// Carries out the job that the words name.
-pub fn carry_out<F: Files, K: Sink>(
+/// Carries out the job that the words name. Who follows it is told how far a search is.
+pub fn carry_out<F: Files, K: Sink, P: Progress>(
     alloc: Global,
     words: &[Word],
     files: &mut F,
     say: &mut K,
+    progress: &mut P,
 ) -> Outcome
     ensures says { RunSays words.now (F.told files.old) (F.told files.new) (K.told say.old) (K.told say.new) result }
     ensures usage_touches_nothing { result.status ≡ Status.Usage → (files.new ≡ files.old) × (say.new ≡ say.old) }
@@ -41,7 +43,7 @@ pub fn carry_out<F: Files, K: Sink>(
                 bound,
                 limit: u64::from(conflicts),
             };
-            synthesize(alloc, aim, input, stem, files, say)
+            synthesize(alloc, aim, input, stem, files, say, progress)
         }
         Some(
             Command::Check {
@@ -57,7 +59,15 @@ pub fn carry_out<F: Files, K: Sink>(
                 bound,
                 conflicts,
             },
-        ) => demonstrate(alloc, width, bound, u64::from(conflicts), files, say),
+        ) => demonstrate(
+            alloc,
+            width,
+            bound,
+            u64::from(conflicts),
+            files,
+            say,
+            progress,
+        ),
         Some(Command::Aag { input, output }) => only(aag(alloc, input, output, files)),
         Some(
             Command::Trim {

@@ -13,6 +13,7 @@ use file_core::fault::FileFault;
 use file_core::files::Files;
 use file_core::sink::Sink;
 use net_core::net::Net;
+use progress::progress::Progress;
 use semantics::limits::LARGEST_ERROR;
 use std::alloc::Global;
 
@@ -33,13 +34,14 @@ fn deliver<F: Files, K: Sink>(
 }
 
 /// Simplifies a net, writes its bundle under the names, and puts the report. Everything is computed before a file is touched.
-pub fn finish<F: Files, K: Sink>(
+pub fn finish<F: Files, K: Sink, P: Progress>(
     alloc: Global,
     exact: Net,
     aim: Constraint,
     names: &Stem,
     files: &mut F,
     say: &mut K,
+    progress: &mut P,
 ) -> Outcome
     requires small { IsSmall exact }
     requires bound { aim.bound ≤ LARGEST_ERROR }
@@ -56,7 +58,7 @@ pub fn finish<F: Files, K: Sink>(
         (K.told say.new)
         result }
 {
-    match prepare(alloc, exact, aim) {
+    match prepare(alloc, exact, aim, progress) {
         Err(_) => only(Status::NoMemory),
         Ok(Prepared::Budget { level, spent }) => Outcome {
             status: Status::Budget,

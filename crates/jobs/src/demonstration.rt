@@ -12,18 +12,20 @@ use bundle::stem::Stem;
 use demo_adder::adder::demo_net;
 use file_core::files::Files;
 use file_core::sink::Sink;
+use progress::progress::Progress;
 use semantics::limits::LARGEST_ERROR;
 use semantics::metric::Metric;
 use std::alloc::Global;
 
 /// Carries out a demo job, with the absolute error.
-pub fn demonstrate<F: Files, K: Sink>(
+pub fn demonstrate<F: Files, K: Sink, P: Progress>(
     alloc: Global,
     width: u32,
     bound: u128,
     limit: u64,
     files: &mut F,
     say: &mut K,
+    progress: &mut P,
 ) -> Outcome
     requires width { (1 ≤ width) × (width ≤ 32) }
     requires bound { bound ≤ LARGEST_ERROR }
@@ -51,5 +53,5 @@ pub fn demonstrate<F: Files, K: Sink>(
         bound,
         limit,
     };
-    finish(alloc, exact, aim, &names, files, say)
+    finish(alloc, exact, aim, &names, files, say, progress)
 }

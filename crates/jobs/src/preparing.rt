@@ -13,11 +13,12 @@ use miter::level::miter_of;
 use net_core::items::Bits;
 use net_core::net::Net;
 use net_errors::compared::Compared;
+use progress::progress::Progress;
 use semantics::limits::LARGEST_ERROR;
 use semantics::metric::Metric;
 use std::alloc::{AllocError, Global};
-use synth_core::shrink::{Shrunk, shrink};
-use worst_case::maximum::maximum;
+use synth_core::shrink::{Shrunk, shrink_followed};
+use worst_case::maximum::maximum_followed;
 use worst_case::query::{Maximum, Spent};
 
 /// The error's measure, the most that it may be, and the most conflicts of each query.
@@ -98,15 +99,25 @@ fn gather(
 }
 
 /// The bundle of the simplification of a net, or the query that stood in its way.
-pub fn prepare(alloc: Global, exact: Net, aim: Constraint) -> Result<Prepared, AllocError>
+pub fn prepare<P: Progress>(
+    alloc: Global,
+    exact: Net,
+    aim: Constraint,
+    progress: &mut P,
+) -> Result<Prepared, AllocError>
     requires small { IsSmall exact }
     requires bound { aim.bound ≤ LARGEST_ERROR }
     requires limit { 1 ≤ aim.limit }
     ensures { IfOk result (IsPrepared exact aim.metric aim.bound aim.limit) }
 {
     see_sound(&exact);
-    let shrunk = shrink(alloc, &exact, aim.metric, aim.bound, aim.limit)?;
-    match maximum(alloc, &exact, &shrunk.net, aim.metric, aim.bound, aim.limit)? {
+    let Constraint {
+        metric,
+        bound,
+        limit,
+    } = aim;
+    let shrunk = shrink_followed(alloc, &exact, metric, bound, limit, progress)?;
+    match maximum_followed(alloc, &exact, &shrunk.net, metric, bound, limit, progress)? {
         Maximum::Spent(level) => Ok(Prepared::Budget {
             level,
             spent: shrunk.spent,

@@ -21,6 +21,7 @@ use file_core::sink::Sink;
 use file_core::sure_files::SureFiles;
 use file_core::sure_sink::SureSink;
 use file_core::word::Word;
+use progress::progress::{Progress, Silent};
 use std::alloc::Global;
 
 /// Carries out the job that the words name.
@@ -47,7 +48,40 @@ pub fn run<F: Files, K: Sink>(alloc: Global, words: &[Word], files: &mut F, say:
         → IsQuietJob job (F.told files.old) (F.told files.new) (K.told say.old) (K.told say.new)
         → EndsAsAsked job (F.told files.old) result }
 {
-    carry_out(alloc, words, files, say)
+    run_followed(alloc, words, files, say, &mut Silent)
+}
+
+/// The same as `run`, with one who is told how far a search is: what is answered and written does not depend on that.
+pub fn run_followed<F: Files, K: Sink, P: Progress>(
+    alloc: Global,
+    words: &[Word],
+    files: &mut F,
+    say: &mut K,
+    progress: &mut P,
+) -> Outcome
+    // When `check` verifies a bundle it keeps its promise; unless conflicts were spent, an accepted netlist gets a bundle that verifies.
+    ensures headline { Headline
+        words.now
+        (result.status ≡ Status.Verified)
+        (result.status ≡ Status.Done)
+        (result.status ≡ Status.NoMemory)
+        (told_query result.spent)
+        (told_query result.level)
+        (F.told files.old)
+        (F.told files.new)
+        (K.told say.old)
+        (K.told say.new) }
+
+    // What each answer says.
+    ensures says { RunSays words.now (F.told files.old) (F.told files.new) (K.told say.old) (K.told say.new) result }
+    ensures usage_touches_nothing { result.status ≡ Status.Usage → (files.new ≡ files.old) × (say.new ≡ say.old) }
+
+    // A quiet call has no fault, and ends as the reading of IN and the conflicts ask, unless memory is wanting.
+    ensures complete { (job : Job) → job_of words.now ≡ Some job
+        → IsQuietJob job (F.told files.old) (F.told files.new) (K.told say.old) (K.told say.new)
+        → EndsAsAsked job (F.told files.old) result }
+{
+    carry_out(alloc, words, files, say, progress)
 }
 
 /// A run over files and a sink that never fail: no fault is answered, and each job ends as its net and its conflicts ask.

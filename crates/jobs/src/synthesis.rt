@@ -9,17 +9,19 @@ use bundle::stem::Stem;
 use conversions::input::read_net;
 use file_core::files::Files;
 use file_core::sink::Sink;
+use progress::progress::Progress;
 use semantics::limits::LARGEST_ERROR;
 use std::alloc::Global;
 
 /// Carries out a synth job.
-pub fn synthesize<F: Files, K: Sink>(
+pub fn synthesize<F: Files, K: Sink, P: Progress>(
     alloc: Global,
     aim: Constraint,
     input: &[u8],
     stem: &[u8],
     files: &mut F,
     say: &mut K,
+    progress: &mut P,
 ) -> Outcome
     requires bound { aim.bound ≤ LARGEST_ERROR }
     requires limit { 1 ≤ aim.limit }
@@ -42,5 +44,5 @@ pub fn synthesize<F: Files, K: Sink>(
     let Ok(names) = Stem::new(alloc, stem) else {
         return only(Status::NoMemory);
     };
-    finish(alloc, exact, aim, &names, files, say)
+    finish(alloc, exact, aim, &names, files, say, progress)
 }

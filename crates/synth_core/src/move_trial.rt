@@ -15,6 +15,7 @@ use net_core::items::Bits;
 use net_core::net::Net;
 use net_errors::compared::Compared;
 use net_moves::apply::apply;
+use progress::progress::Progress;
 use semantics::limits::FEW_INPUTS;
 use semantics::metric::Metric;
 use std::alloc::{AllocError, Global};
@@ -43,7 +44,7 @@ pub(crate) enum Trial {
 }
 
 /// Tries a move of the approximate net. With few inputs every vector is a pattern, so nothing more is asked.
-pub(crate) fn try_move(
+pub(crate) fn try_move<P: Progress>(
     alloc: Global,
     nets: &Compared,
     held: &Option<Reference>,
@@ -51,6 +52,7 @@ pub(crate) fn try_move(
     terms: Terms,
     adc: &Adc,
     step: Move,
+    progress: &mut P,
 ) -> Result<Trial, AllocError>
     requires held { IsHeldFor nets.now.exact held.now }
     requires decider { decider.old ≡ nets.now.exact }
@@ -81,6 +83,7 @@ pub(crate) fn try_move(
         terms.metric,
         terms.bound,
         terms.limit,
+        progress,
     )? {
         Margin::Over(x) => Ok(Trial::New(x)),
         Margin::Within => Ok(Trial::Allowed(moved)),

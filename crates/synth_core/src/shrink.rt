@@ -17,6 +17,7 @@ use lane_bits::patterns::Patterns;
 use net_core::net::Net;
 use net_errors::compared::Compared;
 use net_tidy::tidy::tidy;
+use progress::progress::{Progress, Silent};
 use semantics::limits::{FEW_INPUTS, MOST_OUTPUTS};
 use semantics::metric::Metric;
 use std::alloc::{AllocError, Global};
@@ -44,13 +45,14 @@ fn first_pool(alloc: Global, net: &Net) -> Result<Patterns, AllocError>
     Ok(Patterns::new(alloc, inputs))
 }
 
-/// Follows the chain of simplifications of a net within a bound, where each query may cost so many conflicts.
-pub fn shrink(
+/// The same as `shrink`, with one who is told how far the search is.
+pub fn shrink_followed<P: Progress>(
     alloc: Global,
     net: &Net,
     metric: Metric,
     bound: u128,
     limit: u64,
+    progress: &mut P,
 ) -> Result<Shrunk, AllocError>
     requires few_outputs { length net.now.outputs ≤ MOST_OUTPUTS }
     requires small { IsSmall net.now }
@@ -72,8 +74,9 @@ pub fn shrink(
     let mut pool = first_pool(alloc, net)?;
     let mut shrunk = tidy(alloc, net.copy()?)?;
     loop {
+        progress.reached(shrunk.literals());
         let nets = Compared::new(net, &shrunk);
-        let found = find_step(alloc, &nets, held, &mut decider, terms, &mut pool)?;
+        let found = find_step(alloc, &nets, held, &mut decider, terms, &mut pool, progress)?;
         match found {
             Step::Moved(moved) => shrunk = tidy(alloc, moved)?,
             Step::End => {
@@ -92,4 +95,22 @@ pub fn shrink(
             }
         }
     }
+}
+
+/// Follows the chain of simplifications of a net within a bound, where each query may cost so many conflicts.
+pub fn shrink(
+    alloc: Global,
+    net: &Net,
+    metric: Metric,
+    bound: u128,
+    limit: u64,
+) -> Result<Shrunk, AllocError>
+    requires few_outputs { length net.now.outputs ≤ MOST_OUTPUTS }
+    requires small { IsSmall net.now }
+    requires limit { 1 ≤ limit }
+    ensures shrinking { IfOk result (λ s. IsShrinking metric net.now bound limit
+        (record { net = s.net; pool = s.pool.vectors; spent = option_map spent_value s.spent })) }
+    ensures pool { IfOk result (λ s. s.pool.inputs ≡ input_count net.now) }
+{
+    shrink_followed(alloc, net, metric, bound, limit, &mut Silent)
 }

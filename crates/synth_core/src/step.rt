@@ -13,7 +13,9 @@ use lane_bits::patterns::Patterns;
 use lane_nets::reference::Reference;
 use net_core::net::Net;
 use net_errors::compared::Compared;
+use net_moves::apply::table_of;
 use net_moves::moves::moves;
+use progress::progress::Progress;
 use semantics::limits::FEW_INPUTS;
 use std::alloc::{AllocError, Global};
 use worst_case::query::Spent;
@@ -72,7 +74,7 @@ fn add_vector(
 
 /// Tries a move: the step that it makes, or None where a vector of the pool breaks it. Such a vector joins the pool where a query
 /// gives it.
-fn weigh(
+fn weigh<P: Progress>(
     alloc: Global,
     nets: &Compared,
     held: &Option<Reference>,
@@ -81,6 +83,7 @@ fn weigh(
     pool: &mut Patterns,
     masks: &mut Adc,
     step: Move,
+    progress: &mut P,
 ) -> Result<Option<Step>, AllocError>
     requires held { IsHeldFor nets.now.exact held.now }
     requires decider { decider.old ≡ nets.now.exact }
@@ -93,7 +96,7 @@ fn weigh(
     ensures weighed { IfOk result
         (IsWeighed terms.metric nets.now.exact terms.bound terms.limit nets.now.approx pool.new.vectors step) }
 {
-    match try_move(alloc, nets, held, decider, terms, masks, step)? {
+    match try_move(alloc, nets, held, decider, terms, masks, step, progress)? {
         Trial::Broken => Ok(None),
         Trial::New(x) => {
             add_vector(alloc, nets, terms, pool, masks, x.as_slice())?;
@@ -104,14 +107,15 @@ fn weigh(
     }
 }
 
-/// Tries the moves of the approximate net in order. Each vector that a query gives joins the pool, and the masks are made anew.
-pub(crate) fn find_step(
+/// Tries the moves of the approximate net in order, each of which is told on. Each vector that a query gives joins the pool, and the masks are made anew.
+pub(crate) fn find_step<P: Progress>(
     alloc: Global,
     nets: &Compared,
     held: &Option<Reference>,
     decider: &mut Decider,
     terms: Terms,
     pool: &mut Patterns,
+    progress: &mut P,
 ) -> Result<Step, AllocError>
     requires held { IsHeldFor nets.now.exact held.now }
     requires decider { decider.old ≡ nets.now.exact }
@@ -126,7 +130,11 @@ pub(crate) fn find_step(
     let mut moves = moves(alloc, nets.approx())?;
     let mut masks = pool_masks(alloc, nets, terms, pool)?;
     while let Some(step) = moves.next() {
-        if let Some(found) = weigh(alloc, nets, held, decider, terms, pool, &mut masks, step)? {
+        progress.trying(table_of(step), nets.approx().tables());
+        let weighed = weigh(
+            alloc, nets, held, decider, terms, pool, &mut masks, step, progress,
+        )?;
+        if let Some(found) = weighed {
             return Ok(found);
         }
     }

@@ -51,9 +51,7 @@ fn tables_are_merged(alloc: Global) -> Result<bool, Fail> {
     let nets = Compared::new(&half_adder, &half_adder);
     let miter = joint_miter(alloc, &nets, Metric::Abs, 0)?;
     let log = merges(alloc, &miter.net, &miter.formula)?;
-    Ok(makes_equal(&log, 3, 5)
-        && makes_equal(&log, 4, 6)
-        && is_accepted(alloc, &miter, &log)?)
+    Ok(makes_equal(&log, 3, 5) && makes_equal(&log, 4, 6) && is_accepted(alloc, &miter, &log)?)
 }
 
 #[test]

@@ -10,27 +10,29 @@ use crate::solver_query::ask_solver;
 use crate::vectors_tried::{hold_every_vector, try_vectors};
 use net_core::net::Net;
 use net_errors::compared::Compared;
+use progress::progress::{Progress, Silent};
 use semantics::limits::MOST_OUTPUTS;
 use semantics::metric::Metric;
 use std::alloc::{AllocError, Global};
 
 /// The same question of nets that can be compared.
-pub(crate) fn exceeds_level(
+pub(crate) fn exceeds_level<P: Progress>(
     alloc: Global,
     nets: &Compared,
     metric: Metric,
     k: u128,
     limit: u64,
+    progress: &mut P,
 ) -> Result<Exceed, AllocError>
     requires limit { 1 ≤ limit }
     ensures { IfOk result (IsAnswer metric nets.now.exact nets.now.approx k limit) }
 {
     let Some(held) = hold_every_vector(alloc, nets.exact())? else {
-        return ask_solver(alloc, nets, metric, k, limit);
+        return ask_solver(alloc, nets, metric, k, limit, progress);
     };
     match try_vectors(alloc, nets, &held, metric, k)? {
         Some(x) => Ok(Exceed::Over(x)),
-        None => refute_level(alloc, nets, metric, k, limit),
+        None => refute_level(alloc, nets, metric, k, limit, progress),
     }
 }
 
@@ -48,5 +50,6 @@ pub fn exceeds(
     requires limit { 1 ≤ limit }
     ensures { IfOk result (IsAnswer metric exact.now approx.now k limit) }
 {
-    exceeds_level(alloc, &Compared::new(exact, approx), metric, k, limit)
+    let nets = Compared::new(exact, approx);
+    exceeds_level(alloc, &nets, metric, k, limit, &mut Silent)
 }

@@ -13,6 +13,7 @@ use bdd_nets::decision::Decision;
 use lane_nets::reference::Reference;
 use net_core::items::Bits;
 use net_errors::compared::Compared;
+use progress::progress::Progress;
 use semantics::metric::Metric;
 use std::alloc::{AllocError, Global};
 
@@ -51,13 +52,14 @@ pub(crate) fn by_diagrams(
 
 /// What the solver answers; where its conflicts are spent, diagrams are asked once more.
 #[tactic(auto, using(crate::proofs::Decided::sure_answer))]
-fn by_solver(
+fn by_solver<P: Progress>(
     alloc: Global,
     nets: &Compared,
     decider: &mut Decider,
     metric: Metric,
     k: u128,
     limit: u64,
+    progress: &mut P,
 ) -> Result<Margin, AllocError>
     requires many_inputs { LANE_INPUTS < input_count nets.now.exact }
     requires decider { decider.old ≡ nets.now.exact }
@@ -65,7 +67,7 @@ fn by_solver(
     ensures same { decider.new ≡ decider.old }
     ensures answer { IfOk result (IsLevelAnswer metric nets.now.exact nets.now.approx k limit) }
 {
-    match ask_solver(alloc, nets, metric, k, limit)? {
+    match ask_solver(alloc, nets, metric, k, limit, progress)? {
         Exceed::Over(x) => Ok(Margin::Over(x)),
         Exceed::Never(_) => Ok(Margin::Within),
         Exceed::Spent(spent) => {
@@ -80,7 +82,7 @@ fn by_solver(
 /// An input whose error exceeds `k`, or that there is none. With at most sixteen inputs every vector is held and tried, and nothing is
 /// spent; with more, diagrams are asked, and then the solver.
 #[tactic(auto, using(crate::proofs::Decided::sure_answer))]
-pub fn within_level(
+pub fn within_level<P: Progress>(
     alloc: Global,
     nets: &Compared,
     held: &Option<Reference>,
@@ -88,6 +90,7 @@ pub fn within_level(
     metric: Metric,
     k: u128,
     limit: u64,
+    progress: &mut P,
 ) -> Result<Margin, AllocError>
     requires held { IsHeldFor nets.now.exact held.now }
     requires decider { decider.old ≡ nets.now.exact }
@@ -103,6 +106,6 @@ pub fn within_level(
     }
     match by_diagrams(alloc, nets, decider, metric, k, QUESTION_STEPS)? {
         Some(margin) => Ok(margin),
-        None => by_solver(alloc, nets, decider, metric, k, limit),
+        None => by_solver(alloc, nets, decider, metric, k, limit, progress),
     }
 }

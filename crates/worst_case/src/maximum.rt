@@ -13,17 +13,19 @@ use crate::range::{Range, Turn, first_range, narrow};
 use crate::refutation::refute_level;
 use net_core::net::Net;
 use net_errors::compared::Compared;
+use progress::progress::{Progress, Silent};
 use semantics::limits::MOST_OUTPUTS;
 use semantics::metric::Metric;
 use std::alloc::{AllocError, Global};
 
 /// The answer where the levels meet: a log for this level is asked for where none is held.
-fn settle(
+fn settle<P: Progress>(
     alloc: Global,
     nets: &Compared,
     metric: Metric,
     limit: u64,
     range: Range,
+    progress: &mut P,
 ) -> Result<Maximum, AllocError>
     requires limit { 1 ≤ limit }
     requires range { (bound : ℕ) × IsRange metric nets.now.exact nets.now.approx bound range }
@@ -40,11 +42,41 @@ fn settle(
     if let Some(log) = log {
         return Ok(Maximum::Found { max, witness, log });
     }
-    match refute_level(alloc, nets, metric, max, limit)? {
+    match refute_level(alloc, nets, metric, max, limit, progress)? {
         Exceed::Over(_) => unreachable!(),
         Exceed::Never(log) => Ok(Maximum::Found { max, witness, log }),
         Exceed::Spent(spent) => Ok(Maximum::Spent(spent)),
     }
+}
+
+/// The same as `maximum`, with one who is told how far the search is.
+pub fn maximum_followed<P: Progress>(
+    alloc: Global,
+    exact: &Net,
+    approx: &Net,
+    metric: Metric,
+    bound: u128,
+    limit: u64,
+    progress: &mut P,
+) -> Result<Maximum, AllocError>
+    requires small { IsSmall exact.now }
+    requires ports { HasSamePorts exact.now approx.now }
+    requires few_outputs { length exact.now.outputs ≤ MOST_OUTPUTS }
+    requires limit { 1 ≤ limit }
+    requires within { IsWithin metric exact.now bound approx.now }
+    ensures { IfOk result (IsMaximumAnswer metric exact.now approx.now bound limit) }
+{
+    let nets = Compared::new(exact, approx);
+    let mut range = first_range(alloc, &nets, metric, bound)?;
+    let mut decider = decider_for(alloc, exact)?;
+    while range.low < range.high {
+        progress.narrowed(range.low, range.high);
+        match narrow(alloc, &nets, &mut decider, metric, limit, range, progress)? {
+            Turn::Narrowed(next) => range = next,
+            Turn::Spent(spent) => return Ok(Maximum::Spent(spent)),
+        }
+    }
+    settle(alloc, &nets, metric, limit, range, progress)
 }
 
 /// The greatest error of a net whose error is at most `bound`; with at most eight inputs the witness is the first vector in counting
@@ -64,14 +96,5 @@ pub fn maximum(
     requires within { IsWithin metric exact.now bound approx.now }
     ensures { IfOk result (IsMaximumAnswer metric exact.now approx.now bound limit) }
 {
-    let nets = Compared::new(exact, approx);
-    let mut range = first_range(alloc, &nets, metric, bound)?;
-    let mut decider = decider_for(alloc, exact)?;
-    while range.low < range.high {
-        match narrow(alloc, &nets, &mut decider, metric, limit, range)? {
-            Turn::Narrowed(next) => range = next,
-            Turn::Spent(spent) => return Ok(Maximum::Spent(spent)),
-        }
-    }
-    settle(alloc, &nets, metric, limit, range)
+    maximum_followed(alloc, exact, approx, metric, bound, limit, &mut Silent)
 }

@@ -14,6 +14,7 @@ use lane_nets::reference::Reference;
 use net_core::items::Bits;
 use net_errors::compared::Compared;
 use net_errors::net_error::error_at;
+use progress::progress::Progress;
 use proof_parts::log::Log;
 use semantics::limits::LARGEST_ERROR;
 use semantics::metric::Metric;
@@ -63,12 +64,13 @@ pub fn first_range(
 }
 
 /// Asks the solver whether some error exceeds the middle of the range.
-fn narrow_by_solver(
+fn narrow_by_solver<P: Progress>(
     alloc: Global,
     nets: &Compared,
     metric: Metric,
     limit: u64,
     range: Range,
+    progress: &mut P,
 ) -> Result<Turn, AllocError>
     requires limit { 1 ≤ limit }
     requires open { range.low < range.high }
@@ -76,7 +78,7 @@ fn narrow_by_solver(
         → IsTurn metric nets.now.exact nets.now.approx bound limit range turn) }
 {
     let middle = range.low + (range.high - range.low) / 2;
-    match exceeds_level(alloc, nets, metric, middle, limit)? {
+    match exceeds_level(alloc, nets, metric, middle, limit, progress)? {
         Exceed::Over(x) => {
             let error = error_at(alloc, nets, metric, x.as_slice())?;
             Ok(Turn::Narrowed(Range {
@@ -97,13 +99,14 @@ fn narrow_by_solver(
 }
 
 /// Asks whether some error exceeds the middle of the range: the solver where diagrams do not tell.
-pub fn narrow(
+pub fn narrow<P: Progress>(
     alloc: Global,
     nets: &Compared,
     decider: &mut Decider,
     metric: Metric,
     limit: u64,
     range: Range,
+    progress: &mut P,
 ) -> Result<Turn, AllocError>
     requires decider { decider.old ≡ nets.now.exact }
     requires limit { 1 ≤ limit }
@@ -129,6 +132,6 @@ pub fn narrow(
             high: middle,
             log: None,
         })),
-        _ => narrow_by_solver(alloc, nets, metric, limit, range),
+        _ => narrow_by_solver(alloc, nets, metric, limit, range, progress),
     }
 }

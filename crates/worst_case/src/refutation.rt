@@ -13,6 +13,7 @@ use crate::solver_query::ask_solver;
 use case_tree::refute::refute;
 use miter::level::joint_miter;
 use net_errors::compared::Compared;
+use progress::progress::Progress;
 use proof_parts::log::Log;
 use semantics::limits::{FEW_INPUTS, TRIED_INPUTS};
 use semantics::metric::Metric;
@@ -45,12 +46,13 @@ fn refute_by_cases(
 }
 
 /// A log that refutes that some error exceeds `k`, or a log of `limit` conflicts.
-pub(crate) fn refute_level(
+pub(crate) fn refute_level<P: Progress>(
     alloc: Global,
     nets: &Compared,
     metric: Metric,
     k: u128,
     limit: u64,
+    progress: &mut P,
 ) -> Result<Exceed, AllocError>
     requires limit { 1 ≤ limit }
     requires within { IsWithin metric nets.now.exact k nets.now.approx }
@@ -58,11 +60,11 @@ pub(crate) fn refute_level(
 {
     let inputs = nets.exact().inputs();
     if inputs > FEW_INPUTS && !is_enough(limit, inputs) {
-        return ask_solver(alloc, nets, metric, k, limit);
+        return ask_solver(alloc, nets, metric, k, limit, progress);
     }
     if inputs > FEW_INPUTS {
         let few = limit.min(FEW_CONFLICTS);
-        if let Exceed::Never(log) = ask_solver(alloc, nets, metric, k, few)? {
+        if let Exceed::Never(log) = ask_solver(alloc, nets, metric, k, few, progress)? {
             return Ok(Exceed::Never(log));
         }
     }

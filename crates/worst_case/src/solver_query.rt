@@ -12,6 +12,7 @@ use miter::level::joint_miter;
 use net_core::items::Bits;
 use net_core::net::Net;
 use net_errors::compared::Compared;
+use progress::progress::Progress;
 use semantics::metric::Metric;
 use std::alloc::{AllocError, Global};
 use sweep_guide::guide::guide_of;
@@ -24,13 +25,15 @@ fn input_bits(alloc: Global, net: &Net, values: &Bits) -> Result<Bits, AllocErro
     Bits::from_slice(alloc, &values.as_slice()[..net.inputs() as usize])
 }
 
-/// An input whose error exceeds `k`, a log that refutes that there is one, or a log of `limit` conflicts behind the merges.
-pub(crate) fn ask_solver(
+/// An input whose error exceeds `k`, a log that refutes that there is one, or a log of `limit` conflicts behind the merges. What the
+/// solver does is told on.
+pub(crate) fn ask_solver<P: Progress>(
     alloc: Global,
     nets: &Compared,
     metric: Metric,
     k: u128,
     limit: u64,
+    progress: &mut P,
 ) -> Result<Exceed, AllocError>
     requires many_inputs { 8 < input_count nets.now.exact }
     requires limit { 1 ≤ limit }
@@ -41,7 +44,8 @@ pub(crate) fn ask_solver(
     let merged = merges(alloc, &joint.net, &joint.formula)?;
     let count = merged.as_slice().len() as u64;
     let guide = guide_of(alloc, &joint.net, true)?;
-    match solve_guided(alloc, &joint.formula, &merged, &guide, limit)? {
+    progress.asked();
+    match solve_guided(alloc, &joint.formula, &merged, &guide, limit, progress)? {
         Answer::Model(values) => Ok(Exceed::Over(input_bits(alloc, nets.exact(), &values)?)),
         Answer::Refuted(log) => Ok(Exceed::Never(log)),
         Answer::Spent(log) => Ok(Exceed::Spent(Spent {

@@ -1,6 +1,6 @@
 use Rattle.jobs.proofs.Headlines.{headline-from}
 use Rattle.jobs.proofs.Runs.{quiet_job_ends}
-use Rattle.jobs.proofs.run.run.Goals as goal
+use Rattle.jobs.proofs.run.run_followed.Goals as goal
 
 pub returns-clause-headline : goal.returns-clause-headline
 returns-clause-headline g c = headline-from _ _ _ _ _ c.carry_out.result c.carry_out.ensures.says
