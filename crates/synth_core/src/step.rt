@@ -131,10 +131,10 @@ pub(crate) fn find_step<P: Progress>(
     let mut masks = pool_masks(alloc, nets, terms, pool)?;
     while let Some(step) = moves.next() {
         progress.trying(table_of(step), nets.approx().tables());
-        let weighed = weigh(
+        let found = weigh(
             alloc, nets, held, decider, terms, pool, &mut masks, step, progress,
         )?;
-        if let Some(found) = weighed {
+        if let Some(found) = found {
             return Ok(found);
         }
     }

@@ -8,14 +8,14 @@ use Rattle.synth_core.proofs.Trying.{found_broken, found_allowed, found_new, mov
 use Rattle.synth_core.proofs.move_trial.try_move.Goals as goal
 
 pub returns-in_default-clause-trial : goal.returns-in_default-clause-trial
-returns-in_default-clause-trial c =
+returns-in_default-clause-trial g c =
     let nets = c.args.nets.now in
     let found = subst (λ N. FindsFirstBroken c.args.terms.metric nets.exact c.args.terms.bound N c.args.adc.now.vectors c.args.step c.breaks.result) c.requires.same
     (c.breaks.ensures c.args.terms.metric nets.exact c.args.terms.bound c.requires.masks) in
     found_broken c.args.terms.metric nets.exact c.args.terms.bound nets.approx c.args.adc.now.vectors c.args.step c.breaks.result c.in_default.field-0 c.in_default.is found
 
 pub returns-then-inputs-le-FEW_INPUTS-clause-trial : goal.returns-then-inputs-le-FEW_INPUTS-clause-trial
-returns-then-inputs-le-FEW_INPUTS-clause-trial c =
+returns-then-inputs-le-FEW_INPUTS-clause-trial g c =
     let nets = c.args.nets.now in
     let found = subst (λ N. FindsFirstBroken c.args.terms.metric nets.exact c.args.terms.bound N c.args.adc.now.vectors c.args.step c.breaks.result) c.requires.same
     (c.breaks.ensures c.args.terms.metric nets.exact c.args.terms.bound c.requires.masks) in
@@ -28,21 +28,21 @@ returns-then-inputs-le-FEW_INPUTS-clause-trial c =
     }
 
 pub new-moved_nets-requires : goal.new-moved_nets-requires
-new-moved_nets-requires c =
+new-moved_nets-requires g c =
     let nets = c.args.nets.now in
     subst (λ E. IsCandidate E c.in_ok-moved.moved) (sym c.exact-2.ensures.value)
     (moved-candidate nets.exact nets.approx c.args.step c.in_ok-moved.moved (c.in_ok-moved.ensures ∙ ap (λ N. moved N c.args.step) c.approx-2.ensures.value)
     (subst IsSound c.approx.ensures.value c.inputs.ensures.built.sound) c.requires.step c.exact.ensures.candidate)
 
 pub within_level-requires-clause-held : goal.within_level-requires-clause-held
-within_level-requires-clause-held c =
+within_level-requires-clause-held g c =
     subst (λ E. IsHeldFor E c.args.held.now) (sym (ap (λ P. P.exact) c.new-moved_nets.ensures ∙ c.exact-2.ensures.value)) c.requires.held
 
 pub within_level-requires-clause-decider : goal.within_level-requires-clause-decider
-within_level-requires-clause-decider c = c.requires.decider ∙ sym (ap (λ P. P.exact) c.new-moved_nets.ensures ∙ c.exact-2.ensures.value)
+within_level-requires-clause-decider g c = c.requires.decider ∙ sym (ap (λ P. P.exact) c.new-moved_nets.ensures ∙ c.exact-2.ensures.value)
 
 pub returns-in-Over-clause-trial : goal.returns-in-Over-clause-trial
-returns-in-Over-clause-trial c =
+returns-in-Over-clause-trial g c =
     let nets = c.args.nets.now in
     let found = subst (λ N. FindsFirstBroken c.args.terms.metric nets.exact c.args.terms.bound N c.args.adc.now.vectors c.args.step c.breaks.result) c.requires.same
     (c.breaks.ensures c.args.terms.metric nets.exact c.args.terms.bound c.requires.masks) in

@@ -5,22 +5,22 @@ use Rattle.synth_core.proofs.Searching.{searched-none, searched-still, searched-
 use Rattle.synth_core.proofs.step.find_step.Goals as goal
 
 pub loop-step-init : goal.loop-step-init
-loop-step-init c = record {
+loop-step-init g c = record {
   decider = refl;
   searched = searched-none _ _ _ _ _ _ (c.in_ok-moves.ensures ∙ ap moves_of c.approx.ensures.value);
   masked = record { pool = c.requires.pool; masks = c.in_ok-masks.ensures };
 }
 
 pub weigh-requires-clause-step : goal.weigh-requires-clause-step
-weigh-requires-clause-step c = searched-member _ _ _ _ _ _ _ _ c.in-Some.ensures c.loop-step.invariant.searched
+weigh-requires-clause-step g c = searched-member _ _ _ _ _ _ _ _ c.in-Some.ensures c.loop-step.invariant.searched
 
 pub returns-in-Some-2-clause-step : goal.returns-in-Some-2-clause-step
-returns-in-Some-2-clause-step c =
+returns-in-Some-2-clause-step g c =
     searched-step _ _ _ _ _ _ _ _ c.in-Some.ensures (searched-still _ _ _ _ _ _ _ c.in_ok-found.ensures.among c.loop-step.invariant.searched)
     c.in_ok-found.ensures.masked.pool.widths _ _ (subst (IsWeighed _ _ _ _ _ _ _) c.in-Some-2.is c.in_ok-found.ensures.weighed)
 
 pub loop-step-preserved : goal.loop-step-preserved
-loop-step-preserved c = record {
+loop-step-preserved g c = record {
   decider = c.weigh.ensures.same ∙ c.loop-step.invariant.decider;
   searched =
       searched-more _ _ _ _ _ _ _ _ c.in-Some.ensures (searched-still _ _ _ _ _ _ _ c.in_ok-found.ensures.among c.loop-step.invariant.searched)

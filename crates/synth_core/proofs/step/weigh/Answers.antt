@@ -2,7 +2,7 @@ use Rattle.std.proofs.Common.{◌∙◌}
 use Rattle.synth_core.proofs.step.weigh.Goals as goal
 
 pub try_move-requires : goal.try_move-requires
-try_move-requires c = record {
+try_move-requires g c = record {
   held = c.requires.held;
   decider = c.requires.decider;
   limit = c.requires.limit;

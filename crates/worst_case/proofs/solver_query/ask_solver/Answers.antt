@@ -7,20 +7,20 @@ use Rattle.worst_case.proofs.Queries.{model_wide, IsOver-from_model, IsNever-fro
 use Rattle.worst_case.proofs.solver_query.ask_solver.Goals as goal
 
 pub merges-requires : goal.merges-requires
-merges-requires c = record { its_goal = c.in_ok-joint.ensures.formula ∙ ap goal_of (sym c.in_ok-joint.ensures.net) }
+merges-requires g c = record { its_goal = c.in_ok-joint.ensures.formula ∙ ap goal_of (sym c.in_ok-joint.ensures.net) }
 
 pub solve_guided-requires-clause-merged : goal.solve_guided-requires-clause-merged
-solve_guided-requires-clause-merged c =
+solve_guided-requires-clause-merged g c =
     subst (λ f. IsDerivation f c.in_ok-merged.merged) (ap goal_of c.in_ok-joint.ensures.net ∙ sym c.in_ok-joint.ensures.formula) c.in_ok-merged.ensures.derivation
 
 pub input_bits-requires : goal.input_bits-requires
-input_bits-requires c =
+input_bits-requires g c =
     let nets = c.args.nets.now in
     let model = rw c.in-Model.is at c.in_ok-values.ensures in
     omega (arith, ap input_count c.exact.ensures.value, model_wide c.args.metric nets.exact nets.approx c.args.k c.see_comparable.ensures c.in_ok-joint.joint.formula c.in-Model.values c.in_ok-joint.ensures.formula model)
 
 pub returns-in-Model : goal.returns-in-Model
-returns-in-Model c =
+returns-in-Model g c =
     let nets = c.args.nets.now in
     let model = rw c.in-Model.is at c.in_ok-values.ensures in
     let bits = c.in_ok-input_bits-in-Model.ensures ∙ ap (λ N. take (input_count N) c.in-Model.values) c.exact.ensures.value in
@@ -28,7 +28,7 @@ returns-in-Model c =
     (IsOver-from_model c.args.metric nets.exact nets.approx c.args.k c.see_comparable.ensures c.requires.many_inputs c.in_ok-joint.joint.formula c.in-Model.values c.in_ok-joint.ensures.formula model)
 
 pub returns-in-Refuted : goal.returns-in-Refuted
-returns-in-Refuted c =
+returns-in-Refuted g c =
     let nets = c.args.nets.now in
     let refuted = rw c.in-Refuted.is at c.in_ok-values.ensures in
     IsNever-from c.args.metric nets.exact nets.approx c.args.k c.see_comparable.ensures c.in_ok-joint.joint.formula c.in_ok-joint.ensures.formula c.in-Refuted.log refuted.refutes refuted.derivation (

@@ -3,13 +3,13 @@ use Rattle.std.proofs.lemmas.Result.{IfOk-weaker}
 use Rattle.worst_case.specs.Maximum.{IsTurn, IsMaximumAnswer}
 use Rattle.proof_semantics.specs.Queries.{IsSpentLevel}
 use Rattle.worst_case.specs.Exceeds.{spent_value}
-use Rattle.worst_case.proofs.maximum.maximum.Goals as goal
+use Rattle.worst_case.proofs.maximum.maximum_followed.Goals as goal
 
 pub loop-range-init : goal.loop-range-init
-loop-range-init c = record { range = c.in_ok-range.ensures; decider = c.in_ok-decider.ensures ∙ sym (ap (λ P. P.exact) c.new-nets.ensures) }
+loop-range-init g c = record { range = c.in_ok-range.ensures; decider = c.in_ok-decider.ensures ∙ sym (ap (λ P. P.exact) c.new-nets.ensures) }
 
 pub loop-range-preserved : goal.loop-range-preserved
-loop-range-preserved c = record {
+loop-range-preserved g c = record {
   range =
       (subst (IsTurn c.args.metric c.new-nets.result.exact c.new-nets.result.approx c.args.bound c.args.limit c.loop-range.range) c.in-Narrowed.is
       (c.in_ok-next.ensures.turn c.args.bound c.loop-range.invariant.range)).0;
@@ -17,18 +17,18 @@ loop-range-preserved c = record {
 }
 
 pub loop-range-smaller : goal.loop-range-smaller
-loop-range-smaller c =
+loop-range-smaller g c =
     (subst (IsTurn c.args.metric c.new-nets.result.exact c.new-nets.result.approx c.args.bound c.args.limit c.loop-range.range) c.in-Narrowed.is
     (c.in_ok-next.ensures.turn c.args.bound c.loop-range.invariant.range)).1
 
 pub returns-in-Spent : goal.returns-in-Spent
-returns-in-Spent c =
+returns-in-Spent g c =
     let spent = subst (IsTurn c.args.metric c.new-nets.result.exact c.new-nets.result.approx c.args.bound c.args.limit c.loop-range.range) c.in-Spent.is
     (c.in_ok-next.ensures.turn c.args.bound c.loop-range.invariant.range) in
     subst (λ P. IsSpentLevel c.args.metric P.exact P.approx c.args.bound c.args.limit (spent_value c.in-Spent.spent)) c.new-nets.ensures spent
 
 pub returns : goal.returns
-returns c =
+returns g c =
     IfOk-weaker c.settle.result _ _
     (λ answer h. subst (λ P. IsMaximumAnswer c.args.metric P.exact P.approx c.args.bound c.args.limit answer) c.new-nets.ensures (h c.args.bound c.loop-range.invariant.range))
     c.settle.ensures

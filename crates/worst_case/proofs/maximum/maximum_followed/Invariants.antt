@@ -1,12 +1,12 @@
 use Rattle.std.proofs.Common.{◌≡◌, ◌-◌}
 use Rattle.worst_case.specs.Maximum.{IsRange}
-use Rattle.worst_case.proofs.maximum.maximum.Given as goal
+use Rattle.worst_case.proofs.maximum.maximum_followed.Given as goal
 
 abbrev pub invariant-loop-range : goal.invariant-loop-range
-invariant-loop-range l = record {
+invariant-loop-range g l = record {
   range : IsRange l.metric l.nets.exact l.nets.approx l.bound l.range;
   decider : l.decider ≡ l.nets.exact;
 }
 
 abbrev pub decreases-loop-range : goal.decreases-loop-range
-decreases-loop-range l = l.range.high - l.range.low
+decreases-loop-range g l = l.range.high - l.range.low

@@ -6,10 +6,10 @@ use Rattle.chain_semantics.proofs.Simplifications.{simplified, simplified-small,
 use Rattle.worst_case.specs.VectorsTried.{IsHeldFor}
 use Rattle.synth_core.specs.Steps.{IsPool, IsStep}
 use Rattle.synth_core.proofs.Shrinkings.{tidied_move, next-in_simplification, shrinking-end, shrinking-spent}
-use Rattle.synth_core.proofs.shrink.shrink.Goals as goal
+use Rattle.synth_core.proofs.shrink.shrink_followed.Goals as goal
 
 pub loop-shrunk-init : goal.loop-shrunk-init
-loop-shrunk-init c = record {
+loop-shrunk-init g c = record {
   decider = c.in_ok-decider.ensures;
   member = record {
     start = c.in_ok-shrunk.shrunk;
@@ -20,31 +20,31 @@ loop-shrunk-init c = record {
 }
 
 pub new-nets-requires : goal.new-nets-requires
-new-nets-requires c = record {
+new-nets-requires g c = record {
   ports = (simplified c.args.metric c.args.net.now c.args.bound c.inputs.ensures.built.sound c.loop-shrunk.shrunk c.loop-shrunk.invariant.member).ports;
   few_outputs = c.requires.few_outputs;
 }
 
 pub find_step-requires-clause-held : goal.find_step-requires-clause-held
-find_step-requires-clause-held c = subst (λ P. IsHeldFor P.exact c.in_ok-vectors.vectors) (sym c.new-nets.ensures) c.in_ok-vectors.ensures
+find_step-requires-clause-held g c = subst (λ P. IsHeldFor P.exact c.in_ok-vectors.vectors) (sym c.new-nets.ensures) c.in_ok-vectors.ensures
 
 pub find_step-requires-clause-decider : goal.find_step-requires-clause-decider
-find_step-requires-clause-decider c = c.loop-shrunk.invariant.decider ∙ sym (ap (λ P. P.exact) c.new-nets.ensures)
+find_step-requires-clause-decider g c = c.loop-shrunk.invariant.decider ∙ sym (ap (λ P. P.exact) c.new-nets.ensures)
 
 pub find_step-requires-clause-small : goal.find_step-requires-clause-small
-find_step-requires-clause-small c =
+find_step-requires-clause-small g c =
     subst (λ P. IsSmall P.approx) (sym c.new-nets.ensures)
     (simplified-small c.args.metric c.args.net.now c.args.bound c.inputs.ensures.built.sound c.loop-shrunk.shrunk c.requires.small c.loop-shrunk.invariant.member)
 
 pub loop-shrunk-smaller : goal.loop-shrunk-smaller
-loop-shrunk-smaller c =
+loop-shrunk-smaller g c =
     let told = subst (λ P. IsStep c.args.metric P.exact c.args.bound c.args.limit P.approx c.find_step.new.pool.vectors c.in_ok-found.found) c.new-nets.ensures c.in_ok-found.ensures.step in
     let step = rw c.in-Moved.is at told in
     simplification-falls c.args.metric c.args.net.now c.args.bound c.inputs.ensures.built.sound c.loop-shrunk.shrunk c.in_ok-shrunk-in-Moved.shrunk step.move c.loop-shrunk.invariant.member step.first
     (tidied_move c.args.metric c.args.net.now c.args.bound c.loop-shrunk.shrunk c.in-Moved.moved c.in_ok-shrunk-in-Moved.shrunk step c.in_ok-shrunk-in-Moved.ensures)
 
 pub loop-shrunk-preserved : goal.loop-shrunk-preserved
-loop-shrunk-preserved c =
+loop-shrunk-preserved g c =
     let told = subst (λ P. IsStep c.args.metric P.exact c.args.bound c.args.limit P.approx c.find_step.new.pool.vectors c.in_ok-found.found) c.new-nets.ensures c.in_ok-found.ensures.step in
     let step = rw c.in-Moved.is at told in
     record {
@@ -54,14 +54,14 @@ loop-shrunk-preserved c =
     }
 
 pub returns-in-End-clause-shrinking : goal.returns-in-End-clause-shrinking
-returns-in-End-clause-shrinking c =
+returns-in-End-clause-shrinking g c =
     let told = subst (λ P. IsStep c.args.metric P.exact c.args.bound c.args.limit P.approx c.find_step.new.pool.vectors c.in_ok-found.found) c.new-nets.ensures c.in_ok-found.ensures.step in
     let minimal = rw c.in-End.is at told in
     shrinking-end c.args.metric c.args.net.now c.args.bound c.args.limit c.loop-shrunk.shrunk c.find_step.new.pool c.loop-shrunk.invariant.member
     (subst (λ P. IsPool P.exact c.find_step.new.pool) c.new-nets.ensures c.in_ok-found.ensures.pool) minimal
 
 pub returns-in-Spent-clause-shrinking : goal.returns-in-Spent-clause-shrinking
-returns-in-Spent-clause-shrinking c =
+returns-in-Spent-clause-shrinking g c =
     let told = subst (λ P. IsStep c.args.metric P.exact c.args.bound c.args.limit P.approx c.find_step.new.pool.vectors c.in_ok-found.found) c.new-nets.ensures c.in_ok-found.ensures.step in
     let spent = rw c.in-Spent.is at told in
     shrinking-spent c.args.metric c.args.net.now c.args.bound c.args.limit c.loop-shrunk.shrunk c.find_step.new.pool c.loop-shrunk.invariant.member
