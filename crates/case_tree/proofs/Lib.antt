@@ -1,5 +1,6 @@
 pub mod Sets
 pub mod Units
+pub mod Needs
 pub mod Rows
 pub mod Tables
 pub mod Vectors

@@ -36,7 +36,7 @@ Follows goal held last id front rest =
 cases-sound : (n : ℕ) (tables : List TableValue) (order : List ℕ) (output : ℕ) → IsZeroSignal n tables order output
     → (free : ℕ) (front : List Bool) (last : ℕ) (held : Held) (rest : List LogItem) → length front + free ≡ n → length (goal_clauses n tables output) ≤ last
     → AreHeldFrom (get held) 1 (goal_clauses n tables output) → Follows (goal_clauses n tables output) held last (last + step_count free) front rest
-    → IsSoundFrom held last (cases_from n tables order free front last ++ rest)
+    → IsSoundFrom held last (cases_from n tables order output free front last ++ rest)
 unfolding cases_from Follows
 cases-sound n tables order output z zero front last held rest e few base follows =
     let width : length front ≡ n = omega (arith, e) in
@@ -52,8 +52,8 @@ cases-sound n tables order output z (suc free) front last held rest e few base f
     let c : ℕ = step_count free in
     let id : ℕ = last + step_count (suc free) in
     let join : StepValue = join_step id front (last + c) (last + c + c) in
-    let zeros : List LogItem = cases_from n tables order free (front ++ false ∷ []) last in
-    let others : List LogItem = cases_from n tables order free (front ++ true ∷ []) (last + c) in
+    let zeros : List LogItem = cases_from n tables order output free (front ++ false ∷ []) last in
+    let others : List LogItem = cases_from n tables order output free (front ++ true ∷ []) (last + c) in
     let longer = λ (b : Bool). length-append front (b ∷ []) in
     subst (IsSoundFrom held last) (sym (halves zeros others (Add join ∷ []) rest))
     (cases-sound n tables order output z free (front ++ false ∷ []) last held (others ++ Add join ∷ rest) (omega (arith, e, longer false)) few base
@@ -75,26 +75,26 @@ last_added-end [] s before = refl
 last_added-end (Add t ∷ log) s before = last_added-end log s (Some t.literals)
 last_added-end (Remove ids ∷ log) s before = last_added-end log s before
 
-cases-end : (n : ℕ) (tables : List TableValue) (order : List ℕ) (free : ℕ) (front : List Bool) (last : ℕ) → last_added (cases_from n tables order free front last) ≡ Some (negation front)
+cases-end : (n : ℕ) (tables : List TableValue) (order : List ℕ) (output : ℕ) (free : ℕ) (front : List Bool) (last : ℕ) → last_added (cases_from n tables order output free front last) ≡ Some (negation front)
 unfolding cases_from
-cases-end n tables order zero front last = refl
-cases-end n tables order (suc free) front last =
+cases-end n tables order output zero front last = refl
+cases-end n tables order output (suc free) front last =
     let c : ℕ = step_count free in
-    let zeros : List LogItem = cases_from n tables order free (front ++ false ∷ []) last in
-    let others : List LogItem = cases_from n tables order free (front ++ true ∷ []) (last + c) in
+    let zeros : List LogItem = cases_from n tables order output free (front ++ false ∷ []) last in
+    let others : List LogItem = cases_from n tables order output free (front ++ true ∷ []) (last + c) in
     let join : StepValue = join_step (last + step_count (suc free)) front (last + c) (last + c + c) in
     ap last_added (sym (append_assoc zeros others (Add join ∷ []))) ∙ last_added-end (zeros ++ others) join None
 
-pub cases-count : (n : ℕ) (tables : List TableValue) (order : List ℕ) (free : ℕ) (front : List Bool) (last : ℕ) → length (cases_from n tables order free front last) ≡ step_count free
+pub cases-count : (n : ℕ) (tables : List TableValue) (order : List ℕ) (output : ℕ) (free : ℕ) (front : List Bool) (last : ℕ) → length (cases_from n tables order output free front last) ≡ step_count free
 unfolding cases_from
-cases-count n tables order zero front last = refl
-cases-count n tables order (suc free) front last =
+cases-count n tables order output zero front last = refl
+cases-count n tables order output (suc free) front last =
     let c : ℕ = step_count free in
-    let zeros : List LogItem = cases_from n tables order free (front ++ false ∷ []) last in
-    let others : List LogItem = cases_from n tables order free (front ++ true ∷ []) (last + c) in
+    let zeros : List LogItem = cases_from n tables order output free (front ++ false ∷ []) last in
+    let others : List LogItem = cases_from n tables order output free (front ++ true ∷ []) (last + c) in
     let join : List LogItem = Add (join_step (last + step_count (suc free)) front (last + c) (last + c + c)) ∷ [] in
-    let one = cases-count n tables order free (front ++ false ∷ []) last in
-    let two = cases-count n tables order free (front ++ true ∷ []) (last + c) in
+    let one = cases-count n tables order output free (front ++ false ∷ []) last in
+    let two = cases-count n tables order output free (front ++ true ∷ []) (last + c) in
     omega (arith, one, two, length-append zeros (others ++ join), length-append others join)
 
 literals_of-negation : (variables : ℕ) (bits : List Bool) (place : ℕ) → place + length bits ≤ variables → All (IsLiteralOf variables) (negation_from place bits)
@@ -102,19 +102,19 @@ literals_of-negation variables [] place e = All-nil (IsLiteralOf variables)
 literals_of-negation variables (b ∷ bits) place e =
     All-cons (IsLiteralOf variables) _ (negation_from (suc place) bits) (IsLiteralOf-at variables place _ (omega (arith, e))) (literals_of-negation variables bits (suc place) (omega (arith, e)))
 
-cases-in_turn : (n : ℕ) (tables : List TableValue) (order : List ℕ) (variables : ℕ) → n ≤ variables → (free : ℕ) (front : List Bool) (last : ℕ) (rest : List LogItem) → length front + free ≡ n
-    → AddsInTurn variables (last + step_count free) rest → AddsInTurn variables last (cases_from n tables order free front last ++ rest)
+cases-in_turn : (n : ℕ) (tables : List TableValue) (order : List ℕ) (output : ℕ) (variables : ℕ) → n ≤ variables → (free : ℕ) (front : List Bool) (last : ℕ) (rest : List LogItem) → length front + free ≡ n
+    → AddsInTurn variables (last + step_count free) rest → AddsInTurn variables last (cases_from n tables order output free front last ++ rest)
 unfolding cases_from
-cases-in_turn n tables order variables few zero front last rest e follows = (refl, literals_of-negation variables front 0 (omega (arith, e, few)), follows)
-cases-in_turn n tables order variables few (suc free) front last rest e follows =
+cases-in_turn n tables order output variables few zero front last rest e follows = (refl, literals_of-negation variables front 0 (omega (arith, e, few)), follows)
+cases-in_turn n tables order output variables few (suc free) front last rest e follows =
     let c : ℕ = step_count free in
     let join : StepValue = join_step (last + step_count (suc free)) front (last + c) (last + c + c) in
-    let zeros : List LogItem = cases_from n tables order free (front ++ false ∷ []) last in
-    let others : List LogItem = cases_from n tables order free (front ++ true ∷ []) (last + c) in
+    let zeros : List LogItem = cases_from n tables order output free (front ++ false ∷ []) last in
+    let others : List LogItem = cases_from n tables order output free (front ++ true ∷ []) (last + c) in
     let longer = λ (b : Bool). length-append front (b ∷ []) in
     subst (AddsInTurn variables last) (sym (halves zeros others (Add join ∷ []) rest))
-    (cases-in_turn n tables order variables few free (front ++ false ∷ []) last (others ++ Add join ∷ rest) (omega (arith, e, longer false))
-    (cases-in_turn n tables order variables few free (front ++ true ∷ []) (last + c) (Add join ∷ rest) (omega (arith, e, longer true))
+    (cases-in_turn n tables order output variables few free (front ++ false ∷ []) last (others ++ Add join ∷ rest) (omega (arith, e, longer false))
+    (cases-in_turn n tables order output variables few free (front ++ true ∷ []) (last + c) (Add join ∷ rest) (omega (arith, e, longer true))
     (omega arith, literals_of-negation variables front 0 (omega (arith, e, few)), follows)))
 
 -- with more inputs there are no fewer steps
@@ -131,25 +131,25 @@ step_count-few free few =
     subst (λ k. step_count free ≤ step_count k) e (step_count-more free (15 - free))
 
 sound : (n : ℕ) (tables : List TableValue) (order : List ℕ) (output : ℕ) → IsZeroSignal n tables order output
-    → IsSoundLog (goal_clauses n tables output) (cases_from n tables order n [] (length (goal_clauses n tables output)))
+    → IsSoundLog (goal_clauses n tables output) (cases_from n tables order output n [] (length (goal_clauses n tables output)))
 unfolding Follows
 sound n tables order output z =
     let goal : List Clause = goal_clauses n tables output in
-    subst (IsSoundFrom (held_of goal) (length goal)) (append-nil (cases_from n tables order n [] (length goal)))
+    subst (IsSoundFrom (held_of goal) (length goal)) (append-nil (cases_from n tables order output n [] (length goal)))
     (cases-sound n tables order output z n [] (length goal) (held_of goal) [] (omega arith) (omega arith) (held_of-held goal) (λ later base keep new. tt))
 
 pub cases-refute : (n : ℕ) (tables : List TableValue) (order : List ℕ) (output : ℕ) → IsZeroSignal n tables order output
-    → Refutes (goal_clauses n tables output) (cases_from n tables order n [] (length (goal_clauses n tables output)))
-cases-refute n tables order output z = record { sound = sound n tables order output z; ends = cases-end n tables order n [] (length (goal_clauses n tables output)) }
+    → Refutes (goal_clauses n tables output) (cases_from n tables order output n [] (length (goal_clauses n tables output)))
+cases-refute n tables order output z = record { sound = sound n tables order output z; ends = cases-end n tables order output n [] (length (goal_clauses n tables output)) }
 
 pub cases-derivation : (n : ℕ) (tables : List TableValue) (order : List ℕ) (output variables : ℕ) → IsZeroSignal n tables order output → n ≤ variables → n ≤ 15
     → length (goal_clauses n tables output) < 2 ^ 62
-    → IsDerivation (record { variables = variables; clauses = goal_clauses n tables output }) (cases_from n tables order n [] (length (goal_clauses n tables output)))
+    → IsDerivation (record { variables = variables; clauses = goal_clauses n tables output }) (cases_from n tables order output n [] (length (goal_clauses n tables output)))
 cases-derivation n tables order output variables z few inputs short =
     let goal : List Clause = goal_clauses n tables output in
-    let log : List LogItem = cases_from n tables order n [] (length goal) in
+    let log : List LogItem = cases_from n tables order output n [] (length goal) in
     record {
       sound = sound n tables order output z;
-      in_turn = subst (AddsInTurn variables (length goal)) (append-nil log) (cases-in_turn n tables order variables few n [] (length goal) [] (omega arith) tt);
-      short = omega (arith, short, cases-count n tables order n [] (length goal), step_count-few n inputs);
+      in_turn = subst (AddsInTurn variables (length goal)) (append-nil log) (cases-in_turn n tables order output variables few n [] (length goal) [] (omega arith) tt);
+      short = omega (arith, short, cases-count n tables order output n [] (length goal), step_count-few n inputs);
     }

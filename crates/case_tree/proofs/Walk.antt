@@ -1,9 +1,10 @@
 -- The walk over the vectors' fronts gives the steps by cases.
 use Rattle.std.proofs.Common.{◌≡◌, ℕ, suc, ◌+◌, ◌-◌, ◌<◌, ◌≤◌, ◌^◌, Bool, true, false, List, [], ◌∷◌, ◌++◌, length, get_or, map, take, drop, set, refl, ap, sym, ◌∙◌, arith, append_assoc, sum_by}
 use Rattle.std.proofs.lemmas.List.{take_all, take-append-le, take-take, take-set, take_more_set, length-set}
-use Rattle.semantics.specs.Net.{TableValue, NetValue, IsAcyclic, input_count}
+use Rattle.semantics.specs.Net.{TableValue, NetValue, input_count}
 use Rattle.semantics.specs.Order.{IsOrderOf}
 use Rattle.semantics.specs.Value.{Assignment, value_of, outputs_of}
+use Rattle.semantics.proofs.Ordered.{order-acyclic, order-tables}
 use Rattle.net_core.specs.Built.{IsBuilt}
 use Rattle.proof_semantics.specs.declared.item.Item.TheVariants.{Add}
 use Rattle.proof_semantics.specs.Clauses.{Clause}
@@ -17,11 +18,11 @@ use Rattle.case_tree.proofs.Steps.{hints-evaluated}
 
 -- ---- one step
 
-pub vector_step-is : (id n : ℕ) (tables : List TableValue) (order : List ℕ) (x : List Bool) (v : Assignment) (clause : Clause) (hints : List ℕ) → IsAcyclic n tables
-    → clause ≡ negation x → hints ≡ ordered_hints tables order v → ((s : ℕ) → s < n + length tables → v s ≡ value_of n tables x s)
-    → record { id = id; literals = clause; hints = hints } ≡ vector_step id n tables order x
-vector_step-is id n tables order x v clause hints h is along same =
-    let evaluated = hints-evaluated n tables order v (value_of n tables x) h same in
+pub vector_step-is : (id n : ℕ) (tables : List TableValue) (order : List ℕ) (output : ℕ) (x : List Bool) (v : Assignment) (clause : Clause) (hints : List ℕ) → IsOrderOf n tables order
+    → clause ≡ negation x → hints ≡ ordered_hints n tables order output v → ((s : ℕ) → s < n + length tables → v s ≡ value_of n tables x s)
+    → record { id = id; literals = clause; hints = hints } ≡ vector_step id n tables order output x
+vector_step-is id n tables order output x v clause hints h is along same =
+    let evaluated = hints-evaluated n tables order output v (value_of n tables x) (order-acyclic n tables order h) (order-tables n tables [] order h.in_turn) same in
     cc (is, along, evaluated)
 
 -- what was written into a vector through its slice
@@ -56,23 +57,23 @@ front-kept x y d b e =
     let within : d ≤ d + 1 = omega arith in
     sym (take-take d (d + 1) y within) ∙ ap (take d) e ∙ take-take d (d + 1) (set x d b) within ∙ take-set x d b
 
-pub walk-none : (n : ℕ) (tables : List TableValue) (order : List ℕ) (x : List Bool) (d last : ℕ) (log more : List LogItem) (s : StepValue) → d ≡ length x → s ≡ vector_step (last + 1) n tables order x
-    → more ≡ log ++ Add s ∷ [] → more ≡ log ++ cases_from n tables order (length x - d) (take d x) last
+pub walk-none : (n : ℕ) (tables : List TableValue) (order : List ℕ) (output : ℕ) (x : List Bool) (d last : ℕ) (log more : List LogItem) (s : StepValue) → d ≡ length x → s ≡ vector_step (last + 1) n tables order output x
+    → more ≡ log ++ Add s ∷ [] → more ≡ log ++ cases_from n tables order output (length x - d) (take d x) last
 unfolding cases_from
-walk-none n tables order x d last log more s end is pushed =
+walk-none n tables order output x d last log more s end is pushed =
     let none : length x - d ≡ 0 = omega (arith, end) in
     let whole : take d x ≡ x = take_all d x (omega (arith, end)) in
     rw (none, whole) (pushed ∙ ap (λ u. log ++ Add u ∷ []) is)
 
-pub walk-joined : (n : ℕ) (tables : List TableValue) (order : List ℕ) (x y z : List Bool) (d last half other : ℕ) (log log1 log2 log3 : List LogItem) (join : StepValue) → d < length x → length y ≡ length x
-    → log1 ≡ log ++ cases_from n tables order (length (set x d false) - (d + 1)) (take (d + 1) (set x d false)) last
+pub walk-joined : (n : ℕ) (tables : List TableValue) (order : List ℕ) (output : ℕ) (x y z : List Bool) (d last half other : ℕ) (log log1 log2 log3 : List LogItem) (join : StepValue) → d < length x → length y ≡ length x
+    → log1 ≡ log ++ cases_from n tables order output (length (set x d false) - (d + 1)) (take (d + 1) (set x d false)) last
     → half ≡ last + step_count (length (set x d false) - (d + 1)) → take (d + 1) y ≡ take (d + 1) (set x d false)
-    → log2 ≡ log1 ++ cases_from n tables order (length (set y d true) - (d + 1)) (take (d + 1) (set y d true)) half
+    → log2 ≡ log1 ++ cases_from n tables order output (length (set y d true) - (d + 1)) (take (d + 1) (set y d true)) half
     → other ≡ half + step_count (length (set y d true) - (d + 1)) → take (d + 1) z ≡ take (d + 1) (set y d true)
     → join ≡ join_step (other + 1) (take d z) half other → log3 ≡ log2 ++ Add join ∷ []
-    → log3 ≡ log ++ cases_from n tables order (length x - d) (take d x) last
+    → log3 ≡ log ++ cases_from n tables order output (length x - d) (take d x) last
 unfolding cases_from
-walk-joined n tables order x y z d last half other log log1 log2 log3 join within wide first at kept second at2 kept2 is pushed =
+walk-joined n tables order output x y z d last half other log log1 log2 log3 join within wide first at kept second at2 kept2 is pushed =
     let k : ℕ = length x - (d + 1) in
     let c : ℕ = step_count k in
     let m1 : length (set x d false) - (d + 1) ≡ k = omega (arith, length-set x d false) in
@@ -85,8 +86,8 @@ walk-joined n tables order x y z d last half other log log1 log2 log3 join withi
     let id2 : other ≡ half + c = rw m2 at at2 in
     let id2' : other ≡ last + c + c = omega (arith, id1, id2) in
     let id3 : other + 1 ≡ last + step_count (suc k) = omega (arith, id2') in
-    let zeros : List LogItem = cases_from n tables order k (take d x ++ false ∷ []) last in
-    let others : List LogItem = cases_from n tables order k (take d x ++ true ∷ []) (last + c) in
+    let zeros : List LogItem = cases_from n tables order output k (take d x ++ false ∷ []) last in
+    let others : List LogItem = cases_from n tables order output k (take d x ++ true ∷ []) (last + c) in
     let end : List LogItem = Add (join_step (last + step_count (suc k)) (take d x) (last + c) (last + c + c)) ∷ [] in
     let one : log1 ≡ log ++ zeros = rw (m1, front1) at first in
     let two : log2 ≡ log1 ++ others = rw (m2, front2, id1) at second in
@@ -117,25 +118,25 @@ clauses-counted N f built is =
     ∙ length-goal_clauses (input_count N) N.tables (get_or N.outputs 0 0)
     ∙ ap (λ count. count + 1) (length-net_clauses (input_count N) N.tables (λ k d within. (built.sound.tables_formed k d within).widths))
 
-whole-walk : (n : ℕ) (tables : List TableValue) (order : List ℕ) (x : List Bool) (last : ℕ) (start log : List LogItem) → length x ≡ n → start ≡ []
-    → log ≡ start ++ cases_from n tables order (length x - 0) (take 0 x) last → log ≡ cases_from n tables order n [] last
-whole-walk n tables order x last start log width none is =
+whole-walk : (n : ℕ) (tables : List TableValue) (order : List ℕ) (output : ℕ) (x : List Bool) (last : ℕ) (start log : List LogItem) → length x ≡ n → start ≡ []
+    → log ≡ start ++ cases_from n tables order output (length x - 0) (take 0 x) last → log ≡ cases_from n tables order output n [] last
+whole-walk n tables order output x last start log width none is =
     let free : length x - 0 ≡ n = omega (arith, width) in
     rw (free, none) at is
 
 pub walk-refutes : (N : NetValue) (order : List ℕ) (f : Formula) (x : List Bool) (last : ℕ) (start log : List LogItem) → IsBuilt N → IsOrderOf (input_count N) N.tables order → f ≡ goal_of N
     → ((y : List Bool) → length y ≡ input_count N → outputs_of N y ≡ false ∷ []) → length x ≡ input_count N → last ≡ length f.clauses
-    → start ≡ [] → log ≡ start ++ cases_from (input_count N) N.tables order (length x - 0) (take 0 x) last → Refutes f.clauses log
+    → start ≡ [] → log ≡ start ++ cases_from (input_count N) N.tables order (get_or N.outputs 0 0) (length x - 0) (take 0 x) last → Refutes f.clauses log
 walk-refutes N order f x last start log built is_order is always width count none walked =
     let clauses = ap (λ (g : Formula). g.clauses) is in
-    let whole = whole-walk (input_count N) N.tables order x last start log width none walked in
+    let whole = whole-walk (input_count N) N.tables order (get_or N.outputs 0 0) x last start log width none walked in
     rw (whole, count, clauses) (cases-refute (input_count N) N.tables order (get_or N.outputs 0 0) (IsZeroSignal-output N order built is_order always))
 
 pub walk-derives : (N : NetValue) (order : List ℕ) (f : Formula) (x : List Bool) (last : ℕ) (start log : List LogItem) → IsBuilt N → IsOrderOf (input_count N) N.tables order → f ≡ goal_of N → input_count N ≤ 15
     → ((y : List Bool) → length y ≡ input_count N → outputs_of N y ≡ false ∷ []) → length x ≡ input_count N → last ≡ length f.clauses → length f.clauses < 2 ^ 58
-    → start ≡ [] → log ≡ start ++ cases_from (input_count N) N.tables order (length x - 0) (take 0 x) last → IsDerivation f log
+    → start ≡ [] → log ≡ start ++ cases_from (input_count N) N.tables order (get_or N.outputs 0 0) (length x - 0) (take 0 x) last → IsDerivation f log
 walk-derives N order f x last start log built is_order is few always width count short none walked =
     let clauses = ap (λ (g : Formula). length g.clauses) is in
-    let whole = whole-walk (input_count N) N.tables order x last start log width none walked in
+    let whole = whole-walk (input_count N) N.tables order (get_or N.outputs 0 0) x last start log width none walked in
     rw (whole, count, is)
     (cases-derivation (input_count N) N.tables order (get_or N.outputs 0 0) (variable_count (input_count N) N.tables) (IsZeroSignal-output N order built is_order always) (omega arith) few (omega (arith, short, clauses)))

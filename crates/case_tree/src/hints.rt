@@ -1,14 +1,18 @@
-//! The hints of an input vector: along them unit propagation gives each table its value at the vector.
-ghost use Rattle.std.specs.Prelude.{◌≡◌, ℕ, ◌+◌, ◌<◌, ◌^◌, false, ◌++◌, length, slice_index_or, sum_by, All, IfOk, OnOk};
-ghost use Rattle.semantics.specs.Net.{input_count, signal_count, table_literals};
+//! The hints of an input vector: along them unit propagation gives each table on which the output rests its value at the vector.
+//!
+//! They are found from the last one to the first: the output is needed, a table that is needed rests on the row that matches, or on one
+//! false literal of each row, and their signals are needed before it. A table that is not needed has no hint.
+ghost use Rattle.std.specs.Prelude.{◌≡◌, ℕ, ◌+◌, ◌-◌, ◌<◌, ◌≤◌, ◌^◌, false, if◌then◌else◌, [], ◌∷◌, ◌++◌, length, reverse, slice_index, slice_index_or, slice_set, sum_by, All, IfOk, OnOk};
+ghost use Rattle.semantics.specs.Net.{input_count, table_count, signal_count, table_at, row_literals};
 ghost use Rattle.semantics.specs.Order.{IsOrderOf};
-ghost use Rattle.net_core.specs.Built.{IsBuilt};
 ghost use Rattle.proof_semantics.specs.Variables.{table_clause_count};
-ghost use Rattle.case_tree.specs.Cases.{row_hint, table_hints, first_ids, ordered_hints};
+ghost use Rattle.case_tree.specs.Cases.{row_hint, match_hints, failing_hints, has_match, asked_by_row, asked_by_failing, asked_by_match, asked_by_rows, hints_from, asked_by_table, first_ids, hints_before, ordered_hints};
+ghost use Rattle.case_tree.specs.Rooms.{FitsRoom};
 
 use net_core::items::{Items, Signal};
 use net_core::mark::Mark;
 use net_core::net::Net;
+use net_core::row::Row;
 use net_core::table::{Table, is_literal, mark_matches, row_literals, row_matches};
 use proof_parts::log::Ids;
 use std::alloc::{AllocError, Global};
@@ -32,31 +36,151 @@ fn row_hint(next: u64, marks: &[Mark], pins: &[Signal], vals: &[bool]) -> u64
     hint
 }
 
-/// Adds the hints of a table whose clauses have the ids from `next` on.
-fn push_table_hints(
-    hints: &mut Ids,
+/// Asks for the signals of which a row asks a value.
+fn ask_row(marks: &[Mark], pins: &[Signal], needed: &mut [bool])
+    requires widths { length marks.now ≡ length pins.now }
+    requires pins_in { All (λ s. s < length needed.old) pins.now }
+    ensures { needed.new ≡ asked_by_row marks.now pins.now needed.old }
+{
+    for (i, mark) in marks.iter().enumerate() {
+        if is_literal(*mark) {
+            needed[pins[i] as usize] = true;
+        }
+    }
+}
+
+/// Asks for the signal of a row's first literal that is false.
+fn ask_failing(marks: &[Mark], pins: &[Signal], vals: &[bool], needed: &mut [bool])
+    requires widths { length marks.now ≡ length pins.now }
+    requires pins_in { All (λ s. s < length vals.now) pins.now }
+    requires flags { length needed.old ≡ length vals.now }
+    ensures { needed.new
+        ≡ asked_by_failing marks.now pins.now (λ s. slice_index_or vals.now s false) needed.old }
+{
+    for (i, mark) in marks.iter().enumerate() {
+        let pin = pins[i] as usize;
+        if !mark_matches(*mark, vals[pin]) {
+            needed[pin] = true;
+            return;
+        }
+    }
+}
+
+/// Adds the hints of the first row that matches, the last one first, and asks for what they rest on. The rows have their clauses from
+/// the id `next` on, and the clauses that a row implies the plane stand from the id `first` on.
+fn push_match(
+    hints: &mut Vec<u64>,
+    needed: &mut [bool],
     next: u64,
-    table: &Table,
+    first: u64,
+    rows: &[Row],
+    pins: &[Signal],
     vals: &[bool],
 ) -> Result<(), AllocError>
-    requires pins_in { All (λ s. s < length vals.now) table.now.pins }
-    requires ids { next + table_clause_count table.now < 2 ^ 63 }
-    ensures { OnOk result (hints.new ≡ hints.old
-        ++ table_hints next (next + table_literals table.now + length table.now.rows) table.now.pins table.now.rows (λ s. slice_index_or vals.now s false)) }
+    requires widths { All (λ marks. length marks ≡ length pins.now) rows.now }
+    requires pins_in { All (λ s. s < length vals.now) pins.now }
+    requires flags { length needed.old ≡ length vals.now }
+    requires ids { next + sum_by (λ marks. row_literals marks + 1) rows.now < 2 ^ 63 }
+    requires implying { first + length rows.now < 2 ^ 63 }
+    ensures hints { OnOk result (hints.new.items ≡ hints.old.items
+        ++ reverse (match_hints next first pins.now rows.now (λ s. slice_index_or vals.now s false))) }
+    ensures asked { OnOk result (needed.new
+        ≡ asked_by_match pins.now rows.now (λ s. slice_index_or vals.now s false) needed.old) }
 {
-    let pins = table.pins().as_slice();
-    let rows = table.rows().as_slice();
     let mut id = next;
-    let mut implied = next + table.literals() + rows.len() as u64;
+    let mut implied = first;
     for row in rows {
-        hints.push(row_hint(id, row.as_slice(), pins, vals))?;
-        if row_matches(row.as_slice(), pins, vals) {
-            return hints.push(implied);
+        let marks = row.as_slice();
+        if row_matches(marks, pins, vals) {
+            ask_row(marks, pins, needed);
+            hints.push(implied)?;
+            hints.push(row_hint(id, marks, pins, vals))?;
+            return Ok(());
         }
-        id += row_literals(row.as_slice()) as u64 + 1;
+        id += row_literals(marks) as u64 + 1;
         implied += 1;
     }
-    hints.push(implied)
+    Ok(())
+}
+
+/// Adds the hints of a table of which no row matches, the last one first, and asks for what they rest on. The table's clauses end with
+/// the id `last`.
+fn push_failing(
+    hints: &mut Vec<u64>,
+    needed: &mut [bool],
+    last: u64,
+    rows: &[Row],
+    pins: &[Signal],
+    vals: &[bool],
+) -> Result<(), AllocError>
+    requires widths { All (λ marks. length marks ≡ length pins.now) rows.now }
+    requires pins_in { All (λ s. s < length vals.now) pins.now }
+    requires flags { length needed.old ≡ length vals.now }
+    requires few { last < 2 ^ 63 }
+    requires ids { sum_by (λ marks. row_literals marks + 1) rows.now + length rows.now ≤ last }
+    ensures hints { OnOk result (hints.new.items ≡ hints.old.items
+        ++ reverse (failing_hints (last - length rows.now - sum_by (λ marks. row_literals marks + 1) rows.now)
+        (last - length rows.now) pins.now rows.now (λ s. slice_index_or vals.now s false))) }
+    ensures asked { OnOk result (needed.new
+        ≡ asked_by_rows pins.now rows.now (λ s. slice_index_or vals.now s false) needed.old) }
+{
+    hints.push(last)?;
+    let mut id = last - rows.len() as u64;
+    let mut left = rows.len();
+    while left > 0 {
+        left -= 1;
+        let marks = rows[left].as_slice();
+        id -= row_literals(marks) as u64 + 1;
+        hints.push(row_hint(id, marks, pins, vals))?;
+        ask_failing(marks, pins, vals, needed);
+    }
+    Ok(())
+}
+
+/// Whether a table of this plane with this value has a row that matches.
+fn has_match(plane: bool, value: bool) -> bool
+    ensures { result ≡ has_match plane value }
+{
+    if plane { value } else { !value }
+}
+
+/// Adds the hints of table `i`, the last one first, where it is needed. It is known then, and what its hints rest on is needed.
+fn push_table(
+    hints: &mut Vec<u64>,
+    needed: &mut [bool],
+    net: &Net,
+    firsts: &[u64],
+    i: u32,
+    vals: &[bool],
+) -> Result<(), AllocError>
+    requires table { i < table_count net.now }
+    requires values { length vals.now ≡ signal_count net.now }
+    requires flags { length needed.old ≡ length vals.now }
+    requires firsts { firsts.now ≡ first_ids 1 net.now.tables }
+    requires ids { sum_by table_clause_count net.now.tables < 2 ^ 62 }
+    ensures hints { OnOk result (hints.new.items ≡ hints.old.items
+        ++ reverse (if slice_index_or needed.old (input_count net.now + i) false
+        then hints_from (slice_index (first_ids 1 net.now.tables) i) (input_count net.now + i) (table_at net.now.tables i) (λ s. slice_index_or vals.now s false)
+        else [])) }
+    ensures asked { OnOk result (needed.new ≡ (if slice_index_or needed.old (input_count net.now + i) false
+        then asked_by_table (input_count net.now + i) (table_at net.now.tables i) (λ s. slice_index_or vals.now s false)
+        (slice_set needed.old (input_count net.now + i) false)
+        else needed.old)) }
+{
+    let place = (net.inputs() + i) as usize;
+    if !needed[place] {
+        return Ok(());
+    }
+    needed[place] = false;
+    let table = net.table(i);
+    let pins = table.pins().as_slice();
+    let rows = table.rows().as_slice();
+    let last = firsts[i as usize + 1] - 1;
+    if has_match(table.plane(), vals[place]) {
+        let implied = last - rows.len() as u64;
+        return push_match(hints, needed, firsts[i as usize], implied, rows, pins, vals);
+    }
+    push_failing(hints, needed, last, rows, pins, vals)
 }
 
 /// How many clauses a table has.
@@ -69,7 +193,7 @@ fn table_clause_count(table: &Table) -> u64
 }
 
 /// The id of the first clause of each table, and then that of the clause behind those of all tables.
-pub fn first_ids(alloc: Global, net: &Net) -> Result<Ids, AllocError>
+pub(crate) fn first_ids(alloc: Global, net: &Net) -> Result<Ids, AllocError>
     requires { sum_by table_clause_count net.now.tables < 2 ^ 62 }
     ensures { IfOk result (λ firsts. firsts ≡ first_ids 1 net.now.tables) }
 {
@@ -83,27 +207,86 @@ pub fn first_ids(alloc: Global, net: &Net) -> Result<Ids, AllocError>
     Ok(firsts)
 }
 
-/// The hints of the input vector at which the signals have these values, table by table in this order.
-pub fn vector_hints(
-    alloc: Global,
+/// Adds the hints of the tables in this order that are needed, the last one first. Behind them is needed what is needed before.
+fn push_tables(
+    hints: &mut Vec<u64>,
+    needed: &mut [bool],
     net: &Net,
     order: &[u32],
     firsts: &[u64],
     vals: &[bool],
-) -> Result<Ids, AllocError>
+) -> Result<(), AllocError>
     requires values { length vals.now ≡ signal_count net.now }
+    requires flags { length needed.old ≡ length vals.now }
     requires order { IsOrderOf (input_count net.now) net.now.tables order.now }
     requires firsts { firsts.now ≡ first_ids 1 net.now.tables }
     requires ids { sum_by table_clause_count net.now.tables < 2 ^ 62 }
-    ensures hints { IfOk result (λ hints. hints
-        ≡ ordered_hints net.now.tables order.now (λ s. slice_index_or vals.now s false)) }
-    ensures built { IsBuilt net.now }
+    requires start { hints.old.items ≡ slice_index (first_ids 1 net.now.tables) (table_count net.now) ∷ [] }
+    ensures { OnOk result (hints.new.items
+        ≡ reverse (hints_before (input_count net.now) net.now.tables (λ s. slice_index_or vals.now s false) needed.old order.now)) }
 {
-    let mut hints = Items::new(alloc);
-    let count = net.tables() as usize;
-    for i in order {
-        push_table_hints(&mut hints, firsts[*i as usize], net.table(*i), vals)?;
+    let mut left = order.len();
+    while left > 0 {
+        left -= 1;
+        push_table(hints, needed, net, firsts, order[left], vals)?;
     }
-    hints.push(firsts[count])?;
-    Ok(hints)
+    Ok(())
+}
+
+/// Room for the hints of a vector: the values of the signals there, which of them are needed, and the hints, the last one first.
+#[derive(Drop)]
+pub(crate) struct Room {
+    pub(crate) vals: Vec<bool>,
+    needed: Vec<bool>,
+    hints: Vec<u64>,
+}
+
+/// Room for a net.
+pub(crate) fn room_for(alloc: Global, net: &Net) -> Result<Room, AllocError>
+    ensures { IfOk result (FitsRoom net.now) }
+{
+    let signals = net.signals() as usize;
+    Ok(Room {
+        vals: vec![in alloc; false; signals]?,
+        needed: vec![in alloc; false; signals]?,
+        hints: Vec::new(alloc),
+    })
+}
+
+/// The hints in the other order.
+fn reversed(alloc: Global, hints: &[u64]) -> Result<Ids, AllocError>
+    ensures { IfOk result (λ ids. ids ≡ reverse hints.now) }
+{
+    let mut ids = Items::new(alloc);
+    for hint in hints.iter().rev() {
+        ids.push(*hint)?;
+    }
+    Ok(ids)
+}
+
+/// The hints of the input vector at which the signals have the values in the room: those of the tables on which the output rests there,
+/// one after another in this order.
+pub(crate) fn vector_hints(
+    alloc: Global,
+    net: &Net,
+    order: &[u32],
+    firsts: &[u64],
+    room: &mut Room,
+) -> Result<Ids, AllocError>
+    requires room { FitsRoom net.now room.old }
+    requires order { IsOrderOf (input_count net.now) net.now.tables order.now }
+    requires firsts { firsts.now ≡ first_ids 1 net.now.tables }
+    requires ids { sum_by table_clause_count net.now.tables < 2 ^ 62 }
+    ensures hints { IfOk result (λ hints. hints ≡ ordered_hints (input_count net.now) net.now.tables order.now
+        (slice_index net.now.outputs 0) (λ s. slice_index_or room.old.vals.items s false)) }
+    ensures room { FitsRoom net.now room.new }
+{
+    let count = net.tables() as usize;
+    room.hints.clear();
+    room.hints.push(firsts[count])?;
+    let needed = room.needed.as_mut_slice();
+    needed.fill(false);
+    needed[net.output(0) as usize] = true;
+    push_tables(&mut room.hints, needed, net, order, firsts, &room.vals)?;
+    reversed(alloc, &room.hints)
 }

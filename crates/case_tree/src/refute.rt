@@ -1,5 +1,5 @@
 //! A refutation by cases: each input vector's negation is derived, and then two clauses at a time are joined.
-ghost use Rattle.std.specs.Prelude.{◌≡◌, ℕ, ◌+◌, ◌-◌, ◌<◌, ◌≤◌, ◌^◌, Bool, false, List, [], ◌∷◌, ◌++◌, length, take, sum_by, IfOk, OnOk};
+ghost use Rattle.std.specs.Prelude.{◌≡◌, ℕ, ◌+◌, ◌-◌, ◌<◌, ◌≤◌, ◌^◌, Bool, false, List, [], ◌∷◌, ◌++◌, length, take, slice_index, sum_by, IfOk, OnOk};
 ghost use Rattle.semantics.specs.Net.{input_count};
 ghost use Rattle.semantics.specs.Order.{IsOrderOf};
 ghost use Rattle.semantics.specs.Value.{outputs_of};
@@ -7,8 +7,9 @@ ghost use Rattle.proof_semantics.specs.Formula.{goal_of};
 ghost use Rattle.proof_semantics.specs.Logs.{Refutes, IsDerivation};
 ghost use Rattle.proof_semantics.specs.Variables.{table_clause_count};
 ghost use Rattle.case_tree.specs.Cases.{negation_from, negation, first_ids, vector_step, join_step, step_count, cases_from};
+ghost use Rattle.case_tree.specs.Rooms.{FitsRoom};
 
-use crate::hints::{first_ids, vector_hints};
+use crate::hints::{Room, first_ids, room_for, vector_hints};
 use net_core::items::Items;
 use net_core::net::Net;
 use proof_parts::clause::Lits;
@@ -36,6 +37,7 @@ fn vector_step(
     net: &Net,
     order: &[u32],
     firsts: &[u64],
+    room: &mut Room,
     x: &[bool],
 ) -> Result<Step, AllocError>
     requires width { length x.now ≡ input_count net.now }
@@ -43,11 +45,13 @@ fn vector_step(
     requires order { IsOrderOf (input_count net.now) net.now.tables order.now }
     requires firsts { firsts.now ≡ first_ids 1 net.now.tables }
     requires ids { sum_by table_clause_count net.now.tables < 2 ^ 62 }
-    ensures { IfOk result (λ s. s ≡ vector_step id (input_count net.now) net.now.tables order.now x.now) }
+    requires room { FitsRoom net.now room.old }
+    ensures step { IfOk result
+        (λ s. s ≡ vector_step id (input_count net.now) net.now.tables order.now (slice_index net.now.outputs 0) x.now) }
+    ensures room { FitsRoom net.now room.new }
 {
-    let mut vals = vec![in alloc; false; net.signals() as usize]?;
-    net.eval(x, &mut vals);
-    let hints = vector_hints(alloc, net, order, firsts, &vals)?;
+    net.eval(x, &mut room.vals);
+    let hints = vector_hints(alloc, net, order, firsts, room)?;
     Ok(Step::new(id, negation(alloc, x)?, hints))
 }
 
@@ -75,6 +79,7 @@ fn push_cases(
     net: &Net,
     order: &[u32],
     firsts: &[u64],
+    room: &mut Room,
     x: &mut [bool],
     depth: usize,
     last: u64,
@@ -87,20 +92,22 @@ fn push_cases(
     requires firsts { firsts.now ≡ first_ids 1 net.now.tables }
     requires clauses { sum_by table_clause_count net.now.tables < 2 ^ 62 }
     requires ids { last + step_count (length x.old - depth) < 2 ^ 63 }
+    requires room { FitsRoom net.now room.old }
     ensures log { OnOk result (log.new ≡ log.old
-        ++ cases_from (input_count net.now) net.now.tables order.now (length x.old - depth) (take depth x.old) last) }
+        ++ cases_from (input_count net.now) net.now.tables order.now (slice_index net.now.outputs 0) (length x.old - depth) (take depth x.old) last) }
     ensures last { IfOk result (λ id. id ≡ last + step_count (length x.old - depth)) }
     ensures front { OnOk result (take depth x.new ≡ take depth x.old) }
+    ensures room { FitsRoom net.now room.new }
 {
     if depth == x.len() {
         let id = last + 1;
-        log.push(Item::Add(vector_step(alloc, id, net, order, firsts, x)?))?;
+        log.push(Item::Add(vector_step(alloc, id, net, order, firsts, room, x)?))?;
         return Ok(id);
     }
     x[depth] = false;
-    let half = push_cases(alloc, net, order, firsts, x, depth + 1, last, log)?;
+    let half = push_cases(alloc, net, order, firsts, room, x, depth + 1, last, log)?;
     x[depth] = true;
-    let other = push_cases(alloc, net, order, firsts, x, depth + 1, half, log)?;
+    let other = push_cases(alloc, net, order, firsts, room, x, depth + 1, half, log)?;
     let id = other + 1;
     log.push(Item::Add(join_step(alloc, id, &x[..depth], half, other)?))?;
     Ok(id)
@@ -126,12 +133,14 @@ pub fn refute(alloc: Global, joint: &Net, goal: &Cnf) -> Result<Log, AllocError>
     let last = clause_count(goal);
     let mut x = vec![in alloc; false; joint.inputs() as usize]?;
     let firsts = first_ids(alloc, joint)?;
+    let mut room = room_for(alloc, joint)?;
     let mut log = Items::new(alloc);
     push_cases(
         alloc,
         joint,
         joint.order(),
         firsts.as_slice(),
+        &mut room,
         &mut x,
         0,
         last,

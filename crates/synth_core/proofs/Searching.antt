@@ -11,20 +11,35 @@ use Rattle.chain_semantics.specs.Moves.{moves_of, moved}
 use Rattle.chain_semantics.proofs.MoveLists.{Contains-here}
 use Rattle.job_semantics.specs.Shrinking.{IsSpentMove}
 use Rattle.job_semantics.proofs.MinimalNets.{minimal-none_allowed}
-use Rattle.adc_core.specs.Masks.{Masks}
+use Rattle.lane_bits.specs.Patterns.{PatternSet}
+use Rattle.adc_core.specs.Growing.{GrowingValue}
 use Rattle.worst_case.specs.declared.query.Spent as spent
 use Rattle.worst_case.specs.Exceeds.{spent_value, IsSpentOn}
-use Rattle.synth_core.specs.declared.move_trial.Trial.{Trial}
-use Rattle.synth_core.specs.MoveTrials.{IsAllowedTo, IsTrial}
+use Rattle.synth_core.specs.MoveTrials.{IsNewVector, IsAllowedTo}
 use Rattle.synth_core.specs.declared.step.Step.{Step}
 use Rattle.synth_core.specs.declared.step.Step.TheVariants.{End, Moved, Spent}
-use Rattle.synth_core.specs.Steps.{IsFirstMoved, AreMasksOver, AreAmong, IsStepBy, IsStep}
-use Rattle.synth_core.proofs.Pools.{each_more}
+use Rattle.synth_core.specs.Steps.{IsFirstMoved, AreMasksOver, IsMaskedPool, AreAmong, IsStepBy, IsStep}
+use Rattle.synth_core.proofs.Pools.{IsPool-more, each_more}
 
--- what the masks told, told of the pool
-pub trial_over : (metric : Metric) (exact : NetValue) (bound limit : ℕ) (N : NetValue) (vectors : List (List Bool)) (masks : Masks) (move : Move) (trial : Trial)
-    → AreMasksOver metric exact bound N vectors masks → IsTrial metric exact bound limit N masks.vectors move trial → IsTrial metric exact bound limit N vectors move trial
-trial_over metric exact bound limit N vectors masks move trial of h = subst (λ v. IsTrial metric exact bound limit N v move trial) of.over h
+-- masks over a pool are masks over their own vectors, and what they told is told of the pool
+pub masks-own : (metric : Metric) (exact : NetValue) (bound : ℕ) (N : NetValue) (vectors : List (List Bool)) (masks : GrowingValue)
+    → AreMasksOver metric exact bound N vectors masks → AreMasksOver metric exact bound N masks.vectors masks
+masks-own metric exact bound N vectors masks over = subst (λ v. AreMasksOver metric exact bound N v masks) (sym (ap (λ (m : GrowingValue). m.vectors) over)) over
+
+-- a vector joins the pool, and the masks go over to it
+pub masked-more : (metric : Metric) (exact : NetValue) (bound : ℕ) (N : NetValue) (s t : PatternSet) (old new : GrowingValue) (move : Move) (x : List Bool) → IsMaskedPool metric exact bound N s old
+    → t ≡ record s { vectors = s.vectors ++ x ∷ [] } → new ≡ record old { vectors = t.vectors } → IsNewVector metric exact bound N s.vectors move x → IsMaskedPool metric exact bound N t new
+masked-more metric exact bound N s t old new move x masked pushed grown new_one = record {
+  pool = IsPool-more exact s t x masked.pool pushed new_one.many new_one.width new_one.new;
+  masks = grown ∙ ap (λ (m : GrowingValue). record m { vectors = t.vectors }) masked.masks;
+}
+
+-- and it breaks the move
+pub broken-more : (metric : Metric) (exact : NetValue) (bound : ℕ) (N : NetValue) (s t : PatternSet) (move : Move) (x : List Bool) → t ≡ record s { vectors = s.vectors ++ x ∷ [] }
+    → IsNewVector metric exact bound N s.vectors move x → IsBrokenBySome metric exact bound N t.vectors move
+broken-more metric exact bound N s t move x pushed new_one =
+    let there : Contains (s.vectors ++ x ∷ []) x = Contains-append_right s.vectors (x ∷ []) x (Contains-here x []) in
+    (x, subst (λ v. Contains v x) (sym (ap (λ (p : PatternSet). p.vectors) pushed)) there, new_one.broken)
 
 module _ (metric : Metric) (exact : NetValue) (bound : ℕ) (N : NetValue) where
   -- some vector breaks each move before what is left

@@ -12,7 +12,7 @@ use Rattle.chain_semantics.specs.Minimality.{IsBrokenBySome, IsMinimalBy}
 use Rattle.chain_semantics.specs.Simplification.{IsAllowedMove}
 use Rattle.job_semantics.specs.Shrinking.{AreApart, IsSpentMove}
 use Rattle.lane_bits.specs.Patterns.{PatternSet}
-use Rattle.adc_core.specs.Masks.{Masks, AreMasksOf}
+use Rattle.adc_core.specs.Growing.{GrowingValue}
 use Rattle.worst_case.specs.Exceeds.{spent_value, IsSpentOn}
 use Rattle.synth_core.specs.MoveTrials.{IsAllowedTo}
 use Rattle.synth_core.specs.declared.step.Step.{Step}
@@ -26,13 +26,11 @@ pub record IsPool (exact : NetValue) (s : PatternSet) : Type 0 where
   pub counting : input_count exact ≤ FEW_INPUTS → s.vectors ≡ all_vectors (input_count exact)
 
 -- the masks are those of the net over these vectors
-pub record AreMasksOver (metric : Metric) (exact : NetValue) (bound : ℕ) (N : NetValue) (vectors : List (List Bool)) (masks : Masks) : Type 0 where
-  pub net : masks.net ≡ N
-  pub over : masks.vectors ≡ vectors
-  pub are : AreMasksOf metric exact bound masks
+abbrev pub AreMasksOver : Metric → NetValue → ℕ → NetValue → List (List Bool) → GrowingValue → Type 0
+AreMasksOver metric exact bound N vectors masks = masks ≡ record { exact = exact; net = N; metric = metric; bound = bound; vectors = vectors }
 
 -- a pool, and the net's masks over it
-pub record IsMaskedPool (metric : Metric) (exact : NetValue) (bound : ℕ) (N : NetValue) (s : PatternSet) (m : Masks) : Type 0 where
+pub record IsMaskedPool (metric : Metric) (exact : NetValue) (bound : ℕ) (N : NetValue) (s : PatternSet) (m : GrowingValue) : Type 0 where
   pub pool : IsPool exact s
   pub masks : AreMasksOver metric exact bound N s.vectors m
 

@@ -3,11 +3,11 @@ ghost use Rattle.std.specs.Prelude.{◌≡◌, ◌≤◌, IfOk, Contains};
 ghost use Rattle.semantics.specs.Net.{input_count};
 ghost use Rattle.semantics.specs.Vectors.{all_vectors};
 ghost use Rattle.chain_semantics.specs.Moves.{moves_of};
-ghost use Rattle.adc_core.specs.Masks.{AreMasksOf};
 ghost use Rattle.worst_case.specs.VectorsTried.{IsHeldFor};
 ghost use Rattle.synth_core.specs.MoveTrials.{IsTrial};
+ghost use Rattle.synth_core.specs.Steps.{AreMasksOver};
 
-use adc_core::adc::Adc;
+use adc_core::growing::GrowingMasks;
 use bdd_levels::decider::Decider;
 use chain_semantics::moves::Move;
 use lane_nets::reference::Reference;
@@ -50,22 +50,22 @@ pub(crate) fn try_move<P: Progress>(
     held: &Option<Reference>,
     decider: &mut Decider,
     terms: Terms,
-    adc: &Adc,
+    masks: &mut GrowingMasks,
     step: Move,
     progress: &mut P,
 ) -> Result<Trial, AllocError>
     requires held { IsHeldFor nets.now.exact held.now }
     requires decider { decider.old ≡ nets.now.exact }
     requires limit { 1 ≤ terms.limit }
-    requires same { adc.now.net ≡ nets.now.approx }
-    requires masks { AreMasksOf terms.metric nets.now.exact terms.bound adc.now }
-    requires counting { input_count nets.now.exact ≤ FEW_INPUTS → adc.now.vectors ≡ all_vectors (input_count nets.now.exact) }
+    requires masks { AreMasksOver terms.metric nets.now.exact terms.bound nets.now.approx masks.old.vectors masks.old }
+    requires counting { input_count nets.now.exact ≤ FEW_INPUTS → masks.old.vectors ≡ all_vectors (input_count nets.now.exact) }
     requires step { Contains (moves_of nets.now.approx) step }
     ensures same { decider.new ≡ decider.old }
+    ensures masks { masks.new ≡ masks.old }
     ensures trial { IfOk result
-        (IsTrial terms.metric nets.now.exact terms.bound terms.limit nets.now.approx adc.now.vectors step) }
+        (IsTrial terms.metric nets.now.exact terms.bound terms.limit nets.now.approx masks.old.vectors step) }
 {
-    let None = adc.breaks(step) else {
+    let None = masks.breaks(step)? else {
         return Ok(Trial::Broken);
     };
     // A net is sound by its type: the call brings that fact here.

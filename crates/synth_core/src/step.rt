@@ -6,7 +6,7 @@ ghost use Rattle.worst_case.specs.VectorsTried.{IsHeldFor};
 ghost use Rattle.synth_core.specs.Steps.{IsPool, AreMasksOver, IsMaskedPool, AreAmong, IsWeighed, IsStep};
 
 use crate::move_trial::{Terms, Trial, try_move};
-use adc_core::adc::Adc;
+use adc_core::growing::GrowingMasks;
 use bdd_levels::decider::Decider;
 use chain_semantics::moves::Move;
 use lane_bits::patterns::Patterns;
@@ -16,7 +16,6 @@ use net_errors::compared::Compared;
 use net_moves::apply::table_of;
 use net_moves::moves::moves;
 use progress::progress::Progress;
-use semantics::limits::FEW_INPUTS;
 use std::alloc::{AllocError, Global};
 use worst_case::query::Spent;
 
@@ -32,44 +31,31 @@ pub(crate) enum Step {
 }
 
 /// The masks of the approximate net over the pool.
-fn pool_masks(
+fn pool_masks<'a>(
     alloc: Global,
-    nets: &Compared,
+    nets: &Compared<'a>,
     terms: Terms,
     pool: &Patterns,
-) -> Result<Adc, AllocError>
+) -> Result<GrowingMasks<'a>, AllocError>
     requires inputs { pool.now.inputs ≡ input_count nets.now.exact }
     ensures { IfOk result (AreMasksOver terms.metric nets.now.exact terms.bound nets.now.approx pool.now.vectors) }
 {
-    Adc::new(
-        alloc,
-        nets.exact(),
-        nets.approx(),
-        terms.metric,
-        terms.bound,
-        pool,
-    )
+    let (exact, approx) = (nets.exact(), nets.approx());
+    let mut masks = GrowingMasks::new(alloc, exact, approx, terms.metric, terms.bound)?;
+    masks.grow(pool)?;
+    Ok(masks)
 }
 
-/// A vector joins the pool, and the masks are made anew.
-fn add_vector(
-    alloc: Global,
-    nets: &Compared,
-    terms: Terms,
-    pool: &mut Patterns,
-    masks: &mut Adc,
-    x: &[bool],
-) -> Result<(), AllocError>
-    requires pool { IsPool nets.now.exact pool.old }
-    requires many { FEW_INPUTS < input_count nets.now.exact }
-    requires width { length x.now ≡ input_count nets.now.exact }
-    requires new { ¬ Contains pool.old.vectors x.now }
-    ensures vectors { OnOk result (pool.new.vectors ≡ pool.old.vectors ++ x.now ∷ []) }
-    ensures masked { OnOk result (IsMaskedPool terms.metric nets.now.exact terms.bound nets.now.approx pool.new masks.new) }
+/// A vector joins the pool, and the masks go over to it.
+fn add_vector(pool: &mut Patterns, masks: &mut GrowingMasks, x: &[bool]) -> Result<(), AllocError>
+    requires inputs { pool.old.inputs ≡ input_count masks.old.exact }
+    requires over { masks.old.vectors ≡ pool.old.vectors }
+    requires width { length x.now ≡ pool.old.inputs }
+    ensures pool { OnOk result (pool.new ≡ record pool.old { vectors = pool.old.vectors ++ x.now ∷ [] }) }
+    ensures masks { OnOk result (masks.new ≡ record masks.old { vectors = pool.new.vectors }) }
 {
     pool.push(x)?;
-    *masks = pool_masks(alloc, nets, terms, pool)?;
-    Ok(())
+    masks.grow(pool)
 }
 
 /// Tries a move: the step that it makes, or None where a vector of the pool breaks it. Such a vector joins the pool where a query
@@ -81,7 +67,7 @@ fn weigh<P: Progress>(
     decider: &mut Decider,
     terms: Terms,
     pool: &mut Patterns,
-    masks: &mut Adc,
+    masks: &mut GrowingMasks,
     step: Move,
     progress: &mut P,
 ) -> Result<Option<Step>, AllocError>
@@ -99,7 +85,7 @@ fn weigh<P: Progress>(
     match try_move(alloc, nets, held, decider, terms, masks, step, progress)? {
         Trial::Broken => Ok(None),
         Trial::New(x) => {
-            add_vector(alloc, nets, terms, pool, masks, x.as_slice())?;
+            add_vector(pool, masks, x.as_slice())?;
             Ok(None)
         }
         Trial::Allowed(moved) => Ok(Some(Step::Moved(moved))),
@@ -107,7 +93,7 @@ fn weigh<P: Progress>(
     }
 }
 
-/// Tries the moves of the approximate net in order, each of which is told on. Each vector that a query gives joins the pool, and the masks are made anew.
+/// Tries the moves of the approximate net in order, each of which is told on. Each vector that a query gives joins the pool and the masks.
 pub(crate) fn find_step<P: Progress>(
     alloc: Global,
     nets: &Compared,

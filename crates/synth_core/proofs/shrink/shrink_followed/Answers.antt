@@ -1,8 +1,9 @@
-use Rattle.std.proofs.Common.{subst, sym, ap, ◌∙◌}
+use Rattle.std.proofs.Common.{subst, sym, ap, ◌∙◌, arith}
 use Rattle.semantics.specs.Net.{IsSmall}
 use Rattle.chain_semantics.specs.Chain.IsInChain.{first}
 use Rattle.chain_semantics.specs.Tidy.{IsTidiedFrom}
 use Rattle.chain_semantics.proofs.Simplifications.{simplified, simplified-small, simplification-falls}
+use Rattle.job_semantics.proofs.SmallNets.{literals_at_most}
 use Rattle.worst_case.specs.VectorsTried.{IsHeldFor}
 use Rattle.synth_core.specs.Steps.{IsPool, IsStep}
 use Rattle.synth_core.proofs.Shrinkings.{tidied_move, next-in_simplification, shrinking-end, shrinking-spent}
@@ -18,6 +19,14 @@ loop-shrunk-init g c = record {
   };
   pool = c.in_ok-pool.ensures;
 }
+
+pub literals-requires : goal.literals-requires
+literals-requires g c =
+    let sound = c.inputs.ensures.built.sound in
+    let N = c.loop-shrunk.shrunk in
+    let member = c.loop-shrunk.invariant.member in
+    let small = simplified-small c.args.metric c.args.net.now c.args.bound sound N c.requires.small member in
+    omega (arith, literals_at_most N small (simplified c.args.metric c.args.net.now c.args.bound sound N member).sound.tables_formed)
 
 pub new-nets-requires : goal.new-nets-requires
 new-nets-requires g c = record {

@@ -14,10 +14,10 @@ loop-step-init g c = record {
 pub weigh-requires-clause-step : goal.weigh-requires-clause-step
 weigh-requires-clause-step g c = searched-member _ _ _ _ _ _ _ _ c.in-Some.ensures c.loop-step.invariant.searched
 
-pub returns-in-Some-2-clause-step : goal.returns-in-Some-2-clause-step
-returns-in-Some-2-clause-step g c =
+pub returns-in-Some-found-clause-step : goal.returns-in-Some-found-clause-step
+returns-in-Some-found-clause-step g c =
     searched-step _ _ _ _ _ _ _ _ c.in-Some.ensures (searched-still _ _ _ _ _ _ _ c.in_ok-found.ensures.among c.loop-step.invariant.searched)
-    c.in_ok-found.ensures.masked.pool.widths _ _ (subst (IsWeighed _ _ _ _ _ _ _) c.in-Some-2.is c.in_ok-found.ensures.weighed)
+    c.in_ok-found.ensures.masked.pool.widths _ _ (subst (IsWeighed _ _ _ _ _ _ _) c.in-Some-found.is c.in_ok-found.ensures.weighed)
 
 pub loop-step-preserved : goal.loop-step-preserved
 loop-step-preserved g c = record {
@@ -26,6 +26,6 @@ loop-step-preserved g c = record {
       searched-more _ _ _ _ _ _ _ _ c.in-Some.ensures (searched-still _ _ _ _ _ _ _ c.in_ok-found.ensures.among c.loop-step.invariant.searched)
       (subst
       (IsWeighed c.args.terms.metric c.args.nets.now.exact c.args.terms.bound c.args.terms.limit c.args.nets.now.approx c.weigh.new.pool.vectors c.in-Some.step)
-      c.in_default-2.is c.in_ok-found.ensures.weighed);
+      c.in_default-found.is c.in_ok-found.ensures.weighed);
   masked = c.in_ok-found.ensures.masked;
 }

@@ -1,0 +1,9 @@
+-- Room for the hints of a vector.
+use Rattle.std.specs.Prelude.{◌≡◌, length}
+use Rattle.semantics.specs.Net.{NetValue, signal_count}
+use Rattle.case_tree.specs.declared.hints.Room.{Room}
+
+-- a value and a flag for each signal
+pub record FitsRoom (N : NetValue) (room : Room) : Type 0 where
+  pub vals : length room.vals.items ≡ signal_count N
+  pub needed : length room.needed.items ≡ signal_count N
