@@ -9,7 +9,7 @@ use Rattle.synth_core.proofs.Trying.{found_broken, found_allowed, found_new, mov
 use Rattle.synth_core.proofs.move_trial.try_move.Goals as goal
 
 pub breaks-requires : goal.breaks-requires
-breaks-requires c = rw c.requires.masks c.requires.step
+breaks-requires g c = rw c.requires.masks c.requires.step
 
 pub returns-in_default-clause-trial : goal.returns-in_default-clause-trial
 returns-in_default-clause-trial g c =

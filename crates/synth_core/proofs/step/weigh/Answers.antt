@@ -16,7 +16,7 @@ try_move-requires g c = record {
 }
 
 pub returns-in_ok-add_vector-in-New-clause-masked : goal.returns-in_ok-add_vector-in-New-clause-masked
-returns-in_ok-add_vector-in-New-clause-masked c =
+returns-in_ok-add_vector-in-New-clause-masked g c =
     let nets = c.args.nets.now in
     let s : PatternSet = c.args.pool.now in
     let t : PatternSet = c.add_vector.new.pool in
@@ -28,7 +28,7 @@ returns-in_ok-add_vector-in-New-clause-masked c =
     (c.in_ok-add_vector-in-New.ensures.masks ∙ ap (λ (m : GrowingValue). record m { vectors = t.vectors }) c.in_ok-try_move.ensures.masks) new_one
 
 pub returns-in_ok-add_vector-in-New-clause-weighed : goal.returns-in_ok-add_vector-in-New-clause-weighed
-returns-in_ok-add_vector-in-New-clause-weighed c =
+returns-in_ok-add_vector-in-New-clause-weighed g c =
     let nets = c.args.nets.now in
     let s : PatternSet = c.args.pool.now in
     let t : PatternSet = c.add_vector.new.pool in
