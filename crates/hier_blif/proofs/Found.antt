@@ -45,7 +45,7 @@ same_place word (m ∷ h) = ap (λ (k : ℕ). cond (not (bytes_eq word m.name)) 
 abbrev model_or_none : Option BlifModel → BlifModel
 model_or_none o = elim o [ None ↦ no_model | Some m ↦ m ]
 
-placed : (p n : ℕ) (i : ℕ) → Some i ≡ cond (ltb p n) (Some p) None → (p ≡ i) × (p < n)
+pub placed : (p n : ℕ) (i : ℕ) → Some i ≡ cond (ltb p n) (Some p) None → (p ≡ i) × (p < n)
 placed p n i e = at_test (ltb p n) refl e
   where
     at_test : (b : Bool) → ltb p n ≡ b → Some i ≡ cond b (Some p) None → (p ≡ i) × (p < n)

@@ -4,3 +4,6 @@ mod Sets
 mod Read
 mod Found
 mod Tested
+mod Grounded
+mod NamedFaults
+mod NamedLines

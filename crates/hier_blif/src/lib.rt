@@ -12,4 +12,5 @@ pub mod reading;
 pub mod refusal;
 mod refusing;
 mod statements;
+mod users;
 mod whole;
