@@ -25,17 +25,36 @@ pub const GROWTH: usize = 8;
 
 pub const SPARE_NODES: usize = 1_000_000;
 
-/// The results that are remembered: more are hardly ever found again, and fewer stay nearer to the processor.
-const REMEMBERED: usize = 1 << 16;
+/// The results that are remembered while orders are tried, and over an exact net of few nodes: so many stay near to the processor.
+pub(crate) const FEW_REMEMBERED: usize = 1 << 16;
 
-/// So many nodes and steps, over so many variables.
-pub(crate) fn allowed(nodes: u32, steps: u64, levels: u32) -> Allowed
+/// The results that are remembered over an exact net of many nodes: as many as a question makes, so that the next one finds again what
+/// did not change. With a sixteenth of them, a Sobel filter's questions took twenty times as long.
+const MANY_REMEMBERED: usize = 1 << 20;
+
+/// An exact net of more nodes has many.
+const MANY_NODES: usize = 1 << 13;
+
+/// How many results are remembered over an exact net of so many nodes.
+pub(crate) fn remembered(nodes: usize) -> usize
+    ensures { 0 < result }
+{
+    if nodes > MANY_NODES {
+        MANY_REMEMBERED
+    } else {
+        FEW_REMEMBERED
+    }
+}
+
+/// So many nodes, and the steps of a question, over so many variables; so many results are remembered.
+pub(crate) fn allowed(nodes: u32, levels: u32, remembered: usize) -> Allowed
+    requires { 0 < remembered }
     ensures { 0 < result.remembered }
 {
     Allowed {
         nodes,
-        steps,
+        steps: QUESTION_STEPS,
         levels,
-        remembered: REMEMBERED,
+        remembered,
     }
 }

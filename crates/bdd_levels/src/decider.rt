@@ -80,6 +80,18 @@ fn best_order<'a>(
     Ok(best)
 }
 
+/// Begins with the exact net anew, which takes so many nodes, and forgets the others; whether it was made within its budget. If not,
+/// all stays.
+fn begin_anew(alloc: Global, drawn: &mut Drawn, nodes: usize) -> Result<bool, AllocError>
+    ensures { drawn.new ≡ drawn.old }
+{
+    match drawn.renew(alloc, nodes) {
+        Ok(()) => Ok(true),
+        Err(Stop::Spent) => Ok(false),
+        Err(Stop::OutOfMemory) => Err(AllocError),
+    }
+}
+
 impl<'a> Decider<'a> {
     /// For nets that are decided in another way.
     pub fn none(exact: &'a Net) -> Decider<'a>
@@ -99,8 +111,9 @@ impl<'a> Decider<'a> {
         ensures { IfOk result (λ d. d ≡ exact.now) }
     {
         for nodes in TRIAL_NODES.iter() {
-            if let Some(drawn) = best_order(alloc, exact, *nodes)? {
+            if let Some(mut drawn) = best_order(alloc, exact, *nodes)? {
                 let first = drawn.nodes();
+                begin_anew(alloc, &mut drawn, first)?;
                 return Ok(Decider {
                     exact,
                     drawn: Some(drawn),
@@ -177,12 +190,8 @@ impl<'a> Decider<'a> {
         let Some(drawn) = &mut self.drawn else {
             return Ok(Decision::Unknown);
         };
-        if drawn.nodes() > most {
-            match drawn.renew(alloc) {
-                Ok(()) => {}
-                Err(Stop::Spent) => return Ok(Decision::Unknown),
-                Err(Stop::OutOfMemory) => return Err(AllocError),
-            }
+        if drawn.nodes() > most && !begin_anew(alloc, drawn, self.first)? {
+            return Ok(Decision::Unknown);
         }
         drawn.decide(alloc, approx, level, steps)
     }

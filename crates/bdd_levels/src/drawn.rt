@@ -6,7 +6,7 @@ ghost use Rattle.bdd_core.specs.Diagrams.{Grows};
 ghost use Rattle.bdd_nets.specs.Signals.{AreVariablesOf, AreOutputsOf};
 ghost use Rattle.bdd_levels.specs.Levels.{IsOverOf, AreDrawn, AreInputVariables, IsLevelDecided, IsLevelOf};
 
-use crate::budgets::{MOST_NODES, QUESTION_STEPS, allowed};
+use crate::budgets::{FEW_REMEMBERED, MOST_NODES, allowed, remembered};
 use crate::level::Level;
 use bdd_core::diagrams::{Allowed, Diagrams};
 use bdd_core::node::Diagram;
@@ -132,7 +132,7 @@ impl<'a> Model for Drawn<'a> {
 }
 
 impl<'a> Drawn<'a> {
-    /// The net's diagrams, where its inputs have these variables.
+    /// The net's diagrams, where its inputs have these variables; few results are remembered.
     pub(crate) fn new(
         alloc: Global,
         exact: &'a Net,
@@ -147,7 +147,7 @@ impl<'a> Drawn<'a> {
             alloc,
             exact,
             &variables,
-            allowed(nodes, QUESTION_STEPS, levels),
+            allowed(nodes, levels, FEW_REMEMBERED),
         )?;
         Ok(Drawn {
             exact,
@@ -161,12 +161,12 @@ impl<'a> Drawn<'a> {
         self.drawing.diagrams.len()
     }
 
-    /// Begins with the exact net anew, and forgets the others.
-    pub(crate) fn renew(&mut self, alloc: Global) -> Result<(), Stop>
+    /// Begins with the exact net anew, which takes so many nodes, and forgets the others.
+    pub(crate) fn renew(&mut self, alloc: Global, nodes: usize) -> Result<(), Stop>
         ensures { self.new ≡ self.old }
     {
         let levels = self.exact.inputs();
-        let most = allowed(MOST_NODES, QUESTION_STEPS, levels);
+        let most = allowed(MOST_NODES, levels, remembered(nodes));
         self.drawing = draw(alloc, self.exact, &self.variables, most)?;
         Ok(())
     }

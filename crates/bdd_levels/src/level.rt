@@ -1,8 +1,8 @@
 //! A level that the error of nets with so many outputs may not exceed, and the network that says whether it does.
 ghost use Rattle.std.specs.Prelude.{◌≡◌, ◌≤◌, length, IfOk};
-ghost use Rattle.quality_semantics.specs.Quality.{quality_net};
-ghost use Rattle.bdd_levels.specs.Levels.{IsLevelOf};
+ghost use Rattle.bdd_levels.specs.Levels.{TellsLevel, IsLevelOf};
 
+use crate::relative;
 use net_core::net::Net;
 use semantics::limits::MOST_OUTPUTS;
 use semantics::metric::Metric;
@@ -17,13 +17,14 @@ pub struct Level {
 }
 
 /// The net whose output says whether the error of two words of so many bits exceeds `k`.
+#[tactic(auto, using(crate::proofs::Drawing::level_from))]
 fn quality(alloc: Global, metric: Metric, width: u32, k: u128) -> Result<Net, AllocError>
     requires { width ≤ MOST_OUTPUTS }
-    ensures { IfOk result (λ n. n ≡ quality_net metric width k) }
+    ensures { IfOk result (TellsLevel metric width k) }
 {
     match metric {
         Metric::Abs => quality_abs::quality(alloc, width, k),
-        Metric::Rel => quality_rel::quality(alloc, width, k),
+        Metric::Rel => relative::quality(alloc, width, k),
         Metric::Ham => quality_ham::quality(alloc, width, k),
         Metric::Sabs => quality_abs::quality_signed(alloc, width, k),
     }

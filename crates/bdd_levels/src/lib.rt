@@ -2,7 +2,8 @@
 //!
 //! `level` has the quality network of a level. `drawn` has the exact net's diagrams, made once, and over the same nodes those of each
 //! approximate net: what both have in common is found again. `orders` has orders of inputs, and `decider` keeps the diagrams of the
-//! best of them over many questions. What may be spent on each stands in `budgets`.
+//! best of them over many questions. `relative` has the relative error's network, with smaller numbers. What may be spent on each stands in
+//! `budgets`.
 #![tactic(auto)]
 
 pub mod budgets;
@@ -10,3 +11,4 @@ pub mod decider;
 mod drawn;
 pub mod level;
 mod orders;
+mod relative;

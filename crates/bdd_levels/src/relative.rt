@@ -1,0 +1,185 @@
+//! The network of the relative error over diagrams, where the level is a fraction with small terms.
+//!
+//! `quality_rel` multiplies both words by a million, which costs diagrams of some twenty more bits for each. Over words of w bits a level
+//! of k millionths is the same as each fraction at most k millionths above which no other one up to there has a denominator below
+//! 2^w: a distance of so many parts of the exact word is more than both or than neither. Such a fraction is found by the mediants of
+//! Farey, and tested.
+ghost use Rattle.std.specs.Prelude.{◌≡◌, ◌+◌, ◌*◌, ◌^◌, ◌≤◌, ◌<◌, true, IfOk, OnOk};
+ghost use Rattle.semantics.specs.declared.metric.Metric.TheVariants.{Rel};
+ghost use Rattle.quality_semantics.specs.WordNets.{started, signals};
+ghost use Rattle.bdd_levels.specs.Levels.{TellsLevel};
+ghost use Rattle.bdd_levels.specs.Ratios.{IsAtMost, IsExactly, IsAbove, AreNeighbours, IsRatioFor, ratio_excess};
+
+use bus_nets::word_net::WordNet;
+use net_core::net::Net;
+use net_parts::items::Signal;
+use semantics::limits::MOST_OUTPUTS;
+use std::alloc::{AllocError, Global};
+
+/// The parts of the unit.
+const MILLION: u128 = 1_000_000;
+
+/// So many mediants are tried: about a millisecond.
+const MOST_MEDIANTS: u32 = 1 << 16;
+
+/// A fraction.
+#[derive(Clone, Copy)]
+pub struct Ratio {
+    pub numerator: u128,
+    pub denominator: u128,
+}
+
+/// Whether a fraction is seen to be `k` millionths.
+fn is_exactly(ratio: Ratio, k: u128) -> bool
+    ensures { result ≡ true → IsExactly k ratio }
+{
+    let parts = ratio.numerator.checked_mul(MILLION);
+    let level = k.checked_mul(ratio.denominator);
+    match (parts, level) {
+        (Some(parts), Some(level)) => parts == level && ratio.denominator > 0,
+        _ => false,
+    }
+}
+
+/// Whether a fraction is seen to be at most `k` millionths.
+fn is_at_most(ratio: Ratio, k: u128) -> bool
+    ensures { result ≡ true → IsAtMost k ratio }
+{
+    let parts = ratio.numerator.checked_mul(MILLION);
+    let level = k.checked_mul(ratio.denominator);
+    match (parts, level) {
+        (Some(parts), Some(level)) => parts <= level,
+        _ => false,
+    }
+}
+
+/// Whether a fraction is seen to be more than `k` millionths.
+fn is_above(ratio: Ratio, k: u128) -> bool
+    ensures { result ≡ true → IsAbove k ratio }
+{
+    let parts = ratio.numerator.checked_mul(MILLION);
+    let level = k.checked_mul(ratio.denominator);
+    match (parts, level) {
+        (Some(parts), Some(level)) => level < parts,
+        _ => false,
+    }
+}
+
+/// Whether no fraction between two has a smaller denominator than both together.
+fn are_neighbours(low: Ratio, high: Ratio) -> bool
+    ensures { result ≡ true → AreNeighbours low high }
+{
+    let first = high.numerator.checked_mul(low.denominator);
+    let second = low.numerator.checked_mul(high.denominator);
+    match (first, second) {
+        (Some(first), Some(second)) => second < first && first - second == 1,
+        _ => false,
+    }
+}
+
+/// Whether both denominators together are no number of so many bits.
+fn are_fine(low: Ratio, high: Ratio, width: u32) -> bool
+    requires { width ≤ MOST_OUTPUTS }
+    ensures { result ≡ true → 2 ^ width ≤ low.denominator + high.denominator }
+{
+    low.denominator.saturating_add(high.denominator) >= 1u128 << width
+}
+
+/// The fraction whose terms are the sums of those of two, which lies between them.
+fn mediant(low: Ratio, high: Ratio) -> Ratio {
+    Ratio {
+        numerator: low.numerator.saturating_add(high.numerator),
+        denominator: low.denominator.saturating_add(high.denominator),
+    }
+}
+
+/// Two fractions, at most `k` millionths and above, mostly with none of so small a denominator between. Nothing is promised of them.
+fn around(k: u128, width: u32) -> (Ratio, Ratio)
+    requires { width ≤ MOST_OUTPUTS }
+{
+    let whole = k / MILLION;
+    let mut low = Ratio {
+        numerator: whole,
+        denominator: 1,
+    };
+    let mut high = Ratio {
+        numerator: whole.saturating_add(1),
+        denominator: 1,
+    };
+    for _ in 0..MOST_MEDIANTS {
+        if are_fine(low, high, width) || is_exactly(low, k) {
+            break;
+        }
+        let between = mediant(low, high);
+        if is_at_most(between, k) {
+            low = between;
+        } else {
+            high = between;
+        }
+    }
+    (low, high)
+}
+
+/// A fraction that does over words of so many bits for `k` millionths.
+#[tactic(auto, using(crate::proofs::Farey::exactly, crate::proofs::Farey::millionths))]
+fn ratio_for(k: u128, width: u32) -> Ratio
+    requires { width ≤ MOST_OUTPUTS }
+    ensures { IsRatioFor width k result }
+{
+    let (low, high) = around(k, width);
+    if is_exactly(low, k) {
+        return low;
+    }
+    if is_at_most(low, k)
+        && is_above(high, k)
+        && are_neighbours(low, high)
+        && are_fine(low, high, width)
+    {
+        return low;
+    }
+    Ratio {
+        numerator: k,
+        denominator: MILLION,
+    }
+}
+
+/// Appends what says whether the relative error of two words of so many bits, the inputs of the network, exceeds the fraction: their
+/// distance times the denominator is more than the numerator times the exact word, which counts as 1 where it is 0.
+fn excess(net: &mut WordNet, width: u32, ratio: Ratio) -> Result<Signal, AllocError>
+    requires start { net.old ≡ started (width + width) }
+    requires some { 0 < width }
+    ensures ok { OnOk result (net.new ≡ (ratio_excess width ratio).net) }
+    ensures signal { IfOk result (λ s. s ≡ (ratio_excess width ratio).signal) }
+    ensures within { IfOk result (λ s. s < signals net.new) }
+{
+    let exact = net.input_bus(0, width)?;
+    let approximate = net.input_bus(width, width)?;
+    let divisor = net.not_zero_low(&exact)?;
+    let scaled_exact = net.times(&exact, ratio.denominator)?;
+    let scaled_approximate = net.times(&approximate, ratio.denominator)?;
+    let level = net.times(&divisor, ratio.numerator)?;
+    net.exceed(&scaled_exact, &scaled_approximate, &level)
+}
+
+/// The network of a level that some relative error of words of so many bits exceeds.
+fn ratio_network(alloc: Global, width: u32, k: u128) -> Result<Net, AllocError>
+    requires some { 0 < width }
+    requires narrow { width ≤ MOST_OUTPUTS }
+    ensures { IfOk result (TellsLevel Rel width k) }
+{
+    let mut net = WordNet::new(alloc, width + width)?;
+    let output = excess(&mut net, width, ratio_for(k, width))?;
+    net.finish(&[output])
+}
+
+/// The net whose output says whether the relative error of two words of so many bits exceeds `k` millionths.
+#[tactic(auto, using(crate::proofs::Drawing::level_from))]
+pub(crate) fn quality(alloc: Global, width: u32, k: u128) -> Result<Net, AllocError>
+    requires { width ≤ MOST_OUTPUTS }
+    ensures { IfOk result (TellsLevel Rel width k) }
+{
+    if width == 0 || k >= ((1u128 << width) - 1) * MILLION {
+        return quality_rel::quality(alloc, width, k);
+    }
+    ratio_network(alloc, width, k)
+}
