@@ -100,7 +100,7 @@ header-numbers-low (Some (a ∷ b ∷ d ∷ f ∷ g ∷ [])) h low e =
     subst IsLow (same_Some _ _ e) (record { greatest = all.0; inputs = all.1.0; outputs = all.1.1.1.0 })
 header-numbers-low (Some (a ∷ b ∷ d ∷ f ∷ g ∷ i ∷ is)) h low e = absurd (none-some h e)
 
-header-low : (words : List Bytes) (h : Header) → header_words words ≡ Some h → IsLow h
+pub header-low : (words : List Bytes) (h : Header) → header_words words ≡ Some h → IsLow h
 header-low [] h e = absurd (none-some h e)
 header-low (word ∷ words) h e = at_test (bytes_eq word (codes "aag")) e
   where
@@ -116,15 +116,23 @@ header-low (word ∷ words) h e = at_test (bytes_eq word (codes "aag")) e
 half-some : (l : ℕ) → is_definable l ≡ true → 0 < l / 2
 half-some l is = let low = leb-true 2 l (and_parts (l % 2 == 0) (leb 2 l) is).1 in omega (arith, low)
 
-input-some : (o : Option (List ℕ)) (v : ℕ) → input_numbers o ≡ Some v → 0 < v
-input-some None v e = absurd (none-some v e)
-input-some (Some []) v e = absurd (none-some v e)
-input-some (Some (l ∷ [])) v e = at_test (is_definable l) refl e
+-- an input is no constant, and a variable of less than 2^31
+pub record IsInput (v : ℕ) : Type 0 where
+  pub some : 0 < v
+  pub low : v < 2 ^ 31
+
+input-formed : (most : ℕ) → most < 2 ^ 32 → (o : Option (List ℕ)) (v : ℕ) → AreLow most o → input_numbers o ≡ Some v → IsInput v
+input-formed most small None v low e = absurd (none-some v e)
+input-formed most small (Some []) v low e = absurd (none-some v e)
+input-formed most small (Some (l ∷ [])) v low e = at_test (is_definable l) refl e
   where
-    at_test : (t : Bool) → is_definable l ≡ t → cond t (Some (l / 2)) None ≡ Some v → 0 < v
-    at_test true is k = subst (λ n. 0 < n) (same_Some _ _ k) (half-some l is)
+    bound : l ≤ most
+    bound = (low (l ∷ []) refl).0
+
+    at_test : (t : Bool) → is_definable l ≡ t → cond t (Some (l / 2)) None ≡ Some v → IsInput v
+    at_test true is k = subst IsInput (same_Some _ _ k) (record { some = half-some l is; low = omega (arith, bound, small) })
     at_test false is k = absurd (none-some v k)
-input-some (Some (l ∷ k ∷ ks)) v e = absurd (none-some v e)
+input-formed most small (Some (l ∷ k ∷ ks)) v low e = absurd (none-some v e)
 
 -- a line defines no constant, and a variable of less than 2^64
 pub record IsDefinition (a : AndLine) : Type 0 where
@@ -168,7 +176,7 @@ pub record IsDrawn (c : CircuitValue) : Type 0 where
   pub output_count : length c.output_names ≡ length c.outputs
   pub inputs_named : All IsName c.input_names
   pub outputs_named : All IsName c.output_names
-  pub inputs_some : AllByRecursion (λ v. 0 < v) c.inputs
+  pub inputs_formed : AllByRecursion IsInput c.inputs
   pub lines_define : AllByRecursion IsDefinition c.ands
 
 body-drawn : (h : Header) (lines : List Bytes) (c : CircuitValue) → IsLow h → body_reading h lines ≡ Ok c → IsDrawn c
@@ -178,7 +186,8 @@ body-drawn h lines c low e =
     let two = and_then-parts (all_read (output_of most) (2 + h.inputs) h.outputs (drop h.inputs lines)) _ c one.1.1 in
     let three = and_then-parts (all_read (and_of most) (2 + h.inputs + h.outputs) h.ands (drop (h.inputs + h.outputs) lines)) _ c two.1.1 in
     let four = and_then-parts (symbols_after h (symbols_line h) [] (before_comment (drop (h.inputs + h.outputs + h.ands) lines))) _ c three.1.1 in
-    let inputs = read-each (λ v. 0 < v) (input_of most) (λ line v. input-some (line_numbers most line) v) 2 h.inputs lines one.0 one.1.0 in
+    let inputs = read-each IsInput (input_of most)
+    (λ line v. input-formed most (let g = low.greatest in omega (arith, g)) (line_numbers most line) v (λ ns is. numbers-low most (pieces line) ns is)) 2 h.inputs lines one.0 one.1.0 in
     let outputs = read-each (λ (l : ℕ). Unit {0}) (output_of most) (λ line l k. tt) (2 + h.inputs) h.outputs (drop h.inputs lines) two.0 two.1.0 in
     let ands = read-each IsDefinition (and_of most)
     (λ line a. and-defines most (let g = low.greatest in omega (arith, g)) (line_numbers most line) a (λ ns is. numbers-low most (pieces line) ns is)) (2 + h.inputs + h.outputs) h.ands (drop (h.inputs + h.outputs) lines) three.0 three.1.0 in
@@ -190,7 +199,7 @@ body-drawn h lines c low e =
       output_count = omega (arith, output_size, outputs.0);
       inputs_named = names-named four.0 105 h.inputs (omega arith, omega arith, omega arith) low.inputs;
       outputs_named = names-named four.0 111 h.outputs (omega arith, omega arith, omega arith) low.outputs;
-      inputs_some = inputs.1;
+      inputs_formed = inputs.1;
       lines_define = ands.1;
     })
 

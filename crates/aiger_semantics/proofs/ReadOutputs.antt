@@ -19,7 +19,7 @@ use Rattle.aiger_semantics.specs.ReadNet.{variables, place_or_end, signal_of_var
 use Rattle.aiger_semantics.specs.Reading.{has_variable, first_repeated_after, first_repeated, operands}
 use Rattle.aiger_semantics.proofs.Literals.{value-variable}
 use Rattle.aiger_semantics.proofs.ReadWired.{none_if, place-found, position-some, or_right, IsUsable, IsThere, each_there, new_there, defined-count, tables-count, ands-usable, own-usable, port-signal, read-acyclic}
-use Rattle.aiger_semantics.proofs.ReadLines.{IsDrawn, IsDefinition}
+use Rattle.aiger_semantics.proofs.ReadLines.{IsInput, IsDrawn, IsDefinition}
 use Rattle.aiger_semantics.proofs.ReadSound.{IsAccepted}
 
 -- ---- variables that differ have one place each
@@ -232,7 +232,7 @@ module _ (c : CircuitValue) (drawn : IsDrawn c) (acc : IsAccepted c) (x : List B
     input = λ i low.
         let same = drawn.input_count in
         let within : i < n = omega (arith, low, same) in
-        let some : 0 < get_or c.inputs i 0 = All-from_recursion (λ v. 0 < v) c.inputs drawn.inputs_some i 0 low in
+        let some : 0 < get_or c.inputs i 0 = (All-from_recursion IsInput c.inputs drawn.inputs_formed i 0 low).some in
         u-some (get_or c.inputs i 0) (λ e. omega (arith, e, some))
         ∙ ap V (ap (signal_of_variable D) (sym (input_at i within)) ∙ place-is D acc.once i (omega (arith, within, defined-size))) ∙ V-consistent.input i within;
     lines = recursion_from_All (λ (a : AndLine). u a.variable ≡ and_value u a) c.ands

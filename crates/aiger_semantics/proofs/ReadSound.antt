@@ -61,7 +61,7 @@ accepted c N e =
 -- ---- tables
 
 -- `$a` and a number are a name
-and-named : (n : ℕ) → n < 2 ^ 64 → IsName (and_name n)
+pub and-named : (n : ℕ) → n < 2 ^ 64 → IsName (and_name n)
 and-named n low =
     let short : IsName (97 ∷ decimal n) = IsName-numbered 97 n (omega arith, omega arith, omega arith) low in
     let some : 0 < length (decimal n) = decimal_nonempty n (omega arith) in
@@ -103,12 +103,12 @@ mapped : {X Y : Type 0} (f : X → Y) (P : Y → Type 0) (Q : X → Type 0) → 
 mapped f P Q each [] h = tt
 mapped f P Q each (x ∷ xs) h = (each x h.0, mapped f P Q each xs h.1)
 
-ports-named : (names : List Bytes) (literals : List ℕ) → AllByRecursion IsName names → AllByRecursion (λ (p : Port). IsName p.name) (ports names literals)
+pub ports-named : (names : List Bytes) (literals : List ℕ) → AllByRecursion IsName names → AllByRecursion (λ (p : Port). IsName p.name) (ports names literals)
 ports-named [] literals h = tt
 ports-named (name ∷ names) [] h = tt
 ports-named (name ∷ names) (literal ∷ literals) h = (h.0, ports-named names literals h.1)
 
-ports-count : (names : List Bytes) (literals : List ℕ) → length names ≡ length literals → length (ports names literals) ≡ length literals
+pub ports-count : (names : List Bytes) (literals : List ℕ) → length names ≡ length literals → length (ports names literals) ≡ length literals
 ports-count [] [] same = refl
 ports-count [] (l ∷ ls) same = absurd (omega (arith, same))
 ports-count (name ∷ names) [] same = refl

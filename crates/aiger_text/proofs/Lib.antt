@@ -7,3 +7,10 @@ pub mod NumberSteps
 pub mod Turns
 pub mod SectionSteps
 pub mod HeaderWords
+pub mod SymbolSteps
+pub mod BodySteps
+pub mod UsedVariables
+pub mod PortSteps
+pub mod NetSteps
+pub mod AskedLiterals
+pub mod TextSteps

@@ -1,5 +1,5 @@
 -- The lines of a section, one line further.
-use Rattle.std.proofs.Common.{◌≡◌, ℕ, suc, ◌+◌, ◌-◌, ◌<◌, ◌≤◌, List, [], ◌∷◌, ◌++◌, length, get_or, drop, Option, Some, None, Result, Ok, Err, refl, ap, sym, ◌∙◌, append_assoc, arith}
+use Rattle.std.proofs.Common.{◌≡◌, ℕ, zero, suc, ◌+◌, ◌-◌, ◌<◌, ◌≤◌, List, [], ◌∷◌, ◌++◌, length, get_or, drop, Option, Some, None, Result, Ok, Err, refl, ap, sym, ◌∙◌, append_assoc, arith}
 use Rattle.std.proofs.lemmas.List.{append-nil, drop_all, drop_more, get_or-map, length-map}
 use Rattle.std.specs.Borrow.{Bor}
 use Rattle.semantics.specs.Texts.{Bytes}
@@ -68,3 +68,8 @@ text_at slices i d within = sym (get_or-map (λ r. r.now) slices i d (get_or sli
 
 pub texts-count : (slices : List (Bor Bytes)) → length (texts slices) ≡ length slices
 texts-count slices = length-map slices (λ s. s.now)
+
+pub texts-drop : (k : ℕ) (slices : List (Bor Bytes)) → texts (drop k slices) ≡ drop k (texts slices)
+texts-drop zero slices = refl
+texts-drop (suc k) [] = refl
+texts-drop (suc k) (s ∷ slices) = texts-drop k slices

@@ -1,2 +1,4 @@
 pub mod CircuitText
 pub mod Refusals
+pub mod SymbolTexts
+pub mod ReadCircuit

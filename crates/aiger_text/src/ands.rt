@@ -2,6 +2,7 @@
 ghost use Rattle.std.specs.Prelude.{◌≡◌, ℕ, ◌+◌, ◌^◌, ◌<◌, ◌≤◌, length, map, slice_index_or, sum_by, IfOk};
 ghost use Rattle.std.specs.List.{range_with_len};
 ghost use Rattle.semantics.specs.Net.{IsSmall, input_count, table_count, signal_count, signal_names, name_of};
+ghost use Rattle.aiger_semantics.specs.ReadNet.{variables};
 ghost use Rattle.aiger_semantics.specs.NetCircuit.{table_ands, first_variable, signal_literal, tables_joins, ands_of};
 
 use crate::lines::push_table;
@@ -112,6 +113,32 @@ fn output_names(alloc: Global, net: &Net) -> Result<NameList, AllocError>
 }
 
 impl Ands {
+    /// The circuit of these parts. It takes no memory.
+    pub(crate) fn of_parts(
+        inputs: Items<u32>,
+        lines: Items<AndLine>,
+        outputs: Items<Literal>,
+        input_names: NameList,
+        output_names: NameList,
+    ) -> Ands
+        requires { length inputs + length lines < 2 ^ 31 }
+        ensures { result ≡ record {
+          inputs = inputs;
+          ands = lines;
+          outputs = outputs;
+          input_names = input_names;
+          output_names = output_names;
+        } }
+    {
+        Ands {
+            inputs,
+            lines,
+            outputs,
+            input_names,
+            output_names,
+        }
+    }
+
     /// The circuit of a net: table by table and row by row, joined from left to right, and nothing is folded.
     pub fn of_net(alloc: Global, net: &Net) -> Result<Ands, AllocError>
         requires { IsSmall net.now }
@@ -127,6 +154,18 @@ impl Ands {
             input_names: NameList::from_slice(alloc, net.input_names())?,
             output_names: output_names(alloc, net)?,
         })
+    }
+
+    /// The variables that are defined: those of the inputs, and then those of the lines.
+    pub(crate) fn defined(&self, alloc: Global) -> Result<Vec<u32>, AllocError>
+        ensures value { IfOk result (λ defined. defined.items ≡ variables self.now) }
+        ensures few { length self.now.inputs + length self.now.ands < 2 ^ 31 }
+    {
+        let mut defined = Vec::from_slice(alloc, self.inputs.as_slice())?;
+        for line in self.lines.as_slice() {
+            defined.push(line.variable)?;
+        }
+        Ok(defined)
     }
 
     /// How many variables there are: the inputs and the lines.

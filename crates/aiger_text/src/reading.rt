@@ -3,7 +3,10 @@ ghost use Rattle.std.specs.Prelude.{◌≡◌, ◌<◌, ◌^◌, Ok, IfOk, IfErr
 ghost use Rattle.aiger_semantics.specs.Reading.{aiger_reading};
 ghost use Rattle.aiger_text.specs.Refusals.{Tells};
 
+use crate::circuit_net::net_reading;
+use crate::circuit_reading::circuit_reading;
 use crate::refusal::AigerRefusal;
+use crate::text_lines::text_lines;
 use net_core::net::Net;
 use std::alloc::Global;
 
@@ -14,5 +17,10 @@ pub fn read_aiger(alloc: Global, text: &[u8], limit: u64) -> Result<Net, AigerRe
     ensures ok { IfOk result (λ n. aiger_reading text.now limit ≡ Ok n) }
     ensures err { IfErr result (λ told. Tells told (aiger_reading text.now limit)) }
 {
-    Err(AigerRefusal::OutOfMemory)
+    if text.len() as u64 > limit {
+        return Err(AigerRefusal::TextLong);
+    }
+    let lines = text_lines(alloc, text)?;
+    let circuit = circuit_reading(alloc, &lines)?;
+    net_reading(alloc, &circuit)
 }

@@ -1,0 +1,81 @@
+//! The net that a circuit is read as, or why it is refused. Source: AIGER; what is refused, and in which order, is this tool's own.
+ghost use Rattle.std.specs.Prelude.{◌≡◌, ◌+◌, ◌<◌, ◌^◌, ◌==◌, false, None, Ok, length, IfOk, IfErr};
+ghost use Rattle.semantics.specs.Refusals.{first_undriven, first_ungrounded};
+ghost use Rattle.aiger_semantics.specs.ReadNet.{variables, net_of};
+ghost use Rattle.aiger_semantics.specs.Reading.{first_repeated, first_undefined, first_loop, named, net_reading};
+ghost use Rattle.aiger_text.specs.ReadCircuit.{IsRead};
+ghost use Rattle.aiger_text.specs.Refusals.{Tells};
+
+use crate::ands::Ands;
+use crate::conjunctions::{and_tables, push_own_tables};
+use crate::loops::find_no_loop;
+use crate::ports::Ports;
+use crate::refusal::AigerRefusal;
+use crate::variables::Variables;
+use net_core::items::{NameList, SignalList, TableList};
+use net_core::name::Name;
+use net_core::net::Net;
+use net_core::refusal::NetRefusal;
+use std::alloc::Global;
+
+/// The net of parts that are wired and have no loop, or the refusal of a doubled name or of a limit.
+fn named_net(
+    alloc: Global,
+    model: Name,
+    inputs: NameList,
+    tables: TableList,
+    outputs: SignalList,
+) -> Result<Net, AigerRefusal>
+    requires few { length inputs + length tables < 2 ^ 31 }
+    requires output { (length outputs == 0) ≡ false }
+    requires driven { first_undriven (record { model = model; inputs = inputs; tables = tables; outputs = outputs }) ≡ None }
+    requires grounded { first_ungrounded (length inputs) tables ≡ None }
+    ensures ok { IfOk result (λ n. named (record { model = model; inputs = inputs; tables = tables; outputs = outputs }) ≡ Ok n) }
+    ensures err { IfErr result (λ told. Tells told (named (record { model = model; inputs = inputs; tables = tables; outputs = outputs }))) }
+{
+    match Net::from_parts(alloc, model, inputs, tables, outputs) {
+        Ok(net) => Ok(net),
+        Err(NetRefusal::Doubled(name)) => Err(AigerRefusal::Doubled(name)),
+        Err(NetRefusal::Limit(which)) => Err(AigerRefusal::Limit(which)),
+        Err(NetRefusal::OutOfMemory) => Err(AigerRefusal::OutOfMemory),
+        Err(NetRefusal::NoOutput) => unreachable!(),
+        Err(NetRefusal::Undriven(_)) => unreachable!(),
+        Err(NetRefusal::Cycle(_)) => unreachable!(),
+    }
+}
+
+/// The net of a circuit that is accepted but for its names and its size.
+fn net_of(alloc: Global, known: &Variables, circuit: &Ands) -> Result<Net, AigerRefusal>
+    requires read { IsRead circuit.now }
+    requires known { known.now ≡ variables circuit.now }
+    requires differ { first_repeated (variables circuit.now) ≡ None }
+    requires defined { first_undefined circuit.now ≡ None }
+    requires output { (length circuit.now.outputs == 0) ≡ false }
+    requires no_loop { first_loop circuit.now ≡ None }
+    ensures ok { IfOk result (λ n. named (net_of circuit.now) ≡ Ok n) }
+    ensures err { IfErr result (λ told. Tells told (named (net_of circuit.now))) }
+{
+    let ports = Ports::of(alloc, circuit)?;
+    let mut tables = and_tables(alloc, known, circuit.lines())?;
+    push_own_tables(alloc, &mut tables, known, &ports, circuit)?;
+    let outputs = ports.output_signals(alloc, circuit)?;
+    let model = Name::known(alloc, b"top")?;
+    let inputs = NameList::from_slice(alloc, circuit.input_names())?;
+    named_net(alloc, model, inputs, tables, outputs)
+}
+
+/// The net of a circuit, or its refusal.
+pub(crate) fn net_reading(alloc: Global, circuit: &Ands) -> Result<Net, AigerRefusal>
+    requires read { IsRead circuit.now }
+    ensures ok { IfOk result (λ n. net_reading circuit.now ≡ Ok n) }
+    ensures err { IfErr result (λ told. Tells told (net_reading circuit.now)) }
+{
+    let defined = circuit.defined(alloc)?;
+    let variables = Variables::of(alloc, &defined)?;
+    variables.know_all(circuit)?;
+    if circuit.outputs().is_empty() {
+        return Err(AigerRefusal::NoOutput);
+    }
+    find_no_loop(alloc, &variables, circuit)?;
+    net_of(alloc, &variables, circuit)
+}
