@@ -12,5 +12,7 @@ pub mod reading;
 pub mod refusal;
 mod refusing;
 mod statements;
+#[cfg(test)]
+mod tests;
 mod users;
 mod whole;
