@@ -83,7 +83,8 @@ impl<'a> BrokenMoves<'a> {
     pub(crate) fn take(&mut self, x: &[bool]) -> Result<(), AllocError>
         requires { length x.now ≡ input_count self.old.asked.exact }
         ensures asked { self.new.asked ≡ self.old.asked }
-        ensures ok { OnOk result ((vectors : List (List Bool)) → HasSeen self.old vectors → HasSeen self.new (vectors ++ x.now ∷ [])) }
+        ensures ok { OnOk result ((vectors : List (List Bool)) → HasSeen self.old vectors
+            → HasSeen self.new (vectors ++ x.now ∷ [])) }
         ensures err { OnErr result ((vectors : List (List Bool)) → HasSeen self.old vectors → HasSeen self.new vectors) }
     {
         self.make_room()?;
