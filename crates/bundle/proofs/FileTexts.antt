@@ -1,6 +1,6 @@
 -- What the front of a file's text says of the whole.
-use Rattle.std.proofs.Common.{◌≡◌, ℕ, ◌+◌, ◌-◌, ◌<◌, Bool, false, not, if◌then◌else◌, List, length, nat_le, Option, Some, None, Err, inl, inr, refl, sym, ap, subst, ◌∙◌, arith}
-use Rattle.std.specs.Prelude.{IfSome, MatchOption}
+use Rattle.std.proofs.Common.{◌≡◌, ℕ, ◌+◌, ◌-◌, ◌<◌, Bool, true, false, not, if◌then◌else◌, List, ◌∷◌, length, nat_le, Option, Some, None, Err, inl, inr, refl, sym, ap, subst, ◌∙◌, arith}
+use Rattle.std.specs.Prelude.{◌↔◌, IsTrue, IfSome, MatchOption}
 use Rattle.std.proofs.lemmas.Bool.{cases_lt}
 use Rattle.std.proofs.lemmas.Bool.Decides.{nat_tests}
 use Rattle.semantics.specs.Texts.{Bytes}
@@ -14,12 +14,14 @@ use Rattle.file_core.proofs.Told.{Goes-same}
 use Rattle.outside_semantics.specs.Outside.{FilesTold}
 use Rattle.semantics.specs.declared.metric.Metric.{Metric}
 use Rattle.job_semantics.specs.Report.{Report}
-use Rattle.job_semantics.specs.declared.ending.Ending.TheVariants as file
-use Rattle.job_semantics.specs.Certificate.{Texts, AreVectors, IsReportText, IsVectorsText}
-use Rattle.lane_bits.specs.Patterns.{PatternSet}
+use Rattle.job_semantics.specs.Certificate.{IsReportText, IsVectorsText, moves_in}
+use Rattle.job_semantics.specs.declared.version.Version.{Version}
+use Rattle.chain_semantics.specs.Minimality.{AreBrokenBySome}
 use Rattle.bundle_texts.specs.declared.report_reading.ReportRead.{ReportRead}
-use Rattle.bundle_texts.specs.Reading.{HoldsVectors, report_read}
-use Rattle.bundle_texts.specs.FilesRead.{IsNetIn, IsReportIn, AreVectorsIn}
+use Rattle.bundle_texts.specs.Reading.{report_read}
+use Rattle.bundle_texts.specs.FilesRead.{IsNetIn, IsReportIn}
+use Rattle.bundle.specs.Shown.{AskedValue, claimed_moves, claimed_version, AreShown}
+use Rattle.bundle.specs.Judging.{AreVectorsJudged}
 use Rattle.bundle_texts.proofs.Fronts.{whole_front, front_at_most}
 
 pub FilesStay-same : (a : FilesTold) (name : Bytes) → FilesStay a a name
@@ -80,16 +82,31 @@ pub report_width : (inputs : ℕ) (metric : Metric) (bound : ℕ) (text : Bytes)
 report_width inputs metric bound text None h = tt
 report_width inputs metric bound text (Some found) h = h.witness
 
--- the vectors of a text, for the witness that the code holds
-module _ (exact : NetValue) (texts : Texts) (held witness : List Bool) (same : held ≡ witness) (width : length witness ≡ input_count exact) where
-  pub vectors_held : (set : PatternSet) → HoldsVectors (length held) (texts file.Vectors) held set → HoldsVectors (input_count exact) (texts file.Vectors) witness set
-  vectors_held set holds =
-      subst (λ n. HoldsVectors n (texts file.Vectors) witness set) (ap length same ∙ width) (subst (λ w. HoldsVectors (length held) (texts file.Vectors) w set) same holds)
+-- ---- the vectors of a text, for the witness that the code holds
 
-  pub vectors_read : (pool : List (List Bool)) → AreVectors exact texts witness pool → IsVectorsText (length held) (texts file.Vectors) held pool
-  vectors_read pool vectors =
-      subst (λ w. IsVectorsText (length held) (texts file.Vectors) w pool) (sym same) (subst (λ n. IsVectorsText n (texts file.Vectors) witness pool) (sym (ap length same ∙ width)) vectors)
+-- what is claimed of the moves is decided where the moves of the version that is claimed are
+claim_decided : (metric : Metric) (exact : NetValue) (bound : ℕ) (M : NetValue) (vectors : List (List Bool)) (shown minimal : Bool) (version : Version)
+    → IsTrue shown ↔ AreBrokenBySome metric exact bound M vectors (claimed_moves (claimed_version minimal version) M)
+    → IsTrue shown ↔ (IsTrue minimal → AreBrokenBySome metric exact bound M vectors (moves_in version M))
+claim_decided metric exact bound M vectors shown true version h = (λ is _. h.0 is, λ broken. h.1 (broken refl))
+claim_decided metric exact bound M vectors shown false version h = (λ is e. absurd (cc (e)), λ broken. h.1 tt)
 
-pub vectors_inputs : (inputs : ℕ) (text : Bytes) (witness : List Bool) (o : Option PatternSet) → AreVectorsIn inputs witness o text → IfSome o (λ set. set.inputs ≡ inputs)
-vectors_inputs inputs text witness None h = tt
-vectors_inputs inputs text witness (Some set) h = h.inputs_are
+module _ (exact M : NetValue) (metric : Metric) (bound : ℕ) (r : Report) (held : List Bool) (same : held ≡ r.witness) (width : length r.witness ≡ input_count exact) where
+  abbrev pub asked_for : AskedValue
+  asked_for = record { exact = exact; approx = M; metric = metric; bound = bound; witness = held; version = claimed_version r.minimal r.version }
+
+  wide : length held ≡ input_count exact
+  wide = ap length same ∙ width
+
+  pub vectors_judged : (text : Bytes) (shown : Bool) → AreShown asked_for shown text → AreVectorsJudged exact metric bound M r shown text
+  vectors_judged text shown h = record {
+    pool = h.pool;
+    read = subst (λ w. IsVectorsText (input_count exact) text w h.pool) same (subst (λ n. IsVectorsText n text held h.pool) wide h.read);
+    decided =
+        claim_decided metric exact bound M (r.witness ∷ h.pool) shown r.minimal r.version
+        (subst (λ (w : List Bool). IsTrue shown ↔ AreBrokenBySome metric exact bound M (w ∷ h.pool) (claimed_moves (claimed_version r.minimal r.version) M)) same h.decided);
+  }
+
+  pub vectors_read : (text : Bytes) (pool : List (List Bool)) → IsVectorsText (input_count exact) text r.witness pool → IsVectorsText (length held) text held pool
+  vectors_read text pool h =
+      subst (λ w. IsVectorsText (length held) text w pool) (sym same) (subst (λ n. IsVectorsText n text r.witness pool) (sym wide) h)

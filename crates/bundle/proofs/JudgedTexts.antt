@@ -12,7 +12,6 @@ use Rattle.job_semantics.specs.declared.clause.Clause.TheVariants as clause
 use Rattle.job_semantics.specs.Report.{Report}
 use Rattle.job_semantics.specs.Certificate.{IsNeededFor, Texts, moves_in, IsNetlist, IsReport, AreVectors, IsRefutation, AreCounts, OfNet, OfReport, IsShownMinimal, OfBoth, Holds, Certifies, IsFirstFailing}
 use Rattle.job_semantics.proofs.Certificates.{verified_law}
-use Rattle.lane_bits.specs.Patterns.{PatternSet}
 use Rattle.bundle_texts.specs.LogTold.{IsRefutingText}
 use Rattle.bundle_texts.specs.LogJudged.{IsLogIn}
 use Rattle.bundle.specs.declared.judged.Judged.TheVariants.{Good}
@@ -91,8 +90,8 @@ module _ (exact : NetValue) (metric : Metric) (bound : ℕ) (texts : Texts) wher
         fails = λ some. other (of_both (λ N s. net_error metric exact N s.witness ≡ s.maximum) M r known.net.netlist known.report some);
       }
 
-      module _ (set : PatternSet) where
-        pub other_formula : WitnessKnown exact metric bound M r set texts → texts file.Formula ≢ dimacs_text (miter exact M metric r.maximum) → IsFirstFailing exact metric bound texts clause.Formula
+      module _ (shown : Bool) where
+        pub other_formula : WitnessKnown exact metric bound M r shown texts → texts file.Formula ≢ dimacs_text (miter exact M metric r.maximum) → IsFirstFailing exact metric bound texts clause.Formula
         other_formula known other =
             let k = known.report in
             record {
@@ -106,7 +105,7 @@ module _ (exact : NetValue) (metric : Metric) (bound : ℕ) (texts : Texts) wher
               fails = λ some. other (of_both (λ N s. texts file.Formula ≡ dimacs_text (miter exact N metric s.maximum)) M r k.net.netlist k.report some);
             }
 
-        pub no_refutation : FormulaKnown exact metric bound M r set texts → ¬ IsRefutingText (miter exact M metric r.maximum).clauses (texts file.Log) → IsFirstFailing exact metric bound texts clause.Log
+        pub no_refutation : FormulaKnown exact metric bound M r shown texts → ¬ IsRefutingText (miter exact M metric r.maximum).clauses (texts file.Log) → IsFirstFailing exact metric bound texts clause.Log
         no_refutation known other =
             let w = known.witness in
             let k = w.report in
@@ -133,9 +132,9 @@ module _ (exact : NetValue) (metric : Metric) (bound : ℕ) (texts : Texts) wher
             }
 
         -- what was kept of the log's text, which refutes the formula
-        module _ {L : Type 0} (holds : L → List LogItem → Type 0) (known : FormulaKnown exact metric bound M r set texts) (goal : Formula) (same : goal ≡ miter exact M metric r.maximum)
+        module _ {L : Type 0} (holds : L → List LogItem → Type 0) (known : FormulaKnown exact metric bound M r shown texts) (goal : Formula) (same : goal ≡ miter exact M metric r.maximum)
             (kept : L) (found : IsLogIn holds goal.clauses (Some kept) (texts file.Log)) where
-          pub known_log : LogKnown exact metric bound M r set texts
+          pub known_log : LogKnown exact metric bound M r shown texts
           known_log =
               let (log, read, refutes, held) = found in
               record { formula = known; refutation = (log, read, subst (λ (f : Formula). Refutes f.clauses log) same refutes) }
@@ -152,14 +151,14 @@ module _ (exact : NetValue) (metric : Metric) (bound : ℕ) (texts : Texts) wher
                 },
               )
 
-        module _ (known : LogKnown exact metric bound M r set texts) where
+        module _ (known : LogKnown exact metric bound M r shown texts) where
           n : IsNetlist texts M
           n = known.formula.witness.report.net.netlist
 
           k : ReportKnown exact metric bound M r texts
           k = known.formula.witness.report
 
-          w : WitnessKnown exact metric bound M r set texts
+          w : WitnessKnown exact metric bound M r shown texts
           w = known.formula.witness
 
           log_holds : Holds exact metric bound texts clause.Log
@@ -184,15 +183,16 @@ module _ (exact : NetValue) (metric : Metric) (bound : ℕ) (texts : Texts) wher
           }
 
           -- the vectors that were read are those of the text, which has no others
-          held_minimal : ((pool : List (List Bool)) × AreVectors exact texts r.witness pool × BreaksAll exact metric bound M r (r.witness ∷ pool)) → BreaksAll exact metric bound M r set.vectors
+          held_minimal : ((pool : List (List Bool)) × AreVectors exact texts r.witness pool × BreaksAll exact metric bound M r (r.witness ∷ pool))
+              → BreaksAll exact metric bound M r (r.witness ∷ w.vectors.pool)
           held_minimal (pool, vectors, minimal) =
               subst (BreaksAll exact metric bound M r)
-              (ap (λ others. r.witness ∷ others) (verified_law.one_pool exact texts r.witness pool w.vectors.pool vectors w.vectors.read) ∙ sym w.vectors.vectors_are) minimal
+              (ap (λ others. r.witness ∷ others) (verified_law.one_pool exact texts r.witness pool w.vectors.pool vectors w.vectors.read)) minimal
 
-          shown_minimal : (IsTrue r.minimal → BreaksAll exact metric bound M r set.vectors) → IsShownMinimal exact metric bound texts M r
-          shown_minimal shown minimal = (w.vectors.pool, w.vectors.read, subst (BreaksAll exact metric bound M r) w.vectors.vectors_are (shown minimal))
+          shown_minimal : IsTrue shown → IsShownMinimal exact metric bound texts M r
+          shown_minimal is minimal = (w.vectors.pool, w.vectors.read, w.vectors.decided.0 is minimal)
 
-          pub not_shown : AreCounts exact M r → ¬ (IsTrue r.minimal → BreaksAll exact metric bound M r set.vectors) → IsFirstFailing exact metric bound texts clause.Minimal
+          pub not_shown : AreCounts exact M r → ¬ IsTrue shown → IsFirstFailing exact metric bound texts clause.Minimal
           not_shown counts other = record {
             before =
                 clause.Netlist ∷ clause.Ports ∷ clause.ReportForm ∷ clause.MaximumWithin ∷ clause.Witness ∷ clause.Attained ∷ clause.Formula ∷ clause.Log ∷ clause.Counts ∷ [];
@@ -211,11 +211,11 @@ module _ (exact : NetValue) (metric : Metric) (bound : ℕ) (texts : Texts) wher
                 ),
               ),
             );
-            fails = λ some. other (λ minimal. held_minimal (of_both (IsShownMinimal exact metric bound texts) M r n k.report some minimal));
+            fails = λ some. other (w.vectors.decided.1 (λ minimal. held_minimal (of_both (IsShownMinimal exact metric bound texts) M r n k.report some minimal)));
           }
 
-          pub all_hold : AreCounts exact M r → (IsTrue r.minimal → BreaksAll exact metric bound M r set.vectors) → Certifies exact metric bound texts
-          all_hold counts shown = (
+          pub all_hold : AreCounts exact M r → IsTrue shown → Certifies exact metric bound texts
+          all_hold counts is = (
             (M, n),
             (
               (M, n, k.net.ports),
@@ -225,7 +225,7 @@ module _ (exact : NetValue) (metric : Metric) (bound : ℕ) (texts : Texts) wher
                   (r, k.report, k.within),
                   (
                     (r, k.report, (w.vectors.pool, w.vectors.read)),
-                    (attained_holds, (formula_holds, (log_holds, ((M, n, (r, k.report, counts)), ((M, n, (r, k.report, shown_minimal shown)), tt))))),
+                    (attained_holds, (formula_holds, (log_holds, ((M, n, (r, k.report, counts)), ((M, n, (r, k.report, shown_minimal is)), tt))))),
                   ),
                 ),
               ),
@@ -270,26 +270,26 @@ module _ (exact : NetValue) (metric : Metric) (bound : ℕ) (texts : Texts) wher
   vectors_needed M r known clause.Counts f = (3, omega arith, refl)
   vectors_needed M r known clause.Minimal f = (3, omega arith, refl)
 
-  pub formula_needed : (M : NetValue) (r : Report) (set : PatternSet) → WitnessKnown exact metric bound M r set texts → IsNeededFor exact metric bound texts file.Formula
-  formula_needed M r set known clause.Netlist f = absurd (f.fails (M, known.report.net.netlist))
-  formula_needed M r set known clause.Ports f = absurd (f.fails (M, known.report.net.netlist, known.report.net.ports))
-  formula_needed M r set known clause.ReportForm f = absurd (f.fails (r, known.report.report))
-  formula_needed M r set known clause.MaximumWithin f = absurd (f.fails (r, known.report.report, known.report.within))
-  formula_needed M r set known clause.Witness f = absurd (f.fails (r, known.report.report, (known.vectors.pool, known.vectors.read)))
-  formula_needed M r set known clause.Attained f = absurd (f.fails (M, known.report.net.netlist, (r, known.report.report, known.attained)))
-  formula_needed M r set known clause.Formula f = (1, omega arith, refl)
-  formula_needed M r set known clause.Log f = (1, omega arith, refl)
-  formula_needed M r set known clause.Counts f = (1, omega arith, refl)
-  formula_needed M r set known clause.Minimal f = (1, omega arith, refl)
+  pub formula_needed : (M : NetValue) (r : Report) (shown : Bool) → WitnessKnown exact metric bound M r shown texts → IsNeededFor exact metric bound texts file.Formula
+  formula_needed M r shown known clause.Netlist f = absurd (f.fails (M, known.report.net.netlist))
+  formula_needed M r shown known clause.Ports f = absurd (f.fails (M, known.report.net.netlist, known.report.net.ports))
+  formula_needed M r shown known clause.ReportForm f = absurd (f.fails (r, known.report.report))
+  formula_needed M r shown known clause.MaximumWithin f = absurd (f.fails (r, known.report.report, known.report.within))
+  formula_needed M r shown known clause.Witness f = absurd (f.fails (r, known.report.report, (known.vectors.pool, known.vectors.read)))
+  formula_needed M r shown known clause.Attained f = absurd (f.fails (M, known.report.net.netlist, (r, known.report.report, known.attained)))
+  formula_needed M r shown known clause.Formula f = (1, omega arith, refl)
+  formula_needed M r shown known clause.Log f = (1, omega arith, refl)
+  formula_needed M r shown known clause.Counts f = (1, omega arith, refl)
+  formula_needed M r shown known clause.Minimal f = (1, omega arith, refl)
 
-  pub log_needed : (M : NetValue) (r : Report) (set : PatternSet) → FormulaKnown exact metric bound M r set texts → IsNeededFor exact metric bound texts file.Log
-  log_needed M r set known clause.Netlist f = absurd (f.fails (M, known.witness.report.net.netlist))
-  log_needed M r set known clause.Ports f = absurd (f.fails (M, known.witness.report.net.netlist, known.witness.report.net.ports))
-  log_needed M r set known clause.ReportForm f = absurd (f.fails (r, known.witness.report.report))
-  log_needed M r set known clause.MaximumWithin f = absurd (f.fails (r, known.witness.report.report, known.witness.report.within))
-  log_needed M r set known clause.Witness f = absurd (f.fails (r, known.witness.report.report, (known.witness.vectors.pool, known.witness.vectors.read)))
-  log_needed M r set known clause.Attained f = absurd (f.fails (M, known.witness.report.net.netlist, (r, known.witness.report.report, known.witness.attained)))
-  log_needed M r set known clause.Formula f = absurd (f.fails (M, known.witness.report.net.netlist, (r, known.witness.report.report, known.formula)))
-  log_needed M r set known clause.Log f = (2, omega arith, refl)
-  log_needed M r set known clause.Counts f = (2, omega arith, refl)
-  log_needed M r set known clause.Minimal f = (2, omega arith, refl)
+  pub log_needed : (M : NetValue) (r : Report) (shown : Bool) → FormulaKnown exact metric bound M r shown texts → IsNeededFor exact metric bound texts file.Log
+  log_needed M r shown known clause.Netlist f = absurd (f.fails (M, known.witness.report.net.netlist))
+  log_needed M r shown known clause.Ports f = absurd (f.fails (M, known.witness.report.net.netlist, known.witness.report.net.ports))
+  log_needed M r shown known clause.ReportForm f = absurd (f.fails (r, known.witness.report.report))
+  log_needed M r shown known clause.MaximumWithin f = absurd (f.fails (r, known.witness.report.report, known.witness.report.within))
+  log_needed M r shown known clause.Witness f = absurd (f.fails (r, known.witness.report.report, (known.witness.vectors.pool, known.witness.vectors.read)))
+  log_needed M r shown known clause.Attained f = absurd (f.fails (M, known.witness.report.net.netlist, (r, known.witness.report.report, known.witness.attained)))
+  log_needed M r shown known clause.Formula f = absurd (f.fails (M, known.witness.report.net.netlist, (r, known.witness.report.report, known.formula)))
+  log_needed M r shown known clause.Log f = (2, omega arith, refl)
+  log_needed M r shown known clause.Counts f = (2, omega arith, refl)
+  log_needed M r shown known clause.Minimal f = (2, omega arith, refl)

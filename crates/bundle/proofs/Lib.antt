@@ -2,4 +2,5 @@ pub mod FilesInOrder
 pub mod JudgedTexts
 pub mod ToldAnswers
 pub mod FileTexts
-pub mod BrokenMoves
+pub mod Marks
+pub mod VectorsSoFar

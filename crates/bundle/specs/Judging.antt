@@ -1,5 +1,5 @@
 -- What the check of a bundle's files comes to.
-use Rattle.std.specs.Prelude.{◌≡◌, ℕ, ◌≤◌, false, List, length, Option, None, Some, Result, Ok, Err}
+use Rattle.std.specs.Prelude.{◌≡◌, ◌↔◌, ℕ, ◌≤◌, Bool, false, IsTrue, List, ◌∷◌, length, Option, None, Some, Result, Ok, Err}
 use Rattle.semantics.specs.Texts.{Bytes}
 use Rattle.semantics.specs.Net.{NetValue, input_count, HasSamePorts}
 use Rattle.semantics.specs.Error.{net_error}
@@ -16,11 +16,10 @@ use Rattle.job_semantics.specs.declared.ending.Ending.TheVariants as file
 use Rattle.job_semantics.specs.declared.clause.Clause.{Clause}
 use Rattle.job_semantics.specs.Endings.{bundle_name}
 use Rattle.job_semantics.specs.Report.{Report}
-use Rattle.job_semantics.specs.Certificate.{Texts, texts_of, OfBundle, AreNeededHeld, IsNetlist, IsReport, Certifies, IsFirstFailing, IsNeededFor, clause_number}
-use Rattle.lane_bits.specs.Patterns.{PatternSet}
+use Rattle.job_semantics.specs.Certificate.{Texts, texts_of, IsVectorsText, moves_in, OfBundle, AreNeededHeld, IsNetlist, IsReport, Certifies, IsFirstFailing, IsNeededFor, clause_number}
+use Rattle.chain_semantics.specs.Minimality.{AreBrokenBySome}
 use Rattle.bundle_texts.specs.LogTold.{IsRefutingText}
 use Rattle.bundle_texts.specs.LogJudged.{IsOfRefutation}
-use Rattle.bundle_texts.specs.Reading.{HoldsVectors}
 use Rattle.bundle.specs.Loading.{IsCertificateOf}
 use Rattle.bundle.specs.declared.judged.Judged.{Judged}
 use Rattle.bundle.specs.declared.judged.Judged.TheVariants.{Good, Failing}
@@ -105,15 +104,21 @@ pub record ReportKnown (exact : NetValue) (metric : Metric) (bound : ℕ) (M : N
   pub report : IsReport exact metric bound texts r
   pub within : r.maximum ≤ bound
 
-pub record WitnessKnown (exact : NetValue) (metric : Metric) (bound : ℕ) (M : NetValue) (r : Report) (set : PatternSet) (texts : Texts) : Type 0 where
+-- the text is that of vectors with the witness first, and `shown` says whether they show what the report says of the moves
+pub record AreVectorsJudged (exact : NetValue) (metric : Metric) (bound : ℕ) (M : NetValue) (r : Report) (shown : Bool) (text : Bytes) : Type 0 where
+  pub pool : List (List Bool)
+  pub read : IsVectorsText (input_count exact) text r.witness pool
+  pub decided : IsTrue shown ↔ (IsTrue r.minimal → AreBrokenBySome metric exact bound M (r.witness ∷ pool) (moves_in r.version M))
+
+pub record WitnessKnown (exact : NetValue) (metric : Metric) (bound : ℕ) (M : NetValue) (r : Report) (shown : Bool) (texts : Texts) : Type 0 where
   pub report : ReportKnown exact metric bound M r texts
-  pub vectors : HoldsVectors (input_count exact) (texts file.Vectors) r.witness set
+  pub vectors : AreVectorsJudged exact metric bound M r shown (texts file.Vectors)
   pub attained : net_error metric exact M r.witness ≡ r.maximum
 
-pub record FormulaKnown (exact : NetValue) (metric : Metric) (bound : ℕ) (M : NetValue) (r : Report) (set : PatternSet) (texts : Texts) : Type 0 where
-  pub witness : WitnessKnown exact metric bound M r set texts
+pub record FormulaKnown (exact : NetValue) (metric : Metric) (bound : ℕ) (M : NetValue) (r : Report) (shown : Bool) (texts : Texts) : Type 0 where
+  pub witness : WitnessKnown exact metric bound M r shown texts
   pub formula : texts file.Formula ≡ dimacs_text (miter exact M metric r.maximum)
 
-pub record LogKnown (exact : NetValue) (metric : Metric) (bound : ℕ) (M : NetValue) (r : Report) (set : PatternSet) (texts : Texts) : Type 0 where
-  pub formula : FormulaKnown exact metric bound M r set texts
+pub record LogKnown (exact : NetValue) (metric : Metric) (bound : ℕ) (M : NetValue) (r : Report) (shown : Bool) (texts : Texts) : Type 0 where
+  pub formula : FormulaKnown exact metric bound M r shown texts
   pub refutation : IsRefutingText (miter exact M metric r.maximum).clauses (texts file.Log)

@@ -10,7 +10,6 @@ ghost use Rattle.bundle_texts.specs.Reading.{report_read};
 use crate::stem::Stem;
 use bundle_texts::report_reading::ReportRead;
 use cnf_core::cnf::Cnf;
-use lane_bits::patterns::Patterns;
 use miter::level::miter_of;
 use net_core::net::Net;
 use net_errors::compared::Compared;
@@ -31,7 +30,8 @@ pub(crate) struct Claim<'a> {
 pub(crate) struct Contents<'a> {
     pub approx: &'a Net,
     pub report: &'a ReportRead,
-    pub vectors: &'a Patterns,
+    /// Whether the vectors show what the report says of the moves.
+    pub is_shown: bool,
 }
 
 /// Shows that a net is sound, which its type holds.

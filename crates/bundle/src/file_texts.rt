@@ -3,9 +3,12 @@ ghost use Rattle.std.specs.Prelude.{◌≡◌, ◌↔◌, ◌≤◌, length, IsT
 ghost use Rattle.semantics.specs.Net.{IsSmall};
 ghost use Rattle.proof_semantics.specs.Formula.{dimacs_text};
 ghost use Rattle.bundle_texts.specs.LogJudged.{IsOfRefutation, IsLogIn};
-ghost use Rattle.bundle_texts.specs.FilesRead.{IsNetIn, IsReportIn, AreVectorsIn};
+ghost use Rattle.bundle_texts.specs.FilesRead.{IsNetIn, IsReportIn};
+ghost use Rattle.bundle.specs.Shown.{AreShownIn};
 ghost use Rattle.bundle.specs.Judging.{TextRead, TextUnread};
 
+use crate::asked::Asked;
+use crate::vectors_check::VectorsCheck;
 use blif_text::reading::read_blif;
 use blif_text::refusal::BlifRefusal;
 use bundle_texts::formula_check::FormulaCheck;
@@ -13,13 +16,11 @@ use bundle_texts::item_sink::ItemSink;
 use bundle_texts::log_check::LogCheck;
 use bundle_texts::report_lines::REPORT_LIMIT;
 use bundle_texts::report_reading::{ReportRead, read_report};
-use bundle_texts::vectors_check::VectorsCheck;
 use cnf_core::cnf::Cnf;
 use file_core::files::Files;
 use file_reading::front::Front;
 use file_reading::reading::read_file;
 use file_reading::unread::Unread;
-use lane_bits::patterns::Patterns;
 use net_core::net::Net;
 use semantics::metric::Metric;
 use std::alloc::Global;
@@ -70,23 +71,21 @@ pub(crate) fn read_report_file<F: Files>(
     Ok(read_report(alloc, front.bytes(), metric, bound, inputs)?)
 }
 
-/// The vectors of a file, if its text is lines of vectors of which the witness is the first. It is read no further than its first
-/// wrong byte's piece.
+/// Whether the vectors of a file show what is asked, if its text is lines of vectors of which the witness is the first. It is read
+/// no further than its first wrong byte's piece.
 pub(crate) fn read_vectors_file<F: Files>(
     alloc: Global,
     files: &mut F,
     name: &[u8],
-    witness: &[bool],
-) -> Result<Option<Patterns>, Unread>
-    requires { length witness.now ≤ 256 }
+    asked: Asked,
+) -> Result<Option<bool>, Unread>
     ensures ok { IfOk result
-        (λ vectors. TextRead (F.told files.old) (F.told files.new) name.now (AreVectorsIn (length witness.now) witness.now vectors)) }
-    ensures inputs { IfOk result (λ vectors. IfSome vectors (λ set. set.inputs ≡ length witness.now)) }
+        (λ shown. TextRead (F.told files.old) (F.told files.new) name.now (AreShownIn asked.entry shown)) }
     ensures err { IfErr result (TextUnread (F.told files.old) (F.told files.new) name.now) }
 {
-    let mut check = VectorsCheck::new(alloc, witness);
+    let mut check = VectorsCheck::new(alloc, asked)?;
     read_file(files, name, &mut check)?;
-    Ok(check.finish())
+    Ok(check.finish()?)
 }
 
 /// Whether a file is the formula's text.

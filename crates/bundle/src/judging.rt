@@ -1,17 +1,17 @@
 //! The walk over the clauses of a certificate, in their order. Each file is opened when a clause first needs it, and the walk ends at the
 //! first clause that fails.
-ghost use Rattle.std.specs.Prelude.{◌≡◌, ◌↔◌, length, IsTrue, IfOk};
+ghost use Rattle.std.specs.Prelude.{◌≡◌, length};
 ghost use Rattle.semantics.specs.Net.{HasSamePorts, IsSmall, input_count};
-ghost use Rattle.chain_semantics.specs.Minimality.{AreBrokenBySome};
 ghost use Rattle.proof_semantics.specs.Miter.{miter};
-ghost use Rattle.job_semantics.specs.Certificate.{Texts, moves_in};
+ghost use Rattle.job_semantics.specs.Certificate.{Texts};
 ghost use Rattle.bundle_texts.specs.Reading.{report_read};
+ghost use Rattle.bundle.specs.Shown.{claimed_version};
 ghost use Rattle.bundle.specs.Judging.{Answers, IsFirstFault, NothingKnown, NetKnown, ReportKnown, WitnessKnown, FormulaKnown, LogKnown};
 
+use crate::asked::Asked;
 use crate::claim::{Claim, Contents, are_counts, error_at, miter};
 use crate::file_texts::{is_formula, read_log, read_netlist, read_report_file, read_vectors_file};
 use crate::judged::Judged;
-use crate::minimality::is_minimal;
 use crate::stem::Stem;
 use bundle_texts::item_sink::ItemSink;
 use bundle_texts::report_reading::ReportRead;
@@ -20,57 +20,28 @@ use file_core::files::Files;
 use file_reading::unread::Unread;
 use job_semantics::clause::Clause;
 use job_semantics::ending::Ending;
+use job_semantics::version::Version;
 use net_core::net::Net;
 use net_errors::ports::same_ports;
 use semantics::metric::Metric;
-use std::alloc::{AllocError, Global};
-
-/// Whether the vectors show that the net is minimal, where the report says that it is.
-fn is_shown_minimal(alloc: Global, claim: &Claim, contents: &Contents) -> Result<bool, AllocError>
-    requires exact { IsSmall claim.now.exact.now }
-    requires approx { IsSmall contents.now.approx.now }
-    requires ports { HasSamePorts claim.now.exact.now contents.now.approx.now }
-    requires inputs { contents.now.vectors.now.inputs ≡ input_count claim.now.exact.now }
-    ensures { IfOk result (λ yes. IsTrue yes ↔ (IsTrue contents.now.report.now.counts.minimal
-        → AreBrokenBySome claim.now.metric claim.now.exact.now claim.now.bound contents.now.approx.now
-        contents.now.vectors.now.vectors (moves_in contents.now.report.now.version contents.now.approx.now))) }
-{
-    if !contents.report.counts.minimal {
-        return Ok(true);
-    }
-    is_minimal(
-        alloc,
-        claim.exact,
-        contents.approx,
-        claim.metric,
-        claim.bound,
-        contents.vectors,
-        contents.report.version,
-    )
-}
+use std::alloc::Global;
 
 /// The first clause that fails of those on the counts and on the report's last line, which need no further file.
-fn check_counts(
-    alloc: Global,
-    claim: &Claim,
-    contents: &Contents,
-) -> Result<Option<Clause>, AllocError>
+fn check_counts(claim: &Claim, contents: &Contents) -> Option<Clause>
     requires exact { IsSmall claim.now.exact.now }
     requires approx { IsSmall contents.now.approx.now }
-    requires ports { HasSamePorts claim.now.exact.now contents.now.approx.now }
-    requires inputs { contents.now.vectors.now.inputs ≡ input_count claim.now.exact.now }
-    ensures { IfOk result (λ failing. (texts : Texts)
+    ensures { (texts : Texts)
         → LogKnown claim.now.exact.now claim.now.metric claim.now.bound contents.now.approx.now
-        (report_read claim.now.metric claim.now.bound contents.now.report.now) contents.now.vectors.now texts
-        → IsFirstFault claim.now.exact.now claim.now.metric claim.now.bound texts failing) }
+        (report_read claim.now.metric claim.now.bound contents.now.report.now) contents.now.is_shown texts
+        → IsFirstFault claim.now.exact.now claim.now.metric claim.now.bound texts result }
 {
     if !are_counts(claim.exact, contents.approx, contents.report) {
-        return Ok(Some(Clause::Counts));
+        return Some(Clause::Counts);
     }
-    if !is_shown_minimal(alloc, claim, contents)? {
-        return Ok(Some(Clause::Minimal));
+    if !contents.is_shown {
+        return Some(Clause::Minimal);
     }
-    Ok(None)
+    None
 }
 
 /// What the clauses from the log's on come to.
@@ -84,18 +55,17 @@ fn check_log<F: Files, L: ItemSink>(
     requires exact { IsSmall claim.now.exact.now }
     requires approx { IsSmall contents.now.approx.now }
     requires ports { HasSamePorts claim.now.exact.now contents.now.approx.now }
-    requires inputs { contents.now.vectors.now.inputs ≡ input_count claim.now.exact.now }
     requires formula { formula ≡ miter claim.now.exact.now contents.now.approx.now claim.now.metric
         contents.now.report.now.maximum }
     ensures { Answers L.holds claim.now.exact.now claim.now.metric claim.now.bound claim.now.stem.now
         (FormulaKnown claim.now.exact.now claim.now.metric claim.now.bound contents.now.approx.now
-        (report_read claim.now.metric claim.now.bound contents.now.report.now) contents.now.vectors.now)
+        (report_read claim.now.metric claim.now.bound contents.now.report.now) contents.now.is_shown)
         (F.told files.old) (F.told files.new) result }
 {
     let Some(log) = read_log(alloc, files, claim.stem.name(Ending::Log), &formula)? else {
         return Ok(Judged::Failing(Clause::Log));
     };
-    match check_counts(alloc, claim, contents)? {
+    match check_counts(claim, contents) {
         None => Ok(Judged::Good { goal: formula, log }),
         Some(clause) => Ok(Judged::Failing(clause)),
     }
@@ -111,10 +81,9 @@ fn check_formula<F: Files, L: ItemSink>(
     requires exact { IsSmall claim.now.exact.now }
     requires approx { IsSmall contents.now.approx.now }
     requires ports { HasSamePorts claim.now.exact.now contents.now.approx.now }
-    requires inputs { contents.now.vectors.now.inputs ≡ input_count claim.now.exact.now }
     ensures { Answers L.holds claim.now.exact.now claim.now.metric claim.now.bound claim.now.stem.now
         (WitnessKnown claim.now.exact.now claim.now.metric claim.now.bound contents.now.approx.now
-        (report_read claim.now.metric claim.now.bound contents.now.report.now) contents.now.vectors.now)
+        (report_read claim.now.metric claim.now.bound contents.now.report.now) contents.now.is_shown)
         (F.told files.old) (F.told files.new) result }
 {
     let level = contents.report.maximum;
@@ -123,6 +92,17 @@ fn check_formula<F: Files, L: ItemSink>(
         return Ok(Judged::Failing(Clause::Formula));
     }
     check_log(alloc, claim, contents, formula, files)
+}
+
+/// The version whose moves the report says are broken; none where it does not say so.
+fn claimed_version(report: &ReportRead) -> Option<Version>
+    ensures { result ≡ claimed_version report.now.counts.minimal report.now.version }
+{
+    if report.counts.minimal {
+        Some(report.version)
+    } else {
+        None
+    }
 }
 
 /// What the clauses from the witness's on come to.
@@ -143,8 +123,17 @@ fn check_witness<F: Files, L: ItemSink>(
         (F.told files.old) (F.told files.new) result }
 {
     let witness = report.witness.as_slice();
+    let version = claimed_version(report);
+    let asked = Asked::new(
+        claim.exact,
+        approx,
+        claim.metric,
+        claim.bound,
+        witness,
+        version,
+    );
     let name = claim.stem.name(Ending::Vectors);
-    let Some(vectors) = read_vectors_file(alloc, files, name, witness)? else {
+    let Some(is_shown) = read_vectors_file(alloc, files, name, asked)? else {
         return Ok(Judged::Failing(Clause::Witness));
     };
     if error_at(alloc, claim.exact, approx, claim.metric, witness)? != report.maximum {
@@ -153,7 +142,7 @@ fn check_witness<F: Files, L: ItemSink>(
     let contents = Contents {
         approx,
         report,
-        vectors: &vectors,
+        is_shown,
     };
     check_formula(alloc, claim, &contents, files)
 }

@@ -1,6 +1,8 @@
 //! Bundles: what a synthesis leaves behind, as five files, and how they are read back and checked.
 #![tactic(auto)]
 
+mod asked;
+mod broken_moves;
 pub mod bundle;
 pub mod check;
 mod claim;
@@ -12,5 +14,6 @@ pub mod loaded;
 mod minimality;
 mod report_writing;
 pub mod stem;
+mod vectors_check;
 pub mod verdict;
 pub mod writing;

@@ -1,67 +1,94 @@
-//! Whether the vectors of a bundle show that its net is minimal: each move of the net that the bundle's version knows is broken by
-//! one of them. The masks of the net at these vectors tell it move by move, and no moved net is made.
-ghost use Rattle.std.specs.Prelude.{◌≡◌, ◌≤◌, ◌↔◌, ℕ, length, Contains, IsTrue, IfOk};
-ghost use Rattle.semantics.specs.Net.{NetValue, HasSamePorts, IsSmall, input_count};
-ghost use Rattle.semantics.specs.declared.metric.Metric.{Metric as ErrorMetric};
-ghost use Rattle.chain_semantics.specs.declared.moves.Move.{Move};
+//! Which moves of a net vectors break. The masks of the net at a block of vectors tell it move by move, and no moved net is made.
+ghost use Rattle.std.specs.Prelude.{◌≡◌, ◌↔◌, ◌⊎◌, ◌++◌, [], List, Bool, true, IfOk, OnOk, OnErr, Contains};
+ghost use Rattle.std.specs.List.{list_all};
+ghost use Rattle.semantics.specs.Net.{input_count};
 ghost use Rattle.chain_semantics.specs.Moves.{moves_of};
-ghost use Rattle.chain_semantics.specs.Minimality.{AreBrokenBySome};
-ghost use Rattle.job_semantics.specs.Certificate.{moves_in};
-ghost use Rattle.adc_core.specs.Masks.{AreMasksOf};
+ghost use Rattle.chain_semantics.specs.Minimality.{IsBrokenBySome};
+ghost use Rattle.bundle.specs.Shown.{AreMarks, asked_moves};
 
-use adc_core::adc::Adc;
-use job_semantics::version::Version;
+use crate::asked::Asked;
+use adc_core::growing::GrowingMasks;
+use chain_semantics::moves::Move;
 use lane_bits::patterns::Patterns;
-use net_core::net::Net;
 use net_moves::list::Moves;
-use net_moves::moves::{moves, old_moves};
-use semantics::metric::Metric;
 use std::alloc::{AllocError, Global};
 
-/// The moves that a version knows.
-fn moves_in(alloc: Global, net: &Net, version: Version) -> Result<Moves<'_>, AllocError>
-    requires { IsSmall net.now }
-    ensures { IfOk result (λ moves. moves ≡ moves_in version net.now) }
+/// Whether all are marked.
+pub(crate) fn are_all(marks: &[bool]) -> bool
+    ensures { result ≡ list_all (λ mark. mark) marks.now }
 {
-    match version {
-        Version::One => old_moves(alloc, net),
-        Version::Two => moves(alloc, net),
-    }
+    marks.iter().all(|mark| *mark)
 }
 
-/// Whether each of the moves is broken by some pattern of the masks of their net.
-fn breaks_each(moves: Moves<'_>, adc: &Adc) -> bool
-    requires { (move : Move) → Contains moves move → Contains (moves_of adc.now.net) move }
-    ensures { (metric : ErrorMetric) (exact : NetValue) (bound : ℕ) → AreMasksOf metric exact bound adc.now
-        → IsTrue result ↔ AreBrokenBySome metric exact bound adc.now.net adc.now.vectors moves.entry }
+/// A mark for each move that is to be broken, before the first vector.
+pub(crate) fn first_marks(alloc: Global, asked: &Asked) -> Result<Vec<bool>, AllocError>
+    ensures { IfOk result (λ marks. AreMarks asked.now [] marks.items) }
 {
+    let mut marks = Vec::new(alloc);
+    let Some(moves) = asked.moves(alloc)? else {
+        return Ok(marks);
+    };
     let mut left = moves;
-    while let Some(step) = left.next() {
-        if adc.breaks(step).is_none() {
-            return false;
-        }
+    while let Some(_step) = left.next() {
+        marks.push(false)?;
     }
-    true
+    Ok(marks)
 }
 
-/// Whether each move of `approx` that the version knows makes the error against `exact` exceed the bound at one of the vectors.
-pub(crate) fn is_minimal(
-    alloc: Global,
-    exact: &Net,
-    approx: &Net,
-    metric: Metric,
-    bound: u128,
-    vectors: &Patterns,
-    version: Version,
-) -> Result<bool, AllocError>
-    requires ports { HasSamePorts exact.now approx.now }
-    requires few_outputs { length exact.now.outputs ≤ 64 }
-    requires small { IsSmall approx.now }
-    requires inputs { vectors.now.inputs ≡ input_count exact.now }
-    ensures { IfOk result (λ yes. IsTrue yes
-        ↔ AreBrokenBySome metric exact.now bound approx.now vectors.now.vectors (moves_in version approx.now)) }
+/// Whether the move is broken by vectors before the masks', which its mark says, or by one of the masks'.
+fn mark_after(masks: &mut GrowingMasks, step: Move, mark: bool) -> Result<bool, AllocError>
+    requires { Contains (moves_of masks.old.net) step }
+    ensures mark { IfOk result (λ after. (after ≡ true) ↔ ((mark ≡ true)
+        ⊎ IsBrokenBySome masks.old.metric masks.old.exact masks.old.bound masks.old.net masks.old.vectors step)) }
+    ensures same { masks.new ≡ masks.old }
 {
-    let adc = Adc::new(alloc, exact, approx, metric, bound, vectors)?;
-    let moves = moves_in(alloc, approx, version)?;
-    Ok(breaks_each(moves, &adc))
+    if mark {
+        return Ok(true);
+    }
+    Ok(masks.breaks(step)?.is_some())
+}
+
+/// The marks once the vectors of a block have come too.
+fn marks_after(
+    alloc: Global,
+    asked: &Asked,
+    block: &Patterns,
+    marks: &[bool],
+) -> Result<Vec<bool>, AllocError>
+    requires { block.now.inputs ≡ input_count asked.now.exact }
+    ensures { IfOk result (λ after. (before : List (List Bool)) → AreMarks asked.now before marks.now
+        → AreMarks asked.now (before ++ block.now.vectors) after.items) }
+{
+    let mut after = Vec::new(alloc);
+    let Some(moves) = asked.moves(alloc)? else {
+        return Ok(after);
+    };
+    let mut masks = asked.masks(alloc, block)?;
+    let mut left = moves;
+    for mark in marks {
+        let Some(step) = left.next() else {
+            return Ok(after);
+        };
+        after.push(mark_after(&mut masks, step, *mark)?)?;
+    }
+    Ok(after)
+}
+
+/// Marks the moves that a block of vectors breaks too. Where all are marked, the block is not looked at.
+pub(crate) fn mark_block(
+    alloc: Global,
+    asked: &Asked,
+    block: &Patterns,
+    marks: &mut Vec<bool>,
+) -> Result<(), AllocError>
+    requires { block.now.inputs ≡ input_count asked.now.exact }
+    ensures ok { OnOk result ((before : List (List Bool)) → AreMarks asked.now before marks.old.items
+        → AreMarks asked.now (before ++ block.now.vectors) marks.new.items) }
+    ensures err { OnErr result (marks.new ≡ marks.old) }
+{
+    if are_all(marks) {
+        return Ok(());
+    }
+    *marks = marks_after(alloc, asked, block, marks)?;
+    Ok(())
 }

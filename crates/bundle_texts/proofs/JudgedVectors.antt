@@ -9,15 +9,11 @@ use Rattle.semantics.specs.Texts.{Bytes, bit_byte, bits_word}
 use Rattle.job_semantics.specs.Certificate.{IsVectorsText}
 use Rattle.blif_semantics.proofs.NetLines.{all_append}
 use Rattle.file_reading.specs.Reading.{IsAllWanted}
-use Rattle.lane_bits.specs.Patterns.{PatternSet}
 use Rattle.bundle_texts.specs.Pieces.{is_bit_digit}
 use Rattle.bundle_texts.specs.Reading.{HoldsVectors}
-use Rattle.bundle_texts.specs.FilesRead.{AreVectorsIn}
 use Rattle.bundle_texts.specs.VectorLines.{vector_line, vector_lines}
 use Rattle.bundle_texts.specs.VectorsTaken.{TakenValue, is_next_byte, with_byte, are_whole, BeginWith, AreVectorsSoFar, NeverVectors}
-use Rattle.bundle_texts.specs.TextCheck.{room_at}
-use Rattle.bundle_texts.specs.declared.vectors_check.VectorsCheck.TheInside.{Inside}
-use Rattle.bundle_texts.specs.VectorsStanding.{VectorsText, check_view, StandsAt, Stands}
+use Rattle.bundle_texts.specs.VectorLine.{LineValue, line_of, is_next, line_after}
 use Rattle.bundle_texts.proofs.VectorTexts.{vectors_text-is, assoc_line, lines_behind}
 
 abbrev AreWide : ℕ → List (List Bool) → Type 0
@@ -183,21 +179,17 @@ module _ (witness : List Bool) (v : TakenValue) (text : Bytes) (h : AreVectorsSo
 
   -- ---- at the end
 
-  abbrev set_of : PatternSet
-  set_of = record { inputs = v.inputs; vectors = v.vectors }
-
   some_bits : (b : Bool) (begun : List Bool) (t : Bool) → ((length (b ∷ begun) == 0) && t) ≡ true → ⊥
   some_bits b begun t whole = omega (arith, eqb-true (length (b ∷ begun)) 0 (and_parts (length (b ∷ begun) == 0) t whole).0)
 
   holds_all : (vectors : List (List Bool)) (begun : List Bool) → v.vectors ≡ vectors → v.begun ≡ begun → BeginWith witness vectors begun → are_whole (record v { vectors = vectors; begun = begun }) ≡ true
-      → HoldsVectors (length witness) text witness set_of
+      → HoldsVectors (length witness) text witness v.vectors
   holds_all [] [] is same first whole = absurd (cc (whole))
   holds_all [] (b ∷ begun) is same first whole = absurd (some_bits b begun (nat_lt 0 0) whole)
   holds_all (x ∷ pool) (b ∷ begun) is same first whole = absurd (some_bits b begun (nat_lt 0 (length (x ∷ pool))) whole)
   holds_all (x ∷ pool) [] is same first whole =
       let are : v.vectors ≡ witness ∷ pool = is ∙ ap (λ w. w ∷ pool) first in
       record {
-        inputs_are = h.inputs_are;
         pool = pool;
         vectors_are = are;
         read = record {
@@ -206,7 +198,7 @@ module _ (witness : List Bool) (v : TakenValue) (text : Bytes) (h : AreVectorsSo
         };
       }
 
-  pub ends_right : are_whole v ≡ true → HoldsVectors (length witness) text witness set_of
+  pub ends_right : are_whole v ≡ true → HoldsVectors (length witness) text witness v.vectors
   ends_right whole = holds_all v.vectors v.begun refl refl h.first whole
 
   some_whole : (vectors : List (List Bool)) (begun : List Bool) (pool : List (List Bool)) → witness ∷ pool ≡ vectors ++ [] → bits_word begun ≡ []
@@ -241,67 +233,64 @@ never_vectors witness content text room never (inr (none, front)) pool k =
     never (drop (length text) content) pool
     (subst (λ t. IsVectorsText (length witness) t witness pool) (sym (take-append-drop (length text) content) ∙ ap (λ t. t ++ drop (length text) content) (sym front)) k)
 
-never_more : (witness : List Bool) (text : Bytes) (byte : ℕ) → NeverVectors witness text → NeverVectors witness (text ++ byte ∷ [])
+pub never_more : (witness : List Bool) (text : Bytes) (byte : ℕ) → NeverVectors witness text → NeverVectors witness (text ++ byte ∷ [])
 never_more witness text byte never more pool k =
     never (byte ∷ more) pool (subst (λ t. IsVectorsText (length witness) t witness pool) (append_assoc text (byte ∷ []) more) k)
 
--- ---- the check of vectors
+-- ---- the line at hand
 
-pub taken_next : (a mid : Inside) (bytes : Bytes) (byte : ℕ) (new : TakenValue) (is_right : Bool) → mid ≡ record a { taken = new; is_right = is_right } → bytes ≡ mid.text.bytes ++ byte ∷ []
-    → StandsAt true a.witness.now a.taken a.text.bytes
-    → ((text : Bytes) → AreVectorsSoFar a.witness.now a.taken text → StandsAt is_right a.witness.now new (text ++ byte ∷ [])) → StandsAt mid.is_right mid.witness.now mid.taken bytes
-taken_next a mid bytes byte new is_right is text stands step =
-    let whole : bytes ≡ a.text.bytes ++ byte ∷ [] = text ∙ ap (λ (m : Inside). m.text.bytes ++ byte ∷ []) is in
-    subst (λ (m : Inside). StandsAt m.is_right m.witness.now m.taken bytes) (sym is)
-    (subst (λ t. StandsAt is_right a.witness.now new t) (sym whole) (step a.text.bytes stands))
+pub next_is : (witness : List Bool) (v : TakenValue) (byte : ℕ) → is_next witness (line_of v) byte ≡ is_next_byte witness v byte
+next_is witness v byte = at v.vectors refl where
+  at : (vectors : List (List Bool)) → v.vectors ≡ vectors → is_next witness (line_of v) byte ≡ is_next_byte witness v byte
+  at [] is =
+      ap (λ (xs : List (List Bool)). if length v.begun == length witness then byte == 10 else (if nat_lt 0 (length xs) then is_bit_digit byte else byte == bit_byte (get_or witness (length v.begun) false))) is
+      ∙ sym (ap (λ (xs : List (List Bool)). if length v.begun == length witness then byte == 10 else (if length xs == 0 then byte == bit_byte (get_or witness (length v.begun) false) else is_bit_digit byte)) is)
+  at (x ∷ xs) is =
+      ap (λ (ys : List (List Bool)). if length v.begun == length witness then byte == 10 else (if nat_lt 0 (length ys) then is_bit_digit byte else byte == bit_byte (get_or witness (length v.begun) false))) is
+      ∙ ap (λ t. if length v.begun == length witness then byte == 10 else (if t then is_bit_digit byte else byte == bit_byte (get_or witness (length v.begun) false))) (lt-ltb 0 (length (x ∷ xs)) (omega arith))
+      ∙ sym (ap (λ t. if length v.begun == length witness then byte == 10 else (if t then byte == bit_byte (get_or witness (length v.begun) false) else is_bit_digit byte)) (some_vectors x xs))
+      ∙ sym (ap (λ (ys : List (List Bool)). if length v.begun == length witness then byte == 10 else (if length ys == 0 then byte == bit_byte (get_or witness (length v.begun) false) else is_bit_digit byte)) is)
 
-pub taken_still : (a mid : Inside) (bytes : Bytes) (byte : ℕ) → mid ≡ a → bytes ≡ mid.text.bytes ++ byte ∷ [] → a.is_right ≡ false → Stands a
-    → StandsAt mid.is_right mid.witness.now mid.taken bytes
-taken_still a mid bytes byte is text other stands =
-    let never = subst (λ b. StandsAt b a.witness.now a.taken a.text.bytes) other stands in
-    let whole : bytes ≡ a.text.bytes ++ byte ∷ [] = text ∙ ap (λ (m : Inside). m.text.bytes ++ byte ∷ []) is in
-    subst (λ (m : Inside). StandsAt m.is_right m.witness.now m.taken bytes) (sym is)
-    (subst (λ b. StandsAt b a.witness.now a.taken bytes) (sym other)
-    (subst (λ t. StandsAt false a.witness.now a.taken t) (sym whole) (never_more a.witness.now a.text.bytes byte never)))
+some_more : (vectors : List (List Bool)) (x : List Bool) → nat_lt 0 (length (vectors ++ x ∷ [])) ≡ true
+some_more vectors x = lt-ltb 0 (length (vectors ++ x ∷ [])) (omega (arith, length_push vectors x))
 
--- the vectors that are answered where the text was right to its end
-pub finished_right : (a : Inside) (v : VectorsText) (found : Option PatternSet) → check_view a ≡ v → Stands a → a.is_right ≡ true
-    → found ≡ (if are_whole a.taken then Some (record { inputs = a.taken.inputs; vectors = a.taken.vectors }) else None)
-    → (content : Bytes) → IsAllWanted content v.text v.room → AreVectorsIn (length v.witness) v.witness found content
-finished_right a v found view stands right is =
-    let h = subst (λ b. StandsAt b a.witness.now a.taken a.text.bytes) right stands in
-    let going : 0 < room_at a.is_right = subst (λ b. 0 < room_at b) (sym right) (omega arith) in
-    subst (λ (u : VectorsText). (content : Bytes) → IsAllWanted content u.text u.room → AreVectorsIn (length u.witness) u.witness found content) view
-    (λ content wanted.
-    subst (AreVectorsIn (length a.witness.now) a.witness.now found) (whole_text content a.text.bytes (room_at a.is_right) going wanted)
-    (at h (are_whole a.taken) refl is))
-  where
-    at : AreVectorsSoFar a.witness.now a.taken a.text.bytes → (t : Bool) → are_whole a.taken ≡ t
-        → found ≡ (if t then Some (record { inputs = a.taken.inputs; vectors = a.taken.vectors }) else None) → AreVectorsIn (length a.witness.now) a.witness.now found a.text.bytes
-    at h true whole is =
-        subst (λ o. AreVectorsIn (length a.witness.now) a.witness.now o a.text.bytes) (sym is) (ends_right a.witness.now a.taken a.text.bytes h whole)
-    at h false part is =
-        subst (λ o. AreVectorsIn (length a.witness.now) a.witness.now o a.text.bytes) (sym is) (ends_wrong a.witness.now a.taken a.text.bytes h part)
+pub after_is : (v : TakenValue) (byte : ℕ) → line_of (with_byte v byte) ≡ line_after (line_of v) byte
+after_is v byte = at (length v.begun == v.inputs) refl where
+  at : (t : Bool) → (length v.begun == v.inputs) ≡ t → line_of (with_byte v byte) ≡ line_after (line_of v) byte
+  at true is =
+      ap (λ t. line_of (if t then record v { vectors = v.vectors ++ v.begun ∷ []; begun = [] } else record v { begun = v.begun ++ (byte == 49) ∷ [] })) is
+      ∙ ap (λ t. record { inputs = v.inputs; begun = []; has_ended = t }) (some_more v.vectors v.begun)
+      ∙ sym (ap (λ t. if t then record (line_of v) { begun = []; has_ended = true } else record (line_of v) { begun = v.begun ++ (byte == 49) ∷ [] }) is)
+  at false is =
+      ap (λ t. line_of (if t then record v { vectors = v.vectors ++ v.begun ∷ []; begun = [] } else record v { begun = v.begun ++ (byte == 49) ∷ [] })) is
+      ∙ sym (ap (λ t. if t then record (line_of v) { begun = []; has_ended = true } else record (line_of v) { begun = v.begun ++ (byte == 49) ∷ [] }) is)
 
--- none are answered where it was not
-pub finished_wrong : (a : Inside) (v : VectorsText) → check_view a ≡ v → Stands a → a.is_right ≡ false
-    → (content : Bytes) → IsAllWanted content v.text v.room → AreVectorsIn (length v.witness) v.witness None content
-finished_wrong a v view stands wrong =
-    let never = subst (λ b. StandsAt b a.witness.now a.taken a.text.bytes) wrong stands in
-    subst (λ (u : VectorsText). (content : Bytes) → IsAllWanted content u.text u.room → AreVectorsIn (length u.witness) u.witness None content) view
-    (λ content wanted. never_vectors a.witness.now content a.text.bytes (room_at a.is_right) never wanted)
+-- the vectors once the line at hand has ended, and where it goes on
+pub vectors_ended : (v : TakenValue) (byte : ℕ) → length v.begun ≡ v.inputs → (with_byte v byte).vectors ≡ v.vectors ++ v.begun ∷ []
+vectors_ended v byte is =
+    ap (λ t. (if t then record v { vectors = v.vectors ++ v.begun ∷ []; begun = [] } else record v { begun = v.begun ++ (byte == 49) ∷ [] }).vectors) (eq-eqb (length v.begun) v.inputs is)
+
+pub vectors_still : (v : TakenValue) (byte : ℕ) → length v.begun ≢ v.inputs → (with_byte v byte).vectors ≡ v.vectors
+vectors_still v byte other =
+    ap (λ t. (if t then record v { vectors = v.vectors ++ v.begun ∷ []; begun = [] } else record v { begun = v.begun ++ (byte == 49) ∷ [] }).vectors) (ne_eqb (length v.begun) v.inputs other)
 
 -- ---- the code's test of a byte
 
-pub end_test : (witness : List Bool) (v : TakenValue) (byte : ℕ) → length v.begun ≡ length witness → (byte == 10) ≡ is_next_byte witness v byte
-end_test witness v byte same =
-    sym (ap (λ t. if t then byte == 10 else (if length v.vectors == 0 then byte == bit_byte (get_or witness (length v.begun) false) else is_bit_digit byte))
-    (eq-eqb (length v.begun) (length witness) same))
+pub end_test : (witness : List Bool) (l : LineValue) (byte : ℕ) → length l.begun ≡ length witness → (byte == 10) ≡ is_next witness l byte
+end_test witness l byte same =
+    sym (ap (λ t. if t then byte == 10 else (if l.has_ended then is_bit_digit byte else byte == bit_byte (get_or witness (length l.begun) false)))
+    (eq-eqb (length l.begun) (length witness) same))
 
-pub first_test : (witness : List Bool) (v : TakenValue) (byte n digit : ℕ) → n ≡ length v.begun → n ≢ length witness → length v.vectors ≡ 0 → digit ≡ bit_byte (get_or witness n false)
-    → (byte == digit) ≡ is_next_byte witness v byte
-first_test witness v byte n digit same other none is =
-    ap (λ d. byte == d) (is ∙ ap (λ k. bit_byte (get_or witness k false)) same)
-    ∙ sym (ap (λ t. if t then byte == bit_byte (get_or witness (length v.begun) false) else is_bit_digit byte) (eq-eqb (length v.vectors) 0 none))
-    ∙ sym (ap (λ t. if t then byte == 10 else (if length v.vectors == 0 then byte == bit_byte (get_or witness (length v.begun) false) else is_bit_digit byte))
-    (ne_eqb (length v.begun) (length witness) (λ e. other (same ∙ e))))
+pub digit_test : (witness : List Bool) (l : LineValue) (byte : ℕ) → length l.begun ≢ length witness → l.has_ended ≡ true → is_bit_digit byte ≡ is_next witness l byte
+digit_test witness l byte other ended =
+    sym (ap (λ t. if t then is_bit_digit byte else byte == bit_byte (get_or witness (length l.begun) false)) ended)
+    ∙ sym (ap (λ t. if t then byte == 10 else (if l.has_ended then is_bit_digit byte else byte == bit_byte (get_or witness (length l.begun) false)))
+    (ne_eqb (length l.begun) (length witness) other))
+
+pub first_test : (witness : List Bool) (l : LineValue) (byte digit : ℕ) → length l.begun ≢ length witness → l.has_ended ≡ false → digit ≡ bit_byte (get_or witness (length l.begun) false)
+    → (byte == digit) ≡ is_next witness l byte
+first_test witness l byte digit other none is =
+    ap (λ d. byte == d) is
+    ∙ sym (ap (λ t. if t then is_bit_digit byte else byte == bit_byte (get_or witness (length l.begun) false)) none)
+    ∙ sym (ap (λ t. if t then byte == 10 else (if l.has_ended then is_bit_digit byte else byte == bit_byte (get_or witness (length l.begun) false)))
+    (ne_eqb (length l.begun) (length witness) other))

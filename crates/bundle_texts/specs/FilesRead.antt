@@ -1,14 +1,13 @@
 -- What is read of a bundle's files.
-use Rattle.std.specs.Prelude.{◌≡◌, ℕ, Bool, List, Option, None, Some, Ok}
+use Rattle.std.specs.Prelude.{◌≡◌, ℕ, Option, None, Some, Ok}
 use Rattle.semantics.specs.Texts.{Bytes}
 use Rattle.semantics.specs.Net.{NetValue}
 use Rattle.semantics.specs.declared.metric.Metric.{Metric}
 use Rattle.blif_semantics.specs.Reading.{bundle_limit, blif_reading}
 use Rattle.job_semantics.specs.Report.{Report}
-use Rattle.job_semantics.specs.Certificate.{IsReportText, IsVectorsText}
-use Rattle.lane_bits.specs.Patterns.{PatternSet}
+use Rattle.job_semantics.specs.Certificate.{IsReportText}
 use Rattle.bundle_texts.specs.declared.report_reading.ReportRead.{ReportRead}
-use Rattle.bundle_texts.specs.Reading.{HoldsVectors, report_read}
+use Rattle.bundle_texts.specs.Reading.{report_read}
 
 -- the text is the net's, or that of no net
 abbrev pub IsNetIn : Option NetValue → Bytes → Type 0
@@ -19,8 +18,3 @@ IsNetIn (Some M) text = blif_reading text bundle_limit ≡ Ok M
 abbrev pub IsReportIn : ℕ → Metric → ℕ → Option ReportRead → Bytes → Type 0
 IsReportIn inputs metric bound None text = (r : Report) → ¬ IsReportText inputs metric bound text r
 IsReportIn inputs metric bound (Some read) text = IsReportText inputs metric bound text (report_read metric bound read)
-
--- the set holds the vectors of the text, or the text is that of no vectors with this witness first
-abbrev pub AreVectorsIn : ℕ → List Bool → Option PatternSet → Bytes → Type 0
-AreVectorsIn inputs witness None text = (pool : List (List Bool)) → ¬ IsVectorsText inputs text witness pool
-AreVectorsIn inputs witness (Some set) text = HoldsVectors inputs text witness set

@@ -8,5 +8,5 @@ pub mod LogJudged
 pub mod LogStanding
 pub mod FormulaStanding
 pub mod VectorsTaken
-pub mod VectorsStanding
+pub mod VectorLine
 pub mod FilesRead

@@ -3,15 +3,13 @@ use Rattle.std.specs.Prelude.{◌≡◌, ℕ, Bool, List, ◌∷◌}
 use Rattle.semantics.specs.Texts.{Bytes}
 use Rattle.semantics.specs.declared.metric.Metric.{Metric}
 use Rattle.job_semantics.specs.Report.{Report}
-use Rattle.lane_bits.specs.Patterns.{PatternSet}
 use Rattle.bundle_texts.specs.declared.report_reading.ReportRead.{ReportRead}
 use Rattle.job_semantics.specs.Certificate.{IsVectorsText}
 
--- the set holds the vectors of the text, of which the witness is the first
-pub record HoldsVectors (inputs : ℕ) (text : Bytes) (witness : List Bool) (set : PatternSet) : Type 0 where
-  pub inputs_are : set.inputs ≡ inputs
+-- these are the vectors of the text, of which the witness is the first
+pub record HoldsVectors (inputs : ℕ) (text : Bytes) (witness : List Bool) (vectors : List (List Bool)) : Type 0 where
   pub pool : List (List Bool)
-  pub vectors_are : set.vectors ≡ witness ∷ pool
+  pub vectors_are : vectors ≡ witness ∷ pool
   pub read : IsVectorsText inputs text witness pool
 
 -- the report that was read, with its metric and its bound

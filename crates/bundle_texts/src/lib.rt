@@ -10,6 +10,5 @@ pub mod log_check;
 mod pieces;
 pub mod report_lines;
 pub mod report_reading;
-pub mod vectors_check;
-mod vectors_taken;
+pub mod vector_line;
 pub mod vectors_writing;

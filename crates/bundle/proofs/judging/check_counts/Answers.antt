@@ -26,19 +26,19 @@ returns-then-not-are_counts c texts known =
     let metric = claim.metric in
     let read = contents.report.now in
     let N = claim.exact.now in
-    let M = contents.approx.now in other_counts N metric claim.bound texts M (report_read metric claim.bound read) contents.vectors.now known
+    let M = contents.approx.now in other_counts N metric claim.bound texts M (report_read metric claim.bound read) contents.is_shown known
     (λ counts. let yes : c.are_counts.result ≡ true = c.are_counts.ensures.1 (counts_at N M read metric Abs claim.bound 0 counts) in cc)
 
-pub returns-then-not-branch : goal.returns-then-not-branch
-returns-then-not-branch c texts known =
+pub returns-then-not-contents : goal.returns-then-not-contents
+returns-then-not-contents c texts known =
     let claim = c.args.claim.now in
     let contents = c.args.contents.now in
     let metric = claim.metric in
     let read = contents.report.now in
     let N = claim.exact.now in
-    let M = contents.approx.now in not_shown N metric claim.bound texts M (report_read metric claim.bound read) contents.vectors.now known
-    (counts_at N M read Abs metric 0 claim.bound (c.are_counts.ensures.0 c.if-not-are_counts.false))
-    (λ shown. let yes : c.in_ok-is_shown_minimal.field-0 ≡ true = c.in_ok-is_shown_minimal.ensures.1 shown in cc)
+    let M = contents.approx.now in
+    not_shown N metric claim.bound texts M (report_read metric claim.bound read) contents.is_shown known
+    (counts_at N M read Abs metric 0 claim.bound (c.are_counts.ensures.0 c.if-not-are_counts.false)) (λ is. absurd (cc (is, c.if-not-contents.true)))
 
 pub returns : goal.returns
 returns c texts known =
@@ -48,5 +48,5 @@ returns c texts known =
     let read = contents.report.now in
     let N = claim.exact.now in
     let M = contents.approx.now in
-    all_hold N metric claim.bound texts M (report_read metric claim.bound read) contents.vectors.now known
-    (counts_at N M read Abs metric 0 claim.bound (c.are_counts.ensures.0 c.if-not-are_counts.false)) (c.in_ok-is_shown_minimal.ensures.0 c.if-not-branch.false)
+    all_hold N metric claim.bound texts M (report_read metric claim.bound read) contents.is_shown known
+    (counts_at N M read Abs metric 0 claim.bound (c.are_counts.ensures.0 c.if-not-are_counts.false)) c.if-not-contents.false

@@ -1,16 +1,16 @@
-use Rattle.std.proofs.Common.{Some, None, sym, subst, Err}
+use Rattle.std.proofs.Common.{Some, None, sym, subst}
 use Rattle.std.proofs.lemmas.Result.{err_from_is_err_and}
 use Rattle.semantics.specs.Texts.{Bytes}
 use Rattle.job_semantics.specs.declared.ending.Ending.TheVariants as file
 use Rattle.job_semantics.specs.declared.clause.Clause.TheVariants as clause
 use Rattle.bundle_texts.specs.Reading.{report_read}
 use Rattle.std.specs.Prelude.{IfSome}
-use Rattle.bundle.specs.Judging.{TextRead, TextUnread, Answers, IsFirstFault, FormulaKnown}
+use Rattle.bundle.specs.Judging.{TextRead, TextUnread, FormulaKnown}
 use Rattle.proof_semantics.specs.Formula.{Formula}
 use Rattle.bundle_texts.specs.LogJudged.{IsLogIn, IsOfRefutation}
 use Rattle.bundle.specs.declared.judged.Judged.TheVariants.{Good}
 use Rattle.bundle.proofs.JudgedTexts.{no_refutation, known_log, certificate_of, log_needed}
-use Rattle.bundle.proofs.ToldAnswers.{answers_unread, answers_now, answers_failing, answers_then_memory}
+use Rattle.bundle.proofs.ToldAnswers.{answers_unread, answers_now, answers_failing}
 use Rattle.bundle.proofs.judging.check_log.Goals as goal
 
 pub returns-in_err-log : goal.returns-in_err-log
@@ -19,14 +19,14 @@ returns-in_err-log g c =
     let contents = c.args.contents.now in
     let metric = claim.metric in
     let r = report_read metric claim.bound contents.report.now in
-    let K = FormulaKnown claim.exact.now metric claim.bound contents.approx.now r contents.vectors.now in
+    let K = FormulaKnown claim.exact.now metric claim.bound contents.approx.now r contents.is_shown in
     let old = g.F.Files.told c.args.files.now in
     let new = g.F.Files.told c.read_log.new.files in
     let p = err_from_is_err_and c.from_residual.result c.from_residual.ensures.1 in
     rw p.1
     (answers_unread g.L.ItemSink.holds claim.exact.now metric claim.bound claim.stem.now old new file.Log K p.0
     (subst (λ n. TextUnread old new n p.0) c.name.ensures (subst (TextUnread old new c.name.result.now) (sym p.2) c.in_err-log.ensures.err))
-    (λ texts known. log_needed claim.exact.now metric claim.bound texts contents.approx.now r contents.vectors.now known))
+    (λ texts known. log_needed claim.exact.now metric claim.bound texts contents.approx.now r contents.is_shown known))
 
 pub returns-in_default : goal.returns-in_default
 returns-in_default g c =
@@ -34,32 +34,15 @@ returns-in_default g c =
     let contents = c.args.contents.now in
     let metric = claim.metric in
     let r = report_read metric claim.bound contents.report.now in
-    let K = FormulaKnown claim.exact.now metric claim.bound contents.approx.now r contents.vectors.now in
+    let K = FormulaKnown claim.exact.now metric claim.bound contents.approx.now r contents.is_shown in
     let holds = g.L.ItemSink.holds in
     let old = g.F.Files.told c.args.files.now in
     let new = g.F.Files.told c.read_log.new.files in
     let Q = λ (content : Bytes). IsLogIn holds c.args.formula.clauses None content in
     let read = subst (λ n. TextRead old new n Q) c.name.ensures (subst (λ o. TextRead old new c.name.result.now (IsLogIn holds c.args.formula.clauses o)) c.in_default.is c.in_ok-log.ensures.ok) in
     answers_failing holds claim.exact.now metric claim.bound claim.stem.now old new file.Log Q K clause.Log read
-    (λ texts known. log_needed claim.exact.now metric claim.bound texts contents.approx.now r contents.vectors.now known)
-    (λ texts known none. no_refutation claim.exact.now metric claim.bound texts contents.approx.now r contents.vectors.now known (subst (λ (f : Formula). IsLogIn holds f.clauses None (texts file.Log)) c.requires.formula none))
-
-pub returns-in_err-check_counts : goal.returns-in_err-check_counts
-returns-in_err-check_counts g c =
-    let claim = c.args.claim.now in
-    let contents = c.args.contents.now in
-    let metric = claim.metric in
-    let r = report_read metric claim.bound contents.report.now in
-    let K = FormulaKnown claim.exact.now metric claim.bound contents.approx.now r contents.vectors.now in
-    let holds = g.L.ItemSink.holds in
-    let old = g.F.Files.told c.args.files.now in
-    let new = g.F.Files.told c.read_log.new.files in
-    let Q = λ (content : Bytes). IsLogIn holds c.args.formula.clauses (Some c.in-Some.log) content in
-    let read = subst (λ n. TextRead old new n Q) c.name.ensures (subst (λ o. TextRead old new c.name.result.now (IsLogIn holds c.args.formula.clauses o)) c.in-Some.is c.in_ok-log.ensures.ok) in
-    let p = err_from_is_err_and c.from_residual-in_err-check_counts.result c.from_residual-in_err-check_counts.ensures.1 in
-    rw p.1
-    (subst (λ e. Answers holds claim.exact.now metric claim.bound claim.stem.now K old new (Err e)) (sym p.2)
-    (answers_then_memory holds claim.exact.now metric claim.bound claim.stem.now old new file.Log Q K read (λ texts known. log_needed claim.exact.now metric claim.bound texts contents.approx.now r contents.vectors.now known)))
+    (λ texts known. log_needed claim.exact.now metric claim.bound texts contents.approx.now r contents.is_shown known)
+    (λ texts known none. no_refutation claim.exact.now metric claim.bound texts contents.approx.now r contents.is_shown known (subst (λ (f : Formula). IsLogIn holds f.clauses None (texts file.Log)) c.requires.formula none))
 
 pub returns-in-None : goal.returns-in-None
 returns-in-None g c =
@@ -67,34 +50,32 @@ returns-in-None g c =
     let contents = c.args.contents.now in
     let metric = claim.metric in
     let r = report_read metric claim.bound contents.report.now in
-    let K = FormulaKnown claim.exact.now metric claim.bound contents.approx.now r contents.vectors.now in
+    let K = FormulaKnown claim.exact.now metric claim.bound contents.approx.now r contents.is_shown in
     let holds = g.L.ItemSink.holds in
     let old = g.F.Files.told c.args.files.now in
     let new = g.F.Files.told c.read_log.new.files in
     let Q = λ (content : Bytes). IsLogIn holds c.args.formula.clauses (Some c.in-Some.log) content in
     let read = subst (λ n. TextRead old new n Q) c.name.ensures (subst (λ o. TextRead old new c.name.result.now (IsLogIn holds c.args.formula.clauses o)) c.in-Some.is c.in_ok-log.ensures.ok) in
     answers_now holds claim.exact.now metric claim.bound claim.stem.now old new file.Log Q K (Good c.args.formula c.in-Some.log) read
-    (λ texts known. log_needed claim.exact.now metric claim.bound texts contents.approx.now r contents.vectors.now known)
+    (λ texts known. log_needed claim.exact.now metric claim.bound texts contents.approx.now r contents.is_shown known)
     (subst (λ o. IfSome o (IsOfRefutation holds c.args.formula.clauses)) c.in-Some.is c.in_ok-log.ensures.refutes)
     (λ texts known found.
-    certificate_of claim.exact.now metric claim.bound texts contents.approx.now r contents.vectors.now holds known c.args.formula c.requires.formula c.in-Some.log found
-    (subst (IsFirstFault claim.exact.now metric claim.bound texts) c.in-None.is
-    (c.in_ok-check_counts.ensures texts (known_log claim.exact.now metric claim.bound texts contents.approx.now r contents.vectors.now holds known c.args.formula c.requires.formula c.in-Some.log found))))
+    certificate_of claim.exact.now metric claim.bound texts contents.approx.now r contents.is_shown holds known c.args.formula c.requires.formula c.in-Some.log found
+    (c.in-None.ensures texts (known_log claim.exact.now metric claim.bound texts contents.approx.now r contents.is_shown holds known c.args.formula c.requires.formula c.in-Some.log found)))
 
-pub returns-in-Some-2 : goal.returns-in-Some-2
-returns-in-Some-2 g c =
+pub returns-in-Some-check_counts : goal.returns-in-Some-check_counts
+returns-in-Some-check_counts g c =
     let claim = c.args.claim.now in
     let contents = c.args.contents.now in
     let metric = claim.metric in
     let r = report_read metric claim.bound contents.report.now in
-    let K = FormulaKnown claim.exact.now metric claim.bound contents.approx.now r contents.vectors.now in
+    let K = FormulaKnown claim.exact.now metric claim.bound contents.approx.now r contents.is_shown in
     let holds = g.L.ItemSink.holds in
     let old = g.F.Files.told c.args.files.now in
     let new = g.F.Files.told c.read_log.new.files in
     let Q = λ (content : Bytes). IsLogIn holds c.args.formula.clauses (Some c.in-Some.log) content in
     let read = subst (λ n. TextRead old new n Q) c.name.ensures (subst (λ o. TextRead old new c.name.result.now (IsLogIn holds c.args.formula.clauses o)) c.in-Some.is c.in_ok-log.ensures.ok) in
-    answers_failing holds claim.exact.now metric claim.bound claim.stem.now old new file.Log Q K c.in-Some-2.clause read
-    (λ texts known. log_needed claim.exact.now metric claim.bound texts contents.approx.now r contents.vectors.now known)
+    answers_failing holds claim.exact.now metric claim.bound claim.stem.now old new file.Log Q K c.in-Some-check_counts.clause read
+    (λ texts known. log_needed claim.exact.now metric claim.bound texts contents.approx.now r contents.is_shown known)
     (λ texts known found.
-    subst (IsFirstFault claim.exact.now metric claim.bound texts) c.in-Some-2.is
-    (c.in_ok-check_counts.ensures texts (known_log claim.exact.now metric claim.bound texts contents.approx.now r contents.vectors.now holds known c.args.formula c.requires.formula c.in-Some.log found)))
+    c.in-Some-check_counts.ensures texts (known_log claim.exact.now metric claim.bound texts contents.approx.now r contents.is_shown holds known c.args.formula c.requires.formula c.in-Some.log found))

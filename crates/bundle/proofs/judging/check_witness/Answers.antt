@@ -1,20 +1,20 @@
-use Rattle.std.proofs.Common.{sym, ap, subst, ◌∙◌, None, Some, Err}
+use Rattle.std.proofs.Common.{◌≡◌, length, sym, ap, subst, ◌∙◌, Option, None, Some, Err, arith}
 use Rattle.std.proofs.lemmas.Result.{err_from_is_err_and}
 use Rattle.semantics.specs.Texts.{Bytes}
 use Rattle.job_semantics.specs.declared.ending.Ending.TheVariants as file
 use Rattle.job_semantics.specs.declared.clause.Clause.TheVariants as clause
 use Rattle.bundle_texts.specs.Reading.{report_read}
-use Rattle.bundle_texts.specs.FilesRead.{AreVectorsIn}
+use Rattle.job_semantics.specs.declared.version.Version.{Version}
+use Rattle.bundle.specs.Shown.{AskedValue, AreShown, AreShownIn}
 use Rattle.bundle.specs.Judging.{TextRead, TextUnread, Answers, ReportKnown, WitnessKnown}
-use Rattle.std.proofs.Common.{length}
 use Rattle.semantics.specs.Error.{net_error}
-use Rattle.bundle.proofs.FileTexts.{vectors_held, vectors_read}
+use Rattle.bundle.proofs.FileTexts.{asked_for, vectors_judged, vectors_read}
 use Rattle.bundle.proofs.JudgedTexts.{other_vectors, not_attained, vectors_needed}
 use Rattle.bundle.proofs.ToldAnswers.{answers_then_memory, answers_unread, answers_failing, answers_later}
 use Rattle.bundle.proofs.judging.check_witness.Goals as goal
 
-pub returns-in_err-vectors : goal.returns-in_err-vectors
-returns-in_err-vectors g c =
+pub returns-in_err-is_shown : goal.returns-in_err-is_shown
+returns-in_err-is_shown g c =
     let claim = c.args.claim.now in
     let N = claim.exact.now in
     let M = c.args.approx.now in
@@ -27,7 +27,7 @@ returns-in_err-vectors g c =
     let p = err_from_is_err_and c.from_residual.result c.from_residual.ensures.1 in
     rw p.1
     (answers_unread g.L.ItemSink.holds N metric claim.bound claim.stem.now old new file.Vectors K p.0
-    (subst (λ n. TextUnread old new n p.0) c.name-name.ensures (subst (TextUnread old new c.name-name.result.now) (sym p.2) c.in_err-vectors.ensures.err))
+    (subst (λ n. TextUnread old new n p.0) c.name-name.ensures (subst (TextUnread old new c.name-name.result.now) (sym p.2) c.in_err-is_shown.ensures.err))
     (λ texts known. vectors_needed N metric claim.bound texts M r known))
 
 pub returns-in_default : goal.returns-in_default
@@ -41,13 +41,18 @@ returns-in_default g c =
     let witness = c.as_slice-witness.result.now in
     let old = g.F.Files.told c.args.files.now in
     let new = g.F.Files.told c.read_vectors_file.new.files in
-    let Q = λ (content : Bytes). AreVectorsIn (length witness) witness None content in
+    let asked = c.new-asked.result in
+    let is : asked ≡ asked_for N M metric claim.bound r witness c.as_slice-witness.ensures c.requires.width = c.new-asked.ensures ∙ ap (λ (v : Option Version). record { exact = N; approx = M; metric = metric; bound = claim.bound; witness = witness; version = v }) c.claimed_version-version.ensures in
+    let Q = λ (content : Bytes). AreShownIn asked None content in
     let was =
     subst (λ n. TextRead old new n Q) c.name-name.ensures
-    (subst (λ o. TextRead old new c.name-name.result.now (AreVectorsIn (length witness) witness o)) c.in_default.is c.in_ok-vectors.ensures.ok) in
+    (subst (λ o. TextRead old new c.name-name.result.now (AreShownIn asked o)) c.in_default.is c.in_ok-is_shown.ensures.ok) in
     answers_failing g.L.ItemSink.holds N metric claim.bound claim.stem.now old new file.Vectors Q K clause.Witness was
     (λ texts known. vectors_needed N metric claim.bound texts M r known)
-    (λ texts known none. other_vectors N metric claim.bound texts M r known (λ pool vectors. none pool (vectors_read N texts witness r.witness c.as_slice-witness.ensures c.requires.width pool vectors)))
+    (λ texts known none.
+    other_vectors N metric claim.bound texts M r known
+    (λ pool vectors.
+    subst (λ (a : AskedValue). AreShownIn a None (texts file.Vectors)) is none pool (vectors_read N M metric claim.bound r witness c.as_slice-witness.ensures c.requires.width (texts file.Vectors) pool vectors)))
 
 pub returns-in_err-error_at : goal.returns-in_err-error_at
 returns-in_err-error_at g c =
@@ -60,11 +65,13 @@ returns-in_err-error_at g c =
     let witness = c.as_slice-witness.result.now in
     let old = g.F.Files.told c.args.files.now in
     let new = g.F.Files.told c.read_vectors_file.new.files in
-    let set = c.in-Some.vectors in
-    let Q = λ (content : Bytes). AreVectorsIn (length witness) witness (Some set) content in
+    let shown = c.in-Some.is_shown in
+    let asked = c.new-asked.result in
+    let is : asked ≡ asked_for N M metric claim.bound r witness c.as_slice-witness.ensures c.requires.width = c.new-asked.ensures ∙ ap (λ (v : Option Version). record { exact = N; approx = M; metric = metric; bound = claim.bound; witness = witness; version = v }) c.claimed_version-version.ensures in
+    let Q = λ (content : Bytes). AreShownIn asked (Some shown) content in
     let was =
     subst (λ n. TextRead old new n Q) c.name-name.ensures
-    (subst (λ o. TextRead old new c.name-name.result.now (AreVectorsIn (length witness) witness o)) c.in-Some.is c.in_ok-vectors.ensures.ok) in
+    (subst (λ o. TextRead old new c.name-name.result.now (AreShownIn asked o)) c.in-Some.is c.in_ok-is_shown.ensures.ok) in
     let p = err_from_is_err_and c.from_residual-in_err-error_at.result c.from_residual-in_err-error_at.ensures.1 in
     rw p.1
     (subst (λ e. Answers g.L.ItemSink.holds N metric claim.bound claim.stem.now K old new (Err e)) (sym p.2)
@@ -81,15 +88,19 @@ returns-then-branch-report g c =
     let witness = c.as_slice-witness.result.now in
     let old = g.F.Files.told c.args.files.now in
     let new = g.F.Files.told c.read_vectors_file.new.files in
-    let set = c.in-Some.vectors in
-    let Q = λ (content : Bytes). AreVectorsIn (length witness) witness (Some set) content in
+    let shown = c.in-Some.is_shown in
+    let asked = c.new-asked.result in
+    let is : asked ≡ asked_for N M metric claim.bound r witness c.as_slice-witness.ensures c.requires.width = c.new-asked.ensures ∙ ap (λ (v : Option Version). record { exact = N; approx = M; metric = metric; bound = claim.bound; witness = witness; version = v }) c.claimed_version-version.ensures in
+    let Q = λ (content : Bytes). AreShownIn asked (Some shown) content in
     let was =
     subst (λ n. TextRead old new n Q) c.name-name.ensures
-    (subst (λ o. TextRead old new c.name-name.result.now (AreVectorsIn (length witness) witness o)) c.in-Some.is c.in_ok-vectors.ensures.ok) in
+    (subst (λ o. TextRead old new c.name-name.result.now (AreShownIn asked o)) c.in-Some.is c.in_ok-is_shown.ensures.ok) in
     answers_failing g.L.ItemSink.holds N metric claim.bound claim.stem.now old new file.Vectors Q K clause.Attained was
     (λ texts known. vectors_needed N metric claim.bound texts M r known)
     (λ texts known holds.
-    let vectors = vectors_held N texts witness r.witness c.as_slice-witness.ensures c.requires.width set holds in not_attained N metric claim.bound texts M r known vectors.pool vectors.read
+    let vectors =
+    vectors_judged N M metric claim.bound r witness c.as_slice-witness.ensures c.requires.width (texts file.Vectors) shown (subst (λ (a : AskedValue). AreShown a shown (texts file.Vectors)) is holds) in
+    not_attained N metric claim.bound texts M r known vectors.pool vectors.read
     (λ same. c.if-branch-report.true (c.in_ok-error_at.ensures ∙ ap (net_error metric N M) c.as_slice-witness.ensures ∙ same)))
 
 pub returns : goal.returns
@@ -104,17 +115,27 @@ returns g c =
     let old = g.F.Files.told c.args.files.now in
     let mid = g.F.Files.told c.read_vectors_file.new.files in
     let new = g.F.Files.told c.check_formula.new.files in
-    let set = c.in-Some.vectors in
-    let Q = λ (content : Bytes). AreVectorsIn (length witness) witness (Some set) content in
+    let shown = c.in-Some.is_shown in
+    let asked = c.new-asked.result in
+    let is : asked ≡ asked_for N M metric claim.bound r witness c.as_slice-witness.ensures c.requires.width = c.new-asked.ensures ∙ ap (λ (v : Option Version). record { exact = N; approx = M; metric = metric; bound = claim.bound; witness = witness; version = v }) c.claimed_version-version.ensures in
+    let Q = λ (content : Bytes). AreShownIn asked (Some shown) content in
     let was =
     subst (λ n. TextRead old mid n Q) c.name-name.ensures
-    (subst (λ o. TextRead old mid c.name-name.result.now (AreVectorsIn (length witness) witness o)) c.in-Some.is c.in_ok-vectors.ensures.ok) in
-    answers_later g.L.ItemSink.holds N metric claim.bound claim.stem.now old mid new file.Vectors Q K (WitnessKnown N metric claim.bound M r set) was
+    (subst (λ o. TextRead old mid c.name-name.result.now (AreShownIn asked o)) c.in-Some.is c.in_ok-is_shown.ensures.ok) in
+    answers_later g.L.ItemSink.holds N metric claim.bound claim.stem.now old mid new file.Vectors Q K (WitnessKnown N metric claim.bound M r shown) was
     (λ texts known. vectors_needed N metric claim.bound texts M r known)
     (λ texts known holds.
     record {
       report = known;
-      vectors = vectors_held N texts witness r.witness c.as_slice-witness.ensures c.requires.width set holds;
+      vectors = vectors_judged N M metric claim.bound r witness c.as_slice-witness.ensures c.requires.width (texts file.Vectors) shown (subst (λ (a : AskedValue). AreShown a shown (texts file.Vectors)) is holds);
       attained = sym (ap (net_error metric N M) c.as_slice-witness.ensures) ∙ sym c.in_ok-error_at.ensures ∙ c.if-branch-report.false;
     })
     c.check_formula.result c.check_formula.ensures
+
+pub new-asked-requires : goal.new-asked-requires
+new-asked-requires g c = record {
+  candidate = record { ports = c.requires.ports; few_outputs = c.requires.exact.outputs };
+  small = c.requires.approx;
+  few = omega (arith, ap length c.as_slice-witness.ensures, c.requires.width, c.requires.exact.inputs);
+  width = ap length c.as_slice-witness.ensures ∙ c.requires.width;
+}
