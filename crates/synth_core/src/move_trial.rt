@@ -46,7 +46,7 @@ pub(crate) enum Trial {
 pub(crate) fn try_move(
     alloc: Global,
     nets: &Compared,
-    held: &Option<Reference>,
+    held: &Reference,
     decider: &mut Decider,
     terms: Terms,
     adc: &Adc,

@@ -75,7 +75,7 @@ fn add_vector(
 fn weigh(
     alloc: Global,
     nets: &Compared,
-    held: &Option<Reference>,
+    held: &Reference,
     decider: &mut Decider,
     terms: Terms,
     pool: &mut Patterns,
@@ -108,7 +108,7 @@ fn weigh(
 pub(crate) fn find_step(
     alloc: Global,
     nets: &Compared,
-    held: &Option<Reference>,
+    held: &Reference,
     decider: &mut Decider,
     terms: Terms,
     pool: &mut Patterns,

@@ -15,6 +15,7 @@ use semantics::metric::Metric;
 use std::alloc::{AllocError, Global};
 
 /// The same question of nets that can be compared.
+#[tactic(auto, using(crate::proofs::Tried::over_first))]
 pub(crate) fn exceeds_level(
     alloc: Global,
     nets: &Compared,
