@@ -19,7 +19,7 @@ find-same p q (x ∷ xs) same = ap (λ (b : Bool). cond b (Some x) (find p xs)) 
 
 -- ---- models found by their names
 
-sym_eq : (a b : Bytes) → bytes_eq a b ≡ bytes_eq b a
+pub sym_eq : (a b : Bytes) → bytes_eq a b ≡ bytes_eq b a
 sym_eq a b = at_test (bytes_eq a b) refl (bytes_eq b a) refl
   where
     at_test : (x : Bool) → bytes_eq a b ≡ x → (y : Bool) → bytes_eq b a ≡ y → x ≡ y
@@ -45,7 +45,7 @@ same_place word (m ∷ h) = ap (λ (k : ℕ). cond (not (bytes_eq word m.name)) 
 abbrev model_or_none : Option BlifModel → BlifModel
 model_or_none o = elim o [ None ↦ no_model | Some m ↦ m ]
 
-placed : (p n : ℕ) (i : ℕ) → Some i ≡ cond (ltb p n) (Some p) None → (p ≡ i) × (p < n)
+pub placed : (p n : ℕ) (i : ℕ) → Some i ≡ cond (ltb p n) (Some p) None → (p ≡ i) × (p < n)
 placed p n i e = at_test (ltb p n) refl e
   where
     at_test : (b : Bool) → ltb p n ≡ b → Some i ≡ cond b (Some p) None → (p ≡ i) × (p < n)

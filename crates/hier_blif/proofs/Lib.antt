@@ -4,3 +4,11 @@ mod Sets
 mod Read
 mod Found
 mod Tested
+mod FlatSizes
+mod FlatPlaces
+mod FlatFrames
+mod FlatMade
+mod Weighed
+mod Framing
+mod FlatSteps
+mod Limited

@@ -56,7 +56,7 @@ driven-inputs : (n : ℕ) (names : List Bytes) → map (λ d. d.name) (inputs_dr
 driven-inputs n [] = refl
 driven-inputs n (name ∷ names) = ap (λ rest. name ∷ rest) (driven-inputs (n + 1) names)
 
-driven-same : (h : Hierarchy) (m : BlifModel) → names_driven h m ≡ driven_names h m
+pub driven-same : (h : Hierarchy) (m : BlifModel) → names_driven h m ≡ driven_names h m
 driven-same h m =
     joined (inputs_driven 0 m.inputs) (over_parts (part_driven h) 0 m.parts)
     ∙ ap (λ front. front ++ map (λ d. d.name) (over_parts (part_driven h) 0 m.parts)) (driven-inputs 0 m.inputs)

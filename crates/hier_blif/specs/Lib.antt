@@ -7,3 +7,5 @@ pub mod Tested
 pub mod Faults
 pub mod Whole
 pub mod Tests
+pub mod Flattening
+pub mod Weights

@@ -1,8 +1,11 @@
 //! Texts of several models as flat nets.
 #![tactic(auto)]
 
+mod counting;
 mod faults;
 mod faulty;
+mod flat_tables;
+mod frames;
 pub mod hier;
 mod interfaces;
 mod judging;
@@ -12,4 +15,5 @@ pub mod reading;
 pub mod refusal;
 mod refusing;
 mod statements;
+mod weights;
 mod whole;
