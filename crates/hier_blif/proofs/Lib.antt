@@ -12,3 +12,6 @@ mod Weighed
 mod Framing
 mod FlatSteps
 mod Limited
+mod Readings
+mod Checked
+mod NetMade

@@ -4,6 +4,7 @@
 mod counting;
 mod faults;
 mod faulty;
+mod flat_net;
 mod flat_tables;
 mod frames;
 pub mod hier;
