@@ -15,3 +15,6 @@ mod Limited
 mod Readings
 mod Checked
 mod NetMade
+mod Grounded
+mod NamedFaults
+mod NamedLines

@@ -234,3 +234,17 @@ second-told h x (Some v) none a some is = ap (λ (o : Option HierRefusal). or_fi
 pub rest-told : (h : Hierarchy) (x y : Option Fault) → false ≡ is_some x → IsNamesFault h (option_map fault_value x) → false ≡ is_some y → option_map fault_value y ≡ ports_refusal (all_uses h) h → whole_refusal h ≡ hier_refusal h
 rest-told h x (Some v) none a empty is = absurd (false≢true empty)
 rest-told h x None none a empty is = ap (λ (o : Option HierRefusal). or_first o (whole_refusal h)) is ∙ after-names h x none a
+
+-- ---- what a test that finds nothing says
+
+pub none_found : {X : Type 0} (x : Option Fault) (f : X → HierRefusal) (o : Option X) → false ≡ is_some x → option_map fault_value x ≡ option_map f o → o ≡ None
+none_found x f None none is = refl
+none_found None f (Some y) none is = absurd (none-some (f y) is)
+none_found (Some v) f (Some y) none is = absurd (false≢true none)
+
+pub none_unknown : (h : Hierarchy) (x : Option Fault) (known : List Bytes) (uses : List Subcircuit) → known ≡ model_names h → uses ≡ all_uses h → false ≡ is_some x
+    → option_map fault_value x ≡ option_map (λ c. no_model_named c.model) (find (λ c. not (has_name known c.model)) uses) → first_unknown h ≡ None
+none_unknown h x known uses names all none is =
+    ap (λ (n : List Bytes). find (λ (c : Subcircuit). not (has_name n c.model)) (all_uses h)) (sym names)
+    ∙ ap (λ (cs : List Subcircuit). find (λ (c : Subcircuit). not (has_name known c.model)) cs) (sym all)
+    ∙ none_found x (λ (c : Subcircuit). no_model_named c.model) (find (λ (c : Subcircuit). not (has_name known c.model)) uses) none is

@@ -9,3 +9,5 @@ pub mod Whole
 pub mod Tests
 pub mod Flattening
 pub mod Weights
+pub mod Named
+pub mod Users

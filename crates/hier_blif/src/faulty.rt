@@ -1,11 +1,13 @@
 //! The tests of the models of a text, one after another. Source: BLIF's `.model` and `.subckt`; their order is this tool's own.
-ghost use Rattle.std.specs.Prelude.{◌≡◌, IfOk};
+ghost use Rattle.std.specs.Prelude.{◌≡◌, [], IfOk};
 ghost use Rattle.std.specs.Option.{option_map};
 ghost use Rattle.std.specs.List.{find};
 ghost use Rattle.text_words.specs.Slices.{texts};
-ghost use Rattle.hierarchy_semantics.specs.Models.{main_of};
-ghost use Rattle.hierarchy_semantics.specs.Refusals.{recursive, taken, first_found, first_recursive, is_taken, hier_refusal};
+ghost use Rattle.hierarchy_semantics.specs.Models.{main_of, all_uses};
+ghost use Rattle.hierarchy_semantics.specs.Refusals.{taken, first_found, is_taken, hier_refusal, model_names};
 ghost use Rattle.hier_blif.specs.Faults.{fault_value, uses_value};
+ghost use Rattle.hier_blif.specs.Named.{AreNamed};
+ghost use Rattle.hier_blif.specs.Sets.{with_names};
 ghost use Rattle.hier_blif.specs.Tests.{names_refusal, ports_refusal, part_fault, whole_refusal};
 ghost use Rattle.hier_blif.specs.Whole.{driven_names};
 
@@ -16,16 +18,9 @@ use crate::faults::{
 use crate::interfaces::Interfaces;
 use crate::models::{BlifModel, Subcircuit};
 use crate::names::{Names, set_of};
+use crate::users::recursive;
 use crate::whole::{model_fault, names_driven, taken};
 use std::alloc::{AllocError, Global};
-
-/// The first model that uses itself or one that does.
-fn recursive<'a>(models: &[BlifModel<'a>]) -> Result<Option<Fault<'a>>, AllocError>
-    ensures { IfOk result (λ o. option_map fault_value o ≡ option_map (λ m. recursive m.name) (first_recursive models.now)) }
-{
-    let _ = models.len();
-    Err(AllocError)
-}
 
 /// A name of two models, a use of a model that is not there, or a model that uses itself.
 fn names_fault<'a>(
@@ -35,6 +30,10 @@ fn names_fault<'a>(
     uses: &[&Subcircuit<'a>],
     models: &[BlifModel<'a>],
 ) -> Result<Option<Fault<'a>>, AllocError>
+    requires names { texts names.now ≡ model_names models.now }
+    requires known { known.now ≡ with_names [] (model_names models.now) }
+    requires uses { uses_value uses.now ≡ all_uses models.now }
+    requires named { AreNamed models.now }
     ensures { IfOk result (λ o. option_map fault_value o ≡ names_refusal (texts names.now) known.now (uses_value uses.now) models.now) }
 {
     let fault = same_model(alloc, names)?;
@@ -45,7 +44,7 @@ fn names_fault<'a>(
     if fault.is_some() {
         return Ok(fault);
     }
-    recursive(models)
+    recursive(alloc, known, models)
 }
 
 /// A port that stands twice, a binding of no port or a second one, or an input that is not bound.
@@ -119,11 +118,12 @@ fn whole_fault<'a>(
     taken_name(alloc, found, models)
 }
 
-/// The first fault of the models, if they are no hierarchy.
+/// The first fault of the models, if they are no hierarchy. Each word in a name's place is a name.
 pub fn first_fault<'a>(
     alloc: Global,
     models: &[BlifModel<'a>],
 ) -> Result<Option<Fault<'a>>, AllocError>
+    requires { AreNamed models.now }
     ensures { IfOk result (λ o. option_map fault_value o ≡ hier_refusal models.now) }
 {
     let names = model_names(alloc, models)?;

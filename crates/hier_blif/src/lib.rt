@@ -16,5 +16,8 @@ pub mod reading;
 pub mod refusal;
 mod refusing;
 mod statements;
+#[cfg(test)]
+mod tests;
+mod users;
 mod weights;
 mod whole;
