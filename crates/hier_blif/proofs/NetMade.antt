@@ -75,10 +75,16 @@ flattened_is h = refl
 pub names_once : (h : Hierarchy) → IsReading h → first_doubled (model_names h) ≡ None
 names_once h reading = (read_parts reading.text reading.most h reading.read).none.names_differ
 
+abbrev OneOrNone : HierRefusal → Option r.HierRefusal → Option r.HierRefusal → Type 0
+OneOrNone told answer o = elim o [ None ↦ told ≡ NoMemory | Some refusal ↦ answer ≡ Some refusal ]
+
+abbrev ErrOrNone : HierRefusal → Result NetValue r.HierRefusal → Option r.HierRefusal → Type 0
+ErrOrNone told answer o = elim o [ None ↦ told ≡ NoMemory | Some refusal ↦ answer ≡ Err refusal ]
+
 pub tells_checked : (told : HierRefusal) (answer : Result NetValue r.HierRefusal) (one : r.HierRefusal) → answer ≡ Err one → TellsOne told (Some one) → Tells told answer
 tells_checked told answer one is tells = at_refusal (refusal_of told) tells
   where
-    at_refusal : (o : Option r.HierRefusal) → elim o [ None ↦ told ≡ NoMemory | Some refusal ↦ Some one ≡ Some refusal ] → elim o [ None ↦ told ≡ NoMemory | Some refusal ↦ answer ≡ Err refusal ]
+    at_refusal : (o : Option r.HierRefusal) → OneOrNone told (Some one) o → ErrOrNone told answer o
     at_refusal None h = h
     at_refusal (Some refusal) h = is ∙ ap Err (same_Some one refusal h)
 

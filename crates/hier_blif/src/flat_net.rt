@@ -1,7 +1,7 @@
 //! The flat net of models that are a hierarchy. Source: BLIF's `.subckt`.
 ghost use Rattle.std.specs.Prelude.{◌≡◌, ◌+◌, ◌<◌, ◌^◌, ◌++◌, [], true, Ok, None, Some, IfOk, IfErr, All, length, map};
 ghost use Rattle.std.specs.List.{range_with_len};
-ghost use Rattle.semantics.specs.Net.{IsName, IsSound, name_of};
+ghost use Rattle.semantics.specs.Net.{IsName, IsSound, IsSmall, name_of};
 ghost use Rattle.semantics.specs.Refusals.{first_limit};
 ghost use Rattle.blif_semantics.specs.Reading.{cycle};
 ghost use Rattle.text_words.specs.Slices.{texts};
@@ -79,6 +79,7 @@ fn acyclic_net(
     requires limit { first_limit (record { model = model; inputs = inputs; tables = tables; outputs = outputs }) ≡ None }
     ensures ok { IfOk result (λ n. flat_checked (record { model = model; inputs = inputs; tables = tables; outputs = outputs }) ≡ Ok n) }
     ensures sound { IfOk result (λ n. IsSound n) }
+    ensures small { IfOk result (λ n. IsSmall n) }
     ensures err { IfErr result (λ told. Tells told (flat_checked (record { model = model; inputs = inputs; tables = tables; outputs = outputs }))) }
 {
     let names = signal_names(alloc, &inputs, &tables)?;
@@ -158,6 +159,7 @@ fn made_net(
     requires limit { first_limit (flat_net models.now) ≡ None }
     ensures ok { IfOk result (λ n. flattened models.now ≡ Ok n) }
     ensures sound { IfOk result (λ n. IsSound n) }
+    ensures small { IfOk result (λ n. IsSmall n) }
     ensures err { IfErr result (λ told. Tells told (flattened models.now)) }
 {
     let frame = main_frame(alloc, sizes, main)?;
@@ -173,6 +175,7 @@ pub fn flatten_models(alloc: Global, models: &[BlifModel]) -> Result<Net, HierRe
     requires { IsReading models.now }
     ensures ok { IfOk result (λ n. flattened models.now ≡ Ok n) }
     ensures sound { IfOk result (λ n. IsSound n) }
+    ensures small { IfOk result (λ n. IsSmall n) }
     ensures err { IfErr result (λ told. Tells told (flattened models.now)) }
 {
     let Some(main) = models.first() else {
