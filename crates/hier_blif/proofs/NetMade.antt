@@ -1,8 +1,8 @@
 -- The net of the tables that are made is the flat net.
-use Rattle.std.proofs.Common.{◌≡◌, ℕ, ◌+◌, ◌^◌, ◌<◌, true, List, [], ◌∷◌, map, length, slice_get, Option, Some, None, Result, Err, refl, ap, sym, subst, ◌∙◌, arith}
+use Rattle.std.proofs.Common.{◌≡◌, ℕ, ◌+◌, ◌^◌, ◌<◌, true, List, [], ◌∷◌, map, length, slice_get, Option, Some, None, Result, Ok, Err, IfOk, IfErr, All, refl, ap, sym, subst, ◌∙◌, arith}
 use Rattle.std.proofs.lemmas.Option.{none-some, same_Some}
 use Rattle.semantics.specs.Texts.{Bytes}
-use Rattle.semantics.specs.Net.{TableValue, NetValue, signal_names, name_of, IsSmall}
+use Rattle.semantics.specs.Net.{TableValue, NetValue, signal_names, name_of, IsName, IsSmall}
 use Rattle.semantics.specs.Refusals.{cycle, first_doubled, first_limit, net_refusal}
 use Rattle.semantics.proofs.Refused.{small}
 use Rattle.blif_semantics.specs.Reading as b
@@ -94,6 +94,14 @@ cycle_tells N s names told limits refused is tells =
 
 -- ---- the models as they are held
 
+pub name_at : (h : Hierarchy) (m : BlifModel) → IsReading h → m ≡ main_of h → IsName m.name
+name_at h m reading main = subst (λ (k : BlifModel). IsName k.name) (sym main) (main_formed h reading).name
+
+pub inputs_at : (h : Hierarchy) (m : BlifModel) (names : List Bytes) → IsReading h → m ≡ main_of h → names ≡ m.inputs → All IsName names
+inputs_at h m names reading main same =
+    let all : All IsName m.inputs = subst (λ (k : BlifModel). All IsName k.inputs) (sym main) (main_formed h reading).inputs in
+    subst (All IsName) (sym same) all
+
 pub ready_at : (h s : Hierarchy) (m : BlifModel) → IsReading h → s ≡ h → m ≡ main_of h → IsReady s m
 ready_at h s m reading same main = subst (λ k. IsReady k m) (sym same) (subst (IsReady h) (sym main) (main_ready h reading))
 
@@ -118,3 +126,15 @@ net_at h s m g levels model inputs tables outputs reading same main count signal
     ∙ ap (λ f. with_model h (length m.inputs) (length h) true f m []) signal
     ∙ ap (λ (k : BlifModel). with_model h (length k.inputs) (length h) true (main_signal h) k []) main)
     (given ∙ ap (λ f. map f m.outputs) signal ∙ ap (λ (k : BlifModel). map (main_signal h) k.outputs) main)
+
+-- the parts are those of the flat net, so what is known of it is known of them
+pub limit_at : (h : Hierarchy) (N : NetValue) → first_limit (flat_net h) ≡ None → N ≡ flat_net h → first_limit N ≡ None
+limit_at h N limits same = ap first_limit same ∙ limits
+
+pub ok_at : (h : Hierarchy) (N : NetValue) {E : Type 0} (r : Result NetValue E) → N ≡ flat_net h → IfOk r (λ n. flat_checked N ≡ Ok n) → IfOk r (λ n. flattened h ≡ Ok n)
+ok_at h N (Ok n) same is = flattened_is h ∙ ap flat_checked (sym same) ∙ is
+ok_at h N (Err told) same is = tt
+
+pub err_at : (h : Hierarchy) (N : NetValue) {X : Type 0} (r : Result X HierRefusal) → N ≡ flat_net h → IfErr r (λ told. Tells told (flat_checked N)) → IfErr r (λ told. Tells told (flattened h))
+err_at h N (Ok x) same is = tt
+err_at h N (Err told) same is = subst (Tells told) (sym (flattened_is h ∙ ap flat_checked (sym same))) is
