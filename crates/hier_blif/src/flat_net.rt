@@ -170,7 +170,32 @@ fn made_net(
     acyclic_net(alloc, model, inputs, tables, outputs)
 }
 
-/// The flat net of models that are a hierarchy, or the refusal of a limit, which is decided by counting, or else of a cycle.
+/// The flat net of models that are found by their names, or the refusal of a limit, which is decided by counting, or else of a cycle.
+fn counted_net(
+    alloc: Global,
+    found: &Interfaces,
+    models: &[BlifModel],
+    main: &BlifModel,
+) -> Result<Net, HierRefusal>
+    requires reading { IsReading models.now }
+    requires found { found.now ≡ models.now }
+    requires main { main.now ≡ main_of models.now }
+    ensures ok { IfOk result (λ n. flattened models.now ≡ Ok n) }
+    ensures sound { IfOk result (λ n. IsSound n) }
+    ensures small { IfOk result (λ n. IsSmall n) }
+    ensures err { IfErr result (λ told. Tells told (flattened models.now)) }
+{
+    let limit = counted_limit(alloc, found, models, main)?;
+    match limit {
+        Some(which) => Err(HierRefusal::Flat(BlifRefusal::Limit { which })),
+        None => {
+            let sizes = Sizes::new(alloc, found, models)?;
+            made_net(alloc, &sizes, models, main)
+        }
+    }
+}
+
+/// The flat net of models that are a hierarchy, or the refusal of a limit or else of a cycle.
 pub fn flatten_models(alloc: Global, models: &[BlifModel]) -> Result<Net, HierRefusal>
     requires { IsReading models.now }
     ensures ok { IfOk result (λ n. flattened models.now ≡ Ok n) }
@@ -185,9 +210,5 @@ pub fn flatten_models(alloc: Global, models: &[BlifModel]) -> Result<Net, HierRe
     let known = set_of(alloc, &names)?;
     let none = BlifModel::none(alloc);
     let found = Interfaces::new(alloc, known, models, &none)?;
-    if let Some(which) = counted_limit(alloc, &found, models, main)? {
-        return Err(HierRefusal::Flat(BlifRefusal::Limit { which }));
-    }
-    let sizes = Sizes::new(alloc, &found, models)?;
-    made_net(alloc, &sizes, models, main)
+    counted_net(alloc, &found, models, main)
 }

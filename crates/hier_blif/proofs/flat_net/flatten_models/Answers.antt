@@ -10,3 +10,12 @@ pub new-requires-clause-names : goal.new-requires-clause-names
 new-requires-clause-names c =
     let h = c.args.models.now in
     c.in_ok-known.ensures.is ∙ ap (λ l. with_names [] (texts l)) c.deref.ensures.value ∙ ap (with_names []) c.in_ok-names.ensures ∙ same-set (model_names h) (names_once h c.requires)
+
+pub counted_limit-requires-clause-main : goal.counted_limit-requires-clause-main
+counted_limit-requires-clause-main c = ?
+
+pub made_net-requires-clause-limit : goal.made_net-requires-clause-limit
+made_net-requires-clause-limit c = ?
+
+pub made_net-requires-clause-main : goal.made_net-requires-clause-main
+made_net-requires-clause-main c = ?
