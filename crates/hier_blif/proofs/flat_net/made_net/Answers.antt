@@ -32,11 +32,11 @@ acyclic_net-requires-clause-few c =
     let m : BlifModel = c.args.main.now in
     let g : Bytes → ℕ = signal_of c.in_ok-frame.frame in
     let same =
-        net_at h c.args.sizes.now m g (length h) c.in_ok-model.model c.in_ok-inputs.inputs c.in_ok-tables.tables c.in_ok-outputs.outputs c.requires.reading c.requires.sizes c.requires.main refl c.in_ok-frame.ensures
-        (c.in_ok-model.ensures ∙ ap (λ (k : BlifModel). k.name) c.main.view_is)
-        (c.in_ok-inputs.ensures ∙ ap texts c.deref-2.ensures.value ∙ ap (λ (k : BlifModel). k.inputs) c.main.view_is)
-        c.in_ok-tables.ensures
-        (c.in_ok-outputs.ensures ∙ ap (λ l. map g (texts l)) c.deref.ensures.value ∙ ap (λ (k : BlifModel). map g k.outputs) c.main.view_is) in
+    net_at h c.args.sizes.now m g (length h) c.in_ok-model.model c.in_ok-inputs.inputs c.in_ok-tables.tables c.in_ok-outputs.outputs c.requires.reading c.requires.sizes c.requires.main refl c.in_ok-frame.ensures
+    (c.in_ok-model.ensures ∙ ap (λ (k : BlifModel). k.name) c.main.view_is)
+    (c.in_ok-inputs.ensures ∙ ap texts c.deref-2.ensures.value ∙ ap (λ (k : BlifModel). k.inputs) c.main.view_is)
+    c.in_ok-tables.ensures
+    (c.in_ok-outputs.ensures ∙ ap (λ l. map g (texts l)) c.deref.ensures.value ∙ ap (λ (k : BlifModel). map g k.outputs) c.main.view_is) in
     few_signals h c.in_ok-model.model c.in_ok-inputs.inputs c.in_ok-tables.tables c.in_ok-outputs.outputs c.requires.limit same
 
 pub acyclic_net-requires-clause-limit : goal.acyclic_net-requires-clause-limit
@@ -45,11 +45,11 @@ acyclic_net-requires-clause-limit c =
     let m : BlifModel = c.args.main.now in
     let g : Bytes → ℕ = signal_of c.in_ok-frame.frame in
     let same =
-        net_at h c.args.sizes.now m g (length h) c.in_ok-model.model c.in_ok-inputs.inputs c.in_ok-tables.tables c.in_ok-outputs.outputs c.requires.reading c.requires.sizes c.requires.main refl c.in_ok-frame.ensures
-        (c.in_ok-model.ensures ∙ ap (λ (k : BlifModel). k.name) c.main.view_is)
-        (c.in_ok-inputs.ensures ∙ ap texts c.deref-2.ensures.value ∙ ap (λ (k : BlifModel). k.inputs) c.main.view_is)
-        c.in_ok-tables.ensures
-        (c.in_ok-outputs.ensures ∙ ap (λ l. map g (texts l)) c.deref.ensures.value ∙ ap (λ (k : BlifModel). map g k.outputs) c.main.view_is) in
+    net_at h c.args.sizes.now m g (length h) c.in_ok-model.model c.in_ok-inputs.inputs c.in_ok-tables.tables c.in_ok-outputs.outputs c.requires.reading c.requires.sizes c.requires.main refl c.in_ok-frame.ensures
+    (c.in_ok-model.ensures ∙ ap (λ (k : BlifModel). k.name) c.main.view_is)
+    (c.in_ok-inputs.ensures ∙ ap texts c.deref-2.ensures.value ∙ ap (λ (k : BlifModel). k.inputs) c.main.view_is)
+    c.in_ok-tables.ensures
+    (c.in_ok-outputs.ensures ∙ ap (λ l. map g (texts l)) c.deref.ensures.value ∙ ap (λ (k : BlifModel). map g k.outputs) c.main.view_is) in
     limit_at h (record { model = c.in_ok-model.model; inputs = c.in_ok-inputs.inputs; tables = c.in_ok-tables.tables; outputs = c.in_ok-outputs.outputs }) c.requires.limit same
 
 pub returns-clause-ok : goal.returns-clause-ok
@@ -58,11 +58,11 @@ returns-clause-ok c =
     let m : BlifModel = c.args.main.now in
     let g : Bytes → ℕ = signal_of c.in_ok-frame.frame in
     let same =
-        net_at h c.args.sizes.now m g (length h) c.in_ok-model.model c.in_ok-inputs.inputs c.in_ok-tables.tables c.in_ok-outputs.outputs c.requires.reading c.requires.sizes c.requires.main refl c.in_ok-frame.ensures
-        (c.in_ok-model.ensures ∙ ap (λ (k : BlifModel). k.name) c.main.view_is)
-        (c.in_ok-inputs.ensures ∙ ap texts c.deref-2.ensures.value ∙ ap (λ (k : BlifModel). k.inputs) c.main.view_is)
-        c.in_ok-tables.ensures
-        (c.in_ok-outputs.ensures ∙ ap (λ l. map g (texts l)) c.deref.ensures.value ∙ ap (λ (k : BlifModel). map g k.outputs) c.main.view_is) in
+    net_at h c.args.sizes.now m g (length h) c.in_ok-model.model c.in_ok-inputs.inputs c.in_ok-tables.tables c.in_ok-outputs.outputs c.requires.reading c.requires.sizes c.requires.main refl c.in_ok-frame.ensures
+    (c.in_ok-model.ensures ∙ ap (λ (k : BlifModel). k.name) c.main.view_is)
+    (c.in_ok-inputs.ensures ∙ ap texts c.deref-2.ensures.value ∙ ap (λ (k : BlifModel). k.inputs) c.main.view_is)
+    c.in_ok-tables.ensures
+    (c.in_ok-outputs.ensures ∙ ap (λ l. map g (texts l)) c.deref.ensures.value ∙ ap (λ (k : BlifModel). map g k.outputs) c.main.view_is) in
     ok_at h (record { model = c.in_ok-model.model; inputs = c.in_ok-inputs.inputs; tables = c.in_ok-tables.tables; outputs = c.in_ok-outputs.outputs }) c.acyclic_net.result same c.acyclic_net.ensures.ok
 
 pub returns-clause-err : goal.returns-clause-err
@@ -71,9 +71,9 @@ returns-clause-err c =
     let m : BlifModel = c.args.main.now in
     let g : Bytes → ℕ = signal_of c.in_ok-frame.frame in
     let same =
-        net_at h c.args.sizes.now m g (length h) c.in_ok-model.model c.in_ok-inputs.inputs c.in_ok-tables.tables c.in_ok-outputs.outputs c.requires.reading c.requires.sizes c.requires.main refl c.in_ok-frame.ensures
-        (c.in_ok-model.ensures ∙ ap (λ (k : BlifModel). k.name) c.main.view_is)
-        (c.in_ok-inputs.ensures ∙ ap texts c.deref-2.ensures.value ∙ ap (λ (k : BlifModel). k.inputs) c.main.view_is)
-        c.in_ok-tables.ensures
-        (c.in_ok-outputs.ensures ∙ ap (λ l. map g (texts l)) c.deref.ensures.value ∙ ap (λ (k : BlifModel). map g k.outputs) c.main.view_is) in
+    net_at h c.args.sizes.now m g (length h) c.in_ok-model.model c.in_ok-inputs.inputs c.in_ok-tables.tables c.in_ok-outputs.outputs c.requires.reading c.requires.sizes c.requires.main refl c.in_ok-frame.ensures
+    (c.in_ok-model.ensures ∙ ap (λ (k : BlifModel). k.name) c.main.view_is)
+    (c.in_ok-inputs.ensures ∙ ap texts c.deref-2.ensures.value ∙ ap (λ (k : BlifModel). k.inputs) c.main.view_is)
+    c.in_ok-tables.ensures
+    (c.in_ok-outputs.ensures ∙ ap (λ l. map g (texts l)) c.deref.ensures.value ∙ ap (λ (k : BlifModel). map g k.outputs) c.main.view_is) in
     err_at h (record { model = c.in_ok-model.model; inputs = c.in_ok-inputs.inputs; tables = c.in_ok-tables.tables; outputs = c.in_ok-outputs.outputs }) c.acyclic_net.result same c.acyclic_net.ensures.err
