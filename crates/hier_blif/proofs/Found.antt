@@ -19,7 +19,7 @@ find-same p q (x ∷ xs) same = ap (λ (b : Bool). cond b (Some x) (find p xs)) 
 
 -- ---- models found by their names
 
-sym_eq : (a b : Bytes) → bytes_eq a b ≡ bytes_eq b a
+pub sym_eq : (a b : Bytes) → bytes_eq a b ≡ bytes_eq b a
 sym_eq a b = at_test (bytes_eq a b) refl (bytes_eq b a) refl
   where
     at_test : (x : Bool) → bytes_eq a b ≡ x → (y : Bool) → bytes_eq b a ≡ y → x ≡ y

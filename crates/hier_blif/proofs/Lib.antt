@@ -4,6 +4,17 @@ mod Sets
 mod Read
 mod Found
 mod Tested
+mod FlatSizes
+mod FlatPlaces
+mod FlatFrames
+mod FlatMade
+mod Weighed
+mod Framing
+mod FlatSteps
+mod Limited
+mod Readings
+mod Checked
+mod NetMade
 mod Grounded
 mod NamedFaults
 mod NamedLines

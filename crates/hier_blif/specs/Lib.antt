@@ -7,5 +7,7 @@ pub mod Tested
 pub mod Faults
 pub mod Whole
 pub mod Tests
+pub mod Flattening
+pub mod Weights
 pub mod Named
 pub mod Users

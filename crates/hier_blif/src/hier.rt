@@ -6,7 +6,10 @@ ghost use Rattle.hierarchy_semantics.specs.Flat.{flattened};
 ghost use Rattle.hier_blif.specs.Hierarchies.{IsReading};
 ghost use Rattle.hier_blif.specs.Refusals.{Tells};
 
+use crate::flat_net::flatten_models;
+use crate::models::hierarchy_of;
 use crate::refusal::HierRefusal;
+use crate::statements::statements;
 use blif_text::line_list::LineList;
 use net_core::net::Net;
 use std::alloc::Global;
@@ -46,8 +49,8 @@ impl Hier {
         ensures small { IfOk result (λ n. IsSmall n) }
         ensures err { IfErr result (λ told. Tells told (flattened self.now)) }
     {
-        let _ = alloc;
-        let _ = self.lines.len();
-        Err(HierRefusal::OutOfMemory)
+        let statements = statements(alloc, self.lines.as_slice())?;
+        let models = hierarchy_of(alloc, &statements)?;
+        flatten_models(alloc, &models)
     }
 }

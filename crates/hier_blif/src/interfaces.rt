@@ -1,6 +1,7 @@
 //! What the use of a model needs of it, found by the model's name.
 ghost use Rattle.std.specs.Prelude.{◌≡◌, IfOk};
 ghost use Rattle.semantics.specs.Refusals.{has_name};
+ghost use Rattle.blif_text.specs.Names.{place_of};
 ghost use Rattle.hierarchy_semantics.specs.Models.{no_model, model_named};
 ghost use Rattle.hierarchy_semantics.specs.Refusals.{model_names};
 ghost use Rattle.hier_blif.specs.Sets.{with_names};
@@ -110,6 +111,13 @@ impl<'m, 'a> Interfaces<'m, 'a> {
         }
         let none = Interface::new(alloc, none)?;
         Ok(Interfaces { names, all, none })
+    }
+
+    /// Where the model of a name stands.
+    pub fn place(&self, name: &[u8]) -> Option<usize>
+        ensures { result ≡ place_of (model_names self.now) name.now }
+    {
+        self.names.place(name)
     }
 
     /// The model of a name, or the empty one where none has it.

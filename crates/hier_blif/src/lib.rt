@@ -1,8 +1,12 @@
 //! Texts of several models as flat nets.
 #![tactic(auto)]
 
+mod counting;
 mod faults;
 mod faulty;
+mod flat_net;
+mod flat_tables;
+mod frames;
 pub mod hier;
 mod interfaces;
 mod judging;
@@ -15,4 +19,5 @@ mod statements;
 #[cfg(test)]
 mod tests;
 mod users;
+mod weights;
 mod whole;
