@@ -31,7 +31,8 @@ fn named_net(
     requires driven { first_undriven (record { model = model; inputs = inputs; tables = tables; outputs = outputs }) ≡ None }
     requires grounded { first_ungrounded (length inputs) tables ≡ None }
     ensures ok { IfOk result (λ n. named (record { model = model; inputs = inputs; tables = tables; outputs = outputs }) ≡ Ok n) }
-    ensures err { IfErr result (λ told. Tells told (named (record { model = model; inputs = inputs; tables = tables; outputs = outputs }))) }
+    ensures err { IfErr result
+        (λ told. Tells told (named (record { model = model; inputs = inputs; tables = tables; outputs = outputs }))) }
 {
     match Net::from_parts(alloc, model, inputs, tables, outputs) {
         Ok(net) => Ok(net),

@@ -16,6 +16,8 @@ mod place_names;
 mod ports;
 pub mod reading;
 pub mod refusal;
+#[cfg(test)]
+mod rows;
 mod sections;
 mod signals;
 mod symbol;

@@ -70,7 +70,8 @@ impl<'a> SymbolTexts<'a> {
         requires sizes { (length self.old.inputs ≡ header.now.inputs) × (length self.old.outputs ≡ header.now.outputs) }
         ensures new { (symbols : List SymbolValue) → IsSymbolTexts header.now symbols self.old → result ≡ is_new symbols symbol.now }
         ensures added { result ≡ true
-            → (symbols : List SymbolValue) → IsSymbolTexts header.now symbols self.old → IsSymbolTexts header.now (symbol.now ∷ symbols) self.new }
+            → (symbols : List SymbolValue) → IsSymbolTexts header.now symbols self.old
+            → IsSymbolTexts header.now (symbol.now ∷ symbols) self.new }
     {
         let place = symbol.place as usize;
         if symbol.letter == b'i' {

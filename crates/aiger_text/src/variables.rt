@@ -1,5 +1,5 @@
 //! The variables that a circuit defines, numbered in order and found by themselves.
-ghost use Rattle.std.specs.Prelude.{◌≡◌, ◌<◌, ◌≤◌, ◌+◌, ◌/◌, ◌^◌, true, not, ◌||◌, ◌==◌, [], ◌∷◌, ◌++◌, Result, None, IfOk, OnOk, IfErr, length, map, position};
+ghost use Rattle.std.specs.Prelude.{◌≡◌, ◌<◌, ◌≤◌, ◌+◌, ◌/◌, ◌^◌, true, not, ◌||◌, ◌==◌, [], ◌∷◌, ◌++◌, Result, None, IfOk, OnOk, IfErr, length, map};
 ghost use Rattle.std.specs.List.{find, flat_map};
 ghost use Rattle.semantics.specs.Net.{NetValue};
 ghost use Rattle.aiger_semantics.specs.CircuitLines.{Refusal, twice, undefined};
@@ -66,13 +66,6 @@ impl Variables {
             }
         }
         Ok(all)
-    }
-
-    /// The place of a variable.
-    fn place(&self, variable: u32) -> Option<usize>
-        ensures { result ≡ position (λ v. v == variable) self.now }
-    {
-        self.variables.get_index_of(&variable)
     }
 
     /// The signal of a variable, which is that of its place.

@@ -9,3 +9,4 @@ pub mod Held
 pub mod Refuted
 pub mod Steps
 pub mod Walk
+pub mod Behind

@@ -1,2 +1,4 @@
 pub mod Cases
 pub mod Rooms
+pub mod Behind
+pub mod Trees

@@ -160,7 +160,8 @@ fn push_table(
     requires ids { sum_by table_clause_count net.now.tables < 2 ^ 62 }
     ensures hints { OnOk result (hints.new.items ≡ hints.old.items
         ++ reverse (if slice_index_or needed.old (input_count net.now + i) false
-        then hints_from (slice_index (first_ids 1 net.now.tables) i) (input_count net.now + i) (table_at net.now.tables i) (λ s. slice_index_or vals.now s false)
+        then hints_from (slice_index (first_ids 1 net.now.tables) i) (input_count net.now + i) (table_at net.now.tables i)
+        (λ s. slice_index_or vals.now s false)
         else [])) }
     ensures asked { OnOk result (needed.new ≡ (if slice_index_or needed.old (input_count net.now + i) false
         then asked_by_table (input_count net.now + i) (table_at net.now.tables i) (λ s. slice_index_or vals.now s false)

@@ -2,4 +2,5 @@
 #![tactic(auto)]
 
 mod hints;
+mod lanes;
 pub mod refute;

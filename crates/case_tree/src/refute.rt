@@ -1,15 +1,17 @@
 //! A refutation by cases: each input vector's negation is derived, and then two clauses at a time are joined.
 ghost use Rattle.std.specs.Prelude.{◌≡◌, ℕ, ◌+◌, ◌-◌, ◌<◌, ◌≤◌, ◌^◌, Bool, false, List, [], ◌∷◌, ◌++◌, length, take, slice_index, sum_by, IfOk, OnOk};
-ghost use Rattle.semantics.specs.Net.{input_count};
-ghost use Rattle.semantics.specs.Order.{IsOrderOf};
+ghost use Rattle.semantics.specs.Net.{input_count, signal_count};
 ghost use Rattle.semantics.specs.Value.{outputs_of};
 ghost use Rattle.proof_semantics.specs.Formula.{goal_of};
 ghost use Rattle.proof_semantics.specs.Logs.{Refutes, IsDerivation};
-ghost use Rattle.proof_semantics.specs.Variables.{table_clause_count};
-ghost use Rattle.case_tree.specs.Cases.{negation_from, negation, first_ids, vector_step, join_step, step_count, cases_from};
+ghost use Rattle.case_tree.specs.Cases.{negation_from, negation, vector_step, join_step, step_count, cases_from};
+ghost use Rattle.case_tree.specs.Behind.{AreValuesBehind};
 ghost use Rattle.case_tree.specs.Rooms.{FitsRoom};
+ghost use Rattle.case_tree.specs.Trees.{IsTree};
 
 use crate::hints::{Room, first_ids, room_for, vector_hints};
+use crate::lanes::{lane_of, set_vals, set_values_behind};
+use lane_bits::patterns::Patterns;
 use net_core::items::Items;
 use net_core::net::Net;
 use proof_parts::clause::Lits;
@@ -17,6 +19,9 @@ use proof_parts::cnf::Cnf;
 use proof_parts::literal::literal_at;
 use proof_parts::log::{Item, Log, Step};
 use std::alloc::{AllocError, Global};
+
+/// How many inputs have all their vectors side by side, in a word of 64 bits.
+const SIDE_BY_SIDE: u32 = 6;
 
 /// The clause that is false exactly where the first inputs have these bits.
 fn negation(alloc: Global, front: &[bool]) -> Result<Lits, AllocError>
@@ -30,29 +35,55 @@ fn negation(alloc: Global, front: &[bool]) -> Result<Lits, AllocError>
     Ok(clause)
 }
 
-/// The step that derives the negation of the input vector `x`.
+/// A net, an order of its tables, the ids of their first clauses, and all vectors of its last inputs, of which so many bits are given
+/// side by side.
+#[derive(Drop)]
+struct Tree<'a> {
+    net: &'a Net,
+    order: &'a [u32],
+    firsts: &'a [u64],
+    rest: &'a Patterns,
+}
+
+/// The step that derives the negation of the input vector `x`, where `words` are the values behind its first bits.
 fn vector_step(
     alloc: Global,
     id: u64,
-    net: &Net,
-    order: &[u32],
-    firsts: &[u64],
+    tree: &Tree,
+    words: &[u64],
     room: &mut Room,
     x: &[bool],
 ) -> Result<Step, AllocError>
-    requires width { length x.now ≡ input_count net.now }
-    requires few_inputs { length x.now ≤ 15 }
-    requires order { IsOrderOf (input_count net.now) net.now.tables order.now }
-    requires firsts { firsts.now ≡ first_ids 1 net.now.tables }
-    requires ids { sum_by table_clause_count net.now.tables < 2 ^ 62 }
-    requires room { FitsRoom net.now room.old }
-    ensures step { IfOk result
-        (λ s. s ≡ vector_step id (input_count net.now) net.now.tables order.now (slice_index net.now.outputs 0) x.now) }
-    ensures room { FitsRoom net.now room.new }
+    requires tree { IsTree tree.now }
+    requires width { length x.now ≡ input_count tree.now.net.now }
+    requires values { AreValuesBehind tree.now.net.now (take (length x.now - tree.now.rest.now.inputs) x.now) words.now }
+    requires words { length words.now ≡ signal_count tree.now.net.now }
+    requires room { FitsRoom tree.now.net.now room.old }
+    ensures step { IfOk result (λ s. s ≡ vector_step id (input_count tree.now.net.now) tree.now.net.now.tables tree.now.order.now
+        (slice_index tree.now.net.now.outputs 0) x.now) }
+    ensures room { FitsRoom tree.now.net.now room.new }
 {
-    net.eval(x, &mut room.vals);
-    let hints = vector_hints(alloc, net, order, firsts, room)?;
+    let front = x.len() - tree.rest.inputs() as usize;
+    set_vals(words, lane_of(&x[front..]), &mut room.vals);
+    let hints = vector_hints(alloc, tree.net, tree.order, tree.firsts, room)?;
     Ok(Step::new(id, negation(alloc, x)?, hints))
+}
+
+/// Finds the values behind the first bits of `x` where the way has come to their end.
+fn reach_values(tree: &Tree, x: &[bool], depth: usize, words: &mut [u64])
+    requires tree { IsTree tree.now }
+    requires width { length x.now ≡ input_count tree.now.net.now }
+    requires words { length words.old ≡ signal_count tree.now.net.now }
+    requires there { length x.now - tree.now.rest.now.inputs < depth
+        → AreValuesBehind tree.now.net.now (take (length x.now - tree.now.rest.now.inputs) x.now) words.old }
+    ensures values { length x.now - tree.now.rest.now.inputs ≤ depth
+        → AreValuesBehind tree.now.net.now (take (length x.now - tree.now.rest.now.inputs) x.now) words.new }
+    ensures same { length x.now - tree.now.rest.now.inputs < depth → words.new ≡ words.old }
+{
+    let front = x.len() - tree.rest.inputs() as usize;
+    if depth == front {
+        set_values_behind(tree.net, &x[..front], tree.rest, words);
+    }
 }
 
 /// The step that joins the clauses of two ids, which differ in the sign of the literal behind this front.
@@ -73,41 +104,43 @@ fn join_step(
 }
 
 /// Adds the steps behind the id `last` that derive the negation of the first `depth` bits of `x`, and answers the last one's id;
-/// `x` holds bits on the way.
+/// `x` holds bits on the way, and `words` the values behind its first bits.
 fn push_cases(
     alloc: Global,
-    net: &Net,
-    order: &[u32],
-    firsts: &[u64],
+    tree: &Tree,
+    words: &mut [u64],
     room: &mut Room,
     x: &mut [bool],
     depth: usize,
     last: u64,
     log: &mut Log,
 ) -> Result<u64, AllocError>
-    requires width { length x.old ≡ input_count net.now }
-    requires few_inputs { length x.old ≤ 15 }
+    requires tree { IsTree tree.now }
+    requires width { length x.old ≡ input_count tree.now.net.now }
     requires depth { depth ≤ length x.old }
-    requires order { IsOrderOf (input_count net.now) net.now.tables order.now }
-    requires firsts { firsts.now ≡ first_ids 1 net.now.tables }
-    requires clauses { sum_by table_clause_count net.now.tables < 2 ^ 62 }
     requires ids { last + step_count (length x.old - depth) < 2 ^ 63 }
-    requires room { FitsRoom net.now room.old }
+    requires words { length words.old ≡ signal_count tree.now.net.now }
+    requires values { length x.old - tree.now.rest.now.inputs < depth
+        → AreValuesBehind tree.now.net.now (take (length x.old - tree.now.rest.now.inputs) x.old) words.old }
+    requires room { FitsRoom tree.now.net.now room.old }
     ensures log { OnOk result (log.new ≡ log.old
-        ++ cases_from (input_count net.now) net.now.tables order.now (slice_index net.now.outputs 0) (length x.old - depth) (take depth x.old) last) }
+        ++ cases_from (input_count tree.now.net.now) tree.now.net.now.tables tree.now.order.now (slice_index tree.now.net.now.outputs 0)
+        (length x.old - depth) (take depth x.old) last) }
     ensures last { IfOk result (λ id. id ≡ last + step_count (length x.old - depth)) }
     ensures front { OnOk result (take depth x.new ≡ take depth x.old) }
-    ensures room { FitsRoom net.now room.new }
+    ensures words { OnOk result (length x.old - tree.now.rest.now.inputs < depth → words.new ≡ words.old) }
+    ensures room { FitsRoom tree.now.net.now room.new }
 {
+    reach_values(tree, x, depth, words);
     if depth == x.len() {
         let id = last + 1;
-        log.push(Item::Add(vector_step(alloc, id, net, order, firsts, room, x)?))?;
+        log.push(Item::Add(vector_step(alloc, id, tree, words, room, x)?))?;
         return Ok(id);
     }
     x[depth] = false;
-    let half = push_cases(alloc, net, order, firsts, room, x, depth + 1, last, log)?;
+    let half = push_cases(alloc, tree, words, room, x, depth + 1, last, log)?;
     x[depth] = true;
-    let other = push_cases(alloc, net, order, firsts, room, x, depth + 1, half, log)?;
+    let other = push_cases(alloc, tree, words, room, x, depth + 1, half, log)?;
     let id = other + 1;
     log.push(Item::Add(join_step(alloc, id, &x[..depth], half, other)?))?;
     Ok(id)
@@ -131,20 +164,21 @@ pub fn refute(alloc: Global, joint: &Net, goal: &Cnf) -> Result<Log, AllocError>
     ensures derivation { IfOk result (λ log. IsDerivation goal.now log) }
 {
     let last = clause_count(goal);
-    let mut x = vec![in alloc; false; joint.inputs() as usize]?;
-    let firsts = first_ids(alloc, joint)?;
+    let inputs = joint.inputs();
+    let mut x = vec![in alloc; false; inputs as usize]?;
+    let mut words = vec![in alloc; 0; joint.signals() as usize]?;
     let mut room = room_for(alloc, joint)?;
     let mut log = Items::new(alloc);
+    let firsts = first_ids(alloc, joint)?;
+    let rest = Patterns::exhaustive(alloc, inputs.min(SIDE_BY_SIDE))?;
+    let tree = Tree {
+        net: joint,
+        order: joint.order(),
+        firsts: firsts.as_slice(),
+        rest: &rest,
+    };
     push_cases(
-        alloc,
-        joint,
-        joint.order(),
-        firsts.as_slice(),
-        &mut room,
-        &mut x,
-        0,
-        last,
-        &mut log,
+        alloc, &tree, &mut words, &mut room, &mut x, 0, last, &mut log,
     )?;
     Ok(log)
 }

@@ -5,17 +5,21 @@ use blif_text::refusal::BlifRefusal;
 use std::alloc::{AllocError, Global};
 use std::test::Fail;
 
-/// A full adder up to its first use of a half adder, which is line 4.
+/// A full adder up to its first use of a half adder, which is line 4, and the rest of it.
 const FULL_ADDER: &[u8] = b".model fa\n.inputs a b c\n.outputs s co\n";
 
-const REST: &[u8] =
-    b".subckt ha a=t b=c s=s c=v\n.names u v co\n1- 1\n-1 1\n.end\n.model ha\n.inputs a b\n.outputs s c\n.names a b s\n10 1\n01 1\n.names a b c\n11 1\n";
+const REST: &[u8] = b".subckt ha a=t b=c s=s c=v\n.names u v co\n1- 1\n-1 1\n.end\n";
+
+/// A half adder but for its end.
+const HALF_ADDER: &[u8] =
+    b".model ha\n.inputs a b\n.outputs s c\n.names a b s\n10 1\n01 1\n.names a b c\n11 1\n";
 
 /// The full adder with this line as its fourth, and this one as the last of the half adder.
 fn text_with(alloc: Global, line: &[u8], last: &[u8]) -> Result<Vec<u8>, AllocError> {
     let mut text = Vec::from_slice(alloc, FULL_ADDER)?;
     text.extend_from_slice(line)?;
     text.extend_from_slice(REST)?;
+    text.extend_from_slice(HALF_ADDER)?;
     text.extend_from_slice(last)?;
     Ok(text)
 }
