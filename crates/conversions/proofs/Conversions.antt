@@ -6,9 +6,9 @@ use Rattle.outside_semantics.specs.Outside.{FilesTold, SinkTold, bytes_of}
 use Rattle.outside_semantics.specs.WrittenFiles.{FilesWritten, FilesCutShort}
 use Rattle.file_reading.specs.Reading.{FilesStay, FileFailed}
 use Rattle.job_semantics.specs.Synthesis.{IsUntouched, InputReadFault, AreFilesSteady, IsQuiet}
-use Rattle.job_semantics.specs.Conversion.{output_file, Converted, ConversionCutShort, ConversionEnd, done, refused, out_of_memory, not_read, not_written, IsQuietConversion}
+use Rattle.job_semantics.specs.Conversion.{output_file, ConversionCutShort, ConversionEnd, done, refused, out_of_memory, not_read, not_written, IsQuietConversion}
 use Rattle.job_answers.specs.declared.status.Status.{Status}
-use Rattle.job_answers.specs.declared.status.Status.TheVariants.{Done, Verified, Refuted, Usage, Text, NoMemory, Budget, ReadFault, WriteFault, Endless}
+use Rattle.job_answers.specs.declared.status.Status.TheVariants.{Done, NoMemory, ReadFault}
 use Rattle.conversions.specs.Input.{FrontRead, FrontUnread}
 use Rattle.job_answers.specs.Ends.{EndsWell}
 use Rattle.job_answers.specs.Refused.{IsRefusal}

@@ -1,5 +1,5 @@
 -- What the writing of one file comes to, and what it comes to where another file was read before it.
-use Rattle.std.proofs.Common.{◌≡◌, true, false, ◌&&◌, List, [], ◌∷◌, take, Some, inl, inr, refl, sym, ap, subst, ◌∙◌, arith}
+use Rattle.std.proofs.Common.{◌≡◌, true, false, ◌&&◌, List, [], ◌∷◌, take, Some, inl, inr, refl, ap, subst, ◌∙◌, arith}
 use Rattle.std.specs.FinMap.{insert}
 use Rattle.std.proofs.lemmas.Bool.{false_from_ne_true}
 use Rattle.semantics.specs.Texts.{Bytes}
@@ -7,7 +7,6 @@ use Rattle.outside_semantics.specs.Outside.{Held, FilesTold, Goes, Created, Crea
 use Rattle.outside_semantics.specs.WrittenFiles.{File, with_files, are_steady, FilesWritten, IsCutShort, FilesCutShort}
 use Rattle.outside_semantics.proofs.HeldFiles.{get-insert_same, insert-insert}
 use Rattle.file_core.proofs.Told.{Goes-Goes, held_before}
-use Rattle.file_reading.specs.Reading.{FilesStay}
 use Rattle.job_semantics.specs.Conversion.{output_file}
 
 -- a text that is added to a file just created is the file

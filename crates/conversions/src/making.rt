@@ -2,12 +2,16 @@
 ghost use Rattle.std.specs.Prelude.{◌≡◌, Ok, IfOk, IfErr};
 ghost use Rattle.job_semantics.specs.Input.{input_reading};
 ghost use Rattle.blif_text.specs.Refusals as blif;
-ghost use Rattle.conversions.specs.Texts.{circuit_reading};
+ghost use Rattle.hier_blif.specs.Refusals as hier;
+ghost use Rattle.conversions.specs.Texts.{circuit_reading, flat_reading};
 
 use crate::input::INPUT_LIMIT;
 use aiger_text::ands::Ands;
 use blif_text::reading::read_blif;
 use blif_text::refusal::BlifRefusal;
+use hier_blif::reading::read_hier;
+use hier_blif::refusal::HierRefusal;
+use net_core::net::Net;
 use std::alloc::Global;
 
 /// The circuit of the net of a text.
@@ -23,4 +27,16 @@ pub(crate) fn circuit(alloc: Global, text: &[u8]) -> Result<Ands, BlifRefusal>
         Ok(circuit) => Ok(circuit),
         Err(_) => Err(BlifRefusal::OutOfMemory),
     }
+}
+
+/// The flat net of the hierarchy of a text.
+pub(crate) fn flat_net(alloc: Global, text: &[u8]) -> Result<Net, HierRefusal>
+    ensures ok { IfOk result (λ net. flat_reading text.now ≡ Ok net) }
+    ensures err { IfErr result (λ told. hier.Tells told (flat_reading text.now)) }
+{
+    let hierarchy = match read_hier(alloc, text, INPUT_LIMIT as u64) {
+        Ok(hierarchy) => hierarchy,
+        Err(reason) => return Err(reason),
+    };
+    hierarchy.flatten(alloc)
 }

@@ -1,5 +1,6 @@
 //! OUT is created, and its text is appended. Nothing here takes memory.
 ghost use Rattle.std.specs.Prelude.{◌≡◌, [], ◌∷◌, OnOk, OnErr};
+ghost use Rattle.semantics.specs.Blif.{blif_text};
 ghost use Rattle.aiger_semantics.specs.Text.{aiger_text};
 ghost use Rattle.outside_semantics.specs.WrittenFiles.{FilesWritten, FilesCutShort};
 ghost use Rattle.job_semantics.specs.Conversion.{output_file};
@@ -7,9 +8,11 @@ ghost use Rattle.conversions.specs.Answers.{answer_of_writing};
 
 use aiger_text::ands::Ands;
 use aiger_text::writing::write_aiger;
+use blif_text::writing::write_blif;
 use file_core::fault::FileFault;
 use file_core::files::Files;
 use job_answers::status::Status;
+use net_core::net::Net;
 
 /// Makes the file with the text of a circuit.
 pub fn write_circuit<F: Files>(
@@ -24,6 +27,17 @@ pub fn write_circuit<F: Files>(
 {
     files.create(output)?;
     write_aiger(circuit, files)
+}
+
+/// Makes the file with the text of a net.
+pub fn write_netlist<F: Files>(net: &Net, output: &[u8], files: &mut F) -> Result<(), FileFault>
+    ensures ok { OnOk result
+        (FilesWritten (F.told files.old) (F.told files.new) (output_file output.now (blif_text net.now) ∷ [])) }
+    ensures err { OnErr result
+        (FilesCutShort (F.told files.old) (F.told files.new) (output_file output.now (blif_text net.now) ∷ [])) }
+{
+    files.create(output)?;
+    write_blif(net, files)
 }
 
 /// The answer for what the writing of OUT came to.

@@ -1,7 +1,7 @@
 -- The exit number of each answer. Source: this tool's own table.
 use Rattle.std.specs.Prelude.{ℕ}
 use Rattle.job_answers.specs.declared.status.Status.{Status}
-use Rattle.job_answers.specs.declared.status.Status.TheVariants.{Done, Verified, Refuted, Usage, Text, NoMemory, Budget, ReadFault, WriteFault, Endless}
+use Rattle.job_answers.specs.declared.status.Status.TheVariants.{Done, Verified, Refuted, Usage, Text, NoMemory, Budget, ReadFault, WriteFault, Endless, Hier, Aiger}
 
 abbrev pub exit_number : Status → ℕ
 exit_number Done = 0
@@ -14,3 +14,5 @@ exit_number ReadFault = 5
 exit_number WriteFault = 6
 exit_number (Refuted number) = 7
 exit_number Endless = 8
+exit_number (Hier reason) = 10
+exit_number (Aiger reason) = 11

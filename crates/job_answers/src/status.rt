@@ -2,7 +2,9 @@
 ghost use Rattle.std.specs.Prelude.{◌≡◌};
 ghost use Rattle.job_answers.specs.Exit.{exit_number};
 
+use aiger_text::refusal::AigerRefusal;
 use blif_text::refusal::BlifRefusal;
+use hier_blif::refusal::HierRefusal;
 use std::fmt;
 
 /// The answer of a run.
@@ -28,6 +30,10 @@ pub enum Status {
     WriteFault,
     /// A file of the bundle goes on past the budget of turns.
     Endless,
+    /// The input is refused as a hierarchy of models.
+    Hier(HierRefusal),
+    /// The input is refused as an AND circuit.
+    Aiger(AigerRefusal),
 }
 
 impl Status {
@@ -45,6 +51,8 @@ impl Status {
             Status::WriteFault => 6,
             Status::Refuted(_) => 7,
             Status::Endless => 8,
+            Status::Hier(_) => 10,
+            Status::Aiger(_) => 11,
         }
     }
 }
@@ -58,9 +66,11 @@ impl fmt::Display for Status {
             Status::Refuted(number) => write!(f, "refuted by clause {number}"),
             Status::Endless => f.write_str("input without end"),
             Status::Usage => f.write_str(
-                "usage: synth METRIC BOUND CONFLICTS IN STEM, check METRIC BOUND IN STEM, aag IN OUT, trim METRIC BOUND IN STEM OUT, or demo WIDTH BOUND CONFLICTS",
+                "usage: synth METRIC BOUND CONFLICTS IN STEM, check METRIC BOUND IN STEM, flat IN OUT, aag IN OUT, blif IN OUT, trim METRIC BOUND IN STEM OUT, or demo WIDTH BOUND CONFLICTS",
             ),
             Status::Text(reason) => reason.fmt(f),
+            Status::Hier(reason) => write!(f, "hierarchy refusal {}", reason.number()),
+            Status::Aiger(reason) => write!(f, "aiger refusal {}", reason.number()),
             Status::NoMemory => f.write_str("out of memory"),
             Status::Budget => f.write_str("conflicts spent"),
             Status::ReadFault => f.write_str("read fault"),

@@ -3,7 +3,7 @@ use Rattle.std.proofs.Common.{◌≡◌, Bool, true, false, List, [], ◌∷◌,
 use Rattle.std.specs.Prelude.{IsTrue, IfSome, bytes_eq, codes}
 use Rattle.semantics.specs.Texts.{Bytes}
 use Rattle.semantics.specs.Optional.{◌>>=◌}
-use Rattle.job_semantics.specs.Job.{Job, synth, check, demo, aag, trim, metric_of, bound_of, conflicts_of, width_of, are_file_words, are_conversion_words, are_trim_words, synth_of, check_of, demo_of, conversion_of, trim_of, job_of}
+use Rattle.job_semantics.specs.Job.{Job, synth, check, demo, flat, aag, blif, trim, metric_of, bound_of, conflicts_of, width_of, are_file_words, are_conversion_words, are_trim_words, synth_of, check_of, demo_of, conversion_of, trim_of, job_of}
 use Rattle.job_semantics.specs.CheckingLaws.{FileWordsLaw}
 
 -- the job's files are named as they must be
@@ -11,7 +11,9 @@ abbrev NamesFiles : Job → Type 0
 NamesFiles (synth metric bound conflicts input stem) = IsTrue (are_file_words input stem)
 NamesFiles (check metric bound input stem) = IsTrue (are_file_words input stem)
 NamesFiles (demo width bound conflicts) = Unit {0}
+NamesFiles (flat input output) = IsTrue (are_conversion_words input output)
 NamesFiles (aag input output) = IsTrue (are_conversion_words input output)
+NamesFiles (blif input output) = IsTrue (are_conversion_words input output)
 NamesFiles (trim metric bound input stem output) = IsTrue (are_trim_words input stem output)
 
 after : {A : Type 0} (o : Option A) (f : A → Option Job) → ((a : A) → IfSome (f a) NamesFiles) → IfSome (o >>= f) NamesFiles
@@ -75,8 +77,10 @@ job_names (command ∷ words) =
     either (bytes_eq command (codes "synth")) (synth_of words) _ (λ is. synth_names words)
     (either (bytes_eq command (codes "check")) (check_of words) _ (λ is. check_names words)
     (either (bytes_eq command (codes "demo")) (demo_of words) _ (λ is. demo_names words)
+    (either (bytes_eq command (codes "flat")) (conversion_of flat words) _ (λ is. conversion_names flat (λ input output named. named) words)
     (either (bytes_eq command (codes "aag")) (conversion_of aag words) _ (λ is. conversion_names aag (λ input output named. named) words)
-    (either (bytes_eq command (codes "trim")) (trim_of words) None (λ is. trim_names words) tt))))
+    (either (bytes_eq command (codes "blif")) (conversion_of blif words) _ (λ is. conversion_names blif (λ input output named. named) words)
+    (either (bytes_eq command (codes "trim")) (trim_of words) None (λ is. trim_names words) tt))))))
 
 names_of : (words : List Bytes) (job : Job) → job_of words ≡ Some job → NamesFiles job
 names_of words job named = subst (λ (o : Option Job). IfSome o NamesFiles) named (job_names words)
@@ -85,6 +89,8 @@ pub file_words_law : FileWordsLaw
 file_words_law = record {
   synthesis = λ words metric bound conflicts input stem named. names_of words _ named;
   checking = λ words metric bound input stem named. names_of words _ named;
+  flat_conversion = λ words input output named. names_of words _ named;
   conversion = λ words input output named. names_of words _ named;
+  blif_conversion = λ words input output named. names_of words _ named;
   trimming = λ words metric bound input stem output named. names_of words _ named;
 }

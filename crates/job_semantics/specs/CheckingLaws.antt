@@ -5,7 +5,7 @@ use Rattle.semantics.specs.Net.{NetValue}
 use Rattle.semantics.specs.declared.metric.Metric.{Metric}
 use Rattle.outside_semantics.specs.Outside.{Held, FilesTold, SinkTold, WhereTold, bytes_of}
 use Rattle.proof_semantics.specs.Queries.{SpentValue}
-use Rattle.job_semantics.specs.Job.{synth, check, aag, trim, are_file_words, are_conversion_words, are_trim_words, job_of}
+use Rattle.job_semantics.specs.Job.{synth, check, flat, aag, blif, trim, are_file_words, are_conversion_words, are_trim_words, job_of}
 use Rattle.job_semantics.specs.Input.{IsReadAs}
 use Rattle.job_semantics.specs.Certificate.{texts_of, Certifies}
 use Rattle.job_semantics.specs.Synthesis.{SynthDone}
@@ -18,8 +18,12 @@ pub record FileWordsLaw : Type 0 where
       → job_of words ≡ Some (synth metric bound conflicts input stem) → IsTrue (are_file_words input stem)
   pub checking : (words : List Bytes) (metric : Metric) (bound : ℕ) (input stem : Bytes)
       → job_of words ≡ Some (check metric bound input stem) → IsTrue (are_file_words input stem)
+  pub flat_conversion : (words : List Bytes) (input output : Bytes)
+      → job_of words ≡ Some (flat input output) → IsTrue (are_conversion_words input output)
   pub conversion : (words : List Bytes) (input output : Bytes)
       → job_of words ≡ Some (aag input output) → IsTrue (are_conversion_words input output)
+  pub blif_conversion : (words : List Bytes) (input output : Bytes)
+      → job_of words ≡ Some (blif input output) → IsTrue (are_conversion_words input output)
   pub trimming : (words : List Bytes) (metric : Metric) (bound : ℕ) (input stem output : Bytes)
       → job_of words ≡ Some (trim metric bound input stem output) → IsTrue (are_trim_words input stem output)
 

@@ -6,7 +6,7 @@ use Rattle.semantics.specs.Vectors.{all_vectors}
 use Rattle.semantics.specs.Examples.{text, half_adder, both_constant, constant_one}
 use Rattle.job_semantics.specs.declared.version.Version.TheVariants.{One, Two}
 use Rattle.job_semantics.specs.Report.{report_text, report_of, vectors_text}
-use Rattle.job_semantics.specs.Job.{synth, check, demo, aag, trim, job_of}
+use Rattle.job_semantics.specs.Job.{synth, check, demo, flat, aag, blif, trim, job_of}
 
 pub record ReportExamples : Type 0 where
   pub both_constant_report :
@@ -60,9 +60,13 @@ pub record JobExamples : Type 0 where
   pub empty_input : job_of (synth_words (codes "abs") (codes "1") (codes "1") [] (codes "b")) ≡ None
   pub empty_stem : job_of (synth_words (codes "abs") (codes "1") (codes "1") (codes "a") []) ≡ None
   pub sign : job_of (synth_words (codes "abs") (codes "-1") (codes "1") (codes "a") (codes "b")) ≡ None
+  pub a_flat : job_of (codes "flat" ∷ codes "a" ∷ codes "b" ∷ []) ≡ Some (flat (codes "a") (codes "b"))
   pub an_aag : job_of (codes "aag" ∷ codes "a" ∷ codes "b" ∷ []) ≡ Some (aag (codes "a") (codes "b"))
+  pub a_blif : job_of (codes "blif" ∷ codes "a" ∷ codes "b" ∷ []) ≡ Some (blif (codes "a") (codes "b"))
   pub a_trim : job_of (trim_words (codes "a") (codes "b") (codes "c")) ≡ Some (trim Sabs 7 (codes "a") (codes "b") (codes "c"))
   pub onto_itself : job_of (codes "aag" ∷ codes "a" ∷ codes "a" ∷ []) ≡ None
+  pub flattened_onto_itself : job_of (codes "flat" ∷ codes "a" ∷ codes "a" ∷ []) ≡ None
+  pub read_back_onto_itself : job_of (codes "blif" ∷ codes "a" ∷ codes "a" ∷ []) ≡ None
   pub from_nothing : job_of (codes "aag" ∷ [] ∷ codes "b" ∷ []) ≡ None
   pub into_nothing : job_of (codes "aag" ∷ codes "a" ∷ [] ∷ []) ≡ None
   pub one_word : job_of (codes "aag" ∷ codes "a" ∷ []) ≡ None

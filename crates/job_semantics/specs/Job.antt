@@ -12,8 +12,12 @@ pub data Job : Type 0 where
   synth : Metric → (bound conflicts : ℕ) → (input stem : Bytes) → Job
   check : Metric → (bound : ℕ) → (input stem : Bytes) → Job
   demo : (width bound conflicts : ℕ) → Job
+  -- a hierarchy of models is turned into one flat net
+  flat : (input output : Bytes) → Job
   -- a net is turned into an AND circuit
   aag : (input output : Bytes) → Job
+  -- an AND circuit is turned into a net
+  blif : (input output : Bytes) → Job
   -- the log of a bundle is trimmed
   trim : Metric → (bound : ℕ) → (input stem output : Bytes) → Job
 
@@ -101,6 +105,8 @@ job_of (command ∷ words) =
     if bytes_eq command (codes "synth") then synth_of words
     else (if bytes_eq command (codes "check") then check_of words
     else (if bytes_eq command (codes "demo") then demo_of words
+    else (if bytes_eq command (codes "flat") then conversion_of flat words
     else (if bytes_eq command (codes "aag") then conversion_of aag words
+    else (if bytes_eq command (codes "blif") then conversion_of blif words
     else (if bytes_eq command (codes "trim") then trim_of words
-    else None))))
+    else None))))))

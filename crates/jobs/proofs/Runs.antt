@@ -6,16 +6,16 @@ use Rattle.semantics.specs.declared.metric.Metric.{Metric}
 use Rattle.semantics.specs.declared.metric.Metric.TheVariants.{Abs}
 use Rattle.outside_semantics.specs.Outside.{FilesTold, SinkTold}
 use Rattle.proof_semantics.specs.Queries.{SpentValue}
-use Rattle.job_semantics.specs.Job.{Job, synth, check, demo, aag, trim, job_of}
+use Rattle.job_semantics.specs.Job.{Job, synth, check, demo, flat, aag, blif, trim, job_of}
 use Rattle.job_semantics.specs.Demo.{demo_net}
 use Rattle.job_semantics.specs.Demonstration.{demo_stem}
 use Rattle.job_answers.specs.declared.status.Status.{Status}
 use Rattle.job_answers.specs.declared.status.Status.TheVariants.{Done, Verified, Refuted, Usage, Text, NoMemory, Budget, ReadFault, WriteFault, Endless}
 use Rattle.jobs.specs.declared.status.Outcome.{Outcome}
 use Rattle.jobs.specs.Status.{told_query, SpendsAs, SpendsAsTold}
-use Rattle.job_answers.specs.Refused.{TellsBlif}
-use Rattle.job_answers.proofs.Refusals.{AsksNothing, no_usage_asked, blif_is_refusal}
-use Rattle.conversions.specs.Texts.{aag_text}
+use Rattle.job_answers.specs.Refused.{TellsBlif, TellsHier, TellsAiger}
+use Rattle.job_answers.proofs.Refusals.{AsksNothing, no_usage_asked, blif_is_refusal, hier_is_refusal, aiger_is_refusal}
+use Rattle.conversions.specs.Texts.{flat_text, aag_text, netlist_text}
 use Rattle.conversions.specs.Answers.{ConversionAnswer}
 use Rattle.conversions.proofs.Conversions.{quiet_conversion_ends, conversion_asks_nothing}
 use Rattle.check_jobs.specs.Answers.{CheckAnswer, TrimAnswer}
@@ -88,10 +88,20 @@ module _ {words : List Bytes} {old new : FilesTold} {said says : SinkTold} where
   check-says {metric} {bound} {input} {stem} o status is named answer =
       asking_nothing (check metric bound input stem) o status is named (check_asks_nothing status answer.0 answer.1) answer
 
+  pub flat-says : {input output : Bytes} (o : Outcome) (status : Status) → o ≡ record { status = status; spent = None; level = None }
+      → job_of words ≡ Some (flat input output) → ConversionAnswer flat_text TellsHier input output old new said says status → RunSays words old new said says o
+  flat-says {input} {output} o status is named answer =
+      asking_nothing (flat input output) o status is named (conversion_asks_nothing flat_text TellsHier hier_is_refusal input output status answer.0 answer.1) (answer, (refl, refl))
+
   pub aag-says : {input output : Bytes} (o : Outcome) (status : Status) → o ≡ record { status = status; spent = None; level = None }
       → job_of words ≡ Some (aag input output) → ConversionAnswer aag_text TellsBlif input output old new said says status → RunSays words old new said says o
   aag-says {input} {output} o status is named answer =
       asking_nothing (aag input output) o status is named (conversion_asks_nothing aag_text TellsBlif blif_is_refusal input output status answer.0 answer.1) (answer, (refl, refl))
+
+  pub blif-says : {input output : Bytes} (o : Outcome) (status : Status) → o ≡ record { status = status; spent = None; level = None }
+      → job_of words ≡ Some (blif input output) → ConversionAnswer netlist_text TellsAiger input output old new said says status → RunSays words old new said says o
+  blif-says {input} {output} o status is named answer =
+      asking_nothing (blif input output) o status is named (conversion_asks_nothing netlist_text TellsAiger aiger_is_refusal input output status answer.0 answer.1) (answer, (refl, refl))
 
   pub trim-says : {metric : Metric} {bound : ℕ} {input stem output : Bytes} (o : Outcome) (status : Status) → o ≡ record { status = status; spent = None; level = None }
       → job_of words ≡ Some (trim metric bound input stem output) → TrimAnswer metric bound input stem output old new said says status → RunSays words old new said says o
@@ -111,6 +121,10 @@ quiet_job_ends (synth metric bound conflicts input stem) old new said says o ans
 quiet_job_ends (check metric bound input stem) old new said says o answer quiet = quiet_check_ends o.status answer.0 answer.1 quiet
 quiet_job_ends (demo width bound conflicts) old new said says o answer quiet =
     quiet_demo_ends Abs bound conflicts (demo_net width) old new said says (told_query o.spent) (told_query o.level) o.status answer quiet
+quiet_job_ends (flat input output) old new said says o answer quiet =
+    quiet_conversion_ends flat_text TellsHier hier_is_refusal input output o.status answer.0.0 answer.0.1 quiet
 quiet_job_ends (aag input output) old new said says o answer quiet =
     quiet_conversion_ends aag_text TellsBlif blif_is_refusal input output o.status answer.0.0 answer.0.1 quiet
+quiet_job_ends (blif input output) old new said says o answer quiet =
+    quiet_conversion_ends netlist_text TellsAiger aiger_is_refusal input output o.status answer.0.0 answer.0.1 quiet
 quiet_job_ends (trim metric bound input stem output) old new said says o answer quiet = quiet_trim_ends o.status answer.0.0 answer.0.1 quiet

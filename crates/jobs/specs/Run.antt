@@ -8,7 +8,7 @@ use Rattle.outside_semantics.specs.Outside.{FilesTold, SinkTold}
 use Rattle.blif_semantics.specs.Reading.{Refusal}
 use Rattle.proof_semantics.specs.Conflicts.{IsEnough}
 use Rattle.proof_semantics.specs.Queries.{SpentValue}
-use Rattle.job_semantics.specs.Job.{Job, synth, check, demo, aag, trim, job_of}
+use Rattle.job_semantics.specs.Job.{Job, synth, check, demo, flat, aag, blif, trim, job_of}
 use Rattle.job_semantics.specs.Input.{input_reading, IsRefusedFor}
 use Rattle.job_semantics.specs.Synthesis.{IsUntouched, InputRefused, InputReadFault, BundleWritten, BundleCutShort, MaximumSpent, SynthDone, SynthBudget, SynthWriteFault, IsQuietSynth}
 use Rattle.job_semantics.specs.Checking.{IsQuietCheck}
@@ -20,10 +20,10 @@ use Rattle.blif_text.specs.Refusals.{refusal_of}
 use Rattle.blif_text.specs.declared.refusal.BlifRefusal.{BlifRefusal}
 use Rattle.job_answers.specs.declared.status.Status.{Status}
 use Rattle.job_answers.specs.declared.status.Status.TheVariants.{Done, Usage, Text, NoMemory, Budget, ReadFault, WriteFault}
-use Rattle.job_answers.specs.Refused.{TellsBlif}
+use Rattle.job_answers.specs.Refused.{TellsBlif, TellsHier, TellsAiger}
 use Rattle.job_answers.specs.Ends.{EndsWell}
 use Rattle.check_jobs.specs.Answers.{CheckAnswer, TrimAnswer, Refuses, IsCheckAnswerTo, IsTrimAnswerTo}
-use Rattle.conversions.specs.Texts.{aag_text}
+use Rattle.conversions.specs.Texts.{flat_text, aag_text, netlist_text}
 use Rattle.conversions.specs.Answers.{ConversionAnswer, IsConvertedAs}
 use Rattle.jobs.specs.declared.status.Outcome.{Outcome}
 use Rattle.jobs.specs.Status.{told_query, NothingSpent, SpendsAsTold}
@@ -89,7 +89,9 @@ abbrev pub JobAnswer : Job → FilesTold → FilesTold → SinkTold → SinkTold
 JobAnswer (synth metric bound conflicts input stem) old new said says o = SynthAnswer metric bound conflicts input stem old new said says o
 JobAnswer (check metric bound input stem) old new said says o = CheckAnswer metric bound input stem old new said says o.status
 JobAnswer (demo width bound conflicts) old new said says o = BundleAnswer Abs bound conflicts (demo_net width) demo_stem old new said says o
+JobAnswer (flat input output) old new said says o = ConversionAnswer flat_text TellsHier input output old new said says o.status × AsksNoQuery o
 JobAnswer (aag input output) old new said says o = ConversionAnswer aag_text TellsBlif input output old new said says o.status × AsksNoQuery o
+JobAnswer (blif input output) old new said says o = ConversionAnswer netlist_text TellsAiger input output old new said says o.status × AsksNoQuery o
 JobAnswer (trim metric bound input stem output) old new said says o = TrimAnswer metric bound input stem output old new said says o.status × AsksNoQuery o
 
 -- What every run says, by its words, its answer, and what files and sink told at entry and at exit: words that are no job, and only those, are
@@ -105,7 +107,9 @@ abbrev pub IsQuietJob : Job → FilesTold → FilesTold → SinkTold → SinkTol
 IsQuietJob (synth metric bound conflicts input stem) old new said says = IsQuietSynth input stem old new said says
 IsQuietJob (check metric bound input stem) old new said says = IsQuietCheck metric bound input stem old new said says
 IsQuietJob (demo width bound conflicts) old new said says = IsQuietDemo old new said says
+IsQuietJob (flat input output) old new said says = IsQuietConversion flat_text input output old new said says
 IsQuietJob (aag input output) old new said says = IsQuietConversion aag_text input output old new said says
+IsQuietJob (blif input output) old new said says = IsQuietConversion netlist_text input output old new said says
 IsQuietJob (trim metric bound input stem output) old new said says = IsQuietTrim metric bound input stem output old new said says
 
 -- the job ends without a fault, and as the reading of IN and the conflicts ask, unless memory is wanting
@@ -113,5 +117,7 @@ abbrev pub EndsAsAsked : Job → FilesTold → Outcome → Type 0
 EndsAsAsked (synth metric bound conflicts input stem) old o = EndsWell input_reading (IsAnswerTo conflicts (told_query o.spent)) input old o.status
 EndsAsAsked (check metric bound input stem) old o = EndsWell input_reading IsCheckAnswerTo input old o.status
 EndsAsAsked (demo width bound conflicts) old o = IsWorkOf conflicts (input_count (demo_net width)) (told_query o.spent) o.status
+EndsAsAsked (flat input output) old o = EndsWell flat_text (IsConvertedAs TellsHier) input old o.status
 EndsAsAsked (aag input output) old o = EndsWell aag_text (IsConvertedAs TellsBlif) input old o.status
+EndsAsAsked (blif input output) old o = EndsWell netlist_text (IsConvertedAs TellsAiger) input old o.status
 EndsAsAsked (trim metric bound input stem output) old o = EndsWell input_reading IsTrimAnswerTo input old o.status

@@ -9,7 +9,7 @@ use crate::synthesis::synthesize;
 use crate::words::{Command, command_named};
 use check_jobs::checking::check;
 use check_jobs::trimming::trim_bundle;
-use conversions::conversion::aag;
+use conversions::conversion::{aag, blif, flat};
 use file_core::files::Files;
 use file_core::sink::Sink;
 use file_core::word::Word;
@@ -68,7 +68,9 @@ pub fn carry_out<F: Files, K: Sink, P: Progress>(
             say,
             progress,
         ),
+        Some(Command::Flat { input, output }) => only(flat(alloc, input, output, files)),
         Some(Command::Aag { input, output }) => only(aag(alloc, input, output, files)),
+        Some(Command::Blif { input, output }) => only(blif(alloc, input, output, files)),
         Some(
             Command::Trim {
                 metric,

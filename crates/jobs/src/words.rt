@@ -1,7 +1,7 @@
 //! The words of the command line, and the job that they name.
 ghost use Rattle.std.specs.Prelude.{◌≡◌, option_map, IfSome};
 ghost use Rattle.semantics.specs.Texts.{Bytes};
-ghost use Rattle.job_semantics.specs.Job.{Job, job_of, synth_of, check_of, demo_of, conversion_of, trim_of, aag, metric_of, bound_of, conflicts_of, are_file_words, is_output_word, are_trim_words};
+ghost use Rattle.job_semantics.specs.Job.{Job, job_of, synth_of, check_of, demo_of, conversion_of, trim_of, flat, aag, blif, metric_of, bound_of, conflicts_of, are_file_words, is_output_word, are_trim_words};
 ghost use Rattle.jobs.specs.Words.{job_meaning, HasRanges};
 
 use crate::bundle_names::is_bundle_name;
@@ -31,7 +31,15 @@ pub enum Command<'a> {
         bound: u128,
         conflicts: u32,
     },
+    Flat {
+        input: &'a [u8],
+        output: &'a [u8],
+    },
     Aag {
+        input: &'a [u8],
+        output: &'a [u8],
+    },
+    Blif {
         input: &'a [u8],
         output: &'a [u8],
     },
@@ -159,12 +167,28 @@ fn conversion(words: &[Word]) -> Option<(&[u8], &[u8])>
     Some((input, output))
 }
 
+fn flat(words: &[Word]) -> Option<Command<'_>>
+    ensures job { option_map job_meaning result ≡ conversion_of flat words.now }
+    ensures ranges { IfSome result HasRanges }
+{
+    let (input, output) = conversion(words)?;
+    Some(Command::Flat { input, output })
+}
+
 fn aag(words: &[Word]) -> Option<Command<'_>>
     ensures job { option_map job_meaning result ≡ conversion_of aag words.now }
     ensures ranges { IfSome result HasRanges }
 {
     let (input, output) = conversion(words)?;
     Some(Command::Aag { input, output })
+}
+
+fn blif(words: &[Word]) -> Option<Command<'_>>
+    ensures job { option_map job_meaning result ≡ conversion_of blif words.now }
+    ensures ranges { IfSome result HasRanges }
+{
+    let (input, output) = conversion(words)?;
+    Some(Command::Blif { input, output })
 }
 
 #[tactic(auto, using(crate::proofs::JobWords::number_within))]
@@ -206,8 +230,12 @@ pub fn command_named(words: &[Word]) -> Option<Command<'_>>
         check(rest)
     } else if command == b"demo".as_slice() {
         demo(rest)
+    } else if command == b"flat".as_slice() {
+        flat(rest)
     } else if command == b"aag".as_slice() {
         aag(rest)
+    } else if command == b"blif".as_slice() {
+        blif(rest)
     } else if command == b"trim".as_slice() {
         trim(rest)
     } else {

@@ -4,6 +4,8 @@
 #[cfg(test)]
 mod checked;
 #[cfg(test)]
+mod converted;
+#[cfg(test)]
 mod faults;
 #[cfg(test)]
 mod parts;

@@ -42,6 +42,13 @@ pub(crate) fn words(alloc: Global, line: &[u8]) -> Result<Vec<Word>, AllocError>
     Ok(words)
 }
 
+/// The text of two parts, one after the other.
+pub(crate) fn joined(alloc: Global, first: &[u8], second: &[u8]) -> Result<Vec<u8>, AllocError> {
+    let mut text = Vec::from_slice(alloc, first)?;
+    text.extend_from_slice(second)?;
+    Ok(text)
+}
+
 /// Files that hold `ha.blif` with this text.
 pub(crate) fn holding(alloc: Global, text: &[u8]) -> Result<FileList, AllocError> {
     let mut files = FileList::new(alloc);

@@ -1,14 +1,6 @@
 //! Netlists that are refused, each with its line.
-use crate::parts::{holds, run_on};
-use std::alloc::{AllocError, Global};
+use crate::parts::{holds, joined, run_on};
 use std::test::Fail;
-
-/// The text of two parts, one after the other.
-fn joined(alloc: Global, first: &[u8], second: &[u8]) -> Result<Vec<u8>, AllocError> {
-    let mut text = Vec::from_slice(alloc, first)?;
-    text.extend_from_slice(second)?;
-    Ok(text)
-}
 
 /// Whether the text of the two parts is refused with this line, and nothing is made.
 fn is_refused(rt: &HostRuntime, first: &[u8], second: &[u8], line: &str) -> Result<bool, Fail> {

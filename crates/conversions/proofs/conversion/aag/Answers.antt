@@ -1,6 +1,5 @@
 use Rattle.std.proofs.Common.{ap}
 use Rattle.aiger_semantics.specs.Text.{aiger_text}
-use Rattle.semantics.specs.Blif.{blif_text}
 use Rattle.job_answers.specs.Refused.{TellsBlif}
 use Rattle.conversions.specs.Texts.{made, aag_text}
 use Rattle.conversions.proofs.Texts.{aag_reads_front, aag-refused}

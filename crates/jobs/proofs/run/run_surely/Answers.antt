@@ -5,7 +5,7 @@ use Rattle.semantics.specs.declared.metric.Metric.{Metric}
 use Rattle.semantics.specs.declared.metric.Metric.TheVariants.{Abs}
 use Rattle.outside_semantics.specs.Outside.{Rose}
 use Rattle.proof_semantics.specs.Queries.{SpentValue}
-use Rattle.job_semantics.specs.Job.{Job, synth, check, demo, aag, trim, job_of}
+use Rattle.job_semantics.specs.Job.{Job, synth, check, demo, flat, aag, blif, trim, job_of}
 use Rattle.job_semantics.specs.Synthesis.{BundleCutShort}
 use Rattle.job_semantics.specs.Demo.{demo_net}
 use Rattle.job_semantics.specs.Demonstration.{demo_stem}
@@ -27,7 +27,9 @@ module _ (old new : SureValue) where
   quiet (synth metric bound conflicts input stem) = record { files = inr (record { read = refl; written = λ accepted. refl }); sink = no_rise }
   quiet (check metric bound input stem) = record { files = inr (record { read = refl; bundle = λ ending needed. refl }); sink = no_rise }
   quiet (demo width bound conflicts) = record { files = inr refl; sink = no_rise }
+  quiet (flat input output) = record { files = inr (record { read = refl; written = λ accepted. refl }); sink = no_rise }
   quiet (aag input output) = record { files = inr (record { read = refl; written = λ accepted. refl }); sink = no_rise }
+  quiet (blif input output) = record { files = inr (record { read = refl; written = λ accepted. refl }); sink = no_rise }
   quiet (trim metric bound input stem output) = record {
     files = inr (record { read = record { read = refl; bundle = λ ending needed. refl }; written = λ certified. refl });
     sink = no_rise;
@@ -73,7 +75,9 @@ module _ (old new : SureValue) where
           let ends = well (synth metric bound conflicts input stem) o (says.answer (synth metric bound conflicts input stem) is) in (ends.read, ends.written)
       of_job (Some (check metric bound input stem)) is =
           let ends = well (check metric bound input stem) o (says.answer (check metric bound input stem) is) in (ends.read, ends.written)
+      of_job (Some (flat input output)) is = let ends = well (flat input output) o (says.answer (flat input output) is) in (ends.read, ends.written)
       of_job (Some (aag input output)) is = let ends = well (aag input output) o (says.answer (aag input output) is) in (ends.read, ends.written)
+      of_job (Some (blif input output)) is = let ends = well (blif input output) o (says.answer (blif input output) is) in (ends.read, ends.written)
       of_job (Some (trim metric bound input stem output)) is =
           let ends = well (trim metric bound input stem output) o (says.answer (trim metric bound input stem output) is) in (ends.read, ends.written)
 
