@@ -21,3 +21,5 @@ mod parts;
 mod queries;
 #[cfg(test)]
 mod shrinking;
+#[cfg(test)]
+mod trimmed_logs;
