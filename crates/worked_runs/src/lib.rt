@@ -2,7 +2,11 @@
 #![tactic(auto)]
 
 #[cfg(test)]
+mod bundles;
+#[cfg(test)]
 mod checked;
+#[cfg(test)]
+mod damaged;
 #[cfg(test)]
 mod faults;
 #[cfg(test)]
@@ -13,3 +17,5 @@ mod refused;
 mod simplified;
 #[cfg(test)]
 mod statuses;
+#[cfg(test)]
+mod trimmed;
