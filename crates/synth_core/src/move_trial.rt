@@ -47,7 +47,7 @@ pub(crate) enum Trial {
 pub(crate) fn try_move<P: Progress>(
     alloc: Global,
     nets: &Compared,
-    held: &Option<Reference>,
+    held: &Reference,
     decider: &mut Decider,
     terms: Terms,
     masks: &mut GrowingMasks,

@@ -2,9 +2,10 @@
 //!
 //! A move that some known input vector breaks is refused by the masks of the member, without making the moved net. With few inputs
 //! every vector is known, so the others are allowed. With more the known vectors are those that broke earlier moves, and each other
-//! move is made and asked about: with at most sixteen inputs by a trial of every vector, against right outputs that are made once;
-//! with more by diagrams, which are kept over the whole chain, or by a query. An allowed move is made; then the moved net is tidied, and the moves begin again, since one that was refused
-//! before may be allowed now. The chain ends, since each step removes literals, or with the first query that is spent.
+//! move is made and asked about: by a trial of vectors, against right outputs that are made once, with at most sixteen inputs of every
+//! one; with more then by diagrams, which are kept over the whole chain, or by a query. An allowed move is made; then the moved net
+//! is tidied, and the moves begin again, since one that was refused before may be allowed now. The chain ends, since each step
+//! removes literals, or with the first query that is spent.
 ghost use Rattle.std.specs.Prelude.{◌≡◌, ◌≤◌, length, option_map, IfOk};
 ghost use Rattle.semantics.specs.Net.{input_count, IsSmall};
 ghost use Rattle.job_semantics.specs.Shrinking.{IsShrinking};
@@ -23,7 +24,7 @@ use semantics::metric::Metric;
 use std::alloc::{AllocError, Global};
 use worst_case::policy::decider_for;
 use worst_case::query::Spent;
-use worst_case::vectors_tried::hold_every_vector;
+use worst_case::vectors_tried::hold_vectors;
 
 /// The last member of the chain that was reached, the vectors that break moves, and the query that was spent, if one was.
 #[derive(Drop)]
@@ -68,7 +69,7 @@ pub fn shrink_followed<P: Progress>(
         bound,
         limit,
     };
-    let vectors = hold_every_vector(alloc, net)?;
+    let vectors = hold_vectors(alloc, net)?;
     let held = &vectors;
     let mut decider = decider_for(alloc, net)?;
     let mut pool = first_pool(alloc, net)?;

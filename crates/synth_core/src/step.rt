@@ -63,7 +63,7 @@ fn add_vector(pool: &mut Patterns, masks: &mut GrowingMasks, x: &[bool]) -> Resu
 fn weigh<P: Progress>(
     alloc: Global,
     nets: &Compared,
-    held: &Option<Reference>,
+    held: &Reference,
     decider: &mut Decider,
     terms: Terms,
     pool: &mut Patterns,
@@ -97,7 +97,7 @@ fn weigh<P: Progress>(
 pub(crate) fn find_step<P: Progress>(
     alloc: Global,
     nets: &Compared,
-    held: &Option<Reference>,
+    held: &Reference,
     decider: &mut Decider,
     terms: Terms,
     pool: &mut Patterns,

@@ -6,46 +6,55 @@ use Rattle.semantics.specs.declared.metric.Metric.{Metric}
 use Rattle.semantics.specs.Error.{number_of, net_error, IsWithin}
 use Rattle.semantics.specs.Vectors.{bits_of, all_vectors}
 use Rattle.semantics.proofs.Vectors.{each_vector, length-bits_of, number_of-bits_of, bits_of-number_of, length-all_vectors, slice_get-all_vectors}
+use Rattle.proof_semantics.specs.Queries.{IsOver}
+use Rattle.lane_bits.specs.Patterns.{PatternSet}
 use Rattle.lane_nets.specs.Lanes.{ReferenceValue}
 use Rattle.lane_nets.specs.Errors.{IsFirstOver, FindsFirstOver}
-use Rattle.worst_case.specs.VectorsTried.{every_vector, IsHeldFor, IsFirstExceeded}
+use Rattle.worst_case.specs.declared.vectors_tried.TheConstants.{LANE_INPUTS}
+use Rattle.worst_case.specs.VectorsTried.{IsTrial, IsHeldFor, IsFirstExceeded}
 
 -- vector j stands at place j
 place : (n : ℕ) (vectors : List (List Bool)) → vectors ≡ all_vectors n → (j : ℕ) → j < 2 ^ n → slice_index_or vectors j [] ≡ bits_of n j
 place n vectors all j below = ap (λ v. slice_index_or v j []) all ∙ get_or_from_slice_get (all_vectors n) j (bits_of n j) [] (slice_get-all_vectors n j below)
 
-module _ (metric : Metric) (N M : NetValue) (k : ℕ) (vectors : List (List Bool)) (all : vectors ≡ all_vectors (input_count N)) where
-  pub IsFirstExceeded-at : (at : ℕ) (x : List Bool) → IsFirstOver metric N M k vectors at → x ≡ slice_index_or vectors at [] → IsFirstExceeded metric N M k x
-  IsFirstExceeded-at at x h is =
+module _ (metric : Metric) (N M : NetValue) (k : ℕ) (vectors : List (List Bool)) where
+  pub IsFirstExceeded-at : (input_count N ≤ LANE_INPUTS → vectors ≡ all_vectors (input_count N)) → (at : ℕ) (x : List Bool) → IsFirstOver metric N M k vectors at → x ≡ slice_index_or vectors at []
+      → length x ≡ input_count N → IsFirstExceeded metric N M k x
+  IsFirstExceeded-at every at x h is wide =
       let n : ℕ = input_count N in
-      let within : at < 2 ^ n = omega (arith, h.within, ap length all ∙ length-all_vectors n) in
-      let x_is : x ≡ bits_of n at = is ∙ place n vectors all at within in
       record {
-        exceeded = record { width = ap length x_is ∙ length-bits_of n at; exceeds = subst (λ y. k < net_error metric N M y) (sym is) h.over };
-        first = λ y width before.
+        exceeded = record { width = wide; exceeds = subst (λ y. k < net_error metric N M y) (sym is) h.over };
+        first = λ few y width before.
+            let all : vectors ≡ all_vectors n = every few in
+            let within : at < 2 ^ n = omega (arith, h.within, ap length all ∙ length-all_vectors n) in
+            let x_is : x ≡ bits_of n at = is ∙ place n vectors all at within in
             let y_is : bits_of n (number_of y) ≡ y = ap (λ m. bits_of m (number_of y)) (sym width) ∙ bits_of-number_of y in
             let earlier : number_of y < at = omega (arith, number_of-bits_of n at within, ap number_of x_is, before) in
             let there : slice_index_or vectors (number_of y) [] ≡ y = place n vectors all (number_of y) (omega (arith, earlier, within)) ∙ y_is in
             subst (λ z. net_error metric N M z ≤ k) there (h.first (number_of y) earlier);
       }
 
-  pub IsWithin-all : ((p : ℕ) → p < length vectors → net_error metric N M (slice_index_or vectors p []) ≤ k) → IsWithin metric N k M
-  IsWithin-all h =
+  pub IsWithin-all : vectors ≡ all_vectors (input_count N) → ((p : ℕ) → p < length vectors → net_error metric N M (slice_index_or vectors p []) ≤ k) → IsWithin metric N k M
+  IsWithin-all all h =
       let n : ℕ = input_count N in
       let count : length vectors ≡ 2 ^ n = ap length all ∙ length-all_vectors n in
       each_vector n (λ x. net_error metric N M x ≤ k)
       (λ j below. subst (λ x. net_error metric N M x ≤ k) (place n vectors all j below) (h j (omega (arith, below, count))))
 
 -- what was found of the vectors that are held
-pub found_held : (metric : Metric) (N M A : NetValue) (k : ℕ) (r : ReferenceValue) (found : Option ℕ) → r ≡ every_vector N → A ≡ M
-    → FindsFirstOver metric r.exact A k r.patterns.vectors found → FindsFirstOver metric N M k (all_vectors (input_count N)) found
-found_held metric N M A k r found is same h =
-    subst (λ (B : NetValue). FindsFirstOver metric N B k (all_vectors (input_count N)) found) same
-    (subst (λ (t : ReferenceValue). FindsFirstOver metric t.exact A k t.patterns.vectors found) is h)
+pub found_held : (metric : Metric) (N M A : NetValue) (k : ℕ) (r : ReferenceValue) (found : Option ℕ) → IsHeldFor N r → A ≡ M
+    → FindsFirstOver metric r.exact A k r.patterns.vectors found → FindsFirstOver metric N M k r.patterns.vectors found
+found_held metric N M A k r found held same h =
+    subst (λ (B : NetValue). FindsFirstOver metric N B k r.patterns.vectors found) same
+    (subst (λ (E : NetValue). FindsFirstOver metric E A k r.patterns.vectors found) held.exact h)
 
-pub held_some : (N : NetValue) (held : Option ReferenceValue) (r : ReferenceValue) → held ≡ Some r → IsHeldFor N held → r ≡ every_vector N
-held_some N held r is h = subst (IsHeldFor N) is h
+-- the right outputs at the vectors that are tried
+pub held_for : (N : NetValue) (n : ℕ) (s : PatternSet) (r : ReferenceValue) → n ≡ input_count N → IsTrial n s → r ≡ record { exact = N; patterns = s } → IsHeldFor N r
+held_for N n s r count trial is = record {
+  exact = ap (λ (t : ReferenceValue). t.exact) is;
+  trial = subst (IsTrial (input_count N)) (sym (ap (λ (t : ReferenceValue). t.patterns) is)) (subst (λ m. IsTrial m s) count trial);
+}
 
--- where none is held there are many inputs
-pub held_none : (N : NetValue) (held : Option ReferenceValue) → held ≡ None → IsHeldFor N held → 8 < input_count N
-held_none N held is h = let many : 16 < input_count N = subst (IsHeldFor N) is h in omega (arith, many)
+-- where every vector was tried, the one that was found is the first
+pub over_first : (metric : Metric) (N M : NetValue) (k : ℕ) (x : List Bool) → input_count N ≤ LANE_INPUTS → IsFirstExceeded metric N M k x → IsOver metric N M k x
+over_first metric N M k x few found = record { width = found.exceeded.width; exceeds = found.exceeded.exceeds; first = λ _. found.first few }

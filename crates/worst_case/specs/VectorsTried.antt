@@ -28,19 +28,20 @@ pub record IsExceededAt (metric : Metric) (exact approx : NetValue) (k : ℕ) (x
   pub width : length x ≡ input_count exact
   pub exceeds : k < net_error metric exact approx x
 
--- x is the first input vector in counting order whose error exceeds the level
+-- x is an input vector whose error exceeds the level; with at most sixteen inputs it is the first in counting order
 pub record IsFirstExceeded (metric : Metric) (exact approx : NetValue) (k : ℕ) (x : List Bool) : Type 0 where
   pub exceeded : IsExceededAt metric exact approx k x
-  pub first : (y : List Bool) → length y ≡ input_count exact → number_of y < number_of x → net_error metric exact approx y ≤ k
+  pub first : input_count exact ≤ LANE_INPUTS → (y : List Bool) → length y ≡ input_count exact → number_of y < number_of x → net_error metric exact approx y ≤ k
 
--- every input vector was tried
+-- some vectors were tried; with at most sixteen inputs every one
 abbrev pub IsTried : Metric → NetValue → NetValue → ℕ → Option (List Bool) → Type 0
-IsTried metric exact approx k found = MatchOption found (IsWithin metric exact k approx) (IsFirstExceeded metric exact approx k)
+IsTried metric exact approx k found = MatchOption found (input_count exact ≤ LANE_INPUTS → IsWithin metric exact k approx) (IsFirstExceeded metric exact approx k)
 
--- a net and every input vector of it, in counting order
-abbrev pub every_vector : NetValue → ReferenceValue
-every_vector N = record { exact = N; patterns = record { inputs = input_count N; vectors = all_vectors (input_count N) } }
+-- a net and some input vectors of it; with at most sixteen inputs all of them in counting order
+pub record IsHeldFor (N : NetValue) (held : ReferenceValue) : Type 0 where
+  pub exact : held.exact ≡ N
+  pub trial : IsTrial (input_count N) held.patterns
 
 -- with at most sixteen inputs every vector is held, with more none
-abbrev pub IsHeldFor : NetValue → Option ReferenceValue → Type 0
-IsHeldFor N held = MatchOption held (LANE_INPUTS < input_count N) (λ r. r ≡ every_vector N)
+abbrev pub IsEveryVectorHeld : NetValue → Option ReferenceValue → Type 0
+IsEveryVectorHeld N held = MatchOption held (LANE_INPUTS < input_count N) (λ r. IsHeldFor N r × (input_count N ≤ LANE_INPUTS))

@@ -16,6 +16,7 @@ use semantics::metric::Metric;
 use std::alloc::{AllocError, Global};
 
 /// The same question of nets that can be compared.
+#[tactic(auto, using(crate::proofs::Tried::over_first))]
 pub(crate) fn exceeds_level<P: Progress>(
     alloc: Global,
     nets: &Compared,

@@ -79,13 +79,14 @@ fn by_solver<P: Progress>(
     }
 }
 
-/// An input whose error exceeds `k`, or that there is none. With at most sixteen inputs every vector is held and tried, and nothing is
-/// spent; with more, diagrams are asked, and then the solver.
+/// An input whose error exceeds `k`, or that there is none. The vectors that are held are tried first: with at most sixteen inputs
+/// they are all, and nothing is spent; with more they are some of chance, which break most moves that some vector breaks. Then
+/// diagrams are asked, and then the solver.
 #[tactic(auto, using(crate::proofs::Decided::sure_answer))]
 pub fn within_level<P: Progress>(
     alloc: Global,
     nets: &Compared,
-    held: &Option<Reference>,
+    held: &Reference,
     decider: &mut Decider,
     metric: Metric,
     k: u128,
@@ -98,11 +99,11 @@ pub fn within_level<P: Progress>(
     ensures same { decider.new ≡ decider.old }
     ensures answer { IfOk result (IsLevelAnswer metric nets.now.exact nets.now.approx k limit) }
 {
-    if let Some(vectors) = held {
-        return Ok(match try_vectors(alloc, nets, vectors, metric, k)? {
-            Some(x) => Margin::Over(x),
-            None => Margin::Within,
-        });
+    if let Some(x) = try_vectors(alloc, nets, held, metric, k)? {
+        return Ok(Margin::Over(x));
+    }
+    if nets.exact().inputs() <= LANE_INPUTS {
+        return Ok(Margin::Within);
     }
     match by_diagrams(alloc, nets, decider, metric, k, QUESTION_STEPS)? {
         Some(margin) => Ok(margin),

@@ -1,7 +1,8 @@
 //! The greatest error of an approximate net, found by queries.
 //!
-//! An error that some input has lies below it, and a level that no input exceeds above; each query halves what lies between. The
-//! log that is given refutes that any error exceeds the greatest.
+//! An error that some input has lies below it, and a level that no input exceeds above. Diagrams are asked first whether the error that
+//! is known is the greatest; then each query halves what lies between. The log that is given refutes that any error exceeds the
+//! greatest.
 ghost use Rattle.std.specs.Prelude.{◌≤◌, ℕ, length, IfOk};
 ghost use Rattle.semantics.specs.Net.{HasSamePorts, IsSmall};
 ghost use Rattle.semantics.specs.Error.{IsWithin};
@@ -9,7 +10,7 @@ ghost use Rattle.worst_case.specs.Maximum.{IsRange, IsMaximumAnswer};
 
 use crate::policy::decider_for;
 use crate::query::{Exceed, Maximum};
-use crate::range::{Range, Turn, first_range, narrow};
+use crate::range::{Range, Turn, first_range, narrow, try_known};
 use crate::refutation::refute_level;
 use net_core::net::Net;
 use net_errors::compared::Compared;
@@ -67,8 +68,9 @@ pub fn maximum_followed<P: Progress>(
     ensures { IfOk result (IsMaximumAnswer metric exact.now approx.now bound limit) }
 {
     let nets = Compared::new(exact, approx);
-    let mut range = first_range(alloc, &nets, metric, bound)?;
+    let first = first_range(alloc, &nets, metric, bound)?;
     let mut decider = decider_for(alloc, exact)?;
+    let mut range = try_known(alloc, &nets, &mut decider, metric, first)?;
     while range.low < range.high {
         progress.narrowed(range.low, range.high);
         match narrow(alloc, &nets, &mut decider, metric, limit, range, progress)? {

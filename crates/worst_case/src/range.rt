@@ -63,6 +63,43 @@ pub fn first_range(
     })
 }
 
+/// Asks diagrams whether some error exceeds the one that is known: often none does, since many vectors were tried, and then the
+/// levels meet at once.
+pub fn try_known(
+    alloc: Global,
+    nets: &Compared,
+    decider: &mut Decider,
+    metric: Metric,
+    range: Range,
+) -> Result<Range, AllocError>
+    requires decider { decider.old ≡ nets.now.exact }
+    ensures same { decider.new ≡ decider.old }
+    ensures range { IfOk result (λ next. (bound : ℕ) → IsRange metric nets.now.exact nets.now.approx bound range
+        → IsRange metric nets.now.exact nets.now.approx bound next) }
+{
+    if range.low >= range.high {
+        return Ok(range);
+    }
+    match by_diagrams(alloc, nets, decider, metric, range.low, QUESTION_STEPS)? {
+        Some(Margin::Over(x)) => {
+            let error = error_at(alloc, nets, metric, x.as_slice())?;
+            Ok(Range {
+                low: error,
+                witness: x,
+                high: range.high,
+                log: range.log,
+            })
+        }
+        Some(Margin::Within) => Ok(Range {
+            low: range.low,
+            witness: range.witness,
+            high: range.low,
+            log: None,
+        }),
+        _ => Ok(range),
+    }
+}
+
 /// Asks the solver whether some error exceeds the middle of the range.
 fn narrow_by_solver<P: Progress>(
     alloc: Global,

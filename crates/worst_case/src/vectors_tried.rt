@@ -1,8 +1,8 @@
 //! Input vectors that are tried at once: the greatest of their errors, and the first whose error exceeds a level.
 ghost use Rattle.std.specs.Prelude.{◌≡◌, ◌≤◌, ◌<◌, [], length, slice_index_or, IfOk};
-ghost use Rattle.semantics.specs.Net.{input_count};
+ghost use Rattle.semantics.specs.Net.{input_count, IsSmall};
 ghost use Rattle.semantics.specs.Error.{net_error};
-ghost use Rattle.worst_case.specs.VectorsTried.{every_vector, IsTrial, IsFirstGreatestIn, IsHeldFor, IsTried};
+ghost use Rattle.worst_case.specs.VectorsTried.{IsTrial, IsFirstGreatestIn, IsHeldFor, IsEveryVectorHeld, IsTried};
 
 use lane_bits::patterns::Patterns;
 use lane_nets::reference::Reference;
@@ -16,8 +16,8 @@ use std::alloc::{AllocError, Global};
 /// With at most so many inputs every vector is tried.
 pub const LANE_INPUTS: u32 = 16;
 
-/// How many vectors of a net with more inputs are tried.
-const TRIALS: u32 = 256;
+/// How many vectors of a net with more inputs are tried: two blocks of 512.
+const TRIALS: u32 = 1024;
 
 /// An error, and an input vector that has it.
 #[derive(Drop)]
@@ -70,18 +70,29 @@ fn vector_at(alloc: Global, vectors: &Patterns, at: u64) -> Result<Bits, AllocEr
     Bits::from_slice(alloc, x)
 }
 
+/// The exact net's outputs at the vectors that are tried.
+#[tactic(auto, using(crate::proofs::Tried::held_for))]
+pub fn hold_vectors<'a>(alloc: Global, exact: &'a Net) -> Result<Reference<'a>, AllocError>
+    requires { IsSmall exact.now }
+    ensures { IfOk result (IsHeldFor exact.now) }
+{
+    let vectors = trial_vectors(alloc, exact.inputs())?;
+    Reference::new(alloc, exact, vectors)
+}
+
 /// The exact net's outputs at every input vector in counting order, where there are at most sixteen inputs.
+#[tactic(auto, using(crate::proofs::Tried::held_for))]
 pub fn hold_every_vector<'a>(
     alloc: Global,
     exact: &'a Net,
 ) -> Result<Option<Reference<'a>>, AllocError>
-    ensures { IfOk result (IsHeldFor exact.now) }
+    ensures { IfOk result (IsEveryVectorHeld exact.now) }
 {
     let inputs = exact.inputs();
     if inputs > LANE_INPUTS {
         return Ok(None);
     }
-    let vectors = Patterns::exhaustive(alloc, inputs)?;
+    let vectors = trial_vectors(alloc, inputs)?;
     Ok(Some(Reference::new(alloc, exact, vectors)?))
 }
 
@@ -106,7 +117,7 @@ pub(crate) fn greatest_of(
     })
 }
 
-/// The first input vector in counting order whose error exceeds `k`, where every vector is held.
+/// The first of the vectors that are held whose error exceeds `k`.
 pub(crate) fn try_vectors(
     alloc: Global,
     nets: &Compared,
@@ -114,7 +125,7 @@ pub(crate) fn try_vectors(
     metric: Metric,
     k: u128,
 ) -> Result<Option<Bits>, AllocError>
-    requires { held.now ≡ every_vector nets.now.exact }
+    requires { IsHeldFor nets.now.exact held.now }
     ensures { IfOk result (IsTried metric nets.now.exact nets.now.approx k) }
 {
     match held.first_over(alloc, nets.approx(), metric, k)? {

@@ -6,7 +6,13 @@ use Rattle.worst_case.specs.Exceeds.{spent_value}
 use Rattle.worst_case.proofs.maximum.maximum_followed.Goals as goal
 
 pub loop-range-init : goal.loop-range-init
-loop-range-init g c = record { range = c.in_ok-range.ensures; decider = c.in_ok-decider.ensures ∙ sym (ap (λ P. P.exact) c.new-nets.ensures) }
+loop-range-init g c = record {
+  range = c.in_ok-range.ensures.range c.args.bound c.in_ok-first.ensures;
+  decider = c.try_known.ensures.same ∙ c.in_ok-decider.ensures ∙ sym (ap (λ P. P.exact) c.new-nets.ensures);
+}
+
+pub try_known-requires : goal.try_known-requires
+try_known-requires g c = record { decider = c.in_ok-decider.ensures ∙ sym (ap (λ P. P.exact) c.new-nets.ensures) }
 
 pub loop-range-preserved : goal.loop-range-preserved
 loop-range-preserved g c = record {

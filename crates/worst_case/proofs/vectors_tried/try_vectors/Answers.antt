@@ -1,26 +1,25 @@
-use Rattle.std.proofs.Common.{◌∙◌, [], ap, refl, slice_index_or}
+use Rattle.std.proofs.Common.{◌∙◌, [], ap, slice_index_or}
 use Rattle.semantics.specs.Net.{input_count}
-use Rattle.semantics.specs.Vectors.{all_vectors}
 use Rattle.lane_bits.specs.Patterns.{PatternSet}
-use Rattle.lane_nets.specs.Lanes.{ReferenceValue}
 use Rattle.worst_case.proofs.Tried.{IsFirstExceeded-at, IsWithin-all, found_held}
 use Rattle.worst_case.proofs.vectors_tried.try_vectors.Goals as goal
 
 pub first_over-requires : goal.first_over-requires
-first_over-requires c =
-    rw (ap (λ (r : ReferenceValue). r.exact) c.requires, c.approx.ensures.value) c.approx.ensures.candidate
+first_over-requires c = rw (c.requires.exact, c.approx.ensures.value) c.approx.ensures.candidate
 
 pub returns-in_ok-vector_at-in-Some : goal.returns-in_ok-vector_at-in-Some
 returns-in_ok-vector_at-in-Some c =
     let nets = c.args.nets.now in
-    let found = rw c.in-Some.is at (found_held c.args.metric nets.exact nets.approx c.approx.result.now c.args.k c.args.held.now _ c.requires c.approx.ensures.value c.in_ok-at.ensures) in
-    IsFirstExceeded-at c.args.metric nets.exact nets.approx c.args.k (all_vectors (input_count nets.exact)) refl c.in-Some.at
+    let held = c.args.held.now in
+    let found = rw c.in-Some.is at (found_held c.args.metric nets.exact nets.approx c.approx.result.now c.args.k held _ c.requires c.approx.ensures.value c.in_ok-at.ensures) in
+    IsFirstExceeded-at c.args.metric nets.exact nets.approx c.args.k held.patterns.vectors c.requires.trial.all c.in-Some.at
     c.in_ok-vector_at-in-Some.field-0 found
-    (c.in_ok-vector_at-in-Some.ensures.is
-    ∙ ap (λ (s : PatternSet). slice_index_or s.vectors c.in-Some.at []) (c.patterns.ensures ∙ ap (λ (r : ReferenceValue). r.patterns) c.requires))
+    (c.in_ok-vector_at-in-Some.ensures.is ∙ ap (λ (s : PatternSet). slice_index_or s.vectors c.in-Some.at []) c.patterns.ensures)
+    (c.in_ok-vector_at-in-Some.ensures.width ∙ ap (λ (s : PatternSet). s.inputs) c.patterns.ensures ∙ c.requires.trial.inputs_are)
 
 pub returns-in-None : goal.returns-in-None
-returns-in-None c =
+returns-in-None c = λ few.
     let nets = c.args.nets.now in
-    let none = rw c.in-None.is at (found_held c.args.metric nets.exact nets.approx c.approx.result.now c.args.k c.args.held.now _ c.requires c.approx.ensures.value c.in_ok-at.ensures) in
-    IsWithin-all c.args.metric nets.exact nets.approx c.args.k (all_vectors (input_count nets.exact)) refl none
+    let held = c.args.held.now in
+    let none = rw c.in-None.is at (found_held c.args.metric nets.exact nets.approx c.approx.result.now c.args.k held _ c.requires c.approx.ensures.value c.in_ok-at.ensures) in
+    IsWithin-all c.args.metric nets.exact nets.approx c.args.k held.patterns.vectors (c.requires.trial.all few) none
