@@ -1,2 +1,3 @@
 mod EqualCopies
+mod KeptLogs
 mod MovesLeft

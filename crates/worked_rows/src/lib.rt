@@ -23,3 +23,5 @@ mod parts;
 mod queries;
 #[cfg(test)]
 mod shrinking;
+#[cfg(test)]
+mod trimmed_logs;

@@ -54,7 +54,7 @@ fn read(reader: &mut LratReader, text: &[u8], cut: Option<usize>) -> Result<(), 
     }
 }
 
-fn three_clauses(alloc: Global) -> Result<Cnf, AllocError> {
+pub(crate) fn three_clauses(alloc: Global) -> Result<Cnf, AllocError> {
     let mut clauses = ClauseList::new(alloc);
     clauses.push(Lits::from_slice(alloc, &[1])?)?;
     clauses.push(Lits::from_slice(alloc, &[-1, 2])?)?;
@@ -119,5 +119,18 @@ fn logs_in_pieces(rt: HostRuntime) -> Result<(), Fail> {
             assert_eq!(rt; judged(rt.alloc(), text, Some(cut))?, wanted);
         }
     }
+    Ok(())
+}
+
+// The greatest id may stand in a log, and no id rises above it.
+#[test]
+fn the_greatest_id(rt: HostRuntime) -> Result<(), Fail> {
+    let alloc = rt.alloc();
+    let empty: &[u8] = b"9223372036854775807 0 1 2 3 0";
+    let further: &[u8] = b"9223372036854775807 0 1 2 3 0\n5 0 1 2 3 0";
+    let refused = Verdict::Step(StepRefusal::NotRising(5));
+    assert!(rt; empty.len() < 100 && further.len() < 100);
+    assert_eq!(rt; judged(alloc, empty, None)?, Verdict::Done);
+    assert_eq!(rt; judged(alloc, further, None)?, refused);
     Ok(())
 }

@@ -21,11 +21,6 @@ fn adds(log: &Log, first: i32, second: i32) -> bool {
     })
 }
 
-/// Whether the log adds that the two signals are equal.
-fn makes_equal(log: &Log, first: i32, second: i32) -> bool {
-    adds(log, second, -first) && adds(log, -second, first)
-}
-
 /// Whether the checker accepts each item of the log.
 fn is_accepted(alloc: Global, miter: &Miter, log: &Log) -> Result<bool, Fail> {
     let mut checker = Checker::new(alloc, &miter.formula)?;

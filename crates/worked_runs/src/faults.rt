@@ -28,9 +28,9 @@ fn is_cut_short(files: &MemFiles, whole: &MemFiles) -> bool {
 
 /// Whether the files are as one of their calls left them that failed.
 fn is_left_by_a_fault(ended: &Run, whole: &MemFiles) -> bool {
-    let is_read = ended.status.exit() == 6;
-    (is_read || ended.status.exit() == 5)
-        && (is_read || holds(&ended.files, b"out.blif", None))
+    let is_written = ended.status.exit() == 6;
+    (is_written || ended.status.exit() == 5)
+        && (is_written || holds(&ended.files, b"out.blif", None))
         && holds(&ended.files, b"ha.blif", Some(HALF_ADDER))
         && is_cut_short(&ended.files, whole)
         && ended.sink.bytes().is_empty()

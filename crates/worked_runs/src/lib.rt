@@ -2,9 +2,13 @@
 #![tactic(auto)]
 
 #[cfg(test)]
+mod bundles;
+#[cfg(test)]
 mod checked;
 #[cfg(test)]
 mod converted;
+#[cfg(test)]
+mod damaged;
 #[cfg(test)]
 mod faults;
 #[cfg(test)]
@@ -15,3 +19,5 @@ mod refused;
 mod simplified;
 #[cfg(test)]
 mod statuses;
+#[cfg(test)]
+mod trimmed;

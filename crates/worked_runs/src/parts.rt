@@ -90,7 +90,7 @@ pub(crate) fn begins(files: &MemFiles, name: &[u8], front: &[u8]) -> bool {
     }
 }
 
-/// One run on the words over files that hold `ha.blif` with the text.
+/// What a run leaves.
 #[derive(Drop)]
 pub(crate) struct Run {
     pub(crate) status: Status,
@@ -98,6 +98,30 @@ pub(crate) struct Run {
     pub(crate) sink: MemSink,
 }
 
+/// One run on the words over files that hold these at first and work in chunks of this size, as the sink does. The call of each
+/// number fails; the number 0 is that of none.
+pub(crate) fn run_over(
+    rt: &HostRuntime,
+    line: &[u8],
+    held: FileList,
+    chunk: usize,
+    file_call: u64,
+    sink_call: u64,
+) -> Result<Run, Fail>
+    requires { 0 < chunk }
+{
+    let alloc = rt.alloc();
+    let mut files = MemFiles::new(held, failing_at(alloc, file_call)?, chunk);
+    let mut sink = MemSink::new(alloc, failing_at(alloc, sink_call)?, chunk);
+    let status = run(alloc, &words(alloc, line)?, &mut files, &mut sink).status;
+    Ok(Run {
+        status,
+        files,
+        sink,
+    })
+}
+
+/// The same over files that hold `ha.blif` alone, with this text.
 pub(crate) fn run_on(
     rt: &HostRuntime,
     line: &[u8],
@@ -108,13 +132,6 @@ pub(crate) fn run_on(
 ) -> Result<Run, Fail>
     requires { 0 < chunk }
 {
-    let alloc = rt.alloc();
-    let mut files = MemFiles::new(holding(alloc, text)?, failing_at(alloc, file_call)?, chunk);
-    let mut sink = MemSink::new(alloc, failing_at(alloc, sink_call)?, chunk);
-    let status = run(alloc, &words(alloc, line)?, &mut files, &mut sink).status;
-    Ok(Run {
-        status,
-        files,
-        sink,
-    })
+    let held = holding(rt.alloc(), text)?;
+    run_over(rt, line, held, chunk, file_call, sink_call)
 }
