@@ -1,7 +1,9 @@
-//! What texts are read, and what others are refused for. A full adder of two half adders stands in most, with one line changed.
+//! What texts are read and made flat, and what others are refused for. A full adder of two half adders stands in most, with one line changed.
 use crate::reading::read_hier;
 use crate::refusal::HierRefusal;
 use blif_text::refusal::BlifRefusal;
+use net_core::net::Net;
+use semantics::which::Which;
 use std::alloc::{AllocError, Global};
 use std::test::Fail;
 
@@ -150,5 +152,58 @@ fn a_name_of_a_flat_table(rt: HostRuntime) -> Result<(), Fail> {
         return Err(Fail::new("another refusal"));
     };
     assert_eq!(rt; name.bytes(), b"$u07".as_slice());
+    Ok(())
+}
+
+/// The flat net of a text.
+fn flat(alloc: Global, text: &[u8]) -> Result<Net, HierRefusal> {
+    let hier = read_hier(alloc, text, 1 << 22)?;
+    hier.flatten(alloc)
+}
+
+/// The names of the tables, each with a space behind it.
+fn table_names(alloc: Global, net: &Net) -> Result<Vec<u8>, AllocError> {
+    let mut names = Vec::new(alloc);
+    for t in 0..net.tables() {
+        names.extend_from_slice(net.table(t).name().bytes())?;
+        names.push(b' ')?;
+    }
+    Ok(names)
+}
+
+#[test]
+fn a_full_adder_is_flat(rt: HostRuntime) -> Result<(), Fail> {
+    let text = text_with(rt.alloc(), b".subckt ha a=a b=b s=t c=u\n", b".end\n")?;
+    let Ok(net) = flat(rt.alloc(), &text) else {
+        return Err(Fail::new("a refusal"));
+    };
+    let names = table_names(rt.alloc(), &net)?;
+    assert_eq!(rt; names.as_slice(), b"$u0 $u1 t u $u4 $u5 s v co ".as_slice());
+    Ok(())
+}
+
+/// Thirty models, each of which uses the one behind it twice, but for the last one, a buffer.
+fn thirty_models(alloc: Global) -> Result<Vec<u8>, AllocError> {
+    let mut text = Vec::new(alloc);
+    for step in 0..29u8 {
+        text.extend_from_slice(b".model ")?;
+        text.push(b'a' + step)?;
+        text.extend_from_slice(b"\n.inputs a\n.outputs c\n.subckt ")?;
+        text.push(b'b' + step)?;
+        text.extend_from_slice(b" a=a c=b\n.subckt ")?;
+        text.push(b'b' + step)?;
+        text.extend_from_slice(b" a=b c=c\n.end\n")?;
+    }
+    text.extend_from_slice(b".model ~\n.inputs a\n.outputs c\n.names a c\n1 1\n.end\n")?;
+    Ok(text)
+}
+
+#[test]
+fn models_that_double(rt: HostRuntime) -> Result<(), Fail> {
+    let text = thirty_models(rt.alloc())?;
+    let Err(HierRefusal::Flat(BlifRefusal::Limit { which })) = flat(rt.alloc(), &text) else {
+        return Err(Fail::new("another answer"));
+    };
+    assert!(rt; which == Which::Tables);
     Ok(())
 }
