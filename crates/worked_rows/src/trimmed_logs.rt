@@ -47,7 +47,13 @@ fn logs_that_are_trimmed(rt: HostRuntime) -> Result<(), Fail> {
     let short: &[u8] = b"4 0 1 2 3 0\n";
     assert!(rt; idle.len() < 100 && copied.len() < 100 && short.len() < 100);
     assert!(rt; is_trimmed_to(alloc, idle, b"4 2 0 1 2 0\n6 0 4 3 0\n")?);
-    assert!(rt; is_trimmed_to(alloc, copied, b"4 2 0 1 2 0\n5 2 0 4 0\n5 d 4 0\n6 0 5 3 0\n")?);
+    assert!(rt;
+        is_trimmed_to(
+            alloc,
+            copied,
+            b"4 2 0 1 2 0\n5 2 0 4 0\n5 d 4 0\n6 0 5 3 0\n"
+        )?
+    );
     assert!(rt; is_trimmed_to(alloc, short, short)?);
     Ok(())
 }
