@@ -46,7 +46,9 @@ fn tables_are_merged(alloc: Global) -> Result<bool, Fail> {
     let nets = Compared::new(&half_adder, &half_adder);
     let miter = joint_miter(alloc, &nets, Metric::Abs, 0)?;
     let log = merges(alloc, &miter.net, &miter.formula)?;
-    Ok(makes_equal(&log, 3, 5) && makes_equal(&log, 4, 6) && is_accepted(alloc, &miter, &log)?)
+    let sum = adds(&log, 5, -3) && adds(&log, -5, 3);
+    let carry = adds(&log, 6, -4) && adds(&log, -6, 4);
+    Ok(sum && carry && is_accepted(alloc, &miter, &log)?)
 }
 
 #[test]
