@@ -8,8 +8,6 @@ mod checked;
 #[cfg(test)]
 mod converted;
 #[cfg(test)]
-mod damaged;
-#[cfg(test)]
 mod faults;
 #[cfg(test)]
 mod parts;
