@@ -104,12 +104,29 @@ fn sink_fails_in_turn(rt: &HostRuntime, whole: &MemFiles, chunk: usize) -> Resul
     Ok(false)
 }
 
+/// The same of the sink in chunks of this size, with the files of a run without a fault.
+fn each_call_fails(rt: &HostRuntime, chunk: usize) -> Result<bool, Fail>
+    requires { 0 < chunk }
+{
+    let whole = run_on(rt, LINE, HALF_ADDER, 64, 0, 0)?;
+    sink_fails_in_turn(rt, &whole.files, chunk)
+}
+
 #[test]
 fn each_call_on_the_sink_fails_in_turn(rt: HostRuntime) -> Result<(), Fail> {
-    let whole = run_on(&rt, LINE, HALF_ADDER, 64, 0, 0)?;
-    assert!(rt; sink_fails_in_turn(&rt, &whole.files, 1)?);
-    assert!(rt; sink_fails_in_turn(&rt, &whole.files, 3)?);
-    assert!(rt; sink_fails_in_turn(&rt, &whole.files, 64)?);
+    assert!(rt; each_call_fails(&rt, 1)?);
+    Ok(())
+}
+
+#[test]
+fn each_call_on_the_sink_fails_in_turn_in_threes(rt: HostRuntime) -> Result<(), Fail> {
+    assert!(rt; each_call_fails(&rt, 3)?);
+    Ok(())
+}
+
+#[test]
+fn each_call_on_the_sink_fails_in_turn_in_one_piece(rt: HostRuntime) -> Result<(), Fail> {
+    assert!(rt; each_call_fails(&rt, 64)?);
     Ok(())
 }
 
