@@ -11,6 +11,7 @@ pub mod FormsSame
 pub mod Merging
 pub mod Placed
 pub mod Ends
+pub mod LevelChains
 pub mod TablesBy
 pub mod TableParts
 pub mod Ready

@@ -5,3 +5,4 @@ pub mod Forms
 pub mod Levels
 pub mod Merging
 pub mod Places
+pub mod LevelLists

@@ -4,6 +4,7 @@
 mod chain;
 mod form;
 mod hints;
+mod level_lists;
 mod levels;
 mod merged;
 pub mod merges;

@@ -10,11 +10,13 @@ ghost use Rattle.proof_semantics.specs.Formula.{goal_of};
 ghost use Rattle.proof_semantics.specs.Merges.{IsMergeLog};
 ghost use Rattle.proof_semantics.specs.Variables.{variable_count, table_clause_count};
 ghost use Rattle.merge_log.specs.Levels.{AreLevels};
+ghost use Rattle.merge_log.specs.LevelLists.{AreLevelLists};
 ghost use Rattle.merge_log.specs.Merging.{IsMerging, IsFound};
 ghost use Rattle.merge_log.specs.Places.{IsPlaceList};
 
 use crate::form::{FormSet, form_of};
-use crate::levels::{depth, levels};
+use crate::level_lists::{LevelLists, level_lists};
+use crate::levels::levels;
 use crate::merged::Merged;
 use crate::places::places;
 use crate::steps::Place;
@@ -111,23 +113,23 @@ fn take_level(
     goal: &Cnf,
     net: &Net,
     places: &[Place],
-    levels: &[u32],
-    level: u32,
+    lists: &LevelLists,
+    level: usize,
     merging: &mut Merging,
 ) -> Result<(), AllocError>
     requires goal { goal.now ≡ goal_of net.now }
     requires places { IsPlaceList (input_count net.now) net.now.tables (table_count net.now) places.now }
     requires clauses { sum_by table_clause_count net.now.tables < 2 ^ 60 }
-    requires count { length levels.now ≡ input_count net.now + table_count net.now }
-    requires levels { AreLevels (input_count net.now) net.now.tables levels.now }
-    requires merging { IsMerging net.now levels.now level 0 merging.old }
-    ensures { OnOk result (IsMerging net.now levels.now (level + 1) 0 merging.new) }
+    requires levels { AreLevels (input_count net.now) net.now.tables lists.now.levels.items }
+    requires lists { AreLevelLists (input_count net.now) (table_count net.now) lists.now.levels.items 0 lists.now.firsts.items lists.now.nexts.items }
+    requires level { level < length lists.now.firsts.items }
+    requires merging { IsMerging net.now lists.now.levels.items level 0 merging.old }
+    ensures { OnOk result (IsMerging net.now lists.now.levels.items (level + 1) 0 merging.new) }
 {
-    let inputs = net.inputs() as usize;
-    for t in 0..net.tables() {
-        if levels[inputs + t as usize] == level {
-            take_table(alloc, goal, net, places, merging, t)?;
-        }
+    let mut t = lists.firsts[level];
+    'along: while t < net.tables() {
+        take_table(alloc, goal, net, places, merging, t)?;
+        t = lists.nexts[t as usize];
     }
     Ok(())
 }
@@ -175,18 +177,10 @@ pub fn merges(alloc: Global, joint: &Net, goal: &Cnf) -> Result<Log, AllocError>
     see_few(joint, goal);
     let places = places(alloc, joint)?;
     let levels = levels(alloc, joint)?;
+    let lists = level_lists(alloc, joint, levels)?;
     let mut merging = start(alloc, joint)?;
-    let most = depth(&levels);
-    for below in 0..most {
-        take_level(
-            alloc,
-            goal,
-            joint,
-            &places,
-            &levels,
-            below + 1,
-            &mut merging,
-        )?;
+    for level in 1..lists.firsts.len() {
+        take_level(alloc, goal, joint, &places, &lists, level, &mut merging)?;
     }
     Ok(merging.log)
 }

@@ -1,7 +1,6 @@
-use Rattle.std.proofs.Common.{◌+◌}
 use Rattle.merge_log.specs.Merging.{IsMerging}
 use Rattle.merge_log.proofs.merges.merges.Given as goal
 
--- the tables of so many levels are taken
-abbrev pub invariant-loop-below : goal.invariant-loop-below
-invariant-loop-below l = IsMerging l.joint l.levels.items (l.below + 1) 0 l.merging
+-- the tables of the lower levels are taken
+abbrev pub invariant-loop-level : goal.invariant-loop-level
+invariant-loop-level l = IsMerging l.joint l.lists.levels.items l.level 0 l.merging
