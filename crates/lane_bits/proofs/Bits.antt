@@ -71,6 +71,17 @@ and_rows-bits a b dst flip_a flip_b words p low =
     ∙ (λ j. (xor_bit x (flips flip_a) i ∙ ap (λ f. turned f (word_bit x i)) (flips_bit flip_a i (omega arith))) j
     && (xor_bit y (flips flip_b) i ∙ ap (λ f. turned f (word_bit y i)) (flips_bit flip_b i (omega arith))) j)
 
+pub keep_rows-bits : (a old new : List ℕ) (flip : Bool) → ((k : ℕ) → k < length old → get_or new k 0 ≡ bit_and (get_or old k 0) (bit_xor (get_or a k 0) (flips flip)))
+    → (p : ℕ) → p < 64 * length old → row_bit new p ≡ (row_bit old p && turned flip (row_bit a p))
+unfolding row_bit
+keep_rows-bits a old new flip words p low =
+    let i : ℕ = p % 64 in
+    let x : ℕ = get_or old (p / 64) 0 in
+    let y : ℕ = get_or a (p / 64) 0 in
+    ap (λ w. word_bit w i) (words (p / 64) (omega arith))
+    ∙ and_bit x (bit_xor y (flips flip)) i
+    ∙ ap (λ b. word_bit x i && b) (xor_bit y (flips flip) i ∙ ap (λ f. turned f (word_bit y i)) (flips_bit flip i (omega arith)))
+
 -- what holds word by word of the words of two rows holds past their ends too
 pub all_words : (f : ℕ → ℕ → ℕ) → f 0 0 ≡ 0 → (old a new : List ℕ) → length a ≡ length old → length new ≡ length old
     → ((k : ℕ) → k < length old → get_or new k 0 ≡ f (get_or old k 0) (get_or a k 0)) → (k : ℕ) → get_or new k 0 ≡ f (get_or old k 0) (get_or a k 0)
@@ -173,7 +184,7 @@ pub row_bit-is : (row : List ℕ) (p : ℕ) → (bit_and (get_or row (p / 64) 0 
 unfolding row_bit
 row_bit-is row p = ap (λ n. n == 1) (shr_and_one (get_or row (p / 64) 0) (p % 64))
 
-row_bit_past : (row : List ℕ) (p : ℕ) → length row ≤ p / 64 → row_bit row p ≡ false
+pub row_bit_past : (row : List ℕ) (p : ℕ) → length row ≤ p / 64 → row_bit row p ≡ false
 unfolding row_bit
 row_bit_past row p past = ap (λ n. n == 1) (ap (λ w. bit_at w (p % 64)) (get_or_past row (p / 64) 0 past) ∙ bit_at-zero (p % 64))
 

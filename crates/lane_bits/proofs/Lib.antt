@@ -1,2 +1,5 @@
 pub mod Bits
+pub mod Changed
+pub mod LastWord
+pub mod CountingOrder
 pub mod Store

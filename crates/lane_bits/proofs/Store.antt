@@ -17,10 +17,10 @@ length-vectors_in rows count = length-map-range_with_len (vector_at rows) 0 coun
 pub vector-at : (rows : List (List ℕ)) (count p : ℕ) → p < count → get_or (vectors_in rows count) p [] ≡ vector_at rows p
 vector-at rows count p low = get_or-map-range_with_len (vector_at rows) 0 count p p [] low (omega arith)
 
-bit-at : (rows : List (List ℕ)) (i p : ℕ) → i < length rows → get_or (vector_at rows p) i false ≡ row_bit (row_at rows i) p
+pub bit-at : (rows : List (List ℕ)) (i p : ℕ) → i < length rows → get_or (vector_at rows p) i false ≡ row_bit (row_at rows i) p
 bit-at rows i p low = get_or-map (λ row. row_bit row p) rows i [] false low
 
-length-vector_at : (rows : List (List ℕ)) (p : ℕ) → length (vector_at rows p) ≡ length rows
+pub length-vector_at : (rows : List (List ℕ)) (p : ℕ) → length (vector_at rows p) ≡ length rows
 length-vector_at rows p = length-map rows (λ row. row_bit row p)
 
 -- rows with the same bits at a place hold the same vector there

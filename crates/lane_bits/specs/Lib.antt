@@ -1,4 +1,6 @@
 pub mod Rows
+pub mod Changed
 pub mod Patterns
+pub mod CountingOrder
 pub mod Store
 pub mod Examples

@@ -30,6 +30,13 @@ impl BitRow {
         }
     }
 
+    /// The row of these words.
+    pub(crate) fn of(words: Vec<u64>) -> BitRow
+        ensures { result ≡ words.items }
+    {
+        BitRow { words }
+    }
+
     /// Adds a word without bits where there are fewer than `words`.
     pub(crate) fn reach(&mut self, words: usize) -> Result<(), AllocError>
         requires { words ≤ length self.old + 1 }

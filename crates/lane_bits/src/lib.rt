@@ -2,6 +2,8 @@
 #![tactic(auto)]
 
 mod bit_row;
+mod counting;
+mod eights;
 pub mod examples;
 pub mod kernels;
 pub mod patterns;

@@ -1,11 +1,12 @@
 //! Sets of input vectors, held as one row of bits for each input.
 ghost use Rattle.std.specs.Prelude.{◌≡◌, ◌⊎◌, ◌+◌, ◌/◌, ◌<◌, ◌≤◌, ℕ, [], ◌∷◌, ◌++◌, length, replicate, slice_index_or, All, IfOk, OnOk, OnErr};
-ghost use Rattle.semantics.specs.Vectors.{bits_of, all_vectors};
+ghost use Rattle.semantics.specs.Vectors.{all_vectors};
 ghost use Rattle.lane_bits.specs.Rows.{word_count};
 ghost use Rattle.lane_bits.specs.Patterns.{IsPatternSet, IsRowOf, vector_at};
 ghost use Rattle.lane_bits.specs.Store.{AreGrownFrom, AreReadied, AreSetAt, row_at};
 
 use crate::bit_row::BitRow;
+use crate::counting::counting_rows;
 use crate::kernels::word_count;
 use std::alloc::{AllocError, Global};
 use std::marker::Model;
@@ -90,17 +91,6 @@ fn get_bits(rows: &[BitRow], p: u64, x: &mut [bool])
     }
 }
 
-/// Vector j of the counting order.
-fn counting_vector(j: u32, x: &mut [bool])
-    ensures { x.new ≡ bits_of (length x.old) j }
-{
-    let mut rest = j;
-    for bit in x.iter_mut() {
-        *bit = rest % 2 == 1;
-        rest /= 2;
-    }
-}
-
 impl Patterns {
     /// The set without vectors, which takes no memory.
     pub fn new(alloc: Global, inputs: u32) -> Patterns
@@ -114,19 +104,17 @@ impl Patterns {
         }
     }
 
-    /// All vectors in counting order.
+    /// All vectors in counting order, made row by row.
     pub fn exhaustive(alloc: Global, inputs: u32) -> Result<Patterns, AllocError>
         requires { inputs ≤ 16 }
         ensures { IfOk result (λ s. s ≡ record { inputs = inputs; vectors = all_vectors inputs }) }
     {
-        let mut set = Patterns::new(alloc, inputs);
-        let mut buffer = [false; 16];
-        let x = &mut buffer[..inputs as usize];
-        for j in 0..2u32.pow(inputs) {
-            counting_vector(j, x);
-            set.push(x)?;
-        }
-        Ok(set)
+        let count = 1 << inputs;
+        Ok(Patterns {
+            inputs,
+            count,
+            rows: counting_rows(alloc, inputs, count)?,
+        })
     }
 
     /// How many bits a vector has.

@@ -1,12 +1,8 @@
--- Bits of rows that stand one behind another, and of a row whose last word is masked.
-use Rattle.std.proofs.Common.{◌≡◌, ◌≢◌, ℕ, ◌+◌, ◌*◌, ◌/◌, ◌%◌, ◌-◌, ◌^◌, ◌<◌, ◌≤◌, Bool, true, false, ◌&&◌, ◌==◌, List, ◌++◌, length, get_or, set, take, drop, refl, ap, sym, ◌∙◌, inl, inr, arith, get_or-set_same, get_or-set_other}
-use Rattle.std.specs.Prelude.{bit_and}
-use Rattle.std.proofs.lemmas.Bool.{cases_eq}
-use Rattle.std.proofs.lemmas.List.{get_or_past, get_or-take, get_or-drop, get_or_append_left, get_or-append-add}
-use Rattle.std.proofs.Math.ListN.{length-set}
-use Rattle.std.proofs.lemmas.Nat.Bits.{bit_at-zero, bit_at_ones, bit_at_ones_above}
-use Rattle.lane_bits.specs.Rows.{row_bit, word_count}
-use Rattle.lane_bits.proofs.Bits.{word_bit, and_bit}
+-- Bits of rows that stand one behind another.
+use Rattle.std.proofs.Common.{◌≡◌, ℕ, ◌+◌, ◌*◌, ◌/◌, ◌%◌, ◌-◌, ◌<◌, ◌≤◌, List, ◌++◌, length, get_or, take, drop, ap, sym, ◌∙◌, arith}
+use Rattle.std.proofs.lemmas.List.{get_or-take, get_or-drop, get_or_append_left, get_or-append-add}
+use Rattle.lane_bits.specs.Rows.{row_bit}
+use Rattle.lane_bits.proofs.Bits.{word_bit}
 use Rattle.sim_core.specs.Parts.{bit_from}
 
 -- ---- where a bit stands
@@ -67,54 +63,3 @@ pub part_read : (xs ys : List ℕ) (start words at p : ℕ) → xs ≡ ys → st
 part_read xs ys start words at p same here low =
     let wide : start + words - start ≡ words = omega arith in
     ap (λ n. row_bit (take n (drop start xs)) p) wide ∙ row_bit-part xs start words p low ∙ (λ j. bit_from (same j) (here j) p)
-
--- ---- the last word
-
-row_bit_past : (row : List ℕ) (p : ℕ) → length row ≤ p / 64 → row_bit row p ≡ false
-unfolding row_bit
-row_bit_past row p past = ap (λ w. word_bit w (p % 64)) (get_or_past row (p / 64) 0 past) ∙ ap (λ n. n == 1) (bit_at-zero (p % 64))
-
-and_true : (b : Bool) → (b && true) ≡ b
-and_true true = refl
-and_true false = refl
-
-and_false : (b : Bool) → (b && false) ≡ false
-and_false true = refl
-and_false false = refl
-
--- a row of so many bits without unused ones
-pub whole_clear : (row : List ℕ) (count : ℕ) → length row ≡ word_count count → count % 64 ≡ 0 → (p : ℕ) → count ≤ p → row_bit row p ≡ false
-whole_clear row count long whole p past = row_bit_past row p (omega (arith, long, whole, past))
-
--- the last word keeps as many bits as are used
-module _ (row : List ℕ) (count word : ℕ) (long : length row ≡ word_count count) (some : count % 64 ≢ 0)
-    (is : word ≡ bit_and (get_or row (length row - 1) 0) (2 ^ (count % 64) - 1)) where
-  last_bit : (p : ℕ) → p / 64 ≡ length row - 1 → row_bit (set row (length row - 1) word) p ≡ (row_bit row p && word_bit (2 ^ (count % 64) - 1) (p % 64))
-  unfolding row_bit
-  last_bit p last =
-      let inside : length row - 1 < length row = omega (arith, long, some) in
-      ap (λ w. word_bit w (p % 64)) (ap (λ k. get_or (set row (length row - 1) word) k 0) last ∙ get_or-set_same row (length row - 1) word 0 inside ∙ is)
-      ∙ and_bit (get_or row (length row - 1) 0) (2 ^ (count % 64) - 1) (p % 64)
-      ∙ ap (λ k. word_bit (get_or row k 0) (p % 64) && word_bit (2 ^ (count % 64) - 1) (p % 64)) (sym last)
-
-  other_bit : (p : ℕ) → p / 64 ≢ length row - 1 → row_bit (set row (length row - 1) word) p ≡ row_bit row p
-  unfolding row_bit
-  other_bit p other = ap (λ w. word_bit w (p % 64)) (get_or-set_other row (length row - 1) (p / 64) word 0 other)
-
-  pub masked_same : (p : ℕ) → p < count → row_bit (set row (length row - 1) word) p ≡ row_bit row p
-  masked_same p low =
-      elim (cases_eq (p / 64) (length row - 1)) [
-        | inl last ↦
-            let used : p % 64 < count % 64 = omega (arith, long, some, low, last) in
-            last_bit p last ∙ ap (λ n. row_bit row p && (n == 1)) (bit_at_ones (count % 64) (p % 64) used) ∙ and_true (row_bit row p)
-        | inr other ↦ other_bit p other
-      ]
-
-  pub masked_clear : (p : ℕ) → count ≤ p → row_bit (set row (length row - 1) word) p ≡ false
-  masked_clear p past =
-      elim (cases_eq (p / 64) (length row - 1)) [
-        | inl last ↦
-            let unused : count % 64 ≤ p % 64 = omega (arith, long, some, past, last) in
-            last_bit p last ∙ ap (λ n. row_bit row p && (n == 1)) (bit_at_ones_above (count % 64) (p % 64) unused) ∙ and_false (row_bit row p)
-        | inr other ↦ row_bit_past (set row (length row - 1) word) p (omega (arith, long, some, past, other, length-set row (length row - 1) word))
-      ]

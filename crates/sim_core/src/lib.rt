@@ -1,7 +1,11 @@
-//! The values of the nodes of graphs at many patterns, in rows of bits.
+//! The values of graphs' nodes and of nets' signals at many patterns, in rows of bits.
 #![tactic(auto)]
 
+mod covers;
+pub mod flip_sim;
+mod net_rows;
 mod rows;
+mod signal_row;
 pub mod sim;
 mod steps;
 #[cfg(test)]

@@ -4,7 +4,7 @@ ghost use Rattle.lane_bits.specs.Rows.{row_bit, turned, word_count};
 ghost use Rattle.sim_core.specs.Parts.{bit_from, StaysBefore};
 
 use aig_core::literal::{Literal, is_negative, node_of};
-use lane_bits::kernels::and_rows;
+use lane_bits::kernels::{and_rows, clear_past};
 
 /// A row that is read: its first word, and whether its bits are turned over.
 #[derive(Clone, Copy)]
@@ -25,19 +25,6 @@ pub(crate) fn side_of(rows: &[u64], words: usize, literal: Literal) -> Side
     Side {
         start: node_of(literal) as usize * words,
         flip: is_negative(literal),
-    }
-}
-
-/// Makes the bits past the first `count` 0.
-pub(crate) fn clear_past(row: &mut [u64], count: u64)
-    requires { length row.old ≡ word_count count }
-    ensures same { (p : ℕ) → p < count → row_bit row.new p ≡ row_bit row.old p }
-    ensures clear { (p : ℕ) → count ≤ p → row_bit row.new p ≡ false }
-{
-    let used = count % 64;
-    if used != 0 {
-        let last = row.len() - 1;
-        row[last] &= (1 << used) - 1;
     }
 }
 

@@ -4,11 +4,11 @@ ghost use Rattle.lane_bits.specs.Rows.{word_count};
 ghost use Rattle.aig_core.specs.Graph.{GraphValue, truth_of};
 ghost use Rattle.sim_core.specs.Simulation.{IsForGraph, IsSimulationOf, IsRowOfValues};
 
-use crate::rows::{clear_past, side_of};
+use crate::rows::side_of;
 use crate::steps::{set_gates, set_inputs};
 use aig_core::graph::Aig;
 use aig_core::literal::Literal;
-use lane_bits::kernels::{and_rows, word_count};
+use lane_bits::kernels::{and_rows, clear_past, word_count};
 use lane_bits::patterns::Patterns;
 use std::alloc::{AllocError, Global};
 use std::marker::Model;

@@ -3,6 +3,7 @@ use Rattle.std.specs.Int.{trailing_zeros}
 use Rattle.std.proofs.lemmas.Nat.Bits.{bit_at-trailing_zeros}
 use Rattle.lane_bits.specs.Rows.{row_bit}
 use Rattle.lane_bits.proofs.Bits.{none_in_word, first_in_word}
+use Rattle.lane_bits.proofs.Changed.{no_bits}
 use Rattle.lane_bits.proofs.kernels.first_set.Goals as goal
 
 -- the first 1 of a row whose first words have none
@@ -11,6 +12,9 @@ first : (row : List ℕ) (k t : ℕ) → ((q : ℕ) → q < 64 * k → row_bit r
 first row k t before some fits is =
     let low = bit_at-trailing_zeros w64 (get_or row k 0) some fits in
     rw is (first_in_word row k (trailing_zeros w64 (get_or row k 0)) before low.0 low.1 low.2)
+
+pub loop-k-init : goal.loop-k-init
+loop-k-init c = no_bits c.args.row.now c.clear_words-k.result c.clear_words-k.ensures.clear
 
 pub returns-then-p-count : goal.returns-then-p-count
 returns-then-p-count c =

@@ -1,8 +1,7 @@
-use Rattle.std.proofs.Common.{◌≡◌, ℕ, ◌<◌, ◌≤◌, get_or}
+use Rattle.std.proofs.Common.{◌*◌, get_or}
 use Rattle.std.specs.Prelude.{bit_or}
+use Rattle.lane_bits.specs.Changed.{AreChanged}
 use Rattle.lane_bits.proofs.kernels.or_rows.Given as goal
 
-abbrev pub invariant-loop-k : goal.invariant-loop-k
-invariant-loop-k l =
-    ((j : ℕ) → j < l.k → get_or l.dst j 0 ≡ bit_or (get_or l.initial.dst j 0) (get_or l.a j 0))
-    × ((j : ℕ) → l.k ≤ j → get_or l.dst j 0 ≡ get_or l.initial.dst j 0)
+abbrev pub invariant-loop-q : goal.invariant-loop-q
+invariant-loop-q l = AreChanged (λ k w. bit_or w (get_or l.a k 0)) 0 (8 * l.q) l.initial.dst l.dst

@@ -1,8 +1,8 @@
 use Rattle.std.proofs.Common.{◌≡◌, ℕ, ◌*◌, ◌-◌, ◌^◌, ◌%◌, ◌<◌, length, get_or, ap, arith}
 use Rattle.std.specs.Prelude.{bit_and}
 use Rattle.std.proofs.lemmas.Nat.{one_shl}
-use Rattle.sim_core.proofs.Joined.{masked_same, masked_clear, whole_clear}
-use Rattle.sim_core.proofs.rows.clear_past.Goals as goal
+use Rattle.lane_bits.proofs.LastWord.{masked_same, masked_clear, whole_clear}
+use Rattle.lane_bits.proofs.kernels.clear_past.Goals as goal
 
 -- the mask of the bits that are used
 mask_is : (word count : ℕ) → bit_and word (1 * 2 ^ (count % 64) % 2 ^ 64 - 1) ≡ bit_and word (2 ^ (count % 64) - 1)

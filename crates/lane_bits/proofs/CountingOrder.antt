@@ -1,0 +1,142 @@
+-- The counting order, row by row.
+use Rattle.std.proofs.Common.{◌≡◌, ℕ, zero, suc, ◌+◌, ◌*◌, ◌/◌, ◌%◌, ◌-◌, ◌^◌, ◌<◌, ◌≤◌, ◌==◌, ◌&&◌, Bool, true, false, List, [], ◌∷◌, ◌++◌, length, get_or, refl, ap, sym, subst, ◌∙◌, inl, inr, arith}
+use Rattle.std.specs.Int.{bit_at}
+use Rattle.std.proofs.lemmas.Bool.{and_parts, eqb-true, cases_eq}
+use Rattle.std.proofs.lemmas.List.{ext_get_or, length_push, get_or_push, get_or_append_left}
+use Rattle.std.proofs.lemmas.List.Elements.{All-from_get_or}
+use Rattle.std.proofs.lemmas.List.FromFn.{get_or-map-range_with_len}
+use Rattle.std.proofs.lemmas.Nat.Bits.{bit_at_lowest, bit_at-suc, bit_at_cat_low, bit_at_cat_high}
+use Rattle.semantics.specs.Vectors.{bits_of, all_vectors}
+use Rattle.semantics.proofs.Vectors.{length-bits_of, length-all_vectors}
+use Rattle.lane_bits.specs.Rows.{row_bit, word_count}
+use Rattle.lane_bits.specs.Patterns.{PatternSet, vector_at, vectors_in}
+use Rattle.lane_bits.specs.CountingOrder.{IsCountingRow, AreCountingRows}
+use Rattle.lane_bits.specs.Store.{AreRowsOf, IsRowFor}
+use Rattle.lane_bits.proofs.Store.{length-vectors_in, vector-at, length-vector_at, bit-at}
+
+-- ---- the words
+
+-- whether f is true below n
+abbrev holds_below : (ℕ → Bool) → ℕ → Bool
+holds_below f zero = true
+holds_below f (suc n) = f n && holds_below f n
+
+holds_at : (f : ℕ → Bool) (n : ℕ) → holds_below f n ≡ true → (b : ℕ) → b < n → f b ≡ true
+holds_at f zero h b low = absurd (omega arith)
+holds_at f (suc n) h b low =
+    let parts = and_parts (f n) (holds_below f n) h in
+    elim (cases_eq b n) [
+      | inl e ↦ ap f e ∙ parts.0
+      | inr other ↦ holds_at f n parts.1 b (omega (arith, low, other))
+    ]
+
+abbrev AreBitsOf : ℕ → ℕ → Type 0
+AreBitsOf word input = (b : ℕ) → b < 64 → bit_at word b ≡ bit_at b input
+
+checked : (word input : ℕ) → holds_below (λ b. bit_at word b == bit_at b input) 64 ≡ true → AreBitsOf word input
+checked word input h b low = eqb-true (bit_at word b) (bit_at b input) (holds_at (λ b. bit_at word b == bit_at b input) 64 h b low)
+
+number_at : (k b : ℕ) → 64 * k + b ≡ k * 2 ^ 6 + b
+number_at k b = omega arith
+
+-- the first six inputs
+repeated : (word input k b : ℕ) → AreBitsOf word input → input < 6 → b < 64 → (bit_at word b == 1) ≡ (bit_at (64 * k + b) input == 1)
+repeated word input k b are small low = ap (λ n. n == 1) (are b low ∙ sym (bit_at_cat_low k 6 b input small) ∙ ap (λ n. bit_at n input) (sym (number_at k b)))
+
+pub first_input : (k b : ℕ) → b < 64 → (bit_at 12297829382473034410 b == 1) ≡ (bit_at (64 * k + b) 0 == 1)
+first_input k b low = repeated 12297829382473034410 0 k b (checked 12297829382473034410 0 refl) (omega arith) low
+
+pub second_input : (k b : ℕ) → b < 64 → (bit_at 14757395258967641292 b == 1) ≡ (bit_at (64 * k + b) 1 == 1)
+second_input k b low = repeated 14757395258967641292 1 k b (checked 14757395258967641292 1 refl) (omega arith) low
+
+pub third_input : (k b : ℕ) → b < 64 → (bit_at 17361641481138401520 b == 1) ≡ (bit_at (64 * k + b) 2 == 1)
+third_input k b low = repeated 17361641481138401520 2 k b (checked 17361641481138401520 2 refl) (omega arith) low
+
+pub fourth_input : (k b : ℕ) → b < 64 → (bit_at 18374966859414961920 b == 1) ≡ (bit_at (64 * k + b) 3 == 1)
+fourth_input k b low = repeated 18374966859414961920 3 k b (checked 18374966859414961920 3 refl) (omega arith) low
+
+pub fifth_input : (k b : ℕ) → b < 64 → (bit_at 18446462603027742720 b == 1) ≡ (bit_at (64 * k + b) 4 == 1)
+fifth_input k b low = repeated 18446462603027742720 4 k b (checked 18446462603027742720 4 refl) (omega arith) low
+
+pub sixth_input : (k b : ℕ) → b < 64 → (bit_at 18446744069414584320 b == 1) ≡ (bit_at (64 * k + b) 5 == 1)
+sixth_input k b low = repeated 18446744069414584320 5 k b (checked 18446744069414584320 5 refl) (omega arith) low
+
+-- the other inputs
+pub later_input : (k b input : ℕ) → b < 64 → 6 ≤ input → (bit_at k (input - 6) == 1) ≡ (bit_at (64 * k + b) input == 1)
+later_input k b input low late = ap (λ n. n == 1) (sym (bit_at_cat_high k 6 b input low late) ∙ ap (λ n. bit_at n input) (sym (number_at k b)))
+
+-- ---- a row
+
+-- one more word
+pub row_from_words : (input : ℕ) (row : List ℕ) → ((k : ℕ) → k < length row → (b : ℕ) → b < 64 → (bit_at (get_or row k 0) b == 1) ≡ (bit_at (64 * k + b) input == 1))
+    → (p : ℕ) → p < 64 * length row → row_bit row p ≡ (bit_at p input == 1)
+unfolding row_bit
+row_from_words input row words p low =
+    let here : 64 * (p / 64) + p % 64 ≡ p = omega arith in
+    words (p / 64) (omega (arith, low)) (p % 64) (omega arith) ∙ ap (λ n. bit_at n input == 1) here
+
+pub counting_cut : (input count : ℕ) (row cut : List ℕ) → length row ≡ word_count count → length cut ≡ length row → ((p : ℕ) → p < 64 * length row → row_bit row p ≡ (bit_at p input == 1))
+    → ((p : ℕ) → p < count → row_bit cut p ≡ row_bit row p) → ((p : ℕ) → count ≤ p → row_bit cut p ≡ false) → IsCountingRow input count cut
+counting_cut input count row cut long same bits kept clear = record {
+  words = same ∙ long;
+  bits = λ p low. kept p low ∙ bits p (omega (arith, low, long));
+  clear = clear;
+}
+
+-- ---- all rows
+
+pub rows_none : (count : ℕ) → AreCountingRows 0 count []
+rows_none count = record { all = refl; each = λ i low. absurd (omega (arith, low)) }
+
+pub rows_all : (i inputs count : ℕ) (rows : List (List ℕ)) → i ≡ inputs → AreCountingRows i count rows → AreCountingRows inputs count rows
+rows_all i inputs count rows same are = subst (λ n. AreCountingRows n count rows) same are
+
+pub rows_more : (inputs count : ℕ) (rows : List (List ℕ)) (row : List ℕ) → AreCountingRows inputs count rows → IsCountingRow inputs count row → AreCountingRows (inputs + 1) count (rows ++ row ∷ [])
+rows_more inputs count rows row before here =
+    let long : length (rows ++ row ∷ []) ≡ length rows + 1 = length_push rows row in
+    record {
+      all = omega (arith, long, before.all);
+      each = λ i low. elim (cases_eq i (length rows)) [
+        | inl e ↦
+            let last : i ≡ inputs = omega (arith, e, before.all) in
+            subst (IsCountingRow i count) (sym (get_or_push rows row [] i (sym e))) (subst (λ n. IsCountingRow n count row) (sym last) here)
+        | inr other ↦
+            let early : i < length rows = omega (arith, low, long, other) in
+            subst (IsCountingRow i count) (sym (get_or_append_left rows (row ∷ []) [] i early)) (before.each i early)
+      ];
+    }
+
+-- a bit of a vector
+bit_of : (n j i : ℕ) → i < n → get_or (bits_of n j) i false ≡ (bit_at j i == 1)
+bit_of zero j i low = absurd (omega arith)
+bit_of (suc n) j zero low = ap (λ b. b == 1) (sym (bit_at_lowest j))
+bit_of (suc n) j (suc i) low = bit_of n (j / 2) i (omega arith) ∙ ap (λ b. b == 1) (sym (bit_at-suc j i))
+
+module _ (inputs count : ℕ) (rows : List (List ℕ)) (few : inputs ≤ 256) (all : count ≡ 2 ^ inputs) (are : AreCountingRows inputs count rows) where
+  pub counting_formed : AreRowsOf inputs count rows
+  counting_formed = record {
+    few = few;
+    each = inl are.all;
+    formed = All-from_get_or (IsRowFor count) rows [] (λ i low. record { room = omega (arith, (are.each i low).words); clear = (are.each i low).clear });
+  }
+
+  counted : (p : ℕ) → p < count → vector_at rows p ≡ bits_of inputs p
+  counted p low =
+      ext_get_or false (vector_at rows p) (bits_of inputs p) (length-vector_at rows p ∙ are.all ∙ sym (length-bits_of inputs p))
+      (λ i within.
+      let inside : i < length rows = omega (arith, within, length-vector_at rows p) in
+      bit-at rows i p inside ∙ (are.each i inside).bits p low ∙ sym (bit_of inputs p i (omega (arith, inside, are.all))))
+
+  counted-at : (p : ℕ) → p < 2 ^ inputs → get_or (all_vectors inputs) p [] ≡ bits_of inputs p
+  unfolding all_vectors
+  counted-at p low = get_or-map-range_with_len (bits_of inputs) 0 (2 ^ inputs) p p [] low (omega arith)
+
+  pub counting_vectors : vectors_in rows count ≡ all_vectors inputs
+  counting_vectors =
+      ext_get_or [] (vectors_in rows count) (all_vectors inputs) (length-vectors_in rows count ∙ all ∙ sym (length-all_vectors inputs))
+      (λ p low.
+      let within : p < count = omega (arith, low, length-vectors_in rows count) in
+      vector-at rows count p within ∙ counted p within ∙ sym (counted-at p (omega (arith, within, all))))
+
+  pub counting_set : ◌≡◌ {A = PatternSet} (record { inputs = inputs; vectors = vectors_in rows count }) (record { inputs = inputs; vectors = all_vectors inputs })
+  counting_set = λ i. record { inputs = inputs; vectors = counting_vectors i }
