@@ -2,6 +2,7 @@ pub mod Keys
 pub mod Reading
 pub mod Refusing
 pub mod Changed
+pub mod Places
 pub mod InOrder
 pub mod Eval
 pub mod Dependents

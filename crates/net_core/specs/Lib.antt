@@ -1,3 +1,4 @@
 pub mod Built
+pub mod Places
 pub mod Refused
 pub mod Sorting

@@ -1,5 +1,5 @@
 //! Nets: sound, with an order of their tables, and of a size that fits their numbers.
-ghost use Rattle.std.specs.Prelude.{◌≡◌, ℕ, ◌+◌, ◌<◌, ◌^◌, false, length, slice_index, slice_index_or, sum_by, All, None, IfOk, IfErr, OnOk};
+ghost use Rattle.std.specs.Prelude.{◌≡◌, ℕ, ◌+◌, ◌<◌, ◌^◌, false, length, slice_index, slice_index_or, sum_by, All, None, IfOk, IfErr, OnOk, OnErr};
 ghost use Rattle.semantics.specs.Net.{IsName, IsTable, IsAcyclic, input_count, table_count, signal_count, literal_count, signal_names, name_of, table_at, table_literals};
 ghost use Rattle.semantics.specs.Value.{value_of};
 ghost use Rattle.semantics.specs.Order.{IsOrderOf};
@@ -10,7 +10,7 @@ ghost use Rattle.net_core.specs.Refused.{IsRefusalOf};
 
 use crate::limits::first_limit;
 use crate::names::{first_doubled, name_at};
-use crate::order::order_of;
+use crate::order::{are_known_at, order_of, order_of_acyclic};
 use crate::refusal::NetRefusal;
 use crate::undriven::first_undriven;
 use net_parts::assemble::Assemble;
@@ -127,9 +127,7 @@ impl Net {
         ensures { IfOk result
             (λ n. n ≡ record { model = model; inputs = inputs; tables = tables; outputs = outputs }) }
     {
-        let Ok(order) = order_of(alloc, inputs.len() as u32, tables.as_slice())? else {
-            unreachable!()
-        };
+        let order = order_of_acyclic(alloc, inputs.len() as u32, tables.as_slice())?;
         Ok(Net::from_ordered(model, inputs, tables, outputs, order))
     }
 
@@ -290,20 +288,65 @@ impl Net {
         })
     }
 
-    /// The net with another table in the place of table `t`, which is not copied, on the same allocator.
+    /// A net with these tables in the place of this one's, in this order, on the same allocator.
+    fn with_tables(&self, tables: TableList, order: Vec<u32>) -> Result<Net, AllocError>
+        requires wired { IsWired (record self.now { tables = tables }) }
+        requires order { IsOrderOf (input_count self.now) tables order.items }
+        ensures { IfOk result (λ n. n ≡ record self.now { tables = tables }) }
+    {
+        let model = self.model.copy()?;
+        let inputs = self.inputs.copy()?;
+        let outputs = self.outputs.copy()?;
+        Ok(Net::from_ordered(model, inputs, tables, outputs, order))
+    }
+
+    /// The net with another table in the place of table `t`, which is not copied, on the same allocator. The order stays where it
+    /// still serves.
     pub fn with_table(&self, t: u32, table: Table) -> Result<Net, AllocError>
         requires within { t < table_count self.now }
         requires same_name { table.name ≡ (table_at self.now.tables t).name }
         requires acyclic { IsAcyclic (input_count self.now) (replaced self.now.tables t table) }
         ensures { IfOk result (λ n. n ≡ with_table self.now t table) }
     {
-        Net::from_sound(
-            *self.order.allocator(),
-            self.model.copy()?,
-            self.inputs.copy()?,
-            self.tables.copy_with(t as usize, table)?,
-            self.outputs.copy()?,
-        )
+        let inputs = self.inputs();
+        let known = are_known_at(inputs, &self.order, t, table.pins().as_slice());
+        let alloc = *self.order.allocator();
+        let tables = self.tables.copy_with(t as usize, table)?;
+        if known {
+            let order = Vec::from_slice(alloc, &self.order)?;
+            return self.with_tables(tables, order);
+        }
+        let order = order_of_acyclic(alloc, inputs, tables.as_slice())?;
+        self.with_tables(tables, order)
+    }
+
+    /// Puts another table in the place of table `t`, and gives the one that stood there. No table is copied. The order stays where
+    /// it still serves, and then no memory is taken; where there is none for another order, the net stays.
+    pub fn exchange_table(&mut self, t: u32, table: Table) -> Result<Table, AllocError>
+        requires within { t < table_count self.old }
+        requires same_name { table.name ≡ (table_at self.old.tables t).name }
+        requires acyclic { IsAcyclic (input_count self.old) (replaced self.old.tables t table) }
+        ensures ok { OnOk result (self.new ≡ with_table self.old t table) }
+        ensures err { OnErr result (self.new ≡ self.old) }
+        ensures taken { IfOk result (λ before. before ≡ table_at self.old.tables t) }
+    {
+        let inputs = self.inputs.len() as u32;
+        let alloc = *self.order.allocator();
+        let known = are_known_at(inputs, &self.order, t, table.pins().as_slice());
+        let before = self.tables.replace(t as usize, table);
+        if known {
+            return Ok(before);
+        }
+        match order_of_acyclic(alloc, inputs, self.tables.as_slice()) {
+            Ok(order) => {
+                self.order = order;
+                Ok(before)
+            }
+            Err(fault) => {
+                self.tables.replace(t as usize, before);
+                Err(fault)
+            }
+        }
     }
 }
 

@@ -2,8 +2,10 @@
 //! topological sorting. A table waits for one table at a time, the first that it reads and that has no place yet, and goes
 //! on from there when that one has its place: so each pin is passed once, and no counts of pins are kept.
 ghost use Rattle.std.specs.Prelude.{◌≡◌, ◌↔◌, ◌<◌, ◌+◌, ◌^◌, ℕ, List, [], ◌∷◌, take, replicate, length, slice_index, IsTrue, IfOk, OnOk, IfSome, MatchResult, MatchOption, All, Contains, Some};
+ghost use Rattle.semantics.specs.Net.{IsAcyclic};
 ghost use Rattle.semantics.specs.Order.{IsKnown, IsOrderOf};
 ghost use Rattle.semantics.specs.Refusals.{first_ungrounded};
+ghost use Rattle.net_core.specs.Places.{IsKnownAt};
 ghost use Rattle.net_core.specs.Sorting.{waiters_of, placed_at_end, waiting_for, without_waiters, IsFirstUnknown, IsSorting, IsSettled};
 
 use net_parts::items::Signal;
@@ -24,6 +26,7 @@ struct Sorting {
 
 impl Model for Sorting {
     ghost use Rattle.std.specs.Prelude.{◌≡◌, map, length};
+    ghost use Rattle.net_core.specs.Places.{IsKnownAt};
     ghost use Rattle.net_core.specs.Sorting.{Sorting, IsMarked};
 
     ghost Value = { Sorting };
@@ -251,4 +254,55 @@ pub fn order_of(
         Some(i) => Ok(Err(i)),
         None => Ok(Ok(sorting.into_order())),
     }
+}
+
+/// An order of tables that have one.
+pub(crate) fn order_of_acyclic(
+    alloc: Global,
+    inputs: u32,
+    tables: &[Table],
+) -> Result<Vec<u32>, AllocError>
+    requires few_signals { inputs + length tables.now < 2 ^ 31 }
+    requires acyclic { IsAcyclic inputs tables.now }
+    ensures { IfOk result (λ order. IsOrderOf inputs tables.now order.items) }
+{
+    let Ok(order) = order_of(alloc, inputs, tables)? else {
+        unreachable!()
+    };
+    Ok(order)
+}
+
+/// Whether table `i` stands before table `t` in an order.
+fn stands_before(order: &[u32], t: u32, i: u32) -> bool
+    ensures { IsTrue result → (k : ℕ) → k < length order.now → slice_index order.now k ≡ t → Contains (take k order.now) i }
+{
+    for j in order {
+        if *j == t {
+            return false;
+        }
+        if *j == i {
+            return true;
+        }
+    }
+    false
+}
+
+/// Whether a signal is an input, or a table that stands before table `t` in an order.
+fn is_known_at(inputs: u32, order: &[u32], t: u32, signal: Signal) -> bool
+    ensures { IsTrue result → IsKnownAt inputs order.now t signal }
+{
+    signal < inputs || stands_before(order, t, signal - inputs)
+}
+
+/// Whether each of these signals is an input, or a table that stands before table `t` in an order. Then the order serves as well
+/// where table `t` reads them.
+pub(crate) fn are_known_at(inputs: u32, order: &[u32], t: u32, signals: &[Signal]) -> bool
+    ensures { IsTrue result → All (IsKnownAt inputs order.now t) signals.now }
+{
+    for signal in signals {
+        if !is_known_at(inputs, order, t, *signal) {
+            return false;
+        }
+    }
+    true
 }

@@ -1,18 +1,20 @@
 -- What a move of a net asks of its table.
-use Rattle.std.proofs.Common.{◌≡◌, ℕ, suc, ◌<◌, ◌≤◌, ◌^◌, List, length, get_or, take, drop, All, arith}
+use Rattle.std.proofs.Common.{◌≡◌, ℕ, suc, ◌<◌, ◌≤◌, ◌^◌, List, length, get_or, set, take, drop, All, ap, sym, subst, ◌∙◌, arith}
 use Rattle.std.specs.List.{remove}
+use Rattle.std.proofs.lemmas.List.{set-set, set-get_or}
 use Rattle.std.proofs.lemmas.List.Sums.{sum_by-le, count_by-le-length, get_or-le-sum_by}
 use Rattle.std.proofs.lemmas.List.Elements.{All-append, All-take, All-drop}
 use Rattle.semantics.specs.declared.mark.Mark.{Mark}
 use Rattle.semantics.specs.Net.{TableValue, NetValue, no_table, table_at, input_count, table_count, is_literal, row_literals, table_literals, IsAcyclic, IsSound, IsSmall}
-use Rattle.semantics.specs.Replaced.{replaced}
+use Rattle.semantics.specs.Replaced.{replaced, with_table}
 use Rattle.chain_semantics.specs.declared.moves.Move.{Move}
 use Rattle.chain_semantics.specs.declared.moves.Move.TheVariants.{Const, DropRow, DropLiteral, Signal, Pair}
-use Rattle.chain_semantics.specs.Moves.{table_of, row_at, moved_table}
+use Rattle.chain_semantics.specs.Moves.{table_of, row_at, moved_table, moved}
 use Rattle.chain_semantics.specs.MoveLaws.{IsMoveOf}
 use Rattle.chain_semantics.proofs.MovedNets.{literal_within, moved-acyclic}
 use Rattle.net_moves.specs.Fitting.{Fits}
 use Rattle.net_moves.specs.Left.{AreCountable}
+use Rattle.net_moves.specs.Made.{IsMadeIn}
 
 pub Fits-move : (N : NetValue) (m : Move) → IsMoveOf N m → Fits (table_at N.tables (table_of m)) m
 Fits-move N (Const t value) is = tt
@@ -52,3 +54,14 @@ few_literals N t sound small within =
       small-rows N t small within,
       sum_by-le row_literals 256 rows (λ k d low. omega (arith, count_by-le-length is_literal (get_or rows k d), narrow-row N t sound small within k d low)),
     )
+
+-- the table that stood there comes again
+pub taken_back : (before now : NetValue) (step : Move) (table : TableValue) (t : ℕ) → IsMadeIn before step table now → t ≡ table_of step → with_table now t table ≡ before
+taken_back before now step table t m at =
+    let again : set (set before.tables (table_of step) (moved_table (table_at before.tables (table_of step)) step)) (table_of step) table ≡ before.tables =
+    set-set before.tables (table_of step) (moved_table (table_at before.tables (table_of step)) step) table ∙ ap (set before.tables (table_of step)) m.stood
+    ∙ set-get_or before.tables (table_of step) no_table in
+    ap (λ k. with_table now k table) at ∙ ap (λ (N : NetValue). with_table N (table_of step) table) m.made ∙ ap (λ ts. record before { tables = ts }) again
+
+pub back-acyclic : (before now : NetValue) (step : Move) (table : TableValue) (t : ℕ) → IsMadeIn before step table now → t ≡ table_of step → IsAcyclic (input_count now) (replaced now.tables t table)
+back-acyclic before now step table t m at = subst (λ (N : NetValue). IsAcyclic (input_count N) N.tables) (sym (taken_back before now step table t m at)) m.sound.acyclic

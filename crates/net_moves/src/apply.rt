@@ -1,8 +1,10 @@
-//! The net after a move: one table is made anew, and the others are copied.
-ghost use Rattle.std.specs.Prelude.{◌≡◌, ◌<◌, [], ◌∷◌, true, false, not, length, slice_index_or, remove, slice_set, IfOk, All, Contains};
+//! The net after a move: one table is made anew. The others are copied, or the move is made in the net and can be taken back.
+ghost use Rattle.std.specs.Prelude.{◌≡◌, ◌<◌, [], ◌∷◌, true, false, not, length, slice_index_or, remove, slice_set, IfOk, OnOk, OnErr, All, Contains};
 ghost use Rattle.semantics.specs.declared.mark.Mark.TheVariants.{Dash};
 ghost use Rattle.chain_semantics.specs.Moves.{moves_of, table_of, moved_table, moved, copy_mark, row_at};
+ghost use Rattle.semantics.specs.Net.{NetValue, table_at};
 ghost use Rattle.net_moves.specs.Fitting.{Fits};
+ghost use Rattle.net_moves.specs.Made.{IsMadeIn};
 
 use chain_semantics::moves::Move;
 use net_core::items::{Items, RowList, Signal};
@@ -138,4 +140,29 @@ pub fn apply(alloc: Global, net: &Net, step: Move) -> Result<Net, AllocError>
     let t = table_of(step);
     let table = moved_table(alloc, net.table(t), step)?;
     net.with_table(t, table)
+}
+
+/// Makes a move in one of its nets, and gives the table that stood there. No table is copied, and nothing is tidied. Where there is
+/// no memory, the net stays.
+pub fn make(alloc: Global, net: &mut Net, step: Move) -> Result<Table, AllocError>
+    requires { Contains (moves_of net.old) step }
+    ensures ok { OnOk result (net.new ≡ moved net.old step) }
+    ensures err { OnErr result (net.new ≡ net.old) }
+    ensures taken { IfOk result (λ table. table ≡ table_at net.old.tables (table_of step)) }
+{
+    // A net is sound by its type: the call brings that fact here.
+    let _ = net.tables();
+    let t = table_of(step);
+    let table = moved_table(alloc, net.table(t), step)?;
+    net.exchange_table(t, table)
+}
+
+/// Takes back a move that was made in a net: the table that stood there comes again. Where there is no memory, the net stays.
+pub fn take_back(net: &mut Net, step: Move, table: Table) -> Result<(), AllocError>
+    requires { (before : NetValue) × IsMadeIn before step table net.old }
+    ensures ok { OnOk result ((before : NetValue) → IsMadeIn before step table net.old → net.new ≡ before) }
+    ensures err { OnErr result (net.new ≡ net.old) }
+{
+    net.exchange_table(table_of(step), table)?;
+    Ok(())
 }

@@ -6,6 +6,7 @@ use crate::row::Row;
 use crate::table::Table;
 use std::alloc::{AllocError, Global};
 use std::marker::Model;
+use std::mem;
 
 /// The number of an input or a table: the inputs first, then the tables.
 pub type Signal = u32;
@@ -94,6 +95,15 @@ impl<T> Items<T> {
         ensures { result.now ≡ self.now }
     {
         self.items.as_slice()
+    }
+
+    /// Puts an item in the place of item `i`, from 0, and gives the one that stood there. It takes no memory.
+    pub fn replace(&mut self, i: usize, item: T) -> T
+        requires { i < length self.old }
+        ensures taken { result ≡ slice_index_or self.old i result }
+        ensures put { self.new ≡ slice_set self.old i item }
+    {
+        mem::replace(&mut self.items[i], item)
     }
 }
 

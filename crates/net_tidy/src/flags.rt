@@ -1,5 +1,5 @@
 //! A flag for each table, which is raised where a rule may apply.
-ghost use Rattle.std.specs.Prelude.{◌≡◌, ◌≢◌, ◌<◌, ◌^◌, ◌+◌, ℕ, true, false, not, length, replicate, slice_index_or, slice_set, All, IfOk};
+ghost use Rattle.std.specs.Prelude.{◌≡◌, ◌≢◌, ◌<◌, ◌≤◌, ◌^◌, ◌+◌, ℕ, true, false, not, length, replicate, slice_index_or, slice_set, All, IfOk};
 ghost use Rattle.std.specs.List.{list_any, remove};
 ghost use Rattle.semantics.specs.Net.{table_at};
 ghost use Rattle.chain_semantics.specs.TidyRules.{has};
@@ -11,18 +11,22 @@ use net_core::items::Signal;
 use std::alloc::{AllocError, Global};
 use std::marker::Model;
 
-/// The flags, in the order of the tables.
+/// The flags, in the order of the tables. None before `first` is raised, so that nothing before it is looked at again.
 #[derive(Drop)]
 pub(crate) struct Flags {
     flags: Vec<bool>,
+    first: usize,
 }
 
 impl Model for Flags {
-    ghost use Rattle.std.specs.Prelude.{List, Bool};
+    ghost use Rattle.std.specs.Prelude.{List, Bool, ℕ, ◌<◌, ◌≤◌, length};
+    ghost use Rattle.net_tidy.specs.Flags.{IsDown};
 
     ghost Value = { List Bool };
 
     ghost view = { λ a. a.flags.items };
+
+    ghost invariant = { λ a. (a.first ≤ length a.flags.items) × ((j : ℕ) → j < a.first → IsDown a.flags.items j) };
 }
 
 impl Flags {
@@ -31,14 +35,28 @@ impl Flags {
         ensures { IfOk result (λ f. f ≡ replicate count true) }
     {
         let flags = vec![in alloc; true; count]?;
-        Ok(Flags { flags })
+        Ok(Flags { flags, first: 0 })
     }
 
-    pub(crate) fn is_raised(&self, t: u32) -> bool
-        requires { t < length self.now }
-        ensures { result ≡ slice_index_or self.now t true }
+    /// A place before which no flag is raised.
+    pub(crate) fn first(&self) -> usize
+        ensures within { result ≤ length self.now }
+        ensures down { (j : ℕ) → j < result → IsDown self.now j }
     {
-        self.flags[t as usize]
+        self.first
+    }
+
+    /// Whether a flag is raised. Where neither it nor one before it is, the place before which none is raised goes past it.
+    pub(crate) fn look(&mut self, t: u32) -> bool
+        requires { t < length self.old }
+        ensures raised { result ≡ slice_index_or self.old t true }
+        ensures same { self.new ≡ self.old }
+    {
+        let raised = self.flags[t as usize];
+        if !raised && self.first == t as usize {
+            self.first += 1;
+        }
+        raised
     }
 
     /// Whether some flag is raised.
@@ -59,7 +77,27 @@ impl Flags {
         requires { t < length self.old }
         ensures { self.new ≡ slice_set self.old t true }
     {
-        self.flags[t as usize] = true;
+        self.raise_at(t as usize);
+    }
+
+    /// Raises the flag at a place.
+    fn raise_at(&mut self, place: usize)
+        requires { place < length self.old }
+        ensures { self.new ≡ slice_set self.old place true }
+    {
+        self.flags[place] = true;
+        self.first = self.first.min(place);
+    }
+
+    /// Raises the flag at a place where a table there reads a signal.
+    pub(crate) fn raise_reader(&mut self, place: usize, pins: &[Signal], s: Signal)
+        requires { place < length self.old }
+        ensures count { length self.new ≡ length self.old }
+        ensures others { (j : ℕ) → IsDown self.new j → IsDown self.old j × (j ≡ place → has pins.now s ≡ false) }
+    {
+        if has(pins, s) {
+            self.raise_at(place);
+        }
     }
 
     /// Raises the flag of a signal, if it is a table.
@@ -92,7 +130,7 @@ impl Flags {
             → IsDown self.old j × (has (table_at tables.now j).pins s ≡ false) }
     {
         for (i, table) in tables.iter().enumerate() {
-            self.flags[i] = self.flags[i] || has(table.pins(), s);
+            self.raise_reader(i, table.pins(), s);
         }
     }
 
@@ -116,5 +154,6 @@ impl Flags {
         ensures { self.new ≡ remove self.old t }
     {
         self.flags.remove(t as usize);
+        self.first = self.first.min(t as usize);
     }
 }

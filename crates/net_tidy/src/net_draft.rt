@@ -1,6 +1,6 @@
 //! A net that is edited in place, table by table. A flag for each table says where a rule may apply: after a step only what
 //! it concerns is tried again.
-ghost use Rattle.std.specs.Prelude.{◌≡◌, ◌<◌, ◌^◌, ◌+◌, true, false, not, take, length, map, All, IfOk, OnOk, None, Some, MatchOption};
+ghost use Rattle.std.specs.Prelude.{◌≡◌, ◌<◌, ◌≤◌, ◌^◌, ◌+◌, ℕ, true, false, not, take, length, map, All, IfOk, OnOk, None, Some, MatchOption};
 ghost use Rattle.std.specs.List.{filter};
 ghost use Rattle.semantics.specs.Net.{input_count, table_count, signal_count, table_at, constant_table, IsTable, IsSound};
 ghost use Rattle.semantics.specs.Value.{mark_matches};
@@ -10,7 +10,7 @@ ghost use Rattle.chain_semantics.specs.TidyRules.{has, mark_at, clash, pin_at, i
 ghost use Rattle.chain_semantics.specs.Tidy.{IsTidy};
 ghost use Rattle.net_core.specs.Built.{IsBuilt};
 ghost use Rattle.net_tidy.specs.Rule.{rule_at, made_by};
-ghost use Rattle.net_tidy.specs.Flags.{IsFirstRule, IsFlagged};
+ghost use Rattle.net_tidy.specs.Flags.{IsDown, IsFirstRule, IsFlagged};
 
 use crate::flags::Flags;
 use crate::rule::Rule;
@@ -68,11 +68,19 @@ fn table_list(alloc: Global, tables: &[TableDraft]) -> Result<TableList, AllocEr
     Ok(list)
 }
 
-/// Whether some table reads a signal.
-fn is_read(tables: &[TableDraft], s: Signal) -> bool
+/// Whether some of these tables reads a signal.
+fn some_reads(tables: &[TableDraft], s: Signal) -> bool
     ensures { result ≡ is_read tables.now s }
 {
     tables.iter().any(|table| has(table.pins(), s))
+}
+
+/// Whether some table reads a signal. Those from a place on are asked first, since mostly a table stands before its readers.
+fn is_read(tables: &[TableDraft], from: usize, s: Signal) -> bool
+    requires { from ≤ length tables.now }
+    ensures { result ≡ is_read tables.now s }
+{
+    some_reads(&tables[from..], s) || some_reads(&tables[..from], s)
 }
 
 /// Whether a signal is a table without pins.
@@ -111,12 +119,17 @@ fn constant_value(inputs: u32, tables: &[TableDraft], s: Signal) -> bool
     }
 }
 
-/// Lets each table that reads a signal read another in its place, with turned marks where the signal is inverted.
-fn read_past(tables: &mut [TableDraft], from: Signal, to: Signal, inverted: bool)
-    requires { All (λ t. All (λ marks. length marks ≡ length t.pins) t.rows) tables.old }
-    ensures { tables.new ≡ map (reading_past from to inverted) tables.old }
+/// Lets each table that reads a signal read another in its place, with turned marks where the signal is inverted, and raises its flag.
+fn read_past(tables: &mut [TableDraft], flags: &mut Flags, from: Signal, to: Signal, inverted: bool)
+    requires flags { length flags.old ≡ length tables.old }
+    requires widths { All (λ t. All (λ marks. length marks ≡ length t.pins) t.rows) tables.old }
+    ensures tables { tables.new ≡ map (reading_past from to inverted) tables.old }
+    ensures count { length flags.new ≡ length flags.old }
+    ensures others { (j : ℕ) → j < length tables.old → IsDown flags.new j
+        → IsDown flags.old j × (has (table_at tables.old j).pins from ≡ false) }
 {
-    for table in tables.iter_mut() {
+    for (i, table) in tables.iter_mut().enumerate() {
+        flags.raise_reader(i, table.pins(), from);
         table.read_past(from, to, inverted);
     }
 }
@@ -170,7 +183,7 @@ impl NetDraft {
             table.rows(),
             table.plane(),
             has(&self.outputs, s),
-            is_read(&self.tables, s),
+            is_read(&self.tables, t as usize, s),
         )
     }
 
@@ -190,7 +203,7 @@ impl NetDraft {
         ensures value { result ≡ rule_at self.old t }
         ensures same { self.new ≡ self.old }
     {
-        if !self.flags.is_raised(t) {
+        if !self.flags.look(t) {
             return None;
         }
         let found = self.rule_at(t);
@@ -206,7 +219,7 @@ impl NetDraft {
         ensures found { MatchOption result (IsTidy self.old) (λ f. IsFirstRule self.old f.0 f.1) }
         ensures same { self.new ≡ self.old }
     {
-        for t in 0..self.tables.len() as u32 {
+        for t in self.flags.first() as u32..self.tables.len() as u32 {
             if let Some(rule) = self.seek_at(t) {
                 return Some((t, rule));
             }
@@ -336,9 +349,8 @@ impl NetDraft {
         let from = self.inputs() + t;
         let table = &self.tables[t as usize];
         let (to, inverted) = (table.pins()[0], table.inverts());
-        self.flags.raise_readers(&self.tables, from);
+        read_past(&mut self.tables, &mut self.flags, from, to, inverted);
         self.flags.raise(t);
-        read_past(&mut self.tables, from, to, inverted);
     }
 
     /// Takes out a table that is no output and that no table reads.

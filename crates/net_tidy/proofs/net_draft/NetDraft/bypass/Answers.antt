@@ -12,12 +12,12 @@ invariant_of-self c =
     let inputs : c.inputs.result ≡ length c.self.inside.inputs = c.inputs.ensures ∙ sym (ap input_count c.self.view_is) in
     let room = c.read_past.auto.tables in
     let back = written_back c.self.inside.tables.len c.read_past.new.tables c.self.inside.tables.items (omega (arith, room, c.deref_mut.ensures.len)) in
-    let past = back ∙ c.read_past.ensures
+    let past = back ∙ c.read_past.ensures.tables
     ∙ ap (map (reading_past (c.inputs.result + c.args.t) (get_or c.pins.result.now 0 0) c.inverts-inverted.result)) c.deref_mut.ensures.value in (
       flagged-bypassed (record { model = c.self.inside.model; inputs = c.self.inside.inputs; tables = c.self.inside.tables.items; outputs = c.self.inside.outputs.items }) c.args.t
-          _ _ c.inverts-inverted.result c.index-table.result.now c.pins.result.now c.deref.result.now _ c.self.inside.flags c.raise_readers.new.self c.raise.new.self
+          _ _ c.inverts-inverted.result c.index-table.result.now c.pins.result.now c.deref_mut.result.now _ c.self.inside.flags c.read_past.new.flags c.raise.new.self
           (subst IsSound (sym c.self.view_is) c.requires.sound) within (subst (λ (N : NetValue). is_bypassed N c.args.t ≡ true) (sym c.self.view_is) c.requires.rule)
-          (ap (λ (n : ℕ). n + c.args.t) inputs) (get_or_read _ _ _ within c.index-table.ensures no_table) c.pins.ensures refl c.inverts-inverted.ensures c.deref.ensures.value
-          past c.self.invariant.0 c.raise_readers.ensures.count c.raise_readers.ensures.others c.raise.ensures,
+          (ap (λ (n : ℕ). n + c.args.t) inputs) (get_or_read _ _ _ within c.index-table.ensures no_table) c.pins.ensures refl c.inverts-inverted.ensures c.deref_mut.ensures.value
+          past c.self.invariant.0 c.read_past.ensures.count c.read_past.ensures.others c.raise.ensures,
       omega (arith, c.self.invariant.1, ap length past, length-map c.self.inside.tables.items (reading_past (c.inputs.result + c.args.t) (get_or c.pins.result.now 0 0) c.inverts-inverted.result)),
     )

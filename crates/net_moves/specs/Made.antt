@@ -1,0 +1,12 @@
+-- A move that was made in a net, so that it can be taken back.
+use Rattle.std.specs.Prelude.{◌≡◌, Contains}
+use Rattle.semantics.specs.Net.{TableValue, NetValue, table_at, IsSound}
+use Rattle.chain_semantics.specs.declared.moves.Move.{Move}
+use Rattle.chain_semantics.specs.Moves.{moves_of, table_of, moved}
+
+-- `now` is what the move made of the net before, in which this table stood where the move was made
+pub record IsMadeIn (before : NetValue) (step : Move) (table : TableValue) (now : NetValue) : Type 0 where
+  pub sound : IsSound before
+  pub offered : Contains (moves_of before) step
+  pub made : now ≡ moved before step
+  pub stood : table ≡ table_at before.tables (table_of step)
