@@ -1,3 +1,4 @@
 pub mod Drawing
 pub mod Farey
 pub mod Ratios
+pub mod Subtraction

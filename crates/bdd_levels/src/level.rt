@@ -2,6 +2,7 @@
 ghost use Rattle.std.specs.Prelude.{◌≡◌, ◌≤◌, length, IfOk};
 ghost use Rattle.bdd_levels.specs.Levels.{TellsLevel, IsLevelOf};
 
+use crate::distances::{absolute_quality, signed_quality};
 use crate::relative;
 use net_core::net::Net;
 use semantics::limits::MOST_OUTPUTS;
@@ -23,10 +24,10 @@ fn quality(alloc: Global, metric: Metric, width: u32, k: u128) -> Result<Net, Al
     ensures { IfOk result (TellsLevel metric width k) }
 {
     match metric {
-        Metric::Abs => quality_abs::quality(alloc, width, k),
+        Metric::Abs => absolute_quality(alloc, width, k),
         Metric::Rel => relative::quality(alloc, width, k),
         Metric::Ham => quality_ham::quality(alloc, width, k),
-        Metric::Sabs => quality_abs::quality_signed(alloc, width, k),
+        Metric::Sabs => signed_quality(alloc, width, k),
     }
 }
 

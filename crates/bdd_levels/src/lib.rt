@@ -2,12 +2,14 @@
 //!
 //! `level` has the quality network of a level. `drawn` has the exact net's diagrams, made once, and over the same nodes those of each
 //! approximate net: what both have in common is found again. `orders` has orders of inputs, and `decider` keeps the diagrams of the
-//! best of them over many questions. `relative` has the relative error's network, with smaller numbers. What may be spent on each stands in
+//! best of them over many questions. `distances` has the networks of the absolute and the signed error, whose diagrams are small where two
+//! nets are nearly the same, and `relative` that of the relative error, with smaller numbers besides. What may be spent on each stands in
 //! `budgets`.
 #![tactic(auto)]
 
 pub mod budgets;
 pub mod decider;
+mod distances;
 mod drawn;
 pub mod level;
 mod orders;

@@ -4,12 +4,14 @@
 //! of k millionths is the same as each fraction at most k millionths above which no other one up to there has a denominator below
 //! 2^w: a distance of so many parts of the exact word is more than both or than neither. Such a fraction is found by the mediants of
 //! Farey, and tested.
-ghost use Rattle.std.specs.Prelude.{◌≡◌, ◌+◌, ◌*◌, ◌^◌, ◌≤◌, ◌<◌, true, IfOk, OnOk};
+ghost use Rattle.std.specs.Prelude.{◌≡◌, ℕ, ◌+◌, ◌*◌, ◌^◌, ◌≤◌, ◌<◌, true, IfOk};
 ghost use Rattle.semantics.specs.declared.metric.Metric.TheVariants.{Rel};
 ghost use Rattle.quality_semantics.specs.WordNets.{started, signals};
 ghost use Rattle.bdd_levels.specs.Levels.{TellsLevel};
-ghost use Rattle.bdd_levels.specs.Ratios.{IsAtMost, IsExactly, IsAbove, AreNeighbours, IsRatioFor, ratio_excess};
+ghost use Rattle.bdd_levels.specs.Subtraction.{SaysExcess};
+ghost use Rattle.bdd_levels.specs.Ratios.{IsAtMost, IsExactly, IsAbove, AreNeighbours, IsRatioFor};
 
+use crate::distances::{far_apart, finished};
 use bus_nets::word_net::WordNet;
 use net_core::net::Net;
 use net_parts::items::Signal;
@@ -145,20 +147,26 @@ fn ratio_for(k: u128, width: u32) -> Ratio
 
 /// Appends what says whether the relative error of two words of so many bits, the inputs of the network, exceeds the fraction: their
 /// distance times the denominator is more than the numerator times the exact word, which counts as 1 where it is 0.
-fn excess(net: &mut WordNet, width: u32, ratio: Ratio) -> Result<Signal, AllocError>
+fn excess(alloc: Global, net: &mut WordNet, width: u32, ratio: Ratio) -> Result<Signal, AllocError>
     requires start { net.old ≡ started (width + width) }
     requires some { 0 < width }
-    ensures ok { OnOk result (net.new ≡ (ratio_excess width ratio).net) }
-    ensures signal { IfOk result (λ s. s ≡ (ratio_excess width ratio).signal) }
+    requires narrow { width ≤ MOST_OUTPUTS }
     ensures within { IfOk result (λ s. s < signals net.new) }
+    ensures says { IfOk result (λ s. (k : ℕ) → IsRatioFor width k ratio → SaysExcess Rel width k net.new s) }
 {
     let exact = net.input_bus(0, width)?;
     let approximate = net.input_bus(width, width)?;
     let divisor = net.not_zero_low(&exact)?;
-    let scaled_exact = net.times(&exact, ratio.denominator)?;
-    let scaled_approximate = net.times(&approximate, ratio.denominator)?;
     let level = net.times(&divisor, ratio.numerator)?;
-    net.exceed(&scaled_exact, &scaled_approximate, &level)
+    far_apart(
+        alloc,
+        net,
+        width,
+        &exact,
+        &approximate,
+        ratio.denominator,
+        &level,
+    )
 }
 
 /// The network of a level that some relative error of words of so many bits exceeds.
@@ -168,8 +176,8 @@ fn ratio_network(alloc: Global, width: u32, k: u128) -> Result<Net, AllocError>
     ensures { IfOk result (TellsLevel Rel width k) }
 {
     let mut net = WordNet::new(alloc, width + width)?;
-    let output = excess(&mut net, width, ratio_for(k, width))?;
-    net.finish(&[output])
+    let output = excess(alloc, &mut net, width, ratio_for(k, width))?;
+    finished(net, output)
 }
 
 /// The net whose output says whether the relative error of two words of so many bits exceeds `k` millionths.

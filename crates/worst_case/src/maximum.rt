@@ -19,7 +19,7 @@ use semantics::limits::MOST_OUTPUTS;
 use semantics::metric::Metric;
 use std::alloc::{AllocError, Global};
 
-/// The answer where the levels meet: a log for this level is asked for where none is held.
+/// The answer where the levels meet, which is told: a log for this level is asked for where none is held.
 fn settle<P: Progress>(
     alloc: Global,
     nets: &Compared,
@@ -40,6 +40,7 @@ fn settle<P: Progress>(
         log,
         ..
     } = range;
+    progress.narrowed(max, max);
     if let Some(log) = log {
         return Ok(Maximum::Found { max, witness, log });
     }
@@ -50,7 +51,8 @@ fn settle<P: Progress>(
     }
 }
 
-/// The same as `maximum`, with one who is told how far the search is.
+/// The same as `maximum`, with one who is told how far the search is: the bound at its beginning, and each range up to the one whose
+/// levels meet, before the log is asked for.
 pub fn maximum_followed<P: Progress>(
     alloc: Global,
     exact: &Net,
@@ -67,6 +69,7 @@ pub fn maximum_followed<P: Progress>(
     requires within { IsWithin metric exact.now bound approx.now }
     ensures { IfOk result (IsMaximumAnswer metric exact.now approx.now bound limit) }
 {
+    progress.narrowed(0, bound);
     let nets = Compared::new(exact, approx);
     let first = first_range(alloc, &nets, metric, bound)?;
     let mut decider = decider_for(alloc, exact)?;
