@@ -5,6 +5,7 @@ pub mod FormulaTexts
 pub mod LogTexts
 pub mod Drafts
 pub mod LratScans
+pub mod FrontDigits
 pub mod LratForms
 pub mod LratReadings
 pub mod LratReaders

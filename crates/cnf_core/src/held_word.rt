@@ -1,7 +1,8 @@
 //! The bytes of a token, as far as they were read.
-ghost use Rattle.std.specs.Prelude.{◌≡◌, ◌+◌, ◌*◌, ◌<◌};
+ghost use Rattle.std.specs.Prelude.{◌≡◌, ◌+◌, ◌*◌, ◌<◌, IfSome};
 ghost use Rattle.proof_semantics.specs.LratTokens.{is_blank, is_log_byte, number_word};
 ghost use Rattle.cnf_core.specs.LratScanning.{word_with, held_with, ended_word};
+ghost use Rattle.cnf_core.specs.FrontDigits.{IsNumberSoFar};
 
 use proof_semantics::lrat_word::LratWord;
 
@@ -12,6 +13,13 @@ pub enum HeldWord {
     Empty,
     Minus,
     Whole(LratWord),
+}
+
+/// A number as far as its digits are known.
+#[derive(Clone, Copy, Drop)]
+pub struct NumberSoFar {
+    pub negative: bool,
+    pub size: u64,
 }
 
 #[tactic(auto, unfolding(proof_semantics::specs::LratTokens::is_blank))]
@@ -76,6 +84,19 @@ impl HeldWord {
             HeldWord::Minus => first_digit(true, byte),
             HeldWord::Whole(word) => with_byte(word, byte),
         }
+    }
+
+    /// The number that a digit would go on with; none where the token is no number any more.
+    pub fn number(self) -> Option<NumberSoFar>
+        ensures { IfSome result (λ n. IsNumberSoFar self n.negative n.size) }
+    {
+        let (negative, size) = match self {
+            HeldWord::Empty => (false, 0),
+            HeldWord::Minus => (true, 0),
+            HeldWord::Whole(LratWord::Number { negative, size }) => (negative, size),
+            HeldWord::Whole(_) => return None,
+        };
+        Some(NumberSoFar { negative, size })
     }
 
     /// What the token is where a blank ends it.

@@ -6,6 +6,7 @@ pub mod dimacs_text;
 mod dimacs_token;
 mod dimacs_tokens;
 mod draft;
+mod front_digits;
 mod held_word;
 mod item_draft;
 pub mod lrat;

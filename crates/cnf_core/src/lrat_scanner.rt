@@ -1,14 +1,18 @@
 //! A log's text byte by byte.
-ghost use Rattle.std.specs.Prelude.{◌≡◌, ◌+◌, ◌^◌, ◌<◌, ◌++◌, length, IfOk, OnErr};
+ghost use Rattle.std.specs.Prelude.{◌≡◌, ◌+◌, ◌^◌, ◌<◌, ◌≤◌, ◌++◌, length, drop, false, IfOk, OnErr};
+ghost use Rattle.proof_semantics.specs.LratReading.{is_refused};
 ghost use Rattle.cnf_core.specs.LratScanning.{begin, closed, closed_gives, scanned, gives, scanned_all, all_given, FoundMore};
+ghost use Rattle.cnf_core.specs.FrontDigits.{LeadAlike, IsNumberSoFar};
 ghost use Rattle.cnf_core.specs.Drafts.{ItemDraftValue, Grows};
-ghost use Rattle.cnf_core.specs.LratParts.{scanner_at};
+ghost use Rattle.cnf_core.specs.LratParts.{stage_at, scanner_at};
 
-use crate::held_word::{HeldWord, is_blank, is_log_byte};
+use crate::front_digits::take_digits;
+use crate::held_word::{HeldWord, NumberSoFar, is_blank, is_log_byte};
 use crate::item_draft::ItemDraft;
 use crate::log::Item;
 use crate::lrat_part::Part;
 use proof_semantics::lrat_refusal::LratRefusal;
+use proof_semantics::lrat_word::LratWord;
 use std::alloc::AllocError;
 use std::collections::VecDeque;
 
@@ -21,6 +25,13 @@ pub struct Scanner {
     pub start: u64,
     /// The place of the next byte.
     pub at: u64,
+}
+
+/// A scanner, and how many bytes it went over.
+#[derive(Clone, Copy, Drop)]
+struct Advance {
+    scanner: Scanner,
+    count: usize,
 }
 
 impl Scanner {
@@ -91,6 +102,54 @@ impl Scanner {
         })
     }
 
+    /// Behind the digits at the front of the bytes, where the token at hand is that number so far.
+    fn with_digits(self, number: NumberSoFar, bytes: &[u8], draft: &ItemDraft) -> Advance
+        requires calm { is_refused (stage_at self.part draft.now) ≡ false }
+        requires number { IsNumberSoFar self.word number.negative number.size }
+        requires place { self.at + length bytes.now < 2 ^ 63 }
+        ensures within { result.count ≤ length bytes.now }
+        ensures lead { LeadAlike (scanner_at self draft.now) bytes.now (scanner_at result.scanner draft.now) (drop result.count bytes.now) }
+        ensures place { result.scanner.at ≡ self.at + result.count }
+    {
+        let digits = take_digits(number.size, bytes);
+        if digits.count == 0 {
+            return Advance {
+                scanner: self,
+                count: 0,
+            };
+        }
+        let word = LratWord::Number {
+            negative: number.negative,
+            size: digits.size,
+        };
+        Advance {
+            scanner: Scanner {
+                word: HeldWord::Whole(word),
+                at: self.at + digits.count as u64,
+                ..self
+            },
+            count: digits.count,
+        }
+    }
+
+    /// Behind the digits at the front of the bytes, where they belong to a number.
+    fn with_front(self, bytes: &[u8], draft: &ItemDraft) -> Advance
+        requires { self.at + length bytes.now < 2 ^ 63 }
+        ensures within { result.count ≤ length bytes.now }
+        ensures lead { LeadAlike (scanner_at self draft.now) bytes.now (scanner_at result.scanner draft.now) (drop result.count bytes.now) }
+        ensures place { result.scanner.at ≡ self.at + result.count }
+    {
+        match self.word.number() {
+            Some(number) if self.part.refusal(draft).is_none() => {
+                self.with_digits(number, bytes, draft)
+            }
+            _ => Advance {
+                scanner: self,
+                count: 0,
+            },
+        }
+    }
+
     /// Behind these bytes. The items that end within them are put behind the others.
     pub fn with_bytes(
         self,
@@ -105,9 +164,15 @@ impl Scanner {
         ensures grows { Grows draft.old draft.new }
     {
         let mut scanner = self;
-        for &byte in bytes {
-            scanner = scanner.with_byte(byte, draft, items)?;
+        let mut at = 0;
+        'fronts: loop {
+            let front = scanner.with_front(&bytes[at..], draft);
+            at += front.count;
+            let Some(byte) = bytes.get(at) else {
+                return Ok(front.scanner);
+            };
+            scanner = front.scanner.with_byte(*byte, draft, items)?;
+            at += 1;
         }
-        Ok(scanner)
     }
 }
