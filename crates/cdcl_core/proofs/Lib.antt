@@ -4,6 +4,7 @@ pub mod Back
 pub mod Derived
 pub mod Trails
 pub mod Placing
+pub mod Regions
 pub mod Nested
 pub mod WatchLists
 pub mod Propagating

@@ -9,7 +9,7 @@ ghost use Rattle.cdcl_core.specs.Watches.{no_watches};
 ghost use Rattle.cdcl_core.specs.Watching.{IsWatching};
 ghost use Rattle.cdcl_core.specs.Started.{IsStarting, IsStarted};
 
-use crate::clause::ClauseList;
+use crate::clause_list::ClauseList;
 use crate::trail::Trail;
 use crate::visit::other_watch;
 use crate::watches::Watches;
@@ -28,7 +28,7 @@ fn watch_clause(
     ensures started { IfOk result (IsStarted clauses.now place trail.new watches.new) }
     ensures extended { OnOk result (IsExtended clauses.now trail.old trail.new) }
 {
-    let clause = clauses.get(place).as_slice();
+    let clause = clauses.get(place);
     if clause.len() == 0 {
         return Ok(false);
     }

@@ -7,7 +7,7 @@ ghost use Rattle.cdcl_core.specs.Watches.{list_at, watch_at, pair_at};
 ghost use Rattle.cdcl_core.specs.Watching.{IsOneOf, IsHandling};
 ghost use Rattle.cdcl_core.specs.Visited.{IsPartner, IsOtherWatch, AreOthersFalse, IsVisited};
 
-use crate::clause::ClauseList;
+use crate::clause_list::ClauseList;
 use crate::literal::Literal;
 use crate::trail::Trail;
 use crate::watches::{Pair, Watch, Watches};
@@ -76,7 +76,7 @@ fn visit_clause(
     if trail.is_true(first) {
         return Ok(Visit::Next);
     }
-    match other_watch(trail, clauses.get(clause).as_slice(), first) {
+    match other_watch(trail, clauses.get(clause), first) {
         Some(literal) => {
             watches.push(
                 literal,

@@ -1,10 +1,10 @@
-use Rattle.std.specs.Prelude.{IfSome, IsNone}
-use Rattle.std.proofs.Common.{◌≡◌, ◌<◌, true, length, refl, subst, arith, rules, None}
+use Rattle.std.specs.Prelude.{IfSome}
+use Rattle.std.proofs.Common.{◌≡◌, ◌<◌, true, length, refl, subst, rules}
 use Rattle.proof_semantics.specs.Conflicts.{clause_at}
 use Rattle.cdcl_core.specs.Propagation.{IsExtended}
 use Rattle.cdcl_core.specs.Visited.{IsOtherWatch, AreOthersFalse}
 use Rattle.cdcl_core.proofs.Propagating.{clause_read}
-use Rattle.cdcl_core.proofs.Visiting.{held_by, first_in, first_literal, twice_next, next_by, moved_at, all_false, implied_extended, implied_at}
+use Rattle.cdcl_core.proofs.Visiting.{held_by, first_in, first_literal, twice_next, next_by, moved_at, implied_extended, implied_at}
 use Rattle.cdcl_core.proofs.visit.visit_clause.Goals as goal
 
 pub returns-then-is-clause-visited : goal.returns-then-is-clause-visited
@@ -31,8 +31,8 @@ push_implied-requires-clause-literal c = first_literal c.args.clauses.now c.args
 pub returns-in_ok-push-in-Some-clause-visited : goal.returns-in_ok-push-in-Some-clause-visited
 returns-in_ok-push-in-Some-clause-visited c =
     let held : c.args.clause < length c.args.clauses.now = held_by c.args.clauses.now c.args.trail.now c.args.watches.now c.args.x c.args.at c.args.clause c.requires.handling c.requires.at c.requires.clause in
-    let same : c.as_slice.result.now ≡ clause_at c.args.clauses.now c.args.clause = clause_read c.args.clauses.now c.args.clause c.get.result.now c.as_slice.result.now held c.get.ensures c.as_slice.ensures in
-    let some : IsOtherWatch c.args.trail.now.literals c.as_slice.result.now c.args.first c.in-Some.literal = subst (λ r. IfSome r (IsOtherWatch c.args.trail.now.literals c.as_slice.result.now c.args.first)) c.in-Some.is c.other_watch.ensures.some in
+    let same : c.get.result.now ≡ clause_at c.args.clauses.now c.args.clause = clause_read c.args.clauses.now c.args.clause c.get.result.now c.get.result.now held c.get.ensures refl in
+    let some : IsOtherWatch c.args.trail.now.literals c.get.result.now c.args.first c.in-Some.literal = subst (λ r. IfSome r (IsOtherWatch c.args.trail.now.literals c.get.result.now c.args.first)) c.in-Some.is c.other_watch.ensures.some in
     moved_at c.args.clauses.now c.args.trail.now c.args.watches.now c.push.new.self c.set_pair.new.self c.remove.new.self c.args.x c.args.at c.args.clause c.args.first c.in-Some.literal
     c.requires.handling c.requires.at c.requires.clause c.requires.first
     (λ e. let yes : c.is.result ≡ true = c.is.ensures.1 e in let no = c.if-is.false in cc)
@@ -41,17 +41,17 @@ returns-in_ok-push-in-Some-clause-visited c =
 pub returns-in_ok-push_implied-in-None-clause-extended : goal.returns-in_ok-push_implied-in-None-clause-extended
 returns-in_ok-push_implied-in-None-clause-extended c =
     let held : c.args.clause < length c.args.clauses.now = held_by c.args.clauses.now c.args.trail.now c.args.watches.now c.args.x c.args.at c.args.clause c.requires.handling c.requires.at c.requires.clause in
-    let same : c.as_slice.result.now ≡ clause_at c.args.clauses.now c.args.clause = clause_read c.args.clauses.now c.args.clause c.get.result.now c.as_slice.result.now held c.get.ensures c.as_slice.ensures in
-    let none : AreOthersFalse c.args.trail.now.literals c.as_slice.result.now c.args.first = c.other_watch.ensures.none (search rules) in
-    implied_extended c.args.clauses.now c.args.trail.now c.push_implied.new.self c.as_slice.result.now c.args.clause c.args.first held
+    let same : c.get.result.now ≡ clause_at c.args.clauses.now c.args.clause = clause_read c.args.clauses.now c.args.clause c.get.result.now c.get.result.now held c.get.ensures refl in
+    let none : AreOthersFalse c.args.trail.now.literals c.get.result.now c.args.first = c.other_watch.ensures.none (search rules) in
+    implied_extended c.args.clauses.now c.args.trail.now c.push_implied.new.self c.get.result.now c.args.clause c.args.first held
     (first_in c.args.clauses.now c.args.trail.now c.args.watches.now c.args.x c.args.at c.args.clause c.args.first c.requires.handling c.requires.at c.requires.clause c.requires.first) same none c.in_ok-push_implied-in-None.ensures
 
 pub returns-in_ok-push_implied-in-None-clause-visited : goal.returns-in_ok-push_implied-in-None-clause-visited
 returns-in_ok-push_implied-in-None-clause-visited c =
     let held : c.args.clause < length c.args.clauses.now = held_by c.args.clauses.now c.args.trail.now c.args.watches.now c.args.x c.args.at c.args.clause c.requires.handling c.requires.at c.requires.clause in
-    let same : c.as_slice.result.now ≡ clause_at c.args.clauses.now c.args.clause = clause_read c.args.clauses.now c.args.clause c.get.result.now c.as_slice.result.now held c.get.ensures c.as_slice.ensures in
-    let none : AreOthersFalse c.args.trail.now.literals c.as_slice.result.now c.args.first = c.other_watch.ensures.none (search rules) in
+    let same : c.get.result.now ≡ clause_at c.args.clauses.now c.args.clause = clause_read c.args.clauses.now c.args.clause c.get.result.now c.get.result.now held c.get.ensures refl in
+    let none : AreOthersFalse c.args.trail.now.literals c.get.result.now c.args.first = c.other_watch.ensures.none (search rules) in
     let inside = first_in c.args.clauses.now c.args.trail.now c.args.watches.now c.args.x c.args.at c.args.clause c.args.first c.requires.handling c.requires.at c.requires.clause c.requires.first in
     let e : IsExtended c.args.clauses.now c.args.trail.now c.push_implied.new.self =
-    implied_extended c.args.clauses.now c.args.trail.now c.push_implied.new.self c.as_slice.result.now c.args.clause c.args.first held inside same none c.in_ok-push_implied-in-None.ensures in
+    implied_extended c.args.clauses.now c.args.trail.now c.push_implied.new.self c.get.result.now c.args.clause c.args.first held inside same none c.in_ok-push_implied-in-None.ensures in
     (implied_at c.args.clauses.now c.args.trail.now c.push_implied.new.self c.args.watches.now c.args.x c.args.at c.args.clause c.args.first c.requires.handling c.requires.clause inside e c.in_ok-push_implied-in-None.ensures, refl)
