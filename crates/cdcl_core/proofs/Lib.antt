@@ -11,6 +11,7 @@ pub mod Propagating
 pub mod Watching
 pub mod WatchSteps
 pub mod Visiting
+pub mod Telling
 pub mod Starting
 pub mod Handled
 pub mod Analysed

@@ -1,7 +1,8 @@
 //! Clauses as the solver holds them: those of the formula, of the merged steps, and the learned ones.
-ghost use Rattle.std.specs.Prelude.{◌≡◌, [], ◌∷◌, ◌++◌, IfOk, OnOk};
+ghost use Rattle.std.specs.Prelude.{◌≡◌, true, [], ◌∷◌, ◌++◌, IfOk, OnOk};
 ghost use Rattle.proof_parts.specs.Literals.{AreLiterals};
 ghost use Rattle.proof_semantics.specs.Conflicts.{added_clauses};
+ghost use Rattle.cdcl_core.specs.Watched.{IsBinary};
 
 use crate::clause_list::ClauseList;
 use crate::literal::Literal;
@@ -22,6 +23,18 @@ fn read_clause(alloc: Global, literals: &[i32]) -> Result<Clause, AllocError>
         clause.push(Literal::new(*literal))?;
     }
     Ok(clause)
+}
+
+/// Whether the clause has no literals but these two.
+pub fn is_binary(clause: &[Literal], one: Literal, other: Literal) -> bool
+    ensures { result ≡ true → IsBinary one other clause.now }
+{
+    for literal in clause {
+        if !literal.is(one) && !literal.is(other) {
+            return false;
+        }
+    }
+    true
 }
 
 /// The clause as logs have it.

@@ -9,6 +9,7 @@ ghost use Rattle.cdcl_core.specs.Watches.{no_watches};
 ghost use Rattle.cdcl_core.specs.Watching.{IsWatching};
 ghost use Rattle.cdcl_core.specs.Started.{IsStarting, IsStarted};
 
+use crate::clause::is_binary;
 use crate::clause_list::ClauseList;
 use crate::trail::Trail;
 use crate::visit::other_watch;
@@ -34,13 +35,14 @@ fn watch_clause(
     }
     let first = clause[0];
     if let Some(other) = other_watch(trail, clause, first) {
-        watches.add(first, other)?;
+        let binary = is_binary(clause, first, other);
+        watches.add(first, other, binary)?;
         return Ok(true);
     }
     if trail.is_false(first) {
         return Ok(false);
     }
-    watches.add(first, first)?;
+    watches.add(first, first, false)?;
     if trail.is_true(first) {
         return Ok(true);
     }

@@ -11,7 +11,7 @@ ghost use Rattle.cdcl_core.specs.Placed.{last_start};
 ghost use Rattle.cdcl_core.specs.Searched.{IsSearching, HasMoved};
 ghost use Rattle.cdcl_core.specs.Jump.{IsRunning, IsJump, IsJumpPair, IsLastOther, later_of};
 
-use crate::clause::Clause;
+use crate::clause::{Clause, is_binary};
 use crate::clause_list::ClauseList;
 use crate::literal::Literal;
 use crate::order::Order;
@@ -112,7 +112,8 @@ pub fn jump(
     let Target { level, other } = jump_target(trail, literals, own);
     let reason = clauses.len();
     clauses.push(literals)?;
-    watches.add(own, other)?;
+    let binary = is_binary(literals, own, other);
+    watches.add(own, other, binary)?;
     let start = trail.start(level);
     open_from(order, trail, start);
     watches.set_handled(start);
