@@ -62,15 +62,6 @@ impl ClauseList {
         &self.region[start as usize..end as usize]
     }
 
-    /// Makes room for a clause of so many literals.
-    pub fn reserve(&mut self, literals: usize) -> Result<(), AllocError>
-        ensures { self.new ≡ self.old }
-    {
-        self.region.reserve(literals)?;
-        self.spans.reserve(1)?;
-        Ok(())
-    }
-
     /// Adds a clause at the end, or leaves the list as it is where there is no memory.
     pub fn push(&mut self, clause: &[Literal]) -> Result<(), AllocError>
         ensures ok { OnOk result (self.new ≡ self.old ++ clause.now ∷ []) }
