@@ -4,12 +4,14 @@ pub mod Back
 pub mod Derived
 pub mod Trails
 pub mod Placing
+pub mod Regions
 pub mod Nested
 pub mod WatchLists
 pub mod Propagating
 pub mod Watching
 pub mod WatchSteps
 pub mod Visiting
+pub mod Telling
 pub mod Starting
 pub mod Handled
 pub mod Analysed

@@ -1,6 +1,6 @@
 -- The watches of the clauses that a search begins with.
 use Rattle.std.specs.Prelude.{ℤ, pos, neg_ℤ, ◌⊎◌, All}
-use Rattle.std.proofs.Common.{◌≡◌, ℕ, zero, ◌+◌, ◌*◌, ◌<◌, ◌≤◌, Some, List, [], ◌∷◌, ◌++◌, take, length, get_or, refl, ap, subst, sym, ◌∙◌, inl, inr, length-append, arith}
+use Rattle.std.proofs.Common.{◌≡◌, ℕ, zero, Bool, true, ◌+◌, ◌*◌, ◌<◌, ◌≤◌, Some, List, [], ◌∷◌, ◌++◌, take, length, get_or, refl, ap, subst, sym, ◌∙◌, inl, inr, length-append, arith}
 use Rattle.std.specs.List.{Contains}
 use Rattle.std.proofs.lemmas.Bool.{cases_lt}
 use Rattle.std.proofs.lemmas.List.{take_more, take_all, get_or-replicate, get_or_past, get_or-take, length-take, length-replicate}
@@ -12,7 +12,7 @@ use Rattle.cdcl_core.specs.Trail.{IsTrueBelow}
 use Rattle.cdcl_core.specs.Explained.{Holds}
 use Rattle.cdcl_core.specs.Placed.{TrailValue}
 use Rattle.cdcl_core.specs.Propagation.{IsExtended}
-use Rattle.cdcl_core.specs.Watched.{index_of}
+use Rattle.cdcl_core.specs.Watched.{index_of, IsBinary}
 use Rattle.cdcl_core.specs.Watches.{WatchesValue, list_at, no_watches, watches_with}
 use Rattle.cdcl_core.specs.Watching.{AreFree, IsKept, IsWatching}
 use Rattle.cdcl_core.specs.Visited.{IsOtherWatch, AreOthersFalse}
@@ -53,10 +53,10 @@ starting_none clauses t w starts e = rw e (record {
 none_below : (trail : List ℤ) (l : ℤ) → IsTrueBelow trail 0 l → ⊥
 none_below trail l h = let low = h.below in omega arith
 
-pub starting_next : (clauses : List Clause) (n : ℕ) (t new : TrailValue) (w after : WatchesValue) (one other : ℤ) → IsStarting clauses n t w → AreClausesOf t.variables clauses → n < length clauses
+pub starting_next : (clauses : List Clause) (n : ℕ) (t new : TrailValue) (w after : WatchesValue) (one other : ℤ) (binary : Bool) → IsStarting clauses n t w → AreClausesOf t.variables clauses → n < length clauses
     → Contains (clause_at clauses n) one → Contains (clause_at clauses n) other → IsExtended clauses t new → ((one ≡ other → ⊥) ⊎ HasTrue (Holds new.literals) (clause_at clauses n))
-    → after ≡ watches_with w one other → IsStarting clauses (n + 1) new after
-starting_next clauses n t new w after one other h literals low one_in other_in e free a =
+    → (binary ≡ true → IsBinary one other (clause_at clauses n)) → after ≡ watches_with w one other binary → IsStarting clauses (n + 1) new after
+starting_next clauses n t new w after one other binary h literals low one_in other_in e free only a =
     let C : Clause = clause_at clauses n in
     let first : List Clause = take n clauses in
     let p : Pair = record { one = one; other = other } in
@@ -70,7 +70,7 @@ starting_next clauses n t new w after one other h literals low one_in other_in e
     rw a (record {
       watching = rw (take_more clauses n [] low) (record {
         base = record {
-          formed = watched_added first new.variables w.lists w.pairs C one other now.base.formed (rw e.variables (literals n [] low)) one_in other_in;
+          formed = watched_added first new.variables w.lists w.pairs C one other binary now.base.formed (rw e.variables (literals n [] low)) one_in other_in only;
           low = now.base.low;
           below = rw starts (λ k d within. absurd (omega arith));
         };

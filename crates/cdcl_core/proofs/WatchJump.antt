@@ -1,6 +1,6 @@
 -- The watches after a jump.
 use Rattle.std.specs.Prelude.{ℤ, pos, neg_ℤ, ◌⊎◌, All}
-use Rattle.std.proofs.Common.{◌≡◌, ℕ, zero, ◌+◌, ◌-◌, ◌<◌, ◌≤◌, Option, Some, None, List, [], ◌∷◌, ◌++◌, take, length, get_or, refl, ap, subst, sym, ◌∙◌, inl, inr, length-append, arith}
+use Rattle.std.proofs.Common.{◌≡◌, ℕ, zero, Bool, true, ◌+◌, ◌-◌, ◌<◌, ◌≤◌, Option, Some, None, List, [], ◌∷◌, ◌++◌, take, length, get_or, refl, ap, subst, sym, ◌∙◌, inl, inr, length-append, arith}
 use Rattle.std.specs.List.{Contains}
 use Rattle.std.proofs.Math.IntN.{neg_ℤ-neg_ℤ}
 use Rattle.std.proofs.lemmas.Bool.{cases_lt}
@@ -12,7 +12,7 @@ use Rattle.cdcl_core.specs.Settled.{HasTrue, IsOpen}
 use Rattle.cdcl_core.specs.Trail.{literal_at, IsTrueBelow, IsConsistent, AreLevels, IsLearned}
 use Rattle.cdcl_core.specs.Explained.{Holds}
 use Rattle.cdcl_core.specs.Placed.{TrailValue, last_start}
-use Rattle.cdcl_core.specs.Watched.{index_of}
+use Rattle.cdcl_core.specs.Watched.{index_of, IsBinary}
 use Rattle.cdcl_core.specs.Watches.{WatchesValue, watches_with}
 use Rattle.cdcl_core.specs.Watching.{AreFree, AreKept, AreKeptAt, IsWatchedBelow, IsWatching}
 use Rattle.cdcl_core.specs.Jump.{IsRunning, IsLastOther, HasLastAs, IsJumpPair, jumped, closed}
@@ -40,10 +40,10 @@ free_same before after q r p low within same h = record {
   other = λ f. h.other (true-same after before q r (neg_ℤ p.other) low within (sym same) f);
 }
 
-pub watching_jumped : (clauses : List Clause) (t : TrailValue) (w : WatchesValue) (s : ℕ) (C : Clause) (u : ℤ) (at m : ℕ) (other : ℤ) → IsConsistent t.literals → IsRunning clauses t → IsWatchedBelow clauses t w
-    → IsLearned t.literals s C u at → m < length t.starts → IsJumpPair t s C u m other → All (IsLiteralOf t.variables) C
-    → IsWatching (clauses ++ C ∷ []) (jumped clauses t u m) (record (watches_with w u other) { handled = get_or t.starts m 0 })
-watching_jumped clauses t w s C u at m other c running h learned m_low pair literals =
+pub watching_jumped : (clauses : List Clause) (t : TrailValue) (w : WatchesValue) (s : ℕ) (C : Clause) (u : ℤ) (at m : ℕ) (other : ℤ) (binary : Bool) → IsConsistent t.literals → IsRunning clauses t → IsWatchedBelow clauses t w
+    → IsLearned t.literals s C u at → m < length t.starts → IsJumpPair t s C u m other → All (IsLiteralOf t.variables) C → (binary ≡ true → IsBinary u other C)
+    → IsWatching (clauses ++ C ∷ []) (jumped clauses t u m) (record (watches_with w u other binary) { handled = get_or t.starts m 0 })
+watching_jumped clauses t w s C u at m other binary c running h learned m_low pair literals only =
     let q : ℕ = get_or t.starts m 0 in
     let after : List ℤ = take q t.literals ++ u ∷ [] in
     let p : Pair = record { one = u; other = other } in
@@ -68,7 +68,7 @@ watching_jumped clauses t w s C u at m other c running h learned m_low pair lite
     } in
     record {
       base = record {
-        formed = watched_added clauses t.variables w.lists w.pairs C u other h.formed literals learned.inside other_in;
+        formed = watched_added clauses t.variables w.lists w.pairs C u other binary h.formed literals learned.inside other_in only;
         low = λ k d within. let low = below_q k d within in omega arith;
         below = λ k d within.
             let r : ℕ = get_or (take m t.starts) k d in
@@ -86,16 +86,16 @@ watching_jumped clauses t w s C u at m other c running h learned m_low pair lite
     }
 
 -- the same of the values that the code has
-pub jump_watching : (clauses more : List Clause) (t u : TrailValue) (w added new : WatchesValue) (s : ℕ) (C : Clause) (x own : ℤ) (at m n q : ℕ) (other : ℤ) → IsConsistent t.literals → IsRunning clauses t → IsWatchedBelow clauses t w
-    → IsLearned t.literals s C x at → own ≡ x → m < length t.starts → IsJumpPair t s C own m other → All (IsLiteralOf t.variables) C → more ≡ clauses ++ C ∷ [] → n ≡ length clauses
-    → added ≡ watches_with w own other → q ≡ get_or t.starts m 0 → new ≡ record added { handled = q } → u ≡ record t {
+pub jump_watching : (clauses more : List Clause) (t u : TrailValue) (w added new : WatchesValue) (s : ℕ) (C : Clause) (x own : ℤ) (at m n q : ℕ) (other : ℤ) (binary : Bool) → IsConsistent t.literals → IsRunning clauses t → IsWatchedBelow clauses t w
+    → IsLearned t.literals s C x at → own ≡ x → m < length t.starts → IsJumpPair t s C own m other → All (IsLiteralOf t.variables) C → (binary ≡ true → IsBinary own other C) → more ≡ clauses ++ C ∷ [] → n ≡ length clauses
+    → added ≡ watches_with w own other binary → q ≡ get_or t.starts m 0 → new ≡ record added { handled = q } → u ≡ record t {
       literals = take (get_or t.starts m 0) t.literals ++ own ∷ [];
       reasons = take (get_or t.starts m 0) t.reasons ++ Some n ∷ [];
       starts = take m t.starts;
     } → IsWatching more u new
-jump_watching clauses more t u w added new s C x own at m n q other c running h learned same m_low pair literals more_is count added_is q_is new_is e =
+jump_watching clauses more t u w added new s C x own at m n q other binary c running h learned same m_low pair literals only more_is count added_is q_is new_is e =
     rw (more_is, e, new_is, added_is, q_is, count)
-    (watching_jumped clauses t w s C own at m other c running h (subst (λ y. IsLearned t.literals s C y at) (sym same) learned) m_low pair literals)
+    (watching_jumped clauses t w s C own at m other binary c running h (subst (λ y. IsLearned t.literals s C y at) (sym same) learned) m_low pair literals only)
 
 watching_closed : (clauses : List Clause) (t : TrailValue) (w : WatchesValue) (m : ℕ) → IsRunning clauses t → IsWatchedBelow clauses t w → m < length t.starts
     → IsWatching clauses (closed t m) (record w { handled = get_or t.starts m 0 })

@@ -109,3 +109,19 @@ removed_was list at k w low within =
           (length list - 1, omega arith, ap (watch_at (swap_remove list at w)) same ∙ removed_last list at w (omega arith))
       | inr f ↦ (k, omega arith, removed_other list at k w f.1 (omega arith))
     ]
+
+-- another watcher of the same clause in the place of one
+pub watcher_changed : (list : List Watch) (at from j : ℕ) (w : Watch) (T : Type 0) → at < length list → w.clause ≡ (watch_at list at).clause → HasWatcher list from j T → HasWatcher (set list at w) from j T
+watcher_changed list at from j w T low same h =
+    let within = h.within in
+    record {
+      place = h.place;
+      within = omega (arith, length-set list at w);
+      is = elim (eqb_tells h.place at) [
+        | inl t ↦
+            ap (λ k. (watch_at (set list at w) k).clause) t.1 ∙ ap (λ (v : Watch). v.clause) (get_or-set_same list at w no_watch low) ∙ same
+            ∙ ap (λ k. (watch_at list k).clause) (sym t.1) ∙ h.is
+        | inr f ↦ ap (λ (v : Watch). v.clause) (get_or-set_other list at h.place w no_watch f.1) ∙ h.is
+      ];
+      later = h.later;
+    }

@@ -16,11 +16,11 @@ use Rattle.cdcl_core.specs.Explained.{Holds}
 use Rattle.cdcl_core.specs.Placed.{TrailValue}
 use Rattle.cdcl_core.specs.Propagation.{IsExtended}
 use Rattle.cdcl_core.specs.Watched.{index_of}
-use Rattle.cdcl_core.specs.Watches.{WatchesValue, list_at, watch_at, pair_at, lists_with, no_pair}
+use Rattle.cdcl_core.specs.Watches.{WatchesValue, list_at, watch_at, pair_at, lists_with, no_watch, no_pair}
 use Rattle.cdcl_core.specs.Watching.{IsOneOf, AreFree, IsKept, AreKept, AreKeptAt, HasWatcher, IsWatcher, AreWatched, IsWatching, IsHandling}
 use Rattle.cdcl_core.specs.declared.watches.Watch.{Watch}
 use Rattle.cdcl_core.specs.declared.watches.Pair.{Pair}
-use Rattle.cdcl_core.proofs.WatchLists.{here, there, written, watcher_removed, removed_was, removed_length}
+use Rattle.cdcl_core.proofs.WatchLists.{here, there, written, watcher_removed, watcher_changed, removed_was, removed_length}
 use Rattle.cdcl_core.proofs.Watching.{true_more, below_holds, holds_longer, watching_extended, longer_from, has_pushed, watchers_pushed}
 
 pub neg_injective : (a b : ℤ) → neg_ℤ a ≡ neg_ℤ b → a ≡ b
@@ -118,7 +118,7 @@ handling_done clauses t w x at h past =
     }
 
 -- another watcher in the list of l
-pub handling_pushed : (clauses : List Clause) (t : TrailValue) (w : WatchesValue) (x l : ℤ) (at : ℕ) (v : Watch) → IsHandling clauses t w x at → IsWatcher clauses v → index_of l < length w.lists
+pub handling_pushed : (clauses : List Clause) (t : TrailValue) (w : WatchesValue) (x l : ℤ) (at : ℕ) (v : Watch) → IsHandling clauses t w x at → IsWatcher clauses l v → index_of l < length w.lists
     → IsHandling clauses t (record w { lists = lists_with w.lists l v }) x at
 handling_pushed clauses t w x l at v h ok low =
     let formed = h.watching.base.formed in
@@ -168,7 +168,7 @@ handling_removed clauses t w x at v h here_at low stale =
             watchers = λ y k within. elim (written w.lists x (swap_remove list at v) y low) [
               | here same e ↦
                   let was = removed_was list at k v here_at (rw e at within) in
-                  rw (e, was.2) (formed.watchers x was.0 was.1)
+                  subst (λ z. IsWatcher clauses z (watch_at (list_at new y) k)) (sym same) (rw (e, was.2) (formed.watchers x was.0 was.1))
               | there differ e ↦ rw e (formed.watchers y k (rw e at within))
             ];
             inside = formed.inside;
@@ -183,6 +183,48 @@ handling_removed clauses t w x at v h here_at low stale =
       low = h.low;
       is = h.is;
       pending = λ j within one_of. less x at j (HasTrue (Holds t.literals) (clause_at clauses j)) one_of (omega arith) (h.pending j within one_of);
+    }
+
+-- another watcher of the same clause in the place of one
+pub handling_rewatched : (clauses : List Clause) (t : TrailValue) (w : WatchesValue) (x : ℤ) (at : ℕ) (v : Watch) → IsHandling clauses t w x at → at < length (list_at w.lists x) → index_of x < length w.lists
+    → v.clause ≡ (watch_at (list_at w.lists x) at).clause → IsWatcher clauses x v → IsHandling clauses t (record w { lists = set w.lists (index_of x) (set (list_at w.lists x) at v) }) x at
+handling_rewatched clauses t w x at v h here_at low same ok =
+    let formed = h.watching.base.formed in
+    let list : List Watch = list_at w.lists x in
+    let new : List (List Watch) = set w.lists (index_of x) (set list at v) in
+    let still : (y : ℤ) (from j : ℕ) (T : Type 0) → HasWatcher (list_at w.lists y) from j T → HasWatcher (list_at new y) from j T = λ y from j T one.
+    elim (written w.lists x (set list at v) y low) [
+      | here is_x e ↦ rw e (watcher_changed list at from j v T here_at same (subst (λ z. HasWatcher (list_at w.lists z) from j T) is_x one))
+      | there differ e ↦ rw e one
+    ] in
+    record {
+      watching = record {
+        base = record {
+          formed = record {
+            literals = formed.literals;
+            lists_length = length-set w.lists (index_of x) (set list at v) ∙ formed.lists_length;
+            pairs_length = formed.pairs_length;
+            watchers = λ y k within. elim (written w.lists x (set list at v) y low) [
+              | here is_x e ↦
+                  let inside : k < length (set list at v) = rw e at within in
+                  subst (λ z. IsWatcher clauses z (watch_at (list_at new y) k)) (sym is_x) (elim (eqb_tells k at) [
+                    | inl t ↦ rw (e, t.1, get_or-set_same list at v no_watch here_at) ok
+                    | inr f ↦ rw (e, get_or-set_other list at k v no_watch f.1) (formed.watchers x k (omega (arith, length-set list at v)))
+                  ])
+              | there differ e ↦ rw e (formed.watchers y k (rw e at within))
+            ];
+            inside = formed.inside;
+            watched = λ j y within one_of. still y 0 j ⊥ (formed.watched j y within one_of);
+          };
+          low = h.watching.base.low;
+          below = h.watching.base.below;
+        };
+        within = h.watching.within;
+        kept = h.watching.kept;
+      };
+      low = h.low;
+      is = h.is;
+      pending = λ j within one_of. still x at j (HasTrue (Holds t.literals) (clause_at clauses j)) (h.pending j within one_of);
     }
 
 -- a pair after another one was written

@@ -15,7 +15,7 @@ use Rattle.cdcl_core.specs.Trail.{literal_at, IsTrueBelow}
 use Rattle.cdcl_core.specs.Explained.{Holds}
 use Rattle.cdcl_core.specs.Placed.{TrailValue}
 use Rattle.cdcl_core.specs.Propagation.{IsExtended}
-use Rattle.cdcl_core.specs.Watched.{index_of}
+use Rattle.cdcl_core.specs.Watched.{index_of, IsBinary}
 use Rattle.cdcl_core.specs.Watches.{WatchesValue, list_at, watch_at, pair_at, lists_with, no_watch, no_pair}
 use Rattle.cdcl_core.specs.Watching.{IsOneOf, AreFree, IsKept, AreKept, AreKeptAt, HasWatcher, IsWatcher, AreWatched, IsWatchedBelow, IsWatching}
 use Rattle.cdcl_core.specs.Visited.{IsPropagated}
@@ -193,17 +193,17 @@ has_new lists l w j low e = elim (written lists l (list_at lists l ++ w ∷ []) 
   | there n f ↦ absurd (n refl)
 ]
 
-pub watchers_pushed : (clauses : List Clause) (lists : List (List Watch)) (l : ℤ) (w : Watch) → index_of l < length lists → ((y : ℤ) (k : ℕ) → k < length (list_at lists y) → IsWatcher clauses (watch_at (list_at lists y) k)) → IsWatcher clauses w
-    → (y : ℤ) (k : ℕ) → k < length (list_at (lists_with lists l w) y) → IsWatcher clauses (watch_at (list_at (lists_with lists l w) y) k)
+pub watchers_pushed : (clauses : List Clause) (lists : List (List Watch)) (l : ℤ) (w : Watch) → index_of l < length lists → ((y : ℤ) (k : ℕ) → k < length (list_at lists y) → IsWatcher clauses y (watch_at (list_at lists y) k)) → IsWatcher clauses l w
+    → (y : ℤ) (k : ℕ) → k < length (list_at (lists_with lists l w) y) → IsWatcher clauses y (watch_at (list_at (lists_with lists l w) y) k)
 watchers_pushed clauses lists l w low all ok y k within = elim (written lists l (list_at lists l ++ w ∷ []) y low) [
   | here same e ↦
       let inside : k < length (list_at lists l ++ w ∷ []) = rw e at within in
-      elim (cases_lt k (length (list_at lists l))) [
+      subst (λ z. IsWatcher clauses z (watch_at (list_at (lists_with lists l w) y) k)) (sym same) (elim (cases_lt k (length (list_at lists l))) [
         | inl was ↦ rw (e, get_or_append_left (list_at lists l) (w ∷ []) no_watch k was) (all l k was)
         | inr last ↦
             let here_is : length (list_at lists l) ≡ k = omega (arith, length-append (list_at lists l) (w ∷ [])) in
             rw (e, get_or_push (list_at lists l) w no_watch k here_is) ok
-      ]
+      ])
   | there differ e ↦ rw e (all y k (rw e at within))
 ]
 
@@ -219,13 +219,18 @@ kept_added T F clauses pairs C p count h new = record {
   ];
 }
 
-pub watched_added : (clauses : List Clause) (n : ℕ) (lists : List (List Watch)) (pairs : List Pair) (C : Clause) (one other : ℤ) → AreWatched clauses n lists pairs → All (IsLiteralOf n) C → Contains C one → Contains C other
-    → AreWatched (clauses ++ C ∷ []) n (lists_with (lists_with lists one (record { clause = length pairs; blocker = other })) other (record { clause = length pairs; blocker = one })) (pairs ++ record { one = one; other = other } ∷ [])
-watched_added clauses n lists pairs C one other h literals one_in other_in =
+-- the two in the other order
+binary_turned : (one other : ℤ) (C : Clause) → IsBinary one other C → IsBinary other one C
+binary_turned one other C h = All-weaker (λ a. (a ≡ one) ⊎ (a ≡ other)) (λ a. (a ≡ other) ⊎ (a ≡ one)) (λ a either. elim either [ inl e ↦ inr e | inr e ↦ inl e ]) C h
+
+pub watched_added : (clauses : List Clause) (n : ℕ) (lists : List (List Watch)) (pairs : List Pair) (C : Clause) (one other : ℤ) (binary : Bool) → AreWatched clauses n lists pairs → All (IsLiteralOf n) C → Contains C one → Contains C other
+    → (binary ≡ true → IsBinary one other C)
+    → AreWatched (clauses ++ C ∷ []) n (lists_with (lists_with lists one (record { clause = length pairs; blocker = other; binary = binary })) other (record { clause = length pairs; blocker = one; binary = binary })) (pairs ++ record { one = one; other = other } ∷ [])
+watched_added clauses n lists pairs C one other binary h literals one_in other_in only =
     let more : List Clause = clauses ++ C ∷ [] in
     let p : Pair = record { one = one; other = other } in
-    let first : Watch = record { clause = length pairs; blocker = other } in
-    let second : Watch = record { clause = length pairs; blocker = one } in
+    let first : Watch = record { clause = length pairs; blocker = other; binary = binary } in
+    let second : Watch = record { clause = length pairs; blocker = one; binary = binary } in
     let lists1 : List (List Watch) = lists_with lists one first in
     let count = h.pairs_length in
     let low_one : index_of one < length lists = rw h.lists_length (index_low n one (All-contains (IsLiteralOf n) C one literals one_in)) in
@@ -237,16 +242,17 @@ watched_added clauses n lists pairs C one other h literals one_in other_in =
     let old_pair : (j : ℕ) → j < length clauses → pair_at (pairs ++ p ∷ []) j ≡ pair_at pairs j = λ j low. get_or_append_left pairs (p ∷ []) no_pair j (omega arith) in
     let last : clause_at more (length pairs) ≡ C = get_or_push clauses C [] (length pairs) (sym count) in
     let last_pair : pair_at (pairs ++ p ∷ []) (length pairs) ≡ p = get_or_push pairs p no_pair (length pairs) refl in
-    let is_old : (w : Watch) → IsWatcher clauses w → IsWatcher more w = λ w was.
-    let held = was.held in record { held = omega (arith, length-append clauses (C ∷ [])); inside = rw (old w.clause was.held) was.inside } in
+    let is_old : (y : ℤ) (w : Watch) → IsWatcher clauses y w → IsWatcher more y w = λ y w was.
+    let held = was.held in
+    record { held = omega (arith, length-append clauses (C ∷ [])); inside = rw (old w.clause was.held) was.inside; only = λ b. rw (old w.clause was.held) (was.only b) } in
     let held_new : length pairs < length more = omega (arith, length-append clauses (C ∷ [])) in
     record {
       literals = All-push (All (IsLiteralOf n)) clauses C h.literals literals;
       lists_length = long2 ∙ long1 ∙ h.lists_length;
       pairs_length = omega (arith, length-append clauses (C ∷ []), length-append pairs (p ∷ []));
       watchers = watchers_pushed more lists1 other second low_other1
-          (watchers_pushed more lists one first low_one (λ y k k_within. is_old (watch_at (list_at lists y) k) (h.watchers y k k_within)) (record { held = held_new; inside = rw last other_in }))
-          (record { held = held_new; inside = rw last one_in });
+          (watchers_pushed more lists one first low_one (λ y k k_within. is_old y (watch_at (list_at lists y) k) (h.watchers y k k_within)) (record { held = held_new; inside = rw last other_in; only = λ b. rw last (only b) }))
+          (record { held = held_new; inside = rw last one_in; only = λ b. rw last (binary_turned one other C (only b)) });
       inside = λ j l within is_one. elim (cases_lt j (length clauses)) [
         | inl low ↦ rw (old j low) (h.inside j l low (rw (old_pair j low) at is_one))
         | inr high ↦

@@ -4,6 +4,7 @@ pub mod Settled
 pub mod Trail
 pub mod Explained
 pub mod Placed
+pub mod Region
 pub mod Watched
 pub mod Watches
 pub mod Watching

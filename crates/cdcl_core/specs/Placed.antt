@@ -1,6 +1,8 @@
 -- How the trail is held: each variable has the place where it stands in the trail, if it does.
-use Rattle.std.specs.Prelude.{ℤ, ◌≡◌, ℕ, ◌-◌, ◌<◌, Option, List, length, slice_index_or, nat_abs}
+use Rattle.std.specs.Prelude.{ℤ, ◌≡◌, ℕ, ◌-◌, ◌*◌, ◌<◌, Bool, true, false, Option, List, length, slice_index_or, nat_abs}
 use Rattle.cdcl_core.specs.Trail.{literal_at}
+use Rattle.cdcl_core.specs.Explained.{Holds}
+use Rattle.cdcl_core.specs.Watched.{index_of}
 
 pub record TrailValue : Type 0 where
   pub variables : ℕ
@@ -12,8 +14,19 @@ pub record TrailValue : Type 0 where
 abbrev pub last_start : TrailValue → ℕ
 last_start t = slice_index_or t.starts (length t.starts - 1) 0
 
+-- told is whether a literal is true
+pub record AreTold (told : List Bool) (trail : List ℤ) : Type 0 where
+  pub sound : (l : ℤ) → slice_index_or told (index_of l) false ≡ true → Holds trail l
+  pub complete : (l : ℤ) → Holds trail l → slice_index_or told (index_of l) false ≡ true
+
 -- each entry's variable has the entry's place
 pub record IsPlaced (places : List ℕ) (trail : List ℤ) : Type 0 where
   pub some : 0 < length places
   pub literal : (i : ℕ) → i < length trail → (0 < nat_abs (literal_at trail i)) × (nat_abs (literal_at trail i) < length places)
   pub at : (i : ℕ) → i < length trail → slice_index_or places (nat_abs (literal_at trail i)) 0 ≡ i
+
+-- the trail with both
+pub record IsHeld (places : List ℕ) (told : List Bool) (trail : List ℤ) : Type 0 where
+  pub placed : IsPlaced places trail
+  pub told_values : AreTold told trail
+  pub wide : length told ≡ length places * 2

@@ -1,5 +1,5 @@
 -- What a visit of a watcher does.
-use Rattle.std.specs.Prelude.{◌≡◌, ◌⊎◌, ℕ, suc, ◌+◌, ◌<◌, Option, Some, None, length, ℤ, neg_ℤ, List, All}
+use Rattle.std.specs.Prelude.{◌≡◌, ◌⊎◌, ℕ, suc, ◌+◌, ◌<◌, Option, Some, None, [], ◌∷◌, ◌++◌, length, ℤ, neg_ℤ, List, All}
 use Rattle.std.specs.List.{Contains}
 use Rattle.proof_semantics.specs.Clauses.{Clause}
 use Rattle.cdcl_core.specs.Settled.{IsSettled}
@@ -25,6 +25,12 @@ pub record IsOtherWatch (trail : List ℤ) (C : Clause) (first l : ℤ) : Type 0
 -- the other literals are false
 abbrev pub AreOthersFalse : List ℤ → Clause → ℤ → Type 0
 AreOthersFalse trail C first = All (λ a. (a ≡ first) ⊎ Holds trail (neg_ℤ a)) C
+
+-- l follows by clause j, or is false
+abbrev pub IsFollowed : TrailValue → TrailValue → ℕ → ℤ → Visit → Type 0
+IsFollowed old new j l Next = new ≡ record old { literals = old.literals ++ l ∷ []; reasons = old.reasons ++ Some j ∷ [] }
+IsFollowed old new j l Again = ⊥
+IsFollowed old new j l (Conflict k) = (k ≡ j) × (new ≡ old) × Holds old.literals (neg_ℤ l)
 
 -- the watcher stays, or was taken out, or its clause is false
 abbrev pub IsVisited : List Clause → TrailValue → WatchesValue → WatchesValue → ℤ → ℕ → Visit → Type 0

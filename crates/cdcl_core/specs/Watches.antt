@@ -1,6 +1,6 @@
 -- How the watches are held: for each literal its watchers, for each clause the two literals that it watches, and the number of
 -- the trail's entries that have been handled.
-use Rattle.std.specs.Prelude.{ℕ, zero, ◌+◌, ◌*◌, List, [], ◌∷◌, ◌++◌, length, replicate, slice_index_or, slice_set, ℤ, pos}
+use Rattle.std.specs.Prelude.{ℕ, zero, Bool, false, ◌+◌, ◌*◌, List, [], ◌∷◌, ◌++◌, length, replicate, slice_index_or, slice_set, ℤ, pos}
 use Rattle.cdcl_core.specs.Watched.{index_of}
 use Rattle.cdcl_core.specs.declared.watches.Watch.{Watch}
 use Rattle.cdcl_core.specs.declared.watches.Pair.{Pair}
@@ -11,7 +11,7 @@ pub record WatchesValue : Type 0 where
   pub handled : ℕ
 
 abbrev pub no_watch : Watch
-no_watch = record { clause = 0; blocker = pos zero }
+no_watch = record { clause = 0; blocker = pos zero; binary = false }
 
 abbrev pub no_pair : Pair
 no_pair = record { one = pos zero; other = pos zero }
@@ -29,10 +29,10 @@ pair_at pairs j = slice_index_or pairs j no_pair
 abbrev pub lists_with : List (List Watch) → ℤ → Watch → List (List Watch)
 lists_with lists l w = slice_set lists (index_of l) (list_at lists l ++ w ∷ [])
 
--- the next clause watches these two
-abbrev pub watches_with : WatchesValue → ℤ → ℤ → WatchesValue
-watches_with w one other = record w {
-  lists = lists_with (lists_with w.lists one (record { clause = length w.pairs; blocker = other })) other (record { clause = length w.pairs; blocker = one });
+-- the next clause watches these two, and perhaps has no others
+abbrev pub watches_with : WatchesValue → ℤ → ℤ → Bool → WatchesValue
+watches_with w one other binary = record w {
+  lists = lists_with (lists_with w.lists one (record { clause = length w.pairs; blocker = other; binary = binary })) other (record { clause = length w.pairs; blocker = one; binary = binary });
   pairs = w.pairs ++ record { one = one; other = other } ∷ [];
 }
 

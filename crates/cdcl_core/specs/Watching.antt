@@ -1,6 +1,6 @@
 -- Watched literals: each clause watches two of its literals, and where it has no true literal neither of them is false, as far as
 -- the entries of the trail have been handled. Source: Chaff, with the blockers of MiniSat.
-use Rattle.std.specs.Prelude.{◌≡◌, ◌≢◌, ◌⊎◌, ℕ, ◌+◌, ◌*◌, ◌<◌, ◌≤◌, List, length, ℤ, neg_ℤ, All}
+use Rattle.std.specs.Prelude.{◌≡◌, ◌≢◌, ◌⊎◌, ℕ, ◌+◌, ◌*◌, ◌<◌, ◌≤◌, true, List, length, ℤ, neg_ℤ, All}
 use Rattle.std.specs.List.{Contains}
 use Rattle.proof_semantics.specs.Clauses.{Clause, AreClausesOf}
 use Rattle.proof_semantics.specs.Conflicts.{clause_at}
@@ -8,6 +8,7 @@ use Rattle.cdcl_core.specs.Settled.{HasTrue}
 use Rattle.cdcl_core.specs.Trail.{literal_at, IsTrueBelow}
 use Rattle.cdcl_core.specs.Explained.{Holds}
 use Rattle.cdcl_core.specs.Placed.{TrailValue}
+use Rattle.cdcl_core.specs.Watched.{IsBinary}
 use Rattle.cdcl_core.specs.Watches.{WatchesValue, list_at, watch_at, pair_at}
 use Rattle.cdcl_core.specs.declared.watches.Watch.{Watch}
 use Rattle.cdcl_core.specs.declared.watches.Pair.{Pair}
@@ -36,17 +37,18 @@ pub record HasWatcher (list : List Watch) (at j : ℕ) (T : Type 0) : Type 0 whe
   pub is : (watch_at list place).clause ≡ j
   pub later : (at ≤ place) ⊎ T
 
--- a watcher is of a clause that has its blocker
-pub record IsWatcher (clauses : List Clause) (w : Watch) : Type 0 where
+-- a watcher of y is of a clause that has its blocker, and only y besides where it says so
+pub record IsWatcher (clauses : List Clause) (y : ℤ) (w : Watch) : Type 0 where
   pub held : w.clause < length clauses
   pub inside : Contains (clause_at clauses w.clause) w.blocker
+  pub only : w.binary ≡ true → IsBinary y w.blocker (clause_at clauses w.clause)
 
 -- each clause has the literals that it watches, and a watcher at each of them
 pub record AreWatched (clauses : List Clause) (variables : ℕ) (lists : List (List Watch)) (pairs : List Pair) : Type 0 where
   pub literals : AreClausesOf variables clauses
   pub lists_length : length lists ≡ variables * 2 + 2
   pub pairs_length : length pairs ≡ length clauses
-  pub watchers : (y : ℤ) (k : ℕ) → k < length (list_at lists y) → IsWatcher clauses (watch_at (list_at lists y) k)
+  pub watchers : (y : ℤ) (k : ℕ) → k < length (list_at lists y) → IsWatcher clauses y (watch_at (list_at lists y) k)
   pub inside : (j : ℕ) (l : ℤ) → j < length clauses → IsOneOf (pair_at pairs j) l → Contains (clause_at clauses j) l
   pub watched : (j : ℕ) (l : ℤ) → j < length clauses → IsOneOf (pair_at pairs j) l → HasWatcher (list_at lists l) 0 j ⊥
 

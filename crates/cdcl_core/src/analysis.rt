@@ -19,7 +19,8 @@ ghost use Rattle.cdcl_core.specs.Analysis.{IsMarkedFrom, IsOneFrom, IsShortened}
 ghost use Rattle.cdcl_core.specs.Analysed.{IsAnalysed};
 ghost use Rattle.cdcl_core.specs.Jump.{IsRunning};
 
-use crate::clause::{Clause, ClauseList, id_of};
+use crate::clause::Clause;
+use crate::clause_list::{ClauseList, id_of};
 use crate::literal::Literal;
 use crate::marks::Marks;
 use crate::order::Order;
@@ -122,7 +123,7 @@ fn redundant(
     ensures { IfSome result (IsReason clauses.now trail.now.literals place) }
 {
     let reason = trail.reason(place)?;
-    let clause = clauses.get(reason).as_slice();
+    let clause = clauses.get(reason);
     if is_implied(trail, marks, clause, trail.literal(place), first) {
         Some(reason)
     } else {

@@ -1,9 +1,10 @@
-//! The clauses that the solver holds: those of the formula, of the merged steps, and the learned ones. A clause goes by its
-//! place, from 0, and a log speaks of it by the number after its place.
-ghost use Rattle.std.specs.Prelude.{◌≡◌, ◌<◌, ◌^◌, suc, ◌++◌, length, All, IfOk, OnOk};
+//! Clauses as the solver holds them: those of the formula, of the merged steps, and the learned ones.
+ghost use Rattle.std.specs.Prelude.{◌≡◌, true, [], ◌∷◌, ◌++◌, IfOk, OnOk};
 ghost use Rattle.proof_parts.specs.Literals.{AreLiterals};
 ghost use Rattle.proof_semantics.specs.Conflicts.{added_clauses};
+ghost use Rattle.cdcl_core.specs.Watched.{IsBinary};
 
+use crate::clause_list::ClauseList;
 use crate::literal::Literal;
 use net_parts::items::Items;
 use proof_parts::clause::Lits;
@@ -11,25 +12,6 @@ use proof_parts::log::Item;
 use std::alloc::{AllocError, Global};
 
 pub type Clause = Items<Literal>;
-
-pub type ClauseList = Items<Clause>;
-
-/// How many clauses there are.
-pub fn count(clauses: &ClauseList) -> u64
-    ensures value { result ≡ length clauses.now }
-    ensures few { length clauses.now < 2 ^ 59 }
-{
-    clauses.as_slice().len() as u64
-}
-
-/// What a log calls the clause at a place.
-pub fn id_of(clauses: &ClauseList, place: usize) -> u64
-    requires { place < length clauses.now }
-    ensures { result ≡ suc place }
-{
-    let _places = clauses.len();
-    place as u64 + 1
-}
 
 /// The clause as the solver holds it.
 fn read_clause(alloc: Global, literals: &[i32]) -> Result<Clause, AllocError>
@@ -43,6 +25,18 @@ fn read_clause(alloc: Global, literals: &[i32]) -> Result<Clause, AllocError>
     Ok(clause)
 }
 
+/// Whether the clause has no literals but these two.
+pub fn is_binary(clause: &[Literal], one: Literal, other: Literal) -> bool
+    ensures { result ≡ true → IsBinary one other clause.now }
+{
+    for literal in clause {
+        if !literal.is(one) && !literal.is(other) {
+            return false;
+        }
+    }
+    true
+}
+
 /// The clause as logs have it.
 pub fn written(alloc: Global, clause: &[Literal]) -> Result<Lits, AllocError>
     ensures { IfOk result (λ lits. lits ≡ clause.now) }
@@ -54,12 +48,21 @@ pub fn written(alloc: Global, clause: &[Literal]) -> Result<Lits, AllocError>
     Ok(lits)
 }
 
+/// Adds a copy of the clause.
+fn push_copy(alloc: Global, clauses: &mut ClauseList, lits: &Lits) -> Result<(), AllocError>
+    ensures { OnOk result (clauses.new ≡ clauses.old ++ lits.now ∷ []) }
+{
+    let clause = read_clause(alloc, lits.as_slice())?;
+    clauses.push(clause.as_slice())?;
+    Ok(())
+}
+
 /// Adds copies of these clauses.
 pub fn push_all(alloc: Global, clauses: &mut ClauseList, more: &[Lits]) -> Result<(), AllocError>
     ensures { OnOk result (clauses.new ≡ clauses.old ++ more.now) }
 {
     for lits in more {
-        clauses.push(read_clause(alloc, lits.as_slice())?)?;
+        push_copy(alloc, clauses, lits)?;
     }
     Ok(())
 }
@@ -70,7 +73,7 @@ pub fn push_added(alloc: Global, clauses: &mut ClauseList, items: &[Item]) -> Re
 {
     for item in items {
         match item {
-            Item::Add(step) => clauses.push(read_clause(alloc, step.lits().as_slice())?)?,
+            Item::Add(step) => push_copy(alloc, clauses, step.lits())?,
             Item::Remove(_) => {}
         }
     }

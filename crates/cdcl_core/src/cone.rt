@@ -2,6 +2,7 @@
 ghost use Rattle.std.specs.Prelude.{◌≡◌, ◌<◌, ◌≤◌, ◌^◌, IfSome};
 ghost use Rattle.cdcl_core.specs.Decided.{IsDecision};
 
+use crate::decision::if_open;
 use crate::guide::Guide;
 use crate::literal::Literal;
 use crate::order::Order;
@@ -118,11 +119,6 @@ impl Cone {
         if latest == 0 {
             return None;
         }
-        let literal = Literal::of(latest, order.value(latest));
-        if trail.is_open(literal) {
-            Some(literal)
-        } else {
-            None
-        }
+        if_open(trail, Literal::of(latest, order.value(latest)))
     }
 }

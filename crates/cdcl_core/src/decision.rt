@@ -3,11 +3,24 @@
 //! The order of the variables proposes one; what it answers is tried, and where it has nothing the least open variable is taken,
 //! so that the search is complete whatever the order holds.
 ghost use Rattle.std.specs.Prelude.{◌≡◌, ◌<◌, ◌^◌, IfSome, IsNone};
+ghost use Rattle.proof_semantics.specs.Clauses.{IsLiteralOf};
 ghost use Rattle.cdcl_core.specs.Decided.{IsDecision, IsFull};
 
 use crate::literal::Literal;
 use crate::order::Order;
 use crate::trail::Trail;
+
+/// The literal, where it is open.
+pub fn if_open(trail: &Trail, literal: Literal) -> Option<Literal>
+    requires { IsLiteralOf trail.now.variables literal }
+    ensures { IfSome result (IsDecision trail.now) }
+{
+    if trail.is_open(literal) {
+        Some(literal)
+    } else {
+        None
+    }
+}
 
 /// The first open variable of the order, with the value that it had last; perhaps None where one is open.
 fn preferred(trail: &Trail, order: &mut Order) -> Option<Literal>

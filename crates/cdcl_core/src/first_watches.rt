@@ -9,7 +9,8 @@ ghost use Rattle.cdcl_core.specs.Watches.{no_watches};
 ghost use Rattle.cdcl_core.specs.Watching.{IsWatching};
 ghost use Rattle.cdcl_core.specs.Started.{IsStarting, IsStarted};
 
-use crate::clause::ClauseList;
+use crate::clause::is_binary;
+use crate::clause_list::ClauseList;
 use crate::trail::Trail;
 use crate::visit::other_watch;
 use crate::watches::Watches;
@@ -28,19 +29,20 @@ fn watch_clause(
     ensures started { IfOk result (IsStarted clauses.now place trail.new watches.new) }
     ensures extended { OnOk result (IsExtended clauses.now trail.old trail.new) }
 {
-    let clause = clauses.get(place).as_slice();
+    let clause = clauses.get(place);
     if clause.len() == 0 {
         return Ok(false);
     }
     let first = clause[0];
     if let Some(other) = other_watch(trail, clause, first) {
-        watches.add(first, other)?;
+        let binary = is_binary(clause, first, other);
+        watches.add(first, other, binary)?;
         return Ok(true);
     }
     if trail.is_false(first) {
         return Ok(false);
     }
-    watches.add(first, first)?;
+    watches.add(first, first, false)?;
     if trail.is_true(first) {
         return Ok(true);
     }

@@ -11,7 +11,8 @@ ghost use Rattle.cdcl_core.specs.Placed.{last_start};
 ghost use Rattle.cdcl_core.specs.Searched.{IsSearching, HasMoved};
 ghost use Rattle.cdcl_core.specs.Jump.{IsRunning, IsJump, IsJumpPair, IsLastOther, later_of};
 
-use crate::clause::{Clause, ClauseList};
+use crate::clause::{Clause, is_binary};
+use crate::clause_list::ClauseList;
 use crate::literal::Literal;
 use crate::order::Order;
 use crate::search::Search;
@@ -107,10 +108,12 @@ pub fn jump(
 {
     trail.consistent();
     let own = trail.literal(place).negated();
-    let Target { level, other } = jump_target(trail, clause.as_slice(), own);
+    let literals = clause.as_slice();
+    let Target { level, other } = jump_target(trail, literals, own);
     let reason = clauses.len();
-    clauses.push(clause)?;
-    watches.add(own, other)?;
+    clauses.push(literals)?;
+    let binary = is_binary(literals, own, other);
+    watches.add(own, other, binary)?;
     let start = trail.start(level);
     open_from(order, trail, start);
     watches.set_handled(start);

@@ -8,7 +8,8 @@ ghost use Rattle.cdcl_core.specs.Searched.{IsSearching, HasEnded, HasLearned};
 ghost use Rattle.cdcl_core.specs.Watching.{IsWatching, IsWatchedBelow};
 
 use crate::analysis::{Learned, learn};
-use crate::clause::{ClauseList, count, written};
+use crate::clause::written;
+use crate::clause_list::{ClauseList, count};
 use crate::jump::jump;
 use crate::literal::Literal;
 use crate::refutation::refute;

@@ -4,6 +4,7 @@
 mod analysis;
 pub mod answer;
 mod clause;
+mod clause_list;
 mod cone;
 mod decision;
 mod first_watches;

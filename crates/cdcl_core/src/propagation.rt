@@ -6,7 +6,7 @@ ghost use Rattle.cdcl_core.specs.Propagation.{IsExtended};
 ghost use Rattle.cdcl_core.specs.Watching.{IsWatching, IsHandling};
 ghost use Rattle.cdcl_core.specs.Visited.{IsHandled, IsComplete};
 
-use crate::clause::ClauseList;
+use crate::clause_list::ClauseList;
 use crate::literal::Literal;
 use crate::trail::Trail;
 use crate::visit::{Visit, visit_watcher};

@@ -7,7 +7,7 @@ ghost use Rattle.cdcl_core.specs.Propagation.{IsConflict};
 ghost use Rattle.cdcl_core.specs.Analysis.{mark_at};
 ghost use Rattle.cdcl_core.specs.Refuted.{IsRefuted};
 
-use crate::clause::{ClauseList, id_of};
+use crate::clause_list::{ClauseList, id_of};
 use crate::marks::Marks;
 use crate::resolution::{mark_conflict, resolve, reversed};
 use crate::trail::Trail;

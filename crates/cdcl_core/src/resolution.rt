@@ -6,7 +6,7 @@ ghost use Rattle.cdcl_core.specs.Explained.{IsExplained};
 ghost use Rattle.cdcl_core.specs.Propagation.{IsConflict};
 ghost use Rattle.cdcl_core.specs.Analysis.{mark_at, IsMarkedFrom, AreOthersMarked};
 
-use crate::clause::{ClauseList, id_of};
+use crate::clause_list::{ClauseList, id_of};
 use crate::literal::Literal;
 use crate::marks::Marks;
 use crate::trail::Trail;
@@ -50,7 +50,7 @@ pub fn mark_conflict(
     ensures same { OnOk result (length marks.new ≡ length marks.old) }
 {
     trail.consistent();
-    let clause = clauses.get(conflict).as_slice();
+    let clause = clauses.get(conflict);
     if trail.len() == 0 {
         return Ok(());
     }
@@ -80,7 +80,7 @@ pub fn resolve(
 {
     trail.consistent();
     marks.unset(entry);
-    let clause = clauses.get(reason).as_slice();
+    let clause = clauses.get(reason);
     mark_others(trail, marks, clause, trail.literal(entry), entry)?;
     hints.push(id_of(clauses, reason))?;
     Ok(())

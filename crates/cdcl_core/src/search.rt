@@ -10,7 +10,8 @@ ghost use Rattle.cdcl_core.specs.Watches.{no_watches};
 ghost use Rattle.cdcl_core.specs.Watching.{IsWatching, IsWatchedBelow};
 ghost use Rattle.cdcl_core.specs.Searched.{IsSearch, IsSearching, IsModelTrail};
 
-use crate::clause::{ClauseList, push_added, push_all};
+use crate::clause::{push_added, push_all};
+use crate::clause_list::ClauseList;
 use crate::decision::decide;
 use crate::log_copy::log_copy;
 use crate::marks::Marks;
@@ -18,7 +19,6 @@ use crate::order::Order;
 use crate::propagation::propagate;
 use crate::trail::Trail;
 use crate::watches::Watches;
-use net_parts::items::Items;
 use proof_parts::cnf::Cnf;
 use proof_parts::log::Log;
 use std::alloc::{AllocError, Global};
@@ -39,7 +39,7 @@ pub struct Search {
 fn all_clauses(alloc: Global, cnf: &Cnf, log: &Log) -> Result<ClauseList, AllocError>
     ensures { IfOk result (λ clauses. clauses ≡ clauses_with cnf.now.clauses log.now) }
 {
-    let mut clauses = Items::new(alloc);
+    let mut clauses = ClauseList::new(alloc);
     push_all(alloc, &mut clauses, cnf.clauses().as_slice())?;
     push_added(alloc, &mut clauses, log.as_slice())?;
     Ok(clauses)

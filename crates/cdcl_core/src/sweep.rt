@@ -9,6 +9,7 @@ ghost use Rattle.proof_semantics.specs.Clauses.{IsLiteralOf};
 ghost use Rattle.cdcl_core.specs.Decided.{IsDecision};
 
 use crate::cone::Cone;
+use crate::decision::if_open;
 use crate::guide::{Candidate, Guide};
 use crate::literal::Literal;
 use crate::order::Order;
@@ -59,13 +60,10 @@ fn first_open(trail: &Trail, one: Literal, other: Literal) -> Option<Literal>
     requires other { IsLiteralOf trail.now.variables other }
     ensures { IfSome result (IsDecision trail.now) }
 {
-    if trail.is_open(one) {
-        return Some(one);
+    if trail.is_true(one) {
+        return if_open(trail, other);
     }
-    if trail.is_true(one) && trail.is_open(other) {
-        return Some(other);
-    }
-    None
+    if_open(trail, one)
 }
 
 /// Whether a table reads a signal that is in doubt.

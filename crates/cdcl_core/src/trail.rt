@@ -1,12 +1,12 @@
 //! The trail: the literals that are true, in the order in which they became so, with the reason of each.
 //!
-//! A variable has the place where it stands in the trail; where another literal stands there or none does, it is open. So going
-//! back is cutting the trail, and no variable is touched. A level is its start, the place of its decision: no levels are
-//! stored, and a literal is of a level or below it by its place. Source: the trail and the implication graph of GRASP, as
-//! MiniSat holds them.
+//! A table tells of each literal whether it is true, so that this costs one look; going back touches the literals that are true no more.
+//! A variable that has a value has the place where it stands in the trail. A level is its start, the place of its decision: no levels
+//! are stored, and a literal is of a level or below it by its place. Source: the trail and the implication graph of GRASP, as MiniSat
+//! holds them.
 ghost use Rattle.std.specs.Prelude.{◌≡◌, ℕ, ◌+◌, ◌-◌, ◌<◌, ◌≤◌, ◌⊎◌, ◌↔◌, true, false, IsTrue, All, ◌^◌, neg_ℤ, take, slice_index_or, [], ◌∷◌, ◌++◌, IfOk, length, List, Option};
 ghost use Rattle.proof_semantics.specs.Clauses.{IsLiteralOf};
-ghost use Rattle.cdcl_core.specs.Placed.{TrailValue, IsPlaced};
+ghost use Rattle.cdcl_core.specs.Placed.{TrailValue, AreTold, IsHeld};
 ghost use Rattle.cdcl_core.specs.Explained.{Holds};
 ghost use Rattle.cdcl_core.specs.Trail.{IsConsistent, AreLevels, literal_at, reason_at};
 ghost use Rattle.cdcl_core.specs.Settled.{IsOpen};
@@ -19,6 +19,7 @@ use std::marker::Model;
 pub struct Trail {
     literals: Vec<Literal>,
     places: Vec<usize>,
+    told: Vec<bool>,
     reasons: Vec<Option<usize>>,
     starts: Vec<usize>,
 }
@@ -33,7 +34,21 @@ impl Model for Trail {
       starts = t.starts.items;
     } };
 
-    ghost invariant = { λ t. IsPlaced t.places.items t.literals.items };
+    ghost invariant = { λ t. IsHeld t.places.items t.told.items t.literals.items };
+}
+
+/// The literals of the entries from `start` on are told to be true no more.
+fn untell(told: &mut Vec<bool>, literals: &[Literal], start: usize)
+    requires told { AreTold told.old.items literals.now }
+    requires consistent { IsConsistent literals.now }
+    ensures told { AreTold told.new.items (take start literals.now) }
+    ensures wide { length told.new.items ≡ length told.old.items }
+{
+    let mut end = literals.len();
+    'down: while end > start {
+        end -= 1;
+        told[literals[end].index()] = false;
+    }
 }
 
 impl Trail {
@@ -46,6 +61,7 @@ impl Trail {
         Ok(Trail {
             literals: Vec::new(alloc),
             places: vec![in alloc; 0; variables as usize + 1]?,
+            told: vec![in alloc; false; variables as usize * 2 + 2]?,
             reasons: Vec::new(alloc),
             starts: Vec::new(alloc),
         })
@@ -55,12 +71,7 @@ impl Trail {
         requires { IsLiteralOf self.now.variables literal }
         ensures { IsTrue result ↔ Holds self.now.literals literal }
     {
-        let place = self.places[literal.variable()];
-        if place < self.literals.len() {
-            self.literals[place].is(literal)
-        } else {
-            false
-        }
+        self.told[literal.index()]
     }
 
     pub fn is_false(&self, literal: Literal) -> bool
@@ -169,6 +180,7 @@ impl Trail {
     {
         self.places[literal.variable()] = self.literals.len();
         self.literals.push(literal)?;
+        self.told[literal.index()] = true;
         self.reasons.push(Some(reason))?;
         Ok(())
     }
@@ -186,6 +198,7 @@ impl Trail {
         self.starts.push(self.literals.len())?;
         self.places[literal.variable()] = self.literals.len();
         self.literals.push(literal)?;
+        self.told[literal.index()] = true;
         self.reasons.push(None)?;
         Ok(())
     }
@@ -200,6 +213,7 @@ impl Trail {
         } }
     {
         let start = self.starts[level];
+        untell(&mut self.told, &self.literals, start);
         self.literals.truncate(start);
         self.reasons.truncate(start);
         self.starts.truncate(level);

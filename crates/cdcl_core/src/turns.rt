@@ -4,7 +4,7 @@ ghost use Rattle.cdcl_core.specs.Propagation.{IsConflict};
 ghost use Rattle.cdcl_core.specs.Watching.{IsWatching, IsWatchedBelow};
 ghost use Rattle.cdcl_core.specs.Searched.{IsSearching, IsModelTrail, IsSwept, HasMoved};
 
-use crate::clause::ClauseList;
+use crate::clause_list::ClauseList;
 use crate::guide::Guide;
 use crate::jump::close_levels;
 use crate::order::Order;

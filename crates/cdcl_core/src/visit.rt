@@ -1,13 +1,15 @@
 //! A visit of a clause that watches a literal which became false: the clause is true, or another of its literals is watched, or
-//! the other one that it watches follows, or it is false. Source: Chaff; the blockers are MiniSat's.
+//! the other one that it watches follows, or it is false. The blocker may show that it is true before it is looked at, and of a clause of
+//! two literals the watcher tells all. Source: Chaff; the blockers are MiniSat's, the watchers of two literals those of Glucose.
 ghost use Rattle.std.specs.Prelude.{◌≡◌, ◌<◌, length, All, IfOk, OnOk, IfSome, IsNone};
 ghost use Rattle.proof_semantics.specs.Clauses.{IsLiteralOf};
+ghost use Rattle.cdcl_core.specs.Explained.{Holds};
 ghost use Rattle.cdcl_core.specs.Propagation.{IsExtended};
 ghost use Rattle.cdcl_core.specs.Watches.{list_at, watch_at, pair_at};
 ghost use Rattle.cdcl_core.specs.Watching.{IsOneOf, IsHandling};
-ghost use Rattle.cdcl_core.specs.Visited.{IsPartner, IsOtherWatch, AreOthersFalse, IsVisited};
+ghost use Rattle.cdcl_core.specs.Visited.{IsPartner, IsOtherWatch, AreOthersFalse, IsFollowed, IsVisited};
 
-use crate::clause::ClauseList;
+use crate::clause_list::ClauseList;
 use crate::literal::Literal;
 use crate::trail::Trail;
 use crate::watches::{Pair, Watch, Watches};
@@ -52,6 +54,19 @@ fn partner(pair: Pair, literal: Literal) -> Option<Literal>
     }
 }
 
+/// Makes a literal true by a clause whose other literals are false, or tells that the clause is false.
+fn follow(trail: &mut Trail, clause: usize, first: Literal) -> Result<Visit, AllocError>
+    requires literal { IsLiteralOf trail.old.variables first }
+    requires not_true { Holds trail.old.literals first → ⊥ }
+    ensures { IfOk result (IsFollowed trail.old trail.new clause first) }
+{
+    if trail.is_false(first) {
+        return Ok(Visit::Conflict(clause));
+    }
+    trail.push_implied(first, clause)?;
+    Ok(Visit::Next)
+}
+
 /// A visit of a clause that watches `x` and `first`.
 fn visit_clause(
     trail: &mut Trail,
@@ -74,15 +89,22 @@ fn visit_clause(
         return Ok(Visit::Next);
     }
     if trail.is_true(first) {
+        let watch = Watch {
+            clause,
+            blocker: first,
+            binary: false,
+        };
+        watches.set(x, at, watch);
         return Ok(Visit::Next);
     }
-    match other_watch(trail, clauses.get(clause).as_slice(), first) {
+    match other_watch(trail, clauses.get(clause), first) {
         Some(literal) => {
             watches.push(
                 literal,
                 Watch {
                     clause,
                     blocker: first,
+                    binary: false,
                 },
             )?;
             watches.set_pair(
@@ -95,13 +117,7 @@ fn visit_clause(
             watches.remove(x, at);
             Ok(Visit::Again)
         }
-        None => {
-            if trail.is_false(first) {
-                return Ok(Visit::Conflict(clause));
-            }
-            trail.push_implied(first, clause)?;
-            Ok(Visit::Next)
-        }
+        None => follow(trail, clause, first),
     }
 }
 
@@ -122,6 +138,9 @@ pub fn visit_watcher(
     let watch = watches.get(x, at);
     if trail.is_true(watch.blocker) {
         return Ok(Visit::Next);
+    }
+    if watch.binary {
+        return follow(trail, watch.clause, watch.blocker);
     }
     match partner(watches.pair(watch.clause), x) {
         Some(first) => visit_clause(trail, watches, clauses, x, at, watch.clause, first),

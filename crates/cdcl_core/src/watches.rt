@@ -17,6 +17,8 @@ use std::marker::Model;
 pub struct Watch {
     pub clause: usize,
     pub blocker: Literal,
+    /// The clause is known to have no literals but the one that it watches here and the blocker.
+    pub binary: bool,
 }
 
 /// The two literals that a clause watches.
@@ -103,6 +105,17 @@ impl Watches {
         self.lists[literal.index()].swap_remove(at);
     }
 
+    /// Another watcher in the place of one.
+    pub fn set(&mut self, literal: Literal, at: usize, watch: Watch)
+        requires literal { index_of literal < length self.old.lists }
+        requires at { at < length (list_at self.old.lists literal) }
+        ensures { self.new ≡ record self.old {
+          lists = slice_set self.old.lists (index_of literal) (slice_set (list_at self.old.lists literal) at watch);
+        } }
+    {
+        self.lists[literal.index()][at] = watch;
+    }
+
     /// The two literals that a clause watches.
     pub fn pair(&self, clause: usize) -> Pair
         requires { clause < length self.now.pairs }
@@ -119,11 +132,11 @@ impl Watches {
         self.pairs[clause] = pair;
     }
 
-    /// The next clause watches these two.
-    pub fn add(&mut self, one: Literal, other: Literal) -> Result<(), AllocError>
+    /// The next clause watches these two; `binary`: it has no others.
+    pub fn add(&mut self, one: Literal, other: Literal, binary: bool) -> Result<(), AllocError>
         requires one { index_of one < length self.old.lists }
         requires other { index_of other < length self.old.lists }
-        ensures { OnOk result (self.new ≡ watches_with self.old one other) }
+        ensures { OnOk result (self.new ≡ watches_with self.old one other binary) }
     {
         let clause = self.pairs.len();
         self.push(
@@ -131,6 +144,7 @@ impl Watches {
             Watch {
                 clause,
                 blocker: other,
+                binary,
             },
         )?;
         self.push(
@@ -138,6 +152,7 @@ impl Watches {
             Watch {
                 clause,
                 blocker: one,
+                binary,
             },
         )?;
         self.pairs.push(Pair { one, other })?;

@@ -1,4 +1,4 @@
-use Rattle.std.proofs.Common.{◌≡◌, ℕ, Bool, true, List, ap, subst, length, ◌∙◌, arith}
+use Rattle.std.proofs.Common.{◌≡◌, ℕ, Bool, true, List, refl, ap, subst, length, arith}
 use Rattle.std.proofs.Math.ListN.{length-set}
 use Rattle.cdcl_core.specs.Analysis.{mark_at}
 use Rattle.cdcl_core.proofs.Resolving.{resolved_explained, replaced_kept, replaced_below}
@@ -7,7 +7,7 @@ use Rattle.cdcl_core.proofs.resolution.resolve.Goals as goal
 pub returns-clause-explained : goal.returns-clause-explained
 returns-clause-explained c h =
     resolved_explained c.args.clauses.now c.args.trail.now.literals c.args.marks.now c.mark_others.new.marks c.args.hints.now c.push.new.self c.args.entry c.args.reason c.id_of.result
-    c.get.result.now c.as_slice-clause.result.now c.literal.result c.consistent.ensures.consistent c.requires.entry c.requires.reason c.get.ensures c.as_slice-clause.ensures c.literal.ensures
+    c.get-clause.result.now c.get-clause.result.now c.literal.result c.consistent.ensures.consistent c.requires.entry c.requires.reason c.get-clause.ensures refl c.literal.ensures
     (subst (λ (marks : List Bool). (p : ℕ) → mark_at marks p ≡ true → mark_at c.mark_others.new.marks p ≡ true) c.unset.ensures c.in_ok-mark_others.ensures.kept)
     c.in_ok-mark_others.ensures.marked c.id_of.ensures c.in_ok-push.ensures.ok h
 
@@ -16,8 +16,8 @@ returns-clause-same c = let same = c.in_ok-mark_others.ensures.same_length in le
 
 pub returns-clause-kept : goal.returns-clause-kept
 returns-clause-kept c =
-    replaced_kept c.args.trail.now.literals c.args.marks.now c.unset.new.self c.mark_others.new.marks c.as_slice-clause.result.now c.literal.result c.args.entry c.unset.ensures c.in_ok-mark_others.ensures
+    replaced_kept c.args.trail.now.literals c.args.marks.now c.unset.new.self c.mark_others.new.marks c.get-clause.result.now c.literal.result c.args.entry c.unset.ensures c.in_ok-mark_others.ensures
 
 pub returns-clause-below : goal.returns-clause-below
 returns-clause-below c =
-    replaced_below c.args.trail.now.literals c.args.marks.now c.unset.new.self c.mark_others.new.marks c.as_slice-clause.result.now c.literal.result c.args.entry c.unset.ensures (omega arith) c.in_ok-mark_others.ensures
+    replaced_below c.args.trail.now.literals c.args.marks.now c.unset.new.self c.mark_others.new.marks c.get-clause.result.now c.literal.result c.args.entry c.unset.ensures (omega arith) c.in_ok-mark_others.ensures

@@ -2,9 +2,10 @@ use Rattle.std.specs.Prelude.{IfSome, IsNone}
 use Rattle.std.proofs.Common.{◌≡◌, ◌<◌, true, length, refl, subst, arith, rules, None}
 use Rattle.proof_semantics.specs.Conflicts.{clause_at}
 use Rattle.cdcl_core.specs.Propagation.{IsExtended}
-use Rattle.cdcl_core.specs.Visited.{IsOtherWatch, AreOthersFalse}
+use Rattle.std.proofs.lemmas.Result.{IfOk-weaker}
+use Rattle.cdcl_core.specs.Visited.{IsOtherWatch, AreOthersFalse, IsFollowed, IsVisited}
 use Rattle.cdcl_core.proofs.Propagating.{clause_read}
-use Rattle.cdcl_core.proofs.Visiting.{held_by, first_in, first_literal, twice_next, next_by, moved_at, all_false, implied_extended, implied_at}
+use Rattle.cdcl_core.proofs.Visiting.{held_by, first_in, first_literal, twice_next, list_low, rewatched, moved_at, followed_extended, followed_visited}
 use Rattle.cdcl_core.proofs.visit.visit_clause.Goals as goal
 
 pub returns-then-is-clause-visited : goal.returns-then-is-clause-visited
@@ -15,43 +16,43 @@ returns-then-is-clause-visited c =
 pub is_true-requires : goal.is_true-requires
 is_true-requires c = first_literal c.args.clauses.now c.args.trail.now c.args.watches.now c.args.x c.args.at c.args.clause c.args.first c.requires.handling c.requires.at c.requires.clause c.requires.first
 
+pub set-requires-clause-literal : goal.set-requires-clause-literal
+set-requires-clause-literal c = list_low c.args.watches.now.lists c.args.x c.args.at c.requires.at
+
 pub returns-then-is_true-clause-visited : goal.returns-then-is_true-clause-visited
-returns-then-is_true-clause-visited c = (
-  next_by c.args.clauses.now c.args.trail.now c.args.watches.now c.args.x c.args.at c.args.clause c.args.first c.requires.handling c.requires.clause
-      (first_in c.args.clauses.now c.args.trail.now c.args.watches.now c.args.x c.args.at c.args.clause c.args.first c.requires.handling c.requires.at c.requires.clause c.requires.first) (c.is_true.ensures.0 c.if-is_true.true),
-  refl,
-)
+returns-then-is_true-clause-visited c =
+    rewatched c.args.clauses.now c.args.trail.now c.args.watches.now c.set.new.self c.args.x c.args.at c.args.clause c.args.first c.requires.handling c.requires.at c.requires.clause
+    (first_in c.args.clauses.now c.args.trail.now c.args.watches.now c.args.x c.args.at c.args.clause c.args.first c.requires.handling c.requires.at c.requires.clause c.requires.first) (c.is_true.ensures.0 c.if-is_true.true) c.set.ensures
 
-pub is_false-requires : goal.is_false-requires
-is_false-requires c = first_literal c.args.clauses.now c.args.trail.now c.args.watches.now c.args.x c.args.at c.args.clause c.args.first c.requires.handling c.requires.at c.requires.clause c.requires.first
-
-pub push_implied-requires-clause-literal : goal.push_implied-requires-clause-literal
-push_implied-requires-clause-literal c = first_literal c.args.clauses.now c.args.trail.now c.args.watches.now c.args.x c.args.at c.args.clause c.args.first c.requires.handling c.requires.at c.requires.clause c.requires.first
+pub follow-requires-clause-literal : goal.follow-requires-clause-literal
+follow-requires-clause-literal c = first_literal c.args.clauses.now c.args.trail.now c.args.watches.now c.args.x c.args.at c.args.clause c.args.first c.requires.handling c.requires.at c.requires.clause c.requires.first
 
 pub returns-in_ok-push-in-Some-clause-visited : goal.returns-in_ok-push-in-Some-clause-visited
 returns-in_ok-push-in-Some-clause-visited c =
     let held : c.args.clause < length c.args.clauses.now = held_by c.args.clauses.now c.args.trail.now c.args.watches.now c.args.x c.args.at c.args.clause c.requires.handling c.requires.at c.requires.clause in
-    let same : c.as_slice.result.now ≡ clause_at c.args.clauses.now c.args.clause = clause_read c.args.clauses.now c.args.clause c.get.result.now c.as_slice.result.now held c.get.ensures c.as_slice.ensures in
-    let some : IsOtherWatch c.args.trail.now.literals c.as_slice.result.now c.args.first c.in-Some.literal = subst (λ r. IfSome r (IsOtherWatch c.args.trail.now.literals c.as_slice.result.now c.args.first)) c.in-Some.is c.other_watch.ensures.some in
+    let same : c.get.result.now ≡ clause_at c.args.clauses.now c.args.clause = clause_read c.args.clauses.now c.args.clause c.get.result.now c.get.result.now held c.get.ensures refl in
+    let some : IsOtherWatch c.args.trail.now.literals c.get.result.now c.args.first c.in-Some.literal = subst (λ r. IfSome r (IsOtherWatch c.args.trail.now.literals c.get.result.now c.args.first)) c.in-Some.is c.other_watch.ensures.some in
     moved_at c.args.clauses.now c.args.trail.now c.args.watches.now c.push.new.self c.set_pair.new.self c.remove.new.self c.args.x c.args.at c.args.clause c.args.first c.in-Some.literal
     c.requires.handling c.requires.at c.requires.clause c.requires.first
     (λ e. let yes : c.is.result ≡ true = c.is.ensures.1 e in let no = c.if-is.false in cc)
     (subst (λ C. IsOtherWatch c.args.trail.now.literals C c.args.first c.in-Some.literal) same some) c.in_ok-push-in-Some.ensures c.set_pair.ensures c.remove.ensures
 
-pub returns-in_ok-push_implied-in-None-clause-extended : goal.returns-in_ok-push_implied-in-None-clause-extended
-returns-in_ok-push_implied-in-None-clause-extended c =
+pub returns-in-None-clause-extended : goal.returns-in-None-clause-extended
+returns-in-None-clause-extended c =
     let held : c.args.clause < length c.args.clauses.now = held_by c.args.clauses.now c.args.trail.now c.args.watches.now c.args.x c.args.at c.args.clause c.requires.handling c.requires.at c.requires.clause in
-    let same : c.as_slice.result.now ≡ clause_at c.args.clauses.now c.args.clause = clause_read c.args.clauses.now c.args.clause c.get.result.now c.as_slice.result.now held c.get.ensures c.as_slice.ensures in
-    let none : AreOthersFalse c.args.trail.now.literals c.as_slice.result.now c.args.first = c.other_watch.ensures.none (search rules) in
-    implied_extended c.args.clauses.now c.args.trail.now c.push_implied.new.self c.as_slice.result.now c.args.clause c.args.first held
-    (first_in c.args.clauses.now c.args.trail.now c.args.watches.now c.args.x c.args.at c.args.clause c.args.first c.requires.handling c.requires.at c.requires.clause c.requires.first) same none c.in_ok-push_implied-in-None.ensures
+    let same : c.get.result.now ≡ clause_at c.args.clauses.now c.args.clause = clause_read c.args.clauses.now c.args.clause c.get.result.now c.get.result.now held c.get.ensures refl in
+    let none : AreOthersFalse c.args.trail.now.literals c.get.result.now c.args.first = c.other_watch.ensures.none (search rules) in
+    IfOk-weaker c.follow.result (IsFollowed c.args.trail.now c.follow.new.trail c.args.clause c.args.first) (λ _. IsExtended c.args.clauses.now c.args.trail.now c.follow.new.trail)
+    (followed_extended c.args.clauses.now c.args.trail.now c.follow.new.trail c.args.clause c.args.first held
+    (first_in c.args.clauses.now c.args.trail.now c.args.watches.now c.args.x c.args.at c.args.clause c.args.first c.requires.handling c.requires.at c.requires.clause c.requires.first)
+    (subst (λ C. AreOthersFalse c.args.trail.now.literals C c.args.first) same none)) c.follow.ensures
 
-pub returns-in_ok-push_implied-in-None-clause-visited : goal.returns-in_ok-push_implied-in-None-clause-visited
-returns-in_ok-push_implied-in-None-clause-visited c =
+pub returns-in-None-clause-visited : goal.returns-in-None-clause-visited
+returns-in-None-clause-visited c =
     let held : c.args.clause < length c.args.clauses.now = held_by c.args.clauses.now c.args.trail.now c.args.watches.now c.args.x c.args.at c.args.clause c.requires.handling c.requires.at c.requires.clause in
-    let same : c.as_slice.result.now ≡ clause_at c.args.clauses.now c.args.clause = clause_read c.args.clauses.now c.args.clause c.get.result.now c.as_slice.result.now held c.get.ensures c.as_slice.ensures in
-    let none : AreOthersFalse c.args.trail.now.literals c.as_slice.result.now c.args.first = c.other_watch.ensures.none (search rules) in
-    let inside = first_in c.args.clauses.now c.args.trail.now c.args.watches.now c.args.x c.args.at c.args.clause c.args.first c.requires.handling c.requires.at c.requires.clause c.requires.first in
-    let e : IsExtended c.args.clauses.now c.args.trail.now c.push_implied.new.self =
-    implied_extended c.args.clauses.now c.args.trail.now c.push_implied.new.self c.as_slice.result.now c.args.clause c.args.first held inside same none c.in_ok-push_implied-in-None.ensures in
-    (implied_at c.args.clauses.now c.args.trail.now c.push_implied.new.self c.args.watches.now c.args.x c.args.at c.args.clause c.args.first c.requires.handling c.requires.clause inside e c.in_ok-push_implied-in-None.ensures, refl)
+    let same : c.get.result.now ≡ clause_at c.args.clauses.now c.args.clause = clause_read c.args.clauses.now c.args.clause c.get.result.now c.get.result.now held c.get.ensures refl in
+    let none : AreOthersFalse c.args.trail.now.literals c.get.result.now c.args.first = c.other_watch.ensures.none (search rules) in
+    IfOk-weaker c.follow.result (IsFollowed c.args.trail.now c.follow.new.trail c.args.clause c.args.first) (IsVisited c.args.clauses.now c.follow.new.trail c.args.watches.now c.args.watches.now c.args.x c.args.at)
+    (followed_visited c.args.clauses.now c.args.trail.now c.follow.new.trail c.args.watches.now c.args.x c.args.at c.args.clause c.args.first c.requires.handling c.requires.clause held
+    (first_in c.args.clauses.now c.args.trail.now c.args.watches.now c.args.x c.args.at c.args.clause c.args.first c.requires.handling c.requires.at c.requires.clause c.requires.first)
+    (subst (λ C. AreOthersFalse c.args.trail.now.literals C c.args.first) same none)) c.follow.ensures
