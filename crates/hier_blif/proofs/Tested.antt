@@ -11,7 +11,7 @@ use Rattle.hierarchy_semantics.specs.Driven.{Driven, by_output, bound_outputs, o
 use Rattle.hierarchy_semantics.specs.Refusals.{HierRefusal, same_model, no_model_named, recursive, ports, part, taken, first_found, model_names, first_unknown, first_recursive, doubled_port, formal_refusal, unbound_refusal, model_refusal, part_refusal, is_taken, hier_refusal}
 use Rattle.hier_blif.specs.Faults.{fault_value, doubled_port_in}
 use Rattle.hier_blif.specs.Sets.{with_names}
-use Rattle.hier_blif.specs.Tests.{or_first, names_refusal, ports_refusal, part_fault, whole_refusal}
+use Rattle.hier_blif.specs.Tests.{or_first, names_refusal, ports_refusal, part_fault, whole_refusal, form_refusal}
 use Rattle.hier_blif.specs.Whole.{part_names, driven_names, undriven_in, model_fault}
 use Rattle.hier_blif.proofs.Found.{find-same}
 use Rattle.hier_blif.proofs.Sets.{has-set}
@@ -222,18 +222,19 @@ known-none h None known none a is =
     first_part None rest e = refl
     first_part (Some n) rest e = absurd (none-some (same_model n) (sym e))
 
-after-names : (h : Hierarchy) (x : Option Fault) → false ≡ is_some x → IsNamesFault h (option_map fault_value x) → or_first (ports_refusal (all_uses h) h) (whole_refusal h) ≡ hier_refusal h
-after-names h (Some v) none a = absurd (false≢true none)
-after-names h None none a =
-    ap (λ (o : Option HierRefusal). or_first o (or_first (ports_refusal (all_uses h) h) (whole_refusal h))) (names-answer h None a) ∙ sym (tests h)
+pub after-names : (h : Hierarchy) (x : Option Fault) (uses : List Subcircuit) → false ≡ is_some x → IsNamesFault h (option_map fault_value x) → uses ≡ all_uses h
+    → form_refusal uses h ≡ hier_refusal h
+after-names h (Some v) uses none a all = absurd (false≢true none)
+after-names h None uses none a all =
+    ap (λ u. form_refusal u h) all ∙ ap (λ (o : Option HierRefusal). or_first o (or_first (ports_refusal (all_uses h) h) (whole_refusal h))) (names-answer h None a) ∙ sym (tests h)
 
-pub second-told : (h : Hierarchy) (x y : Option Fault) → false ≡ is_some x → IsNamesFault h (option_map fault_value x) → true ≡ is_some y → option_map fault_value y ≡ ports_refusal (all_uses h) h → option_map fault_value y ≡ hier_refusal h
-second-told h x None none a some is = absurd (false≢true (sym some))
-second-told h x (Some v) none a some is = ap (λ (o : Option HierRefusal). or_first o (whole_refusal h)) is ∙ after-names h x none a
+pub ports-told : (h : Hierarchy) (uses : List Subcircuit) (y : Option Fault) → true ≡ is_some y → option_map fault_value y ≡ ports_refusal uses h → option_map fault_value y ≡ form_refusal uses h
+ports-told h uses None some is = absurd (false≢true (sym some))
+ports-told h uses (Some v) some is = ap (λ (o : Option HierRefusal). or_first o (whole_refusal h)) is
 
-pub rest-told : (h : Hierarchy) (x y : Option Fault) → false ≡ is_some x → IsNamesFault h (option_map fault_value x) → false ≡ is_some y → option_map fault_value y ≡ ports_refusal (all_uses h) h → whole_refusal h ≡ hier_refusal h
-rest-told h x (Some v) none a empty is = absurd (false≢true empty)
-rest-told h x None none a empty is = ap (λ (o : Option HierRefusal). or_first o (whole_refusal h)) is ∙ after-names h x none a
+pub parts-told : (h : Hierarchy) (uses : List Subcircuit) (y : Option Fault) → false ≡ is_some y → option_map fault_value y ≡ ports_refusal uses h → whole_refusal h ≡ form_refusal uses h
+parts-told h uses (Some v) none is = absurd (false≢true none)
+parts-told h uses None none is = ap (λ (o : Option HierRefusal). or_first o (whole_refusal h)) is
 
 -- ---- what a test that finds nothing says
 

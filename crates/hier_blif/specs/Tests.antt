@@ -32,3 +32,7 @@ part_fault h m = option_map (part m.name) (model_fault h m)
 -- a model that is not whole, or a name that is taken
 abbrev pub whole_refusal : Hierarchy → Option HierRefusal
 whole_refusal h = or_first (first_found (part_fault h) h) (option_map taken (find is_taken (driven_names h (main_of h))))
+
+-- the ports, and then the parts
+abbrev pub form_refusal : List Subcircuit → Hierarchy → Option HierRefusal
+form_refusal uses h = or_first (ports_refusal uses h) (whole_refusal h)

@@ -8,7 +8,7 @@ ghost use Rattle.hierarchy_semantics.specs.Refusals.{taken, first_found, is_take
 ghost use Rattle.hier_blif.specs.Faults.{fault_value, uses_value};
 ghost use Rattle.hier_blif.specs.Named.{AreNamed};
 ghost use Rattle.hier_blif.specs.Sets.{with_names};
-ghost use Rattle.hier_blif.specs.Tests.{names_refusal, ports_refusal, part_fault, whole_refusal};
+ghost use Rattle.hier_blif.specs.Tests.{names_refusal, ports_refusal, part_fault, whole_refusal, form_refusal};
 ghost use Rattle.hier_blif.specs.Whole.{driven_names};
 
 use crate::faults::{
@@ -118,6 +118,38 @@ fn whole_fault<'a>(
     taken_name(alloc, found, models)
 }
 
+/// The first fault of the ports of models, or of their parts.
+fn form_fault<'a>(
+    alloc: Global,
+    found: &Interfaces<'_, 'a>,
+    uses: &[&Subcircuit<'a>],
+    models: &[BlifModel<'a>],
+) -> Result<Option<Fault<'a>>, AllocError>
+    requires { found.now ≡ models.now }
+    ensures { IfOk result (λ o. option_map fault_value o ≡ form_refusal (uses_value uses.now) models.now) }
+{
+    let fault = ports_fault(alloc, found, uses, models)?;
+    if fault.is_some() {
+        return Ok(fault);
+    }
+    whole_fault(alloc, found, models)
+}
+
+/// The same of models whose names differ, and are known.
+fn known_fault<'a>(
+    alloc: Global,
+    known: Names<'a>,
+    uses: &[&Subcircuit<'a>],
+    models: &[BlifModel<'a>],
+) -> Result<Option<Fault<'a>>, AllocError>
+    requires { known ≡ model_names models.now }
+    ensures { IfOk result (λ o. option_map fault_value o ≡ form_refusal (uses_value uses.now) models.now) }
+{
+    let none = BlifModel::none(alloc);
+    let found = Interfaces::new(alloc, known, models, &none)?;
+    form_fault(alloc, &found, uses, models)
+}
+
 /// The first fault of the models, if they are no hierarchy. Each word in a name's place is a name.
 pub fn first_fault<'a>(
     alloc: Global,
@@ -133,11 +165,5 @@ pub fn first_fault<'a>(
     if fault.is_some() {
         return Ok(fault);
     }
-    let none = BlifModel::none(alloc);
-    let found = Interfaces::new(alloc, known, models, &none)?;
-    let fault = ports_fault(alloc, &found, &uses, models)?;
-    if fault.is_some() {
-        return Ok(fault);
-    }
-    whole_fault(alloc, &found, models)
+    known_fault(alloc, known, &uses, models)
 }

@@ -1,5 +1,5 @@
 //! The tables of a flat net, model by model. Source: BLIF's `.subckt`; the names of the tables inside are this tool's own.
-ghost use Rattle.std.specs.Prelude.{◌≡◌, ◌+◌, ◌++◌, codes, decimal, map, filter, length, IfOk, OnOk};
+ghost use Rattle.std.specs.Prelude.{◌≡◌, ◌+◌, [], ◌∷◌, ◌++◌, codes, decimal, map, filter, length, IfOk, OnOk};
 ghost use Rattle.std.specs.List.{AllByRecursion};
 ghost use Rattle.semantics.specs.Net.{IsName};
 ghost use Rattle.semantics.specs.Refusals.{has_name};
@@ -118,6 +118,21 @@ fn first_signal(inputs: usize, tables: &TableList) -> Result<usize, AllocError>
     }
 }
 
+/// Adds a table of a model, with the signals of its pins.
+fn add_table(
+    alloc: Global,
+    tables: &mut TableList,
+    own: bool,
+    frame: &Frame,
+    t: &NamedTable,
+) -> Result<(), AllocError>
+    requires { IsNamedTable t.now }
+    ensures { OnOk result (tables.new ≡ tables.old ++ table_made own (signal_of frame.now) t.now (length tables.old) ∷ []) }
+{
+    let number = tables.len();
+    tables.push(table_made(alloc, own, frame, t, number)?)
+}
+
 /// The signals of the names of a model that is used where names have these signals, and whose first flat table has the signal `first`.
 fn used_frame<'a>(
     alloc: Global,
@@ -132,6 +147,22 @@ fn used_frame<'a>(
     let model = sizes.of(c.model).model();
     let inputs = input_signals(alloc, outer, model, c)?;
     frame_of(alloc, sizes, model, inputs, first)
+}
+
+/// The same where its first flat table is the next one, and the main model has so many inputs.
+fn next_frame<'a>(
+    alloc: Global,
+    sizes: &Sizes<'_, '_, 'a>,
+    outer: &Frame,
+    c: &Subcircuit,
+    inputs: usize,
+    tables: &TableList,
+) -> Result<Frame<'a>, AllocError>
+    requires { AreReady sizes.now }
+    ensures { IfOk result (λ f. signal_of f ≡ used_signal sizes.now (signal_of outer.now) (inputs + length tables.now) c.now) }
+{
+    let first = first_signal(inputs, tables)?;
+    used_frame(alloc, sizes, outer, c, first)
 }
 
 /// Adds the flat tables of a model whose names have these signals, over so many levels of models, where the main model has so many inputs.
@@ -155,13 +186,9 @@ pub fn add_model(
     }
     for part in &m.parts {
         match part {
-            Part::Names(t) => {
-                let number = tables.len();
-                tables.push(table_made(alloc, own, frame, t, number)?)?;
-            }
+            Part::Names(t) => add_table(alloc, tables, own, frame, t)?,
             Part::Use(c) => {
-                let first = first_signal(inputs, tables)?;
-                let inside = used_frame(alloc, sizes, frame, c, first)?;
+                let inside = next_frame(alloc, sizes, frame, c, inputs, tables)?;
                 let model = sizes.of(c.model);
                 add_model(
                     alloc,

@@ -164,6 +164,33 @@ fn has_room(net: &Net) -> bool
     true
 }
 
+/// The net, if it has room.
+fn with_room(net: Net) -> Result<Net, AllocError>
+    ensures net { IfOk result (λ n. n ≡ net) }
+    ensures room { IfOk result (λ n. signal_count n + row_count n < 2 ^ 31) }
+{
+    if has_room(&net) {
+        Ok(net)
+    } else {
+        Err(AllocError)
+    }
+}
+
+/// The joint net of two nets and a quality network for them, if its signals are few.
+fn join_few(alloc: Global, exact: &Net, approx: &Net, quality: &Net) -> Result<Net, AllocError>
+    requires ports { HasSamePorts exact.now approx.now }
+    requires quality { (metric : Metric) × (k : ℕ) × (quality.now ≡ quality_net metric (length exact.now.outputs) k) }
+    ensures net { IfOk result (λ n. n ≡ joined exact.now approx.now quality.now) }
+    ensures exact_sound { IsSound exact.now }
+    ensures approximate_sound { IsSound approx.now }
+{
+    if has_few_signals(exact, approx, quality) {
+        join(alloc, exact, approx, quality)
+    } else {
+        Err(AllocError)
+    }
+}
+
 /// The joint net, whose output says whether the error of the approximate net's outputs against the exact one's exceeds `k`.
 /// It answers want of memory also where its signals and rows would be 2^31 or more, which those of two nets that are read never are.
 pub fn joint(
@@ -180,13 +207,5 @@ pub fn joint(
     ensures room { IfOk result (λ n. signal_count n + row_count n < 2 ^ 31) }
 {
     let quality = quality(alloc, metric, exact.outputs(), k)?;
-    if !has_few_signals(exact, approx, &quality) {
-        return Err(AllocError);
-    }
-    let net = join(alloc, exact, approx, &quality)?;
-    if has_room(&net) {
-        Ok(net)
-    } else {
-        Err(AllocError)
-    }
+    with_room(join_few(alloc, exact, approx, &quality)?)
 }

@@ -1,5 +1,5 @@
 -- How a search goes over the moves of a net.
-use Rattle.std.proofs.Common.{◌≡◌, ℕ, Bool, List, [], ◌∷◌, ◌++◌, length, sym, ap, subst, ◌∙◌}
+use Rattle.std.proofs.Common.{◌≡◌, ℕ, Bool, Option, Some, None, List, [], ◌∷◌, ◌++◌, length, sym, ap, subst, ◌∙◌}
 use Rattle.std.specs.List.{AllByRecursion, Contains}
 use Rattle.std.proofs.lemmas.List.{append-nil, append_assoc}
 use Rattle.std.proofs.lemmas.List.Elements.{Contains-append_right}
@@ -18,7 +18,7 @@ use Rattle.worst_case.specs.Exceeds.{spent_value, IsSpentOn}
 use Rattle.synth_core.specs.MoveTrials.{IsNewVector, IsAllowedTo}
 use Rattle.synth_core.specs.declared.step.Step.{Step}
 use Rattle.synth_core.specs.declared.step.Step.TheVariants.{End, Moved, Spent}
-use Rattle.synth_core.specs.Steps.{IsFirstMoved, AreMasksOver, IsMaskedPool, AreAmong, IsStepBy, IsStep}
+use Rattle.synth_core.specs.Steps.{IsFirstMoved, AreMasksOver, IsMaskedPool, AreAmong, IsStepBy, IsWeighed, IsStep}
 use Rattle.synth_core.proofs.Pools.{IsPool-more, each_more}
 
 -- masks over a pool are masks over their own vectors, and what they told is told of the pool
@@ -104,6 +104,17 @@ module _ (metric : Metric) (exact : NetValue) (bound : ℕ) (N : NetValue) where
     searched-step widths limit End none = absurd none
     searched-step widths limit (Moved M) allowed = searched-first widths M allowed
     searched-step widths limit (Spent s) spent = searched-spent limit s spent
+
+  -- one move further, where vectors may have joined
+  module _ (old new : List (List Bool)) (left rest : List Move) (move : Move) (is : left ≡ move ∷ rest) (so_far : IsSearched old left) (among : AreAmong old new) where
+    pub searched-found : AllByRecursion (λ x. length x ≡ input_count exact) new → (limit : ℕ) (found : Option Step) (step : Step) → found ≡ Some step
+        → IsWeighed metric exact bound limit N new move found → IsStep metric exact bound limit N new step
+    searched-found widths limit found step some weighed =
+        searched-step new left rest move is (searched-still old new left among so_far) widths limit step (subst (IsWeighed metric exact bound limit N new move) some weighed)
+
+    pub searched-broken : (limit : ℕ) (found : Option Step) → found ≡ None → IsWeighed metric exact bound limit N new move found → IsSearched new rest
+    searched-broken limit found none weighed =
+        searched-more new left rest move is (searched-still old new left among so_far) (subst (IsWeighed metric exact bound limit N new move) none weighed)
 
   pub searched-all : (vectors : List (List Bool)) (left : List Move) → left ≡ [] → IsSearched vectors left → IsMinimalBy metric exact bound N vectors
   searched-all vectors left is so_far =

@@ -1,6 +1,6 @@
 -- The members of the chain, and what its search comes to.
-use Rattle.std.proofs.Common.{ℕ, ◌≤◌, Option, Some, None, MatchOption, subst, inl}
-use Rattle.semantics.specs.Net.{NetValue, input_count}
+use Rattle.std.proofs.Common.{◌≡◌, ℕ, ◌≤◌, Option, Some, None, MatchOption, subst, sym, inl}
+use Rattle.semantics.specs.Net.{NetValue, input_count, IsSound}
 use Rattle.semantics.specs.declared.metric.Metric.{Metric}
 use Rattle.chain_semantics.specs.Chain.IsInChain.{next}
 use Rattle.chain_semantics.specs.Minimality.{IsMinimalBy}
@@ -13,7 +13,10 @@ use Rattle.job_semantics.proofs.MinimalNets.{minimal-none_allowed}
 use Rattle.lane_bits.specs.Patterns.{PatternSet}
 use Rattle.worst_case.specs.declared.query.Spent as spent
 use Rattle.worst_case.specs.Exceeds.{spent_value}
+use Rattle.lane_nets.specs.Lanes.{ReferenceValue}
+use Rattle.chain_semantics.proofs.Simplifications.{simplification-falls}
 use Rattle.synth_core.specs.Steps.{IsPool, IsFirstMoved}
+use Rattle.synth_core.specs.Turns.{IsReadyFor, IsNextMember}
 
 module _ (metric : Metric) (exact : NetValue) (bound : ℕ) where
   -- what the net after the first allowed move is tidied to
@@ -54,3 +57,15 @@ module _ (metric : Metric) (exact : NetValue) (bound : ℕ) where
           → IsShownEnd metric exact bound s.net s.pool
       at_spent None end = end
       at_spent (Some q) spent = absurd (spent.query.not_enough (inl few))
+
+  -- the first allowed move was made, and the net tidied
+  pub next-member : (N M K : NetValue) → IsSound exact → IsInSimplification metric exact bound N → IsFirstMoved metric exact bound N M → IsTidiedFrom M K
+      → IsNextMember metric exact bound N K
+  next-member N M K sound h step tidied = record {
+    member = next-in_simplification N M K h step tidied;
+    fewer = simplification-falls metric exact bound sound N K step.move h step.first (tidied_move N M K step tidied);
+  }
+
+-- a search stays ready while its decider stays for the same net
+pub still_ready : (exact : NetValue) (held : ReferenceValue) (old new : NetValue) → new ≡ old → IsReadyFor exact held old → IsReadyFor exact held new
+still_ready exact held old new same ready = subst (IsReadyFor exact held) (sym same) ready

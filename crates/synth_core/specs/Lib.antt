@@ -1,2 +1,3 @@
 pub mod MoveTrials
 pub mod Steps
+pub mod Turns

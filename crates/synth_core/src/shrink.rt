@@ -8,15 +8,18 @@
 //! removes literals, or with the first query that is spent.
 ghost use Rattle.std.specs.Prelude.{◌≡◌, ◌≤◌, length, option_map, IfOk};
 ghost use Rattle.semantics.specs.Net.{input_count, IsSmall};
+ghost use Rattle.chain_semantics.specs.Simplification.{IsInSimplification};
 ghost use Rattle.job_semantics.specs.Shrinking.{IsShrinking};
 ghost use Rattle.worst_case.specs.Exceeds.{spent_value};
 ghost use Rattle.synth_core.specs.Steps.{IsPool};
+ghost use Rattle.synth_core.specs.Turns.{IsReadyFor};
 
 use crate::move_trial::Terms;
-use crate::step::{Step, find_step};
+use crate::turn::{Turn, take_turn};
+use bdd_levels::decider::Decider;
 use lane_bits::patterns::Patterns;
+use lane_nets::reference::Reference;
 use net_core::net::Net;
-use net_errors::compared::Compared;
 use net_tidy::tidy::tidy;
 use progress::progress::{Progress, Silent};
 use semantics::limits::{FEW_INPUTS, MOST_OUTPUTS};
@@ -46,6 +49,33 @@ fn first_pool(alloc: Global, net: &Net) -> Result<Patterns, AllocError>
     Ok(Patterns::new(alloc, inputs))
 }
 
+/// Goes from member to member of the chain, up to the end or to a query that is spent, which is the answer.
+fn follow<P: Progress>(
+    alloc: Global,
+    net: &Net,
+    held: &Reference,
+    decider: &mut Decider,
+    terms: Terms,
+    member: &mut Net,
+    pool: &mut Patterns,
+    progress: &mut P,
+) -> Result<Option<Spent>, AllocError>
+    requires ready { IsReadyFor net.now held.now decider.old }
+    requires limit { 1 ≤ terms.limit }
+    requires member { IsInSimplification terms.metric net.now terms.bound member.old }
+    requires pool { IsPool net.now pool.old }
+    ensures pool { IfOk result (λ _. IsPool net.now pool.new) }
+    ensures shrinking { IfOk result (λ spent. IsShrinking terms.metric net.now terms.bound terms.limit
+        (record { net = member.new; pool = pool.new.vectors; spent = option_map spent_value spent })) }
+{
+    loop {
+        match take_turn(alloc, net, held, decider, terms, member, pool, progress)? {
+            Turn::Next(next) => *member = next,
+            Turn::End(spent) => return Ok(spent),
+        }
+    }
+}
+
 /// The same as `shrink`, with one who is told how far the search is.
 pub fn shrink_followed<P: Progress>(
     alloc: Global,
@@ -62,40 +92,23 @@ pub fn shrink_followed<P: Progress>(
         (record { net = s.net; pool = s.pool.vectors; spent = option_map spent_value s.spent })) }
     ensures pool { IfOk result (λ s. s.pool.inputs ≡ input_count net.now) }
 {
-    // A net is sound by its type: the call brings that fact here.
-    let _ = net.inputs();
     let terms = Terms {
         metric,
         bound,
         limit,
     };
-    let vectors = hold_vectors(alloc, net)?;
-    let held = &vectors;
+    let held = hold_vectors(alloc, net)?;
     let mut decider = decider_for(alloc, net)?;
     let mut pool = first_pool(alloc, net)?;
-    let mut shrunk = tidy(alloc, net.copy()?)?;
-    loop {
-        progress.reached(shrunk.literals());
-        let nets = Compared::new(net, &shrunk);
-        let found = find_step(alloc, &nets, held, &mut decider, terms, &mut pool, progress)?;
-        match found {
-            Step::Moved(moved) => shrunk = tidy(alloc, moved)?,
-            Step::End => {
-                return Ok(Shrunk {
-                    net: shrunk,
-                    pool,
-                    spent: None,
-                });
-            }
-            Step::Spent(spent) => {
-                return Ok(Shrunk {
-                    net: shrunk,
-                    pool,
-                    spent: Some(spent),
-                });
-            }
-        }
-    }
+    let mut member = tidy(alloc, net.copy()?)?;
+    let spent = follow(
+        alloc, net, &held, &mut decider, terms, &mut member, &mut pool, progress,
+    )?;
+    Ok(Shrunk {
+        net: member,
+        pool,
+        spent,
+    })
 }
 
 /// Follows the chain of simplifications of a net within a bound, where each query may cost so many conflicts.

@@ -1,19 +1,23 @@
-use Rattle.std.proofs.Common.{◌∙◌}
-use Rattle.joint_net.proofs.Placed.{joined_is, is_joinable, tells_error}
+use Rattle.std.proofs.Common.{ap, ◌∙◌}
+use Rattle.std.proofs.lemmas.Result.{IfOk-weaker}
+use Rattle.quality_semantics.specs.Quality.{quality_net}
+use Rattle.joint_net.proofs.Placed.{joined_is, tells_error}
 use Rattle.joint_net.proofs.joint.joint.Goals as goal
 
-pub join-requires : goal.join-requires
-join-requires c =
-    is_joinable c.args.exact.now c.args.approx.now c.in_ok-quality.quality c.args.metric c.outputs.result c.args.k
-    c.has_few_signals.ensures.exact_sound c.has_few_signals.ensures.approximate_sound c.requires.ports c.outputs.ensures.value c.in_ok-quality.ensures
-    (c.has_few_signals.ensures.value.0 c.if-not-has_few_signals.false)
+pub join_few-requires-clause-quality : goal.join_few-requires-clause-quality
+join_few-requires-clause-quality c =
+    (c.args.metric, c.args.k, c.in_ok-quality.ensures ∙ ap (λ w. quality_net c.args.metric w c.args.k) c.outputs.ensures.value)
 
-pub returns-then-has_room-clause-net : goal.returns-then-has_room-clause-net
-returns-then-has_room-clause-net c =
-    c.in_ok-net.ensures ∙ joined_is c.args.exact.now c.args.approx.now c.in_ok-quality.quality c.args.metric c.outputs.result c.args.k c.outputs.ensures.value c.in_ok-quality.ensures
+pub returns-clause-net : goal.returns-clause-net
+returns-clause-net c =
+    IfOk-weaker c.with_room.result _ _
+    (λ n is. is ∙ c.in_ok-join_few.ensures.net ∙ joined_is c.args.exact.now c.args.approx.now c.in_ok-quality.quality c.args.metric c.outputs.result c.args.k c.outputs.ensures.value c.in_ok-quality.ensures)
+    c.with_room.ensures.net
 
-pub returns-then-has_room-clause-output : goal.returns-then-has_room-clause-output
-returns-then-has_room-clause-output c =
-    tells_error c.args.metric c.args.exact.now c.args.approx.now c.args.k c.in_ok-net.net
-    (c.in_ok-net.ensures ∙ joined_is c.args.exact.now c.args.approx.now c.in_ok-quality.quality c.args.metric c.outputs.result c.args.k c.outputs.ensures.value c.in_ok-quality.ensures)
-    c.has_few_signals.ensures.exact_sound c.has_few_signals.ensures.approximate_sound c.requires.ports
+pub returns-clause-output : goal.returns-clause-output
+returns-clause-output c =
+    IfOk-weaker c.with_room.result _ _
+    (λ n is. tells_error c.args.metric c.args.exact.now c.args.approx.now c.args.k n
+    (is ∙ c.in_ok-join_few.ensures.net ∙ joined_is c.args.exact.now c.args.approx.now c.in_ok-quality.quality c.args.metric c.outputs.result c.args.k c.outputs.ensures.value c.in_ok-quality.ensures)
+    c.join_few.ensures.exact_sound c.join_few.ensures.approximate_sound c.requires.ports)
+    c.with_room.ensures.net

@@ -10,8 +10,8 @@ try_move-requires g c = record {
   held = c.requires.held;
   decider = c.requires.decider;
   limit = c.requires.limit;
-  masks = masks-own _ _ _ _ _ _ c.requires.masked.masks;
-  counting = λ few. ap (λ m. m.vectors) c.requires.masked.masks ∙ c.requires.masked.pool.counting few;
+  masks = masks-own c.args.terms.metric c.args.nets.now.exact c.args.terms.bound c.args.nets.now.approx c.args.pool.now.vectors c.args.masks.now c.requires.masked.masks;
+  counting = λ few. ap (λ (m : GrowingValue). m.vectors) c.requires.masked.masks ∙ c.requires.masked.pool.counting few;
   step = c.requires.step;
 }
 

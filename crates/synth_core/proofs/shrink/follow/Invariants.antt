@@ -1,0 +1,17 @@
+use Rattle.semantics.specs.Net.{literal_count}
+use Rattle.chain_semantics.specs.Simplification.{IsInSimplification}
+use Rattle.synth_core.specs.Steps.{IsPool}
+use Rattle.synth_core.specs.Turns.{IsReadyFor}
+use Rattle.synth_core.proofs.shrink.follow.Given as goal
+
+-- the net is a member of the chain
+abbrev pub invariant-loop-next : goal.invariant-loop-next
+invariant-loop-next g l = record {
+  ready : IsReadyFor l.net l.held l.decider;
+  member : IsInSimplification l.terms.metric l.net l.terms.bound l.member;
+  pool : IsPool l.net l.pool;
+}
+
+-- each turn removes literals
+abbrev pub decreases-loop-next : goal.decreases-loop-next
+decreases-loop-next g l = literal_count l.member

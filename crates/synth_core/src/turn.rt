@@ -1,0 +1,56 @@
+//! One turn of the search: from a member of the chain to the next, or to the end.
+ghost use Rattle.std.specs.Prelude.{◌≡◌, ◌≤◌, IfOk};
+ghost use Rattle.chain_semantics.specs.Simplification.{IsInSimplification};
+ghost use Rattle.synth_core.specs.Steps.{IsPool};
+ghost use Rattle.synth_core.specs.Turns.{IsReadyFor, IsTurn};
+
+use crate::move_trial::Terms;
+use crate::step::{Step, find_step};
+use bdd_levels::decider::Decider;
+use lane_bits::patterns::Patterns;
+use lane_nets::reference::Reference;
+use net_core::net::Net;
+use net_errors::compared::Compared;
+use net_tidy::tidy::tidy;
+use progress::progress::Progress;
+use std::alloc::{AllocError, Global};
+use worst_case::query::Spent;
+
+/// What a turn comes to.
+#[derive(Drop)]
+pub(crate) enum Turn {
+    /// This is the next member.
+    Next(Net),
+    /// No move is allowed, or this query was spent before an allowed move was found.
+    End(Option<Spent>),
+}
+
+/// Makes the first allowed move of a member, and tidies what it leaves. The member is told on.
+pub(crate) fn take_turn<P: Progress>(
+    alloc: Global,
+    net: &Net,
+    held: &Reference,
+    decider: &mut Decider,
+    terms: Terms,
+    member: &Net,
+    pool: &mut Patterns,
+    progress: &mut P,
+) -> Result<Turn, AllocError>
+    requires ready { IsReadyFor net.now held.now decider.old }
+    requires limit { 1 ≤ terms.limit }
+    requires member { IsInSimplification terms.metric net.now terms.bound member.now }
+    requires pool { IsPool net.now pool.old }
+    ensures same { decider.new ≡ decider.old }
+    ensures pool { IfOk result (λ _. IsPool net.now pool.new) }
+    ensures turn { IfOk result (IsTurn terms.metric net.now terms.bound terms.limit member.now pool.new.vectors) }
+{
+    // A net is sound by its type: the call brings that fact here.
+    let _ = net.inputs();
+    progress.reached(member.literals());
+    let nets = Compared::new(net, member);
+    match find_step(alloc, &nets, held, decider, terms, pool, progress)? {
+        Step::Moved(moved) => Ok(Turn::Next(tidy(alloc, moved)?)),
+        Step::End => Ok(Turn::End(None)),
+        Step::Spent(spent) => Ok(Turn::End(Some(spent))),
+    }
+}
