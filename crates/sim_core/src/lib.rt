@@ -4,6 +4,8 @@
 mod covers;
 pub mod flip_sim;
 mod net_rows;
+#[cfg(test)]
+mod net_tests;
 mod rows;
 mod signal_row;
 pub mod sim;

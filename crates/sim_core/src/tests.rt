@@ -32,7 +32,7 @@ fn half_adder(alloc: Global) -> Result<HalfAdder, AllocError>
     Ok(HalfAdder { graph, sum, carry })
 }
 
-fn patterns(alloc: Global, count: u64) -> Result<Patterns, AllocError>
+pub(crate) fn patterns(alloc: Global, count: u64) -> Result<Patterns, AllocError>
     ensures inputs { IfOk result (λ s. s.inputs ≡ 2) }
     ensures count { IfOk result (λ s. length s.vectors ≡ count) }
 {
@@ -45,7 +45,7 @@ fn patterns(alloc: Global, count: u64) -> Result<Patterns, AllocError>
 }
 
 /// The first pattern at which a literal is true.
-fn first_true(
+pub(crate) fn first_true(
     alloc: Global,
     sim: &Sim,
     literal: Literal,
