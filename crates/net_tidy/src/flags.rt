@@ -89,13 +89,13 @@ impl Flags {
         self.first = self.first.min(place);
     }
 
-    /// Raises the flag at a place where a table there reads a signal.
-    pub(crate) fn raise_reader(&mut self, place: usize, pins: &[Signal], s: Signal)
+    /// Raises the flag at a place where it is asked for.
+    pub(crate) fn raise_if(&mut self, place: usize, asked: bool)
         requires { place < length self.old }
         ensures count { length self.new ≡ length self.old }
-        ensures others { (j : ℕ) → IsDown self.new j → IsDown self.old j × (j ≡ place → has pins.now s ≡ false) }
+        ensures others { (j : ℕ) → IsDown self.new j → IsDown self.old j × (j ≡ place → asked ≡ false) }
     {
-        if has(pins, s) {
+        if asked {
             self.raise_at(place);
         }
     }
@@ -130,7 +130,7 @@ impl Flags {
             → IsDown self.old j × (has (table_at tables.now j).pins s ≡ false) }
     {
         for (i, table) in tables.iter().enumerate() {
-            self.raise_reader(i, table.pins(), s);
+            self.raise_if(i, has(table.pins(), s));
         }
     }
 

@@ -129,8 +129,7 @@ fn read_past(tables: &mut [TableDraft], flags: &mut Flags, from: Signal, to: Sig
         → IsDown flags.old j × (has (table_at tables.old j).pins from ≡ false) }
 {
     for (i, table) in tables.iter_mut().enumerate() {
-        flags.raise_reader(i, table.pins(), from);
-        table.read_past(from, to, inverted);
+        flags.raise_if(i, table.read_past(from, to, inverted));
     }
 }
 

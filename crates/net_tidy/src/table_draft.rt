@@ -239,19 +239,22 @@ impl TableDraft {
             .all(|row| !mark_matches(mark_at(row.marks(), 0), plane))
     }
 
-    /// Reads signal `to` in the place of `from`, which has its value, or the opposite one where the marks are inverted.
+    /// Reads signal `to` in the place of `from`, which has its value, or the opposite one where the marks are inverted. It tells
+    /// whether the table read it.
     #[tactic(auto, using(crate::proofs::Passing::past_aside))]
-    pub(crate) fn read_past(&mut self, from: Signal, to: Signal, inverted: bool)
+    pub(crate) fn read_past(&mut self, from: Signal, to: Signal, inverted: bool) -> bool
         requires { All (λ marks. length marks ≡ length self.old.pins) self.old.rows }
-        ensures { self.new ≡ reading_past from to inverted self.old }
+        ensures reads { result ≡ has self.old.pins from }
+        ensures past { self.new ≡ reading_past from to inverted self.old }
     {
         if !self.reads(from) {
-            return;
+            return false;
         }
         if inverted {
             turn_rows(&mut self.rows, from, &self.pins);
         }
         redirect(&mut self.pins, from, to);
+        true
     }
 
     /// The table of these parts, with a copy of its name.
