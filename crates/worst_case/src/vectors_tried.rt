@@ -16,8 +16,10 @@ use std::alloc::{AllocError, Global};
 /// With at most so many inputs every vector is tried.
 pub const LANE_INPUTS: u32 = 16;
 
-/// How many vectors of a net with more inputs are tried: two blocks of 512.
-const TRIALS: u32 = 1024;
+/// How many vectors of a net with more inputs are tried: sixteen blocks of 512, which together take less time than one question to
+/// diagrams. With an eighth of them, four times as many questions of a Sobel filter found a vector, and each of these cost as much as
+/// four others.
+const TRIALS: u32 = 8192;
 
 /// An error, and an input vector that has it.
 #[derive(Drop)]
