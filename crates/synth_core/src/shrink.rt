@@ -76,6 +76,38 @@ fn follow<P: Progress>(
     }
 }
 
+/// Makes what the search holds of the net, and goes along the chain.
+fn search_from<P: Progress>(
+    alloc: Global,
+    net: &Net,
+    terms: Terms,
+    member: &mut Net,
+    pool: &mut Patterns,
+    progress: &mut P,
+) -> Result<Option<Spent>, AllocError>
+    requires few_outputs { length net.now.outputs ≤ MOST_OUTPUTS }
+    requires small { IsSmall net.now }
+    requires limit { 1 ≤ terms.limit }
+    requires member { IsInSimplification terms.metric net.now terms.bound member.old }
+    requires pool { IsPool net.now pool.old }
+    ensures pool { IfOk result (λ _. IsPool net.now pool.new) }
+    ensures shrinking { IfOk result (λ spent. IsShrinking terms.metric net.now terms.bound terms.limit
+        (record { net = member.new; pool = pool.new.vectors; spent = option_map spent_value spent })) }
+{
+    let held = hold_vectors(alloc, net)?;
+    let mut decider = decider_for(alloc, net)?;
+    follow(
+        alloc,
+        net,
+        &held,
+        &mut decider,
+        terms,
+        member,
+        pool,
+        progress,
+    )
+}
+
 /// The same as `shrink`, with one who is told how far the search is.
 pub fn shrink_followed<P: Progress>(
     alloc: Global,
@@ -97,13 +129,9 @@ pub fn shrink_followed<P: Progress>(
         bound,
         limit,
     };
-    let held = hold_vectors(alloc, net)?;
-    let mut decider = decider_for(alloc, net)?;
     let mut pool = first_pool(alloc, net)?;
     let mut member = tidy(alloc, net.copy()?)?;
-    let spent = follow(
-        alloc, net, &held, &mut decider, terms, &mut member, &mut pool, progress,
-    )?;
+    let spent = search_from(alloc, net, terms, &mut member, &mut pool, progress)?;
     Ok(Shrunk {
         net: member,
         pool,
