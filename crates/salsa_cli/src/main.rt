@@ -22,6 +22,9 @@ use terminal::Terminal;
 /// The variable of the environment that keeps the program from telling how far it is.
 const QUIET: &str = "SALSA_QUIET";
 
+/// The variable that lets the program tell how long the parts of a search took.
+const TIMES: &str = "SALSA_TIMES";
+
 fn main(rt: HostRuntime) -> ExitCode {
     let status = match arguments::words(&rt) {
         Ok(words) => {
@@ -29,9 +32,11 @@ fn main(rt: HostRuntime) -> ExitCode {
             let mut say = RealSink::new(&rt);
             let is_shown = rt.stderr().is_terminal()
                 && matches!(env::var(&rt, QUIET), Err(VarError::NotPresent));
-            let mut terminal = Terminal::new(&rt, is_shown);
+            let is_timed = env::var(&rt, TIMES).is_ok();
+            let mut terminal = Terminal::new(&rt, is_shown, is_timed);
             let outcome = run_followed(rt.alloc(), &words, &mut files, &mut say, &mut terminal);
             terminal.clear();
+            terminal.tell_parts();
             outcome.status
         }
         Err(_) => Status::NoMemory,

@@ -1,4 +1,5 @@
-//! How far the work is, on a terminal: one line, made anew at most once a second, and taken away at the end.
+//! How far the work is, on a terminal: one line, made anew at most once a second, and taken away at the end; and how long its parts
+//! took, in one line at the end.
 use progress::progress::Progress;
 use std::time::{Clock, Duration, Instant};
 
@@ -25,11 +26,31 @@ pub struct Terminal<'a, R: Clock + Eprint> {
     literals: u64,
     stage: Stage,
     conflicts: u64,
+    parts: Parts,
+}
+
+/// Where the parts of the work begin, as far as they are timed, and what was done in the first.
+#[derive(Drop)]
+struct Parts {
+    is_timed: bool,
+    chain: Option<Instant>,
+    maximum: Option<Instant>,
+    log: Option<Instant>,
+    members: u64,
+    questions: u64,
+}
+
+/// The milliseconds from one moment to another, none where one of them is not known.
+fn milliseconds(from: Option<Instant>, to: Option<Instant>) -> u128 {
+    match (from, to) {
+        (Some(from), Some(to)) => to.saturating_duration_since(from).as_millis(),
+        _ => 0,
+    }
 }
 
 impl<'a, R: Clock + Eprint> Terminal<'a, R> {
-    /// Nothing was told yet. A line is shown only where `is_shown`.
-    pub fn new(runtime: &'a R, is_shown: bool) -> Self {
+    /// Nothing was told yet. A line is shown only where `is_shown`, and the parts are timed only where `is_timed`.
+    pub fn new(runtime: &'a R, is_shown: bool, is_timed: bool) -> Self {
         Terminal {
             runtime,
             is_shown,
@@ -42,6 +63,23 @@ impl<'a, R: Clock + Eprint> Terminal<'a, R> {
                 tables: 0,
             },
             conflicts: 0,
+            parts: Parts {
+                is_timed,
+                chain: None,
+                maximum: None,
+                log: None,
+                members: 0,
+                questions: 0,
+            },
+        }
+    }
+
+    /// The moment, where the parts are timed and the clock tells it.
+    fn moment(&self) -> Option<Instant> {
+        if self.parts.is_timed {
+            Instant::now(self.runtime).ok()
+        } else {
+            None
         }
     }
 
@@ -94,6 +132,23 @@ impl<'a, R: Clock + Eprint> Terminal<'a, R> {
             let _ = eprint!(self.runtime; "{CLEAR}");
         }
     }
+
+    /// Tells how many moves were made, how many questions of the chain went to the solver, and how many milliseconds the chain, the
+    /// search for the greatest error, and the log with the files took. Nothing is told where no search was timed.
+    pub fn tell_parts(&self) {
+        let parts = &self.parts;
+        if parts.chain.is_none() {
+            return;
+        }
+        let moves = parts.members.saturating_sub(1);
+        let questions = parts.questions;
+        let chain = milliseconds(parts.chain, parts.maximum);
+        let maximum = milliseconds(parts.maximum, parts.log);
+        let log = milliseconds(parts.log, self.moment());
+        let _ = eprintln!(self.runtime;
+            "salsa: {moves} moves, {questions} questions to the solver; ms of chain {chain}, greatest error {maximum}, log {log}"
+        );
+    }
 }
 
 impl<R: Clock + Eprint> Progress for Terminal<'_, R> {
@@ -102,6 +157,10 @@ impl<R: Clock + Eprint> Progress for Terminal<'_, R> {
             self.first = Some(literals);
         }
         self.literals = literals;
+        self.parts.members = self.parts.members.saturating_add(1);
+        if self.parts.chain.is_none() {
+            self.parts.chain = self.moment();
+        }
         self.update();
     }
 
@@ -112,6 +171,9 @@ impl<R: Clock + Eprint> Progress for Terminal<'_, R> {
 
     fn asked(&mut self) {
         self.conflicts = 0;
+        if self.parts.maximum.is_none() {
+            self.parts.questions = self.parts.questions.saturating_add(1);
+        }
         self.update();
     }
 
@@ -122,6 +184,12 @@ impl<R: Clock + Eprint> Progress for Terminal<'_, R> {
 
     fn narrowed(&mut self, low: u128, high: u128) {
         self.stage = Stage::Maximum { low, high };
+        if self.parts.maximum.is_none() {
+            self.parts.maximum = self.moment();
+        }
+        if low == high {
+            self.parts.log = self.moment();
+        }
         self.update();
     }
 }
