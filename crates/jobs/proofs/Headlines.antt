@@ -23,7 +23,8 @@ use Rattle.job_semantics.proofs.CheckedFiles.{one_net, joined_runs_law}
 use Rattle.job_answers.specs.declared.status.Status.{Status}
 use Rattle.job_answers.specs.declared.status.Status.TheVariants.{Done, Verified, Refuted, Usage, Text, NoMemory, Budget, ReadFault, WriteFault, Endless}
 use Rattle.jobs.specs.declared.status.Outcome.{Outcome}
-use Rattle.jobs.specs.Status.{told_query, NothingSpent}
+use Rattle.synth_jobs.specs.Spent.{told_query}
+use Rattle.jobs.specs.Status.{NothingSpent}
 use Rattle.jobs.specs.Run.{SynthAnswerAt, RunSays}
 use Rattle.check_jobs.proofs.CheckAnswers.{verified_end}
 use Rattle.jobs.proofs.SynthAnswers.{quiet_ends}

@@ -1,5 +1,3 @@
-pub mod JobWords
-pub mod Parts
 pub mod BundleAnswers
 pub mod SynthAnswers
 pub mod Runs

@@ -12,7 +12,8 @@ use Rattle.job_semantics.specs.Demonstration.{demo_stem}
 use Rattle.job_answers.specs.declared.status.Status.{Status}
 use Rattle.job_answers.specs.declared.status.Status.TheVariants.{Done, Verified, Refuted, Usage, Text, NoMemory, Budget, ReadFault, WriteFault, Endless}
 use Rattle.jobs.specs.declared.status.Outcome.{Outcome}
-use Rattle.jobs.specs.Status.{told_query, SpendsAs, SpendsAsTold}
+use Rattle.synth_jobs.specs.Spent.{told_query}
+use Rattle.jobs.specs.Status.{SpendsAs, SpendsAsTold}
 use Rattle.job_answers.specs.Refused.{TellsBlif, TellsHier, TellsAiger}
 use Rattle.job_answers.proofs.Refusals.{AsksNothing, no_usage_asked, blif_is_refusal, hier_is_refusal, aiger_is_refusal}
 use Rattle.conversions.specs.Texts.{flat_text, aag_text, netlist_text}

@@ -20,7 +20,7 @@ use Rattle.conversions.specs.Input.{NetRead, NetUnread}
 use Rattle.conversions.proofs.InputReadings.{OfInput-later}
 use Rattle.conversions.proofs.Conversions.{read_fault, not_quiet_read}
 use Rattle.conversions.proofs.Conversions as conversions
-use Rattle.jobs.specs.Status.{told_query}
+use Rattle.synth_jobs.specs.Spent.{told_query}
 use Rattle.jobs.specs.Run.{SynthAnswerAt, SynthAnswer, BundleAnswerAt, BundleAnswer, IsAnswerTo}
 use Rattle.check_jobs.proofs.CheckAnswers.{input_refused}
 use Rattle.jobs.proofs.BundleAnswers.{enough_spends_nothing, not_quiet_cut}

@@ -1,5 +1,2 @@
-pub mod Words
 pub mod Status
-pub mod Prepared
-pub mod Delivered
 pub mod Run

@@ -26,7 +26,8 @@ use Rattle.check_jobs.specs.Answers.{CheckAnswer, TrimAnswer, Refuses, IsCheckAn
 use Rattle.conversions.specs.Texts.{flat_text, aag_text, netlist_text}
 use Rattle.conversions.specs.Answers.{ConversionAnswer, IsConvertedAs}
 use Rattle.jobs.specs.declared.status.Outcome.{Outcome}
-use Rattle.jobs.specs.Status.{told_query, NothingSpent, SpendsAsTold}
+use Rattle.synth_jobs.specs.Spent.{told_query}
+use Rattle.jobs.specs.Status.{NothingSpent, SpendsAsTold}
 
 -- IN is refused for the reason that is told, which is not want of memory
 abbrev pub IsToldRefused : BlifRefusal → Bytes → FilesTold → FilesTold → SinkTold → SinkTold → Type 0

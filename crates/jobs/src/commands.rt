@@ -3,18 +3,18 @@ ghost use Rattle.std.specs.Prelude.{◌≡◌};
 ghost use Rattle.jobs.specs.Run.{RunSays};
 
 use crate::demonstration::demonstrate;
-use crate::preparing::Constraint;
 use crate::status::{Outcome, Status, only};
 use crate::synthesis::synthesize;
-use crate::words::{Command, command_named};
 use check_jobs::checking::check;
 use check_jobs::trimming::trim_bundle;
+use command_words::words::{Command, command_named};
 use conversions::conversion::{aag, blif, flat};
 use file_core::files::Files;
 use file_core::sink::Sink;
 use file_core::word::Word;
 use progress::progress::Progress;
 use std::alloc::Global;
+use synth_jobs::preparing::Constraint;
 
 /// Carries out the job that the words name. Who follows it is told how far a search is.
 pub fn carry_out<F: Files, K: Sink, P: Progress>(

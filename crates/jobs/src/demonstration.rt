@@ -1,21 +1,17 @@
-//! A demo job: an adder is generated and simplified, and its bundle is written under the stem `demo`.
+//! A demo job: what its answer tells.
 ghost use Rattle.std.specs.Prelude.{◌≤◌};
 ghost use Rattle.semantics.specs.declared.metric.Metric.TheVariants.{Abs};
 ghost use Rattle.job_semantics.specs.Demo.{demo_net};
 ghost use Rattle.job_semantics.specs.Demonstration.{demo_stem};
 ghost use Rattle.jobs.specs.Run.{BundleAnswer};
 
-use crate::delivery::finish;
-use crate::preparing::Constraint;
-use crate::status::{Outcome, Status, only};
-use bundle::stem::Stem;
-use demo_adder::adder::demo_net;
+use crate::status::{Outcome, outcome_of};
 use file_core::files::Files;
 use file_core::sink::Sink;
 use progress::progress::Progress;
 use semantics::limits::LARGEST_ERROR;
-use semantics::metric::Metric;
 use std::alloc::Global;
+use synth_jobs::demonstration;
 
 /// Carries out a demo job, with the absolute error.
 pub fn demonstrate<F: Files, K: Sink, P: Progress>(
@@ -42,16 +38,7 @@ pub fn demonstrate<F: Files, K: Sink, P: Progress>(
         (K.told say.new)
         result }
 {
-    let Ok(exact) = demo_net(alloc, width) else {
-        return only(Status::NoMemory);
-    };
-    let Ok(names) = Stem::new(alloc, b"demo") else {
-        return only(Status::NoMemory);
-    };
-    let aim = Constraint {
-        metric: Metric::Abs,
-        bound,
-        limit,
-    };
-    finish(alloc, exact, aim, &names, files, say, progress)
+    outcome_of(demonstration::demonstrate(
+        alloc, width, bound, limit, files, say, progress,
+    ))
 }

@@ -2,13 +2,8 @@
 //! [`run::run`].
 #![tactic(auto)]
 
-mod bundle_names;
 mod commands;
-mod delivery;
 mod demonstration;
-mod preparing;
 pub mod run;
-mod soundness;
 pub mod status;
 mod synthesis;
-mod words;

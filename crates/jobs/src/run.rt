@@ -10,7 +10,7 @@ ghost use Rattle.job_semantics.specs.Headline.{Headline};
 ghost use Rattle.job_semantics.specs.Job.{Job, synth, check, demo, job_of};
 ghost use Rattle.job_semantics.specs.Demo.{demo_net};
 ghost use Rattle.file_core.specs.Sure.{sure_told, sure_sink_told};
-ghost use Rattle.jobs.specs.Status.{told_query};
+ghost use Rattle.synth_jobs.specs.Spent.{told_query};
 ghost use Rattle.check_jobs.specs.Answers.{IsCheckAnswerTo};
 ghost use Rattle.jobs.specs.Run.{RunSays, IsQuietJob, EndsAsAsked, IsAnswerTo, IsWorkOf};
 

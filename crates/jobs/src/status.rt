@@ -1,7 +1,9 @@
 //! What a run comes to.
 ghost use Rattle.std.specs.Prelude.{◌≡◌, None};
+ghost use Rattle.jobs.specs.Status.{outcome_of};
 
 pub use job_answers::status::Status;
+use synth_jobs::work::Work;
 use worst_case::query::Spent;
 
 /// What a run answers.
@@ -22,5 +24,25 @@ pub fn only(status: Status) -> Outcome
         status,
         spent: None,
         level: None,
+    }
+}
+
+/// The answer that tells what the work on a net came to.
+pub fn outcome_of(work: Work) -> Outcome
+    ensures { result ≡ outcome_of work }
+{
+    match work {
+        Work::Done(spent) => Outcome {
+            status: Status::Done,
+            spent,
+            level: None,
+        },
+        Work::Budget { level, spent } => Outcome {
+            status: Status::Budget,
+            spent,
+            level: Some(level),
+        },
+        Work::NoMemory => only(Status::NoMemory),
+        Work::WriteFault => only(Status::WriteFault),
     }
 }

@@ -2,9 +2,7 @@
 ghost use Rattle.std.specs.Prelude.{◌≤◌};
 ghost use Rattle.jobs.specs.Run.{SynthAnswer};
 
-use crate::delivery::finish;
-use crate::preparing::Constraint;
-use crate::status::{Outcome, Status, only};
+use crate::status::{Outcome, Status, only, outcome_of};
 use bundle::stem::Stem;
 use conversions::input::read_net;
 use file_core::files::Files;
@@ -12,6 +10,8 @@ use file_core::sink::Sink;
 use progress::progress::Progress;
 use semantics::limits::LARGEST_ERROR;
 use std::alloc::Global;
+use synth_jobs::delivery::finish;
+use synth_jobs::preparing::Constraint;
 
 /// Carries out a synth job.
 pub fn synthesize<F: Files, K: Sink, P: Progress>(
@@ -44,5 +44,5 @@ pub fn synthesize<F: Files, K: Sink, P: Progress>(
     let Ok(names) = Stem::new(alloc, stem) else {
         return only(Status::NoMemory);
     };
-    finish(alloc, exact, aim, &names, files, say, progress)
+    outcome_of(finish(alloc, exact, aim, &names, files, say, progress))
 }

@@ -2,43 +2,30 @@
 //! files and its standard output is [`jobs::run::run_followed`].
 #![tactic(auto)]
 
-mod arguments;
-mod counted;
-mod real_files;
-mod real_sink;
-mod terminal;
-#[cfg(test)]
-mod tests;
-
+use console::arguments;
+use console::real_files::RealFiles;
+use console::real_sink::RealSink;
+use console::terminal::Terminal;
+use file_core::word::Word;
 use jobs::run::run_followed;
 use jobs::status::Status;
-use real_files::RealFiles;
-use real_sink::RealSink;
-use std::env::{self, VarError};
 use std::io::IsTerminal;
 use std::process::ExitCode;
-use terminal::Terminal;
 
-/// The variable of the environment that keeps the program from telling how far it is.
-const QUIET: &str = "SALSA_QUIET";
-
-/// The variable that lets the program tell how long the parts of a search took.
-const TIMES: &str = "SALSA_TIMES";
+/// Carries out the job that the words name, over the files and the standard output of the system.
+fn answer(rt: &HostRuntime, words: &[Word]) -> Status {
+    let mut files = RealFiles::new(rt);
+    let mut say = RealSink::new(rt);
+    let mut terminal = Terminal::of_user(rt, rt.stderr().is_terminal());
+    let outcome = run_followed(rt.alloc(), words, &mut files, &mut say, &mut terminal);
+    terminal.clear();
+    terminal.tell_parts();
+    outcome.status
+}
 
 fn main(rt: HostRuntime) -> ExitCode {
     let status = match arguments::words(&rt) {
-        Ok(words) => {
-            let mut files = RealFiles::new(&rt);
-            let mut say = RealSink::new(&rt);
-            let is_shown = rt.stderr().is_terminal()
-                && matches!(env::var(&rt, QUIET), Err(VarError::NotPresent));
-            let is_timed = env::var(&rt, TIMES).is_ok();
-            let mut terminal = Terminal::new(&rt, is_shown, is_timed);
-            let outcome = run_followed(rt.alloc(), &words, &mut files, &mut say, &mut terminal);
-            terminal.clear();
-            terminal.tell_parts();
-            outcome.status
-        }
+        Ok(words) => answer(&rt, &words),
         Err(_) => Status::NoMemory,
     };
     if !matches!(status, Status::Done) {

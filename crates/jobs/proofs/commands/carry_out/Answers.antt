@@ -5,8 +5,8 @@ use Rattle.job_answers.proofs.Refusals.{no_usage_asked, blif_is_refusal, hier_is
 use Rattle.conversions.specs.Texts.{flat_text, aag_text, netlist_text}
 use Rattle.conversions.proofs.Conversions.{conversion_asks_nothing}
 use Rattle.jobs.specs.declared.status.Outcome.{Outcome}
-use Rattle.jobs.specs.declared.words.Command.{Command}
-use Rattle.jobs.specs.Words.{job_meaning}
+use Rattle.command_words.specs.declared.words.Command.{Command}
+use Rattle.command_words.specs.Words.{job_meaning}
 use Rattle.check_jobs.proofs.CheckAnswers.{check_asks_nothing}
 use Rattle.check_jobs.proofs.TrimAnswers.{trim_asks_nothing}
 use Rattle.jobs.proofs.Runs.{check-says, flat-says, aag-says, blif-says, trim-says}

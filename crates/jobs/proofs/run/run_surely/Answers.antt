@@ -13,7 +13,7 @@ use Rattle.file_core.specs.Sure.{SureValue, sure_told, held_where, sure_sink_tol
 use Rattle.job_answers.specs.declared.status.Status.{Status}
 use Rattle.job_answers.specs.declared.status.Status.TheVariants.{Usage, ReadFault, WriteFault}
 use Rattle.jobs.specs.declared.status.Outcome.{Outcome}
-use Rattle.jobs.specs.Status.{told_query}
+use Rattle.synth_jobs.specs.Spent.{told_query}
 use Rattle.jobs.specs.Run.{BundleAnswerAt, JobAnswer, RunSays, IsQuietJob, EndsAsAsked}
 use Rattle.jobs.proofs.Runs.{quiet_job_ends}
 use Rattle.jobs.proofs.run.run_surely.Goals as goal

@@ -1,0 +1,5 @@
+//! The words of the command line: which job they name.
+#![tactic(auto)]
+
+mod bundle_names;
+pub mod words;

@@ -1,0 +1,4 @@
+pub mod Spent
+pub mod Work
+pub mod Prepared
+pub mod Delivered

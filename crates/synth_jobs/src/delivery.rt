@@ -1,0 +1,69 @@
+//! A net is simplified, and then its bundle is written and its report put: what a synth and a demo job have in common.
+ghost use Rattle.std.specs.Prelude.{◌≤◌, OnOk, OnErr};
+ghost use Rattle.semantics.specs.Net.{IsSmall};
+ghost use Rattle.synth_jobs.specs.Delivered.{IsDelivered, IsDeliveredInPart};
+ghost use Rattle.synth_jobs.specs.Work.{WorkSays};
+
+use crate::preparing::{Constraint, Prepared, prepare};
+use crate::work::Work;
+use bundle::bundle::Bundle;
+use bundle::stem::Stem;
+use bundle::writing::{put_report, write_bundle};
+use file_core::fault::FileFault;
+use file_core::files::Files;
+use file_core::sink::Sink;
+use net_core::net::Net;
+use progress::progress::Progress;
+use semantics::limits::LARGEST_ERROR;
+use std::alloc::Global;
+
+/// Writes the files of a bundle, and then puts its report.
+fn deliver<F: Files, K: Sink>(
+    bundle: &Bundle,
+    names: &Stem,
+    files: &mut F,
+    say: &mut K,
+) -> Result<(), FileFault>
+    ensures ok { OnOk result (IsDelivered bundle.now names.now (F.told files.old) (F.told files.new) (K.told say.old) (K.told say.new)) }
+    ensures err { OnErr result (IsDeliveredInPart bundle.now names.now (F.told files.old) (F.told files.new) (K.told say.old) (K.told say.new)) }
+{
+    let Ok(()) = write_bundle(bundle, names, files) else {
+        return Err(FileFault);
+    };
+    put_report(bundle, say)
+}
+
+/// Simplifies a net, writes its bundle under the names, and puts the report. Everything is computed before a file is touched.
+pub fn finish<F: Files, K: Sink, P: Progress>(
+    alloc: Global,
+    exact: Net,
+    aim: Constraint,
+    names: &Stem,
+    files: &mut F,
+    say: &mut K,
+    progress: &mut P,
+) -> Work
+    requires small { IsSmall exact }
+    requires bound { aim.bound ≤ LARGEST_ERROR }
+    requires limit { 1 ≤ aim.limit }
+    ensures { WorkSays
+        aim.metric
+        aim.bound
+        aim.limit
+        exact
+        names.now
+        (F.told files.old)
+        (F.told files.new)
+        (K.told say.old)
+        (K.told say.new)
+        result }
+{
+    match prepare(alloc, exact, aim, progress) {
+        Err(_) => Work::NoMemory,
+        Ok(Prepared::Budget { level, spent }) => Work::Budget { level, spent },
+        Ok(Prepared::Ready { bundle, spent }) => match deliver(&bundle, names, files, say) {
+            Ok(()) => Work::Done(spent),
+            Err(FileFault) => Work::WriteFault,
+        },
+    }
+}

@@ -1,0 +1,57 @@
+//! A demo job: an adder is generated and simplified, and its bundle is written under the stem `demo`.
+ghost use Rattle.std.specs.Prelude.{◌≤◌};
+ghost use Rattle.semantics.specs.declared.metric.Metric.TheVariants.{Abs};
+ghost use Rattle.job_semantics.specs.Demo.{demo_net};
+ghost use Rattle.job_semantics.specs.Demonstration.{demo_stem};
+ghost use Rattle.synth_jobs.specs.Work.{WorkSays};
+
+use crate::delivery::finish;
+use crate::preparing::Constraint;
+use crate::work::Work;
+use bundle::stem::Stem;
+use demo_adder::adder::demo_net;
+use file_core::files::Files;
+use file_core::sink::Sink;
+use progress::progress::Progress;
+use semantics::limits::LARGEST_ERROR;
+use semantics::metric::Metric;
+use std::alloc::Global;
+
+/// Carries out a demo job, with the absolute error.
+pub fn demonstrate<F: Files, K: Sink, P: Progress>(
+    alloc: Global,
+    width: u32,
+    bound: u128,
+    limit: u64,
+    files: &mut F,
+    say: &mut K,
+    progress: &mut P,
+) -> Work
+    requires width { (1 ≤ width) × (width ≤ 32) }
+    requires bound { bound ≤ LARGEST_ERROR }
+    requires limit { 1 ≤ limit }
+    ensures { WorkSays
+        Abs
+        bound
+        limit
+        (demo_net width)
+        demo_stem
+        (F.told files.old)
+        (F.told files.new)
+        (K.told say.old)
+        (K.told say.new)
+        result }
+{
+    let Ok(exact) = demo_net(alloc, width) else {
+        return Work::NoMemory;
+    };
+    let Ok(names) = Stem::new(alloc, b"demo") else {
+        return Work::NoMemory;
+    };
+    let aim = Constraint {
+        metric: Metric::Abs,
+        bound,
+        limit,
+    };
+    finish(alloc, exact, aim, &names, files, say, progress)
+}
