@@ -14,6 +14,7 @@ use Rattle.worst_case.specs.declared.query.Spent as spent
 use Rattle.worst_case.specs.Exceeds.{spent_value}
 use Rattle.synth_jobs.specs.declared.preparing.Constraint.{Constraint}
 use Rattle.synth_jobs.specs.declared.preparing.Findings.{Findings}
+use Rattle.synth_jobs.specs.declared.preparing.Searched as searched
 use Rattle.synth_jobs.specs.declared.preparing.Prepared.{Prepared}
 use Rattle.synth_jobs.specs.declared.preparing.Prepared.TheVariants.{Ready, Budget}
 use Rattle.synth_jobs.specs.Spent.{told_query}
@@ -53,6 +54,11 @@ shrinking_found found = record { net = found.shrunk.net; pool = found.shrunk.poo
 pub record AreFound (exact : NetValue) (metric : Metric) (bound limit : ℕ) (found : Findings) : Type 0 where
   pub search : IsShrinking metric exact bound limit (shrinking_found found)
   pub most : IsMaximum metric exact found.shrunk.net found.maximum found.witness found.log
+
+-- what the two searches come to
+abbrev pub IsSearched : NetValue → Metric → ℕ → ℕ → searched.Searched → Type 0
+IsSearched exact metric bound limit (searched.TheVariants.Found found) = AreFound exact metric bound limit found
+IsSearched exact metric bound limit (searched.TheVariants.Budget level spent) = MaximumSpent metric bound limit exact (told_query spent) (spent_value level)
 
 abbrev pub IsPrepared : NetValue → Metric → ℕ → ℕ → Prepared → Type 0
 IsPrepared exact metric bound limit (Ready bundle spent) = IsReady exact metric bound limit bundle spent

@@ -1,9 +1,10 @@
 //! All that is computed of a net before a file is touched: the search along the chain, the greatest error, and the formula.
-ghost use Rattle.std.specs.Prelude.{◌≡◌, ◌≤◌, IfOk};
-ghost use Rattle.semantics.specs.Net.{IsSmall};
+ghost use Rattle.std.specs.Prelude.{◌≡◌, ◌≤◌, ◌<◌, ◌^◌, IfOk};
+ghost use Rattle.semantics.specs.Net.{IsSmall, IsSound};
+ghost use Rattle.proof_semantics.specs.Miter.{miter};
 ghost use Rattle.synth_jobs.specs.declared.preparing.Prepared.TheVariants.{Ready};
 ghost use Rattle.bundle.specs.Value.{FitsReport};
-ghost use Rattle.synth_jobs.specs.Prepared.{bundle_of, AreFound, IsPrepared};
+ghost use Rattle.synth_jobs.specs.Prepared.{bundle_of, AreFound, IsSearched, IsPrepared};
 
 use crate::soundness::see_sound;
 use bundle::bundle::{Bundle, Version};
@@ -79,23 +80,65 @@ fn gathered(exact: Net, aim: Constraint, found: Findings, goal: Cnf) -> Prepared
     }
 }
 
-/// Makes the formula that the log refutes, and gathers the bundle.
-fn gather(
+/// What the search along the chain and that for the greatest error come to.
+#[derive(Drop)]
+enum Searched {
+    /// The greatest error was found.
+    Found(Findings),
+    /// The query of the search for it that was spent, and that of the chain, if one was.
+    Budget { level: Spent, spent: Option<Spent> },
+}
+
+/// The simplification of a net, and its greatest error.
+fn search<P: Progress>(
     alloc: Global,
-    exact: Net,
+    exact: &Net,
     aim: Constraint,
-    found: Findings,
-) -> Result<Prepared, AllocError>
-    requires small { IsSmall exact }
-    requires bound { aim.bound ≤ LARGEST_ERROR }
-    requires found { AreFound exact aim.metric aim.bound aim.limit found }
-    ensures { IfOk result (IsPrepared exact aim.metric aim.bound aim.limit) }
+    progress: &mut P,
+) -> Result<Searched, AllocError>
+    requires small { IsSmall exact.now }
+    requires limit { 1 ≤ aim.limit }
+    ensures { IfOk result (IsSearched exact.now aim.metric aim.bound aim.limit) }
 {
-    see_sound(&exact);
+    see_sound(exact);
+    let Constraint {
+        metric,
+        bound,
+        limit,
+    } = aim;
+    let shrunk = shrink_followed(alloc, exact, metric, bound, limit, progress)?;
+    match maximum_followed(alloc, exact, &shrunk.net, metric, bound, limit, progress)? {
+        Maximum::Spent(level) => Ok(Searched::Budget {
+            level,
+            spent: shrunk.spent,
+        }),
+        Maximum::Found { max, witness, log } => Ok(Searched::Found(Findings {
+            shrunk,
+            maximum: max,
+            witness,
+            log,
+        })),
+    }
+}
+
+/// The formula that the log of what was found refutes.
+fn goal_for(
+    alloc: Global,
+    exact: &Net,
+    aim: Constraint,
+    found: &Findings,
+) -> Result<Cnf, AllocError>
+    requires small { IsSmall exact.now }
+    requires found { AreFound exact.now aim.metric aim.bound aim.limit found.now }
+    ensures formula { IfOk result (λ goal. goal ≡ miter exact.now found.now.shrunk.net aim.metric found.now.maximum) }
+    ensures few_variables { IfOk result (λ goal. goal.variables < 2 ^ 31) }
+    ensures exact_sound { IsSound exact.now }
+    ensures approx_sound { IsSound found.now.shrunk.net }
+{
+    see_sound(exact);
     see_sound(&found.shrunk.net);
-    let nets = Compared::new(&exact, &found.shrunk.net);
-    let goal = miter_of(alloc, &nets, aim.metric, found.maximum)?;
-    Ok(gathered(exact, aim, found, goal))
+    let nets = Compared::new(exact, &found.shrunk.net);
+    miter_of(alloc, &nets, aim.metric, found.maximum)
 }
 
 /// The bundle of the simplification of a net, or the query that stood in its way.
@@ -110,26 +153,11 @@ pub fn prepare<P: Progress>(
     requires limit { 1 ≤ aim.limit }
     ensures { IfOk result (IsPrepared exact aim.metric aim.bound aim.limit) }
 {
-    see_sound(&exact);
-    let Constraint {
-        metric,
-        bound,
-        limit,
-    } = aim;
-    let shrunk = shrink_followed(alloc, &exact, metric, bound, limit, progress)?;
-    match maximum_followed(alloc, &exact, &shrunk.net, metric, bound, limit, progress)? {
-        Maximum::Spent(level) => Ok(Prepared::Budget {
-            level,
-            spent: shrunk.spent,
-        }),
-        Maximum::Found { max, witness, log } => {
-            let found = Findings {
-                shrunk,
-                maximum: max,
-                witness,
-                log,
-            };
-            gather(alloc, exact, aim, found)
+    match search(alloc, &exact, aim, progress)? {
+        Searched::Budget { level, spent } => Ok(Prepared::Budget { level, spent }),
+        Searched::Found(found) => {
+            let goal = goal_for(alloc, &exact, aim, &found)?;
+            Ok(gathered(exact, aim, found, goal))
         }
     }
 }
