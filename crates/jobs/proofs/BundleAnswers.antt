@@ -22,17 +22,16 @@ use Rattle.jobs.specs.Status.{outcome_of}
 use Rattle.jobs.specs.Run.{BundleAnswerAt, BundleAnswer, IsWorkOf}
 
 -- what the work on a net says is what its answer says
-pub BundleAnswer-of : {metric : Metric} {bound limit : ℕ} {exact : NetValue} {stem : Bytes} {old new : FilesTold} {said says : SinkTold} (w : Work)
-    → WorkSays metric bound limit exact stem old new said says w → BundleAnswer metric bound limit exact stem old new said says (outcome_of w)
-BundleAnswer-of (work.Done spent) written = (written, refl)
-BundleAnswer-of (work.Budget level spent) says = (says.0, says.1, spent_value level, refl, says.2)
-BundleAnswer-of work.NoMemory same = (same.0, same.1, (refl, refl))
-BundleAnswer-of work.WriteFault cut = (cut, (refl, refl))
+module _ (metric : Metric) (bound limit : ℕ) (exact : NetValue) (stem : Bytes) (old new : FilesTold) (said says : SinkTold) where
+  answer_of : (w : Work) → WorkSays metric bound limit exact stem old new said says w → BundleAnswer metric bound limit exact stem old new said says (outcome_of w)
+  answer_of (work.Done spent) written = (written, refl)
+  answer_of (work.Budget level spent) budget = (budget.0, budget.1, spent_value level, refl, budget.2)
+  answer_of work.NoMemory same = (same.0, same.1, (refl, refl))
+  answer_of work.WriteFault cut = (cut, (refl, refl))
 
-pub BundleAnswer-told : {metric : Metric} {bound limit : ℕ} {exact : NetValue} {stem : Bytes} {old new : FilesTold} {said says : SinkTold} (o : Outcome) (w : Work)
-    → o ≡ outcome_of w → WorkSays metric bound limit exact stem old new said says w → BundleAnswer metric bound limit exact stem old new said says o
-BundleAnswer-told {metric} {bound} {limit} {exact} {stem} {old} {new} {said} {says} o w is work_says =
-    subst (BundleAnswer metric bound limit exact stem old new said says) (sym is) (BundleAnswer-of w work_says)
+  pub BundleAnswer-told : (o : Outcome) (w : Work) → o ≡ outcome_of w → WorkSays metric bound limit exact stem old new said says w
+      → BundleAnswer metric bound limit exact stem old new said says o
+  BundleAnswer-told o w is work_says = subst (BundleAnswer metric bound limit exact stem old new said says) (sym is) (answer_of w work_says)
 
 -- where the conflicts are enough, no query of the chain is spent
 nothing_spent : (metric : Metric) (exact : NetValue) (bound limit : ℕ) (N : NetValue) (pool : List (List Bool)) (spent : Option SpentValue)

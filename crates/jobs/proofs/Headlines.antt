@@ -21,7 +21,7 @@ use Rattle.job_semantics.proofs.Certificates.{verified_law}
 use Rattle.job_semantics.proofs.FileWords.{file_words_law}
 use Rattle.job_semantics.proofs.CheckedFiles.{one_net, joined_runs_law}
 use Rattle.job_answers.specs.declared.status.Status.{Status}
-use Rattle.job_answers.specs.declared.status.Status.TheVariants.{Done, Verified, Refuted, Usage, Text, NoMemory, Budget, ReadFault, WriteFault, Endless}
+use Rattle.job_answers.specs.declared.status.Status.TheVariants.{Done, Verified, Text, NoMemory, Budget, ReadFault, WriteFault}
 use Rattle.jobs.specs.declared.status.Outcome.{Outcome}
 use Rattle.synth_jobs.specs.Spent.{told_query}
 use Rattle.jobs.specs.Status.{NothingSpent}

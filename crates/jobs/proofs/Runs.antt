@@ -10,7 +10,7 @@ use Rattle.job_semantics.specs.Job.{Job, synth, check, demo, flat, aag, blif, tr
 use Rattle.job_semantics.specs.Demo.{demo_net}
 use Rattle.job_semantics.specs.Demonstration.{demo_stem}
 use Rattle.job_answers.specs.declared.status.Status.{Status}
-use Rattle.job_answers.specs.declared.status.Status.TheVariants.{Done, Verified, Refuted, Usage, Text, NoMemory, Budget, ReadFault, WriteFault, Endless}
+use Rattle.job_answers.specs.declared.status.Status.TheVariants.{Done, Usage, Text, NoMemory, Budget, ReadFault, WriteFault}
 use Rattle.jobs.specs.declared.status.Outcome.{Outcome}
 use Rattle.synth_jobs.specs.Spent.{told_query}
 use Rattle.jobs.specs.Status.{SpendsAs, SpendsAsTold}

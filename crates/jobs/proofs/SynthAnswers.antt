@@ -1,5 +1,5 @@
 -- What a synth job comes to, from the reading of IN and what is made of its net.
-use Rattle.std.proofs.Common.{◌≡◌, ◌≢◌, ℕ, true, false, Option, None, [], inl, inr, refl, sym, subst}
+use Rattle.std.proofs.Common.{◌≡◌, ◌≢◌, ℕ, Option, None, [], inl, inr, refl, sym, subst}
 use Rattle.semantics.specs.Texts.{Bytes}
 use Rattle.semantics.specs.Net.{NetValue}
 use Rattle.semantics.specs.declared.metric.Metric.{Metric}
@@ -13,7 +13,7 @@ use Rattle.job_semantics.specs.Synthesis.{WhereHeld, OfInput, IsUntouched, Bundl
 use Rattle.job_semantics.specs.Input.{input_reading, IsReadAs, IsAccepted}
 use Rattle.bundle.proofs.FilesInOrder.{FilesWritten-then, FilesCutShort-after}
 use Rattle.job_answers.specs.declared.status.Status.{Status}
-use Rattle.job_answers.specs.declared.status.Status.TheVariants.{Done, Verified, Refuted, Usage, Text, NoMemory, Budget, ReadFault, WriteFault, Endless}
+use Rattle.job_answers.specs.declared.status.Status.TheVariants.{Done, Text, NoMemory, Budget, ReadFault, WriteFault}
 use Rattle.jobs.specs.declared.status.Outcome.{Outcome}
 use Rattle.job_answers.specs.Ends.{EndsWell}
 use Rattle.conversions.specs.Input.{NetRead, NetUnread}
@@ -23,7 +23,10 @@ use Rattle.conversions.proofs.Conversions as conversions
 use Rattle.synth_jobs.specs.Spent.{told_query}
 use Rattle.jobs.specs.Run.{SynthAnswerAt, SynthAnswer, BundleAnswerAt, BundleAnswer, IsAnswerTo}
 use Rattle.check_jobs.proofs.CheckAnswers.{input_refused}
-use Rattle.jobs.proofs.BundleAnswers.{enough_spends_nothing, not_quiet_cut}
+use Rattle.synth_jobs.specs.declared.work.Work.{Work}
+use Rattle.synth_jobs.specs.Work.{WorkSays}
+use Rattle.jobs.specs.Status.{outcome_of}
+use Rattle.jobs.proofs.BundleAnswers.{BundleAnswer-told, enough_spends_nothing, not_quiet_cut}
 
 -- nothing was written while IN was read
 none_written : {old mid : FilesTold} {input : Bytes} {N : NetValue} → NetRead old mid input N → FilesWritten old mid []
@@ -110,11 +113,17 @@ SynthAnswer-from metric bound limit input stem old mid new said says N spent lev
     (record { exact = N; read = read_later read (goes_cut answer.0); left = cut_since read answer.0 }, answer.1)
 SynthAnswer-from metric bound limit input stem old mid new said says N spent level _ read answer = absurd answer
 
-pub SynthAnswer-of : (metric : Metric) (bound limit : ℕ) (input stem : Bytes) {names : Bytes} {old mid : FilesTold} (new : FilesTold) (said says : SinkTold) {N : NetValue} (o : Outcome)
+SynthAnswer-of : (metric : Metric) (bound limit : ℕ) (input stem : Bytes) {names : Bytes} {old mid : FilesTold} (new : FilesTold) (said says : SinkTold) {N : NetValue} (o : Outcome)
     → names ≡ stem → NetRead old mid input N → BundleAnswer metric bound limit N names mid new said says o → SynthAnswer metric bound limit input stem old new said says o
 SynthAnswer-of metric bound limit input stem {names} {old} {mid} new said says {N} o same read answer =
     SynthAnswer-from metric bound limit input stem old mid new said says N (told_query o.spent) (told_query o.level) o.status read
     (subst (λ s. BundleAnswer metric bound limit N s mid new said says o) same answer)
+
+-- the same from the work on the net
+pub SynthAnswer-told : (metric : Metric) (bound limit : ℕ) (input stem : Bytes) {names : Bytes} {old mid : FilesTold} (new : FilesTold) (said says : SinkTold) {N : NetValue} (o : Outcome) (w : Work)
+    → names ≡ stem → NetRead old mid input N → o ≡ outcome_of w → WorkSays metric bound limit N names mid new said says w → SynthAnswer metric bound limit input stem old new said says o
+SynthAnswer-told metric bound limit input stem {names} {old} {mid} new said says {N} o w same read is work_says =
+    SynthAnswer-of metric bound limit input stem new said says o same read (BundleAnswer-told metric bound limit N names mid new said says o w is work_says)
 
 -- what could not be written is read as some net
 accepted_at_fault : {metric : Metric} {bound limit : ℕ} {input stem : Bytes} {old new : FilesTold} {said says : SinkTold}

@@ -38,7 +38,5 @@ pub fn demonstrate<F: Files, K: Sink, P: Progress>(
         (K.told say.new)
         result }
 {
-    outcome_of(demonstration::demonstrate(
-        alloc, width, bound, limit, files, say, progress,
-    ))
+    outcome_of(demonstration::demonstrate(alloc, width, bound, limit, files, say, progress))
 }
