@@ -5,4 +5,3 @@ pub mod Places
 pub mod Numbered
 pub mod Readings
 pub mod Sizes
-pub mod NetTexts

@@ -2,6 +2,5 @@ pub mod LogicalLines
 pub mod Messages
 pub mod NamedNets
 pub mod Names
-pub mod NetText
 pub mod Places
 pub mod Refusals

@@ -1,4 +1,4 @@
-//! Nets as BLIF texts, both ways.
+//! Nets read from BLIF texts.
 #![tactic(auto)]
 
 mod joining;
@@ -13,4 +13,3 @@ mod numbering;
 pub mod reading;
 pub mod refusal;
 pub mod statements;
-pub mod writing;

@@ -1,4 +1,3 @@
-pub mod FilesInOrder
 pub mod JudgedTexts
 pub mod ToldAnswers
 pub mod FileTexts

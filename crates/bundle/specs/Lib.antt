@@ -1,5 +1,3 @@
-pub mod Names
-pub mod Value
 pub mod Shown
 pub mod VectorsStanding
 pub mod Judging

@@ -5,7 +5,7 @@ ghost use Rattle.bundle.specs.Judging.{FilesKept, IsCause, IsVerdict, NothingKno
 
 use crate::judged::Judged;
 use crate::judging::check_netlist;
-use crate::stem::Stem;
+use bundle_writing::stem::Stem;
 use crate::verdict::Verdict;
 use bundle_texts::item_sink::NoItems;
 use file_core::files::Files;

@@ -14,7 +14,7 @@ use blif_text::refusal::BlifRefusal;
 use bundle_texts::formula_check::FormulaCheck;
 use bundle_texts::item_sink::ItemSink;
 use bundle_texts::log_check::LogCheck;
-use bundle_texts::report_lines::REPORT_LIMIT;
+use bundle_writing::report_lines::REPORT_LIMIT;
 use bundle_texts::report_reading::{ReportRead, read_report};
 use cnf_core::cnf::Cnf;
 use file_core::files::Files;

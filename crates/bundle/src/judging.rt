@@ -12,7 +12,7 @@ use crate::asked::Asked;
 use crate::claim::{Claim, Contents, are_counts, error_at, miter};
 use crate::file_texts::{is_formula, read_log, read_netlist, read_report_file, read_vectors_file};
 use crate::judged::Judged;
-use crate::stem::Stem;
+use bundle_writing::stem::Stem;
 use bundle_texts::item_sink::ItemSink;
 use bundle_texts::report_reading::ReportRead;
 use cnf_core::cnf::Cnf;

@@ -3,7 +3,6 @@
 
 mod asked;
 mod broken_moves;
-pub mod bundle;
 pub mod check;
 mod claim;
 mod file_texts;
@@ -12,8 +11,5 @@ mod judging;
 pub mod load;
 pub mod loaded;
 mod minimality;
-mod report_writing;
-pub mod stem;
 mod vectors_check;
 pub mod verdict;
-pub mod writing;

@@ -6,7 +6,7 @@ ghost use Rattle.bundle.specs.Loading.{IsLoaded};
 
 use crate::judging::check_netlist;
 use crate::loaded::Loaded;
-use crate::stem::Stem;
+use bundle_writing::stem::Stem;
 use file_core::files::Files;
 use file_reading::unread::Unread;
 use net_core::net::Net;

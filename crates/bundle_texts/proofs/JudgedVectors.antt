@@ -11,10 +11,11 @@ use Rattle.blif_semantics.proofs.NetLines.{all_append}
 use Rattle.file_reading.specs.Reading.{IsAllWanted}
 use Rattle.bundle_texts.specs.Pieces.{is_bit_digit}
 use Rattle.bundle_texts.specs.Reading.{HoldsVectors}
-use Rattle.bundle_texts.specs.VectorLines.{vector_line, vector_lines}
+use Rattle.bundle_writing.specs.VectorLines.{vector_line, vector_lines}
 use Rattle.bundle_texts.specs.VectorsTaken.{TakenValue, is_next_byte, with_byte, are_whole, BeginWith, AreVectorsSoFar, NeverVectors}
 use Rattle.bundle_texts.specs.VectorLine.{LineValue, line_of, is_next, line_after}
-use Rattle.bundle_texts.proofs.VectorTexts.{vectors_text-is, assoc_line, lines_behind}
+use Rattle.bundle_writing.proofs.VectorTexts.{vectors_text-is}
+use Rattle.bundle_texts.proofs.VectorCuts.{assoc_line, lines_behind}
 
 abbrev AreWide : ℕ → List (List Bool) → Type 0
 AreWide inputs xs = AllByRecursion (λ x. length x ≡ inputs) xs

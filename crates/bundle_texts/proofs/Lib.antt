@@ -1,4 +1,4 @@
-pub mod VectorTexts
+pub mod VectorCuts
 pub mod CutTexts
 pub mod ReportCuts
 pub mod LogChecks

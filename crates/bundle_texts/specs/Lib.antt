@@ -1,4 +1,3 @@
-pub mod VectorLines
 pub mod Pieces
 pub mod ReportParts
 pub mod Reading

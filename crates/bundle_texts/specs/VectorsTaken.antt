@@ -4,7 +4,7 @@ use Rattle.std.specs.List.{AllByRecursion}
 use Rattle.semantics.specs.Texts.{Bytes, bit_byte, bits_word}
 use Rattle.job_semantics.specs.Certificate.{IsVectorsText}
 use Rattle.bundle_texts.specs.Pieces.{is_bit_digit}
-use Rattle.bundle_texts.specs.VectorLines.{vector_lines}
+use Rattle.bundle_writing.specs.VectorLines.{vector_lines}
 
 -- the vectors of the whole lines, and the bits of the line that has not ended
 pub record TakenValue : Type 0 where

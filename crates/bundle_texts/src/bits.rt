@@ -1,21 +1,10 @@
-//! Bits as digits, one byte a bit.
+//! Digits that say bits, one byte a bit.
 ghost use Rattle.std.specs.Prelude.{◌≡◌, IfOk};
 ghost use Rattle.std.specs.List.{list_all};
-ghost use Rattle.semantics.specs.Texts.{bit_byte};
 ghost use Rattle.bundle_texts.specs.Pieces.{is_bit_digit, bits_in};
 
 use net_core::items::Bits;
 use std::alloc::{AllocError, Global};
-
-/// The most bits of a vector.
-pub const MOST_BITS: usize = 256;
-
-/// The digit of a bit.
-pub fn bit_byte(bit: bool) -> u8
-    ensures { result ≡ bit_byte bit }
-{
-    if bit { b'1' } else { b'0' }
-}
 
 /// Whether the byte is the digit of a bit.
 pub fn is_bit_digit(byte: u8) -> bool

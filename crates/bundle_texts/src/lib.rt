@@ -8,7 +8,5 @@ pub mod item_sink;
 mod judge;
 pub mod log_check;
 mod pieces;
-pub mod report_lines;
 pub mod report_reading;
 pub mod vector_line;
-pub mod vectors_writing;

@@ -8,7 +8,7 @@ ghost use Rattle.bundle_texts.specs.Reading.{report_read};
 
 use crate::bits::bits_of;
 use crate::pieces::{after, number_before, vector_before};
-use crate::report_lines::{ReportText, add_number, add_word, metric_word, version_word};
+use bundle_writing::report_lines::{ReportText, add_number, add_word, metric_word, version_word};
 use job_semantics::version::Version;
 use net_core::items::Bits;
 use semantics::metric::Metric;

@@ -2,7 +2,8 @@
 ghost use Rattle.std.specs.Prelude.{◌≡◌, ◌≢◌, ◌≤◌, [], false, length, MatchOption};
 ghost use Rattle.bundle_texts.specs.VectorLine.{is_next, line_after, is_whole};
 
-use crate::bits::{MOST_BITS, bit_byte, is_bit_digit};
+use crate::bits::is_bit_digit;
+use bundle_writing::bits::{MOST_BITS, bit_byte};
 use std::marker::Model;
 
 /// The bits of the line that has not ended, and whether one has ended before it. It takes no memory but its own.

@@ -4,7 +4,7 @@ ghost use Rattle.outside_semantics.specs.Outside.{SinkTold};
 ghost use Rattle.check_jobs.specs.Answers.{status_of_unread, status_of_check, CheckAnswer};
 
 use bundle::check::check_bundle;
-use bundle::stem::Stem;
+use bundle_writing::stem::Stem;
 use bundle::verdict::Verdict;
 use conversions::input::read_net;
 use file_core::files::Files;

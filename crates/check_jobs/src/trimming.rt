@@ -12,7 +12,7 @@ ghost use Rattle.check_jobs.specs.Trimmed.{TrimmedAnswer};
 use crate::checking::answer_of_unread;
 use bundle::load::load_bundle;
 use bundle::loaded::Loaded;
-use bundle::stem::Stem;
+use bundle_writing::stem::Stem;
 use cnf_core::cnf::Cnf;
 use cnf_core::log::Log;
 use cnf_core::lrat::write_lrat;

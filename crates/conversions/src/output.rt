@@ -8,7 +8,7 @@ ghost use Rattle.conversions.specs.Answers.{answer_of_writing};
 
 use aiger_text::ands::Ands;
 use aiger_text::writing::write_aiger;
-use blif_text::writing::write_blif;
+use blif_writing::writing::write_blif;
 use file_core::fault::FileFault;
 use file_core::files::Files;
 use job_answers::status::Status;

@@ -11,7 +11,7 @@ use Rattle.job_semantics.specs.declared.version.Version.TheVariants.{Two}
 use Rattle.job_semantics.specs.Certificate.{Texts, OfBundle, OfReport, IsNetlist, Certifies}
 use Rattle.job_semantics.specs.Synthesis.{WhereHeld, OfInput, IsUntouched, BundleWritten, BundleCutShort, SynthWriteFault, CountsAs, IsQuietSynth}
 use Rattle.job_semantics.specs.Input.{input_reading, IsReadAs, IsAccepted}
-use Rattle.bundle.proofs.FilesInOrder.{FilesWritten-then, FilesCutShort-after}
+use Rattle.bundle_writing.proofs.FilesInOrder.{FilesWritten-then, FilesCutShort-after}
 use Rattle.job_answers.specs.declared.status.Status.{Status}
 use Rattle.job_answers.specs.declared.status.Status.TheVariants.{Done, Text, NoMemory, Budget, ReadFault, WriteFault}
 use Rattle.jobs.specs.declared.status.Outcome.{Outcome}

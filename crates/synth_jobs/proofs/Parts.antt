@@ -24,7 +24,7 @@ use Rattle.job_semantics.proofs.SmallNets.{literals_at_most}
 use Rattle.job_semantics.specs.Shrinking.{Shrinking, IsSpentMove, IsShownEnd, IsShrinking}
 use Rattle.job_semantics.specs.Synthesis.{Simplified, shrinking_of, IsSimplifiedFrom, IsRefutedBy, synth_bundle}
 use Rattle.worst_case.specs.declared.query.Spent as spent
-use Rattle.bundle.specs.Value.{FitsReport}
+use Rattle.bundle_writing.specs.Value.{FitsReport}
 use Rattle.synth_jobs.specs.Spent.{told_query}
 use Rattle.synth_jobs.specs.declared.preparing.Constraint.{Constraint}
 use Rattle.synth_jobs.specs.declared.preparing.Findings.{Findings}

@@ -4,7 +4,7 @@ use Rattle.semantics.specs.Texts.{Bytes}
 use Rattle.outside_semantics.specs.Outside.{FilesTold, SinkTold, Took, TakeFailed}
 use Rattle.outside_semantics.specs.WrittenFiles.{FilesWritten, FilesCutShort}
 use Rattle.job_semantics.specs.Bundle.{BundleValue}
-use Rattle.bundle.specs.Value.{files_of, report_of_bundle}
+use Rattle.bundle_writing.specs.Value.{files_of, report_of_bundle}
 
 abbrev pub IsDelivered : BundleValue → Bytes → FilesTold → FilesTold → SinkTold → SinkTold → Type 0
 IsDelivered b stem old new said says = FilesWritten old new (files_of stem b) × Took said says (report_of_bundle b)

@@ -6,9 +6,9 @@ ghost use Rattle.synth_jobs.specs.Work.{WorkSays};
 
 use crate::preparing::{Constraint, Prepared, prepare};
 use crate::work::Work;
-use bundle::bundle::Bundle;
-use bundle::stem::Stem;
-use bundle::writing::{put_report, write_bundle};
+use bundle_writing::bundle::Bundle;
+use bundle_writing::stem::Stem;
+use bundle_writing::writing::{put_report, write_bundle};
 use file_core::fault::FileFault;
 use file_core::files::Files;
 use file_core::sink::Sink;

@@ -8,7 +8,7 @@ ghost use Rattle.synth_jobs.specs.Work.{WorkSays};
 use crate::delivery::finish;
 use crate::preparing::Constraint;
 use crate::work::Work;
-use bundle::stem::Stem;
+use bundle_writing::stem::Stem;
 use demo_adder::adder::demo_net;
 use file_core::files::Files;
 use file_core::sink::Sink;

@@ -3,11 +3,11 @@ ghost use Rattle.std.specs.Prelude.{◌≡◌, ◌≤◌, ◌<◌, ◌^◌, IfOk
 ghost use Rattle.semantics.specs.Net.{IsSmall, IsSound};
 ghost use Rattle.proof_semantics.specs.Miter.{miter};
 ghost use Rattle.synth_jobs.specs.declared.preparing.Prepared.TheVariants.{Ready};
-ghost use Rattle.bundle.specs.Value.{FitsReport};
+ghost use Rattle.bundle_writing.specs.Value.{FitsReport};
 ghost use Rattle.synth_jobs.specs.Prepared.{bundle_of, AreFound, IsSearched, IsPrepared};
 
 use crate::soundness::see_sound;
-use bundle::bundle::{Bundle, Version};
+use bundle_writing::bundle::{Bundle, Version};
 use cnf_core::cnf::Cnf;
 use cnf_core::log::Log;
 use miter::level::miter_of;

@@ -1,0 +1,4 @@
+//! Nets written as BLIF texts.
+#![tactic(auto)]
+
+pub mod writing;

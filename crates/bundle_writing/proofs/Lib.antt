@@ -1,0 +1,2 @@
+pub mod FilesInOrder
+pub mod VectorTexts
