@@ -1,4 +1,4 @@
-//! Bundles: what a synthesis leaves behind, as five files, and how they are read back and checked.
+//! Bundles: how the five files of a synthesis are read back and checked.
 #![tactic(auto)]
 
 mod asked;

@@ -1,5 +1,4 @@
-//! The texts of a bundle's files: what is written of vectors, how a report is read back, and how formulas, logs and vectors are judged as
-//! they are read.
+//! The texts of a bundle's files: how a report is read back, and how formulas, logs and vectors are judged as they are read.
 #![tactic(auto)]
 
 pub mod bits;
