@@ -3,6 +3,7 @@ pub mod Slices
 pub mod Header
 pub mod FormulaDraft
 pub mod Refusals
+pub mod Places
 pub mod Writing
 pub mod Run
 pub mod Examples

@@ -1,5 +1,5 @@
 //! Clauses as they are read, word after word.
-ghost use Rattle.std.specs.Prelude.{◌≡◌, ◌<◌, ◌≤◌, ◌^◌, ℕ, List, [], ◌∷◌, ◌++◌, Ok, nat_abs, flat_map, IfOk, IfErr, OnOk};
+ghost use Rattle.std.specs.Prelude.{◌≡◌, ◌<◌, ◌≤◌, ◌^◌, ℕ, List, [], ◌∷◌, ◌++◌, Ok, None, false, nat_abs, flat_map, IfOk, IfErr, OnOk};
 ghost use Rattle.semantics.specs.Texts.{Bytes};
 ghost use Rattle.blif_semantics.specs.Lines.{words_of};
 ghost use Rattle.proof_semantics.specs.Logs.{IsDerivation};
@@ -8,6 +8,7 @@ ghost use Rattle.solve_cnf.specs.Header.{held_number};
 ghost use Rattle.solve_cnf.specs.FormulaDraft.{with_number, clauses_with};
 ghost use Rattle.solve_cnf.specs.Refusals.{Tells};
 ghost use Rattle.solve_cnf.specs.Slices.{line_texts};
+ghost use Rattle.solve_cnf.specs.Places.{has_wrong, is_wrong, line_number, line_of, line_values, place_if, wrong_line, Names};
 
 use crate::error::ReadError;
 use crate::lines::{Line, line_number};
@@ -68,6 +69,8 @@ impl FormulaDraft {
     /// Takes the next word, which stands on this line.
     fn take_word(&mut self, word: &[u8], line: usize) -> Result<(), ReadError>
         ensures variables { self.new.variables ≡ self.old.variables }
+        ensures right { OnOk result (is_wrong self.old.variables word.now ≡ false) }
+        ensures place { IfErr result (λ told. Names told (place_if (is_wrong self.old.variables word.now) line)) }
         ensures ok { OnOk result ((rest : List Bytes)
             → clauses_with self.new rest ≡ clauses_with self.old (word.now ∷ rest)) }
         ensures err { IfErr result (λ told. (rest : List Bytes)
@@ -81,6 +84,9 @@ impl FormulaDraft {
     /// Takes the words of a line.
     fn take_line(&mut self, line: &Line) -> Result<(), ReadError>
         ensures variables { self.new.variables ≡ self.old.variables }
+        ensures right { OnOk result (has_wrong self.old.variables (words_of line.now.1.now) ≡ false) }
+        ensures place { IfErr result (λ told.
+            Names told (place_if (has_wrong self.old.variables (words_of line.now.1.now)) (line_number line.now.0))) }
         ensures ok { OnOk result ((rest : List Bytes)
             → clauses_with self.new rest ≡ clauses_with self.old (words_of line.now.1.now ++ rest)) }
         ensures err { IfErr result (λ told. (rest : List Bytes)
@@ -96,6 +102,7 @@ impl FormulaDraft {
     /// Takes the words of lines behind which nothing comes.
     pub fn take_lines(&mut self, lines: &[Line]) -> Result<(), ReadError>
         ensures variables { self.new.variables ≡ self.old.variables }
+        ensures place { IfErr result (λ told. Names told (wrong_line self.old.variables (line_values lines.now))) }
         ensures ok { OnOk result (clauses_with self.new []
             ≡ clauses_with self.old (flat_map words_of (line_texts lines.now))) }
         ensures err { IfErr result (λ told.
@@ -109,6 +116,7 @@ impl FormulaDraft {
 
     /// The formula, where the last clause is ended and there are so many clauses.
     pub fn finish(self, count: u64) -> Result<Cnf, ReadError>
+        ensures no_place { IfErr result (λ told. line_of told ≡ None) }
         ensures ok { IfOk result (λ cnf. (clauses : ℕ) → count ≡ held_number clauses
             → formula_with (record { variables = self.variables; clauses = clauses }) (clauses_with self []) ≡ Ok cnf) }
         ensures err { IfErr result (λ told. (clauses : ℕ) → count ≡ held_number clauses

@@ -1,9 +1,10 @@
 //! Lines as slices of the text. Source: DIMACS.
-ghost use Rattle.std.specs.Prelude.{◌≡◌, ◌==◌, ◌&&◌, ◌+◌, ◌-◌, ◌^◌, min, not, IfOk};
+ghost use Rattle.std.specs.Prelude.{◌≡◌, ◌==◌, ◌&&◌, not, IfOk};
 ghost use Rattle.std.specs.List.{list_all};
 ghost use Rattle.blif_semantics.specs.Lines.{is_blank};
 ghost use Rattle.solve_cnf.specs.Reading.{is_comment, lines_of};
 ghost use Rattle.solve_cnf.specs.Slices.{line_texts};
+ghost use Rattle.solve_cnf.specs.Places.{line_number, line_values, numbered_lines};
 
 use std::alloc::{AllocError, Global};
 use text_words::words::is_blank;
@@ -13,7 +14,7 @@ pub type Line<'a> = (usize, &'a [u8]);
 
 /// The number of a line, from 1.
 pub fn line_number(line: &Line) -> usize
-    ensures { result ≡ min (line.now.0 + 1) (2 ^ 64 - 1) }
+    ensures { result ≡ line_number line.now.0 }
 {
     line.0.saturating_add(1)
 }
@@ -41,7 +42,8 @@ fn has_words(line: &[u8]) -> bool
 
 /// The lines that are no comments and have more than blanks.
 pub fn lines_of<'a>(alloc: Global, text: &'a [u8]) -> Result<Vec<Line<'a>>, AllocError>
-    ensures { IfOk result (λ v. line_texts v.items ≡ lines_of text.now) }
+    ensures texts { IfOk result (λ v. line_texts v.items ≡ lines_of text.now) }
+    ensures numbers { IfOk result (λ v. line_values v.items ≡ numbered_lines text.now) }
 {
     text.split(|b| *b == b'\n')
         .enumerate()

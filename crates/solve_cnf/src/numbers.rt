@@ -4,6 +4,7 @@ ghost use Rattle.semantics.specs.Decimal.{digits_number};
 ghost use Rattle.solve_cnf.specs.Reading.{Refusal, are_digits, is_negative, digits_of, number_of, wrong_word};
 ghost use Rattle.solve_cnf.specs.Header.{held_number};
 ghost use Rattle.solve_cnf.specs.Refusals.{refusal_of};
+ghost use Rattle.solve_cnf.specs.Places.{is_wrong, place_if, Names};
 
 use crate::error::ReadError;
 
@@ -48,6 +49,7 @@ pub fn number_of(word: &[u8], vars: u32, line: usize) -> Result<i32, ReadError>
     ensures within { IfOk result (λ n. nat_abs n ≤ vars) }
     ensures wrong { IfErr result (λ told. (refusal : Refusal)
         → refusal_of told ≡ Some refusal → wrong_word vars word.now ≡ Some refusal) }
+    ensures place { IfErr result (λ told. Names told (place_if (is_wrong vars word.now) line)) }
 {
     let Some(size) = digits_number(digits_of(word)) else {
         return Err(ReadError::NoNumber { line });
