@@ -1,9 +1,13 @@
 //! All that is computed of a net before a file is touched: the search along the chain, the greatest error, and the formula.
-ghost use Rattle.std.specs.Prelude.{◌≡◌, ◌≤◌, ◌<◌, ◌^◌, IfOk};
-ghost use Rattle.semantics.specs.Net.{IsSmall, IsSound};
+ghost use Rattle.std.specs.Prelude.{◌≡◌, ◌≤◌, ◌<◌, ◌^◌, ℕ, IfOk};
+ghost use Rattle.semantics.specs.Net.{NetValue, IsSmall, IsSound};
+ghost use Rattle.semantics.specs.declared.metric.Metric.{Metric};
 ghost use Rattle.proof_semantics.specs.Miter.{miter};
 ghost use Rattle.synth_jobs.specs.declared.preparing.Prepared.TheVariants.{Ready};
 ghost use Rattle.bundle_writing.specs.Value.{FitsReport};
+ghost use Rattle.job_semantics.specs.Shrinking.{IsShrinking};
+ghost use Rattle.worst_case.specs.Maximum.{IsMaximumAnswer};
+ghost use Rattle.synth_jobs.specs.Spent.{told_query};
 ghost use Rattle.synth_jobs.specs.Prepared.{bundle_of, AreFound, IsSearched, IsPrepared};
 
 use crate::soundness::see_sound;
@@ -89,6 +93,25 @@ enum Searched {
     Budget { level: Spent, spent: Option<Spent> },
 }
 
+/// What the search for the greatest error came to, behind that along the chain.
+fn together(shrunk: Shrunk, maximum: Maximum) -> Searched
+    ensures { (exact : NetValue) (metric : Metric) (bound limit : ℕ) → IsShrinking metric exact bound limit (record { net = shrunk.net; pool = shrunk.pool.vectors; spent = told_query shrunk.spent })
+        → IsMaximumAnswer metric exact shrunk.net bound limit maximum → IsSearched exact metric bound limit result }
+{
+    match maximum {
+        Maximum::Spent(level) => Searched::Budget {
+            level,
+            spent: shrunk.spent,
+        },
+        Maximum::Found { max, witness, log } => Searched::Found(Findings {
+            shrunk,
+            maximum: max,
+            witness,
+            log,
+        }),
+    }
+}
+
 /// The simplification of a net, and its greatest error.
 fn search<P: Progress>(
     alloc: Global,
@@ -107,18 +130,8 @@ fn search<P: Progress>(
         limit,
     } = aim;
     let shrunk = shrink_followed(alloc, exact, metric, bound, limit, progress)?;
-    match maximum_followed(alloc, exact, &shrunk.net, metric, bound, limit, progress)? {
-        Maximum::Spent(level) => Ok(Searched::Budget {
-            level,
-            spent: shrunk.spent,
-        }),
-        Maximum::Found { max, witness, log } => Ok(Searched::Found(Findings {
-            shrunk,
-            maximum: max,
-            witness,
-            log,
-        })),
-    }
+    let maximum = maximum_followed(alloc, exact, &shrunk.net, metric, bound, limit, progress)?;
+    Ok(together(shrunk, maximum))
 }
 
 /// The formula that the log of what was found refutes.
