@@ -1,6 +1,8 @@
 //! A net is simplified, and then its bundle is written and its report put: what a synth and a demo job have in common.
-ghost use Rattle.std.specs.Prelude.{◌≤◌, OnOk, OnErr};
-ghost use Rattle.semantics.specs.Net.{IsSmall};
+ghost use Rattle.std.specs.Prelude.{◌≤◌, ℕ, OnOk, OnErr};
+ghost use Rattle.semantics.specs.Net.{NetValue, IsSmall};
+ghost use Rattle.semantics.specs.declared.metric.Metric.{Metric};
+ghost use Rattle.synth_jobs.specs.Prepared.{IsReady};
 ghost use Rattle.synth_jobs.specs.Delivered.{IsDelivered, IsDeliveredInPart};
 ghost use Rattle.synth_jobs.specs.Work.{WorkSays};
 
@@ -16,6 +18,7 @@ use net_core::net::Net;
 use progress::progress::Progress;
 use semantics::limits::LARGEST_ERROR;
 use std::alloc::Global;
+use worst_case::query::Spent;
 
 /// Writes the files of a bundle, and then puts its report.
 fn deliver<F: Files, K: Sink>(
@@ -31,6 +34,23 @@ fn deliver<F: Files, K: Sink>(
         return Err(FileFault);
     };
     put_report(bundle, say)
+}
+
+/// What the work comes to behind the delivery of a bundle that is ready.
+fn delivered<F: Files, K: Sink>(
+    bundle: &Bundle,
+    spent: Option<Spent>,
+    names: &Stem,
+    files: &mut F,
+    say: &mut K,
+) -> Work
+    ensures { (exact : NetValue) (metric : Metric) (bound limit : ℕ) → IsReady exact metric bound limit bundle.now spent
+        → WorkSays metric bound limit exact names.now (F.told files.old) (F.told files.new) (K.told say.old) (K.told say.new) result }
+{
+    match deliver(bundle, names, files, say) {
+        Ok(()) => Work::Done(spent),
+        Err(FileFault) => Work::WriteFault,
+    }
 }
 
 /// Simplifies a net, writes its bundle under the names, and puts the report. Everything is computed before a file is touched.
@@ -61,9 +81,6 @@ pub fn finish<F: Files, K: Sink, P: Progress>(
     match prepare(alloc, exact, aim, progress) {
         Err(_) => Work::NoMemory,
         Ok(Prepared::Budget { level, spent }) => Work::Budget { level, spent },
-        Ok(Prepared::Ready { bundle, spent }) => match deliver(&bundle, names, files, say) {
-            Ok(()) => Work::Done(spent),
-            Err(FileFault) => Work::WriteFault,
-        },
+        Ok(Prepared::Ready { bundle, spent }) => { delivered(&bundle, spent, names, files, say) }
     }
 }
