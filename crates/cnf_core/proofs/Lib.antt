@@ -1,6 +1,7 @@
 pub mod Steps
 pub mod Formulas
 pub mod Words
+pub mod NumberLists
 pub mod FormulaTexts
 pub mod LogTexts
 pub mod Drafts
@@ -10,3 +11,4 @@ pub mod LratForms
 pub mod LratReadings
 pub mod LratReaders
 pub mod Pieces
+pub mod Pages

@@ -1,5 +1,5 @@
 -- Bytes that are given in parts.
-use Rattle.std.proofs.Common.{◌≡◌, ℕ, ◌+◌, ◌-◌, ◌≤◌, ◌<◌, List, [], ◌++◌, length, min, take, drop, get_or, refl, ap, sym, ◌∙◌, append_assoc, append-nil, length-take, arith}
+use Rattle.std.proofs.Common.{◌≡◌, ℕ, ◌+◌, ◌-◌, ◌≤◌, ◌<◌, List, [], ◌++◌, length, min, take, drop, get_or, ap, sym, ◌∙◌, append_assoc, arith}
 use Rattle.std.specs.Borrow.{Bor}
 use Rattle.std.proofs.lemmas.List.{drop-take, take-take, at_drop_more, take-append-drop, drop_all, drop-drop}
 use Rattle.std.proofs.lemmas.Slice.{take-put_mid}
@@ -38,8 +38,6 @@ used_up word left at count room gone c less = gone ∙ drop_all count word (omeg
 pub kept_more : (first buf new : Bytes) (at count : ℕ) → drop at buf ≡ drop at first → drop (at + count) new ≡ drop (at + count) buf → drop (at + count) new ≡ drop (at + count) first
 kept_more first buf new at count kept more = more ∙ sym (drop-drop count at buf) ∙ ap (drop count) kept ∙ drop-drop count at first
 
--- at the text's end nothing is left
-pub all_given : (buf word rest text : Bytes) (filled : ℕ) → take filled buf ++ (word ++ rest) ≡ text → word ≡ [] → rest ≡ [] → word ++ rest ≡ drop filled text
-all_given buf word rest text filled whole none end =
-    let same : take filled buf ≡ text = sym (append-nil (take filled buf)) ∙ ap (λ t. take filled buf ++ t) (sym (rw (none, end) refl)) ∙ whole in
-    rw (none, end) (sym (drop_all filled text (omega (arith, ap (λ (t : Bytes). length t) same, length-take {A = ℕ}))))
+-- the token at hand is used up, and the next one comes in its place
+pub next_token : (before old rest token left text : Bytes) → before ++ (old ++ rest) ≡ text → old ≡ [] → rest ≡ token ++ left → before ++ (token ++ left) ≡ text
+next_token before old rest token left text whole none next = ap (λ t. before ++ t) (sym next) ∙ ap (λ t. before ++ (t ++ rest)) (sym none) ∙ whole

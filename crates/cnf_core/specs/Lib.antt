@@ -1,3 +1,4 @@
+pub mod NumberList
 pub mod FormulaText
 pub mod LogText
 pub mod LratScanning
@@ -6,4 +7,3 @@ pub mod Drafts
 pub mod LratParts
 pub mod LratReads
 pub mod LratStanding
-pub mod DimacsRest

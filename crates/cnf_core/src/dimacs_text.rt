@@ -1,59 +1,69 @@
 //! A formula's text in pieces. Source: DIMACS.
-ghost use Rattle.std.specs.Prelude.{◌≡◌, length, take, drop, min};
-ghost use Rattle.proof_semantics.specs.Formula.{dimacs_text};
+ghost use Rattle.std.specs.Prelude.{◌≡◌};
+ghost use Rattle.semantics.specs.Texts.{line_text};
+ghost use Rattle.proof_semantics.specs.Formula.{header_line, dimacs_text};
+ghost use Rattle.cnf_core.specs.FormulaText.{clauses_rest};
 
+use crate::clause::Lits;
 use crate::cnf::Cnf;
-use crate::dimacs_token::DimacsToken;
-use crate::dimacs_tokens::{DimacsTokens, header};
-use std::marker::Model;
+use crate::literal::Literal;
+use crate::number_list::next_of_list;
+use crate::text_token::TextToken;
+use crate::token_text::TokenText;
+use crate::tokens::Tokens;
+use itoa::Buffer;
 
-/// Callers see what is left of the text. It takes no memory but its own, and no token is made twice.
+/// A formula's text: `new` begins it, and `fill` gives what comes next.
+pub type DimacsText<'a> = TokenText<DimacsTokens<'a>>;
+
+/// The tokens behind the header: each literal, and each end of a clause.
 #[derive(Drop)]
-pub struct DimacsText<'a> {
-    /// The token at hand.
-    token: DimacsToken,
-    tokens: DimacsTokens<'a>,
+pub struct DimacsTokens<'a> {
+    /// What is left of the clause at hand.
+    clause: Option<&'a [Literal]>,
+    clauses: &'a [Lits],
 }
 
-impl<'a> Model for DimacsText<'a> {
-    ghost use Rattle.std.specs.Prelude.{List, ℕ, ◌++◌};
+impl Tokens for DimacsTokens<'_> {
+    ghost rest = { λ w. clauses_rest w.clause w.clauses.now };
 
-    ghost Value = { List ℕ };
-
-    ghost use Rattle.cnf_core.specs.DimacsRest.{rest_text};
-
-    ghost view = { λ a. a.token ++ rest_text a.tokens };
+    fn next(&mut self, token: &mut TextToken) -> bool {
+        if next_of_list(&mut self.clause, b"0\n", token) {
+            return true;
+        }
+        let Some((first, rest)) = self.clauses.split_first() else {
+            return false;
+        };
+        self.clause = Some(first.as_slice());
+        self.clauses = rest;
+        next_of_list(&mut self.clause, b"0\n", token)
+    }
 }
 
-impl<'a> DimacsText<'a> {
+/// The header is one token.
+fn header(cnf: &Cnf) -> TextToken
+    ensures { result ≡ line_text (header_line cnf.now) }
+{
+    let mut variables = Buffer::new();
+    let mut clauses = Buffer::new();
+    TextToken::of(&[
+        b"p cnf ",
+        variables.format(cnf.vars()).as_bytes(),
+        b" ",
+        clauses.format(cnf.clauses().len()).as_bytes(),
+        b"\n",
+    ])
+}
+
+impl<'a> TokenText<DimacsTokens<'a>> {
     /// At the start of the formula's text.
     pub fn new(cnf: &'a Cnf) -> DimacsText<'a>
         ensures { result ≡ dimacs_text cnf.now }
     {
-        DimacsText {
-            token: header(cnf),
-            tokens: DimacsTokens {
-                clause: None,
-                clauses: cnf.clauses().as_slice(),
-            },
-        }
-    }
-
-    /// Puts the next bytes of the text at the front of `buf`, as many as fit or are left, and answers how many.
-    pub fn fill(&mut self, buf: &mut [u8]) -> usize
-        ensures count { result ≡ min (length buf.old) (length self.old) }
-        ensures given { take result buf.new ≡ take result self.old }
-        ensures rest { self.new ≡ drop result self.old }
-        ensures kept { drop result buf.new ≡ drop result buf.old }
-    {
-        let mut filled = self.token.give(buf, 0);
-        while filled < buf.len() {
-            let Some(token) = self.tokens.next() else {
-                break;
-            };
-            self.token = token;
-            filled += self.token.give(buf, filled);
-        }
-        filled
+        let tokens = DimacsTokens {
+            clause: None,
+            clauses: cnf.clauses().as_slice(),
+        };
+        TokenText::from_tokens(header(cnf), tokens)
     }
 }

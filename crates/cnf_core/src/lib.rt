@@ -3,8 +3,6 @@
 
 pub mod dimacs;
 pub mod dimacs_text;
-mod dimacs_token;
-mod dimacs_tokens;
 mod draft;
 mod front_digits;
 mod held_word;
@@ -13,8 +11,12 @@ pub mod lrat;
 mod lrat_part;
 pub mod lrat_reader;
 mod lrat_scanner;
-mod numbers;
+pub mod lrat_text;
+mod number_list;
 pub mod of_net;
 mod table_clauses;
+mod text_token;
+mod token_text;
+mod tokens;
 
 pub use proof_parts::{clause, cnf, literal, log};

@@ -1,0 +1,17 @@
+//! A text that is given token by token.
+ghost use Rattle.std.specs.Prelude.{◌≡◌, ◌<◌, [], ◌++◌, length, MatchBool};
+ghost use Rattle.semantics.specs.Texts.{Bytes};
+
+use crate::text_token::TextToken;
+
+/// The tokens of a text that are left.
+pub trait Tokens: Drop {
+    /// What they make, one behind another.
+    ghost rest: { Self → Bytes };
+
+    /// Puts the next token, which has a byte at least, in the place of this one. None is left at the text's end.
+    fn next(&mut self, token: &mut TextToken) -> bool
+        ensures { MatchBool result
+            ((rest self.old ≡ token.new ++ rest self.new) × (0 < length token.new))
+            ((rest self.old ≡ []) × (rest self.new ≡ []) × (token.new ≡ token.old)) };
+}
