@@ -1,5 +1,5 @@
 -- What the joint net and the miter say of the two nets.
-use Rattle.std.proofs.Common.{◌≡◌, ℕ, ◌<◌, ◌≤◌, Bool, false, List, [], ◌∷◌, length, take, get_or, ap, sym, subst, ◌∙◌, arith}
+use Rattle.std.proofs.Common.{◌≡◌, ℕ, ◌<◌, ◌≤◌, Bool, false, List, [], ◌∷◌, length, take, get_or, refl, ap, sym, subst, ◌∙◌, arith}
 use Rattle.std.proofs.lemmas.Bool.{and_parts, le-ltb, ltb-true}
 use Rattle.std.proofs.lemmas.List.{get_or-take, length-take-le}
 use Rattle.semantics.specs.Net.{NetValue, input_count}
@@ -18,7 +18,11 @@ use Rattle.proof_semantics.specs.Merges.{IsMergeLog, BeginsWithMerges}
 use Rattle.proof_semantics.specs.Queries.{IsOver, IsNever}
 use Rattle.proof_semantics.proofs.NetValues.{goal_clauses-value}
 use Rattle.proof_semantics.proofs.Miters.{miter_law}
-use Rattle.cdcl_core.specs.Answers.{IsModel}
+use Rattle.proof_semantics.specs.Conflicts.{IsConflictChain}
+use Rattle.cdcl_core.specs.Answers.{IsModel, IsAnswer}
+use Rattle.cdcl_core.specs.declared.answer.Answer.{Answer}
+use Rattle.cdcl_core.specs.declared.answer.Answer.TheVariants.{Model, Refuted, Spent}
+use Rattle.worst_case.specs.Exceeds.{IsAsked, told}
 
 module _ (metric : Metric) (N M : NetValue) (k : ℕ) (h : AreComparable N M) where
   -- a model of the miter has a bit for each input
@@ -62,6 +66,19 @@ module _ (metric : Metric) (N M : NetValue) (k : ℕ) (h : AreComparable N M) wh
         within = miter_law.refuted N M metric k h log shown;
         merged = λ many. merged;
       }
+
+  -- an answer to the miter behind the merges of the joint net is one to the question about the nets
+  pub asked_of : 8 < input_count N → (limit : ℕ) (J : NetValue) → J ≡ joint_net N M metric k → (f : Formula) → f ≡ miter N M metric k → (merged : List LogItem) → IsMergeLog J merged
+      → (answer : Answer) → IsAnswer f merged limit answer → IsAsked metric N M k limit (told N M k (length merged) answer)
+  asked_of many limit J same f is merged h (Model bits) model = IsOver-from_model many f bits is model
+  asked_of many limit J same f is merged h (Refuted log) found =
+      IsNever-from f is log found.refutes found.derivation (length merged, merges_of J same merged log h found.begins)
+  asked_of many limit J same f is merged h (Spent log) found = record {
+    net = refl;
+    level = refl;
+    merged = merges_of J same merged log h found.begins;
+    chain = subst (λ g. IsConflictChain g (length merged) limit log) is found.chain;
+  }
 
   -- where no error exceeds the level the joint net's output is always 0
   pub joint_never : IsWithin metric N k M → (J : NetValue) → J ≡ joint_net N M metric k → (x : List Bool) → length x ≡ input_count J → outputs_of J x ≡ false ∷ []

@@ -1,11 +1,11 @@
 -- What the vectors in counting order tell, where all of them were tried.
-use Rattle.std.proofs.Common.{◌≡◌, ℕ, ◌^◌, ◌<◌, ◌≤◌, Bool, Option, Some, None, List, [], length, slice_index_or, ap, subst, sym, ◌∙◌, arith}
+use Rattle.std.proofs.Common.{◌≡◌, ℕ, ◌^◌, ◌<◌, ◌≤◌, Bool, Option, List, [], length, slice_index_or, ap, subst, sym, ◌∙◌, arith}
 use Rattle.std.proofs.lemmas.Option.{get_or_from_slice_get}
 use Rattle.semantics.specs.Net.{NetValue, input_count}
 use Rattle.semantics.specs.declared.metric.Metric.{Metric}
 use Rattle.semantics.specs.Error.{number_of, net_error, IsWithin}
 use Rattle.semantics.specs.Vectors.{bits_of, all_vectors}
-use Rattle.semantics.proofs.Vectors.{each_vector, length-bits_of, number_of-bits_of, bits_of-number_of, length-all_vectors, slice_get-all_vectors}
+use Rattle.semantics.proofs.Vectors.{each_vector, number_of-bits_of, bits_of-number_of, length-all_vectors, slice_get-all_vectors}
 use Rattle.proof_semantics.specs.Queries.{IsOver}
 use Rattle.lane_bits.specs.Patterns.{PatternSet}
 use Rattle.lane_nets.specs.Lanes.{ReferenceValue}

@@ -1,12 +1,14 @@
 -- What a query answers whether some input's error exceeds a level.
 use Rattle.std.specs.Prelude.{◌≡◌, ℕ, take}
-use Rattle.semantics.specs.Net.{NetValue}
+use Rattle.semantics.specs.Net.{NetValue, input_count}
 use Rattle.semantics.specs.declared.metric.Metric.{Metric}
 use Rattle.quality_semantics.specs.Joint.{joint_net}
 use Rattle.proof_semantics.specs.Conflicts.{IsConflictChain}
 use Rattle.proof_semantics.specs.Merges.{IsMergeLog}
 use Rattle.proof_semantics.specs.Miter.{miter}
 use Rattle.proof_semantics.specs.Queries.{IsOver, IsNever, SpentValue, IsSpentQuery}
+use Rattle.cdcl_core.specs.declared.answer.Answer.{Answer}
+use Rattle.cdcl_core.specs.declared.answer.Answer.TheVariants as answer
 use Rattle.worst_case.specs.declared.query.Spent as spent
 use Rattle.worst_case.specs.declared.query.Exceed.{Exceed}
 use Rattle.worst_case.specs.declared.query.Exceed.TheVariants.{Over, Never, Spent}
@@ -31,6 +33,12 @@ pub record IsChainOn (metric : Metric) (exact approx : NetValue) (k conflicts : 
   pub level : s.k ≡ k
   pub merged : IsMergeLog (joint_net exact s.net metric s.k) (take s.merged s.log)
   pub chain : IsConflictChain (miter exact s.net metric s.k) s.merged conflicts s.log
+
+-- what an answer of the solver behind so many merged steps says of two nets: the first bits of a model are an input
+abbrev pub told : NetValue → NetValue → ℕ → ℕ → Answer → Exceed
+told exact approx k merged (answer.Model bits) = Over (take (input_count exact) bits)
+told exact approx k merged (answer.Refuted log) = Never log
+told exact approx k merged (answer.Spent log) = Spent (record { net = approx; k = k; merged = merged; log = log })
 
 -- the solver was asked
 abbrev pub IsAsked : Metric → NetValue → NetValue → ℕ → ℕ → Exceed → Type 0

@@ -1,5 +1,5 @@
 -- What the search for the greatest error answers.
-use Rattle.std.specs.Prelude.{◌≡◌, ℕ, ◌<◌, ◌≤◌, ◌-◌, MatchOption, length}
+use Rattle.std.specs.Prelude.{◌≡◌, ℕ, ◌<◌, ◌≤◌, ◌-◌, Option, MatchOption, length}
 use Rattle.semantics.specs.declared.limits.TheConstants.{FEW_INPUTS, LARGEST_ERROR}
 use Rattle.semantics.specs.Net.{NetValue, input_count}
 use Rattle.semantics.specs.declared.metric.Metric.{Metric}
@@ -9,9 +9,8 @@ use Rattle.proof_semantics.specs.Queries.{IsNever, IsMaximum, IsSpentLevel}
 use Rattle.worst_case.specs.Exceeds.{spent_value}
 use Rattle.worst_case.specs.declared.query.Maximum.{Maximum}
 use Rattle.worst_case.specs.declared.query.Maximum.TheVariants.{Found, Spent}
+use Rattle.worst_case.specs.declared.query.Spent as spent
 use Rattle.worst_case.specs.declared.range.Range.{Range}
-use Rattle.worst_case.specs.declared.range.Turn.{Turn}
-use Rattle.worst_case.specs.declared.range.Turn.TheVariants as turn
 
 abbrev pub IsMaximumAnswer : Metric → NetValue → NetValue → ℕ → ℕ → Maximum → Type 0
 IsMaximumAnswer metric exact approx bound limit (Found most witness log) = IsMaximum metric exact approx most witness log
@@ -29,6 +28,7 @@ pub record IsRange (metric : Metric) (exact approx : NetValue) (bound : ℕ) (r 
   pub first : input_count exact ≤ FEW_INPUTS → IsFirstGreatestAt (input_count exact) (net_error metric exact approx) r.low r.witness
 
 -- one query makes the range smaller, or is spent
-abbrev pub IsTurn : Metric → NetValue → NetValue → ℕ → ℕ → Range → Turn → Type 0
-IsTurn metric exact approx bound limit r (turn.Narrowed next) = IsRange metric exact approx bound next × (next.high - next.low < r.high - r.low)
-IsTurn metric exact approx bound limit r (turn.Spent s) = IsSpentLevel metric exact approx bound limit (spent_value s)
+abbrev pub IsTurn : Metric → NetValue → NetValue → ℕ → ℕ → Range → Range → Option spent.Spent → Type 0
+IsTurn metric exact approx bound limit r next found = MatchOption found
+    (IsRange metric exact approx bound next × (next.high - next.low < r.high - r.low))
+    (λ s. IsSpentLevel metric exact approx bound limit (spent_value s))

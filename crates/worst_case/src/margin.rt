@@ -1,6 +1,7 @@
 //! Whether the error stays within a level, where nobody asks for a log.
-ghost use Rattle.std.specs.Prelude.{◌≡◌, ◌<◌, ◌≤◌, IfOk, IfSome};
+ghost use Rattle.std.specs.Prelude.{◌≡◌, ◌<◌, ◌≤◌, ℕ, IfOk, IfSome};
 ghost use Rattle.semantics.specs.Net.{input_count};
+ghost use Rattle.worst_case.specs.Exceeds.{IsSpentOn};
 ghost use Rattle.worst_case.specs.Levels.{IsLevelAnswer, IsSureAnswer};
 ghost use Rattle.worst_case.specs.VectorsTried.{IsHeldFor};
 
@@ -50,6 +51,27 @@ pub(crate) fn by_diagrams(
     }
 }
 
+/// What diagrams answer at last within more steps, or what the solver spent.
+#[tactic(auto, using(crate::proofs::Decided::sure_answer))]
+fn by_last_steps(
+    alloc: Global,
+    nets: &Compared,
+    decider: &mut Decider,
+    metric: Metric,
+    k: u128,
+    spent: Spent,
+) -> Result<Margin, AllocError>
+    requires decider { decider.old ≡ nets.now.exact }
+    ensures same { decider.new ≡ decider.old }
+    ensures answer { IfOk result (λ margin. (limit : ℕ) → IsSpentOn metric nets.now.exact nets.now.approx k limit spent
+        → IsLevelAnswer metric nets.now.exact nets.now.approx k limit margin) }
+{
+    match by_diagrams(alloc, nets, decider, metric, k, LAST_STEPS)? {
+        Some(margin) => Ok(margin),
+        None => Ok(Margin::Spent(spent)),
+    }
+}
+
 /// What the solver answers; where its conflicts are spent, diagrams are asked once more.
 #[tactic(auto, using(crate::proofs::Decided::sure_answer))]
 fn by_solver<P: Progress>(
@@ -70,12 +92,7 @@ fn by_solver<P: Progress>(
     match ask_solver(alloc, nets, metric, k, limit, progress)? {
         Exceed::Over(x) => Ok(Margin::Over(x)),
         Exceed::Never(_) => Ok(Margin::Within),
-        Exceed::Spent(spent) => {
-            match by_diagrams(alloc, nets, decider, metric, k, LAST_STEPS)? {
-                Some(margin) => Ok(margin),
-                None => Ok(Margin::Spent(spent)),
-            }
-        }
+        Exceed::Spent(spent) => by_last_steps(alloc, nets, decider, metric, k, spent),
     }
 }
 

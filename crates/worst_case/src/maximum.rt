@@ -10,7 +10,7 @@ ghost use Rattle.worst_case.specs.Maximum.{IsRange, IsMaximumAnswer};
 
 use crate::policy::decider_for;
 use crate::query::{Exceed, Maximum};
-use crate::range::{Range, Turn, first_range, narrow, try_known};
+use crate::range::{Range, first_range, narrow, try_known};
 use crate::refutation::refute_level;
 use net_core::net::Net;
 use net_errors::compared::Compared;
@@ -71,14 +71,22 @@ pub fn maximum_followed<P: Progress>(
 {
     progress.narrowed(0, bound);
     let nets = Compared::new(exact, approx);
-    let first = first_range(alloc, &nets, metric, bound)?;
+    let mut range = first_range(alloc, &nets, metric, bound)?;
     let mut decider = decider_for(alloc, exact)?;
-    let mut range = try_known(alloc, &nets, &mut decider, metric, first)?;
+    try_known(alloc, &nets, &mut decider, metric, &mut range)?;
     while range.low < range.high {
         progress.narrowed(range.low, range.high);
-        match narrow(alloc, &nets, &mut decider, metric, limit, range, progress)? {
-            Turn::Narrowed(next) => range = next,
-            Turn::Spent(spent) => return Ok(Maximum::Spent(spent)),
+        let spent = narrow(
+            alloc,
+            &nets,
+            &mut decider,
+            metric,
+            limit,
+            &mut range,
+            progress,
+        )?;
+        if let Some(spent) = spent {
+            return Ok(Maximum::Spent(spent));
         }
     }
     settle(alloc, &nets, metric, limit, range, progress)

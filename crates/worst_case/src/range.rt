@@ -1,7 +1,7 @@
 //! The levels between which the greatest error lies, and one query that narrows them.
-ghost use Rattle.std.specs.Prelude.{◌≡◌, ◌≤◌, ◌<◌, ℕ, IfOk};
-ghost use Rattle.semantics.specs.Net.{IsSmall};
-ghost use Rattle.semantics.specs.Error.{IsWithin};
+ghost use Rattle.std.specs.Prelude.{◌≡◌, ◌≤◌, ◌<◌, ℕ, length, IfOk, OnOk};
+ghost use Rattle.semantics.specs.Net.{IsSmall, input_count};
+ghost use Rattle.semantics.specs.Error.{IsWithin, net_error};
 ghost use Rattle.worst_case.specs.Maximum.{IsRange, IsTurn};
 
 use crate::exceeds::exceeds_level;
@@ -27,13 +27,6 @@ pub struct Range {
     pub witness: Bits,
     pub high: u128,
     pub log: Option<Log>,
-}
-
-/// What one query makes of a range.
-#[derive(Drop)]
-pub enum Turn {
-    Narrowed(Range),
-    Spent(Spent),
 }
 
 /// The range to begin with: the greatest error of the vectors that are tried, and the bound.
@@ -63,6 +56,30 @@ pub fn first_range(
     })
 }
 
+/// Raises the lower level to the error of an input.
+fn raise(
+    alloc: Global,
+    nets: &Compared,
+    metric: Metric,
+    range: &mut Range,
+    x: Bits,
+) -> Result<(), AllocError>
+    requires width { length x ≡ input_count nets.now.exact }
+    ensures { OnOk result (range.new ≡ record range.old { low = net_error metric nets.now.exact nets.now.approx x; witness = x }) }
+{
+    range.low = error_at(alloc, nets, metric, x.as_slice())?;
+    range.witness = x;
+    Ok(())
+}
+
+/// Lowers the upper level to one that no error exceeds, which the log shows where it is given.
+fn lower(range: &mut Range, high: u128, log: Option<Log>)
+    ensures { range.new ≡ record range.old { high = high; log = log } }
+{
+    range.high = high;
+    range.log = log;
+}
+
 /// Asks diagrams whether some error exceeds the one that is known: often none does, since many vectors were tried, and then the
 /// levels meet at once.
 pub fn try_known(
@@ -70,33 +87,24 @@ pub fn try_known(
     nets: &Compared,
     decider: &mut Decider,
     metric: Metric,
-    range: Range,
-) -> Result<Range, AllocError>
+    range: &mut Range,
+) -> Result<(), AllocError>
     requires decider { decider.old ≡ nets.now.exact }
     ensures same { decider.new ≡ decider.old }
-    ensures range { IfOk result (λ next. (bound : ℕ) → IsRange metric nets.now.exact nets.now.approx bound range
-        → IsRange metric nets.now.exact nets.now.approx bound next) }
+    ensures range { OnOk result ((bound : ℕ) → IsRange metric nets.now.exact nets.now.approx bound range.old
+        → IsRange metric nets.now.exact nets.now.approx bound range.new) }
 {
     if range.low >= range.high {
-        return Ok(range);
+        return Ok(());
     }
-    match by_diagrams(alloc, nets, decider, metric, range.low, QUESTION_STEPS)? {
-        Some(Margin::Over(x)) => {
-            let error = error_at(alloc, nets, metric, x.as_slice())?;
-            Ok(Range {
-                low: error,
-                witness: x,
-                high: range.high,
-                log: range.log,
-            })
+    let known = range.low;
+    match by_diagrams(alloc, nets, decider, metric, known, QUESTION_STEPS)? {
+        Some(Margin::Over(x)) => raise(alloc, nets, metric, range, x),
+        Some(Margin::Within) => {
+            lower(range, known, None);
+            Ok(())
         }
-        Some(Margin::Within) => Ok(Range {
-            low: range.low,
-            witness: range.witness,
-            high: range.low,
-            log: None,
-        }),
-        _ => Ok(range),
+        _ => Ok(()),
     }
 }
 
@@ -106,69 +114,46 @@ fn narrow_by_solver<P: Progress>(
     nets: &Compared,
     metric: Metric,
     limit: u64,
-    range: Range,
+    range: &mut Range,
     progress: &mut P,
-) -> Result<Turn, AllocError>
+) -> Result<Option<Spent>, AllocError>
     requires limit { 1 ≤ limit }
-    requires open { range.low < range.high }
-    ensures { IfOk result (λ turn. (bound : ℕ) → IsRange metric nets.now.exact nets.now.approx bound range
-        → IsTurn metric nets.now.exact nets.now.approx bound limit range turn) }
+    requires open { range.old.low < range.old.high }
+    ensures { IfOk result (λ spent. (bound : ℕ) → IsRange metric nets.now.exact nets.now.approx bound range.old
+        → IsTurn metric nets.now.exact nets.now.approx bound limit range.old range.new spent) }
 {
     let middle = range.low + (range.high - range.low) / 2;
     match exceeds_level(alloc, nets, metric, middle, limit, progress)? {
-        Exceed::Over(x) => {
-            let error = error_at(alloc, nets, metric, x.as_slice())?;
-            Ok(Turn::Narrowed(Range {
-                low: error,
-                witness: x,
-                high: range.high,
-                log: range.log,
-            }))
-        }
-        Exceed::Never(log) => Ok(Turn::Narrowed(Range {
-            low: range.low,
-            witness: range.witness,
-            high: middle,
-            log: Some(log),
-        })),
-        Exceed::Spent(spent) => Ok(Turn::Spent(spent)),
+        Exceed::Over(x) => raise(alloc, nets, metric, range, x)?,
+        Exceed::Never(log) => lower(range, middle, Some(log)),
+        Exceed::Spent(spent) => return Ok(Some(spent)),
     }
+    Ok(None)
 }
 
-/// Asks whether some error exceeds the middle of the range: the solver where diagrams do not tell.
+/// Asks whether some error exceeds the middle of the range, and narrows it by the answer: the solver where diagrams do not tell. It
+/// answers what was spent.
 pub fn narrow<P: Progress>(
     alloc: Global,
     nets: &Compared,
     decider: &mut Decider,
     metric: Metric,
     limit: u64,
-    range: Range,
+    range: &mut Range,
     progress: &mut P,
-) -> Result<Turn, AllocError>
+) -> Result<Option<Spent>, AllocError>
     requires decider { decider.old ≡ nets.now.exact }
     requires limit { 1 ≤ limit }
-    requires open { range.low < range.high }
+    requires open { range.old.low < range.old.high }
     ensures same { decider.new ≡ decider.old }
-    ensures turn { IfOk result (λ turn. (bound : ℕ) → IsRange metric nets.now.exact nets.now.approx bound range
-        → IsTurn metric nets.now.exact nets.now.approx bound limit range turn) }
+    ensures turn { IfOk result (λ spent. (bound : ℕ) → IsRange metric nets.now.exact nets.now.approx bound range.old
+        → IsTurn metric nets.now.exact nets.now.approx bound limit range.old range.new spent) }
 {
     let middle = range.low + (range.high - range.low) / 2;
     match by_diagrams(alloc, nets, decider, metric, middle, QUESTION_STEPS)? {
-        Some(Margin::Over(x)) => {
-            let error = error_at(alloc, nets, metric, x.as_slice())?;
-            Ok(Turn::Narrowed(Range {
-                low: error,
-                witness: x,
-                high: range.high,
-                log: range.log,
-            }))
-        }
-        Some(Margin::Within) => Ok(Turn::Narrowed(Range {
-            low: range.low,
-            witness: range.witness,
-            high: middle,
-            log: None,
-        })),
-        _ => narrow_by_solver(alloc, nets, metric, limit, range, progress),
+        Some(Margin::Over(x)) => raise(alloc, nets, metric, range, x)?,
+        Some(Margin::Within) => lower(range, middle, None),
+        _ => return narrow_by_solver(alloc, nets, metric, limit, range, progress),
     }
+    Ok(None)
 }

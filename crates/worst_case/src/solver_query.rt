@@ -1,18 +1,22 @@
 //! Whether some error exceeds a level, asked of the solver, which is first told which tables of the joint net are alike.
-ghost use Rattle.std.specs.Prelude.{◌≡◌, ◌<◌, ◌≤◌, ◌^◌, length, take, IfOk};
+ghost use Rattle.std.specs.Prelude.{◌≡◌, ◌<◌, ◌≤◌, ◌^◌, List, Bool, length, take, IfOk};
 ghost use Rattle.semantics.specs.Net.{input_count};
-ghost use Rattle.worst_case.specs.Exceeds.{IsAsked};
+ghost use Rattle.proof_semantics.specs.Logs.{IsDerivation};
+ghost use Rattle.cdcl_core.specs.Answers.{IsAnswer};
+ghost use Rattle.cdcl_core.specs.declared.answer.Answer.TheVariants.{Model};
+ghost use Rattle.worst_case.specs.Exceeds.{IsAsked, told};
 
 use crate::comparable::see_comparable;
 use crate::query::{Exceed, Spent};
 use cdcl_core::answer::Answer;
 use cdcl_core::solve::solve_guided;
 use merge_log::merges::merges;
-use miter::level::joint_miter;
+use miter::level::{Miter, joint_miter};
 use net_core::items::Bits;
 use net_core::net::Net;
 use net_errors::compared::Compared;
 use progress::progress::Progress;
+use proof_parts::log::Log;
 use semantics::metric::Metric;
 use std::alloc::{AllocError, Global};
 use sweep_guide::guide::guide_of;
@@ -23,6 +27,46 @@ fn input_bits(alloc: Global, net: &Net, values: &Bits) -> Result<Bits, AllocErro
     ensures { IfOk result (λ x. x ≡ take (input_count net.now) values.now) }
 {
     Bits::from_slice(alloc, &values.as_slice()[..net.inputs() as usize])
+}
+
+/// What the solver answers to a miter, behind the merges of its joint net. What it does is told on.
+fn solver_answer<P: Progress>(
+    alloc: Global,
+    joint: &Miter,
+    merged: &Log,
+    limit: u64,
+    progress: &mut P,
+) -> Result<Answer, AllocError>
+    requires limit { 1 ≤ limit }
+    requires merged { IsDerivation joint.now.formula merged.now }
+    ensures { IfOk result (IsAnswer joint.now.formula merged.now limit) }
+{
+    let guide = guide_of(alloc, &joint.net, true)?;
+    progress.asked();
+    solve_guided(alloc, &joint.formula, merged, &guide, limit, progress)
+}
+
+/// What an answer of the solver, behind so many merged steps, says of the two nets.
+fn told_of_nets(
+    alloc: Global,
+    nets: &Compared,
+    k: u128,
+    merged: u64,
+    answer: Answer,
+) -> Result<Exceed, AllocError>
+    requires { (bits : List Bool) → answer ≡ Model bits → input_count nets.now.exact ≤ length bits }
+    ensures { IfOk result (λ exceed. exceed ≡ told nets.now.exact nets.now.approx k merged answer) }
+{
+    match answer {
+        Answer::Model(values) => Ok(Exceed::Over(input_bits(alloc, nets.exact(), &values)?)),
+        Answer::Refuted(log) => Ok(Exceed::Never(log)),
+        Answer::Spent(log) => Ok(Exceed::Spent(Spent {
+            net: nets.approx().copy()?,
+            k,
+            merged,
+            log,
+        })),
+    }
 }
 
 /// An input whose error exceeds `k`, a log that refutes that there is one, or a log of `limit` conflicts behind the merges. What the
@@ -43,16 +87,6 @@ pub(crate) fn ask_solver<P: Progress>(
     let joint = joint_miter(alloc, nets, metric, k)?;
     let merged = merges(alloc, &joint.net, &joint.formula)?;
     let count = merged.as_slice().len() as u64;
-    let guide = guide_of(alloc, &joint.net, true)?;
-    progress.asked();
-    match solve_guided(alloc, &joint.formula, &merged, &guide, limit, progress)? {
-        Answer::Model(values) => Ok(Exceed::Over(input_bits(alloc, nets.exact(), &values)?)),
-        Answer::Refuted(log) => Ok(Exceed::Never(log)),
-        Answer::Spent(log) => Ok(Exceed::Spent(Spent {
-            net: nets.approx().copy()?,
-            k,
-            merged: count,
-            log,
-        })),
-    }
+    let answer = solver_answer(alloc, &joint, &merged, limit, progress)?;
+    told_of_nets(alloc, nets, k, count, answer)
 }

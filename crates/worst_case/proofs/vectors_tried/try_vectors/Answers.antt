@@ -1,5 +1,4 @@
 use Rattle.std.proofs.Common.{◌∙◌, [], ap, slice_index_or}
-use Rattle.semantics.specs.Net.{input_count}
 use Rattle.lane_bits.specs.Patterns.{PatternSet}
 use Rattle.worst_case.proofs.Tried.{IsFirstExceeded-at, IsWithin-all, found_held}
 use Rattle.worst_case.proofs.vectors_tried.try_vectors.Goals as goal
