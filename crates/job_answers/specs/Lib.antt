@@ -1,3 +1,4 @@
 pub mod Exit
 pub mod Refused
 pub mod Ends
+pub mod Line

@@ -59,6 +59,11 @@ impl Status {
 
 /// The line on standard error, without the program's name.
 impl fmt::Display for Status {
+    ghost use Rattle.std.specs.Prelude.{Some};
+    ghost use Rattle.job_answers.specs.Line.{status_text};
+
+    ghost output = { λ s. Some (status_text s) };
+
     fn fmt<W: fmt::Write>(&self, f: &mut fmt::Formatter<W>) -> fmt::Result {
         match self {
             Status::Done => f.write_str("done"),
