@@ -1,5 +1,6 @@
 //! The log that no error exceeds a level, where that is known. With at most eight inputs it goes by cases; with more the solver is asked.
-//! Where the conflicts are enough for the inputs it gets few of them, and then the log goes by cases after all.
+//! Where the conflicts are enough for the inputs it gets few of them, and then the log goes by cases after all: two steps for each vector,
+//! of many hints, so with more inputs more conflicts are worth a try.
 ghost use Rattle.std.specs.Prelude.{◌↔◌, ◌≤◌, IfOk, IsTrue};
 ghost use Rattle.semantics.specs.Net.{input_count};
 ghost use Rattle.semantics.specs.Error.{IsWithin};
@@ -19,8 +20,16 @@ use semantics::limits::{FEW_INPUTS, TRIED_INPUTS};
 use semantics::metric::Metric;
 use std::alloc::{AllocError, Global};
 
-/// The most conflicts of the solver where the log can go by cases instead.
+/// The conflicts that the solver may have besides half as many as there are vectors, where the log can go by cases instead.
 const FEW_CONFLICTS: u64 = 3000;
+
+/// The most conflicts of the solver where the log can go by cases instead.
+fn few_conflicts(inputs: u32) -> u64
+    requires { inputs ≤ TRIED_INPUTS }
+    ensures { 1 ≤ result }
+{
+    FEW_CONFLICTS + 2u64.pow(inputs) / 2
+}
 
 /// Whether so many conflicts are enough for so many inputs.
 fn is_enough(limit: u64, inputs: u32) -> bool
@@ -63,7 +72,7 @@ pub(crate) fn refute_level<P: Progress>(
         return ask_solver(alloc, nets, metric, k, limit, progress);
     }
     if inputs > FEW_INPUTS {
-        let few = limit.min(FEW_CONFLICTS);
+        let few = limit.min(few_conflicts(inputs));
         if let Exceed::Never(log) = ask_solver(alloc, nets, metric, k, few, progress)? {
             return Ok(Exceed::Never(log));
         }
