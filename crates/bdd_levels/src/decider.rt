@@ -106,21 +106,29 @@ impl<'a> Decider<'a> {
         }
     }
 
+    /// With these diagrams, which are begun anew with more room.
+    fn with(alloc: Global, exact: &'a Net, mut drawn: Drawn<'a>) -> Result<Decider<'a>, AllocError>
+        requires { drawn ≡ exact.now }
+        ensures { IfOk result (λ d. d ≡ exact.now) }
+    {
+        let first = drawn.nodes();
+        begin_anew(alloc, &mut drawn, first)?;
+        Ok(Decider {
+            exact,
+            drawn: Some(drawn),
+            first,
+            level: None,
+            open_questions: 0,
+        })
+    }
+
     /// Looks for an order of the net's inputs in which its diagrams are few.
     pub fn new(alloc: Global, exact: &'a Net) -> Result<Decider<'a>, AllocError>
         ensures { IfOk result (λ d. d ≡ exact.now) }
     {
         for nodes in TRIAL_NODES.iter() {
-            if let Some(mut drawn) = best_order(alloc, exact, *nodes)? {
-                let first = drawn.nodes();
-                begin_anew(alloc, &mut drawn, first)?;
-                return Ok(Decider {
-                    exact,
-                    drawn: Some(drawn),
-                    first,
-                    level: None,
-                    open_questions: 0,
-                });
+            if let Some(drawn) = best_order(alloc, exact, *nodes)? {
+                return Decider::with(alloc, exact, drawn);
             }
         }
         Ok(Decider::none(exact))
@@ -140,6 +148,16 @@ impl<'a> Decider<'a> {
             }
         }
         Level::new(alloc, self.exact, metric, k)
+    }
+
+    /// Counts the questions that were left open, one after another.
+    fn count_open(&mut self, decision: &Decision)
+        ensures { self.new ≡ self.old }
+    {
+        self.open_questions = match decision {
+            Decision::Unknown => self.open_questions.saturating_add(1),
+            _ => 0,
+        };
     }
 
     /// Whether the error of an approximate net exceeds `k`, within so many steps. After some questions that were left open, one after
@@ -163,10 +181,7 @@ impl<'a> Decider<'a> {
         let level = self.take_level(alloc, metric, k)?;
         let decision = self.decide_level(alloc, approx, &level, steps)?;
         self.level = Some(level);
-        self.open_questions = match decision {
-            Decision::Unknown => self.open_questions.saturating_add(1),
-            _ => 0,
-        };
+        self.count_open(&decision);
         Ok(decision)
     }
 

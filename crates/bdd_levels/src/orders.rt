@@ -115,31 +115,75 @@ fn is_new(seen: &mut [bool], signal: Signal) -> bool {
     true
 }
 
-/// The inputs in the order in which a walk from these outputs meets them; the last one is gone from first.
-fn walk(
+/// What a walk makes of a signal that it sees for the first time: an input is met, and the pins of a table are put on the stack.
+fn visit(
     alloc: Global,
     net: &Net,
-    outputs: Vec<Signal>,
+    depths: &[u32],
     by_depth: bool,
+    signal: Signal,
+    left: &mut Vec<Signal>,
+    met: &mut Vec<Signal>,
+) -> Result<(), AllocError> {
+    if signal < net.inputs() {
+        met.push(signal)?;
+    } else if signal - net.inputs() < net.tables() {
+        let pins = net.table(signal - net.inputs()).pins();
+        push_pins(alloc, left, depths, pins.as_slice(), by_depth)?;
+    }
+    Ok(())
+}
+
+/// The inputs that a walk from the signals on a stack meets, one after another.
+fn met_inputs(
+    alloc: Global,
+    net: &Net,
+    depths: &[u32],
+    by_depth: bool,
+    left: &mut Vec<Signal>,
+    seen: &mut [bool],
 ) -> Result<Vec<Signal>, AllocError> {
-    let depths = depths(alloc, net)?;
-    let mut seen = vec![in alloc; false; net.signals() as usize]?;
-    let mut left = outputs;
     let mut met = Vec::new(alloc);
     for _ in 0..u64::MAX {
         let Some(signal) = left.pop() else {
             break;
         };
-        if !is_new(&mut seen, signal) {
-            continue;
-        }
-        if signal < net.inputs() {
-            met.push(signal)?;
-        } else if signal - net.inputs() < net.tables() {
-            let pins = net.table(signal - net.inputs()).pins();
-            push_pins(alloc, &mut left, &depths, pins.as_slice(), by_depth)?;
+        if is_new(seen, signal) {
+            visit(alloc, net, depths, by_depth, signal, left, &mut met)?;
         }
     }
+    Ok(met)
+}
+
+/// The inputs in the order in which a walk from these outputs meets them; the last one is gone from first.
+fn walk(
+    alloc: Global,
+    net: &Net,
+    mut outputs: Vec<Signal>,
+    by_depth: bool,
+) -> Result<Vec<Signal>, AllocError> {
+    let depths = depths(alloc, net)?;
+    let mut seen = vec![in alloc; false; net.signals() as usize]?;
+    met_inputs(alloc, net, &depths, by_depth, &mut outputs, &mut seen)
+}
+
+/// The inputs as a walk from the last output meets them.
+fn from_last(alloc: Global, net: &Net, by_depth: bool) -> Result<Vec<Signal>, AllocError> {
+    let outputs = net.output_signals().to_vec(alloc)?;
+    walk(alloc, net, outputs, by_depth)
+}
+
+/// The inputs as a walk from the first output meets them.
+fn from_first(alloc: Global, net: &Net) -> Result<Vec<Signal>, AllocError> {
+    let mut outputs = net.output_signals().to_vec(alloc)?;
+    outputs.reverse();
+    walk(alloc, net, outputs, false)
+}
+
+/// The same, turned round.
+fn from_first_turned(alloc: Global, net: &Net) -> Result<Vec<Signal>, AllocError> {
+    let mut met = from_first(alloc, net)?;
+    met.reverse();
     Ok(met)
 }
 
@@ -160,8 +204,8 @@ fn name_number(name: &[u8]) -> u32 {
     number
 }
 
-/// The inputs by the numbers at the ends of their names.
-fn by_names(alloc: Global, net: &Net, highest_first: bool) -> Result<Vec<Signal>, AllocError> {
+/// The number at the end of each input's name, or what is left of the greatest number above it.
+fn name_keys(alloc: Global, net: &Net, highest_first: bool) -> Result<Vec<u32>, AllocError> {
     let mut keys = Vec::new(alloc);
     for name in net.input_names() {
         let number = name_number(name.bytes());
@@ -171,11 +215,23 @@ fn by_names(alloc: Global, net: &Net, highest_first: bool) -> Result<Vec<Signal>
             number
         })?;
     }
-    let mut met = Vec::new(alloc);
-    for both in sorted(alloc, &keys)?.iter() {
-        met.push((*both & 0xffff_ffff) as u32)?;
+    Ok(keys)
+}
+
+/// The place in each of these pairs of a key and a place.
+fn places(alloc: Global, pairs: &[u64]) -> Result<Vec<Signal>, AllocError> {
+    let mut places = Vec::new(alloc);
+    for pair in pairs {
+        places.push((*pair & 0xffff_ffff) as u32)?;
     }
-    Ok(met)
+    Ok(places)
+}
+
+/// The inputs by the numbers at the ends of their names.
+fn by_names(alloc: Global, net: &Net, highest_first: bool) -> Result<Vec<Signal>, AllocError> {
+    let keys = name_keys(alloc, net, highest_first)?;
+    let pairs = sorted(alloc, &keys)?;
+    places(alloc, &pairs)
 }
 
 /// The rank of each input, where some were met in this order; the others come behind them.
@@ -198,28 +254,24 @@ fn ranks(alloc: Global, inputs: u32, met: &[Signal]) -> Result<Vec<u32>, AllocEr
     Ok(ranks)
 }
 
+/// Inputs one after another, the first of which is split on first; some may be missing.
+fn in_order(alloc: Global, net: &Net, heuristic: Heuristic) -> Result<Vec<Signal>, AllocError> {
+    match heuristic {
+        Heuristic::LastShallowFirst => from_last(alloc, net, true),
+        Heuristic::HighestBitFirst => by_names(alloc, net, true),
+        Heuristic::LastOutputFirst => from_last(alloc, net, false),
+        Heuristic::FirstOutputLast => from_first_turned(alloc, net),
+        Heuristic::FirstOutputFirst => from_first(alloc, net),
+        Heuristic::LowestBitFirst => by_names(alloc, net, false),
+    }
+}
+
 /// The variable of each input, the least of which is split on first.
 pub(crate) fn input_variables(
     alloc: Global,
     net: &Net,
     heuristic: Heuristic,
 ) -> Result<Vec<u32>, AllocError> {
-    let mut outputs = net.output_signals().to_vec(alloc)?;
-    let met = match heuristic {
-        Heuristic::LastShallowFirst => walk(alloc, net, outputs, true)?,
-        Heuristic::HighestBitFirst => by_names(alloc, net, true)?,
-        Heuristic::LastOutputFirst => walk(alloc, net, outputs, false)?,
-        Heuristic::FirstOutputLast => {
-            outputs.reverse();
-            let mut met = walk(alloc, net, outputs, false)?;
-            met.reverse();
-            met
-        }
-        Heuristic::FirstOutputFirst => {
-            outputs.reverse();
-            walk(alloc, net, outputs, false)?
-        }
-        Heuristic::LowestBitFirst => by_names(alloc, net, false)?,
-    };
+    let met = in_order(alloc, net, heuristic)?;
     ranks(alloc, net.inputs(), &met)
 }
