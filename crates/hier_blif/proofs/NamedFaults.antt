@@ -10,9 +10,9 @@ use Rattle.blif_semantics.specs.Reading.{doubled, no_output, undriven}
 use Rattle.hierarchy_semantics.specs.Models.{Binding, Part, names_part, subckt_part, Subcircuit, BlifModel, Hierarchy, no_model, main_of, model_named, part_uses, uses_of, all_uses}
 use Rattle.hierarchy_semantics.specs.Driven.{bound_outputs, bound_inputs, names_driven, part_reads, names_read}
 use Rattle.hierarchy_semantics.specs.Refusals.{HierRefusal, same_model, no_model_named, recursive, ports, formal, unbound, part, taken, first_found, model_names, first_unknown, first_recursive, is_model_grounded, doubled_port, wrong_formal, formals_of, formal_refusal, unbound_refusal, model_refusal, part_refusal, is_taken, hier_refusal}
-use Rattle.hier_blif.specs.Named.{IsNamedBinding, IsNamedPart, IsNamedModel, AreNamed, PartTellsName, TellsNames}
-use Rattle.hier_blif.specs.Whole.{part_names}
-use Rattle.hier_blif.proofs.Tested.{driven-same}
+use Rattle.hier_faults.specs.Named.{IsNamedBinding, IsNamedPart, IsNamedModel, AreNamed, PartTellsName, TellsNames}
+use Rattle.hier_parts.specs.Driven.{part_names}
+use Rattle.hier_parts.proofs.DrivenNames.{driven-same}
 
 -- ---- what is found among members that have a property
 

@@ -19,8 +19,8 @@ use Rattle.blif_semantics.proofs.ReadNet.{names_line-parts}
 use Rattle.hierarchy_semantics.specs.Models.{names_part, subckt_part, is_subckt, binding_of, subcircuit_of, part_first, parts_of, is_port, model_from, Sections, sections_of, hierarchy_of}
 use Rattle.hierarchy_semantics.specs.ModelLines.{place_of, is_binding, is_use, wrong_at, first_wrong}
 use Rattle.hierarchy_semantics.proofs.PlainLines.{RightAfter, right_after, subckt_kind}
-use Rattle.hier_blif.specs.Named.{IsNamedBinding, IsNamedPart, IsNamedModel, AreNamed}
-use Rattle.hier_blif.specs.Sections.{words_in}
+use Rattle.hier_faults.specs.Named.{IsNamedBinding, IsNamedPart, IsNamedModel, AreNamed}
+use Rattle.hier_parts.specs.Sections.{words_in}
 
 -- ---- a line
 

@@ -1,13 +1,3 @@
 pub mod Refusals
-pub mod Hierarchies
 pub mod Judging
-pub mod Sections
-pub mod Sets
 pub mod Tested
-pub mod Faults
-pub mod Whole
-pub mod Tests
-pub mod Flattening
-pub mod Weights
-pub mod Named
-pub mod Users

@@ -3,14 +3,14 @@ ghost use Rattle.std.specs.Prelude.{◌≡◌, Ok, IfOk, IfErr};
 ghost use Rattle.semantics.specs.Net.{IsSound, IsSmall};
 ghost use Rattle.hierarchy_semantics.specs.Models.{hierarchy_of};
 ghost use Rattle.hierarchy_semantics.specs.Flat.{flattened};
-ghost use Rattle.hier_blif.specs.Hierarchies.{IsReading};
+ghost use Rattle.hier_flat.specs.Hierarchies.{IsReading};
 ghost use Rattle.hier_blif.specs.Refusals.{Tells};
 
-use crate::flat_net::flatten_models;
-use crate::models::hierarchy_of;
-use crate::refusal::HierRefusal;
-use crate::statements::statements;
+use crate::refusal::{HierRefusal, flat_refusal};
 use blif_text::line_list::LineList;
+use hier_flat::flat_net::flatten_models;
+use hier_parts::models::hierarchy_of;
+use hier_parts::statements::statements;
 use net_core::net::Net;
 use std::alloc::Global;
 use std::marker::Model;
@@ -23,7 +23,7 @@ pub struct Hier {
 
 impl Model for Hier {
     ghost use Rattle.hierarchy_semantics.specs.Models.{Hierarchy, hierarchy_of};
-    ghost use Rattle.hier_blif.specs.Hierarchies.{IsReading};
+    ghost use Rattle.hier_flat.specs.Hierarchies.{IsReading};
 
     ghost Value = { Hierarchy };
 
@@ -51,6 +51,9 @@ impl Hier {
     {
         let statements = statements(alloc, self.lines.as_slice())?;
         let models = hierarchy_of(alloc, &statements)?;
-        flatten_models(alloc, &models)
+        match flatten_models(alloc, &models) {
+            Ok(net) => Ok(net),
+            Err(told) => Err(flat_refusal(told)),
+        }
     }
 }

@@ -9,10 +9,10 @@ ghost use Rattle.hier_blif.specs.Refusals.{TellsOne};
 ghost use Rattle.hier_blif.specs.Judging.{place_for, first_wrong_in};
 
 use crate::refusal::{HierRefusal, line_refusal};
-use crate::statements::{Statement, is_subckt, is_use};
 use blif_semantics::kind::Kind;
 use blif_text::judging::{OpenTable, Place, Wrong, refusal, table_by, unless};
 use blif_text::statements::{are_printable, arguments, kind_of};
+use hier_parts::statements::{Statement, is_subckt, is_use};
 use std::alloc::Global;
 
 /// What is wrong with a line, where the line before it was `.end` or was not, and a table may get rows.

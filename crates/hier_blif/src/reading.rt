@@ -6,12 +6,12 @@ ghost use Rattle.hier_blif.specs.Tested.{lines_refusal};
 
 use crate::hier::Hier;
 use crate::judging::judge;
-use crate::models::hierarchy_of;
 use crate::refusal::HierRefusal;
 use crate::refusing::refuse;
-use crate::statements::statements;
 use blif_text::line_list::{LogLine, split_lines};
 use blif_text::refusal::BlifRefusal;
+use hier_parts::models::hierarchy_of;
+use hier_parts::statements::statements;
 use std::alloc::Global;
 
 /// Whether no line is wrong and the models are a hierarchy, or else the first refusal.

@@ -1,9 +1,12 @@
 //! Why a text of several models gives no flat net. Source: BLIF; what is refused, and in which order, is this tool's own.
-ghost use Rattle.std.specs.Prelude.{◌≡◌, Some, Err};
+ghost use Rattle.std.specs.Prelude.{◌≡◌, Some, Result, Err};
+ghost use Rattle.semantics.specs.Net.{NetValue};
 ghost use Rattle.blif_semantics.specs.Reading as r;
 ghost use Rattle.blif_text.specs.Refusals as b;
+ghost use Rattle.hierarchy_semantics.specs.Refusals as h;
 ghost use Rattle.hierarchy_semantics.specs.Refusals.{line};
-ghost use Rattle.hier_blif.specs.Refusals.{TellsOne, number_of};
+ghost use Rattle.hier_flat.specs.Refusals as flat;
+ghost use Rattle.hier_blif.specs.Refusals.{Tells, TellsOne, number_of};
 ghost use Rattle.hier_blif.specs.declared.refusal.HierRefusal.TheVariants.{OutOfMemory as NoMemory};
 
 use blif_text::refusal::BlifRefusal;
@@ -84,5 +87,15 @@ pub(crate) fn line_refusal(refusal: BlifRefusal) -> HierRefusal
     match refusal {
         BlifRefusal::OutOfMemory => HierRefusal::OutOfMemory,
         refusal => HierRefusal::Line(refusal),
+    }
+}
+
+/// The refusal of a flat net.
+pub(crate) fn flat_refusal(refusal: BlifRefusal) -> HierRefusal
+    ensures { (answer : Result NetValue h.HierRefusal) → flat.Tells refusal answer → Tells result answer }
+{
+    match refusal {
+        BlifRefusal::OutOfMemory => HierRefusal::OutOfMemory,
+        refusal => HierRefusal::Flat(refusal),
     }
 }

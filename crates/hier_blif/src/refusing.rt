@@ -5,15 +5,15 @@ ghost use Rattle.semantics.specs.Net.{IsName};
 ghost use Rattle.blif_semantics.specs.Reading.{doubled, undriven};
 ghost use Rattle.blif_text.specs.Refusals as b;
 ghost use Rattle.hierarchy_semantics.specs.Refusals.{ports, part, hier_refusal};
-ghost use Rattle.hier_blif.specs.Faults.{fault_value};
-ghost use Rattle.hier_blif.specs.Named.{AreNamed, TellsNames};
+ghost use Rattle.hier_faults.specs.Faults.{fault_value};
+ghost use Rattle.hier_faults.specs.Named.{AreNamed, TellsNames};
 ghost use Rattle.hier_blif.specs.Refusals.{TellsOne, refusal_of};
 
-use crate::faults::Fault;
-use crate::faulty::first_fault;
-use crate::models::BlifModel;
 use crate::refusal::HierRefusal;
 use blif_text::refusal::BlifRefusal;
+use hier_faults::faults::Fault;
+use hier_faults::faulty::first_fault;
+use hier_parts::models::BlifModel;
 use net_parts::name::Name;
 use std::alloc::{AllocError, Global};
 

@@ -8,7 +8,7 @@ use Rattle.hier_blif.specs.Refusals.{TellsOne}
 use Rattle.hier_blif.specs.Judging.{first_wrong_in}
 use Rattle.hier_blif.specs.Tested.{lines_refusal}
 use Rattle.hier_blif.proofs.Read.{passed_on, tells-first, tells-rest, none-both, if_err_weaker}
-use Rattle.hier_blif.specs.Named.{AreNamed}
+use Rattle.hier_faults.specs.Named.{AreNamed}
 use Rattle.hier_blif.proofs.NamedLines.{read-named}
 use Rattle.hier_blif.proofs.Judged.{first_wrong-in, judged_told}
 use Rattle.hier_blif.proofs.reading.test_lines.Goals as goal

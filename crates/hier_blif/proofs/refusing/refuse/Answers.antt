@@ -1,5 +1,5 @@
 use Rattle.std.proofs.Common.{option_map, sym, ap, ◌∙◌}
-use Rattle.hier_blif.specs.Faults.{fault_value}
+use Rattle.hier_faults.specs.Faults.{fault_value}
 use Rattle.hier_blif.proofs.NamedFaults.{told_named}
 use Rattle.hier_blif.proofs.refusing.refuse.Goals as goal
 

@@ -1,6 +1,0 @@
-use Rattle.std.proofs.Common.{◌≡◌, map, take}
-use Rattle.text_words.specs.Slices.{texts}
-use Rattle.hier_blif.proofs.faults.model_names.Given as goal
-
-abbrev pub invariant-loop-model : goal.invariant-loop-model
-invariant-loop-model l = texts l.names.items ≡ map (λ m. m.name) (take l.model-index l.models)

@@ -1,7 +1,0 @@
-use Rattle.std.proofs.Common.{◌≡◌, drop}
-use Rattle.hierarchy_semantics.specs.Refusals.{first_found, unbound_refusal}
-use Rattle.hier_blif.specs.Faults.{uses_value}
-use Rattle.hier_blif.proofs.faults.unbound_inputs.Given as goal
-
-abbrev pub invariant-loop-c : goal.invariant-loop-c
-invariant-loop-c l = first_found (unbound_refusal l.models) (uses_value (drop l.c-index l.uses)) ≡ first_found (unbound_refusal l.models) (uses_value l.uses)

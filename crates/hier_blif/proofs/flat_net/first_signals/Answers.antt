@@ -1,5 +1,0 @@
-use Rattle.hier_blif.proofs.Framing.{range_pushed}
-use Rattle.hier_blif.proofs.flat_net.first_signals.Goals as goal
-
-pub loop-signal-preserved : goal.loop-signal-preserved
-loop-signal-preserved c = range_pushed c.loop-signal.signals.items c.push.new.self.items c.loop-signal.signal _ _ c.loop-signal-test.true c.in_ok-push.ensures.items c.loop-signal.invariant

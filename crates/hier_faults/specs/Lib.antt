@@ -1,0 +1,5 @@
+pub mod Faults
+pub mod Whole
+pub mod Tests
+pub mod Named
+pub mod Users

@@ -1,0 +1,11 @@
+mod FlatSizes
+mod FlatPlaces
+mod FlatFrames
+mod FlatMade
+mod Weighed
+mod Framing
+mod FlatSteps
+mod Limited
+mod Readings
+mod Checked
+mod NetMade

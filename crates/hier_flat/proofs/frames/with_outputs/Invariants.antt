@@ -1,0 +1,7 @@
+use Rattle.std.proofs.Common.{◌≡◌, ◌++◌, ◌-◌, ◌+◌, length, filter}
+use Rattle.std.specs.List.{range_with_len}
+use Rattle.hier_flat.proofs.frames.with_outputs.Given as goal
+
+abbrev pub invariant-loop-signal : goal.invariant-loop-signal
+invariant-loop-signal l =
+    l.signals.items ++ range_with_len l.signal (l.signal-end - l.signal) ≡ l.initial.signals.items ++ range_with_len l.next (l.signal-end - l.next)

@@ -1,0 +1,13 @@
+use Rattle.std.proofs.Common.{◌≡◌, ℕ, ◌+◌, map, drop, sum_by}
+use Rattle.hierarchy_semantics.specs.Models.{BlifModel}
+use Rattle.hierarchy_semantics.specs.Counts.{part_weight}
+use Rattle.hier_parts.specs.Sections.{part_value}
+use Rattle.hier_flat.specs.Weights.{weight_of, capped, AreWeights}
+use Rattle.hier_flat.proofs.weights.model_weight.Given as goal
+
+abbrev pub invariant-loop-part : goal.invariant-loop-part
+invariant-loop-part l =
+    (l.total ≡ capped l.total)
+    × ((weight : BlifModel → ℕ) → AreWeights l.models l.inside weight
+    → capped (l.total + sum_by (part_weight l.models (weight_of l.measure) weight) (map part_value (drop l.part-index l.part-items)))
+    ≡ capped (sum_by (part_weight l.models (weight_of l.measure) weight) (map part_value l.part-items)))

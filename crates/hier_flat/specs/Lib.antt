@@ -1,0 +1,4 @@
+pub mod Hierarchies
+pub mod Refusals
+pub mod Flattening
+pub mod Weights

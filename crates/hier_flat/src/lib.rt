@@ -1,0 +1,8 @@
+//! The flat net of models that are a hierarchy.
+#![tactic(auto)]
+
+mod counting;
+pub mod flat_net;
+mod flat_tables;
+mod frames;
+mod weights;

@@ -1,0 +1,151 @@
+//! How much the flat tables of models are, counted over their statements: no flat table is made.
+ghost use Rattle.std.specs.Prelude.{◌≡◌, ℕ, ◌*◌, true, IfOk, length, map, filter, sum_by};
+ghost use Rattle.semantics.specs.Refusals.{has_name};
+ghost use Rattle.hierarchy_semantics.specs.Models.{BlifModel};
+ghost use Rattle.hierarchy_semantics.specs.Counts.{part_weight};
+ghost use Rattle.hier_parts.specs.Sections.{part_value};
+ghost use Rattle.hier_flat.specs.Weights.{weight_of, capped, weight_named, AreWeights, level_weights};
+
+use hier_parts::interfaces::{Interface, Interfaces};
+use hier_parts::models::{BlifModel, Part, Subcircuit};
+use blif_text::named_table::NamedTable;
+use semantics::limits::MOST_TABLE_PINS;
+use std::alloc::{AllocError, Global};
+
+/// What is counted of flat tables.
+#[derive(Clone, Copy, Drop)]
+pub enum Measure {
+    Tables,
+    /// Those of more pins than one table may have.
+    WideTables,
+    Pins,
+    Rows,
+}
+
+fn pin_count(table: &NamedTable) -> usize
+    ensures { result ≡ length table.now.pins }
+{
+    table.pins().len()
+}
+
+/// What a table counts.
+fn table_weight(measure: Measure, table: &NamedTable) -> u64
+    ensures { result ≡ (weight_of measure).of_table table.now }
+{
+    match measure {
+        Measure::Tables => 1,
+        Measure::WideTables => {
+            if pin_count(table) <= MOST_TABLE_PINS {
+                0
+            } else {
+                1
+            }
+        }
+        Measure::Pins => pin_count(table) as u64,
+        Measure::Rows => table.rows().len() as u64,
+    }
+}
+
+/// What so many buffers count.
+fn buffers_weight(measure: Measure, count: u64) -> u64
+    ensures { result ≡ count * (weight_of measure).of_buffer }
+{
+    match measure {
+        Measure::WideTables => 0,
+        _ => count,
+    }
+}
+
+/// How many names are bound to outputs of the model.
+pub fn output_count(model: &Interface, c: &Subcircuit) -> usize
+    ensures { result ≡ length (filter (λ b. has_name model.now.outputs b.formal) c.now.bindings) }
+{
+    c.bindings
+        .iter()
+        .filter(|b| model.has_output(b.formal))
+        .count()
+}
+
+/// The weight of the model of a name.
+pub fn weight_at(models: &Interfaces, weights: &[u64], name: &[u8]) -> u64
+    ensures { result ≡ weight_named models.now weights.now name.now }
+{
+    match models.place(name) {
+        Some(i) => match weights.get(i) {
+            Some(weight) => *weight,
+            None => 0,
+        },
+        None => 0,
+    }
+}
+
+/// What a part counts, where the models inside count as much.
+pub fn part_weight(models: &Interfaces, measure: Measure, inside: &[u64], part: &Part) -> u64
+    ensures { (weight : BlifModel → ℕ) → AreWeights models.now inside.now weight
+        → result ≡ capped (part_weight models.now (weight_of measure) weight (part_value part.now)) }
+{
+    match part {
+        Part::Names(table) => table_weight(measure, table),
+        Part::Use(c) => {
+            let buffers = buffers_weight(measure, output_count(models.of(c.model), c) as u64);
+            weight_at(models, inside, c.model).saturating_add(buffers)
+        }
+    }
+}
+
+/// What a model counts, where the models inside count as much.
+pub fn model_weight(models: &Interfaces, measure: Measure, inside: &[u64], m: &BlifModel) -> u64
+    ensures { (weight : BlifModel → ℕ) → AreWeights models.now inside.now weight
+        → result ≡ capped (sum_by (part_weight models.now (weight_of measure) weight) m.now.parts) }
+{
+    let mut total = 0u64;
+    for part in &m.parts {
+        total = total.saturating_add(part_weight(models, measure, inside, part));
+    }
+    total
+}
+
+/// What each model counts, over one level more than those inside.
+fn next_weights(
+    alloc: Global,
+    found: &Interfaces,
+    measure: Measure,
+    inside: &[u64],
+    models: &[BlifModel],
+) -> Result<Vec<u64>, AllocError>
+    ensures { IfOk result (λ v. (weight : BlifModel → ℕ) → AreWeights found.now inside.now weight
+        → v.items ≡ map (λ m. capped (sum_by (part_weight found.now (weight_of measure) weight) m.parts)) models.now) }
+{
+    let mut weights = Vec::new(alloc);
+    for m in models {
+        weights.push(model_weight(found, measure, inside, m))?;
+    }
+    Ok(weights)
+}
+
+fn are_same(a: &[u64], b: &[u64]) -> bool
+    ensures { result ≡ true → a.now ≡ b.now }
+{
+    a == b
+}
+
+/// What each model counts: level by level, until a further level changes nothing.
+pub fn weights(
+    alloc: Global,
+    found: &Interfaces,
+    measure: Measure,
+    models: &[BlifModel],
+) -> Result<Vec<u64>, AllocError>
+    requires { found.now ≡ models.now }
+    ensures { IfOk result (λ v. v.items ≡ level_weights models.now (weight_of measure) (length models.now)) }
+{
+    let mut weights = vec![in alloc; 0; models.len()]?;
+    for _level in 0..models.len() {
+        let next = next_weights(alloc, found, measure, &weights, models)?;
+        if are_same(&next, &weights) {
+            return Ok(weights);
+        }
+        weights = next;
+    }
+    Ok(weights)
+}

@@ -1,0 +1,4 @@
+mod Cuts
+pub mod Sets
+pub mod Found
+pub mod DrivenNames
