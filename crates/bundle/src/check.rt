@@ -5,9 +5,9 @@ ghost use Rattle.bundle.specs.Judging.{FilesKept, IsCause, IsVerdict, NothingKno
 
 use crate::judged::Judged;
 use crate::judging::check_netlist;
-use bundle_writing::stem::Stem;
 use crate::verdict::Verdict;
 use bundle_texts::item_sink::NoItems;
+use bundle_writing::stem::Stem;
 use file_core::files::Files;
 use file_reading::unread::Unread;
 use net_core::net::Net;

@@ -7,8 +7,8 @@ ghost use Rattle.proof_semantics.specs.Miter.{miter};
 ghost use Rattle.job_semantics.specs.Certificate.{AreCounts};
 ghost use Rattle.bundle_texts.specs.Reading.{report_read};
 
-use bundle_writing::stem::Stem;
 use bundle_texts::report_reading::ReportRead;
+use bundle_writing::stem::Stem;
 use cnf_core::cnf::Cnf;
 use miter::level::miter_of;
 use net_core::net::Net;

@@ -8,8 +8,8 @@ ghost use Rattle.bundle_writing.specs.Value.{file_of, files_of, report_of_bundle
 use crate::bundle::{Bundle, BundleFault};
 use crate::report_writing::report;
 use crate::stem::Stem;
-use blif_writing::writing::write_blif;
 use crate::vectors_writing::write_vectors;
+use blif_writing::writing::write_blif;
 use cnf_core::dimacs::write_dimacs;
 use cnf_core::lrat::write_lrat;
 use file_core::append::{append_all, put_all};

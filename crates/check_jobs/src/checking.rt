@@ -4,8 +4,8 @@ ghost use Rattle.outside_semantics.specs.Outside.{SinkTold};
 ghost use Rattle.check_jobs.specs.Answers.{status_of_unread, status_of_check, CheckAnswer};
 
 use bundle::check::check_bundle;
-use bundle_writing::stem::Stem;
 use bundle::verdict::Verdict;
+use bundle_writing::stem::Stem;
 use conversions::input::read_net;
 use file_core::files::Files;
 use file_reading::unread::Unread;
