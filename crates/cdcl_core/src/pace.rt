@@ -14,6 +14,9 @@ ghost use Rattle.std.specs.Prelude.{◌<◌, ◌≤◌};
 /// How many inputs are few.
 const FEW_INPUTS: u32 = 16;
 
+/// The conflicts of a search, besides an eighth of the vectors, from which on it decides few inputs in the order of their numbers.
+const LONG: u64 = 3000;
+
 /// How far the averages reach: a clause weighs 1 / 2 ^ n of the fast or the slow one.
 const FAST: u32 = 5;
 
@@ -65,7 +68,7 @@ impl Pace {
     /// How many inputs are decided first, in the order of their numbers.
     pub fn inputs_first(&self) -> u32 {
         let few: u64 = 1 << self.inputs.min(FEW_INPUTS);
-        if self.learned >= few / 8 {
+        if self.learned >= few / 8 + LONG {
             self.inputs
         } else {
             0
