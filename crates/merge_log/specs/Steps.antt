@@ -1,12 +1,24 @@
 -- The steps that make rows and tables equal.
-use Rattle.std.specs.Prelude.{◌≡◌, ℕ, zero, suc, ◌+◌, List, [], ◌∷◌, ◌++◌, take, length, sum_by}
+use Rattle.std.specs.Prelude.{◌≡◌, ℕ, zero, suc, ◌+◌, ◌<◌, ◌^◌, List, [], ◌∷◌, ◌++◌, take, length, sum_by, All}
+use Rattle.semantics.specs.declared.mark.Mark.{Mark}
 use Rattle.semantics.specs.Net.{TableValue}
 use Rattle.proof_semantics.specs.Clauses.{Clause}
+use Rattle.proof_semantics.specs.NetClauses.{literals_of_row, row_clauses}
 use Rattle.proof_semantics.specs.Formula.{Formula}
 use Rattle.proof_semantics.specs.Variables.{table_clause_count}
 use Rattle.proof_semantics.specs.Logs.{LogItem, IsDerivation}
 use Rattle.proof_semantics.specs.Conflicts.{added_clauses}
-use Rattle.merge_log.specs.Ids.{forth, back}
+use Rattle.merge_log.specs.Chains.{MergedValue}
+use Rattle.merge_log.specs.Ids.{HaveIds, forth, back}
+use Rattle.merge_log.specs.declared.steps.Place.{Place}
+
+-- A row of these marks over these pins stands in the formula: its place, its clauses with the ids from one on, and what was made of the pins.
+pub record IsRowAt (f : Formula) (m : MergedValue) (marks : List Mark) (pins : List ℕ) (at : Place) : Type 0 where
+  pub width : length marks ≡ length pins
+  pub pins_in : All (λ s. s < length m.firsts) pins
+  pub clauses : HaveIds f.clauses at.clause (row_clauses at.row (literals_of_row marks pins))
+  pub row : at.row < f.variables
+  pub few : at.clause < 2 ^ 62
 
 -- the log is a derivation that adds these clauses behind those of the old one
 pub record Adds (f : Formula) (old new : List LogItem) (clauses : List Clause) : Type 0 where

@@ -3,12 +3,12 @@ ghost use Rattle.std.specs.Prelude.{◌≡◌, ◌+◌, ◌<◌, ◌≤◌, ◌^
 ghost use Rattle.semantics.specs.Net.{row_literals};
 ghost use Rattle.std.specs.List.{AllZip};
 ghost use Rattle.proof_semantics.specs.declared.item.Item.TheVariants.{Add};
-ghost use Rattle.proof_semantics.specs.NetClauses.{literal_at, literals_of_row, row_clauses, rows_clauses};
+ghost use Rattle.proof_semantics.specs.NetClauses.{literal_at, rows_clauses};
 ghost use Rattle.proof_semantics.specs.Logs.{IsDerivation};
 ghost use Rattle.proof_semantics.specs.Conflicts.{clauses_with};
 ghost use Rattle.merge_log.specs.Chains.{first_of};
 ghost use Rattle.merge_log.specs.Ids.{HaveIds, AreMerged, forth, back};
-ghost use Rattle.merge_log.specs.Steps.{Adds, row_pairs};
+ghost use Rattle.merge_log.specs.Steps.{Adds, IsRowAt, row_pairs};
 
 use crate::chain::Chain;
 use crate::hints::row_hints;
@@ -76,17 +76,9 @@ fn push_row_forth(
 ) -> Result<(), AllocError>
     requires derivation { IsDerivation goal.now log.old }
     requires merged { AreMerged (clauses_with goal.now.clauses log.old) merged.now }
-    requires width { length marks.now ≡ length pins.now }
-    requires other_width { length marks.now ≡ length others.now }
-    requires pins { All (λ s. s < length merged.now.firsts) pins.now }
-    requires others { All (λ s. s < length merged.now.firsts) others.now }
+    requires row { IsRowAt goal.now merged.now marks.now pins.now at }
+    requires other_row { IsRowAt goal.now merged.now marks.now others.now other }
     requires same { AllZip (λ p q. first_of merged.now p ≡ first_of merged.now q) pins.now others.now }
-    requires clauses { HaveIds goal.now.clauses at.clause (row_clauses at.row (literals_of_row marks.now pins.now)) }
-    requires other_clauses { HaveIds goal.now.clauses other.clause (row_clauses other.row (literals_of_row marks.now others.now)) }
-    requires row { at.row < goal.now.variables }
-    requires other_row { other.row < goal.now.variables }
-    requires few { at.clause < 2 ^ 62 }
-    requires other_few { other.clause < 2 ^ 62 }
     ensures { OnOk result (Adds goal.now log.old log.new (forth at.row other.row ∷ [])) }
 {
     let _variables = goal.vars();
@@ -109,17 +101,9 @@ fn push_row_back(
 ) -> Result<(), AllocError>
     requires derivation { IsDerivation goal.now log.old }
     requires merged { AreMerged (clauses_with goal.now.clauses log.old) merged.now }
-    requires width { length marks.now ≡ length pins.now }
-    requires other_width { length marks.now ≡ length others.now }
-    requires pins { All (λ s. s < length merged.now.firsts) pins.now }
-    requires others { All (λ s. s < length merged.now.firsts) others.now }
+    requires row { IsRowAt goal.now merged.now marks.now pins.now at }
+    requires other_row { IsRowAt goal.now merged.now marks.now others.now other }
     requires same { AllZip (λ p q. first_of merged.now p ≡ first_of merged.now q) others.now pins.now }
-    requires clauses { HaveIds goal.now.clauses at.clause (row_clauses at.row (literals_of_row marks.now pins.now)) }
-    requires other_clauses { HaveIds goal.now.clauses other.clause (row_clauses other.row (literals_of_row marks.now others.now)) }
-    requires row { at.row < goal.now.variables }
-    requires other_row { other.row < goal.now.variables }
-    requires few { at.clause < 2 ^ 62 }
-    requires other_few { other.clause < 2 ^ 62 }
     ensures { OnOk result (Adds goal.now log.old log.new (back at.row other.row ∷ [])) }
 {
     let _variables = goal.vars();
@@ -142,17 +126,9 @@ fn merge_row(
 ) -> Result<(), AllocError>
     requires derivation { IsDerivation goal.now log.old }
     requires merged { AreMerged (clauses_with goal.now.clauses log.old) merged.now }
-    requires width { length marks.now ≡ length pins.now }
-    requires other_width { length marks.now ≡ length others.now }
-    requires pins { All (λ s. s < length merged.now.firsts) pins.now }
-    requires others { All (λ s. s < length merged.now.firsts) others.now }
+    requires row { IsRowAt goal.now merged.now marks.now pins.now at }
+    requires other_row { IsRowAt goal.now merged.now marks.now others.now other }
     requires same { AllZip (λ p q. first_of merged.now p ≡ first_of merged.now q) pins.now others.now }
-    requires clauses { HaveIds goal.now.clauses at.clause (row_clauses at.row (literals_of_row marks.now pins.now)) }
-    requires other_clauses { HaveIds goal.now.clauses other.clause (row_clauses other.row (literals_of_row marks.now others.now)) }
-    requires row { at.row < goal.now.variables }
-    requires other_row { other.row < goal.now.variables }
-    requires few { at.clause < 2 ^ 62 }
-    requires other_few { other.clause < 2 ^ 62 }
     ensures { OnOk result (Adds goal.now log.old log.new (forth at.row other.row ∷ back at.row other.row ∷ [])) }
 {
     push_row_forth(alloc, goal, log, merged, marks, at, pins, other, others)?;

@@ -1,4 +1,4 @@
-use Rattle.std.proofs.Common.{sym, subst}
+use Rattle.std.proofs.Common.{sym, subst, arith}
 use Rattle.merge_log.specs.Steps.{Adds}
 use Rattle.merge_log.proofs.Adding.{adds-both, merged-more}
 use Rattle.merge_log.proofs.RowLoops.{rows_turn, few_turn, pairs_more, width_at}
@@ -7,17 +7,31 @@ use Rattle.merge_log.proofs.steps.merge_rows.Goals as goal
 pub merge_row-requires-clause-merged : goal.merge_row-requires-clause-merged
 merge_row-requires-clause-merged c = merged-more c.args.goal.now c.args.log.now c.loop-j.log _ c.args.merged.now c.loop-j.invariant.adds c.requires.merged
 
-pub merge_row-requires-clause-clauses : goal.merge_row-requires-clause-clauses
-merge_row-requires-clause-clauses c =
+pub merge_row-requires-clause-row : goal.merge_row-requires-clause-row
+merge_row-requires-clause-row c =
+    let width = width_at c.args.rows.now c.args.pins.now c.loop-j.j c.index-rows-j.result c.loop-j-test.true c.index-rows-j.is c.requires.widths in
     rw c.as_slice-marks.ensures
-    (rows_turn c.args.goal.now.clauses c.args.at.row c.loop-j.j c.loop-j.id c.args.pins.now c.args.rows.now c.index-rows-j.result c.loop-j-test.true c.index-rows-j.is
-    (width_at c.args.rows.now c.args.pins.now c.loop-j.j c.index-rows-j.result c.loop-j-test.true c.index-rows-j.is c.requires.widths) c.loop-j.invariant.clauses).0
+    (record {
+      width = width;
+      pins_in = c.requires.pins;
+      clauses = (rows_turn c.args.goal.now.clauses c.args.at.row c.loop-j.j c.loop-j.id c.args.pins.now c.args.rows.now c.index-rows-j.result c.loop-j-test.true c.index-rows-j.is width
+          c.loop-j.invariant.clauses).0;
+      row = omega (arith, c.requires.row, c.loop-j-test.true);
+      few = omega (arith, c.requires.few, c.loop-j.invariant.few);
+    })
 
-pub merge_row-requires-clause-other_clauses : goal.merge_row-requires-clause-other_clauses
-merge_row-requires-clause-other_clauses c =
+pub merge_row-requires-clause-other_row : goal.merge_row-requires-clause-other_row
+merge_row-requires-clause-other_row c =
+    let width = width_at c.args.rows.now c.args.others.now c.loop-j.j c.index-rows-j.result c.loop-j-test.true c.index-rows-j.is c.requires.other_widths in
     rw c.as_slice-marks.ensures
-    (rows_turn c.args.goal.now.clauses c.args.other.row c.loop-j.j c.loop-j.behind c.args.others.now c.args.rows.now c.index-rows-j.result c.loop-j-test.true c.index-rows-j.is
-    (width_at c.args.rows.now c.args.others.now c.loop-j.j c.index-rows-j.result c.loop-j-test.true c.index-rows-j.is c.requires.other_widths) c.loop-j.invariant.other_clauses).0
+    (record {
+      width = width;
+      pins_in = c.requires.others;
+      clauses = (rows_turn c.args.goal.now.clauses c.args.other.row c.loop-j.j c.loop-j.behind c.args.others.now c.args.rows.now c.index-rows-j.result c.loop-j-test.true c.index-rows-j.is width
+          c.loop-j.invariant.other_clauses).0;
+      row = omega (arith, c.requires.other_row, c.loop-j-test.true);
+      few = omega (arith, c.requires.other_few, c.loop-j.invariant.other_few);
+    })
 
 pub loop-j-preserved : goal.loop-j-preserved
 loop-j-preserved c =
