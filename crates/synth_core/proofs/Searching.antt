@@ -1,5 +1,5 @@
 -- How a search goes over the moves of a net.
-use Rattle.std.proofs.Common.{◌≡◌, ℕ, Bool, Option, Some, None, List, [], ◌∷◌, ◌++◌, length, sym, ap, subst, ◌∙◌}
+use Rattle.std.proofs.Common.{◌≡◌, ℕ, Bool, Option, Some, List, [], ◌∷◌, ◌++◌, length, sym, ap, subst, ◌∙◌}
 use Rattle.std.specs.List.{AllByRecursion, Contains}
 use Rattle.std.proofs.lemmas.List.{append-nil, append_assoc}
 use Rattle.std.proofs.lemmas.List.Elements.{Contains-append_right}
@@ -15,40 +15,35 @@ use Rattle.lane_bits.specs.Patterns.{PatternSet}
 use Rattle.adc_core.specs.Growing.{GrowingValue}
 use Rattle.worst_case.specs.declared.query.Spent as spent
 use Rattle.worst_case.specs.Exceeds.{spent_value, IsSpentOn}
-use Rattle.synth_core.specs.MoveTrials.{IsNewVector, IsAllowedTo}
+use Rattle.synth_core.specs.MoveTrials.{IsAllowedTo, IsFoundOver}
 use Rattle.synth_core.specs.declared.step.Step.{Step}
 use Rattle.synth_core.specs.declared.step.Step.TheVariants.{End, Moved, Spent}
-use Rattle.synth_core.specs.Steps.{IsFirstMoved, AreMasksOver, IsMaskedPool, AreAmong, IsStepBy, IsWeighed, IsStep}
+use Rattle.synth_core.specs.Steps.{IsFirstMoved, AreMasksOver, IsMaskedPool, AreAmong, IsSearched, IsCandidateMove, IsNextUnbroken, IsRefused, IsStepBy, IsWeighed, IsStep}
 use Rattle.synth_core.proofs.Pools.{IsPool-more, each_more}
-
--- masks over a pool are masks over their own vectors, and what they told is told of the pool
-pub masks-own : (metric : Metric) (exact : NetValue) (bound : ℕ) (N : NetValue) (vectors : List (List Bool)) (masks : GrowingValue)
-    → AreMasksOver metric exact bound N vectors masks → AreMasksOver metric exact bound N masks.vectors masks
-masks-own metric exact bound N vectors masks over = subst (λ v. AreMasksOver metric exact bound N v masks) (sym (ap (λ (m : GrowingValue). m.vectors) over)) over
 
 -- a vector joins the pool, and the masks go over to it
 pub masked-more : (metric : Metric) (exact : NetValue) (bound : ℕ) (N : NetValue) (s t : PatternSet) (old new : GrowingValue) (move : Move) (x : List Bool) → IsMaskedPool metric exact bound N s old
-    → t ≡ record s { vectors = s.vectors ++ x ∷ [] } → new ≡ record old { vectors = t.vectors } → IsNewVector metric exact bound N s.vectors move x → IsMaskedPool metric exact bound N t new
-masked-more metric exact bound N s t old new move x masked pushed grown new_one = record {
-  pool = IsPool-more exact s t x masked.pool pushed new_one.many new_one.width new_one.new;
+    → t ≡ record s { vectors = s.vectors ++ x ∷ [] } → new ≡ record old { vectors = t.vectors } → IsCandidateMove metric exact bound N s.vectors move → IsFoundOver metric exact bound (moved N move) x
+    → IsMaskedPool metric exact bound N t new
+masked-more metric exact bound N s t old new move x masked pushed grown candidate over = record {
+  pool = IsPool-more exact s t x masked.pool pushed over.many over.exceeded.width (λ there. candidate.unbroken x there over.exceeded.exceeds);
   masks = grown ∙ ap (λ (m : GrowingValue). record m { vectors = t.vectors }) masked.masks;
 }
 
 -- and it breaks the move
 pub broken-more : (metric : Metric) (exact : NetValue) (bound : ℕ) (N : NetValue) (s t : PatternSet) (move : Move) (x : List Bool) → t ≡ record s { vectors = s.vectors ++ x ∷ [] }
-    → IsNewVector metric exact bound N s.vectors move x → IsBrokenBySome metric exact bound N t.vectors move
-broken-more metric exact bound N s t move x pushed new_one =
+    → IsFoundOver metric exact bound (moved N move) x → IsBrokenBySome metric exact bound N t.vectors move
+broken-more metric exact bound N s t move x pushed over =
     let there : Contains (s.vectors ++ x ∷ []) x = Contains-append_right s.vectors (x ∷ []) x (Contains-here x []) in
-    (x, subst (λ v. Contains v x) (sym (ap (λ (p : PatternSet). p.vectors) pushed)) there, new_one.broken)
+    (x, subst (λ v. Contains v x) (sym (ap (λ (p : PatternSet). p.vectors) pushed)) there, over.exceeded.exceeds)
+
+-- what masks tell is told of the pool that they are over
+pub next-over : (metric : Metric) (exact : NetValue) (bound : ℕ) (N : NetValue) (vectors : List (List Bool)) (m : GrowingValue) (left : List Move) (found : Option Move)
+    → AreMasksOver metric exact bound N vectors m → IsNextUnbroken m.metric m.exact m.bound m.net m.vectors left found → IsNextUnbroken metric exact bound N vectors left found
+next-over metric exact bound N vectors m left found over next = subst (λ (k : GrowingValue). IsNextUnbroken k.metric k.exact k.bound k.net k.vectors left found) over next
 
 module _ (metric : Metric) (exact : NetValue) (bound : ℕ) (N : NetValue) where
-  -- some vector breaks each move before what is left
-  pub record IsSearched (vectors : List (List Bool)) (left : List Move) : Type 0 where
-    pub before : List Move
-    pub stands : moves_of N ≡ before ++ left
-    pub broken : AreBrokenBySome metric exact bound N vectors before
-
-  pub searched-none : (vectors : List (List Bool)) (left : List Move) → left ≡ moves_of N → IsSearched vectors left
+  pub searched-none : (vectors : List (List Bool)) (left : List Move) → left ≡ moves_of N → IsSearched metric exact bound N vectors left
   searched-none vectors left is = record { before = []; stands = sym is; broken = tt }
 
   -- where vectors join
@@ -56,14 +51,14 @@ module _ (metric : Metric) (exact : NetValue) (bound : ℕ) (N : NetValue) where
   broken_still old new among [] h = tt
   broken_still old new among (m ∷ moves) h = ((h.0.0, among h.0.0 h.0.1, h.0.2), broken_still old new among moves h.1)
 
-  pub searched-still : (old new : List (List Bool)) (left : List Move) → AreAmong old new → IsSearched old left → IsSearched new left
+  pub searched-still : (old new : List (List Bool)) (left : List Move) → AreAmong old new → IsSearched metric exact bound N old left → IsSearched metric exact bound N new left
   searched-still old new left among h = record { before = h.before; stands = h.stands; broken = broken_still old new among h.before h.broken }
 
-  module _ (vectors : List (List Bool)) (left rest : List Move) (move : Move) (is : left ≡ move ∷ rest) (so_far : IsSearched vectors left) where
+  module _ (vectors : List (List Bool)) (left rest : List Move) (move : Move) (is : left ≡ move ∷ rest) (so_far : IsSearched metric exact bound N vectors left) where
     stands_at : moves_of N ≡ so_far.before ++ move ∷ rest
     stands_at = so_far.stands ∙ ap (λ l. so_far.before ++ l) is
 
-    pub searched-more : IsBrokenBySome metric exact bound N vectors move → IsSearched vectors rest
+    pub searched-more : IsBrokenBySome metric exact bound N vectors move → IsSearched metric exact bound N vectors rest
     searched-more broken = record {
       before = so_far.before ++ move ∷ [];
       stands = stands_at ∙ sym (append_assoc so_far.before (move ∷ []) rest);
@@ -99,23 +94,22 @@ module _ (metric : Metric) (exact : NetValue) (bound : ℕ) (N : NetValue) where
     }
 
     -- the step that a move makes after moves that are broken
-    pub searched-step : AllByRecursion (λ x. length x ≡ input_count exact) vectors → (limit : ℕ) (step : Step) → IsStepBy metric exact bound limit N move step
-        → IsStep metric exact bound limit N vectors step
-    searched-step widths limit End none = absurd none
-    searched-step widths limit (Moved M) allowed = searched-first widths M allowed
-    searched-step widths limit (Spent s) spent = searched-spent limit s spent
+    pub searched-step : AllByRecursion (λ x. length x ≡ input_count exact) vectors → (limit : ℕ) (S : NetValue) (step : Step) → IsStepBy metric exact bound limit N move S step
+        → IsStep metric exact bound limit N vectors S step
+    searched-step widths limit S End none = absurd none
+    searched-step widths limit S Moved allowed = searched-first widths S allowed
+    searched-step widths limit S (Spent s) spent = searched-spent limit s spent
 
   -- one move further, where vectors may have joined
-  module _ (old new : List (List Bool)) (left rest : List Move) (move : Move) (is : left ≡ move ∷ rest) (so_far : IsSearched old left) (among : AreAmong old new) where
-    pub searched-found : AllByRecursion (λ x. length x ≡ input_count exact) new → (limit : ℕ) (found : Option Step) (step : Step) → found ≡ Some step
-        → IsWeighed metric exact bound limit N new move found → IsStep metric exact bound limit N new step
-    searched-found widths limit found step some weighed =
-        searched-step new left rest move is (searched-still old new left among so_far) widths limit step (subst (IsWeighed metric exact bound limit N new move) some weighed)
+  module _ (old new : List (List Bool)) (left rest : List Move) (move : Move) (is : left ≡ move ∷ rest) (so_far : IsSearched metric exact bound N old left) (among : AreAmong old new) where
+    pub searched-found : AllByRecursion (λ x. length x ≡ input_count exact) new → (limit : ℕ) (S : NetValue) (found : Option Step) (step : Step) → found ≡ Some step
+        → IsWeighed metric exact bound limit N new move S found → IsStep metric exact bound limit N new S step
+    searched-found widths limit S found step some weighed =
+        searched-step new left rest move is (searched-still old new left among so_far) widths limit S step (subst (IsWeighed metric exact bound limit N new move S) some weighed)
 
-    pub searched-broken : (limit : ℕ) (found : Option Step) → found ≡ None → IsWeighed metric exact bound limit N new move found → IsSearched new rest
-    searched-broken limit found none weighed =
-        searched-more new left rest move is (searched-still old new left among so_far) (subst (IsWeighed metric exact bound limit N new move) none weighed)
+    pub searched-broken : (S : NetValue) → IsRefused metric exact bound N new move S → IsSearched metric exact bound N new rest
+    searched-broken S refused = searched-more new left rest move is (searched-still old new left among so_far) refused.broken
 
-  pub searched-all : (vectors : List (List Bool)) (left : List Move) → left ≡ [] → IsSearched vectors left → IsMinimalBy metric exact bound N vectors
+  pub searched-all : (vectors : List (List Bool)) (left : List Move) → left ≡ [] → IsSearched metric exact bound N vectors left → IsMinimalBy metric exact bound N vectors
   searched-all vectors left is so_far =
       subst (AreBrokenBySome metric exact bound N vectors) (sym (so_far.stands ∙ ap (λ l. so_far.before ++ l) is ∙ append-nil so_far.before)) so_far.broken

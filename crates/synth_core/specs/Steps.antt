@@ -1,14 +1,15 @@
 -- One step of the chain of simplifications, with the vectors that broke moves so far.
-use Rattle.std.specs.Prelude.{◌≡◌, ℕ, ◌≤◌, Bool, Option, MatchOption, List, Contains, length}
+use Rattle.std.specs.Prelude.{◌≡◌, ℕ, ◌≤◌, Bool, Option, MatchOption, List, ◌∷◌, ◌++◌, Contains, length}
 use Rattle.std.specs.List.{AllByRecursion}
 use Rattle.semantics.specs.declared.limits.TheConstants.{FEW_INPUTS}
 use Rattle.semantics.specs.declared.metric.Metric.{Metric}
 use Rattle.semantics.specs.Net.{NetValue, input_count}
 use Rattle.semantics.specs.Vectors.{all_vectors}
 use Rattle.chain_semantics.specs.declared.moves.Move.{Move}
+use Rattle.chain_semantics.specs.Care.{IsBrokenAt}
 use Rattle.chain_semantics.specs.Chain.{IsFirstAllowed}
 use Rattle.chain_semantics.specs.Moves.{moves_of, moved}
-use Rattle.chain_semantics.specs.Minimality.{IsBrokenBySome, IsMinimalBy}
+use Rattle.chain_semantics.specs.Minimality.{IsBrokenBySome, AreBrokenBySome, IsMinimalBy}
 use Rattle.chain_semantics.specs.Simplification.{IsAllowedMove}
 use Rattle.job_semantics.specs.Shrinking.{AreApart, IsSpentMove}
 use Rattle.lane_bits.specs.Patterns.{PatternSet}
@@ -38,24 +39,50 @@ pub record IsMaskedPool (metric : Metric) (exact : NetValue) (bound : ℕ) (N : 
 abbrev pub AreAmong : List (List Bool) → List (List Bool) → Type 0
 AreAmong old new = (x : List Bool) → Contains old x → Contains new x
 
+-- some vector breaks each move of N before those that are left
+pub record IsSearched (metric : Metric) (exact : NetValue) (bound : ℕ) (N : NetValue) (vectors : List (List Bool)) (left : List Move) : Type 0 where
+  pub before : List Move
+  pub stands : moves_of N ≡ before ++ left
+  pub broken : AreBrokenBySome metric exact bound N vectors before
+
+-- a move of N that none of these vectors breaks
+pub record IsCandidateMove (metric : Metric) (exact : NetValue) (bound : ℕ) (N : NetValue) (vectors : List (List Bool)) (move : Move) : Type 0 where
+  pub offered : Contains (moves_of N) move
+  pub unbroken : (x : List Bool) → Contains vectors x → ¬ IsBrokenAt metric exact bound N move x
+
+-- the first move of N that none of the vectors breaks, and those that are left behind it
+pub record IsFirstUnbroken (metric : Metric) (exact : NetValue) (bound : ℕ) (N : NetValue) (vectors : List (List Bool)) (left : List Move) (move : Move) : Type 0 where
+  pub searched : IsSearched metric exact bound N vectors (move ∷ left)
+  pub candidate : IsCandidateMove metric exact bound N vectors move
+
+abbrev pub IsNextUnbroken : Metric → NetValue → ℕ → NetValue → List (List Bool) → List Move → Option Move → Type 0
+IsNextUnbroken metric exact bound N vectors left found =
+    MatchOption found (IsMinimalBy metric exact bound N vectors) (IsFirstUnbroken metric exact bound N vectors left)
+
 -- M is N after its first allowed move
 pub record IsFirstMoved (metric : Metric) (exact : NetValue) (bound : ℕ) (N M : NetValue) : Type 0 where
   pub move : Move
   pub first : IsFirstAllowed (IsAllowedMove metric exact bound N) (moves_of N) move
   pub net : M ≡ moved N move
 
--- what the move makes, where it is allowed, or the query that was spent on it
-abbrev pub IsStepBy : Metric → NetValue → ℕ → ℕ → NetValue → Move → Step → Type 0
-IsStepBy metric exact bound limit N move End = ⊥
-IsStepBy metric exact bound limit N move (Moved M) = IsAllowedTo metric exact bound N move M
-IsStepBy metric exact bound limit N move (Spent s) = IsSpentOn metric exact (moved N move) bound limit s
+-- S is N after the move, where it is allowed, or a query was spent on it
+abbrev pub IsStepBy : Metric → NetValue → ℕ → ℕ → NetValue → Move → NetValue → Step → Type 0
+IsStepBy metric exact bound limit N move S End = ⊥
+IsStepBy metric exact bound limit N move S Moved = IsAllowedTo metric exact bound N move S
+IsStepBy metric exact bound limit N move S (Spent s) = IsSpentOn metric exact (moved N move) bound limit s
+
+-- some vector breaks the move, and S is the net as it was
+pub record IsRefused (metric : Metric) (exact : NetValue) (bound : ℕ) (N : NetValue) (vectors : List (List Bool)) (move : Move) (S : NetValue) : Type 0 where
+  pub broken : IsBrokenBySome metric exact bound N vectors move
+  pub back : S ≡ N
 
 -- some vector breaks the move, or it makes a step
-abbrev pub IsWeighed : Metric → NetValue → ℕ → ℕ → NetValue → List (List Bool) → Move → Option Step → Type 0
-IsWeighed metric exact bound limit N vectors move found =
-    MatchOption found (IsBrokenBySome metric exact bound N vectors move) (IsStepBy metric exact bound limit N move)
+abbrev pub IsWeighed : Metric → NetValue → ℕ → ℕ → NetValue → List (List Bool) → Move → NetValue → Option Step → Type 0
+IsWeighed metric exact bound limit N vectors move S found =
+    MatchOption found (IsRefused metric exact bound N vectors move S) (IsStepBy metric exact bound limit N move S)
 
-abbrev pub IsStep : Metric → NetValue → ℕ → ℕ → NetValue → List (List Bool) → Step → Type 0
-IsStep metric exact bound limit N vectors End = IsMinimalBy metric exact bound N vectors
-IsStep metric exact bound limit N vectors (Moved M) = IsFirstMoved metric exact bound N M
-IsStep metric exact bound limit N vectors (Spent s) = IsSpentMove metric exact bound limit N vectors (spent_value s)
+-- the step from N, where S is the copy of N in which its moves were tried
+abbrev pub IsStep : Metric → NetValue → ℕ → ℕ → NetValue → List (List Bool) → NetValue → Step → Type 0
+IsStep metric exact bound limit N vectors S End = IsMinimalBy metric exact bound N vectors
+IsStep metric exact bound limit N vectors S Moved = IsFirstMoved metric exact bound N S
+IsStep metric exact bound limit N vectors S (Spent s) = IsSpentMove metric exact bound limit N vectors (spent_value s)

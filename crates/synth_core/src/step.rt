@@ -1,11 +1,11 @@
 //! One step of the chain of simplifications: the first allowed move of a member.
-ghost use Rattle.std.specs.Prelude.{◌≡◌, ◌<◌, ◌≤◌, ◌++◌, ◌∷◌, [], length, Contains, IfOk, OnOk};
+ghost use Rattle.std.specs.Prelude.{◌≡◌, ◌<◌, ◌≤◌, ◌++◌, ◌∷◌, [], length, IfOk, OnOk};
 ghost use Rattle.semantics.specs.Net.{input_count, IsSmall};
-ghost use Rattle.chain_semantics.specs.Moves.{moves_of};
 ghost use Rattle.worst_case.specs.VectorsTried.{IsHeldFor};
-ghost use Rattle.synth_core.specs.Steps.{IsPool, AreMasksOver, IsMaskedPool, AreAmong, IsWeighed, IsStep};
+ghost use Rattle.synth_core.specs.Steps.{IsPool, AreMasksOver, IsMaskedPool, IsCandidateMove, AreAmong, IsWeighed, IsStep};
 
-use crate::move_trial::{Terms, Trial, try_move};
+use crate::move_trial::{Terms, try_move};
+use crate::unbroken::next_unbroken;
 use adc_core::growing::GrowingMasks;
 use bdd_levels::decider::Decider;
 use chain_semantics::moves::Move;
@@ -13,10 +13,10 @@ use lane_bits::patterns::Patterns;
 use lane_nets::reference::Reference;
 use net_core::net::Net;
 use net_errors::compared::Compared;
-use net_moves::apply::table_of;
 use net_moves::moves::moves;
 use progress::progress::Progress;
 use std::alloc::{AllocError, Global};
+use worst_case::margin::Margin;
 use worst_case::query::Spent;
 
 /// What is found out about the moves of a member of the chain.
@@ -24,8 +24,8 @@ use worst_case::query::Spent;
 pub(crate) enum Step {
     /// No move is allowed.
     End,
-    /// The first allowed move makes this net.
-    Moved(Net),
+    /// The first allowed move was made in the scratch net.
+    Moved,
     /// A query was spent before an allowed move was found.
     Spent(Spent),
 }
@@ -58,8 +58,8 @@ fn add_vector(pool: &mut Patterns, masks: &mut GrowingMasks, x: &[bool]) -> Resu
     masks.grow(pool)
 }
 
-/// Tries a move: the step that it makes, or None where a vector of the pool breaks it. Such a vector joins the pool where a query
-/// gives it.
+/// Tries a move that no vector of the pool breaks, in a copy of the approximate net: the step that it makes, or None where a vector
+/// breaks it, which joins the pool.
 fn weigh<P: Progress>(
     alloc: Global,
     nets: &Compared,
@@ -68,32 +68,33 @@ fn weigh<P: Progress>(
     terms: Terms,
     pool: &mut Patterns,
     masks: &mut GrowingMasks,
+    scratch: &mut Net,
     step: Move,
     progress: &mut P,
 ) -> Result<Option<Step>, AllocError>
     requires held { IsHeldFor nets.now.exact held.now }
     requires decider { decider.old ≡ nets.now.exact }
     requires limit { 1 ≤ terms.limit }
-    requires step { Contains (moves_of nets.now.approx) step }
+    requires scratch { scratch.old ≡ nets.now.approx }
     requires masked { IsMaskedPool terms.metric nets.now.exact terms.bound nets.now.approx pool.old masks.old }
+    requires unbroken { IsCandidateMove terms.metric nets.now.exact terms.bound nets.now.approx pool.old.vectors step }
     ensures same { decider.new ≡ decider.old }
     ensures masked { IfOk result (λ _. IsMaskedPool terms.metric nets.now.exact terms.bound nets.now.approx pool.new masks.new) }
     ensures among { IfOk result (λ _. AreAmong pool.old.vectors pool.new.vectors) }
     ensures weighed { IfOk result
-        (IsWeighed terms.metric nets.now.exact terms.bound terms.limit nets.now.approx pool.new.vectors step) }
+        (IsWeighed terms.metric nets.now.exact terms.bound terms.limit nets.now.approx pool.new.vectors step scratch.new) }
 {
-    match try_move(alloc, nets, held, decider, terms, masks, step, progress)? {
-        Trial::Broken => Ok(None),
-        Trial::New(x) => {
+    match try_move(alloc, nets, held, decider, terms, scratch, step, progress)? {
+        Margin::Over(x) => {
             add_vector(pool, masks, x.as_slice())?;
             Ok(None)
         }
-        Trial::Allowed(moved) => Ok(Some(Step::Moved(moved))),
-        Trial::Spent(spent) => Ok(Some(Step::Spent(spent))),
+        Margin::Within => Ok(Some(Step::Moved)),
+        Margin::Spent(spent) => Ok(Some(Step::Spent(spent))),
     }
 }
 
-/// Tries the moves of the approximate net in order, each of which is told on. Each vector that a query gives joins the pool and the masks.
+/// Tries the moves of the approximate net in order, in a copy of it. Each vector that a query gives joins the pool and the masks.
 pub(crate) fn find_step<P: Progress>(
     alloc: Global,
     nets: &Compared,
@@ -101,6 +102,7 @@ pub(crate) fn find_step<P: Progress>(
     decider: &mut Decider,
     terms: Terms,
     pool: &mut Patterns,
+    scratch: &mut Net,
     progress: &mut P,
 ) -> Result<Step, AllocError>
     requires held { IsHeldFor nets.now.exact held.now }
@@ -108,17 +110,19 @@ pub(crate) fn find_step<P: Progress>(
     requires small { IsSmall nets.now.approx }
     requires limit { 1 ≤ terms.limit }
     requires pool { IsPool nets.now.exact pool.old }
+    requires scratch { scratch.old ≡ nets.now.approx }
     ensures same { decider.new ≡ decider.old }
     ensures pool { IfOk result (λ _. IsPool nets.now.exact pool.new) }
     ensures step { IfOk result
-        (IsStep terms.metric nets.now.exact terms.bound terms.limit nets.now.approx pool.new.vectors) }
+        (IsStep terms.metric nets.now.exact terms.bound terms.limit nets.now.approx pool.new.vectors scratch.new) }
 {
     let mut moves = moves(alloc, nets.approx())?;
     let mut masks = pool_masks(alloc, nets, terms, pool)?;
-    while let Some(step) = moves.next() {
-        progress.trying(table_of(step), nets.approx().tables());
+    let mut told = None;
+    let tables = nets.approx().tables();
+    while let Some(step) = next_unbroken(&mut moves, &mut masks, tables, &mut told, progress)? {
         let found = weigh(
-            alloc, nets, held, decider, terms, pool, &mut masks, step, progress,
+            alloc, nets, held, decider, terms, pool, &mut masks, scratch, step, progress,
         )?;
         if let Some(found) = found {
             return Ok(found);

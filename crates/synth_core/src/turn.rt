@@ -25,7 +25,7 @@ pub(crate) enum Turn {
     End(Option<Spent>),
 }
 
-/// Makes the first allowed move of a member, and tidies what it leaves. The member is told on.
+/// Makes the first allowed move of a member in a copy of it, and tidies what it leaves. The member is told on.
 pub(crate) fn take_turn<P: Progress>(
     alloc: Global,
     net: &Net,
@@ -48,8 +48,18 @@ pub(crate) fn take_turn<P: Progress>(
     let _ = net.inputs();
     progress.reached(member.literals());
     let nets = Compared::new(net, member);
-    match find_step(alloc, &nets, held, decider, terms, pool, progress)? {
-        Step::Moved(moved) => Ok(Turn::Next(tidy(alloc, moved)?)),
+    let mut scratch = member.copy()?;
+    match find_step(
+        alloc,
+        &nets,
+        held,
+        decider,
+        terms,
+        pool,
+        &mut scratch,
+        progress,
+    )? {
+        Step::Moved => Ok(Turn::Next(tidy(alloc, scratch)?)),
         Step::End => Ok(Turn::End(None)),
         Step::Spent(spent) => Ok(Turn::End(Some(spent))),
     }

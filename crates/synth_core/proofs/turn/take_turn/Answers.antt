@@ -1,6 +1,6 @@
 use Rattle.std.proofs.Common.{subst, sym, ap, ◌∙◌, arith}
 use Rattle.semantics.specs.Net.{IsSmall}
-use Rattle.chain_semantics.proofs.Simplifications.{simplified, simplified-small, simplification-falls}
+use Rattle.chain_semantics.proofs.Simplifications.{simplified, simplified-small}
 use Rattle.job_semantics.proofs.SmallNets.{literals_at_most}
 use Rattle.worst_case.specs.VectorsTried.{IsHeldFor}
 use Rattle.synth_core.specs.Steps.{IsPool, IsStep}
@@ -33,18 +33,21 @@ find_step-requires-clause-small g c =
 
 pub returns-in_ok-tidy-in-Moved-clause-turn : goal.returns-in_ok-tidy-in-Moved-clause-turn
 returns-in_ok-tidy-in-Moved-clause-turn g c =
-    let told = subst (λ P. IsStep c.args.terms.metric P.exact c.args.terms.bound c.args.terms.limit P.approx c.find_step.new.pool.vectors c.in_ok-moved.field-0) c.new-nets.ensures c.in_ok-moved.ensures.step in
-    next-member c.args.terms.metric c.args.net.now c.args.terms.bound c.args.member.now c.in-Moved.moved c.in_ok-tidy-in-Moved.field-0 c.inputs.ensures.built.sound c.requires.member
+    let told = subst (λ P. IsStep c.args.terms.metric P.exact c.args.terms.bound c.args.terms.limit P.approx c.find_step.new.pool.vectors c.find_step.new.scratch c.in_ok-find_step.field-0)
+    c.new-nets.ensures c.in_ok-find_step.ensures.step in
+    next-member c.args.terms.metric c.args.net.now c.args.terms.bound c.args.member.now c.find_step.new.scratch c.in_ok-tidy-in-Moved.field-0 c.inputs.ensures.built.sound c.requires.member
     (rw c.in-Moved.is at told) c.in_ok-tidy-in-Moved.ensures
 
 pub returns-in-End-clause-turn : goal.returns-in-End-clause-turn
 returns-in-End-clause-turn g c =
-    let told = subst (λ P. IsStep c.args.terms.metric P.exact c.args.terms.bound c.args.terms.limit P.approx c.find_step.new.pool.vectors c.in_ok-moved.field-0) c.new-nets.ensures c.in_ok-moved.ensures.step in
+    let told = subst (λ P. IsStep c.args.terms.metric P.exact c.args.terms.bound c.args.terms.limit P.approx c.find_step.new.pool.vectors c.find_step.new.scratch c.in_ok-find_step.field-0)
+    c.new-nets.ensures c.in_ok-find_step.ensures.step in
     shrinking-end c.args.terms.metric c.args.net.now c.args.terms.bound c.args.terms.limit c.args.member.now c.find_step.new.pool c.requires.member
-    (subst (λ P. IsPool P.exact c.find_step.new.pool) c.new-nets.ensures c.in_ok-moved.ensures.pool) (rw c.in-End.is at told)
+    (subst (λ P. IsPool P.exact c.find_step.new.pool) c.new-nets.ensures c.in_ok-find_step.ensures.pool) (rw c.in-End.is at told)
 
 pub returns-in-Spent-clause-turn : goal.returns-in-Spent-clause-turn
 returns-in-Spent-clause-turn g c =
-    let told = subst (λ P. IsStep c.args.terms.metric P.exact c.args.terms.bound c.args.terms.limit P.approx c.find_step.new.pool.vectors c.in_ok-moved.field-0) c.new-nets.ensures c.in_ok-moved.ensures.step in
+    let told = subst (λ P. IsStep c.args.terms.metric P.exact c.args.terms.bound c.args.terms.limit P.approx c.find_step.new.pool.vectors c.find_step.new.scratch c.in_ok-find_step.field-0)
+    c.new-nets.ensures c.in_ok-find_step.ensures.step in
     shrinking-spent c.args.terms.metric c.args.net.now c.args.terms.bound c.args.terms.limit c.args.member.now c.find_step.new.pool c.requires.member
-    (subst (λ P. IsPool P.exact c.find_step.new.pool) c.new-nets.ensures c.in_ok-moved.ensures.pool) c.in-Spent.spent (rw c.in-Spent.is at told)
+    (subst (λ P. IsPool P.exact c.find_step.new.pool) c.new-nets.ensures c.in_ok-find_step.ensures.pool) c.in-Spent.spent (rw c.in-Spent.is at told)

@@ -1,0 +1,33 @@
+use Rattle.std.proofs.Common.{ap, subst, sym, ◌∙◌, arith}
+use Rattle.std.proofs.lemmas.Result.{IfOk-weaker}
+use Rattle.semantics.specs.Net.{input_count}
+use Rattle.semantics.specs.Error.{IsCandidate}
+use Rattle.worst_case.specs.Levels.{IsLevelAnswer}
+use Rattle.worst_case.specs.VectorsTried.{IsHeldFor}
+use Rattle.synth_core.proofs.Trying.{judged-by}
+use Rattle.synth_core.proofs.move_trial.judge.Goals as goal
+
+pub returns-then-inputs-le-FEW_INPUTS-clause-judged : goal.returns-then-inputs-le-FEW_INPUTS-clause-judged
+returns-then-inputs-le-FEW_INPUTS-clause-judged g c =
+    c.requires.known (omega (arith, c.inputs.ensures.value ∙ ap input_count c.exact.ensures.value, c.if-inputs-le-FEW_INPUTS.true))
+
+pub new-moved_nets-requires : goal.new-moved_nets-requires
+new-moved_nets-requires g c = subst (λ E. IsCandidate E c.args.moved.now) (sym c.exact-2.ensures.value) c.requires.candidate
+
+pub within_level-requires-clause-held : goal.within_level-requires-clause-held
+within_level-requires-clause-held g c =
+    subst (λ E. IsHeldFor E c.args.held.now) (sym (ap (λ P. P.exact) c.new-moved_nets.ensures ∙ c.exact-2.ensures.value)) c.requires.held
+
+pub within_level-requires-clause-decider : goal.within_level-requires-clause-decider
+within_level-requires-clause-decider g c = c.requires.decider ∙ sym (ap (λ P. P.exact) c.new-moved_nets.ensures ∙ c.exact-2.ensures.value)
+
+pub returns-clause-judged : goal.returns-clause-judged
+returns-clause-judged g c =
+    let exact = c.args.nets.now.exact in
+    let count = c.inputs.ensures.value ∙ ap input_count c.exact.ensures.value in
+    IfOk-weaker c.within_level.result _ _
+    (λ m answer.
+    judged-by c.args.terms.metric exact c.args.terms.bound c.args.terms.limit c.args.moved.now m (omega (arith, count, c.if-inputs-le-FEW_INPUTS.false))
+    (subst (λ E. IsLevelAnswer c.args.terms.metric E c.args.moved.now c.args.terms.bound c.args.terms.limit m) c.exact-2.ensures.value
+    (subst (λ P. IsLevelAnswer c.args.terms.metric P.exact P.approx c.args.terms.bound c.args.terms.limit m) c.new-moved_nets.ensures answer)))
+    c.within_level.ensures.answer

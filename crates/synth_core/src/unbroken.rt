@@ -1,0 +1,41 @@
+//! The moves that no vector of the pool breaks. Most moves are broken by one, so this is the search's inner loop: it makes no net.
+ghost use Rattle.std.specs.Prelude.{◌≡◌, ◌<◌, length, IfOk, IfSome};
+ghost use Rattle.synth_core.specs.Steps.{IsSearched, IsNextUnbroken};
+
+use adc_core::growing::GrowingMasks;
+use chain_semantics::moves::Move;
+use net_moves::apply::table_of;
+use net_moves::list::Moves;
+use progress::progress::Progress;
+use std::alloc::AllocError;
+
+/// Tells on that moves of another table are tried now, of so many tables.
+fn tell_table<P: Progress>(told: &mut Option<u32>, table: u32, tables: u32, progress: &mut P) {
+    if *told != Some(table) {
+        *told = Some(table);
+        progress.trying(table, tables);
+    }
+}
+
+/// The next of the moves that no vector of the masks breaks. Each table is told on as its moves begin.
+pub(crate) fn next_unbroken<P: Progress>(
+    moves: &mut Moves,
+    masks: &mut GrowingMasks,
+    tables: u32,
+    told: &mut Option<u32>,
+    progress: &mut P,
+) -> Result<Option<Move>, AllocError>
+    requires searched { IsSearched masks.old.metric masks.old.exact masks.old.bound masks.old.net masks.old.vectors moves.old }
+    ensures same { masks.new ≡ masks.old }
+    ensures fewer { IfOk result (λ found. IfSome found (λ _. length moves.new < length moves.old)) }
+    ensures next { IfOk result
+        (IsNextUnbroken masks.old.metric masks.old.exact masks.old.bound masks.old.net masks.old.vectors moves.new) }
+{
+    while let Some(step) = moves.next() {
+        tell_table(told, table_of(step), tables, progress);
+        let Some(_) = masks.breaks(step)? else {
+            return Ok(Some(step));
+        };
+    }
+    Ok(None)
+}
