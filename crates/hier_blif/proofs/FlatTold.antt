@@ -1,5 +1,5 @@
 -- What is told of a flat net is told of the hierarchy.
-use Rattle.std.proofs.Common.{◌≡◌, ⊥, Option, Some, None, Result, Err}
+use Rattle.std.proofs.Common.{◌≡◌, Option, Some, None, Result, Err}
 use Rattle.blif_text.specs.declared.refusal.BlifRefusal.{BlifRefusal}
 use Rattle.blif_text.specs.declared.refusal.BlifRefusal.TheVariants as b
 use Rattle.semantics.specs.Net.{NetValue}

@@ -15,7 +15,7 @@ returns-in-Ok-clause-ok c =
     let same = c.deref-2.ensures.value ∙ c.in_ok-models.ensures ∙ ap hierarchy_of (c.deref.ensures.value ∙ c.in_ok-statements.ensures ∙ c.as_slice.ensures) ∙ c.self.view_is in
     subst (λ h. flattened h ≡ Ok c.in-Ok.net) same c.in-Ok.ensures.ok
 
-pub returns-in-Err-clause-err : goal.returns-in-Err-clause-err
-returns-in-Err-clause-err c =
+pub returns-clause-err : goal.returns-clause-err
+returns-clause-err c =
     let same = c.deref-2.ensures.value ∙ c.in_ok-models.ensures ∙ ap hierarchy_of (c.deref.ensures.value ∙ c.in_ok-statements.ensures ∙ c.as_slice.ensures) ∙ c.self.view_is in
     c.flat_refusal.ensures (flattened c.args.self.now) (subst (λ h. flat.Tells c.in-Err.told (flattened h)) same c.in-Err.ensures.err)
