@@ -1,7 +1,7 @@
 //! The net that a circuit is read as, or why it is refused. Source: AIGER; what is refused, and in which order, is this tool's own.
-ghost use Rattle.std.specs.Prelude.{◌≡◌, ◌+◌, ◌<◌, ◌^◌, ◌==◌, false, None, Ok, length, IfOk, IfErr};
+ghost use Rattle.std.specs.Prelude.{◌≡◌, ◌+◌, ◌<◌, ◌^◌, ◌==◌, ◌++◌, false, None, Ok, length, map, IfOk, IfErr};
 ghost use Rattle.semantics.specs.Refusals.{first_undriven, first_ungrounded};
-ghost use Rattle.aiger_semantics.specs.ReadNet.{variables, net_of};
+ghost use Rattle.aiger_semantics.specs.ReadNet.{variables, and_table, output_table, input_ports, output_ports, own_outputs, port_signal, net_of};
 ghost use Rattle.aiger_semantics.specs.Reading.{first_repeated, first_undefined, first_loop, named, net_reading};
 ghost use Rattle.aiger_text.specs.ReadCircuit.{IsRead};
 ghost use Rattle.aiger_text.specs.Refusals.{Tells};
@@ -16,7 +16,7 @@ use net_core::items::{NameList, SignalList, TableList};
 use net_core::name::Name;
 use net_core::net::Net;
 use net_core::refusal::NetRefusal;
-use std::alloc::Global;
+use std::alloc::{AllocError, Global};
 
 /// The net of parts that are wired and have no loop, or the refusal of a doubled name or of a limit.
 fn named_net(
@@ -45,6 +45,41 @@ fn named_net(
     }
 }
 
+/// The tables of a circuit: one for each line, and one for each output that has its own.
+fn circuit_tables(
+    alloc: Global,
+    known: &Variables,
+    ports: &Ports,
+    circuit: &Ands,
+) -> Result<TableList, AllocError>
+    requires read { IsRead circuit.now }
+    requires ports { ports.now ≡ input_ports circuit.now ++ own_outputs circuit.now }
+    ensures { IfOk result (λ tables. tables
+        ≡ map (and_table known.now) circuit.now.ands ++ map (output_table known.now) (own_outputs circuit.now)) }
+{
+    let mut tables = and_tables(alloc, known, circuit.lines())?;
+    push_own_tables(alloc, &mut tables, known, ports, circuit)?;
+    Ok(tables)
+}
+
+/// The tables of a circuit, and the signals of its outputs.
+fn wired_parts(
+    alloc: Global,
+    known: &Variables,
+    circuit: &Ands,
+) -> Result<(TableList, SignalList), AllocError>
+    requires read { IsRead circuit.now }
+    requires differ { first_repeated (variables circuit.now) ≡ None }
+    ensures tables { IfOk result (λ p. p.0
+        ≡ map (and_table known.now) circuit.now.ands ++ map (output_table known.now) (own_outputs circuit.now)) }
+    ensures outputs { IfOk result (λ p. p.1 ≡ map (port_signal circuit.now) (output_ports circuit.now)) }
+{
+    let ports = Ports::of(alloc, circuit)?;
+    let tables = circuit_tables(alloc, known, &ports, circuit)?;
+    let outputs = ports.output_signals(alloc, circuit)?;
+    Ok((tables, outputs))
+}
+
 /// The net of a circuit that is accepted but for its names and its size.
 fn net_of(alloc: Global, known: &Variables, circuit: &Ands) -> Result<Net, AigerRefusal>
     requires read { IsRead circuit.now }
@@ -56,12 +91,9 @@ fn net_of(alloc: Global, known: &Variables, circuit: &Ands) -> Result<Net, Aiger
     ensures ok { IfOk result (λ n. named (net_of circuit.now) ≡ Ok n) }
     ensures err { IfErr result (λ told. Tells told (named (net_of circuit.now))) }
 {
-    let ports = Ports::of(alloc, circuit)?;
-    let mut tables = and_tables(alloc, known, circuit.lines())?;
-    push_own_tables(alloc, &mut tables, known, &ports, circuit)?;
-    let outputs = ports.output_signals(alloc, circuit)?;
     let model = Name::known(alloc, b"top")?;
     let inputs = NameList::from_slice(alloc, circuit.input_names())?;
+    let (tables, outputs) = wired_parts(alloc, known, circuit)?;
     named_net(alloc, model, inputs, tables, outputs)
 }
 
