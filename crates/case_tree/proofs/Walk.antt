@@ -118,25 +118,23 @@ clauses-counted N f built is =
     ∙ length-goal_clauses (input_count N) N.tables (get_or N.outputs 0 0)
     ∙ ap (λ count. count + 1) (length-net_clauses (input_count N) N.tables (λ k d within. (built.sound.tables_formed k d within).widths))
 
-whole-walk : (n : ℕ) (tables : List TableValue) (order : List ℕ) (output : ℕ) (x : List Bool) (last : ℕ) (start log : List LogItem) → length x ≡ n → start ≡ []
+pub whole_walk : (n : ℕ) (tables : List TableValue) (order : List ℕ) (output : ℕ) (x : List Bool) (last : ℕ) (start log : List LogItem) → length x ≡ n → start ≡ []
     → log ≡ start ++ cases_from n tables order output (length x - 0) (take 0 x) last → log ≡ cases_from n tables order output n [] last
-whole-walk n tables order output x last start log width none is =
+whole_walk n tables order output x last start log width none is =
     let free : length x - 0 ≡ n = omega (arith, width) in
     rw (free, none) at is
 
-pub walk-refutes : (N : NetValue) (order : List ℕ) (f : Formula) (x : List Bool) (last : ℕ) (start log : List LogItem) → IsBuilt N → IsOrderOf (input_count N) N.tables order → f ≡ goal_of N
-    → ((y : List Bool) → length y ≡ input_count N → outputs_of N y ≡ false ∷ []) → length x ≡ input_count N → last ≡ length f.clauses
-    → start ≡ [] → log ≡ start ++ cases_from (input_count N) N.tables order (get_or N.outputs 0 0) (length x - 0) (take 0 x) last → Refutes f.clauses log
-walk-refutes N order f x last start log built is_order is always width count none walked =
+pub walk-refutes : (N : NetValue) (order : List ℕ) (f : Formula) (last : ℕ) (log : List LogItem) → IsBuilt N → IsOrderOf (input_count N) N.tables order → f ≡ goal_of N
+    → ((y : List Bool) → length y ≡ input_count N → outputs_of N y ≡ false ∷ []) → last ≡ length f.clauses
+    → log ≡ cases_from (input_count N) N.tables order (get_or N.outputs 0 0) (input_count N) [] last → Refutes f.clauses log
+walk-refutes N order f last log built is_order is always count walked =
     let clauses = ap (λ (g : Formula). g.clauses) is in
-    let whole = whole-walk (input_count N) N.tables order (get_or N.outputs 0 0) x last start log width none walked in
-    rw (whole, count, clauses) (cases-refute (input_count N) N.tables order (get_or N.outputs 0 0) (IsZeroSignal-output N order built is_order always))
+    rw (walked, count, clauses) (cases-refute (input_count N) N.tables order (get_or N.outputs 0 0) (IsZeroSignal-output N order built is_order always))
 
-pub walk-derives : (N : NetValue) (order : List ℕ) (f : Formula) (x : List Bool) (last : ℕ) (start log : List LogItem) → IsBuilt N → IsOrderOf (input_count N) N.tables order → f ≡ goal_of N → input_count N ≤ 15
-    → ((y : List Bool) → length y ≡ input_count N → outputs_of N y ≡ false ∷ []) → length x ≡ input_count N → last ≡ length f.clauses → length f.clauses < 2 ^ 58
-    → start ≡ [] → log ≡ start ++ cases_from (input_count N) N.tables order (get_or N.outputs 0 0) (length x - 0) (take 0 x) last → IsDerivation f log
-walk-derives N order f x last start log built is_order is few always width count short none walked =
+pub walk-derives : (N : NetValue) (order : List ℕ) (f : Formula) (last : ℕ) (log : List LogItem) → IsBuilt N → IsOrderOf (input_count N) N.tables order → f ≡ goal_of N → input_count N ≤ 15
+    → ((y : List Bool) → length y ≡ input_count N → outputs_of N y ≡ false ∷ []) → last ≡ length f.clauses → length f.clauses < 2 ^ 58
+    → log ≡ cases_from (input_count N) N.tables order (get_or N.outputs 0 0) (input_count N) [] last → IsDerivation f log
+walk-derives N order f last log built is_order is few always count short walked =
     let clauses = ap (λ (g : Formula). length g.clauses) is in
-    let whole = whole-walk (input_count N) N.tables order (get_or N.outputs 0 0) x last start log width none walked in
-    rw (whole, count, is)
+    rw (walked, count, is)
     (cases-derivation (input_count N) N.tables order (get_or N.outputs 0 0) (variable_count (input_count N) N.tables) (IsZeroSignal-output N order built is_order always) (omega arith) few (omega (arith, short, clauses)))

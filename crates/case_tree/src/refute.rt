@@ -146,6 +146,23 @@ fn push_cases(
     Ok(id)
 }
 
+/// The steps behind the id `last` that derive the empty clause: those of every input vector.
+fn all_cases(alloc: Global, tree: &Tree, last: u64) -> Result<Log, AllocError>
+    requires tree { IsTree tree.now }
+    requires ids { last + step_count (input_count tree.now.net.now) < 2 ^ 63 }
+    ensures { IfOk result (λ log. log ≡ cases_from (input_count tree.now.net.now) tree.now.net.now.tables tree.now.order.now
+        (slice_index tree.now.net.now.outputs 0) (input_count tree.now.net.now) [] last) }
+{
+    let mut x = vec![in alloc; false; tree.net.inputs() as usize]?;
+    let mut words = vec![in alloc; 0; tree.net.signals() as usize]?;
+    let mut room = room_for(alloc, tree.net)?;
+    let mut log = Items::new(alloc);
+    push_cases(
+        alloc, tree, &mut words, &mut room, &mut x, 0, last, &mut log,
+    )?;
+    Ok(log)
+}
+
 /// How many clauses a formula has.
 fn clause_count(goal: &Cnf) -> u64
     ensures value { result ≡ length goal.now.clauses }
@@ -165,10 +182,6 @@ pub fn refute(alloc: Global, joint: &Net, goal: &Cnf) -> Result<Log, AllocError>
 {
     let last = clause_count(goal);
     let inputs = joint.inputs();
-    let mut x = vec![in alloc; false; inputs as usize]?;
-    let mut words = vec![in alloc; 0; joint.signals() as usize]?;
-    let mut room = room_for(alloc, joint)?;
-    let mut log = Items::new(alloc);
     let firsts = first_ids(alloc, joint)?;
     let rest = Patterns::exhaustive(alloc, inputs.min(SIDE_BY_SIDE))?;
     let tree = Tree {
@@ -177,8 +190,5 @@ pub fn refute(alloc: Global, joint: &Net, goal: &Cnf) -> Result<Log, AllocError>
         firsts: firsts.as_slice(),
         rest: &rest,
     };
-    push_cases(
-        alloc, &tree, &mut words, &mut room, &mut x, 0, last, &mut log,
-    )?;
-    Ok(log)
+    all_cases(alloc, &tree, last)
 }
