@@ -13,6 +13,7 @@ pub struct FrontDigits {
 }
 
 /// Takes digits from the front of the bytes into the number, as long as it is not large.
+#[inline(always)]
 pub fn take_digits(number: u64, bytes: &[u8]) -> FrontDigits
     ensures within { result.count ≤ length bytes.now }
     ensures lead { DigitsLead number bytes.now result.size result.count }

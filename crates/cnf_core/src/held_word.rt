@@ -23,6 +23,7 @@ pub struct NumberSoFar {
 }
 
 #[tactic(auto, unfolding(proof_semantics::specs::LratTokens::is_blank))]
+#[inline(always)]
 pub fn is_blank(byte: u8) -> bool
     ensures { result ≡ is_blank byte }
 {
@@ -87,6 +88,7 @@ impl HeldWord {
     }
 
     /// The number that a digit would go on with; none where the token is no number any more.
+    #[inline(always)]
     pub fn number(self) -> Option<NumberSoFar>
         ensures { IfSome result (λ n. IsNumberSoFar self n.negative n.size) }
     {
@@ -100,6 +102,7 @@ impl HeldWord {
     }
 
     /// What the token is where a blank ends it.
+    #[inline(always)]
     pub fn ended(self) -> Option<LratWord>
         ensures { result ≡ ended_word self }
     {

@@ -51,6 +51,7 @@ fn after_outside(word: LratWord, place: u64, draft: &ItemDraft) -> Part
     }
 }
 
+#[inline(always)]
 fn after_literals(
     id: u64,
     word: LratWord,
@@ -88,6 +89,7 @@ fn after_id(id: u64, word: LratWord, place: u64, draft: &mut ItemDraft) -> Resul
     after_literals(id, word, place, draft)
 }
 
+#[inline(always)]
 fn after_hints(
     id: u64,
     word: LratWord,
@@ -147,6 +149,7 @@ fn after_deletion(
 
 impl Part {
     /// Behind one more token, which is at this place. The item that ends with the token is put behind the others.
+    #[inline(always)]
     pub fn after(
         self,
         word: LratWord,
@@ -169,6 +172,7 @@ impl Part {
         }
     }
 
+    #[inline(always)]
     pub fn refusal(self, draft: &ItemDraft) -> Option<LratRefusal>
         ensures { result ≡ refusal_at (stage_at self draft.now) }
     {

@@ -48,6 +48,7 @@ impl Scanner {
     }
 
     /// Ends the token at hand.
+    #[inline(always)]
     pub fn close(
         self,
         draft: &mut ItemDraft,
@@ -73,6 +74,7 @@ impl Scanner {
     }
 
     /// Behind one more byte. The item that ends with it is put behind the others.
+    #[inline(always)]
     pub fn with_byte(
         self,
         byte: u8,
@@ -103,6 +105,7 @@ impl Scanner {
     }
 
     /// Behind the digits at the front of the bytes, where the token at hand is that number so far.
+    #[inline(always)]
     fn with_digits(self, number: NumberSoFar, bytes: &[u8], draft: &ItemDraft) -> Advance
         requires calm { is_refused (stage_at self.part draft.now) ≡ false }
         requires number { IsNumberSoFar self.word number.negative number.size }
@@ -133,6 +136,7 @@ impl Scanner {
     }
 
     /// Behind the digits at the front of the bytes, where they belong to a number.
+    #[inline(always)]
     fn with_front(self, bytes: &[u8], draft: &ItemDraft) -> Advance
         requires { self.at + length bytes.now < 2 ^ 63 }
         ensures within { result.count ≤ length bytes.now }

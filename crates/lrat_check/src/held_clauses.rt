@@ -40,6 +40,7 @@ fn search(entries: &[Entry], id: u64) -> Option<usize>
 
 /// Where the id stands. As long as ids follow one another and all are there, each stands at the number before it, so that place is
 /// looked at first.
+#[inline(always)]
 fn place_of(entries: &[Entry], id: u64) -> Option<usize>
     requires { AllPairs IsBefore entries.now }
     ensures { IsPlaceOf entries.now id result }
@@ -107,6 +108,7 @@ impl HeldClauses {
     }
 
     /// The clause of an id.
+    #[inline(always)]
     pub fn get(&self, id: u64) -> Option<&Lits>
         ensures { option_map (λ clause. clause.now) result ≡ map.get self.now.held id }
     {

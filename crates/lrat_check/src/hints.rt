@@ -22,6 +22,7 @@ pub fn insert_negations(set: &mut LiteralSet, literals: &[Literal]) -> Result<()
 }
 
 /// What a clause gives as a hint, given the set so far.
+#[inline(always)]
 fn hint_gives(
     set: &LiteralSet,
     clause: &[Literal],

@@ -11,6 +11,7 @@ use std::collections::HashSet;
 use std::marker::Model;
 
 /// The opposite sign of the same variable.
+#[inline(always)]
 pub fn negation(literal: Literal) -> Literal
     requires { IsLiteral literal }
     ensures { result ≡ neg_ℤ literal }
@@ -19,6 +20,7 @@ pub fn negation(literal: Literal) -> Literal
 }
 
 /// Where the literal's mark stands.
+#[inline(always)]
 fn index_of(literal: Literal) -> usize
     ensures value { result ≡ index_of literal }
 {
@@ -90,6 +92,7 @@ impl LiteralSet {
         self.apart = HashSet::new(*self.members.allocator());
     }
 
+    #[inline(always)]
     pub fn contains(&self, literal: Literal) -> bool
         ensures { result ≡ set.contains self.now literal }
     {
@@ -101,6 +104,7 @@ impl LiteralSet {
         }
     }
 
+    #[inline(always)]
     pub fn insert(&mut self, literal: Literal) -> Result<(), AllocError>
         ensures { OnOk result (self.new ≡ set.insert self.old literal) }
     {
@@ -120,6 +124,7 @@ impl LiteralSet {
     }
 
     /// Whether the literal's negation is in the set.
+    #[inline(always)]
     pub fn makes_false(&self, literal: Literal) -> bool
         requires { IsLiteral literal }
         ensures { result ≡ is_false_in self.now literal }
