@@ -59,8 +59,7 @@ fn milliseconds(from: Option<Instant>, to: Option<Instant>) -> u128 {
 impl<'a, R: Clock + Eprint + Env + AllocGlobal> Terminal<'a, R> {
     /// Standard error as the user's variables want it, which `is_terminal` or not.
     pub fn of_user(runtime: &'a R, is_terminal: bool) -> Self {
-        let is_shown =
-            is_terminal && matches!(env::var(runtime, QUIET), Err(VarError::NotPresent));
+        let is_shown = is_terminal && matches!(env::var(runtime, QUIET), Err(VarError::NotPresent));
         let is_timed = env::var(runtime, TIMES).is_ok();
         Terminal::new(runtime, is_shown, is_timed)
     }

@@ -6,9 +6,9 @@ ghost use Rattle.hierarchy_semantics.specs.Counts.{flat_weight};
 ghost use Rattle.hierarchy_semantics.specs.Flat.{flat_net};
 ghost use Rattle.hier_flat.specs.Weights.{weight_of, capped, limit_by};
 
+use crate::weights::{Measure, weights};
 use hier_parts::interfaces::Interfaces;
 use hier_parts::models::BlifModel;
-use crate::weights::{Measure, weights};
 use semantics::limits::{MOST_INPUTS, MOST_OUTPUTS, MOST_PINS, MOST_ROWS, MOST_TABLES};
 use semantics::which::Which;
 use std::alloc::{AllocError, Global};

@@ -8,9 +8,9 @@ ghost use Rattle.text_words.specs.Slices.{texts};
 ghost use Rattle.hier_flat.specs.Flattening.{label, table_made, buffer_made, with_buffers, with_model, used_signal, signal_of, IsReady, AreReady};
 
 use crate::frames::{Frame, Sizes, frame_of, input_signals};
+use blif_text::named_table::NamedTable;
 use hier_parts::interfaces::Interface;
 use hier_parts::models::{BlifModel, Part, Subcircuit};
-use blif_text::named_table::NamedTable;
 use net_core::items::{Items, Signal, SignalList, TableList};
 use net_core::mark::Mark;
 use net_core::name::Name;

@@ -6,9 +6,9 @@ ghost use Rattle.hierarchy_semantics.specs.Counts.{part_weight};
 ghost use Rattle.hier_parts.specs.Sections.{part_value};
 ghost use Rattle.hier_flat.specs.Weights.{weight_of, capped, weight_named, AreWeights, level_weights};
 
+use blif_text::named_table::NamedTable;
 use hier_parts::interfaces::{Interface, Interfaces};
 use hier_parts::models::{BlifModel, Part, Subcircuit};
-use blif_text::named_table::NamedTable;
 use semantics::limits::MOST_TABLE_PINS;
 use std::alloc::{AllocError, Global};
 

@@ -16,11 +16,13 @@ use synth_jobs::work::Work;
 /// Carries out the demonstration that the words name, over the files and the standard output of the system; None where they name
 /// none.
 fn answer(rt: &HostRuntime, words: &[Word]) -> Option<Work> {
-    let Some(Command::Demo {
-        width,
-        bound,
-        conflicts,
-    }) = command_named(words)
+    let Some(
+        Command::Demo {
+            width,
+            bound,
+            conflicts,
+        },
+    ) = command_named(words)
     else {
         return None;
     };
