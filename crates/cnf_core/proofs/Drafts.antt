@@ -1,9 +1,9 @@
 -- What stands in drafts of items.
-use Rattle.std.proofs.Common.{◌≡◌, ℕ, ℤ, [], ◌∷◌, ◌++◌, length, refl, ap, sym, subst, ◌∙◌, append_assoc, append-nil, Result, Ok, Err, OnOk, OnErr}
+use Rattle.std.proofs.Common.{◌≡◌, ℕ, ℤ, List, [], ◌∷◌, ◌++◌, length, refl, ap, sym, subst, ◌∙◌, append_assoc, append-nil, Result, Ok, Err, OnOk, OnErr}
 use Rattle.std.proofs.lemmas.List.{drop_at}
 use Rattle.std.proofs.lemmas.List.Elements.{All-push, All-drop}
 use Rattle.proof_parts.specs.Literals.{IsLiteral, AreLiterals}
-use Rattle.cnf_core.specs.Drafts.{DraftValue, ItemDraftValue, whole, Grows}
+use Rattle.cnf_core.specs.Drafts.{DraftValue, ItemDraftValue, whole, HasGrown, Grows}
 
 -- of all literals those at hand are literals
 pub AreLiterals-at_hand : (d : DraftValue ℤ) → AreLiterals (whole d) → AreLiterals d.at_hand
@@ -51,3 +51,14 @@ pub Grows-push_number : {E : Type 0} (r : Result (Unit {0}) E) (old new : ItemDr
     → OnOk r (new.numbers ≡ record old.numbers { at_hand = old.numbers.at_hand ++ n ∷ [] }) → OnErr r (new.numbers ≡ old.numbers) → new.literals ≡ old.literals → Grows old new
 Grows-push_number (Ok u) old new n ok err same = rw (ok, same) (Grows-number old n)
 Grows-push_number (Err e) old new n ok err same = Grows-from old new (rw (err, same) refl)
+
+-- one item more
+pub HasGrown-push : {T : Type 0} (a b c : DraftValue T) (x : T) → HasGrown a b → c ≡ record b { at_hand = b.at_hand ++ x ∷ [] } → HasGrown a c
+HasGrown-push {T} a b c x g is = (g.0 ++ x ∷ [], is ∙ ap (λ (d : DraftValue T). record d { at_hand = d.at_hand ++ x ∷ [] }) g.1 ∙ ap (λ (l : List T). record a { at_hand = l }) (append_assoc a.at_hand g.0 (x ∷ [])))
+
+-- hints or ids have grown
+pub Grows-numbers : (old : ItemDraftValue) (new : DraftValue ℕ) → HasGrown old.numbers new → Grows old (record old { numbers = new })
+Grows-numbers old new g = record {
+  literals = ([], sym (append-nil (whole old.literals)));
+  numbers = (g.0, ap whole g.1 ∙ sym (append_assoc old.numbers.before old.numbers.at_hand g.0));
+}

@@ -52,7 +52,7 @@ one_digit s negative size c r so_far h small =
     let word = so_far c h ∙ number_small negative size c h (omega (arith, b.most)) in
     (rw (r, b.plain, b.good, word) refl, rw (r, b.plain) refl)
 
-lead_more : (s t u : ScannerValue) (text : Bytes) (i : ℕ) → i < length text → LeadAlike s text t (drop i text)
+pub lead_more : (s t u : ScannerValue) (text : Bytes) (i : ℕ) → i < length text → LeadAlike s text t (drop i text)
     → scanned t (slice_index text i) ≡ u → gives t (slice_index text i) ≡ [] → LeadAlike s text u (drop (i + 1) text)
 lead_more s t u text i lt lead e f =
     let c = slice_index text i in

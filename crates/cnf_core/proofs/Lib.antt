@@ -7,6 +7,7 @@ pub mod LogTexts
 pub mod Drafts
 pub mod LratScans
 pub mod FrontDigits
+pub mod FrontNumbers
 pub mod LratForms
 pub mod LratReadings
 pub mod LratReaders

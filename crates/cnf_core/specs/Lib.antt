@@ -3,6 +3,7 @@ pub mod FormulaText
 pub mod LogText
 pub mod LratScanning
 pub mod FrontDigits
+pub mod FrontNumbers
 pub mod Drafts
 pub mod LratParts
 pub mod LratReads

@@ -1,5 +1,5 @@
 //! The digits of a number, taken from a slice.
-ghost use Rattle.std.specs.Prelude.{◌≤◌, length};
+ghost use Rattle.std.specs.Prelude.{◌≡◌, ◌≤◌, length};
 ghost use Rattle.cnf_core.specs.FrontDigits.{DigitsLead};
 
 /// Below this size one more digit leaves a number below 2^63.
@@ -17,6 +17,7 @@ pub struct FrontDigits {
 pub fn take_digits(number: u64, bytes: &[u8]) -> FrontDigits
     ensures within { result.count ≤ length bytes.now }
     ensures lead { DigitsLead number bytes.now result.size result.count }
+    ensures none { result.count ≡ 0 → result.size ≡ number }
 {
     let mut size = number;
     for (count, &byte) in bytes.iter().enumerate() {

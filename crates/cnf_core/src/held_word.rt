@@ -1,5 +1,5 @@
 //! The bytes of a token, as far as they were read.
-ghost use Rattle.std.specs.Prelude.{◌≡◌, ◌+◌, ◌*◌, ◌<◌, IfSome};
+ghost use Rattle.std.specs.Prelude.{◌≡◌, ◌+◌, ◌*◌, ◌<◌, IsTrue, IfSome};
 ghost use Rattle.proof_semantics.specs.LratTokens.{is_blank, is_log_byte, number_word};
 ghost use Rattle.cnf_core.specs.LratScanning.{word_with, held_with, ended_word};
 ghost use Rattle.cnf_core.specs.FrontDigits.{IsNumberSoFar};
@@ -84,6 +84,16 @@ impl HeldWord {
             },
             HeldWord::Minus => first_digit(true, byte),
             HeldWord::Whole(word) => with_byte(word, byte),
+        }
+    }
+
+    #[inline(always)]
+    pub fn is_empty(self) -> bool
+        ensures { IsTrue result → self ≡ HeldWord.Empty }
+    {
+        match self {
+            HeldWord::Empty => true,
+            _ => false,
         }
     }
 

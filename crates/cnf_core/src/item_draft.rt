@@ -1,10 +1,12 @@
 //! The lists of the item at hand.
-ghost use Rattle.std.specs.Prelude.{◌≡◌, ◌^◌, ◌<◌, [], ◌∷◌, ◌++◌, length, take, IfOk, OnOk, OnErr};
-ghost use Rattle.cnf_core.specs.Drafts.{whole, Grows};
+ghost use Rattle.std.specs.Prelude.{◌≡◌, ◌^◌, ◌<◌, ◌≤◌, [], ◌∷◌, ◌++◌, length, take, IfOk, OnOk, OnErr};
+ghost use Rattle.cnf_core.specs.Drafts.{whole, with_numbers, Grows};
+ghost use Rattle.cnf_core.specs.FrontNumbers.{NumbersLead};
 ghost use Rattle.proof_parts.specs.Literals.{IsLiteral};
 
 use crate::clause::Lits;
 use crate::draft::Draft;
+use crate::front_numbers::take_numbers;
 use crate::literal::Literal;
 use crate::log::{Ids, Step};
 use std::alloc::{AllocError, Global};
@@ -80,6 +82,18 @@ impl ItemDraft {
         ensures grows { Grows self.old self.new }
     {
         self.numbers.push(number)
+    }
+
+    /// Puts the positive numbers at the front of the bytes that a blank ends behind the hints or ids, and answers how many bytes they are.
+    #[inline(always)]
+    pub fn push_numbers(&mut self, bytes: &[u8]) -> Result<usize, AllocError>
+        ensures within { IfOk result (λ count. count ≤ length bytes.now) }
+        ensures lead { IfOk result (λ count. NumbersLead self.old.numbers.at_hand bytes.now self.new.numbers.at_hand count) }
+        ensures kept { IfOk result (λ _. self.new ≡ with_numbers self.old self.new.numbers.at_hand) }
+        ensures none { IfOk result (λ count. count ≡ 0 → self.new ≡ self.old) }
+        ensures grows { Grows self.old self.new }
+    {
+        take_numbers(&mut self.numbers, bytes)
     }
 
     /// The step of the lists at hand.

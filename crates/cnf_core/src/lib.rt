@@ -5,6 +5,7 @@ pub mod dimacs;
 pub mod dimacs_text;
 mod draft;
 mod front_digits;
+mod front_numbers;
 mod held_word;
 mod item_draft;
 pub mod lrat;

@@ -1,9 +1,10 @@
 //! A log's text byte by byte.
-ghost use Rattle.std.specs.Prelude.{◌≡◌, ◌+◌, ◌^◌, ◌<◌, ◌≤◌, ◌++◌, length, drop, false, IfOk, OnErr};
+ghost use Rattle.std.specs.Prelude.{◌≡◌, ◌+◌, ◌^◌, ◌<◌, ◌≤◌, ◌++◌, length, drop, false, IsTrue, IfOk, OnErr};
 ghost use Rattle.proof_semantics.specs.LratReading.{is_refused};
 ghost use Rattle.cnf_core.specs.LratScanning.{begin, closed, closed_gives, scanned, gives, scanned_all, all_given, FoundMore};
 ghost use Rattle.cnf_core.specs.FrontDigits.{LeadAlike, IsNumberSoFar};
-ghost use Rattle.cnf_core.specs.Drafts.{ItemDraftValue, Grows};
+ghost use Rattle.cnf_core.specs.FrontNumbers.{TakesNumbers};
+ghost use Rattle.cnf_core.specs.Drafts.{ItemDraftValue, with_numbers, Grows};
 ghost use Rattle.cnf_core.specs.LratParts.{stage_at, scanner_at};
 
 use crate::front_digits::take_digits;
@@ -154,6 +155,52 @@ impl Scanner {
         }
     }
 
+    /// Whether hints or ids are at hand, and the next one has not begun.
+    #[inline(always)]
+    fn takes_numbers(self) -> bool
+        ensures { IsTrue result → (self.word ≡ HeldWord.Empty)
+            × ((draft : ItemDraftValue) → TakesNumbers (λ numbers. stage_at self.part (with_numbers draft numbers))) }
+    {
+        match self.part {
+            Part::InHints(_) | Part::InDeletion => self.word.is_empty(),
+            _ => false,
+        }
+    }
+
+    /// Behind the hints or ids at the front of the bytes that are whole.
+    #[inline(always)]
+    fn with_numbers(self, bytes: &[u8], draft: &mut ItemDraft) -> Result<Advance, AllocError>
+        requires { self.at + length bytes.now < 2 ^ 63 }
+        ensures within { IfOk result (λ a. a.count ≤ length bytes.now) }
+        ensures lead { IfOk result (λ a.
+            LeadAlike (scanner_at self draft.old) bytes.now (scanner_at a.scanner draft.new) (drop a.count bytes.now)) }
+        ensures place { IfOk result (λ a. a.scanner.at ≡ self.at + a.count) }
+        ensures grows { Grows draft.old draft.new }
+    {
+        if !self.takes_numbers() {
+            return Ok(Advance {
+                scanner: self,
+                count: 0,
+            });
+        }
+        let count = draft.push_numbers(bytes)?;
+        if count == 0 {
+            return Ok(Advance {
+                scanner: self,
+                count,
+            });
+        }
+        let at = self.at + count as u64;
+        Ok(Advance {
+            scanner: Scanner {
+                start: at,
+                at,
+                ..self
+            },
+            count,
+        })
+    }
+
     /// Behind these bytes. The items that end within them are put behind the others.
     pub fn with_bytes(
         self,
@@ -170,7 +217,9 @@ impl Scanner {
         let mut scanner = self;
         let mut at = 0;
         'fronts: loop {
-            let front = scanner.with_front(&bytes[at..], draft);
+            let numbers = scanner.with_numbers(&bytes[at..], draft)?;
+            at += numbers.count;
+            let front = numbers.scanner.with_front(&bytes[at..], draft);
             at += front.count;
             let Some(byte) = bytes.get(at) else {
                 return Ok(front.scanner);
