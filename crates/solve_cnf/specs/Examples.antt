@@ -7,6 +7,7 @@ use Rattle.proof_semantics.specs.Formula.{Formula, dimacs_text}
 use Rattle.proof_semantics.specs.declared.item.Item.TheVariants.{Add}
 use Rattle.cdcl_core.specs.declared.answer.Answer.TheVariants.{Model, Refuted, Spent}
 use Rattle.solve_cnf.specs.Reading.{Refusal, no_header, bad_header, no_number, no_variable, unended, wrong_count, formula_of_text}
+use Rattle.solve_cnf.specs.Counts.{clause_counts}
 use Rattle.solve_cnf.specs.Writing.{answer_text}
 use Rattle.solve_cnf.specs.Run.{limit_of}
 
@@ -58,6 +59,10 @@ pub record RefusalExamples : Type 0 where
   pub cut_behind_clauses : said_of_one (codes "1 0 -1" ∷ []) ≡ Err unended
   pub too_few : said_of_one [] ≡ Err wrong_count
   pub too_many : said_of_one (codes "1 0 0" ∷ []) ≡ Err wrong_count
+  pub too_few_counts : clause_counts (text (codes "p cnf 1 3" ∷ codes "1 0 -1 0" ∷ [])) ≡ Some (3, 2)
+  pub too_many_counts : clause_counts (text (codes "p cnf 1 0" ∷ codes "1 0 0" ∷ [])) ≡ Some (0, 2)
+  pub large_count : clause_counts (text (codes "p cnf 1 18446744073709551616" ∷ codes "1 0" ∷ [])) ≡ Some (18446744073709551615, 1)
+  pub no_counts : clause_counts (text (codes "p cnf 1 3" ∷ codes "1" ∷ [])) ≡ None
 
 pub record AnswerExamples : Type 0 where
   pub model : answer_text (Model (true ∷ false ∷ true ∷ [])) ≡ text (codes "s SATISFIABLE" ∷ codes "v 1 -2 3 0" ∷ [])

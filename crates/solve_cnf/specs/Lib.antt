@@ -4,6 +4,7 @@ pub mod Header
 pub mod FormulaDraft
 pub mod Refusals
 pub mod Places
+pub mod Counts
 pub mod Writing
 pub mod Run
 pub mod Examples

@@ -9,6 +9,7 @@ use Rattle.cdcl_core.specs.declared.answer.Answer.{Answer}
 use Rattle.solve_cnf.specs.Reading.{are_digits, formula_of_text}
 use Rattle.solve_cnf.specs.Refusals.{Tells}
 use Rattle.solve_cnf.specs.Places.{refused_line, Names}
+use Rattle.solve_cnf.specs.Counts.{clause_counts, Counts}
 use Rattle.solve_cnf.specs.Writing.{answer_text}
 use Rattle.solve_cnf.specs.declared.run.RunError.{RunError}
 use Rattle.solve_cnf.specs.declared.run.RunError.TheVariants.{Refused, OutOfMemory, Write}
@@ -26,9 +27,9 @@ pub record IsAnswered (text : Bytes) (limit : ℕ) (old new : Option Bytes) : Ty
   pub right : IsAnswer formula [] limit answer
   pub written : Appends old new (answer_text answer)
 
--- The text means no formula, for the reason and at the line that are told, or memory is wanted, and nothing was written; or the text
--- means a formula, and nothing is said of what went out before a write failed.
+-- The text means no formula, for the reason, at the line and with the counts of clauses that are told, or memory is wanted, and nothing was
+-- written; or the text means a formula, and nothing is said of what went out before a write failed.
 abbrev pub HasFailed : Bytes → Option Bytes → Option Bytes → RunError → Type 0
-HasFailed text old new (Refused told) = Tells told (formula_of_text text) × Names told (refused_line text) × Keeps old new
+HasFailed text old new (Refused told) = Tells told (formula_of_text text) × Names told (refused_line text) × Counts told (clause_counts text) × Keeps old new
 HasFailed text old new OutOfMemory = Keeps old new
 HasFailed text old new (Write error) = (formula : Formula) × (formula_of_text text ≡ Ok formula)

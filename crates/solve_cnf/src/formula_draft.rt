@@ -9,6 +9,7 @@ ghost use Rattle.solve_cnf.specs.FormulaDraft.{with_number, clauses_with};
 ghost use Rattle.solve_cnf.specs.Refusals.{Tells};
 ghost use Rattle.solve_cnf.specs.Slices.{line_texts};
 ghost use Rattle.solve_cnf.specs.Places.{has_wrong, is_wrong, line_number, line_of, line_values, place_if, wrong_line, Names};
+ghost use Rattle.solve_cnf.specs.Counts.{counts_with, counts_of, Counts};
 
 use crate::error::ReadError;
 use crate::lines::{Line, line_number};
@@ -71,6 +72,7 @@ impl FormulaDraft {
         ensures variables { self.new.variables ≡ self.old.variables }
         ensures right { OnOk result (is_wrong self.old.variables word.now ≡ false) }
         ensures place { IfErr result (λ told. Names told (place_if (is_wrong self.old.variables word.now) line)) }
+        ensures no_counts { IfErr result (λ told. counts_of told ≡ None) }
         ensures ok { OnOk result ((rest : List Bytes)
             → clauses_with self.new rest ≡ clauses_with self.old (word.now ∷ rest)) }
         ensures err { IfErr result (λ told. (rest : List Bytes)
@@ -87,6 +89,7 @@ impl FormulaDraft {
         ensures right { OnOk result (has_wrong self.old.variables (words_of line.now.1.now) ≡ false) }
         ensures place { IfErr result (λ told.
             Names told (place_if (has_wrong self.old.variables (words_of line.now.1.now)) (line_number line.now.0))) }
+        ensures no_counts { IfErr result (λ told. counts_of told ≡ None) }
         ensures ok { OnOk result ((rest : List Bytes)
             → clauses_with self.new rest ≡ clauses_with self.old (words_of line.now.1.now ++ rest)) }
         ensures err { IfErr result (λ told. (rest : List Bytes)
@@ -103,6 +106,7 @@ impl FormulaDraft {
     pub fn take_lines(&mut self, lines: &[Line]) -> Result<(), ReadError>
         ensures variables { self.new.variables ≡ self.old.variables }
         ensures place { IfErr result (λ told. Names told (wrong_line self.old.variables (line_values lines.now))) }
+        ensures no_counts { IfErr result (λ told. counts_of told ≡ None) }
         ensures ok { OnOk result (clauses_with self.new []
             ≡ clauses_with self.old (flat_map words_of (line_texts lines.now))) }
         ensures err { IfErr result (λ told.
@@ -121,6 +125,8 @@ impl FormulaDraft {
             → formula_with (record { variables = self.variables; clauses = clauses }) (clauses_with self []) ≡ Ok cnf) }
         ensures err { IfErr result (λ told. (clauses : ℕ) → count ≡ held_number clauses
             → Tells told (formula_with (record { variables = self.variables; clauses = clauses }) (clauses_with self []))) }
+        ensures counts { IfErr result (λ told. (clauses : ℕ) → count ≡ held_number clauses
+            → Counts told (counts_with (record { variables = self.variables; clauses = clauses }) (clauses_with self []))) }
         ensures derivation { IfOk result (λ cnf. IsDerivation cnf []) }
     {
         if !self.begun.is_empty() {

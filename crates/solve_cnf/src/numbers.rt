@@ -5,6 +5,7 @@ ghost use Rattle.solve_cnf.specs.Reading.{Refusal, are_digits, is_negative, digi
 ghost use Rattle.solve_cnf.specs.Header.{held_number};
 ghost use Rattle.solve_cnf.specs.Refusals.{refusal_of};
 ghost use Rattle.solve_cnf.specs.Places.{is_wrong, place_if, Names};
+ghost use Rattle.solve_cnf.specs.Counts.{counts_of};
 
 use crate::error::ReadError;
 
@@ -50,6 +51,7 @@ pub fn number_of(word: &[u8], vars: u32, line: usize) -> Result<i32, ReadError>
     ensures wrong { IfErr result (λ told. (refusal : Refusal)
         → refusal_of told ≡ Some refusal → wrong_word vars word.now ≡ Some refusal) }
     ensures place { IfErr result (λ told. Names told (place_if (is_wrong vars word.now) line)) }
+    ensures no_counts { IfErr result (λ told. counts_of told ≡ None) }
 {
     let Some(size) = digits_number(digits_of(word)) else {
         return Err(ReadError::NoNumber { line });

@@ -4,6 +4,7 @@ ghost use Rattle.proof_semantics.specs.Logs.{IsDerivation};
 ghost use Rattle.solve_cnf.specs.Reading.{formula_of_text};
 ghost use Rattle.solve_cnf.specs.Refusals.{Tells};
 ghost use Rattle.solve_cnf.specs.Places.{refused_line, Names};
+ghost use Rattle.solve_cnf.specs.Counts.{clause_counts, Counts};
 
 use crate::error::ReadError;
 use crate::formula_draft::FormulaDraft;
@@ -14,11 +15,12 @@ use std::alloc::Global;
 use text_words::words::words_of;
 
 /// The formula of a text. Each refusal but want of memory is the one that the definition gives.
-#[tactic(auto, unfolding(crate::specs::Reading::formula_of_text, crate::specs::Places::refused_line))]
+#[tactic(auto, unfolding(crate::specs::Reading::formula_of_text, crate::specs::Places::refused_line, crate::specs::Counts::clause_counts))]
 pub fn read_formula(alloc: Global, text: &[u8]) -> Result<Cnf, ReadError>
     ensures ok { IfOk result (λ cnf. formula_of_text text.now ≡ Ok cnf) }
     ensures err { IfErr result (λ told. Tells told (formula_of_text text.now)) }
     ensures place { IfErr result (λ told. Names told (refused_line text.now)) }
+    ensures counts { IfErr result (λ told. Counts told (clause_counts text.now)) }
     ensures derivation { IfOk result (λ cnf. IsDerivation cnf []) }
 {
     let lines = lines_of(alloc, text)?;

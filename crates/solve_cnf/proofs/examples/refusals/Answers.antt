@@ -1,10 +1,11 @@
 -- by computation
 use Rattle.std.proofs.Common.{refl}
 use Rattle.solve_cnf.specs.Reading.{formula_of_text}
+use Rattle.solve_cnf.specs.Counts.{clause_counts}
 use Rattle.solve_cnf.proofs.examples.refusals.Goals as goal
 
 pub returns : goal.returns
-unfolding formula_of_text
+unfolding formula_of_text clause_counts
 returns c = record {
   empty_text = refl;
   comments_alone = refl;
@@ -25,4 +26,8 @@ returns c = record {
   cut_behind_clauses = refl;
   too_few = refl;
   too_many = refl;
+  too_few_counts = refl;
+  too_many_counts = refl;
+  large_count = refl;
+  no_counts = refl;
 }
