@@ -5,11 +5,10 @@ use Rattle.std.proofs.lemmas.Bool.{lt-ltb, and_parts, leb-true, ne_eqb}
 use Rattle.std.proofs.lemmas.List.{at_drop_more}
 use Rattle.semantics.specs.Texts.{Bytes}
 use Rattle.semantics.specs.Decimal.{is_digit}
-use Rattle.proof_semantics.specs.declared.lrat_word.LratWord.TheVariants.{Number}
 use Rattle.proof_semantics.specs.Logs.{LogItem}
 use Rattle.proof_semantics.specs.LratTokens.{is_blank, is_log_byte}
 use Rattle.proof_semantics.specs.LratReading.{is_refused}
-use Rattle.cnf_core.specs.declared.held_word.HeldWord.TheVariants.{Empty, Whole}
+use Rattle.cnf_core.specs.declared.held_word.HeldWord.TheVariants as form
 use Rattle.cnf_core.specs.LratScanning.{ScannerValue, number_with, scanned, gives, scanned_all, all_given}
 use Rattle.cnf_core.specs.FrontDigits.{LeadAlike, IsNumberSoFar, numbered, DigitsLead}
 
@@ -39,10 +38,10 @@ digit_byte c h =
     }
 
 -- nothing yet is the number 0 so far
-pub nothing_so_far : IsNumberSoFar Empty false 0
+pub nothing_so_far : IsNumberSoFar form.Empty false 0
 nothing_so_far c h = let b = digit_byte c h in rw (b.no_letter, b.no_minus) refl
 
-number_small : (negative : Bool) (size c : ℕ) → is_digit c ≡ true → 10 * size + (c - 48) < 2 ^ 63 → number_with negative size c ≡ Whole (Number negative (10 * size + (c - 48)))
+number_small : (negative : Bool) (size c : ℕ) → is_digit c ≡ true → 10 * size + (c - 48) < 2 ^ 63 → number_with negative size c ≡ form.Number negative (10 * size + (c - 48))
 number_small negative size c h small = rw (h, lt-ltb (10 * size + (c - 48)) (2 ^ 63) small) refl
 
 one_digit : (s : ScannerValue) (negative : Bool) (size c : ℕ) → is_refused s.stage ≡ false → IsNumberSoFar s.word negative size → is_digit c ≡ true → size < 2 ^ 59
@@ -62,7 +61,7 @@ lead_more s t u text i lt lead e f =
     (lead.0 ∙ at_drop_more (scanned_all t) text i 0 lt ∙ scans, lead.1 ∙ at_drop_more (all_given t) text i 0 lt ∙ given)
 
 further : (s : ScannerValue) (negative : Bool) (size more i : ℕ) → numbered (numbered s negative size i) negative more 1 ≡ numbered s negative more (i + 1)
-further s negative size more i = ap (λ a. record s { word = Whole (Number negative more); at = a }) (omega arith)
+further s negative size more i = ap (λ a. record s { word = form.Number negative more; at = a }) (omega arith)
 
 -- one digit more leads on
 pub digits_step : (before size i : ℕ) (text : Bytes) → i < length text → is_digit (slice_index text i) ≡ true → size < 2 ^ 59 → (i ≡ 0 → size ≡ before)

@@ -2,10 +2,9 @@
 use Rattle.std.specs.Prelude.{◌≡◌, ℕ, ◌+◌, ◌<◌, Bool, true, false, drop}
 use Rattle.semantics.specs.Texts.{Bytes}
 use Rattle.semantics.specs.Decimal.{is_digit}
-use Rattle.proof_semantics.specs.declared.lrat_word.LratWord.TheVariants.{Number}
 use Rattle.proof_semantics.specs.LratReading.{is_refused}
 use Rattle.cnf_core.specs.declared.held_word.HeldWord.{HeldWord}
-use Rattle.cnf_core.specs.declared.held_word.HeldWord.TheVariants.{Whole}
+use Rattle.cnf_core.specs.declared.held_word.HeldWord.TheVariants as form
 use Rattle.cnf_core.specs.LratScanning.{ScannerValue, number_with, held_with, scanned_all, all_given}
 
 -- a scanner before one text comes to what another comes to before another text
@@ -18,7 +17,7 @@ IsNumberSoFar word negative size = (c : ℕ) → is_digit c ≡ true → held_wi
 
 -- so many bytes further, behind a number
 abbrev pub numbered : ScannerValue → Bool → ℕ → ℕ → ScannerValue
-numbered s negative size count = record s { word = Whole (Number negative size); at = s.at + count }
+numbered s negative size count = record s { word = form.Number negative size; at = s.at + count }
 
 -- so many bytes at the front are digits, which make one number into another
 abbrev pub DigitsLead : ℕ → Bytes → ℕ → ℕ → Type 0

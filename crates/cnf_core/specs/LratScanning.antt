@@ -10,27 +10,32 @@ use Rattle.proof_semantics.specs.LratTokens.{is_blank, is_log_byte, number_word}
 use Rattle.proof_semantics.specs.LratMatching.{Stage, Outside, Refused, stage_after, item_given}
 use Rattle.proof_semantics.specs.LratReading.{is_refused}
 use Rattle.cnf_core.specs.declared.held_word.HeldWord.{HeldWord}
-use Rattle.cnf_core.specs.declared.held_word.HeldWord.TheVariants.{Empty, Minus, Whole}
+use Rattle.cnf_core.specs.declared.held_word.HeldWord.TheVariants as form
+
+-- a token as far as it goes
+abbrev pub whole : LratWord → HeldWord
+whole Letter = form.Letter
+whole (Number negative size) = form.Number negative size
+whole Malformed = form.Malformed
 
 abbrev pub number_with : Bool → ℕ → ℕ → HeldWord
-number_with negative size c = Whole (if is_digit c then number_word negative (10 * size + (c - 48)) else Malformed)
+number_with negative size c = whole (if is_digit c then number_word negative (10 * size + (c - 48)) else Malformed)
 
--- a word with one more byte
-abbrev pub word_with : LratWord → ℕ → HeldWord
-word_with (Number negative size) c = number_with negative size c
-word_with Letter c = Whole Malformed
-word_with Malformed c = Whole Malformed
-
+-- the bytes held with one more
 abbrev pub held_with : HeldWord → ℕ → HeldWord
-held_with Empty c = if c == 100 then Whole Letter else (if c == 45 then Minus else number_with false 0 c)
-held_with Minus c = number_with true 0 c
-held_with (Whole word) c = word_with word c
+held_with form.Empty c = if c == 100 then form.Letter else (if c == 45 then form.Minus else number_with false 0 c)
+held_with form.Minus c = number_with true 0 c
+held_with (form.Number negative size) c = number_with negative size c
+held_with form.Letter c = form.Malformed
+held_with form.Malformed c = form.Malformed
 
 -- what the bytes held are where a blank ends them; a minus alone is no token
 abbrev pub ended_word : HeldWord → Option LratWord
-ended_word Empty = None
-ended_word Minus = Some Malformed
-ended_word (Whole word) = Some word
+ended_word form.Empty = None
+ended_word form.Minus = Some Malformed
+ended_word form.Letter = Some Letter
+ended_word (form.Number negative size) = Some (Number negative size)
+ended_word form.Malformed = Some Malformed
 
 -- what is kept of a text: where its tokens stand, the token at hand, the place of its first byte, and that of the next byte
 pub record ScannerValue : Type 0 where
@@ -40,7 +45,7 @@ pub record ScannerValue : Type 0 where
   pub at : ℕ
 
 abbrev pub begin : ScannerValue
-begin = record { stage = Outside; word = Empty; start = 0; at = 0 }
+begin = record { stage = Outside; word = form.Empty; start = 0; at = 0 }
 
 abbrev pub stage_with : Stage → Option LratWord → ℕ → Stage
 stage_with stage None place = stage
@@ -52,7 +57,7 @@ given_with stage (Some word) = item_given stage word
 
 -- a blank ends the token at hand
 abbrev pub closed : ScannerValue → ScannerValue
-closed s = record { stage = stage_with s.stage (ended_word s.word) s.start; word = Empty; start = s.at + 1; at = s.at + 1 }
+closed s = record { stage = stage_with s.stage (ended_word s.word) s.start; word = form.Empty; start = s.at + 1; at = s.at + 1 }
 
 abbrev pub closed_gives : ScannerValue → List LogItem
 closed_gives s = given_with s.stage (ended_word s.word)

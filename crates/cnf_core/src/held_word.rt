@@ -1,7 +1,7 @@
 //! The bytes of a token, as far as they were read.
 ghost use Rattle.std.specs.Prelude.{◌≡◌, ◌+◌, ◌*◌, ◌<◌, IsTrue, IfSome};
 ghost use Rattle.proof_semantics.specs.LratTokens.{is_blank, is_log_byte, number_word};
-ghost use Rattle.cnf_core.specs.LratScanning.{word_with, held_with, ended_word};
+ghost use Rattle.cnf_core.specs.LratScanning.{whole, number_with, held_with, ended_word};
 ghost use Rattle.cnf_core.specs.FrontDigits.{IsNumberSoFar};
 
 use proof_semantics::lrat_word::LratWord;
@@ -12,7 +12,9 @@ pub enum HeldWord {
     /// No token has begun.
     Empty,
     Minus,
-    Whole(LratWord),
+    Letter,
+    Number { negative: bool, size: u64 },
+    Malformed,
 }
 
 /// A number as far as its digits are known.
@@ -39,36 +41,30 @@ pub fn is_log_byte(byte: u8) -> bool
 }
 
 /// A number with one more digit, as long as it is below 2^63.
-fn with_digit(negative: bool, size: u64, digit: u8) -> LratWord
+fn with_digit(negative: bool, size: u64, digit: u8) -> HeldWord
     requires { digit < 10 }
-    ensures { result ≡ number_word negative (10 * size + digit) }
+    ensures { result ≡ whole (number_word negative (10 * size + digit)) }
 {
     let size = 10 * size as u128 + digit as u128;
     if size < 1 << 63 {
-        LratWord::Number {
+        HeldWord::Number {
             negative,
             size: size as u64,
         }
     } else {
-        LratWord::Malformed
+        HeldWord::Malformed
     }
 }
 
-fn with_byte(word: LratWord, byte: u8) -> HeldWord
-    ensures { result ≡ word_with word byte }
+/// A number with one more byte.
+fn number_with(negative: bool, size: u64, byte: u8) -> HeldWord
+    ensures { result ≡ number_with negative size byte }
 {
-    HeldWord::Whole(match word {
-        LratWord::Number { negative, size } if byte.is_ascii_digit() => {
-            with_digit(negative, size, byte - b'0')
-        }
-        _ => LratWord::Malformed,
-    })
-}
-
-fn first_digit(negative: bool, byte: u8) -> HeldWord
-    ensures { result ≡ word_with (LratWord.Number negative 0) byte }
-{
-    with_byte(LratWord::Number { negative, size: 0 }, byte)
+    if byte.is_ascii_digit() {
+        with_digit(negative, size, byte - b'0')
+    } else {
+        HeldWord::Malformed
+    }
 }
 
 impl HeldWord {
@@ -78,12 +74,13 @@ impl HeldWord {
     {
         match self {
             HeldWord::Empty => match byte {
-                b'd' => HeldWord::Whole(LratWord::Letter),
+                b'd' => HeldWord::Letter,
                 b'-' => HeldWord::Minus,
-                _ => first_digit(false, byte),
+                _ => number_with(false, 0, byte),
             },
-            HeldWord::Minus => first_digit(true, byte),
-            HeldWord::Whole(word) => with_byte(word, byte),
+            HeldWord::Minus => number_with(true, 0, byte),
+            HeldWord::Number { negative, size } => number_with(negative, size, byte),
+            HeldWord::Letter | HeldWord::Malformed => HeldWord::Malformed,
         }
     }
 
@@ -105,8 +102,8 @@ impl HeldWord {
         let (negative, size) = match self {
             HeldWord::Empty => (false, 0),
             HeldWord::Minus => (true, 0),
-            HeldWord::Whole(LratWord::Number { negative, size }) => (negative, size),
-            HeldWord::Whole(_) => return None,
+            HeldWord::Number { negative, size } => (negative, size),
+            HeldWord::Letter | HeldWord::Malformed => return None,
         };
         Some(NumberSoFar { negative, size })
     }
@@ -118,8 +115,9 @@ impl HeldWord {
     {
         match self {
             HeldWord::Empty => None,
-            HeldWord::Minus => Some(LratWord::Malformed),
-            HeldWord::Whole(word) => Some(word),
+            HeldWord::Letter => Some(LratWord::Letter),
+            HeldWord::Number { negative, size } => Some(LratWord::Number { negative, size }),
+            HeldWord::Minus | HeldWord::Malformed => Some(LratWord::Malformed),
         }
     }
 }

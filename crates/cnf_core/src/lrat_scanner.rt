@@ -13,7 +13,6 @@ use crate::item_draft::ItemDraft;
 use crate::log::Item;
 use crate::lrat_part::Part;
 use proof_semantics::lrat_refusal::LratRefusal;
-use proof_semantics::lrat_word::LratWord;
 use std::alloc::AllocError;
 use std::collections::VecDeque;
 
@@ -122,13 +121,12 @@ impl Scanner {
                 count: 0,
             };
         }
-        let word = LratWord::Number {
-            negative: number.negative,
-            size: digits.size,
-        };
         Advance {
             scanner: Scanner {
-                word: HeldWord::Whole(word),
+                word: HeldWord::Number {
+                    negative: number.negative,
+                    size: digits.size,
+                },
                 at: self.at + digits.count as u64,
                 ..self
             },
