@@ -1,12 +1,12 @@
 -- The diagram of the error, and what is decided by it.
-use Rattle.std.proofs.Common.{◌≡◌, ◌≢◌, ℕ, ◌+◌, ◌<◌, ltb, Bool, true, false, List, [], ◌∷◌, ◌++◌, length, get_or, map, take, drop, refl, sym, ap, subst, ◌∙◌, arith}
+use Rattle.std.proofs.Common.{◌≡◌, ℕ, ◌<◌, ltb, Bool, false, List, [], ◌∷◌, ◌++◌, length, get_or, map, take, drop, refl, sym, ap, subst, ◌∙◌, arith}
 use Rattle.std.specs.Prelude.{All, decimal}
 use Rattle.std.proofs.lemmas.Bool.{ltb-true, ltb-false}
-use Rattle.std.proofs.lemmas.List.{length-append, length-map, get_or-map, map-append, get_or_read}
+use Rattle.std.proofs.lemmas.List.{length-append, length-map, get_or-map, map-append}
 use Rattle.std.proofs.lemmas.List.Elements.{All-append}
 use Rattle.std.proofs.lemmas.List.FromFn.{length-map-range_with_len}
 use Rattle.std.proofs.Math.Seq.{take-append_seam, drop-append_seam}
-use Rattle.semantics.specs.Net.{NetValue, input_count, HasSamePorts, signal_names, name_of}
+use Rattle.semantics.specs.Net.{NetValue, input_count, signal_names, name_of}
 use Rattle.semantics.specs.Value as nets
 use Rattle.semantics.specs.Value.{Assignment, outputs_of}
 use Rattle.semantics.specs.declared.metric.Metric.{Metric}

@@ -1,6 +1,6 @@
 -- A subtraction says how far two words are apart, and a network says whether that exceeds a level.
-use Rattle.std.proofs.Common.{◌≡◌, ℕ, zero, suc, ◌+◌, ◌-◌, ◌*◌, ◌^◌, ◌<◌, ◌≤◌, ltb, Bool, true, false, cond, List, [], ◌∷◌, ◌++◌, length, get_or, set, take, drop, map, refl, ap, sym, subst, ◌∙◌, arith, length-drop, drop-cons}
-use Rattle.std.specs.Prelude.{ℤ, pos, negsuc, ◌+ℤ◌, ◌-ℤ◌, unsigned_abs, decimal, All}
+use Rattle.std.proofs.Common.{◌≡◌, ℕ, zero, suc, ◌+◌, ◌-◌, ◌*◌, ◌^◌, ◌<◌, ◌≤◌, ltb, Bool, true, false, cond, List, [], ◌∷◌, ◌++◌, length, get_or, take, drop, map, refl, ap, sym, subst, ◌∙◌, arith, length-drop, drop-cons}
+use Rattle.std.specs.Prelude.{ℤ, pos, negsuc, ◌+ℤ◌, ◌-ℤ◌, unsigned_abs, decimal}
 use Rattle.std.specs.List.{range_with_len}
 use Rattle.std.proofs.Math.Nat.{pow-succ', mul_comm, mul-sub, mul-add}
 use Rattle.std.proofs.lemmas.Int.{ints}
@@ -8,12 +8,12 @@ use Rattle.std.proofs.lemmas.Bool.Decides.{nat_tests}
 use Rattle.std.proofs.lemmas.List.{take_more, take_all, length-take, length-map, length-set}
 use Rattle.std.proofs.lemmas.List.Elements.{All-push, All-nil}
 use Rattle.std.proofs.lemmas.List.FromFn.{length-map-range_with_len, length-range_with_len}
-use Rattle.semantics.specs.Net.{TableValue, NetValue, no_table, table_at, input_count, IsSound}
+use Rattle.semantics.specs.Net.{TableValue, NetValue, table_at, input_count, IsSound}
 use Rattle.semantics.specs.Value.{Assignment, table_value, value_of, outputs_of, IsConsistent}
 use Rattle.semantics.specs.declared.metric.Metric.{Metric}
 use Rattle.semantics.specs.declared.metric.Metric.TheVariants.{Abs, Sabs}
 use Rattle.semantics.specs.declared.mark.Mark.TheVariants.{Zero, One, Dash}
-use Rattle.semantics.specs.Error.{bit_number, number_of, signed_number_of, distance, error_of}
+use Rattle.semantics.specs.Error.{bit_number, signed_number_of, distance, error_of}
 use Rattle.semantics.proofs.Values.{value_law}
 use Rattle.semantics.proofs.Vectors.{number_of-lt_width}
 use Rattle.quality_semantics.specs.Forms.{Form, form, xor2, zero_form, one_form}

@@ -1,12 +1,13 @@
 //! Whether the error of an approximate net exceeds a level, by diagrams that are kept over many questions.
 ghost use Rattle.std.specs.Prelude.{◌≡◌, ◌≤◌, length, IfOk, IfSome};
+ghost use Rattle.semantics.specs.Net.{NetValue};
 ghost use Rattle.semantics.specs.Error.{IsCandidate};
 ghost use Rattle.bdd_levels.specs.Levels.{AreInputVariables, IsLevelDecided, IsLevelOf};
 
 use crate::budgets::{GROWTH, MOST_OPEN_QUESTIONS, QUESTION_STEPS, SPARE_NODES, TRIAL_NODES};
 use crate::drawn::Drawn;
 use crate::level::Level;
-use crate::orders::{HEURISTICS, input_variables};
+use crate::orders::{HEURISTICS, Heuristic, input_variables};
 use bdd_core::stop::Stop;
 use bdd_nets::decision::Decision;
 use bdd_nets::distinct::are_distinct;
@@ -60,6 +61,36 @@ fn try_order<'a>(
     }
 }
 
+/// The net's diagrams in this order, if they take fewer than so many nodes.
+fn try_heuristic<'a>(
+    alloc: Global,
+    exact: &'a Net,
+    heuristic: Heuristic,
+    nodes: u32,
+) -> Result<Option<Drawn<'a>>, AllocError>
+    ensures { IfOk result (λ found. IfSome found (λ d. d ≡ exact.now)) }
+{
+    let variables = input_variables(alloc, exact, heuristic)?;
+    try_order(alloc, exact, variables, nodes)
+}
+
+/// The diagrams that were found last, if any, and else those before; and how many nodes the next ones must be fewer than.
+fn better<'a>(
+    best: Option<Drawn<'a>>,
+    least: u32,
+    found: Option<Drawn<'a>>,
+) -> (Option<Drawn<'a>>, u32)
+    ensures { (N : NetValue) → IfSome best.entry (λ d. d ≡ N) → IfSome found.entry (λ d. d ≡ N) → IfSome result.0 (λ d. d ≡ N) }
+{
+    match found {
+        Some(drawn) => {
+            let nodes = (least as usize).min(drawn.nodes()) as u32;
+            (Some(drawn), nodes)
+        }
+        None => (best, least),
+    }
+}
+
 /// The net's diagrams in the order that takes the fewest nodes, if they are fewer than so many.
 fn best_order<'a>(
     alloc: Global,
@@ -71,11 +102,10 @@ fn best_order<'a>(
     let mut best = None;
     let mut least = nodes;
     for heuristic in HEURISTICS.iter() {
-        let variables = input_variables(alloc, exact, *heuristic)?;
-        if let Some(drawn) = try_order(alloc, exact, variables, least)? {
-            least = (least as usize).min(drawn.nodes()) as u32;
-            best = Some(drawn);
-        }
+        let found = try_heuristic(alloc, exact, *heuristic, least)?;
+        let (kept, nodes) = better(best, least, found);
+        best = kept;
+        least = nodes;
     }
     Ok(best)
 }
@@ -174,13 +204,51 @@ impl<'a> Decider<'a> {
         ensures same { self.new ≡ self.old }
         ensures decided { IfOk result (IsLevelDecided metric self.old approx.now k) }
     {
-        let hopeless = self.open_questions >= MOST_OPEN_QUESTIONS && steps <= QUESTION_STEPS;
-        if self.drawn.is_none() || hopeless {
+        if self.is_hopeless(steps) {
             return Ok(Decision::Unknown);
         }
+        self.ask(alloc, approx, metric, k, steps)
+    }
+
+    /// Whether a question of so many steps is not tried.
+    fn is_hopeless(&self, steps: u64) -> bool {
+        let hopeless = self.open_questions >= MOST_OPEN_QUESTIONS && steps <= QUESTION_STEPS;
+        self.drawn.is_none() || hopeless
+    }
+
+    /// The answer to a question that is tried.
+    fn ask(
+        &mut self,
+        alloc: Global,
+        approx: &Net,
+        metric: Metric,
+        k: u128,
+        steps: u64,
+    ) -> Result<Decision, AllocError>
+        requires candidate { IsCandidate self.old approx.now }
+        ensures same { self.new ≡ self.old }
+        ensures decided { IfOk result (IsLevelDecided metric self.old approx.now k) }
+    {
         let level = self.take_level(alloc, metric, k)?;
-        let decision = self.decide_level(alloc, approx, &level, steps)?;
+        let decision = self.decide_counted(alloc, approx, &level, steps)?;
         self.level = Some(level);
+        Ok(decision)
+    }
+
+    /// The same where the level's network is made. Whether the question was left open is counted.
+    fn decide_counted(
+        &mut self,
+        alloc: Global,
+        approx: &Net,
+        level: &Level,
+        steps: u64,
+    ) -> Result<Decision, AllocError>
+        requires candidate { IsCandidate self.old approx.now }
+        requires level { IsLevelOf self.old level.now }
+        ensures same { self.new ≡ self.old }
+        ensures decided { IfOk result (IsLevelDecided level.now.metric self.old approx.now level.now.k) }
+    {
+        let decision = self.decide_level(alloc, approx, level, steps)?;
         self.count_open(&decision);
         Ok(decision)
     }

@@ -43,17 +43,22 @@ fn depth_over(depths: &[u32], pins: &[Signal]) -> u32 {
     most.saturating_add(1)
 }
 
-/// How far each signal is from the inputs.
-fn depths(alloc: Global, net: &Net) -> Result<Vec<u32>, AllocError> {
+/// Sets the depth of each table.
+fn set_depths(depths: &mut [u32], net: &Net) {
     let inputs = net.inputs() as usize;
-    let mut depths = vec![in alloc; 0; net.signals() as usize]?;
     for t in net.order() {
         let at = inputs.saturating_add(*t as usize);
         if *t < net.tables() && at < depths.len() {
-            let depth = depth_over(&depths, net.table(*t).pins().as_slice());
+            let depth = depth_over(depths, net.table(*t).pins().as_slice());
             depths[at] = depth;
         }
     }
+}
+
+/// How far each signal is from the inputs.
+fn depths(alloc: Global, net: &Net) -> Result<Vec<u32>, AllocError> {
+    let mut depths = vec![in alloc; 0; net.signals() as usize]?;
+    set_depths(&mut depths, net);
     Ok(depths)
 }
 
@@ -86,6 +91,32 @@ fn pin_keys(
     Ok(keys)
 }
 
+/// The places of pins, each behind its key, so that the one with the least depth, or else the first, comes first.
+fn pins_in_order(
+    alloc: Global,
+    depths: &[u32],
+    pins: &[Signal],
+    by_depth: bool,
+) -> Result<Vec<u64>, AllocError> {
+    let keys = pin_keys(alloc, depths, pins, by_depth)?;
+    sorted(alloc, &keys)
+}
+
+/// Puts pins on a stack from the last of these pairs of a key and a place on.
+fn push_from_last(
+    left: &mut Vec<Signal>,
+    pairs: &[u64],
+    pins: &[Signal],
+) -> Result<(), AllocError> {
+    for pair in pairs.iter().rev() {
+        let place = (*pair & 0xffff_ffff) as usize;
+        if place < pins.len() {
+            left.push(pins[place])?;
+        }
+    }
+    Ok(())
+}
+
 /// Puts pins on a stack, so that the one with the least depth, or else the first, is taken first.
 fn push_pins(
     alloc: Global,
@@ -94,15 +125,8 @@ fn push_pins(
     pins: &[Signal],
     by_depth: bool,
 ) -> Result<(), AllocError> {
-    let keys = pin_keys(alloc, depths, pins, by_depth)?;
-    let both = sorted(alloc, &keys)?;
-    for both in both.iter().rev() {
-        let place = (*both & 0xffff_ffff) as usize;
-        if place < pins.len() {
-            left.push(pins[place])?;
-        }
-    }
-    Ok(())
+    let pairs = pins_in_order(alloc, depths, pins, by_depth)?;
+    push_from_last(left, &pairs, pins)
 }
 
 /// Whether a signal is seen for the first time.
@@ -234,9 +258,8 @@ fn by_names(alloc: Global, net: &Net, highest_first: bool) -> Result<Vec<Signal>
     places(alloc, &pairs)
 }
 
-/// The rank of each input, where some were met in this order; the others come behind them.
-fn ranks(alloc: Global, inputs: u32, met: &[Signal]) -> Result<Vec<u32>, AllocError> {
-    let mut ranks = vec![in alloc; u32::MAX; inputs as usize]?;
+/// Ranks the inputs that were met in this order, and gives the next rank.
+fn rank_met(ranks: &mut [u32], inputs: u32, met: &[Signal]) -> u32 {
     let mut next = 0;
     for input in met {
         let at = *input as usize;
@@ -245,12 +268,25 @@ fn ranks(alloc: Global, inputs: u32, met: &[Signal]) -> Result<Vec<u32>, AllocEr
             next += 1;
         }
     }
+    next
+}
+
+/// Ranks the inputs that have no rank, from this one on.
+fn rank_others(ranks: &mut [u32], inputs: u32, first: u32) {
+    let mut next = first;
     for rank in ranks.iter_mut() {
         if *rank == u32::MAX && next < inputs {
             *rank = next;
             next += 1;
         }
     }
+}
+
+/// The rank of each input, where some were met in this order; the others come behind them.
+fn ranks(alloc: Global, inputs: u32, met: &[Signal]) -> Result<Vec<u32>, AllocError> {
+    let mut ranks = vec![in alloc; u32::MAX; inputs as usize]?;
+    let next = rank_met(&mut ranks, inputs, met);
+    rank_others(&mut ranks, inputs, next);
     Ok(ranks)
 }
 

@@ -105,6 +105,44 @@ fn has_few_signals(exact: &Net, approx: &Net, quality: &Net) -> bool
     signals < u64::from(ROOM)
 }
 
+/// The tables and the outputs of the joint net, where its inputs have these signals and the quality network reads those.
+fn parts_over(
+    alloc: Global,
+    inputs: &[Signal],
+    read: &[Signal],
+    exact: &Net,
+    approx: &Net,
+    quality: &Net,
+) -> Result<(TableList, SignalList), AllocError>
+    requires inputs { inputs.now ≡ range_with_len 0 (input_count exact.now) }
+    requires read { read.now ≡ both_outputs exact.now approx.now }
+    requires outputs { length exact.now.outputs ≡ length approx.now.outputs }
+    requires room { signal_count exact.now + table_count approx.now < 2 ^ 31 }
+    ensures tables { IfOk result (λ p. p.0 ≡ all_copies exact.now approx.now quality.now.tables) }
+    ensures outputs { IfOk result (λ p. p.1 ≡ map (quality_signal exact.now approx.now) quality.now.outputs) }
+{
+    let tables = joint_tables(alloc, inputs, read, exact, approx, quality)?;
+    let outputs = joint_outputs(alloc, read, exact, approx, quality)?;
+    Ok((tables, outputs))
+}
+
+/// The tables and the outputs of the joint net of two nets and a quality network.
+fn wired_parts(
+    alloc: Global,
+    exact: &Net,
+    approx: &Net,
+    quality: &Net,
+) -> Result<(TableList, SignalList), AllocError>
+    requires outputs { length exact.now.outputs ≡ length approx.now.outputs }
+    requires room { signal_count exact.now + table_count approx.now < 2 ^ 31 }
+    ensures tables { IfOk result (λ p. p.0 ≡ all_copies exact.now approx.now quality.now.tables) }
+    ensures outputs { IfOk result (λ p. p.1 ≡ map (quality_signal exact.now approx.now) quality.now.outputs) }
+{
+    let own = first_signals(alloc, exact.inputs())?;
+    let read = signals_read(alloc, &own, exact, approx)?;
+    parts_over(alloc, &own, read.as_slice(), exact, approx, quality)
+}
+
 /// What a net is made of.
 #[derive(Drop)]
 struct Parts {
@@ -123,13 +161,14 @@ fn joint_parts(alloc: Global, exact: &Net, approx: &Net, quality: &Net) -> Resul
     ensures tables { IfOk result (λ p. p.tables ≡ all_copies exact.now approx.now quality.now.tables) }
     ensures outputs { IfOk result (λ p. p.outputs ≡ map (quality_signal exact.now approx.now) quality.now.outputs) }
 {
-    let own = first_signals(alloc, exact.inputs())?;
-    let read = signals_read(alloc, &own, exact, approx)?;
+    let (tables, outputs) = wired_parts(alloc, exact, approx, quality)?;
+    let model = model_name(alloc)?;
+    let inputs = numbered_names(alloc, b'x', exact.inputs())?;
     Ok(Parts {
-        model: model_name(alloc)?,
-        inputs: numbered_names(alloc, b'x', exact.inputs())?,
-        tables: joint_tables(alloc, &own, read.as_slice(), exact, approx, quality)?,
-        outputs: joint_outputs(alloc, read.as_slice(), exact, approx, quality)?,
+        model,
+        inputs,
+        tables,
+        outputs,
     })
 }
 
@@ -191,6 +230,23 @@ fn join_few(alloc: Global, exact: &Net, approx: &Net, quality: &Net) -> Result<N
     }
 }
 
+/// The joint net of two nets and a quality network for them, if it has room.
+fn join_with_room(
+    alloc: Global,
+    exact: &Net,
+    approx: &Net,
+    quality: &Net,
+) -> Result<Net, AllocError>
+    requires ports { HasSamePorts exact.now approx.now }
+    requires quality { (metric : Metric) × (k : ℕ) × (quality.now ≡ quality_net metric (length exact.now.outputs) k) }
+    ensures net { IfOk result (λ n. n ≡ joined exact.now approx.now quality.now) }
+    ensures room { IfOk result (λ n. signal_count n + row_count n < 2 ^ 31) }
+    ensures exact_sound { IsSound exact.now }
+    ensures approximate_sound { IsSound approx.now }
+{
+    with_room(join_few(alloc, exact, approx, quality)?)
+}
+
 /// The joint net, whose output says whether the error of the approximate net's outputs against the exact one's exceeds `k`.
 /// It answers want of memory also where its signals and rows would be 2^31 or more, which those of two nets that are read never are.
 pub fn joint(
@@ -207,5 +263,5 @@ pub fn joint(
     ensures room { IfOk result (λ n. signal_count n + row_count n < 2 ^ 31) }
 {
     let quality = quality(alloc, metric, exact.outputs(), k)?;
-    with_room(join_few(alloc, exact, approx, &quality)?)
+    join_with_room(alloc, exact, approx, &quality)
 }

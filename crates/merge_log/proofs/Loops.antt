@@ -1,5 +1,6 @@
 -- What one turn of the loops over a row and over a table's rows makes of a chain.
-use Rattle.std.proofs.Common.{◌≡◌, ℕ, suc, ◌+◌, ◌*◌, ◌-◌, ◌<◌, Bool, false, List, ◌∷◌, length, drop, get_or, ap, sym, ◌∙◌, arith, drop-cons, None, Some}
+use Rattle.std.proofs.Common.{◌≡◌, ℕ, suc, ◌+◌, ◌*◌, ◌-◌, ◌<◌, Bool, false, List, [], ◌∷◌, ◌++◌, length, drop, get_or, map, append_assoc, ap, sym, ◌∙◌, arith, drop-cons, None, Some}
+use Rattle.std.specs.Prelude.{flat_map}
 use Rattle.semantics.specs.declared.mark.Mark.{Mark}
 use Rattle.proof_semantics.specs.NetClauses.{literal_at}
 use Rattle.merge_log.specs.Chains.{ChainValue, MergedValue, implied, carried, asked, row_chain, table_chain}
@@ -8,6 +9,19 @@ cut : {X : Type 0} (xs : List X) (i : ℕ) (d : X) → i < length xs → drop i 
 cut xs i d within =
     let next : suc i ≡ i + 1 = omega arith in
     drop-cons xs i d within ∙ ap (λ k. get_or xs i d ∷ drop k xs) next
+
+-- one more in a list that is mapped, or that each item adds to
+pub map_turn : {X Y : Type 0} (f : X → Y) (xs : List X) (i : ℕ) (d : X) (y : Y) (ys more whole : List Y) → i < length xs → y ≡ f (get_or xs i d) → more ≡ ys ++ y ∷ []
+    → ys ++ map f (drop i xs) ≡ whole → more ++ map f (drop (i + 1) xs) ≡ whole
+map_turn f xs i d y ys more whole within is pushed before =
+    ap (λ l. l ++ map f (drop (i + 1) xs)) (pushed ∙ ap (λ z. ys ++ z ∷ []) is) ∙ append_assoc ys (f (get_or xs i d) ∷ []) (map f (drop (i + 1) xs))
+    ∙ ap (λ l. ys ++ map f l) (sym (cut xs i d within)) ∙ before
+
+pub flat_turn : {X Y : Type 0} (f : X → List Y) (xs : List X) (i : ℕ) (x : X) (ys more whole : List Y) → i < length xs → x ≡ get_or xs i x → more ≡ ys ++ f x
+    → ys ++ flat_map f (drop i xs) ≡ whole → more ++ flat_map f (drop (i + 1) xs) ≡ whole
+flat_turn f xs i x ys more whole within read added before =
+    ap (λ l. l ++ flat_map f (drop (i + 1) xs)) added ∙ append_assoc ys (f x) (flat_map f (drop (i + 1) xs))
+    ∙ ap (λ l. ys ++ flat_map f l) (sym (cut xs i x within ∙ ap (λ a. a ∷ drop (i + 1) xs) (sym read))) ∙ before
 
 module _ (m : MergedValue) (marks : List Mark) (pins others : List ℕ) (k next : ℕ) (d : Mark) (c whole : ChainValue) (within : k < length marks)
     (width : length marks ≡ length pins) (wide : length marks ≡ length others) (before : row_chain m next (drop k marks) (drop k pins) (drop k others) c ≡ whole) where

@@ -1,5 +1,5 @@
 //! The hints of a step as they grow: unit propagation, one clause at a time.
-ghost use Rattle.std.specs.Prelude.{◌≡◌, ◌+◌, ◌<◌, ◌^◌, not, neg_ℤ, IfOk, OnOk};
+ghost use Rattle.std.specs.Prelude.{◌≡◌, ◌+◌, ◌<◌, ◌^◌, [], ◌∷◌, not, neg_ℤ, IfOk, OnOk};
 ghost use Rattle.proof_semantics.specs.NetClauses.{literal_at};
 ghost use Rattle.proof_semantics.specs.Clauses.{has_literal};
 ghost use Rattle.proof_parts.specs.Literals.{IsLiteral};
@@ -28,6 +28,15 @@ impl Model for Chain {
     ghost view = { λ a. record { hints = a.hints; literals = a.literals; ended = a.ended } };
 }
 
+/// These two literals.
+pub(crate) fn two_literals(alloc: Global, one: Literal, other: Literal) -> Result<Lits, AllocError>
+    requires one { IsLiteral one }
+    requires other { IsLiteral other }
+    ensures { IfOk result (λ literals. literals ≡ one ∷ other ∷ []) }
+{
+    Lits::from_slice(alloc, &[one, other])
+}
+
 /// The literal that is true where this one is false.
 fn opposite(literal: Literal) -> Literal
     requires { IsLiteral literal }
@@ -43,9 +52,7 @@ impl Chain {
         requires u { u + 1 < 2 ^ 31 }
         ensures { IfOk result (λ c. c ≡ started (literal_at s sign) (literal_at u (not sign))) }
     {
-        let mut literals = Lits::new(alloc);
-        literals.push(literal_at(s, sign))?;
-        literals.push(literal_at(u, !sign))?;
+        let literals = two_literals(alloc, literal_at(s, sign), literal_at(u, !sign))?;
         Ok(Chain {
             hints: Items::new(alloc),
             literals,

@@ -45,8 +45,7 @@ pub(crate) fn row_hints(
     let mut next = id;
     for (i, mark) in marks.iter().enumerate() {
         if let Some(sign) = asked(*mark) {
-            merged.imply(&mut chain, next, pins[i], sign)?;
-            merged.carry(&mut chain, pins[i], others[i], sign)?;
+            merged.imply_both(&mut chain, next, pins[i], others[i], sign)?;
             next += 1;
         }
     }

@@ -130,4 +130,21 @@ impl Merged {
         self.follow_to_first(chain, p, sign)?;
         self.follow_from_first(chain, q, sign)
     }
+
+    /// The clause of this id gives signal p this value, so signal q has it, which was made equal to the same first one.
+    pub(crate) fn imply_both(
+        &self,
+        chain: &mut Chain,
+        id: u64,
+        p: Signal,
+        q: Signal,
+        sign: bool,
+    ) -> Result<(), AllocError>
+        requires p_within { p < length self.now.firsts }
+        requires q_within { q < length self.now.firsts }
+        ensures { OnOk result (chain.new ≡ carried (implied chain.old id (literal_at p sign)) self.now p q sign) }
+    {
+        self.imply(chain, id, p, sign)?;
+        self.carry(chain, p, q, sign)
+    }
 }

@@ -168,6 +168,40 @@ fn start(alloc: Global, net: &Net) -> Result<Merging, AllocError>
     })
 }
 
+/// The tables of each level of a net.
+fn lists_of(alloc: Global, net: &Net) -> Result<LevelLists, AllocError>
+    ensures levels { IfOk result (λ lists. AreLevels (input_count net.now) net.now.tables lists.levels.items) }
+    ensures deepest { IfOk result (λ lists. (s : ℕ) → slice_index_or lists.levels.items s 0 < length lists.firsts.items) }
+    ensures lists { IfOk result (λ lists. AreLevelLists (input_count net.now) (table_count net.now) lists.levels.items 0 lists.firsts.items lists.nexts.items) }
+{
+    let levels = levels(alloc, net)?;
+    level_lists(alloc, net, levels)
+}
+
+/// The log of the merges, level by level.
+fn merge_levels(
+    alloc: Global,
+    goal: &Cnf,
+    net: &Net,
+    places: &[Place],
+    lists: &LevelLists,
+) -> Result<Log, AllocError>
+    requires goal { goal.now ≡ goal_of net.now }
+    requires formula { length (goal_of net.now).clauses < 2 ^ 61 }
+    requires places { IsPlaceList (input_count net.now) net.now.tables (table_count net.now) places.now }
+    requires clauses { sum_by table_clause_count net.now.tables < 2 ^ 60 }
+    requires levels { AreLevels (input_count net.now) net.now.tables lists.now.levels.items }
+    requires deepest { (s : ℕ) → slice_index_or lists.now.levels.items s 0 < length lists.now.firsts.items }
+    requires lists { AreLevelLists (input_count net.now) (table_count net.now) lists.now.levels.items 0 lists.now.firsts.items lists.now.nexts.items }
+    ensures { IfOk result (IsMergeLog net.now) }
+{
+    let mut merging = start(alloc, net)?;
+    for level in 1..lists.firsts.len() {
+        take_level(alloc, goal, net, places, lists, level, &mut merging)?;
+    }
+    Ok(merging.log)
+}
+
 /// The log that makes each table that is alike to an earlier one equal to the first of these: two steps for each of its rows, and then
 /// two.
 pub fn merges(alloc: Global, joint: &Net, goal: &Cnf) -> Result<Log, AllocError>
@@ -176,11 +210,6 @@ pub fn merges(alloc: Global, joint: &Net, goal: &Cnf) -> Result<Log, AllocError>
 {
     see_few(joint, goal);
     let places = places(alloc, joint)?;
-    let levels = levels(alloc, joint)?;
-    let lists = level_lists(alloc, joint, levels)?;
-    let mut merging = start(alloc, joint)?;
-    for level in 1..lists.firsts.len() {
-        take_level(alloc, goal, joint, &places, &lists, level, &mut merging)?;
-    }
-    Ok(merging.log)
+    let lists = lists_of(alloc, joint)?;
+    merge_levels(alloc, goal, joint, &places, &lists)
 }

@@ -10,14 +10,13 @@ ghost use Rattle.merge_log.specs.Chains.{first_of};
 ghost use Rattle.merge_log.specs.Ids.{HaveIds, AreMerged, forth, back};
 ghost use Rattle.merge_log.specs.Steps.{Adds, IsRowAt, row_pairs};
 
-use crate::chain::Chain;
+use crate::chain::{Chain, two_literals};
 use crate::hints::row_hints;
 use crate::merged::Merged;
 use net_core::items::Signal;
 use net_core::mark::Mark;
 use net_core::row::Row;
 use net_core::table::row_literals;
-use proof_parts::clause::Lits;
 use proof_parts::cnf::Cnf;
 use proof_parts::literal::literal_at;
 use proof_parts::log::{Ids, Item, Log, Step};
@@ -56,10 +55,8 @@ pub(crate) fn push_pair(
     ensures few { length goal.now.clauses + length log.old + 1 < 2 ^ 61 }
 {
     let id = next_id(goal, log);
-    let mut lits = Lits::new(alloc);
-    lits.push(literal_at(s, !sign))?;
-    lits.push(literal_at(u, sign))?;
-    log.push(Item::Add(Step::new(id, lits, hints)))
+    let literals = two_literals(alloc, literal_at(s, !sign), literal_at(u, sign))?;
+    log.push(Item::Add(Step::new(id, literals, hints)))
 }
 
 /// Adds the step that one row implies another, which has the same marks and pins that were made equal to its own.

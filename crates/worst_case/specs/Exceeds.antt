@@ -1,12 +1,15 @@
 -- What a query answers whether some input's error exceeds a level.
-use Rattle.std.specs.Prelude.{◌≡◌, ℕ, take}
+use Rattle.std.specs.Prelude.{◌≡◌, ℕ, List, length, take}
 use Rattle.semantics.specs.Net.{NetValue, input_count}
 use Rattle.semantics.specs.declared.metric.Metric.{Metric}
 use Rattle.quality_semantics.specs.Joint.{joint_net}
 use Rattle.proof_semantics.specs.Conflicts.{IsConflictChain}
+use Rattle.proof_semantics.specs.Formula.{Formula}
+use Rattle.proof_semantics.specs.Logs.{LogItem}
 use Rattle.proof_semantics.specs.Merges.{IsMergeLog}
 use Rattle.proof_semantics.specs.Miter.{miter}
 use Rattle.proof_semantics.specs.Queries.{IsOver, IsNever, SpentValue, IsSpentQuery}
+use Rattle.cdcl_core.specs.Answers.{IsAnswer as IsSolved}
 use Rattle.cdcl_core.specs.declared.answer.Answer.{Answer}
 use Rattle.cdcl_core.specs.declared.answer.Answer.TheVariants as answer
 use Rattle.worst_case.specs.declared.query.Spent as spent
@@ -39,6 +42,12 @@ abbrev pub told : NetValue → NetValue → ℕ → ℕ → Answer → Exceed
 told exact approx k merged (answer.Model bits) = Over (take (input_count exact) bits)
 told exact approx k merged (answer.Refuted log) = Never log
 told exact approx k merged (answer.Spent log) = Spent (record { net = approx; k = k; merged = merged; log = log })
+
+-- this is told of an answer of the solver to a formula behind these merged steps
+pub record IsToldBehind (exact approx : NetValue) (f : Formula) (k limit : ℕ) (merged : List LogItem) (exceed : Exceed) : Type 0 where
+  pub found : Answer
+  pub solved : IsSolved f merged limit found
+  pub is : exceed ≡ told exact approx k (length merged) found
 
 -- the solver was asked
 abbrev pub IsAsked : Metric → NetValue → NetValue → ℕ → ℕ → Exceed → Type 0

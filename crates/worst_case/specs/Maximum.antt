@@ -5,16 +5,26 @@ use Rattle.semantics.specs.Net.{NetValue, input_count}
 use Rattle.semantics.specs.declared.metric.Metric.{Metric}
 use Rattle.semantics.specs.Error.{net_error, IsWithin}
 use Rattle.semantics.specs.Vectors.{IsFirstGreatestAt}
+use Rattle.lane_bits.specs.Patterns.{PatternSet}
 use Rattle.proof_semantics.specs.Queries.{IsNever, IsMaximum, IsSpentLevel}
 use Rattle.worst_case.specs.Exceeds.{spent_value}
 use Rattle.worst_case.specs.declared.query.Maximum.{Maximum}
 use Rattle.worst_case.specs.declared.query.Maximum.TheVariants.{Found, Spent}
 use Rattle.worst_case.specs.declared.query.Spent as spent
 use Rattle.worst_case.specs.declared.range.Range.{Range}
+use Rattle.worst_case.specs.declared.vectors_tried.Attained.{Attained}
+use Rattle.worst_case.specs.VectorsTried.{IsTrial, IsFirstGreatestIn}
 
 abbrev pub IsMaximumAnswer : Metric → NetValue → NetValue → ℕ → ℕ → Maximum → Type 0
 IsMaximumAnswer metric exact approx bound limit (Found most witness log) = IsMaximum metric exact approx most witness log
 IsMaximumAnswer metric exact approx bound limit (Spent s) = IsSpentLevel metric exact approx bound limit (spent_value s)
+
+-- the greatest error of the trial vectors, and the first of them that has it
+pub record IsGreatestTried (metric : Metric) (exact approx : NetValue) (a : Attained) : Type 0 where
+  pub tried : PatternSet
+  pub trial : IsTrial (input_count exact) tried
+  pub best : IsFirstGreatestIn (net_error metric exact approx) tried.vectors a.error a.witness
+  pub width : length a.witness ≡ input_count exact
 
 -- The greatest error is at least `low`, which the witness attains, and at most `high`, within the bound; a log that is held refutes that any error
 -- exceeds `high`. With at most eight inputs the witness is the first vector that has the greatest error.
@@ -31,4 +41,10 @@ pub record IsRange (metric : Metric) (exact approx : NetValue) (bound : ℕ) (r 
 abbrev pub IsTurn : Metric → NetValue → NetValue → ℕ → ℕ → Range → Range → Option spent.Spent → Type 0
 IsTurn metric exact approx bound limit r next found = MatchOption found
     (IsRange metric exact approx bound next × (next.high - next.low < r.high - r.low))
+    (λ s. IsSpentLevel metric exact approx bound limit (spent_value s))
+
+-- the levels of the range meet, or a query is spent
+abbrev pub IsEnd : Metric → NetValue → NetValue → ℕ → ℕ → Range → Option spent.Spent → Type 0
+IsEnd metric exact approx bound limit r found = MatchOption found
+    (IsRange metric exact approx bound r × (r.high ≤ r.low))
     (λ s. IsSpentLevel metric exact approx bound limit (spent_value s))

@@ -1,13 +1,15 @@
 //! Whether some error exceeds a level. With at most sixteen inputs every vector is tried, and the log is made where the error of none
 //! exceeds it; with more the solver is asked.
 ghost use Rattle.std.specs.Prelude.{◌≤◌, length, IfOk};
-ghost use Rattle.semantics.specs.Net.{HasSamePorts};
+ghost use Rattle.semantics.specs.Net.{HasSamePorts, input_count};
 ghost use Rattle.worst_case.specs.Exceeds.{IsAnswer};
+ghost use Rattle.worst_case.specs.VectorsTried.{IsHeldFor};
 
 use crate::query::Exceed;
 use crate::refutation::refute_level;
 use crate::solver_query::ask_solver;
-use crate::vectors_tried::{hold_every_vector, try_vectors};
+use crate::vectors_tried::{LANE_INPUTS, hold_every_vector, try_vectors};
+use lane_nets::reference::Reference;
 use net_core::net::Net;
 use net_errors::compared::Compared;
 use progress::progress::{Progress, Silent};
@@ -15,8 +17,29 @@ use semantics::limits::MOST_OUTPUTS;
 use semantics::metric::Metric;
 use std::alloc::{AllocError, Global};
 
-/// The same question of nets that can be compared.
+/// The same question of nets that can be compared, where every vector is held.
 #[tactic(auto, using(crate::proofs::Tried::over_first))]
+fn exceeds_held<P: Progress>(
+    alloc: Global,
+    nets: &Compared,
+    held: &Reference,
+    metric: Metric,
+    k: u128,
+    limit: u64,
+    progress: &mut P,
+) -> Result<Exceed, AllocError>
+    requires held { IsHeldFor nets.now.exact held.now }
+    requires few_inputs { input_count nets.now.exact ≤ LANE_INPUTS }
+    requires limit { 1 ≤ limit }
+    ensures { IfOk result (IsAnswer metric nets.now.exact nets.now.approx k limit) }
+{
+    match try_vectors(alloc, nets, held, metric, k)? {
+        Some(x) => Ok(Exceed::Over(x)),
+        None => refute_level(alloc, nets, metric, k, limit, progress),
+    }
+}
+
+/// The same question of nets that can be compared.
 pub(crate) fn exceeds_level<P: Progress>(
     alloc: Global,
     nets: &Compared,
@@ -28,12 +51,9 @@ pub(crate) fn exceeds_level<P: Progress>(
     requires limit { 1 ≤ limit }
     ensures { IfOk result (IsAnswer metric nets.now.exact nets.now.approx k limit) }
 {
-    let Some(held) = hold_every_vector(alloc, nets.exact())? else {
-        return ask_solver(alloc, nets, metric, k, limit, progress);
-    };
-    match try_vectors(alloc, nets, &held, metric, k)? {
-        Some(x) => Ok(Exceed::Over(x)),
-        None => refute_level(alloc, nets, metric, k, limit, progress),
+    match hold_every_vector(alloc, nets.exact())? {
+        Some(held) => exceeds_held(alloc, nets, &held, metric, k, limit, progress),
+        None => ask_solver(alloc, nets, metric, k, limit, progress),
     }
 }
 

@@ -3,15 +3,16 @@
 //! An error that some input has lies below it, and a level that no input exceeds above. Diagrams are asked first whether the error that
 //! is known is the greatest; then each query halves what lies between. The log that is given refutes that any error exceeds the
 //! greatest.
-ghost use Rattle.std.specs.Prelude.{◌≤◌, ℕ, length, IfOk};
+ghost use Rattle.std.specs.Prelude.{◌≡◌, ◌≤◌, ℕ, length, IfOk};
 ghost use Rattle.semantics.specs.Net.{HasSamePorts, IsSmall};
 ghost use Rattle.semantics.specs.Error.{IsWithin};
-ghost use Rattle.worst_case.specs.Maximum.{IsRange, IsMaximumAnswer};
+ghost use Rattle.worst_case.specs.Maximum.{IsRange, IsEnd, IsMaximumAnswer};
 
 use crate::policy::decider_for;
-use crate::query::{Exceed, Maximum};
+use crate::query::{Exceed, Maximum, Spent};
 use crate::range::{Range, first_range, narrow, try_known};
 use crate::refutation::refute_level;
+use bdd_levels::decider::Decider;
 use net_core::net::Net;
 use net_errors::compared::Compared;
 use progress::progress::{Progress, Silent};
@@ -51,6 +52,90 @@ fn settle<P: Progress>(
     }
 }
 
+/// Narrows the range by queries until its levels meet, and tells each range before its query. It answers what was spent.
+fn close<P: Progress>(
+    alloc: Global,
+    nets: &Compared,
+    decider: &mut Decider,
+    metric: Metric,
+    limit: u64,
+    range: &mut Range,
+    progress: &mut P,
+) -> Result<Option<Spent>, AllocError>
+    requires decider { decider.old ≡ nets.now.exact }
+    requires limit { 1 ≤ limit }
+    requires range { (bound : ℕ) × IsRange metric nets.now.exact nets.now.approx bound range.old }
+    ensures { IfOk result (λ spent. (bound : ℕ) → IsRange metric nets.now.exact nets.now.approx bound range.old
+        → IsEnd metric nets.now.exact nets.now.approx bound limit range.new spent) }
+{
+    while range.low < range.high {
+        progress.narrowed(range.low, range.high);
+        let spent = narrow(alloc, nets, decider, metric, limit, range, progress)?;
+        if let Some(spent) = spent {
+            return Ok(Some(spent));
+        }
+    }
+    Ok(None)
+}
+
+/// The same, where diagrams are first asked whether the error that is known is the greatest.
+fn close_known<P: Progress>(
+    alloc: Global,
+    nets: &Compared,
+    decider: &mut Decider,
+    metric: Metric,
+    limit: u64,
+    range: &mut Range,
+    progress: &mut P,
+) -> Result<Option<Spent>, AllocError>
+    requires decider { decider.old ≡ nets.now.exact }
+    requires limit { 1 ≤ limit }
+    requires range { (bound : ℕ) × IsRange metric nets.now.exact nets.now.approx bound range.old }
+    ensures { IfOk result (λ spent. (bound : ℕ) → IsRange metric nets.now.exact nets.now.approx bound range.old
+        → IsEnd metric nets.now.exact nets.now.approx bound limit range.new spent) }
+{
+    try_known(alloc, nets, decider, metric, range)?;
+    close(alloc, nets, decider, metric, limit, range, progress)
+}
+
+/// The same with diagrams of the exact net.
+fn close_by_diagrams<P: Progress>(
+    alloc: Global,
+    nets: &Compared,
+    metric: Metric,
+    limit: u64,
+    range: &mut Range,
+    progress: &mut P,
+) -> Result<Option<Spent>, AllocError>
+    requires limit { 1 ≤ limit }
+    requires range { (bound : ℕ) × IsRange metric nets.now.exact nets.now.approx bound range.old }
+    ensures { IfOk result (λ spent. (bound : ℕ) → IsRange metric nets.now.exact nets.now.approx bound range.old
+        → IsEnd metric nets.now.exact nets.now.approx bound limit range.new spent) }
+{
+    let mut decider = decider_for(alloc, nets.exact())?;
+    close_known(alloc, nets, &mut decider, metric, limit, range, progress)
+}
+
+/// The greatest error, which lies in the range.
+fn search<P: Progress>(
+    alloc: Global,
+    nets: &Compared,
+    metric: Metric,
+    limit: u64,
+    mut range: Range,
+    progress: &mut P,
+) -> Result<Maximum, AllocError>
+    requires limit { 1 ≤ limit }
+    requires range { (bound : ℕ) × IsRange metric nets.now.exact nets.now.approx bound range }
+    ensures { IfOk result (λ answer. (bound : ℕ) → IsRange metric nets.now.exact nets.now.approx bound range
+        → IsMaximumAnswer metric nets.now.exact nets.now.approx bound limit answer) }
+{
+    match close_by_diagrams(alloc, nets, metric, limit, &mut range, progress)? {
+        Some(spent) => Ok(Maximum::Spent(spent)),
+        None => settle(alloc, nets, metric, limit, range, progress),
+    }
+}
+
 /// The same as `maximum`, with one who is told how far the search is: the bound at its beginning, and each range up to the one whose
 /// levels meet, before the log is asked for.
 pub fn maximum_followed<P: Progress>(
@@ -71,25 +156,8 @@ pub fn maximum_followed<P: Progress>(
 {
     progress.narrowed(0, bound);
     let nets = Compared::new(exact, approx);
-    let mut range = first_range(alloc, &nets, metric, bound)?;
-    let mut decider = decider_for(alloc, exact)?;
-    try_known(alloc, &nets, &mut decider, metric, &mut range)?;
-    while range.low < range.high {
-        progress.narrowed(range.low, range.high);
-        let spent = narrow(
-            alloc,
-            &nets,
-            &mut decider,
-            metric,
-            limit,
-            &mut range,
-            progress,
-        )?;
-        if let Some(spent) = spent {
-            return Ok(Maximum::Spent(spent));
-        }
-    }
-    settle(alloc, &nets, metric, limit, range, progress)
+    let range = first_range(alloc, &nets, metric, bound)?;
+    search(alloc, &nets, metric, limit, range, progress)
 }
 
 /// The greatest error of a net whose error is at most `bound`; with at most eight inputs the witness is the first vector in counting

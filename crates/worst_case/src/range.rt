@@ -2,15 +2,14 @@
 ghost use Rattle.std.specs.Prelude.{◌≡◌, ◌≤◌, ◌<◌, ℕ, length, IfOk, OnOk};
 ghost use Rattle.semantics.specs.Net.{IsSmall, input_count};
 ghost use Rattle.semantics.specs.Error.{IsWithin, net_error};
-ghost use Rattle.worst_case.specs.Maximum.{IsRange, IsTurn};
+ghost use Rattle.worst_case.specs.Maximum.{IsGreatestTried, IsRange, IsTurn};
 
 use crate::exceeds::exceeds_level;
 use crate::margin::{Margin, by_diagrams};
 use crate::query::{Exceed, Spent};
-use crate::vectors_tried::{LANE_INPUTS, greatest_of, trial_vectors};
+use crate::vectors_tried::{Attained, LANE_INPUTS, greatest_of, hold_vectors};
 use bdd_levels::budgets::QUESTION_STEPS;
 use bdd_levels::decider::Decider;
-use lane_nets::reference::Reference;
 use net_core::items::Bits;
 use net_errors::compared::Compared;
 use net_errors::net_error::error_at;
@@ -29,6 +28,15 @@ pub struct Range {
     pub log: Option<Log>,
 }
 
+/// The greatest error of the vectors that are tried, and the first of them that has it.
+fn greatest_tried(alloc: Global, nets: &Compared, metric: Metric) -> Result<Attained, AllocError>
+    requires { IsSmall nets.now.exact }
+    ensures { IfOk result (IsGreatestTried metric nets.now.exact nets.now.approx) }
+{
+    let held = hold_vectors(alloc, nets.exact())?;
+    greatest_of(alloc, nets, metric, &held)
+}
+
 /// The range to begin with: the greatest error of the vectors that are tried, and the bound.
 pub fn first_range(
     alloc: Global,
@@ -40,9 +48,7 @@ pub fn first_range(
     requires within { IsWithin metric nets.now.exact bound nets.now.approx }
     ensures { IfOk result (IsRange metric nets.now.exact nets.now.approx bound) }
 {
-    let vectors = trial_vectors(alloc, nets.exact().inputs())?;
-    let held = Reference::new(alloc, nets.exact(), vectors)?;
-    let best = greatest_of(alloc, nets, metric, &held)?;
+    let best = greatest_tried(alloc, nets, metric)?;
     let high = if nets.exact().inputs() <= LANE_INPUTS {
         best.error
     } else {

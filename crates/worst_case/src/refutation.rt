@@ -1,7 +1,7 @@
 //! The log that no error exceeds a level, where that is known. With at most eight inputs it goes by cases; with more the solver is asked.
 //! Where the conflicts are enough for the inputs it gets few of them, and then the log goes by cases after all: two steps for each vector,
 //! of many hints, so with more inputs more conflicts are worth a try.
-ghost use Rattle.std.specs.Prelude.{◌↔◌, ◌≤◌, IfOk, IsTrue};
+ghost use Rattle.std.specs.Prelude.{◌↔◌, ◌≤◌, ◌<◌, IfOk, IsTrue};
 ghost use Rattle.semantics.specs.Net.{input_count};
 ghost use Rattle.semantics.specs.Error.{IsWithin};
 ghost use Rattle.proof_semantics.specs.Conflicts.{IsEnough};
@@ -54,6 +54,27 @@ fn refute_by_cases(
     refute(alloc, &miter.net, &miter.formula)
 }
 
+/// The log of the solver, if few conflicts do, or else the log by cases.
+fn refute_by_few_conflicts<P: Progress>(
+    alloc: Global,
+    nets: &Compared,
+    metric: Metric,
+    k: u128,
+    few: u64,
+    progress: &mut P,
+) -> Result<Log, AllocError>
+    requires many_inputs { FEW_INPUTS < input_count nets.now.exact }
+    requires few_inputs { input_count nets.now.exact ≤ TRIED_INPUTS }
+    requires few { 1 ≤ few }
+    requires within { IsWithin metric nets.now.exact k nets.now.approx }
+    ensures { IfOk result (IsNever metric nets.now.exact nets.now.approx k) }
+{
+    match ask_solver(alloc, nets, metric, k, few, progress)? {
+        Exceed::Never(log) => Ok(log),
+        _ => refute_by_cases(alloc, nets, metric, k),
+    }
+}
+
 /// A log that refutes that some error exceeds `k`, or a log of `limit` conflicts.
 pub(crate) fn refute_level<P: Progress>(
     alloc: Global,
@@ -71,11 +92,11 @@ pub(crate) fn refute_level<P: Progress>(
     if inputs > FEW_INPUTS && !is_enough(limit, inputs) {
         return ask_solver(alloc, nets, metric, k, limit, progress);
     }
-    if inputs > FEW_INPUTS {
+    let log = if inputs > FEW_INPUTS {
         let few = limit.min(few_conflicts(inputs));
-        if let Exceed::Never(log) = ask_solver(alloc, nets, metric, k, few, progress)? {
-            return Ok(Exceed::Never(log));
-        }
-    }
-    Ok(Exceed::Never(refute_by_cases(alloc, nets, metric, k)?))
+        refute_by_few_conflicts(alloc, nets, metric, k, few, progress)?
+    } else {
+        refute_by_cases(alloc, nets, metric, k)?
+    };
+    Ok(Exceed::Never(log))
 }

@@ -1,10 +1,12 @@
 //! Whether some error exceeds a level, asked of the solver, which is first told which tables of the joint net are alike.
 ghost use Rattle.std.specs.Prelude.{◌≡◌, ◌<◌, ◌≤◌, ◌^◌, List, Bool, length, take, IfOk};
 ghost use Rattle.semantics.specs.Net.{input_count};
-ghost use Rattle.proof_semantics.specs.Logs.{IsDerivation};
-ghost use Rattle.cdcl_core.specs.Answers.{IsAnswer};
+ghost use Rattle.proof_semantics.specs.Logs.{LogItem, IsDerivation};
+ghost use Rattle.proof_semantics.specs.Formula.{goal_of};
+ghost use Rattle.proof_semantics.specs.Merges.{IsMergeLog};
+ghost use Rattle.cdcl_core.specs.Answers.{IsModel, IsAnswer};
 ghost use Rattle.cdcl_core.specs.declared.answer.Answer.TheVariants.{Model};
-ghost use Rattle.worst_case.specs.Exceeds.{IsAsked, told};
+ghost use Rattle.worst_case.specs.Exceeds.{IsAsked, IsToldBehind, told};
 
 use crate::comparable::see_comparable;
 use crate::query::{Exceed, Spent};
@@ -69,6 +71,45 @@ fn told_of_nets(
     }
 }
 
+/// What the solver's answer behind these merged steps says of the two nets.
+fn ask_behind<P: Progress>(
+    alloc: Global,
+    nets: &Compared,
+    joint: &Miter,
+    merged: &Log,
+    k: u128,
+    limit: u64,
+    progress: &mut P,
+) -> Result<Exceed, AllocError>
+    requires limit { 1 ≤ limit }
+    requires merged { IsDerivation joint.now.formula merged.now }
+    requires wide { (bits : List Bool) → IsModel joint.now.formula bits → input_count nets.now.exact ≤ length bits }
+    ensures { IfOk result (IsToldBehind nets.now.exact nets.now.approx joint.now.formula k limit merged.now) }
+{
+    let count = merged.as_slice().len() as u64;
+    let answer = solver_answer(alloc, joint, merged, limit, progress)?;
+    told_of_nets(alloc, nets, k, count, answer)
+}
+
+/// The same behind the merges of the joint net.
+fn ask_merged<P: Progress>(
+    alloc: Global,
+    nets: &Compared,
+    joint: &Miter,
+    k: u128,
+    limit: u64,
+    progress: &mut P,
+) -> Result<Exceed, AllocError>
+    requires limit { 1 ≤ limit }
+    requires goal { joint.now.formula ≡ goal_of joint.now.net }
+    requires wide { (bits : List Bool) → IsModel joint.now.formula bits → input_count nets.now.exact ≤ length bits }
+    ensures { IfOk result (λ exceed. (merged : List LogItem) × IsMergeLog joint.now.net merged
+        × IsToldBehind nets.now.exact nets.now.approx joint.now.formula k limit merged exceed) }
+{
+    let merged = merges(alloc, &joint.net, &joint.formula)?;
+    ask_behind(alloc, nets, joint, &merged, k, limit, progress)
+}
+
 /// An input whose error exceeds `k`, a log that refutes that there is one, or a log of `limit` conflicts behind the merges. What the
 /// solver does is told on.
 pub(crate) fn ask_solver<P: Progress>(
@@ -85,8 +126,5 @@ pub(crate) fn ask_solver<P: Progress>(
 {
     see_comparable(nets);
     let joint = joint_miter(alloc, nets, metric, k)?;
-    let merged = merges(alloc, &joint.net, &joint.formula)?;
-    let count = merged.as_slice().len() as u64;
-    let answer = solver_answer(alloc, &joint, &merged, limit, progress)?;
-    told_of_nets(alloc, nets, k, count, answer)
+    ask_merged(alloc, nets, &joint, k, limit, progress)
 }

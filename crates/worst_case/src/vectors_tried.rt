@@ -1,5 +1,5 @@
 //! Input vectors that are tried at once: the greatest of their errors, and the first whose error exceeds a level.
-ghost use Rattle.std.specs.Prelude.{◌≡◌, ◌≤◌, ◌<◌, [], length, slice_index_or, IfOk};
+ghost use Rattle.std.specs.Prelude.{◌≡◌, ◌≤◌, ◌<◌, [], length, slice_index_or, IfOk, OnOk};
 ghost use Rattle.semantics.specs.Net.{input_count, IsSmall};
 ghost use Rattle.semantics.specs.Error.{net_error};
 ghost use Rattle.worst_case.specs.VectorsTried.{IsTrial, IsFirstGreatestIn, IsHeldFor, IsEveryVectorHeld, IsTried};
@@ -43,6 +43,19 @@ fn set_trial(j: u32, x: &mut [bool]) {
     }
 }
 
+/// Adds the trial vectors, which are written to `x` one after another.
+fn push_trials(set: &mut Patterns, x: &mut [bool]) -> Result<(), AllocError>
+    requires { length x.old ≡ set.old.inputs }
+    ensures inputs { OnOk result (set.new.inputs ≡ set.old.inputs) }
+    ensures some { OnOk result (0 < length set.new.vectors) }
+{
+    for j in 0..TRIALS {
+        set_trial(j, x);
+        set.push(x)?;
+    }
+    Ok(())
+}
+
 /// The vectors that are tried: with at most sixteen inputs all in counting order, with more a fixed choice.
 pub fn trial_vectors(alloc: Global, inputs: u32) -> Result<Patterns, AllocError>
     requires { inputs ≤ MOST_INPUTS }
@@ -53,10 +66,7 @@ pub fn trial_vectors(alloc: Global, inputs: u32) -> Result<Patterns, AllocError>
     }
     let mut set = Patterns::new(alloc, inputs);
     let mut x = vec![in alloc; false; inputs as usize]?;
-    for j in 0..TRIALS {
-        set_trial(j, &mut x);
-        set.push(&x)?;
-    }
+    push_trials(&mut set, &mut x)?;
     Ok(set)
 }
 

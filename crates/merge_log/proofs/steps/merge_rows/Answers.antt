@@ -1,4 +1,5 @@
-use Rattle.std.proofs.Common.{sym, subst, arith}
+use Rattle.std.proofs.Common.{ap, sym, subst, arith}
+use Rattle.semantics.specs.Net.{row_literals}
 use Rattle.merge_log.specs.Steps.{Adds}
 use Rattle.merge_log.proofs.Adding.{adds-both, merged-more}
 use Rattle.merge_log.proofs.RowLoops.{rows_turn, few_turn, pairs_more, width_at}
@@ -49,3 +50,36 @@ loop-j-preserved c =
       few = rw (c.row_literals.ensures, c.as_slice-marks.ensures) few;
       other_few = rw (c.row_literals.ensures, c.as_slice-marks.ensures) other_few;
     }
+
+pub merge_row-requires-clause-derivation : goal.merge_row-requires-clause-derivation
+merge_row-requires-clause-derivation c = c.loop-j.invariant.adds.derivation
+
+pub merge_row-requires-clause-same : goal.merge_row-requires-clause-same
+merge_row-requires-clause-same c = c.requires.same
+
+pub overflow_cast-here : goal.overflow_cast-here
+overflow_cast-here c = omega (arith, c.requires.row, c.loop-j-test.true, c.vars-variables.ensures.formed.few_variables)
+
+pub overflow_add-here : goal.overflow_add-here
+overflow_add-here c = omega (arith, c.requires.row, c.loop-j-test.true, c.vars-variables.ensures.formed.few_variables)
+
+pub overflow_cast-there : goal.overflow_cast-there
+overflow_cast-there c = omega (arith, c.requires.other_row, c.loop-j-test.true, c.vars-variables.ensures.formed.few_variables)
+
+pub overflow_add-there : goal.overflow_add-there
+overflow_add-there c = omega (arith, c.requires.other_row, c.loop-j-test.true, c.vars-variables.ensures.formed.few_variables)
+
+pub overflow_add-clauses : goal.overflow_add-clauses
+overflow_add-clauses c =
+    let few = few_turn c.loop-j.id _ c.loop-j.j c.args.rows.now c.index-rows-j.result c.loop-j-test.true c.index-rows-j.is c.loop-j.invariant.few in
+    omega (arith, few, c.requires.few, c.row_literals.ensures, ap row_literals c.as_slice-marks.ensures)
+
+pub overflow_add-id : goal.overflow_add-id
+overflow_add-id c =
+    let few = few_turn c.loop-j.id _ c.loop-j.j c.args.rows.now c.index-rows-j.result c.loop-j-test.true c.index-rows-j.is c.loop-j.invariant.few in
+    omega (arith, few, c.requires.few, c.row_literals.ensures, ap row_literals c.as_slice-marks.ensures)
+
+pub overflow_add-behind : goal.overflow_add-behind
+overflow_add-behind c =
+    let few = few_turn c.loop-j.behind _ c.loop-j.j c.args.rows.now c.index-rows-j.result c.loop-j-test.true c.index-rows-j.is c.loop-j.invariant.other_few in
+    omega (arith, few, c.requires.other_few, c.row_literals.ensures, ap row_literals c.as_slice-marks.ensures)

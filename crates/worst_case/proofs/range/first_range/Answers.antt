@@ -1,7 +1,5 @@
-use Rattle.std.proofs.Common.{ap, inl, inr, subst, sym, ◌∙◌, arith}
+use Rattle.std.proofs.Common.{ap, inl, inr, ◌∙◌, arith}
 use Rattle.semantics.specs.Net.{input_count}
-use Rattle.lane_nets.specs.Lanes.{ReferenceValue}
-use Rattle.worst_case.specs.VectorsTried.{IsTrial}
 use Rattle.worst_case.proofs.Ranges.{smaller, IsRange-first}
 use Rattle.worst_case.proofs.range.first_range.Goals as goal
 use Rattle.worst_case.proofs.range.first_range.Goals.{then-inputs-le-LANE_INPUTS, else-inputs-le-LANE_INPUTS}
@@ -9,12 +7,10 @@ use Rattle.worst_case.proofs.range.first_range.Goals.{then-inputs-le-LANE_INPUTS
 pub returns : goal.returns
 returns c =
     let nets = c.args.nets.now in
-    let count = c.inputs-2.ensures.value ∙ ap input_count c.exact-3.ensures.value in
-    let trial = subst (λ n. IsTrial n c.in_ok-vectors.vectors) (c.inputs.ensures.value ∙ ap input_count c.exact.ensures.value) c.in_ok-vectors.ensures in
+    let best = c.in_ok-best.ensures in
+    let count = c.inputs.ensures.value ∙ ap input_count c.exact.ensures.value in
     IsRange-first c.args.metric nets.exact nets.approx c.args.bound c.if-inputs-le-LANE_INPUTS.high c.in_ok-best.best.error c.in_ok-best.best.witness
-    c.in_ok-held.held.patterns c.exact.ensures.candidate c.requires.within
-    (subst (IsTrial (input_count nets.exact)) (sym (ap (λ (r : ReferenceValue). r.patterns) c.in_ok-held.ensures)) trial)
-    c.in_ok-best.ensures.greatest c.in_ok-best.ensures.width
+    best.tried c.exact.ensures.candidate c.requires.within best.trial best.best best.width
     (elim c.if-inputs-le-LANE_INPUTS.branch [
       | then-inputs-le-LANE_INPUTS w ↦ inl (omega (arith, w.if-inputs-le-LANE_INPUTS.true, count), w.high-is)
       | else-inputs-le-LANE_INPUTS w ↦ let low = smaller c.args.bound c.if-inputs-le-LANE_INPUTS.high (w.high-is ∙ w.min-high.ensures) in
