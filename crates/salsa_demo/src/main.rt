@@ -11,6 +11,7 @@ use progress::progress::Progress;
 use std::alloc::Global;
 use std::io::IsTerminal;
 use std::process::ExitCode;
+use synth_core::chain::Chain;
 use synth_jobs::demonstration::demonstrate;
 
 /// The job of a demonstration.
@@ -33,7 +34,9 @@ impl Job for Demonstration {
                 },
             ) => {
                 let limit = u64::from(conflicts);
-                demonstrate(alloc, width, bound, limit, files, say, progress).exit()
+                demonstrate::<Chain, F, K, P>(
+                    alloc, width, bound, limit, files, say, progress,
+                ).exit()
             }
             _ => 1,
         }
