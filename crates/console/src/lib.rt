@@ -3,6 +3,7 @@
 
 pub mod arguments;
 mod counted;
+pub mod program;
 pub mod real_files;
 pub mod real_sink;
 pub mod terminal;

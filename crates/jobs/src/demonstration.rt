@@ -11,6 +11,7 @@ use file_core::sink::Sink;
 use progress::progress::Progress;
 use semantics::limits::LARGEST_ERROR;
 use std::alloc::Global;
+use synth_core::chain::Chain;
 use synth_jobs::demonstration;
 
 /// Carries out a demo job, with the absolute error.
@@ -38,5 +39,7 @@ pub fn demonstrate<F: Files, K: Sink, P: Progress>(
         (K.told say.new)
         result }
 {
-    outcome_of(demonstration::demonstrate(alloc, width, bound, limit, files, say, progress))
+    outcome_of(demonstration::demonstrate::<Chain, F, K, P>(
+        alloc, width, bound, limit, files, say, progress,
+    ))
 }

@@ -10,6 +10,7 @@ use file_core::sink::Sink;
 use progress::progress::Progress;
 use semantics::limits::LARGEST_ERROR;
 use std::alloc::Global;
+use synth_core::chain::Chain;
 use synth_jobs::delivery::finish;
 use synth_jobs::preparing::Constraint;
 
@@ -44,5 +45,5 @@ pub fn synthesize<F: Files, K: Sink, P: Progress>(
     let Ok(names) = Stem::new(alloc, stem) else {
         return only(Status::NoMemory);
     };
-    outcome_of(finish(alloc, exact, aim, &names, files, say, progress))
+    outcome_of(finish::<Chain, F, K, P>(alloc, exact, aim, &names, files, say, progress))
 }

@@ -3,60 +3,56 @@
 #![tactic(auto)]
 
 use command_words::words::{Command, command_named};
-use console::arguments;
-use console::real_files::RealFiles;
-use console::real_sink::RealSink;
-use console::terminal::Terminal;
+use console::program::{Job, run};
+use file_core::files::Files;
+use file_core::sink::Sink;
 use file_core::word::Word;
+use progress::progress::Progress;
+use std::alloc::Global;
 use std::io::IsTerminal;
 use std::process::ExitCode;
+use synth_core::chain::Chain;
 use synth_jobs::demonstration::demonstrate;
-use synth_jobs::work::Work;
 
-/// Carries out the demonstration that the words name, over the files and the standard output of the system; None where they name
-/// none.
-fn answer(rt: &HostRuntime, words: &[Word]) -> Option<Work> {
-    let Some(
-        Command::Demo {
-            width,
-            bound,
-            conflicts,
-        },
-    ) = command_named(words)
-    else {
-        return None;
-    };
-    let mut files = RealFiles::new(rt);
-    let mut say = RealSink::new(rt);
-    let mut terminal = Terminal::of_user(rt, rt.stderr().is_terminal());
-    let work = demonstrate(
-        rt.alloc(),
-        width,
-        bound,
-        u64::from(conflicts),
-        &mut files,
-        &mut say,
-        &mut terminal,
-    );
-    terminal.clear();
-    terminal.tell_parts();
-    Some(work)
+/// The job of a demonstration.
+struct Demonstration;
+
+impl Job for Demonstration {
+    fn carry_out<F: Files, K: Sink, P: Progress>(
+        alloc: Global,
+        words: &[Word],
+        files: &mut F,
+        say: &mut K,
+        progress: &mut P,
+    ) -> u8 {
+        match command_named(words) {
+            Some(
+                Command::Demo {
+                    width,
+                    bound,
+                    conflicts,
+                },
+            ) => {
+                let limit = u64::from(conflicts);
+                demonstrate::<Chain, F, K, P>(
+                    alloc, width, bound, limit, files, say, progress,
+                ).exit()
+            }
+            _ => 1,
+        }
+    }
+
+    fn line(exit: u8) -> Option<&'static str> {
+        match exit {
+            0 => None,
+            3 => Some("out of memory"),
+            4 => Some("conflicts spent"),
+            6 => Some("write fault"),
+            _ => Some("usage: demo WIDTH BOUND CONFLICTS"),
+        }
+    }
 }
 
 fn main(rt: HostRuntime) -> ExitCode {
-    let answer = match arguments::words(&rt) {
-        Ok(words) => answer(&rt, &words),
-        Err(_) => Some(Work::NoMemory),
-    };
-    match answer {
-        Some(Work::Done(_)) => ExitCode::from(0),
-        Some(work) => {
-            let _ = eprintln!(rt; "salsa: {work}");
-            ExitCode::from(work.exit())
-        }
-        None => {
-            let _ = eprintln!(rt; "salsa: usage: demo WIDTH BOUND CONFLICTS");
-            ExitCode::from(1)
-        }
-    }
+    run::<Demonstration, HostRuntime>(&rt, rt.stderr().is_terminal())
 }

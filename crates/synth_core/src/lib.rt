@@ -7,6 +7,7 @@
 //! ends, since each step removes literals.
 #![tactic(auto)]
 
+pub mod chain;
 mod move_trial;
 pub mod shrink;
 mod step;

@@ -20,6 +20,7 @@ use bdd_levels::decider::Decider;
 use lane_bits::patterns::Patterns;
 use lane_nets::reference::Reference;
 use net_core::net::Net;
+use net_search::search::Shrunk;
 use net_tidy::tidy::tidy;
 use progress::progress::{Progress, Silent};
 use semantics::limits::{FEW_INPUTS, MOST_OUTPUTS};
@@ -28,14 +29,6 @@ use std::alloc::{AllocError, Global};
 use worst_case::policy::decider_for;
 use worst_case::query::Spent;
 use worst_case::vectors_tried::hold_vectors;
-
-/// The last member of the chain that was reached, the vectors that break moves, and the query that was spent, if one was.
-#[derive(Drop)]
-pub struct Shrunk {
-    pub net: Net,
-    pub pool: Patterns,
-    pub spent: Option<Spent>,
-}
 
 /// The vectors to begin with: all of them where there are few inputs, and else none.
 fn first_pool(alloc: Global, net: &Net) -> Result<Patterns, AllocError>

@@ -15,6 +15,7 @@ use file_core::fault::FileFault;
 use file_core::files::Files;
 use file_core::sink::Sink;
 use net_core::net::Net;
+use net_search::search::Search;
 use progress::progress::Progress;
 use semantics::limits::LARGEST_ERROR;
 use std::alloc::Global;
@@ -54,7 +55,7 @@ fn delivered<F: Files, K: Sink>(
 }
 
 /// Simplifies a net, writes its bundle under the names, and puts the report. Everything is computed before a file is touched.
-pub fn finish<F: Files, K: Sink, P: Progress>(
+pub fn finish<S: Search, F: Files, K: Sink, P: Progress>(
     alloc: Global,
     exact: Net,
     aim: Constraint,
@@ -78,7 +79,7 @@ pub fn finish<F: Files, K: Sink, P: Progress>(
         (K.told say.new)
         result }
 {
-    match prepare(alloc, exact, aim, progress) {
+    match prepare::<S, P>(alloc, exact, aim, progress) {
         Err(_) => Work::NoMemory,
         Ok(Prepared::Budget { level, spent }) => Work::Budget { level, spent },
         Ok(Prepared::Ready { bundle, spent }) => { delivered(&bundle, spent, names, files, say) }

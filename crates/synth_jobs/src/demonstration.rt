@@ -12,13 +12,14 @@ use bundle_writing::stem::Stem;
 use demo_adder::adder::demo_net;
 use file_core::files::Files;
 use file_core::sink::Sink;
+use net_search::search::Search;
 use progress::progress::Progress;
 use semantics::limits::LARGEST_ERROR;
 use semantics::metric::Metric;
 use std::alloc::Global;
 
 /// Carries out a demo job, with the absolute error.
-pub fn demonstrate<F: Files, K: Sink, P: Progress>(
+pub fn demonstrate<S: Search, F: Files, K: Sink, P: Progress>(
     alloc: Global,
     width: u32,
     bound: u128,
@@ -53,5 +54,5 @@ pub fn demonstrate<F: Files, K: Sink, P: Progress>(
         bound,
         limit,
     };
-    finish(alloc, exact, aim, &names, files, say, progress)
+    finish::<S, F, K, P>(alloc, exact, aim, &names, files, say, progress)
 }

@@ -18,12 +18,11 @@ use miter::level::miter_of;
 use net_core::items::Bits;
 use net_core::net::Net;
 use net_errors::compared::Compared;
+use net_search::search::{Search, Shrunk};
 use progress::progress::Progress;
 use semantics::limits::LARGEST_ERROR;
 use semantics::metric::Metric;
 use std::alloc::{AllocError, Global};
-use synth_core::shrink::{Shrunk, shrink_followed};
-use worst_case::maximum::maximum_followed;
 use worst_case::query::{Maximum, Spent};
 
 /// The error's measure, the most that it may be, and the most conflicts of each query.
@@ -113,7 +112,7 @@ fn together(shrunk: Shrunk, maximum: Maximum) -> Searched
 }
 
 /// The simplification of a net, and its greatest error.
-fn search<P: Progress>(
+fn search<S: Search, P: Progress>(
     alloc: Global,
     exact: &Net,
     aim: Constraint,
@@ -129,8 +128,8 @@ fn search<P: Progress>(
         bound,
         limit,
     } = aim;
-    let shrunk = shrink_followed(alloc, exact, metric, bound, limit, progress)?;
-    let maximum = maximum_followed(alloc, exact, &shrunk.net, metric, bound, limit, progress)?;
+    let shrunk = S::shrink(alloc, exact, metric, bound, limit, progress)?;
+    let maximum = S::maximum(alloc, exact, &shrunk.net, metric, bound, limit, progress)?;
     Ok(together(shrunk, maximum))
 }
 
@@ -155,7 +154,7 @@ fn goal_for(
 }
 
 /// The bundle of the simplification of a net, or the query that stood in its way.
-pub fn prepare<P: Progress>(
+pub fn prepare<S: Search, P: Progress>(
     alloc: Global,
     exact: Net,
     aim: Constraint,
@@ -166,7 +165,7 @@ pub fn prepare<P: Progress>(
     requires limit { 1 ≤ aim.limit }
     ensures { IfOk result (IsPrepared exact aim.metric aim.bound aim.limit) }
 {
-    match search(alloc, &exact, aim, progress)? {
+    match search::<S, P>(alloc, &exact, aim, progress)? {
         Searched::Budget { level, spent } => Ok(Prepared::Budget { level, spent }),
         Searched::Found(found) => {
             let goal = goal_for(alloc, &exact, aim, &found)?;

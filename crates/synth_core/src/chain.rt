@@ -1,0 +1,37 @@
+//! The search of `salsa`: along the chain of simplifications, and for the greatest error.
+use crate::shrink::shrink_followed;
+use net_core::net::Net;
+use net_search::search::{Search, Shrunk};
+use progress::progress::Progress;
+use semantics::metric::Metric;
+use std::alloc::{AllocError, Global};
+use worst_case::maximum::maximum_followed;
+use worst_case::query::Maximum;
+
+/// Who searches along the chain, and by queries for the greatest error.
+pub struct Chain;
+
+impl Search for Chain {
+    fn shrink<P: Progress>(
+        alloc: Global,
+        net: &Net,
+        metric: Metric,
+        bound: u128,
+        limit: u64,
+        progress: &mut P,
+    ) -> Result<Shrunk, AllocError> {
+        shrink_followed(alloc, net, metric, bound, limit, progress)
+    }
+
+    fn maximum<P: Progress>(
+        alloc: Global,
+        exact: &Net,
+        approx: &Net,
+        metric: Metric,
+        bound: u128,
+        limit: u64,
+        progress: &mut P,
+    ) -> Result<Maximum, AllocError> {
+        maximum_followed(alloc, exact, approx, metric, bound, limit, progress)
+    }
+}
