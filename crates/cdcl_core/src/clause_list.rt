@@ -62,7 +62,8 @@ impl ClauseList {
         &self.region[start as usize..end as usize]
     }
 
-    /// Adds a clause at the end, or leaves the list as it is where there is no memory.
+    /// Adds a clause at the end. Where it answers an error, for want of memory or of places that half a word can hold, the list stays as
+    /// it was.
     pub fn push(&mut self, clause: &[Literal]) -> Result<(), AllocError>
         ensures ok { OnOk result (self.new ≡ self.old ++ clause.now ∷ []) }
         ensures err { OnErr result (self.new ≡ self.old) }
