@@ -10,7 +10,7 @@
 //! and gives a hint; in the other order the hints are the reasons in the order of the trail, and then the conflict's clause.
 //! An entry is replaced once, after all those that stand behind it, so each reason is one hint. So it is known before how much room the
 //! clause and its hints can take, and the analysis itself takes no memory (`HasRoom`).
-ghost use Rattle.std.specs.Prelude.{◌≡◌, ◌⊎◌, ℕ, ◌+◌, ◌<◌, ◌≤◌, ◌^◌, length, vec_len, vec_capacity, neg_ℤ, All, IfSome, OnOk, reverse};
+ghost use Rattle.std.specs.Prelude.{◌≡◌, ◌⊎◌, ◌+◌, ◌<◌, ◌≤◌, ◌^◌, length, vec_len, vec_capacity, neg_ℤ, All, IfSome, OnOk, reverse};
 ghost use Rattle.proof_semantics.specs.Clauses.{AreClausesOf};
 ghost use Rattle.cdcl_core.specs.Trail.{IsReason, IsTrail, IsTrueBelow};
 ghost use Rattle.cdcl_core.specs.Explained.{IsExplained};

@@ -3,7 +3,7 @@
 //! The search goes back to the greatest level among the other literals of the learned clause, where they are all false and its
 //! literal of the conflict's level follows. No level between is worth keeping: there the clause would force that literal
 //! already. Source: the jump of GRASP and Chaff.
-ghost use Rattle.std.specs.Prelude.{◌≡◌, ◌⊎◌, ◌+◌, ◌<◌, ◌≤◌, [], ◌∷◌, ◌++◌, length, neg_ℤ, All, OnOk, slice_index_or};
+ghost use Rattle.std.specs.Prelude.{◌≡◌, ◌⊎◌, ◌<◌, [], ◌∷◌, ◌++◌, length, neg_ℤ, All, OnOk};
 ghost use Rattle.proof_semantics.specs.Clauses.{IsLiteralOf};
 ghost use Rattle.cdcl_core.specs.Trail.{literal_at, IsTrueBelow, IsLearned, AreLevels};
 ghost use Rattle.cdcl_core.specs.Watching.{IsWatching, IsWatchedBelow};

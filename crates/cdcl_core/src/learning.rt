@@ -50,7 +50,8 @@ pub fn log_refutation(alloc: Global, search: &mut Search, conflict: usize) -> Re
     requires searching { IsSearching search.old.clauses search.old.trail search.old.order }
     requires conflict { IsConflict search.old.clauses search.old.trail conflict }
     requires no_level { search.old.trail.starts ≡ [] }
-    ensures { OnOk result (HasEnded search.old.clauses search.old.log search.new.log) }
+    ensures ended { OnOk result (HasEnded search.old.clauses search.old.log search.new.log) }
+    ensures trail { search.new.trail ≡ search.old.trail }
 {
     search.trail.consistent();
     make_room(

@@ -2,7 +2,7 @@
 //!
 //! The places that were marked are listed, so that clearing the marks and gathering a clause touch these alone and not the whole
 //! trail. Each is listed once, so there is room for all from the start, and marking takes no memory.
-ghost use Rattle.std.specs.Prelude.{◌≡◌, ℕ, ◌+◌, ◌<◌, ◌≤◌, [], true, false, length, slice_set, max, All, vec_len, vec_capacity, IfSome, IsNone, OnOk, OnErr};
+ghost use Rattle.std.specs.Prelude.{◌≡◌, ℕ, ◌+◌, ◌<◌, ◌≤◌, [], true, false, length, slice_set, max, All, vec_len, vec_capacity, IfSome, IsNone, OnOk};
 ghost use Rattle.cdcl_core.specs.Analysis.{mark_at, IsClauseOf, IsHighest};
 ghost use Rattle.cdcl_core.specs.Touched.{AreTouched, AreListed};
 
