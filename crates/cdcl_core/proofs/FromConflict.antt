@@ -1,6 +1,6 @@
 -- From a conflict to the learned clause.
 use Rattle.std.specs.Prelude.{ℤ, neg_ℤ, ◌⊎◌, All}
-use Rattle.std.proofs.Common.{◌≡◌, ℕ, zero, Bool, true, false, ◌-◌, ◌<◌, ◌≤◌, pos, List, [], ◌++◌, take, length, get_or, ap, subst, sym, ◌∙◌, inl, inr, arith}
+use Rattle.std.proofs.Common.{◌≡◌, ℕ, zero, Bool, true, false, ◌-◌, ◌<◌, ◌≤◌, pos, List, [], ◌++◌, take, reverse, length, get_or, ap, subst, sym, ◌∙◌, inl, inr, arith}
 use Rattle.std.proofs.Math.IntN.{neg_ℤ-neg_ℤ}
 use Rattle.std.proofs.lemmas.List.{take-append-le, take_all}
 use Rattle.std.proofs.lemmas.List.Elements.{All-nil, All-weaker, All-contains}
@@ -65,25 +65,26 @@ clause_within t marks C ok made = All-weaker (λ a. IsMarked t.literals marks (n
     let negated : IsLiteralOf t.variables (neg_ℤ a) = subst (IsLiteralOf t.variables) m.is (ok m.place (pos zero) m.within) in
     subst (IsLiteralOf t.variables) (neg_ℤ-neg_ℤ a) (literal-neg t.variables (neg_ℤ a) negated)) C made.all
 
-pub analysed : (clauses : List Clause) (t : TrailValue) (marks : List Bool) (start : ℕ) (r : Learned) (hints : List ℕ) → IsConsistent t.literals → All (IsLiteralOf t.variables) t.literals
-    → IsSettled (IsTrueBelow t.literals start) clauses → IsOneFrom t.literals marks start r.place → IsClauseOf t.literals marks r.clause
-    → IsExplained clauses t.literals marks hints → r.hints ≡ hints → IsAnalysed clauses t start r
-analysed clauses t marks start r hints c ok settled one made explained same =
+pub analysed : (clauses : List Clause) (t : TrailValue) (marks : List Bool) (start : ℕ) (r : Learned) → IsConsistent t.literals → All (IsLiteralOf t.variables) t.literals
+    → IsSettled (IsTrueBelow t.literals start) clauses → IsOneFrom t.literals marks start r.place → IsClauseOf t.literals marks r.clause.items
+    → IsExplained clauses t.literals marks (reverse r.hints.items) → IsAnalysed clauses t start r
+analysed clauses t marks start r c ok settled one made explained =
     let trail : List ℤ = t.literals in
-    let learned : IsLearned trail start r.clause (neg_ℤ (literal_at trail r.place)) r.place = clause_learned trail marks start r.place r.clause one made in
+    let clause : Clause = r.clause.items in
+    let learned : IsLearned trail start clause (neg_ℤ (literal_at trail r.place)) r.place = clause_learned trail marks start r.place clause one made in
     record {
       learned = learned;
-      derives = λ id. marks-derives clauses trail marks (record { id = id; literals = r.clause; hints = r.hints }) (clause_false trail marks r.clause made) made.each (rw same explained);
-      new = learned-new clauses trail start r.clause (neg_ℤ (literal_at trail r.place)) r.place c settled learned;
-      literals = clause_within t marks r.clause ok made;
+      derives = λ id. marks-derives clauses trail marks (record { id = id; literals = clause; hints = reverse r.hints.items }) (clause_false trail marks clause made) made.each explained;
+      new = learned-new clauses trail start clause (neg_ℤ (literal_at trail r.place)) r.place c settled learned;
+      literals = clause_within t marks clause ok made;
     }
 
 -- where no entry is marked, the hints refute
-pub refuted : (clauses : List Clause) (trail : List ℤ) (marks : List Bool) (hints ids : List ℕ) → IsExplained clauses trail marks hints
-    → ((p : ℕ) → p < length trail → mark_at marks p ≡ false) → ids ≡ hints → IsRefuted clauses ids
-refuted clauses trail marks hints ids explained none same id =
-    marks-derives clauses trail marks (record { id = id; literals = []; hints = ids }) (All-nil (λ a. Holds trail (neg_ℤ a)))
-    (λ p within m. let unmarked = none p within in let no : false ≡ true = sym unmarked ∙ m in absurd (cc)) (rw same explained)
+pub refuted : (clauses : List Clause) (trail : List ℤ) (marks : List Bool) (hints : List ℕ) → IsExplained clauses trail marks hints
+    → ((p : ℕ) → p < length trail → mark_at marks p ≡ false) → IsRefuted clauses hints
+refuted clauses trail marks hints explained none id =
+    marks-derives clauses trail marks (record { id = id; literals = []; hints = hints }) (All-nil (λ a. Holds trail (neg_ℤ a)))
+    (λ p within m. let unmarked = none p within in let no : false ≡ true = sym unmarked ∙ m in absurd (cc)) explained
 
 -- what is settled below each open level is so below the last
 pub last_settled : (clauses : List Clause) (t : TrailValue) (levels start : ℕ) → IsSettledBelow clauses t.literals t.starts → 0 < length t.starts → levels ≡ length t.starts

@@ -1,6 +1,6 @@
 -- What holds of a search between its steps, and what it answers.
 use Rattle.std.proofs.Math.IntN.{neg_ℤ-neg_ℤ}
-use Rattle.std.proofs.Common.{◌≡◌, ℕ, zero, suc, ◌+◌, ◌-◌, ◌^◌, ◌<◌, ◌≤◌, Bool, true, false, not, IsTrue, ◌↔◌, List, [], ◌∷◌, ◌++◌, take, length, get_or, refl, ap, subst, sym, ◌∙◌, inl, inr, length-append, arith, ℤ, pos, negsuc, neg_ℤ, None}
+use Rattle.std.proofs.Common.{◌≡◌, ℕ, zero, suc, ◌+◌, ◌-◌, ◌^◌, ◌<◌, ◌≤◌, Bool, true, false, not, IsTrue, ◌↔◌, List, [], ◌∷◌, ◌++◌, take, reverse, length, get_or, refl, ap, subst, sym, ◌∙◌, inl, inr, length-append, arith, ℤ, pos, negsuc, neg_ℤ, None}
 use Rattle.std.specs.Prelude.{◌⊎◌, All}
 use Rattle.std.specs.List.{Contains}
 use Rattle.std.proofs.lemmas.Bool.{cases_lt, false_from_ne_true}
@@ -150,21 +150,21 @@ search_ended f merged limit k s after h low ended =
 -- ---- what was learned
 
 pub searching_learned : (clauses more : List Clause) (t u : TrailValue) (order after start : ℕ) (r : Learned) → IsSearching clauses t order → after ≡ order → IsAnalysed clauses t start r
-    → IsRunning more u → more ≡ clauses ++ r.clause ∷ [] → u.variables ≡ t.variables → IsSearching more u after
+    → IsRunning more u → more ≡ clauses ++ r.clause.items ∷ [] → u.variables ≡ t.variables → IsSearching more u after
 searching_learned clauses more t u order after start r h same a running added variables = record {
   running = running;
-  literals = rw (added, variables) (All-push (All (IsLiteralOf t.variables)) clauses r.clause h.literals a.literals);
+  literals = rw (added, variables) (All-push (All (IsLiteralOf t.variables)) clauses r.clause.items h.literals a.literals);
   variables = same ∙ h.variables ∙ sym variables;
   small = rw variables h.small;
 }
 
 -- a step of equal parts
-pub step_of : (s : StepValue) (id : ℕ) (C D : Clause) (hints : List ℕ) → s ≡ record { id = id; literals = C; hints = hints } → C ≡ D → s ≡ record { id = id; literals = D; hints = hints }
-step_of s id C D hints is same = cc
+pub step_of : (s : StepValue) (id : ℕ) (C D : Clause) (hints more : List ℕ) → s ≡ record { id = id; literals = C; hints = hints } → C ≡ D → hints ≡ more → s ≡ record { id = id; literals = D; hints = more }
+step_of s id C D hints more is same same_hints = cc
 
 pub has_learned : (old new : Search) (start : ℕ) (r : Learned) (s : StepValue) → IsAnalysed old.clauses old.trail start r
-    → s ≡ record { id = length old.clauses + 1; literals = r.clause; hints = r.hints } → length old.clauses < 2 ^ 59
-    → new.log ≡ old.log ++ Add s ∷ [] → new.clauses ≡ old.clauses ++ r.clause ∷ [] → HasLearned old new
+    → s ≡ record { id = length old.clauses + 1; literals = r.clause.items; hints = reverse r.hints.items } → length old.clauses < 2 ^ 59
+    → new.log ≡ old.log ++ Add s ∷ [] → new.clauses ≡ old.clauses ++ r.clause.items ∷ [] → HasLearned old new
 has_learned old new start r s a is few logged added = record {
   step = s;
   logged = logged;

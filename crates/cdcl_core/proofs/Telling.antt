@@ -7,11 +7,11 @@ use Rattle.std.proofs.lemmas.List.{get_or_push, get_or_append_left, get_or_past,
 use Rattle.cdcl_core.specs.Settled.{IsOpen}
 use Rattle.cdcl_core.specs.Trail.{literal_at, IsConsistent}
 use Rattle.cdcl_core.specs.Explained.{Holds}
-use Rattle.cdcl_core.specs.Placed.{IsPlaced, AreTold, IsHeld}
+use Rattle.cdcl_core.specs.Placed.{IsPlaced, AreTold, IsHeld, HasPlaces}
 use Rattle.cdcl_core.specs.Watched.{index_of}
 use Rattle.cdcl_core.proofs.WatchLists.{index_injective}
 use Rattle.cdcl_core.proofs.Visiting.{holds_last}
-use Rattle.cdcl_core.proofs.Placing.{placed_next, placed-take}
+use Rattle.cdcl_core.proofs.Placing.{placed_next, placed-take, placed_few}
 use Rattle.cdcl_core.proofs.Watching.{index_low}
 use Rattle.proof_semantics.specs.Clauses.{IsLiteralOf}
 
@@ -136,6 +136,22 @@ held_next places told trail after l v n k h o ok e m i more = record {
   wide = length-set told k true ∙ h.wide ∙ ap (λ (w : ℕ). w * 2) (sym (length-set places v n));
 }
 
+pub places_next : (places : List ℕ) (told : List Bool) (trail after : List ℤ) (l : ℤ) (v n k : ℕ) (reasons more literal_room literal_room1 reason_room reason_room1 : ℕ) → HasPlaces places told trail reasons literal_room reason_room
+    → IsOpen (Holds trail) l → IsLiteralOf (length places - 1) l → v ≡ nat_abs l → n ≡ length trail → k ≡ index_of l → after ≡ trail ++ l ∷ [] → more ≡ reasons + 1 → literal_room1 ≡ literal_room → reason_room1 ≡ reason_room
+    → HasPlaces (set places v n) (set told k true) after more literal_room1 reason_room1
+places_next places told trail after l v n k reasons more literal_room literal_room1 reason_room reason_room1 h o ok e m i longer counted same same1 =
+    let same_length = h.same_length in
+    let for_literals = h.for_literals in
+    let for_reasons = h.for_reasons in
+    let wide = length-set places v n in
+    let count : length after ≡ length (trail ++ l ∷ []) = ap length longer in
+    record {
+      held = held_next places told trail after l v n k h.held o ok e m i longer;
+      same_length = omega (arith, length-append trail (l ∷ []));
+      for_literals = omega arith;
+      for_reasons = omega arith;
+    }
+
 -- the entries from `start` on are there no more
 pub held_cut : (places : List ℕ) (told after : List Bool) (trail : List ℤ) (start : ℕ) → IsHeld places told trail → AreTold after (take start trail) → length after ≡ length told → IsHeld places after (take start trail)
 held_cut places told after trail start h cut same = record { placed = placed-take places trail start h.placed; told_values = cut; wide = same ∙ h.wide }
@@ -158,3 +174,12 @@ pub told_all : (told : List Bool) (trail : List ℤ) (n start : ℕ) → AreTold
 told_all told trail n start h low high within =
     let e : n ≡ min start (length trail) = omega arith in
     subst (AreTold told) (ap (λ m. take m trail) e ∙ take_min start trail) h
+
+-- there is room for one entry more
+pub places_room : (places : List ℕ) (told : List Bool) (trail : List ℤ) (reasons literal_room reason_room : ℕ) → HasPlaces places told trail reasons literal_room reason_room → (length trail < literal_room) × (reasons < reason_room)
+places_room places told trail reasons literal_room reason_room h =
+    let few = placed_few places trail h.held.placed in
+    let same_length = h.same_length in
+    let for_literals = h.for_literals in
+    let for_reasons = h.for_reasons in
+    (omega arith, omega arith)

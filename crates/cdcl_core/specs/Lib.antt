@@ -19,3 +19,4 @@ pub mod Laws
 pub mod Decided
 pub mod Searched
 pub mod Answers
+pub mod Turned

@@ -1,5 +1,5 @@
 -- How the trail is held: each variable has the place where it stands in the trail, if it does.
-use Rattle.std.specs.Prelude.{ℤ, ◌≡◌, ℕ, ◌-◌, ◌*◌, ◌<◌, Bool, true, false, Option, List, length, slice_index_or, nat_abs}
+use Rattle.std.specs.Prelude.{ℤ, ◌≡◌, ℕ, ◌+◌, ◌-◌, ◌*◌, ◌<◌, ◌≤◌, Bool, true, false, Option, List, length, slice_index_or, nat_abs}
 use Rattle.cdcl_core.specs.Trail.{literal_at}
 use Rattle.cdcl_core.specs.Explained.{Holds}
 use Rattle.cdcl_core.specs.Watched.{index_of}
@@ -30,3 +30,10 @@ pub record IsHeld (places : List ℕ) (told : List Bool) (trail : List ℤ) : Ty
   pub placed : IsPlaced places trail
   pub told_values : AreTold told trail
   pub wide : length told ≡ length places * 2
+
+-- the same, with a reason of each entry, and with room for more entries than there are variables
+pub record HasPlaces (places : List ℕ) (told : List Bool) (trail : List ℤ) (reasons literal_room reason_room : ℕ) : Type 0 where
+  pub held : IsHeld places told trail
+  pub same_length : reasons ≡ length trail
+  pub for_literals : length places + 1 ≤ literal_room
+  pub for_reasons : length places + 1 ≤ reason_room

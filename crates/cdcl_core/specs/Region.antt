@@ -1,5 +1,4 @@
--- Clauses in one region: their literals lie one after another, and each clause has the span in which they lie. Source: the clause arena
--- of Chaff and MiniSat.
+-- Clauses in one region: each has the span in which its literals lie. Source: the clause arena of Chaff and MiniSat.
 use Rattle.std.specs.Prelude.{ℕ, ◌<◌, ◌≤◌, ◌^◌, List, length, map, slice_range, ℤ, All}
 use Rattle.proof_semantics.specs.Clauses.{Clause}
 use Rattle.cdcl_core.specs.declared.clause_list.Span.{Span}
@@ -15,6 +14,7 @@ pub record IsSpan (size : ℕ) (s : Span) : Type 0 where
   pub order : s.start ≤ s.end
   pub within : s.end ≤ size
 
+-- each span lies within the region, and half a word holds how many literals and how many spans there are
 pub record IsRegion (spans : List Span) (region : List ℤ) : Type 0 where
   pub spans_within : All (IsSpan (length region)) spans
   pub small : length region < 2 ^ 32

@@ -8,36 +8,65 @@
 //! Then marked entries of lower levels that the others imply are replaced too, as in MiniSat, which makes the clause shorter;
 //! and so are those that stand without a decision, so that no learned clause mentions them. Each replacement is a resolution
 //! and gives a hint; in the other order the hints are the reasons in the order of the trail, and then the conflict's clause.
-//! An entry is replaced once, after all those that stand behind it, so each reason is one hint.
-ghost use Rattle.std.specs.Prelude.{◌≡◌, ◌⊎◌, ℕ, ◌<◌, ◌≤◌, length, neg_ℤ, All, IfOk, IfSome, OnOk, reverse};
+//! An entry is replaced once, after all those that stand behind it, so each reason is one hint. So it is known before how much room the
+//! clause and its hints can take, and the analysis itself takes no memory (`HasRoom`).
+ghost use Rattle.std.specs.Prelude.{◌≡◌, ◌⊎◌, ◌+◌, ◌<◌, ◌≤◌, ◌^◌, length, vec_len, vec_capacity, neg_ℤ, All, IfSome, OnOk, reverse};
 ghost use Rattle.proof_semantics.specs.Clauses.{AreClausesOf};
 ghost use Rattle.cdcl_core.specs.Trail.{IsReason, IsTrail, IsTrueBelow};
 ghost use Rattle.cdcl_core.specs.Explained.{IsExplained};
 ghost use Rattle.cdcl_core.specs.Placed.{last_start};
 ghost use Rattle.cdcl_core.specs.Propagation.{IsConflict};
 ghost use Rattle.cdcl_core.specs.Analysis.{IsMarkedFrom, IsOneFrom, IsShortened};
-ghost use Rattle.cdcl_core.specs.Analysed.{IsAnalysed};
+ghost use Rattle.cdcl_core.specs.Analysed.{IsAnalysed, HasRoom};
 ghost use Rattle.cdcl_core.specs.Jump.{IsRunning};
 
-use crate::clause::Clause;
 use crate::clause_list::{ClauseList, id_of};
 use crate::literal::Literal;
 use crate::marks::Marks;
 use crate::order::Order;
-use crate::resolution::{mark_conflict, resolve, reversed};
+use crate::resolution::{mark_conflict, resolve};
 use crate::trail::Trail;
-use net_parts::items::Items;
-use proof_parts::log::Ids;
 use std::alloc::{AllocError, Global};
 
-/// A learned clause, its hints, and the entry of its literal of the conflict's level.
+/// A learned clause: its literals, its hints, the last one first, and the entry of its literal of the conflict's level.
 #[derive(Drop)]
 pub struct Learned {
-    pub clause: Clause,
-    pub hints: Ids,
+    pub clause: Vec<Literal>,
+    pub hints: Vec<u64>,
     pub place: usize,
     /// Of how many levels the literals are.
     pub levels: u64,
+}
+
+impl Learned {
+    /// Nothing was learned yet, and there is no room.
+    pub fn none(alloc: Global) -> Learned {
+        Learned {
+            clause: Vec::new(alloc),
+            hints: Vec::new(alloc),
+            place: 0,
+            levels: 0,
+        }
+    }
+}
+
+/// Takes the memory for the analysis of a conflict where there are so many entries. No entry is marked then.
+pub fn make_room(
+    entries: usize,
+    order: &mut Order,
+    marks: &mut Marks,
+    learned: &mut Learned,
+) -> Result<(), AllocError>
+    requires { entries < 2 ^ 32 }
+    ensures room { OnOk result (HasRoom entries marks.new (vec_capacity learned.new.clause) (vec_capacity learned.new.hints)) }
+    ensures order { order.new ≡ order.old }
+{
+    order.make_room(entries)?;
+    marks.make_room(entries)?;
+    learned.clause.clear();
+    learned.clause.reserve(marks.len())?;
+    learned.hints.clear();
+    learned.hints.reserve(entries + 1)
 }
 
 /// Resolves marked entries from the last on until one is left from `start` on, and answers its place.
@@ -45,17 +74,19 @@ fn reach_one(
     trail: &Trail,
     clauses: &ClauseList,
     marks: &mut Marks,
-    hints: &mut Ids,
+    hints: &mut Vec<u64>,
     start: usize,
-) -> Result<usize, AllocError>
+) -> usize
     requires marks { length trail.now.literals ≤ length marks.old }
+    requires room { vec_len hints.old + length trail.now.literals ≤ vec_capacity hints.old }
     requires trail { IsTrail clauses.now trail.now.literals trail.now.reasons trail.now.starts }
     requires last { All (λ s. s ≤ start) trail.now.starts }
     requires some { IsMarkedFrom marks.old start (length trail.now.literals) }
-    requires explained { IsExplained clauses.now trail.now.literals marks.old (reverse hints.old) }
-    ensures explained { IfOk result (λ _. IsExplained clauses.now trail.now.literals marks.new (reverse hints.new)) }
-    ensures one { IfOk result (IsOneFrom trail.now.literals marks.new start) }
-    ensures same { OnOk result (length marks.new ≡ length marks.old) }
+    requires explained { IsExplained clauses.now trail.now.literals marks.old (reverse hints.old.items) }
+    ensures explained { IsExplained clauses.now trail.now.literals marks.new (reverse hints.new.items) }
+    ensures one { IsOneFrom trail.now.literals marks.new start result }
+    ensures same { length marks.new ≡ length marks.old }
+    ensures room { vec_len hints.new + start ≤ vec_capacity hints.new }
 {
     let mut top = match marks.find_highest(start, trail.len()) {
         Some(place) => place,
@@ -64,32 +95,29 @@ fn reach_one(
     'down: while let Some(next) = marks.find_highest(start, top) {
         match trail.reason(top) {
             Some(reason) => {
-                resolve(trail, clauses, marks, hints, top, reason)?;
+                resolve(trail, clauses, marks, hints, top, reason);
             }
             None => unreachable!(),
         }
         top = marks.highest(next, top);
     }
-    Ok(top)
+    top
 }
 
-/// Notes the variables of the entries that were marked, but for those before `first`, which stand without a decision.
-fn note_variables(
-    trail: &Trail,
-    marks: &Marks,
-    order: &mut Order,
-    first: usize,
-) -> Result<(), AllocError>
+/// The variables of the entries that were marked come first in the order, but for those that stand without a decision.
+pub fn bring_forward(trail: &Trail, marks: &Marks, order: &mut Order)
+    requires { 0 < length trail.now.starts }
     ensures { order.new ≡ order.old }
 {
+    let first = trail.start(0);
     for i in 0..marks.touched() {
         if let Some(place) = marks.touched_place(i) {
             if first <= place && place < trail.len() {
-                order.note(trail.literal(place))?;
+                order.note(trail.literal(place));
             }
         }
     }
-    Ok(())
+    order.bump();
 }
 
 /// Whether the entries that make the literals of a clause false, but for one literal, are marked or stand before `first`.
@@ -131,34 +159,31 @@ fn redundant(
     }
 }
 
-/// Resolves the entry at `place` if it stands before `start`, is marked, and the others imply it.
+/// Resolves the entry at `place` if it is marked and the others imply it.
 fn shorten_at(
     trail: &Trail,
     clauses: &ClauseList,
     marks: &mut Marks,
-    hints: &mut Ids,
+    hints: &mut Vec<u64>,
     place: usize,
-    start: usize,
     first: usize,
-) -> Result<(), AllocError>
+)
     requires marks { length trail.now.literals ≤ length marks.old }
-    requires start { start ≤ length trail.now.literals }
+    requires room { vec_len hints.old < vec_capacity hints.old }
+    requires place { place < length trail.now.literals }
     requires trail { IsTrail clauses.now trail.now.literals trail.now.reasons trail.now.starts }
-    requires explained { IsExplained clauses.now trail.now.literals marks.old (reverse hints.old) }
-    ensures explained { IfOk result (λ _. IsExplained clauses.now trail.now.literals marks.new (reverse hints.new)) }
-    ensures shortened { OnOk result (IsShortened marks.old marks.new start) }
+    requires explained { IsExplained clauses.now trail.now.literals marks.old (reverse hints.old.items) }
+    ensures explained { IsExplained clauses.now trail.now.literals marks.new (reverse hints.new.items) }
+    ensures shortened { IsShortened marks.old marks.new (place + 1) }
+    ensures one { vec_len hints.new ≤ vec_len hints.old + 1 }
+    ensures room { vec_capacity hints.new ≡ vec_capacity hints.old }
 {
-    if start <= place {
-        return Ok(());
-    }
     if !marks.is(place) {
-        return Ok(());
+        return;
     }
-    let Some(reason) = redundant(trail, clauses, marks, place, first) else {
-        return Ok(());
-    };
-    resolve(trail, clauses, marks, hints, place, reason)?;
-    Ok(())
+    if let Some(reason) = redundant(trail, clauses, marks, place, first) {
+        resolve(trail, clauses, marks, hints, place, reason);
+    }
 }
 
 /// Resolves marked entries from `first` to before `start` that the others imply, from the last on, and answers how many were sorted.
@@ -166,25 +191,32 @@ fn shorten(
     trail: &Trail,
     clauses: &ClauseList,
     marks: &mut Marks,
-    hints: &mut Ids,
+    hints: &mut Vec<u64>,
     start: usize,
     first: usize,
-) -> Result<usize, AllocError>
+) -> usize
     requires marks { length trail.now.literals ≤ length marks.old }
+    requires room { vec_len hints.old + start ≤ vec_capacity hints.old }
+    requires first { first ≤ start }
     requires start { start ≤ length trail.now.literals }
     requires trail { IsTrail clauses.now trail.now.literals trail.now.reasons trail.now.starts }
-    requires explained { IsExplained clauses.now trail.now.literals marks.old (reverse hints.old) }
-    ensures explained { IfOk result (λ _. IsExplained clauses.now trail.now.literals marks.new (reverse hints.new)) }
-    ensures shortened { IfOk result (λ _. IsShortened marks.old marks.new start) }
+    requires explained { IsExplained clauses.now trail.now.literals marks.old (reverse hints.old.items) }
+    ensures explained { IsExplained clauses.now trail.now.literals marks.new (reverse hints.new.items) }
+    ensures shortened { IsShortened marks.old marks.new start }
+    ensures room { vec_len hints.new + first ≤ vec_capacity hints.new }
 {
-    let places = marks.sort(first, start)?;
+    let places = marks.sort(first, start);
     let mut rest = places;
+    let mut top = start;
     'down: while rest > 0 {
         rest -= 1;
         let place = marks.sorted_place(rest).unwrap_or(start);
-        shorten_at(trail, clauses, marks, hints, place, start, first)?;
+        if first <= place && place < top {
+            shorten_at(trail, clauses, marks, hints, place, first);
+            top = place;
+        }
     }
-    Ok(places)
+    places
 }
 
 /// Resolves the marked entries before `first`, which stand without a decision.
@@ -192,22 +224,22 @@ fn resolve_base(
     trail: &Trail,
     clauses: &ClauseList,
     marks: &mut Marks,
-    hints: &mut Ids,
+    hints: &mut Vec<u64>,
     first: usize,
-) -> Result<(), AllocError>
+)
     requires marks { length trail.now.literals ≤ length marks.old }
+    requires room { vec_len hints.old + first ≤ vec_capacity hints.old }
     requires first { first ≤ length trail.now.literals }
     requires trail { IsTrail clauses.now trail.now.literals trail.now.reasons trail.now.starts }
-    requires explained { IsExplained clauses.now trail.now.literals marks.old (reverse hints.old) }
-    ensures explained { IfOk result (λ _. IsExplained clauses.now trail.now.literals marks.new (reverse hints.new)) }
-    ensures shortened { IfOk result (λ _. IsShortened marks.old marks.new first) }
+    requires explained { IsExplained clauses.now trail.now.literals marks.old (reverse hints.old.items) }
+    ensures explained { IsExplained clauses.now trail.now.literals marks.new (reverse hints.new.items) }
+    ensures shortened { IsShortened marks.old marks.new first }
 {
     let mut top = first;
     'down: while let Some(next) = marks.find_highest(0, top) {
-        shorten_at(trail, clauses, marks, hints, next, first, first)?;
+        shorten_at(trail, clauses, marks, hints, next, first);
         top = next;
     }
-    Ok(())
 }
 
 /// The level of an entry, counted from 1, where it is none above `level`.
@@ -243,39 +275,30 @@ fn count_levels(trail: &Trail, marks: &Marks, places: usize, start: usize) -> u6
     count
 }
 
-/// The clause of the first unique implication point of a conflict.
+/// The clause of the first unique implication point of a conflict. There is room.
 pub fn learn(
-    alloc: Global,
     trail: &Trail,
     clauses: &ClauseList,
-    order: &mut Order,
     marks: &mut Marks,
+    learned: &mut Learned,
     conflict: usize,
-) -> Result<Learned, AllocError>
+)
+    requires room { HasRoom (length trail.now.literals) marks.old (vec_capacity learned.old.clause) (vec_capacity learned.old.hints) }
     requires running { IsRunning clauses.now trail.now }
     requires levels { 0 < length trail.now.starts }
     requires conflict { IsConflict clauses.now trail.now conflict }
     requires literals { AreClausesOf trail.now.variables clauses.now }
-    requires order { order.old ≡ trail.now.variables }
-    ensures analysed { IfOk result (IsAnalysed clauses.now trail.now (last_start trail.now)) }
-    ensures order { order.new ≡ order.old }
+    ensures { IsAnalysed clauses.now trail.now (last_start trail.now) learned.new }
 {
     trail.consistent();
     let start = trail.start(trail.levels() - 1);
     let first = trail.start(0).min(start);
-    marks.clear(trail.len())?;
-    mark_conflict(trail, clauses, marks, conflict)?;
-    let mut hints = Items::new(alloc);
-    hints.push(id_of(clauses, conflict))?;
-    let place = reach_one(trail, clauses, marks, &mut hints, start)?;
-    note_variables(trail, marks, order, first)?;
-    order.bump();
-    let places = shorten(trail, clauses, marks, &mut hints, start, first)?;
-    resolve_base(trail, clauses, marks, &mut hints, first)?;
-    Ok(Learned {
-        clause: marks.clause(alloc, trail)?,
-        hints: reversed(alloc, hints.as_slice())?,
-        place,
-        levels: count_levels(trail, marks, places, start),
-    })
+    mark_conflict(trail, clauses, marks, conflict);
+    learned.hints.clear();
+    learned.hints.push_reserved(id_of(clauses, conflict));
+    learned.place = reach_one(trail, clauses, marks, &mut learned.hints, start);
+    let places = shorten(trail, clauses, marks, &mut learned.hints, start, first);
+    resolve_base(trail, clauses, marks, &mut learned.hints, first);
+    learned.levels = count_levels(trail, marks, places, start);
+    marks.gather_clause(trail, &mut learned.clause);
 }

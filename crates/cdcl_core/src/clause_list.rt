@@ -2,7 +2,7 @@
 //! lie. So a clause costs no memory of its own, and the literals of clauses that were learned one after another lie side by side. A
 //! clause goes by its place in the list, from 0, and a log speaks of it by the number after its place. Source: the clause arena of
 //! Chaff and MiniSat.
-ghost use Rattle.std.specs.Prelude.{◌≡◌, ◌<◌, ◌^◌, suc, [], ◌∷◌, ◌++◌, length, slice_index_or, IfOk, OnOk, OnErr};
+ghost use Rattle.std.specs.Prelude.{◌≡◌, ◌<◌, ◌^◌, suc, [], ◌∷◌, ◌++◌, length, slice_index_or, OnOk, OnErr};
 
 use crate::literal::Literal;
 use std::alloc::{AllocError, Global};
@@ -62,7 +62,8 @@ impl ClauseList {
         &self.region[start as usize..end as usize]
     }
 
-    /// Adds a clause at the end, or leaves the list as it is where there is no memory.
+    /// Adds a clause at the end. Where it answers an error, for want of memory or of places that half a word can hold, the list stays as
+    /// it was.
     pub fn push(&mut self, clause: &[Literal]) -> Result<(), AllocError>
         ensures ok { OnOk result (self.new ≡ self.old ++ clause.now ∷ []) }
         ensures err { OnErr result (self.new ≡ self.old) }

@@ -46,7 +46,7 @@ fn watch_clause(
     if trail.is_true(first) {
         return Ok(true);
     }
-    trail.push_implied(first, place)?;
+    trail.push_implied(first, place);
     Ok(true)
 }
 

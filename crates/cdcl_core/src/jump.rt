@@ -3,7 +3,7 @@
 //! The search goes back to the greatest level among the other literals of the learned clause, where they are all false and its
 //! literal of the conflict's level follows. No level between is worth keeping: there the clause would force that literal
 //! already. Source: the jump of GRASP and Chaff.
-ghost use Rattle.std.specs.Prelude.{◌≡◌, ◌⊎◌, ◌+◌, ◌<◌, ◌≤◌, [], ◌∷◌, ◌++◌, length, neg_ℤ, All, OnOk, slice_index_or};
+ghost use Rattle.std.specs.Prelude.{◌≡◌, ◌⊎◌, ◌<◌, [], ◌∷◌, ◌++◌, length, neg_ℤ, All, OnOk};
 ghost use Rattle.proof_semantics.specs.Clauses.{IsLiteralOf};
 ghost use Rattle.cdcl_core.specs.Trail.{literal_at, IsTrueBelow, IsLearned, AreLevels};
 ghost use Rattle.cdcl_core.specs.Watching.{IsWatching, IsWatchedBelow};
@@ -11,7 +11,7 @@ ghost use Rattle.cdcl_core.specs.Placed.{last_start};
 ghost use Rattle.cdcl_core.specs.Searched.{IsSearching, HasMoved};
 ghost use Rattle.cdcl_core.specs.Jump.{IsRunning, IsJump, IsJumpPair, IsLastOther, later_of};
 
-use crate::clause::{Clause, is_binary};
+use crate::clause::is_binary;
 use crate::clause_list::ClauseList;
 use crate::literal::Literal;
 use crate::order::Order;
@@ -90,35 +90,34 @@ pub fn jump(
     watches: &mut Watches,
     order: &mut Order,
     clauses: &mut ClauseList,
-    clause: Clause,
+    clause: &[Literal],
     place: usize,
 ) -> Result<(), AllocError>
     requires running { IsRunning clauses.old trail.old }
     requires watched { IsWatchedBelow clauses.old trail.old watches.old }
     requires order { order.old ≡ trail.old.variables }
     requires levels { 0 < length trail.old.starts }
-    requires literals { All (IsLiteralOf trail.old.variables) clause }
-    requires learned { IsLearned trail.old.literals (last_start trail.old) clause
+    requires literals { All (IsLiteralOf trail.old.variables) clause.now }
+    requires learned { IsLearned trail.old.literals (last_start trail.old) clause.now
         (neg_ℤ (literal_at trail.old.literals place)) place }
     ensures running { OnOk result (IsRunning clauses.new trail.new) }
     ensures watching { OnOk result (IsWatching clauses.new trail.new watches.new) }
-    ensures added { OnOk result (clauses.new ≡ clauses.old ++ clause ∷ []) }
+    ensures added { OnOk result (clauses.new ≡ clauses.old ++ clause.now ∷ []) }
     ensures variables { OnOk result (trail.new.variables ≡ trail.old.variables) }
     ensures order { order.new ≡ order.old }
 {
     trail.consistent();
     let own = trail.literal(place).negated();
-    let literals = clause.as_slice();
-    let Target { level, other } = jump_target(trail, literals, own);
+    let Target { level, other } = jump_target(trail, clause, own);
     let reason = clauses.len();
-    clauses.push(literals)?;
-    let binary = is_binary(literals, own, other);
+    clauses.push(clause)?;
+    let binary = is_binary(clause, own, other);
     watches.add(own, other, binary)?;
     let start = trail.start(level);
     open_from(order, trail, start);
     watches.set_handled(start);
     trail.close(level);
-    trail.push_implied(own, reason)?;
+    trail.push_implied(own, reason);
     Ok(())
 }
 

@@ -2,33 +2,46 @@
 //!
 //! Each step has the next id, and its hints are the clauses that were resolved, so a checker follows the log by unit propagation
 //! along hints and searches nothing. Source: LRAT.
-ghost use Rattle.std.specs.Prelude.{◌≡◌, ◌+◌, ◌<◌, ◌^◌, [], length, IfOk, OnOk};
+ghost use Rattle.std.specs.Prelude.{◌≡◌, ◌+◌, ◌<◌, ◌^◌, [], length, reverse, IfOk, OnOk};
 ghost use Rattle.cdcl_core.specs.Propagation.{IsConflict};
 ghost use Rattle.cdcl_core.specs.Searched.{IsSearching, HasEnded, HasLearned};
 ghost use Rattle.cdcl_core.specs.Watching.{IsWatching, IsWatchedBelow};
 
-use crate::analysis::{Learned, learn};
+use crate::analysis::{bring_forward, learn, make_room};
 use crate::clause::written;
 use crate::clause_list::{ClauseList, count};
 use crate::jump::jump;
 use crate::literal::Literal;
 use crate::refutation::refute;
 use crate::search::Search;
+use net_parts::items::Items;
 use proof_parts::log::{Ids, Item, Step};
 use std::alloc::{AllocError, Global};
 
-/// The step with the next id.
+/// The hints in the other order.
+fn reversed(alloc: Global, hints: &[u64]) -> Result<Ids, AllocError>
+    ensures { IfOk result (λ ids. ids ≡ reverse hints.now) }
+{
+    let mut ids = Items::new(alloc);
+    for hint in hints.iter().rev() {
+        ids.push(*hint)?;
+    }
+    Ok(ids)
+}
+
+/// The step with the next id, whose hints are given the last one first.
 fn next_step(
     alloc: Global,
     clauses: &ClauseList,
     clause: &[Literal],
-    hints: Ids,
+    hints: &[u64],
 ) -> Result<Step, AllocError>
     ensures step { IfOk result
-        (λ s. s ≡ record { id = length clauses.now + 1; literals = clause.now; hints = hints }) }
+        (λ s. s ≡ record { id = length clauses.now + 1; literals = clause.now; hints = reverse hints.now }) }
     ensures few { length clauses.now < 2 ^ 59 }
 {
     let id = count(clauses) + 1;
+    let hints = reversed(alloc, hints)?;
     Ok(Step::new(id, written(alloc, clause)?, hints))
 }
 
@@ -37,16 +50,24 @@ pub fn log_refutation(alloc: Global, search: &mut Search, conflict: usize) -> Re
     requires searching { IsSearching search.old.clauses search.old.trail search.old.order }
     requires conflict { IsConflict search.old.clauses search.old.trail conflict }
     requires no_level { search.old.trail.starts ≡ [] }
-    ensures { OnOk result (HasEnded search.old.clauses search.old.log search.new.log) }
+    ensures ended { OnOk result (HasEnded search.old.clauses search.old.log search.new.log) }
+    ensures trail { search.new.trail ≡ search.old.trail }
 {
-    let hints = refute(
-        alloc,
+    search.trail.consistent();
+    make_room(
+        search.trail.len(),
+        &mut search.order,
+        &mut search.marks,
+        &mut search.learned,
+    )?;
+    refute(
         &search.trail,
         &search.clauses,
         &mut search.marks,
+        &mut search.learned,
         conflict,
-    )?;
-    let step = next_step(alloc, &search.clauses, &[], hints)?;
+    );
+    let step = next_step(alloc, &search.clauses, &[], &search.learned.hints)?;
     search.log.push(Item::Add(step))?;
     Ok(())
 }
@@ -62,28 +83,31 @@ pub fn learn_from(alloc: Global, search: &mut Search, conflict: usize) -> Result
     ensures variables { OnOk result (search.new.trail.variables ≡ search.old.trail.variables) }
     ensures logged { OnOk result (HasLearned search.old search.new) }
 {
-    let Learned {
-        clause,
-        hints,
-        place,
-        levels,
-    } = learn(
-        alloc,
-        &search.trail,
-        &search.clauses,
+    search.trail.consistent();
+    make_room(
+        search.trail.len(),
         &mut search.order,
         &mut search.marks,
-        conflict,
+        &mut search.learned,
     )?;
-    let step = next_step(alloc, &search.clauses, clause.as_slice(), hints)?;
+    learn(
+        &search.trail,
+        &search.clauses,
+        &mut search.marks,
+        &mut search.learned,
+        conflict,
+    );
+    let learned = &search.learned;
+    let step = next_step(alloc, &search.clauses, &learned.clause, &learned.hints)?;
     search.log.push(Item::Add(step))?;
+    bring_forward(&search.trail, &search.marks, &mut search.order);
     jump(
         &mut search.trail,
         &mut search.watches,
         &mut search.order,
         &mut search.clauses,
-        clause,
-        place,
+        &search.learned.clause,
+        search.learned.place,
     )?;
-    Ok(levels)
+    Ok(search.learned.levels)
 }

@@ -1,75 +1,81 @@
 //! Marks on the entries of the trail: what analysis has not replaced yet.
 //!
 //! The places that were marked are listed, so that clearing the marks and gathering a clause touch these alone and not the whole
-//! trail.
-ghost use Rattle.std.specs.Prelude.{◌≡◌, ℕ, ◌<◌, ◌≤◌, [], true, false, length, slice_set, IfOk, IfSome, IsNone, OnOk};
+//! trail. Each is listed once, so there is room for all from the start, and marking takes no memory.
+ghost use Rattle.std.specs.Prelude.{◌≡◌, ℕ, ◌+◌, ◌<◌, ◌≤◌, [], true, false, length, slice_set, max, All, vec_len, vec_capacity, IfSome, IsNone, OnOk};
 ghost use Rattle.cdcl_core.specs.Analysis.{mark_at, IsClauseOf, IsHighest};
-ghost use Rattle.cdcl_core.specs.Touched.{AreTouched};
+ghost use Rattle.cdcl_core.specs.Touched.{AreTouched, AreListed};
 
-use crate::clause::Clause;
+use crate::literal::Literal;
 use crate::trail::Trail;
-use net_parts::items::Items;
 use std::alloc::{AllocError, Global};
 use std::marker::Model;
 
-/// Marks by place, the places that were marked since they were cleared, and a sorted part of these.
+/// Marks by place, whether a place is listed, the places that were marked since the marks were cleared, and a sorted part of these.
 #[derive(Drop)]
 pub struct Marks {
     on: Vec<bool>,
+    listed: Vec<bool>,
     touched: Vec<usize>,
     sorted: Vec<usize>,
 }
 
 impl Model for Marks {
-    ghost use Rattle.std.specs.Prelude.{List, Bool};
-    ghost use Rattle.cdcl_core.specs.Touched.{AreTouched};
+    ghost use Rattle.std.specs.Prelude.{List, Bool, vec_capacity};
+    ghost use Rattle.cdcl_core.specs.Touched.{AreListed};
 
     ghost Value = { List Bool };
 
     ghost view = { λ m. m.on.items };
 
-    ghost invariant = { λ m. AreTouched m.on.items m.touched.items };
+    ghost invariant = { λ m. AreListed m.on.items m.listed.items m.touched.items (vec_capacity m.touched) (vec_capacity m.sorted) };
 }
 
-/// Takes the marks of the listed places away, which are all.
-fn unset_places(on: &mut Vec<bool>, touched: &[usize])
-    requires { AreTouched on.old.items touched.now }
-    ensures none { (p : ℕ) → mark_at on.new.items p ≡ false }
-    ensures same { length on.new.items ≡ length on.old.items }
+/// Sets the listed places, which are all that are set, to false.
+fn unset_places(places: &mut Vec<bool>, touched: &[usize])
+    requires { AreTouched places.old.items touched.now }
+    ensures none { (p : ℕ) → mark_at places.new.items p ≡ false }
+    ensures same { length places.new.items ≡ length places.old.items }
 {
     for place in touched {
-        on[*place] = false;
+        places[*place] = false;
     }
 }
 
-/// So many places at least, of which none is marked where none was.
-fn grow_places(on: &mut Vec<bool>, entries: usize) -> Result<(), AllocError>
-    requires { (p : ℕ) → mark_at on.old.items p ≡ false }
+/// So many places at least in both, of which none is set where none was; or as many as before, where there is no memory.
+fn grow_places(on: &mut Vec<bool>, listed: &mut Vec<bool>, entries: usize) -> Result<(), AllocError>
+    requires same { length listed.old.items ≡ length on.old.items }
+    requires none { (p : ℕ) → mark_at on.old.items p ≡ false }
+    requires none_listed { (p : ℕ) → mark_at listed.old.items p ≡ false }
+    ensures same { length listed.new.items ≡ length on.new.items }
     ensures none { (p : ℕ) → mark_at on.new.items p ≡ false }
-    ensures room { OnOk result (entries ≤ length on.new.items) }
+    ensures none_listed { (p : ℕ) → mark_at listed.new.items p ≡ false }
+    ensures ok { OnOk result (length on.new.items ≡ max (length on.old.items) entries) }
+    ensures few { length on.new.items ≤ max (length on.old.items) entries }
 {
-    if on.len() < entries {
-        on.resize(entries, false)?;
+    let places = on.len();
+    if entries <= places {
+        return Ok(());
     }
-    Ok(())
+    listed.reserve(entries - places)?;
+    on.resize(entries, false)?;
+    match listed.resize(entries, false) {
+        Ok(()) => Ok(()),
+        Err(_) => unreachable!(),
+    }
 }
 
-/// Gathers the marked places from `low` to below `high` among those that are listed.
-fn gather_marked(
-    on: &[bool],
-    touched: &[usize],
-    low: usize,
-    high: usize,
-    gathered: &mut Vec<usize>,
-) -> Result<(), AllocError>
-    requires { AreTouched on.now touched.now }
+/// Gathers the marked places from `low` to below `high` among those that are listed, for which there is room.
+fn gather_marked(on: &[bool], touched: &[usize], low: usize, high: usize, gathered: &mut Vec<usize>)
+    requires within { All (λ p. p < length on.now) touched.now }
+    requires room { vec_len gathered.old + length touched.now ≤ vec_capacity gathered.old }
+    ensures { vec_capacity gathered.new ≡ vec_capacity gathered.old }
 {
     for place in touched {
         if low <= *place && *place < high && on[*place] {
-            gathered.push(*place)?;
+            gathered.push_reserved(*place);
         }
     }
-    Ok(())
 }
 
 impl Marks {
@@ -79,19 +85,24 @@ impl Marks {
     {
         Marks {
             on: Vec::new(alloc),
+            listed: Vec::new(alloc),
             touched: Vec::new(alloc),
             sorted: Vec::new(alloc),
         }
     }
 
-    /// No mark is left, and so many entries have places.
-    pub fn clear(&mut self, entries: usize) -> Result<(), AllocError>
-        ensures none { OnOk result ((p : ℕ) → mark_at self.new p ≡ false) }
+    /// No mark is left, and so many entries have places; or as many as before, where there is no memory.
+    pub fn make_room(&mut self, entries: usize) -> Result<(), AllocError>
+        ensures none { (p : ℕ) → mark_at self.new p ≡ false }
         ensures room { OnOk result (entries ≤ length self.new) }
     {
         unset_places(&mut self.on, &self.touched);
+        unset_places(&mut self.listed, &self.touched);
         self.touched.clear();
-        grow_places(&mut self.on, entries)
+        self.touched.reserve(entries)?;
+        self.sorted.clear();
+        self.sorted.reserve(entries)?;
+        grow_places(&mut self.on, &mut self.listed, entries)
     }
 
     /// Whether a place is marked.
@@ -103,16 +114,15 @@ impl Marks {
     }
 
     /// Marks a place.
-    pub fn set(&mut self, place: usize) -> Result<(), AllocError>
+    pub fn set(&mut self, place: usize)
         requires { place < length self.old }
-        ensures { OnOk result (self.new ≡ slice_set self.old place true) }
+        ensures { self.new ≡ slice_set self.old place true }
     {
-        if self.on[place] {
-            return Ok(());
-        }
-        self.touched.push(place)?;
         self.on[place] = true;
-        Ok(())
+        if !self.listed[place] {
+            self.listed[place] = true;
+            self.touched.push_reserved(place);
+        }
     }
 
     /// Takes a mark away.
@@ -154,6 +164,13 @@ impl Marks {
         None
     }
 
+    /// How many places there are.
+    pub fn len(&self) -> usize
+        ensures { result ≡ length self.now }
+    {
+        self.on.len()
+    }
+
     /// How many places were marked since the marks were cleared.
     pub fn touched(&self) -> usize {
         self.touched.len()
@@ -169,13 +186,13 @@ impl Marks {
     }
 
     /// Sorts the marked places from `low` to below `high`, and answers how many there are.
-    pub fn sort(&mut self, low: usize, high: usize) -> Result<usize, AllocError>
+    pub fn sort(&mut self, low: usize, high: usize) -> usize
         ensures { self.new ≡ self.old }
     {
         self.sorted.clear();
-        gather_marked(&self.on, &self.touched, low, high, &mut self.sorted)?;
+        gather_marked(&self.on, &self.touched, low, high, &mut self.sorted);
         self.sorted.sort_unstable();
-        Ok(self.sorted.len())
+        self.sorted.len()
     }
 
     /// One of the places that were sorted.
@@ -187,17 +204,18 @@ impl Marks {
         }
     }
 
-    /// The clause of the negations of the marked literals.
-    pub fn clause(&self, alloc: Global, trail: &Trail) -> Result<Clause, AllocError>
-        requires { length trail.now.literals ≤ length self.now }
-        ensures { IfOk result (IsClauseOf trail.now.literals self.now) }
+    /// Puts the negations of the marked literals into a list, in which there is room for them.
+    pub fn gather_clause(&self, trail: &Trail, clause: &mut Vec<Literal>)
+        requires marks { length trail.now.literals ≤ length self.now }
+        requires room { length self.now ≤ vec_capacity clause.old }
+        ensures clause { IsClauseOf trail.now.literals self.now clause.new.items }
+        ensures room { vec_capacity clause.new ≡ vec_capacity clause.old }
     {
-        let mut clause = Items::new(alloc);
+        clause.clear();
         for place in &self.touched {
             if *place < trail.len() && self.on[*place] {
-                clause.push(trail.literal(*place).negated())?;
+                clause.push_reserved(trail.literal(*place).negated());
             }
         }
-        Ok(clause)
     }
 }

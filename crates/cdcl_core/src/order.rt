@@ -128,21 +128,27 @@ impl Order {
         }
     }
 
-    /// Notes that the literal's variable took part in a conflict.
-    pub fn note(&mut self, literal: Literal) -> Result<(), AllocError>
+    /// Takes the memory to note so many variables.
+    pub fn make_room(&mut self, variables: usize) -> Result<(), AllocError>
+        ensures { self.new ≡ self.old }
+    {
+        self.noted.reserve(variables)
+    }
+
+    /// Notes that the literal's variable took part in a conflict, where there is room.
+    pub fn note(&mut self, literal: Literal)
         ensures { self.new ≡ self.old }
     {
         let variable = literal.variable();
-        if self.ring.has(variable) {
+        if self.ring.has(variable) && self.noted.len() < self.noted.capacity() {
             let place = if self.keeps_order {
                 self.ring.stamp(variable as u32)
             } else {
                 self.noted.len() as u64
             };
             let later = !place << VARIABLE_BITS;
-            self.noted.push(later | variable as u64)?;
+            self.noted.push_reserved(later | variable as u64);
         }
-        Ok(())
     }
 
     /// The variables that were noted come first, in the order that they have.

@@ -1,6 +1,6 @@
 //! Propagation by watched literals: each entry of the trail is handled once, by a visit of the clauses that watch the literal that
 //! it makes false. When all are handled every clause is settled, or one is false. Source: Chaff and MiniSat.
-ghost use Rattle.std.specs.Prelude.{◌≡◌, ◌+◌, ◌<◌, length, neg_ℤ, IfOk, OnOk};
+ghost use Rattle.std.specs.Prelude.{◌≡◌, IfOk, OnOk};
 ghost use Rattle.proof_semantics.specs.Clauses.{IsLiteralOf};
 ghost use Rattle.cdcl_core.specs.Propagation.{IsExtended};
 ghost use Rattle.cdcl_core.specs.Watching.{IsWatching, IsHandling};

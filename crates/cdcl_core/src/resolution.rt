@@ -1,5 +1,5 @@
 //! Resolution over the marked entries: each step replaces an entry by those that forced it, and gives a hint.
-ghost use Rattle.std.specs.Prelude.{◌≡◌, ◌≢◌, ◌⊎◌, ℕ, suc, ◌<◌, ◌≤◌, true, [], ◌∷◌, length, neg_ℤ, All, IfOk, OnOk, reverse};
+ghost use Rattle.std.specs.Prelude.{◌≡◌, ◌≢◌, ◌⊎◌, ℕ, suc, ◌+◌, ◌<◌, ◌≤◌, true, [], ◌∷◌, length, vec_len, vec_capacity, neg_ℤ, All, reverse};
 ghost use Rattle.cdcl_core.specs.Settled.{IsSettled};
 ghost use Rattle.cdcl_core.specs.Trail.{IsTrueBelow, IsReason};
 ghost use Rattle.cdcl_core.specs.Explained.{IsExplained};
@@ -10,89 +10,63 @@ use crate::clause_list::{ClauseList, id_of};
 use crate::literal::Literal;
 use crate::marks::Marks;
 use crate::trail::Trail;
-use net_parts::items::Items;
-use proof_parts::log::Ids;
-use std::alloc::{AllocError, Global};
 
 /// Marks the entries before `bound` that make the literals of a clause false, but for one literal.
-fn mark_others(
-    trail: &Trail,
-    marks: &mut Marks,
-    clause: &[Literal],
-    own: Literal,
-    bound: usize,
-) -> Result<(), AllocError>
+fn mark_others(trail: &Trail, marks: &mut Marks, clause: &[Literal], own: Literal, bound: usize)
     requires marks { length trail.now.literals ≤ length marks.old }
     requires others { All (λ a. (a ≡ own) ⊎ IsTrueBelow trail.now.literals bound (neg_ℤ a)) clause.now }
-    ensures { OnOk result (AreOthersMarked trail.now.literals marks.old marks.new clause.now own bound) }
+    ensures { AreOthersMarked trail.now.literals marks.old marks.new clause.now own bound }
 {
     trail.consistent();
     for literal in clause {
         if !literal.is(own) {
-            marks.set(trail.place(*literal))?;
+            marks.set(trail.place(*literal));
         }
     }
-    Ok(())
 }
 
 /// Marks the entries that make the conflict's clause false.
-pub fn mark_conflict(
-    trail: &Trail,
-    clauses: &ClauseList,
-    marks: &mut Marks,
-    conflict: usize,
-) -> Result<(), AllocError>
+pub fn mark_conflict(trail: &Trail, clauses: &ClauseList, marks: &mut Marks, conflict: usize)
     requires marks { length trail.now.literals ≤ length marks.old }
     requires conflict { IsConflict clauses.now trail.now conflict }
-    ensures explained { OnOk result (IsExplained clauses.now trail.now.literals marks.new (suc conflict ∷ [])) }
-    ensures reaches { OnOk result ((start : ℕ) → IsSettled (IsTrueBelow trail.now.literals start) clauses.now
-        → IsMarkedFrom marks.new start (length trail.now.literals)) }
-    ensures same { OnOk result (length marks.new ≡ length marks.old) }
+    ensures explained { IsExplained clauses.now trail.now.literals marks.new (suc conflict ∷ []) }
+    ensures reaches { (start : ℕ) → IsSettled (IsTrueBelow trail.now.literals start) clauses.now
+        → IsMarkedFrom marks.new start (length trail.now.literals) }
+    ensures same { length marks.new ≡ length marks.old }
 {
     trail.consistent();
     let clause = clauses.get(conflict);
     if trail.len() == 0 {
-        return Ok(());
+        return;
     }
     let true_one = trail.literal(0);
-    mark_others(trail, marks, clause, true_one, trail.len())?;
-    Ok(())
+    mark_others(trail, marks, clause, true_one, trail.len());
 }
 
-/// Replaces a marked entry by those of the other literals of its reason, which becomes a hint.
+/// Replaces a marked entry by those of the other literals of its reason, which becomes a hint, for which there is room.
 pub fn resolve(
     trail: &Trail,
     clauses: &ClauseList,
     marks: &mut Marks,
-    hints: &mut Ids,
+    hints: &mut Vec<u64>,
     entry: usize,
     reason: usize,
-) -> Result<(), AllocError>
+)
     requires marks { length trail.now.literals ≤ length marks.old }
     requires entry { entry < length trail.now.literals }
     requires reason { IsReason clauses.now trail.now.literals entry reason }
-    ensures explained { IfOk result (λ _. IsExplained clauses.now trail.now.literals marks.old (reverse hints.old)
-        → IsExplained clauses.now trail.now.literals marks.new (reverse hints.new)) }
-    ensures same { OnOk result (length marks.new ≡ length marks.old) }
-    ensures kept { OnOk result ((p : ℕ) → p ≢ entry → mark_at marks.old p ≡ true → mark_at marks.new p ≡ true) }
-    ensures below { OnOk result ((p : ℕ) → entry ≤ p → mark_at marks.new p ≡ true
-        → (p ≢ entry) × (mark_at marks.old p ≡ true)) }
+    requires room { vec_len hints.old < vec_capacity hints.old }
+    ensures explained { IsExplained clauses.now trail.now.literals marks.old (reverse hints.old.items)
+        → IsExplained clauses.now trail.now.literals marks.new (reverse hints.new.items) }
+    ensures same { length marks.new ≡ length marks.old }
+    ensures kept { (p : ℕ) → p ≢ entry → mark_at marks.old p ≡ true → mark_at marks.new p ≡ true }
+    ensures below { (p : ℕ) → entry ≤ p → mark_at marks.new p ≡ true → (p ≢ entry) × (mark_at marks.old p ≡ true) }
+    ensures one { vec_len hints.new ≡ vec_len hints.old + 1 }
+    ensures room { vec_capacity hints.new ≡ vec_capacity hints.old }
 {
     trail.consistent();
     marks.unset(entry);
     let clause = clauses.get(reason);
-    mark_others(trail, marks, clause, trail.literal(entry), entry)?;
-    hints.push(id_of(clauses, reason))?;
-    Ok(())
-}
-
-/// The hints in the other order.
-pub fn reversed(alloc: Global, hints: &[u64]) -> Result<Ids, AllocError>
-    ensures { IfOk result (λ ids. ids ≡ reverse hints.now) }
-{
-    let mut ids = Items::new(alloc);
-    for hint in hints.iter().rev() {
-        ids.push(*hint)?;
-    }
-    Ok(ids)
+    mark_others(trail, marks, clause, trail.literal(entry), entry);
+    hints.push_reserved(id_of(clauses, reason));
 }

@@ -10,6 +10,7 @@ ghost use Rattle.cdcl_core.specs.Watches.{no_watches};
 ghost use Rattle.cdcl_core.specs.Watching.{IsWatching, IsWatchedBelow};
 ghost use Rattle.cdcl_core.specs.Searched.{IsSearch, IsSearching, IsModelTrail};
 
+use crate::analysis::Learned;
 use crate::clause::{push_added, push_all};
 use crate::clause_list::ClauseList;
 use crate::decision::decide;
@@ -23,8 +24,8 @@ use proof_parts::cnf::Cnf;
 use proof_parts::log::Log;
 use std::alloc::{AllocError, Global};
 
-/// The clauses that are held, the literals that are true, the watches, the order of the variables, the log of what was derived, and room for the
-/// marks of an analysis.
+/// The clauses that are held, the literals that are true, the watches, the order of the variables, the log of what was derived, room for the
+/// marks of an analysis, and what was learned last.
 #[derive(Drop)]
 pub struct Search {
     pub clauses: ClauseList,
@@ -33,6 +34,7 @@ pub struct Search {
     pub order: Order,
     pub log: Log,
     pub marks: Marks,
+    pub learned: Learned,
 }
 
 /// The clauses of the formula, and those that the log adds.
@@ -59,6 +61,7 @@ pub fn start(alloc: Global, cnf: &Cnf, merged: &Log, signals: u32) -> Result<Sea
     let order = Order::new(alloc, variables, signals)?;
     let log = log_copy(alloc, merged.as_slice())?;
     let marks = Marks::new(alloc);
+    let learned = Learned::none(alloc);
     Ok(Search {
         clauses,
         trail,
@@ -66,6 +69,7 @@ pub fn start(alloc: Global, cnf: &Cnf, merged: &Log, signals: u32) -> Result<Sea
         order,
         log,
         marks,
+        learned,
     })
 }
 

@@ -2,22 +2,27 @@
 //!
 //! A turn ends, since each decision and each implied literal gives one more variable a value; and the clause that it learns is
 //! new, so after as many turns as are allowed the log shows that so many conflicts were spent.
-ghost use Rattle.std.specs.Prelude.{◌≡◌, ◌<◌, ◌≤◌, ◌^◌, IfOk};
-ghost use Rattle.proof_semantics.specs.Logs.{IsDerivation};
+ghost use Rattle.std.specs.Prelude.{◌≡◌, ℕ, ◌<◌, ◌≤◌, ◌^◌, [], List, IfOk, OnOk};
+ghost use Rattle.proof_semantics.specs.Formula.{Formula};
+ghost use Rattle.proof_semantics.specs.Logs.{IsDerivation, LogItem};
 ghost use Rattle.cdcl_core.specs.Answers.{IsAnswer};
 ghost use Rattle.cdcl_core.specs.Trail.{IsConsistent};
 ghost use Rattle.cdcl_core.specs.Decided.{AreValues};
+ghost use Rattle.cdcl_core.specs.Searched.{IsSearch, IsSearching};
+ghost use Rattle.cdcl_core.specs.Turned.{IsEnd};
+ghost use Rattle.cdcl_core.specs.Watches.{no_watches};
+ghost use Rattle.cdcl_core.specs.Watching.{IsWatching};
 
 use crate::answer::Answer;
 use crate::first_watches::watch_all;
 use crate::guide::Guide;
-use crate::learning::{learn_from, log_refutation};
+use crate::learning::log_refutation;
 use crate::literal::Literal;
 use crate::pace::Pace;
-use crate::search::start;
+use crate::search::{Search, start};
 use crate::sweep::Sweep;
 use crate::trail::Trail;
-use crate::turns::{find_conflict, follow};
+use crate::turns::{Turn, take_turn};
 use net_parts::items::{Bits, Items};
 use progress::progress::{Progress, Silent};
 use proof_parts::cnf::Cnf;
@@ -38,6 +43,71 @@ fn values(alloc: Global, trail: &Trail) -> Result<Bits, AllocError>
     Ok(bits)
 }
 
+/// Turns until the formula is decided, or until so many clauses were learned.
+fn take_turns<P: Progress>(
+    alloc: Global,
+    search: &mut Search,
+    sweep: &mut Sweep,
+    pace: &mut Pace,
+    guide: &Guide,
+    limit: u64,
+    progress: &mut P,
+) -> Result<Turn, AllocError>
+    requires searching { IsSearching search.old.clauses search.old.trail search.old.order }
+    requires watching { IsWatching search.old.clauses search.old.trail search.old.watches }
+    ensures variables { OnOk result (search.new.trail.variables ≡ search.old.trail.variables) }
+    ensures shown { IfOk result (λ end. (f : Formula) (merged : List LogItem) → IsSearch f merged 0 search.old
+        → IsEnd f merged limit search.new end) }
+{
+    for conflicts in 0..limit {
+        match take_turn(alloc, search, sweep, pace, guide)? {
+            Turn::Further => progress.conflicts(conflicts + 1),
+            Turn::Refuted => return Ok(Turn::Refuted),
+            Turn::Full => return Ok(Turn::Full),
+        }
+    }
+    Ok(Turn::Further)
+}
+
+/// Watches the clauses, and searches.
+fn search_from<P: Progress>(
+    alloc: Global,
+    search: &mut Search,
+    guide: &Guide,
+    limit: u64,
+    progress: &mut P,
+) -> Result<Turn, AllocError>
+    requires limit { 1 ≤ limit }
+    requires searching { IsSearching search.old.clauses search.old.trail search.old.order }
+    requires starts { search.old.trail.starts ≡ [] }
+    requires watches { search.old.watches ≡ no_watches search.old.trail.variables }
+    ensures variables { OnOk result (search.new.trail.variables ≡ search.old.trail.variables) }
+    ensures shown { IfOk result (λ end. (f : Formula) (merged : List LogItem) → IsSearch f merged 0 search.old
+        → IsEnd f merged limit search.new end) }
+{
+    let at_once = watch_all(&mut search.trail, &mut search.watches, &search.clauses)?;
+    if let Some(conflict) = at_once {
+        log_refutation(alloc, search, conflict)?;
+        return Ok(Turn::Refuted);
+    }
+    let mut pace = Pace::new(guide.inputs, guide.signals > 0);
+    let mut sweep = Sweep::new(alloc, guide, limit)?;
+    take_turns(alloc, search, &mut sweep, &mut pace, guide, limit, progress)
+}
+
+/// What the search has shown.
+fn answer(alloc: Global, search: Search, end: Turn) -> Result<Answer, AllocError>
+    requires { search.trail.variables < 2 ^ 31 }
+    ensures { IfOk result (λ answer. (f : Formula) (merged : List LogItem) (limit : ℕ) → IsEnd f merged limit search end
+        → IsAnswer f merged limit answer) }
+{
+    match end {
+        Turn::Further => Ok(Answer::Spent(search.log)),
+        Turn::Refuted => Ok(Answer::Refuted(search.log)),
+        Turn::Full => Ok(Answer::Model(values(alloc, &search.trail)?)),
+    }
+}
+
 /// The same as `solve`, with a guide, on which nothing rests, and with one who is told of each conflict.
 pub fn solve_guided<P: Progress>(
     alloc: Global,
@@ -52,28 +122,8 @@ pub fn solve_guided<P: Progress>(
     ensures { IfOk result (IsAnswer cnf.now merged.now limit) }
 {
     let mut search = start(alloc, cnf, merged, guide.signals)?;
-    let at_once = watch_all(&mut search.trail, &mut search.watches, &search.clauses)?;
-    if let Some(conflict) = at_once {
-        log_refutation(alloc, &mut search, conflict)?;
-        return Ok(Answer::Refuted(search.log));
-    }
-    let mut pace = Pace::new(guide.inputs, guide.signals > 0);
-    let mut sweep = Sweep::new(alloc, guide, limit)?;
-    for conflicts in 0..limit {
-        let inputs = pace.inputs_first();
-        let found = find_conflict(&mut search, &mut sweep, guide, inputs)?;
-        let Some(conflict) = found else {
-            return Ok(Answer::Model(values(alloc, &search.trail)?));
-        };
-        if search.trail.levels() == 0 {
-            log_refutation(alloc, &mut search, conflict)?;
-            return Ok(Answer::Refuted(search.log));
-        }
-        let levels = learn_from(alloc, &mut search, conflict)?;
-        follow(&mut search, &mut sweep, &mut pace, guide, levels)?;
-        progress.conflicts(conflicts + 1);
-    }
-    Ok(Answer::Spent(search.log))
+    let end = search_from(alloc, &mut search, guide, limit, progress)?;
+    answer(alloc, search, end)
 }
 
 /// A model of the formula, a log that refutes it, or a log of as many conflicts as the limit allows. The logs begin with

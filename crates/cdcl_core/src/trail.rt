@@ -4,9 +4,9 @@
 //! A variable that has a value has the place where it stands in the trail. A level is its start, the place of its decision: no levels
 //! are stored, and a literal is of a level or below it by its place. Source: the trail and the implication graph of GRASP, as MiniSat
 //! holds them.
-ghost use Rattle.std.specs.Prelude.{◌≡◌, ℕ, ◌+◌, ◌-◌, ◌<◌, ◌≤◌, ◌⊎◌, ◌↔◌, true, false, IsTrue, All, ◌^◌, neg_ℤ, take, slice_index_or, [], ◌∷◌, ◌++◌, IfOk, length, List, Option};
+ghost use Rattle.std.specs.Prelude.{◌≡◌, ℕ, ◌+◌, ◌-◌, ◌<◌, ◌≤◌, ◌⊎◌, ◌↔◌, true, false, IsTrue, All, ◌^◌, neg_ℤ, take, slice_index_or, [], ◌∷◌, ◌++◌, IfOk, OnOk, OnErr, length};
 ghost use Rattle.proof_semantics.specs.Clauses.{IsLiteralOf};
-ghost use Rattle.cdcl_core.specs.Placed.{TrailValue, AreTold, IsHeld};
+ghost use Rattle.cdcl_core.specs.Placed.{AreTold};
 ghost use Rattle.cdcl_core.specs.Explained.{Holds};
 ghost use Rattle.cdcl_core.specs.Trail.{IsConsistent, AreLevels, literal_at, reason_at};
 ghost use Rattle.cdcl_core.specs.Settled.{IsOpen};
@@ -25,6 +25,9 @@ pub struct Trail {
 }
 
 impl Model for Trail {
+    ghost use Rattle.std.specs.Prelude.{◌-◌, length, vec_capacity};
+    ghost use Rattle.cdcl_core.specs.Placed.{TrailValue, HasPlaces};
+
     ghost Value = { TrailValue };
 
     ghost view = { λ t. record {
@@ -34,7 +37,7 @@ impl Model for Trail {
       starts = t.starts.items;
     } };
 
-    ghost invariant = { λ t. IsHeld t.places.items t.told.items t.literals.items };
+    ghost invariant = { λ t. HasPlaces t.places.items t.told.items t.literals.items (length t.reasons.items) (vec_capacity t.literals) (vec_capacity t.reasons) };
 }
 
 /// The literals of the entries from `start` on are told to be true no more.
@@ -59,10 +62,10 @@ impl Trail {
             (λ trail. trail ≡ record { variables = variables; literals = []; reasons = []; starts = [] }) }
     {
         Ok(Trail {
-            literals: Vec::new(alloc),
+            literals: Vec::with_capacity(alloc, variables as usize + 2)?,
             places: vec![in alloc; 0; variables as usize + 1]?,
             told: vec![in alloc; false; variables as usize * 2 + 2]?,
-            reasons: Vec::new(alloc),
+            reasons: Vec::with_capacity(alloc, variables as usize + 2)?,
             starts: Vec::new(alloc),
         })
     }
@@ -169,37 +172,37 @@ impl Trail {
         level
     }
 
-    /// A literal that follows by a reason.
-    pub fn push_implied(&mut self, literal: Literal, reason: usize) -> Result<(), AllocError>
+    /// A literal that follows by a reason. It takes no memory.
+    pub fn push_implied(&mut self, literal: Literal, reason: usize)
         requires literal { IsLiteralOf self.old.variables literal }
         requires open { IsOpen (Holds self.old.literals) literal }
-        ensures { IfOk result (λ _. self.new ≡ record self.old {
+        ensures { self.new ≡ record self.old {
           literals = self.old.literals ++ literal ∷ [];
           reasons = self.old.reasons ++ Some reason ∷ [];
-        }) }
+        } }
     {
         self.places[literal.variable()] = self.literals.len();
-        self.literals.push(literal)?;
+        self.literals.push_reserved(literal);
         self.told[literal.index()] = true;
-        self.reasons.push(Some(reason))?;
-        Ok(())
+        self.reasons.push_reserved(Some(reason));
     }
 
     /// A literal that is decided, which opens a level.
     pub fn push_decision(&mut self, literal: Literal) -> Result<(), AllocError>
         requires literal { IsLiteralOf self.old.variables literal }
         requires open { IsOpen (Holds self.old.literals) literal }
-        ensures { IfOk result (λ _. self.new ≡ record self.old {
+        ensures ok { OnOk result (self.new ≡ record self.old {
           literals = self.old.literals ++ literal ∷ [];
           reasons = self.old.reasons ++ None ∷ [];
           starts = self.old.starts ++ length self.old.literals ∷ [];
         }) }
+        ensures err { OnErr result (self.new ≡ self.old) }
     {
         self.starts.push(self.literals.len())?;
         self.places[literal.variable()] = self.literals.len();
-        self.literals.push(literal)?;
+        self.literals.push_reserved(literal);
         self.told[literal.index()] = true;
-        self.reasons.push(None)?;
+        self.reasons.push_reserved(None);
         Ok(())
     }
 

@@ -1,12 +1,16 @@
 //! The turns of the search: what gives the next conflict, and what follows it. The sweep goes on while it is on, and then the search.
-ghost use Rattle.std.specs.Prelude.{MatchOption, IfOk, OnOk};
+ghost use Rattle.std.specs.Prelude.{◌≡◌, ℕ, List, MatchOption, IfOk, OnOk};
+ghost use Rattle.proof_semantics.specs.Formula.{Formula};
+ghost use Rattle.proof_semantics.specs.Logs.{LogItem};
 ghost use Rattle.cdcl_core.specs.Propagation.{IsConflict};
 ghost use Rattle.cdcl_core.specs.Watching.{IsWatching, IsWatchedBelow};
-ghost use Rattle.cdcl_core.specs.Searched.{IsSearching, IsModelTrail, IsSwept, HasMoved};
+ghost use Rattle.cdcl_core.specs.Searched.{IsSearch, IsSearching, IsModelTrail, IsSwept, HasMoved};
+ghost use Rattle.cdcl_core.specs.Turned.{IsReady, IsTurn};
 
 use crate::clause_list::ClauseList;
 use crate::guide::Guide;
 use crate::jump::close_levels;
+use crate::learning::{learn_from, log_refutation};
 use crate::order::Order;
 use crate::pace::Pace;
 use crate::propagation::propagate;
@@ -14,7 +18,18 @@ use crate::search::{Search, next_conflict};
 use crate::sweep::Sweep;
 use crate::trail::Trail;
 use crate::watches::Watches;
-use std::alloc::AllocError;
+use std::alloc::{AllocError, Global};
+
+/// What a turn shows.
+#[derive(Drop)]
+pub enum Turn {
+    /// A clause was learned, and the search goes on.
+    Further,
+    /// The log refutes the formula.
+    Refuted,
+    /// Each variable has a value.
+    Full,
+}
 
 /// Decides what the sweep asks for, each time after complete propagation, until a clause is false, or the step of the sweep is over.
 fn step_conflict(
@@ -76,7 +91,7 @@ fn swept_conflict(
 }
 
 /// The next clause that is false, or None where each variable has a value. The least open variable up to `inputs` is decided first.
-pub fn find_conflict(
+fn find_conflict(
     search: &mut Search,
     sweep: &mut Sweep,
     guide: &Guide,
@@ -120,7 +135,7 @@ fn is_back_due(
 }
 
 /// What follows a conflict, of which a clause of so many levels was learned.
-pub fn follow(
+fn follow(
     search: &mut Search,
     sweep: &mut Sweep,
     pace: &mut Pace,
@@ -135,4 +150,33 @@ pub fn follow(
     let due = is_back_due(sweep, pace, guide, levels)?;
     close_levels(search, due);
     Ok(())
+}
+
+/// Searches for the next conflict, and learns a clause of it.
+pub fn take_turn(
+    alloc: Global,
+    search: &mut Search,
+    sweep: &mut Sweep,
+    pace: &mut Pace,
+    guide: &Guide,
+) -> Result<Turn, AllocError>
+    requires searching { IsSearching search.old.clauses search.old.trail search.old.order }
+    requires watching { IsWatching search.old.clauses search.old.trail search.old.watches }
+    ensures ready { IfOk result (IsReady search.new) }
+    ensures variables { OnOk result (search.new.trail.variables ≡ search.old.trail.variables) }
+    ensures shown { IfOk result (λ turn. (f : Formula) (merged : List LogItem) (k : ℕ) → IsSearch f merged k search.old
+        → IsTurn f merged k search.new turn) }
+{
+    let inputs = pace.inputs_first();
+    let found = find_conflict(search, sweep, guide, inputs)?;
+    let Some(conflict) = found else {
+        return Ok(Turn::Full);
+    };
+    if search.trail.levels() == 0 {
+        log_refutation(alloc, search, conflict)?;
+        return Ok(Turn::Refuted);
+    }
+    let levels = learn_from(alloc, search, conflict)?;
+    follow(search, sweep, pace, guide, levels)?;
+    Ok(Turn::Further)
 }

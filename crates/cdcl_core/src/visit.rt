@@ -56,16 +56,16 @@ fn partner(pair: Pair, literal: Literal) -> Option<Literal>
 }
 
 /// Makes a literal true by a clause whose other literals are false, or tells that the clause is false.
-fn follow(trail: &mut Trail, clause: usize, first: Literal) -> Result<Visit, AllocError>
+fn follow(trail: &mut Trail, clause: usize, first: Literal) -> Visit
     requires literal { IsLiteralOf trail.old.variables first }
     requires not_true { Holds trail.old.literals first → ⊥ }
-    ensures { IfOk result (IsFollowed trail.old trail.new clause first) }
+    ensures { IsFollowed trail.old trail.new clause first result }
 {
     if trail.is_false(first) {
-        return Ok(Visit::Conflict(clause));
+        return Visit::Conflict(clause);
     }
-    trail.push_implied(first, clause)?;
-    Ok(Visit::Next)
+    trail.push_implied(first, clause);
+    Visit::Next
 }
 
 /// A watcher of a clause that is not known to have but two literals.
@@ -121,7 +121,7 @@ fn visit_clause(
             watches.remove(x, at);
             Ok(Visit::Again)
         }
-        None => follow(trail, clause, first),
+        None => Ok(follow(trail, clause, first)),
     }
 }
 
@@ -144,7 +144,7 @@ pub fn visit_watcher(
         return Ok(Visit::Next);
     }
     if watch.binary {
-        return follow(trail, watch.clause, watch.blocker);
+        return Ok(follow(trail, watch.clause, watch.blocker));
     }
     match partner(watches.pair(watch.clause), x) {
         Some(first) => visit_clause(trail, watches, clauses, x, at, watch.clause, first),

@@ -1,4 +1,4 @@
-use Rattle.std.proofs.Common.{reverse}
+use Rattle.std.proofs.Common.{reverse, ◌+◌, ◌≤◌, vec_len, vec_capacity}
 use Rattle.cdcl_core.specs.Explained.{IsExplained}
 use Rattle.cdcl_core.specs.Analysis.{IsShortened}
 use Rattle.cdcl_core.proofs.analysis.shorten.Given as goal
@@ -6,7 +6,10 @@ use Rattle.cdcl_core.proofs.analysis.shorten.Given as goal
 abbrev pub invariant-down : goal.invariant-down
 invariant-down l = record {
   shortened : IsShortened l.fn.marks l.marks l.start;
-  explained : IsExplained l.clauses l.trail.literals l.marks (reverse l.hints);
+  explained : IsExplained l.clauses l.trail.literals l.marks (reverse l.hints.items);
+  low : l.first ≤ l.top;
+  high : l.top ≤ l.start;
+  room : vec_len l.hints + l.top ≤ vec_capacity l.hints;
 }
 
 abbrev pub decreases-down : goal.decreases-down

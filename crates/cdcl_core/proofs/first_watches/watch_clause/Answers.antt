@@ -53,13 +53,13 @@ returns-clause-extended c =
     let same : c.get-clause.result.now ≡ clause_at c.args.clauses.now c.args.place = clause_read c.args.clauses.now c.args.place c.get-clause.result.now c.get-clause.result.now c.requires.place c.get-clause.ensures refl in
     let inside : Contains (clause_at c.args.clauses.now c.args.place) c.index-clause-0.result = read_inside (clause_at c.args.clauses.now c.args.place) c.get-clause.result.now c.index-clause-0.result same c.index-clause-0.is (omega arith) in
     let none : AreOthersFalse c.args.trail.now.literals c.get-clause.result.now c.index-clause-0.result = c.other_watch.ensures.none (search rules) in
-    implied_extended c.args.clauses.now c.args.trail.now c.push_implied.new.self c.get-clause.result.now c.args.place c.index-clause-0.result c.requires.place inside same none c.in_ok-push_implied.ensures
+    implied_extended c.args.clauses.now c.args.trail.now c.push_implied.new.self c.get-clause.result.now c.args.place c.index-clause-0.result c.requires.place inside same none c.push_implied.ensures
 
 pub returns-clause-started : goal.returns-clause-started
 returns-clause-started c =
     let same : c.get-clause.result.now ≡ clause_at c.args.clauses.now c.args.place = clause_read c.args.clauses.now c.args.place c.get-clause.result.now c.get-clause.result.now c.requires.place c.get-clause.ensures refl in
     let inside : Contains (clause_at c.args.clauses.now c.args.place) c.index-clause-0.result = read_inside (clause_at c.args.clauses.now c.args.place) c.get-clause.result.now c.index-clause-0.result same c.index-clause-0.is (omega arith) in
     let none : AreOthersFalse c.args.trail.now.literals c.get-clause.result.now c.index-clause-0.result = c.other_watch.ensures.none (search rules) in
-    let e : IsExtended c.args.clauses.now c.args.trail.now c.push_implied.new.self = implied_extended c.args.clauses.now c.args.trail.now c.push_implied.new.self c.get-clause.result.now c.args.place c.index-clause-0.result c.requires.place inside same none c.in_ok-push_implied.ensures in
+    let e : IsExtended c.args.clauses.now c.args.trail.now c.push_implied.new.self = implied_extended c.args.clauses.now c.args.trail.now c.push_implied.new.self c.get-clause.result.now c.args.place c.index-clause-0.result c.requires.place inside same none c.push_implied.ensures in
     starting_next c.args.clauses.now c.args.place c.args.trail.now c.push_implied.new.self c.args.watches.now c.add-2.new.self c.index-clause-0.result c.index-clause-0.result false c.requires.starting c.requires.literals c.requires.place
-    inside inside e (inr (record { literal = c.index-clause-0.result; inside = inside; holds = holds_implied c.args.trail.now c.push_implied.new.self c.index-clause-0.result c.args.place c.in_ok-push_implied.ensures })) never_binary c.in_ok-add-2.ensures
+    inside inside e (inr (record { literal = c.index-clause-0.result; inside = inside; holds = holds_implied c.args.trail.now c.push_implied.new.self c.index-clause-0.result c.args.place c.push_implied.ensures })) never_binary c.in_ok-add-2.ensures

@@ -4,6 +4,6 @@ use Rattle.cdcl_core.proofs.marks.unset_places.Given as goal
 
 abbrev pub invariant-loop-place : goal.invariant-loop-place
 invariant-loop-place l = record {
-  same : length l.on.items ≡ length l.fn.on.items;
-  touched : AreTouchedFrom l.on.items l.touched l.place-index;
+  same : length l.places.items ≡ length l.fn.places.items;
+  touched : AreTouchedFrom l.places.items l.touched l.place-index;
 }

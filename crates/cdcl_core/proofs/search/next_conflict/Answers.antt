@@ -16,7 +16,7 @@ returns-in-None-clause-searching c =
 pub loop-conflict-smaller : goal.loop-conflict-smaller
 loop-conflict-smaller c =
     searching_smaller c.args.clauses.now c.loop-conflict.trail c.propagate.new.trail c.push_decision.new.self c.in-Some-decide.literal c.consistent.ensures.few c.in_ok-conflict.ensures.extended
-    c.in_ok-push_decision-in-Some-decide.ensures
+    c.in_ok-push_decision-in-Some-decide.ensures.ok
 
 pub loop-conflict-preserved : goal.loop-conflict-preserved
 loop-conflict-preserved c =
@@ -26,7 +26,7 @@ loop-conflict-preserved c =
           searching_ordered c.args.clauses.now c.push_decision.new.self c.loop-conflict.order c.decide.new.order c.decide.ensures.order
           (searching_decided c.args.clauses.now c.propagate.new.trail c.push_decision.new.self c.loop-conflict.order c.in-Some-decide.literal
           (searching_extended c.args.clauses.now c.loop-conflict.trail c.propagate.new.trail c.loop-conflict.order c.loop-conflict.invariant.searching c.in_ok-conflict.ensures.extended)
-          complete.settled c.in_ok-push_decision-in-Some-decide.ensures);
-      watching = watching_decided c.args.clauses.now c.propagate.new.trail c.push_decision.new.self c.propagate.new.watches c.in-Some-decide.literal complete c.in_ok-push_decision-in-Some-decide.ensures;
+          complete.settled c.in_ok-push_decision-in-Some-decide.ensures.ok);
+      watching = watching_decided c.args.clauses.now c.propagate.new.trail c.push_decision.new.self c.propagate.new.watches c.in-Some-decide.literal complete c.in_ok-push_decision-in-Some-decide.ensures.ok;
       order = c.decide.ensures.order ∙ c.loop-conflict.invariant.order;
     }

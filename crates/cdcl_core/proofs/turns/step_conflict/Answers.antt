@@ -20,7 +20,7 @@ returns-in-None-clause-found c =
 pub loop-conflict-smaller : goal.loop-conflict-smaller
 loop-conflict-smaller c =
     searching_smaller c.args.clauses.now c.loop-conflict.trail c.propagate.new.trail c.push_decision.new.self c.in-Some-decide.literal c.consistent.ensures.few c.in_ok-conflict.ensures.extended
-    c.in_ok-push_decision-in-Some-decide.ensures
+    c.in_ok-push_decision-in-Some-decide.ensures.ok
 
 pub loop-conflict-preserved : goal.loop-conflict-preserved
 loop-conflict-preserved c =
@@ -28,6 +28,6 @@ loop-conflict-preserved c =
     record {
       searching = searching_decided c.args.clauses.now c.propagate.new.trail c.push_decision.new.self c.args.order.now c.in-Some-decide.literal
           (searching_extended c.args.clauses.now c.loop-conflict.trail c.propagate.new.trail c.args.order.now c.loop-conflict.invariant.searching c.in_ok-conflict.ensures.extended)
-          complete.settled c.in_ok-push_decision-in-Some-decide.ensures;
-      watching = watching_decided c.args.clauses.now c.propagate.new.trail c.push_decision.new.self c.propagate.new.watches c.in-Some-decide.literal complete c.in_ok-push_decision-in-Some-decide.ensures;
+          complete.settled c.in_ok-push_decision-in-Some-decide.ensures.ok;
+      watching = watching_decided c.args.clauses.now c.propagate.new.trail c.push_decision.new.self c.propagate.new.watches c.in-Some-decide.literal complete c.in_ok-push_decision-in-Some-decide.ensures.ok;
     }

@@ -3,7 +3,6 @@ use Rattle.std.proofs.Common.{◌≡◌, ◌<◌, true, length, refl, sym, subst
 use Rattle.proof_semantics.specs.Conflicts.{clause_at}
 use Rattle.cdcl_core.specs.Explained.{Holds}
 use Rattle.cdcl_core.specs.Propagation.{IsExtended}
-use Rattle.std.proofs.lemmas.Result.{IfOk-weaker}
 use Rattle.cdcl_core.specs.Visited.{IsOtherWatch, AreOthersFalse, IsFollowed, IsVisited}
 use Rattle.cdcl_core.proofs.Propagating.{clause_read}
 use Rattle.cdcl_core.proofs.Visiting.{held_by, next_by, first_in, first_literal, twice_next, list_low, rewatched, moved_at, followed_extended, followed_visited}
@@ -54,17 +53,15 @@ returns-in-None-clause-extended c =
     let held : c.args.clause < length c.args.clauses.now = held_by c.args.clauses.now c.args.trail.now c.args.watches.now c.args.x c.args.at c.args.clause c.requires.handling c.requires.at c.requires.clause in
     let same : c.get.result.now ≡ clause_at c.args.clauses.now c.args.clause = clause_read c.args.clauses.now c.args.clause c.get.result.now c.get.result.now held c.get.ensures refl in
     let none : AreOthersFalse c.args.trail.now.literals c.get.result.now c.args.first = c.other_watch.ensures.none (search rules) in
-    IfOk-weaker c.follow.result (IsFollowed c.args.trail.now c.follow.new.trail c.args.clause c.args.first) (λ _. IsExtended c.args.clauses.now c.args.trail.now c.follow.new.trail)
-    (followed_extended c.args.clauses.now c.args.trail.now c.follow.new.trail c.args.clause c.args.first held
+    followed_extended c.args.clauses.now c.args.trail.now c.follow.new.trail c.args.clause c.args.first held
     (first_in c.args.clauses.now c.args.trail.now c.args.watches.now c.args.x c.args.at c.args.clause c.args.first c.requires.handling c.requires.at c.requires.clause c.requires.first)
-    (subst (λ C. AreOthersFalse c.args.trail.now.literals C c.args.first) same none)) c.follow.ensures
+    (subst (λ C. AreOthersFalse c.args.trail.now.literals C c.args.first) same none) c.follow.result c.follow.ensures
 
 pub returns-in-None-clause-visited : goal.returns-in-None-clause-visited
 returns-in-None-clause-visited c =
     let held : c.args.clause < length c.args.clauses.now = held_by c.args.clauses.now c.args.trail.now c.args.watches.now c.args.x c.args.at c.args.clause c.requires.handling c.requires.at c.requires.clause in
     let same : c.get.result.now ≡ clause_at c.args.clauses.now c.args.clause = clause_read c.args.clauses.now c.args.clause c.get.result.now c.get.result.now held c.get.ensures refl in
     let none : AreOthersFalse c.args.trail.now.literals c.get.result.now c.args.first = c.other_watch.ensures.none (search rules) in
-    IfOk-weaker c.follow.result (IsFollowed c.args.trail.now c.follow.new.trail c.args.clause c.args.first) (IsVisited c.args.clauses.now c.follow.new.trail c.args.watches.now c.args.watches.now c.args.x c.args.at)
-    (followed_visited c.args.clauses.now c.args.trail.now c.follow.new.trail c.args.watches.now c.args.x c.args.at c.args.clause c.args.first c.requires.handling c.requires.clause held
+    followed_visited c.args.clauses.now c.args.trail.now c.follow.new.trail c.args.watches.now c.args.x c.args.at c.args.clause c.args.first c.requires.handling c.requires.clause held
     (first_in c.args.clauses.now c.args.trail.now c.args.watches.now c.args.x c.args.at c.args.clause c.args.first c.requires.handling c.requires.at c.requires.clause c.requires.first)
-    (subst (λ C. AreOthersFalse c.args.trail.now.literals C c.args.first) same none)) c.follow.ensures
+    (subst (λ C. AreOthersFalse c.args.trail.now.literals C c.args.first) same none) c.follow.result c.follow.ensures

@@ -1,6 +1,5 @@
 use Rattle.std.proofs.Common.{refl, ap, sym, rules}
 use Rattle.cdcl_core.specs.declared.watches.Watch.{Watch}
-use Rattle.std.proofs.lemmas.Result.{IfOk-weaker}
 use Rattle.cdcl_core.specs.Propagation.{IsExtended}
 use Rattle.cdcl_core.specs.Watching.{IsWatcher}
 use Rattle.cdcl_core.specs.Visited.{IsFollowed, IsVisited}
@@ -20,14 +19,12 @@ pub returns-then-watch-clause-visited : goal.returns-then-watch-clause-visited
 returns-then-watch-clause-visited c =
     let v : Watch = c.get-watch.result in
     let ok : IsWatcher c.args.clauses.now c.args.x v = watcher_read c.args.clauses.now c.args.trail.now c.args.watches.now c.args.x c.args.at v c.requires.handling c.requires.at c.get-watch.ensures in
-    IfOk-weaker c.follow.result (IsFollowed c.args.trail.now c.follow.new.trail v.clause v.blocker) (IsVisited c.args.clauses.now c.follow.new.trail c.args.watches.now c.args.watches.now c.args.x c.args.at)
-    (followed_visited c.args.clauses.now c.args.trail.now c.follow.new.trail c.args.watches.now c.args.x c.args.at v.clause v.blocker c.requires.handling (ap (λ (w : Watch). w.clause) (sym c.get-watch.ensures)) ok.held ok.inside
-    (binary_false c.args.clauses.now c.args.trail.now c.args.watches.now c.args.x c.args.at v c.requires.handling c.requires.at c.get-watch.ensures c.if-watch.true)) c.follow.ensures
+    followed_visited c.args.clauses.now c.args.trail.now c.follow.new.trail c.args.watches.now c.args.x c.args.at v.clause v.blocker c.requires.handling (ap (λ (w : Watch). w.clause) (sym c.get-watch.ensures)) ok.held ok.inside
+    (binary_false c.args.clauses.now c.args.trail.now c.args.watches.now c.args.x c.args.at v c.requires.handling c.requires.at c.get-watch.ensures c.if-watch.true) c.follow.result c.follow.ensures
 
 pub returns-then-watch-clause-extended : goal.returns-then-watch-clause-extended
 returns-then-watch-clause-extended c =
     let v : Watch = c.get-watch.result in
     let ok : IsWatcher c.args.clauses.now c.args.x v = watcher_read c.args.clauses.now c.args.trail.now c.args.watches.now c.args.x c.args.at v c.requires.handling c.requires.at c.get-watch.ensures in
-    IfOk-weaker c.follow.result (IsFollowed c.args.trail.now c.follow.new.trail v.clause v.blocker) (λ _. IsExtended c.args.clauses.now c.args.trail.now c.follow.new.trail)
-    (followed_extended c.args.clauses.now c.args.trail.now c.follow.new.trail v.clause v.blocker ok.held ok.inside
-    (binary_false c.args.clauses.now c.args.trail.now c.args.watches.now c.args.x c.args.at v c.requires.handling c.requires.at c.get-watch.ensures c.if-watch.true)) c.follow.ensures
+    followed_extended c.args.clauses.now c.args.trail.now c.follow.new.trail v.clause v.blocker ok.held ok.inside
+    (binary_false c.args.clauses.now c.args.trail.now c.args.watches.now c.args.x c.args.at v c.requires.handling c.requires.at c.get-watch.ensures c.if-watch.true) c.follow.result c.follow.ensures
