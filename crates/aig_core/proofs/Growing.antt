@@ -11,7 +11,7 @@ use Rattle.std.proofs.lemmas.Option.{get_or_from_slice_get}
 use Rattle.semantics.specs.Value.{Assignment}
 use Rattle.aig_core.specs.declared.gate.Gate.{Gate}
 use Rattle.aig_core.specs.Graph.{GraphValue, no_gate, gate_at, gate_node, node_count, IsLiteralOf, IsGraph, gate_value, IsConsistent, value_of, truth_of, HasOneValue}
-use Rattle.aig_core.specs.Grown.{Grows, HasValue, IsInputOf, IsConjunctionOf}
+use Rattle.aig_core.specs.Grown.{Grows, AddsAtMost, HasValue, IsInputOf, IsConjunctionOf}
 use Rattle.aig_core.proofs.Rounds.{value_law, literal_same}
 use Rattle.aig_core.proofs.Literals.{value-even}
 
@@ -88,6 +88,11 @@ with_gates g gates = record { inputs = g.inputs; gates = gates }
 pub added_grows : (g : GraphValue) (gates : List Gate) (gate : Gate) (held : Bool) → gates ≡ cond held g.gates (g.gates ++ gate ∷ []) → Grows g (with_gates g gates)
 added_grows g gates gate true is = subst (λ (gs : List Gate). Grows g (with_gates g gs)) (sym is) (grows_refl g)
 added_grows g gates gate false is = subst (λ (gs : List Gate). Grows g (with_gates g gs)) (sym is) (grows_push g gate)
+
+-- the gate is added, or nothing
+pub added_once : (g : GraphValue) (gates : List Gate) (gate : Gate) (held : Bool) → gates ≡ cond held g.gates (g.gates ++ gate ∷ []) → AddsAtMost g gate (with_gates g gates)
+added_once g gates gate true is = inl (ap (with_gates g) is)
+added_once g gates gate false is = inr (ap (with_gates g) is)
 
 pub added_few : (g : GraphValue) (gates : List Gate) (gate : Gate) (held : Bool) → gates ≡ cond held g.gates (g.gates ++ gate ∷ []) → length gates ≤ length g.gates + 1
 added_few g gates gate true is = omega (arith, ap length is)

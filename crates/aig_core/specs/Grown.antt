@@ -1,6 +1,7 @@
 -- Graphs that grow, and what a literal of a graph is. Source: hashed and-inverter graphs.
-use Rattle.std.specs.Prelude.{◌≡◌, ℕ, ◌<◌, ◌≤◌, Bool, false, not, ◌&&◌, ◌||◌, List, length, slice_index_or}
+use Rattle.std.specs.Prelude.{◌≡◌, ℕ, ◌+◌, ◌-◌, ◌%◌, ◌==◌, ◌<◌, ◌≤◌, ◌⊎◌, min, max, Bool, false, not, ◌&&◌, ◌||◌, if◌then◌else◌, List, [], ◌∷◌, ◌++◌, length, slice_index_or}
 use Rattle.semantics.specs.Value.{Assignment}
+use Rattle.aig_core.specs.declared.gate.Gate.{Gate}
 use Rattle.aig_core.specs.Graph.{GraphValue, gate_at, IsLiteralOf, literal_value, IsConsistent}
 
 -- no node changes
@@ -8,6 +9,18 @@ pub record Grows (old new : GraphValue) : Type 0 where
   pub inputs : new.inputs ≡ old.inputs
   pub longer : length old.gates ≤ length new.gates
   pub same : (i : ℕ) → i < length old.gates → gate_at new i ≡ gate_at old i
+
+-- the gate of two literals, the lesser one first
+abbrev pub gate_of : ℕ → ℕ → Gate
+gate_of a b = record { left = min a b; right = max a b }
+
+-- the literal of the same node with the other sign
+abbrev pub opposite_of : ℕ → ℕ
+opposite_of l = if l % 2 == 1 then l - 1 else l + 1
+
+-- Nothing is added, or this gate alone. What is added is new, reads two nodes and no constant, since no graph holds another gate.
+abbrev pub AddsAtMost : GraphValue → Gate → GraphValue → Type 0
+AddsAtMost old gate new = (new ≡ old) ⊎ (new ≡ record { inputs = old.inputs; gates = old.gates ++ gate ∷ [] })
 
 -- r has this value at each input
 abbrev pub HasValue : GraphValue → ℕ → (List Bool → Assignment → Bool) → Type 0

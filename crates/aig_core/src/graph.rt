@@ -1,7 +1,7 @@
 //! The graph: an arena of nodes, in which no pair of literals stands twice.
 ghost use Rattle.std.specs.Prelude.{◌≡◌, ℕ, ◌+◌, ◌*◌, ◌/◌, ◌^◌, ◌<◌, ◌≤◌, [], length, List, Bool, IfOk, OnErr};
 ghost use Rattle.aig_core.specs.Graph.{GraphValue, HasOneValue, IsGraph, IsLiteralOf, node_at, node_count};
-ghost use Rattle.aig_core.specs.Grown.{Grows, IsConjunctionOf, IsDisjunctionOf, IsInputOf};
+ghost use Rattle.aig_core.specs.Grown.{AddsAtMost, Grows, IsConjunctionOf, IsDisjunctionOf, IsInputOf, gate_of, opposite_of};
 
 use crate::folding::folded;
 use crate::gate::{Gate, Node};
@@ -106,11 +106,13 @@ impl Aig {
         2 * (1 + i)
     }
 
-    /// A literal whose value is the conjunction of two. A node past the most that a graph may have counts as out of memory.
+    /// A literal whose value is the conjunction of two. A node is made only where none does already. One past the most
+    /// that a graph may have counts as out of memory.
     pub fn and(&mut self, a: Literal, b: Literal) -> Result<Literal, AllocError>
         requires a { IsLiteralOf self.old a }
         requires b { IsLiteralOf self.old b }
         ensures grows { Grows self.old self.new }
+        ensures one { AddsAtMost self.old (gate_of a b) self.new }
         ensures ok { IfOk result (IsConjunctionOf self.new a b) }
         ensures err { OnErr result (self.new ≡ self.old) }
     {
@@ -126,6 +128,7 @@ impl Aig {
         requires a { IsLiteralOf self.old a }
         requires b { IsLiteralOf self.old b }
         ensures grows { Grows self.old self.new }
+        ensures one { AddsAtMost self.old (gate_of (opposite_of a) (opposite_of b)) self.new }
         ensures ok { IfOk result (IsDisjunctionOf self.new a b) }
         ensures err { OnErr result (self.new ≡ self.old) }
     {
@@ -138,6 +141,7 @@ impl Aig {
         requires sorted { low ≤ high }
         requires high { IsLiteralOf self.old high }
         ensures grows { Grows self.old self.new }
+        ensures one { AddsAtMost self.old (record { left = low; right = high }) self.new }
         ensures ok { IfOk result (IsConjunctionOf self.new low high) }
         ensures err { OnErr result (self.new ≡ self.old) }
     {
@@ -157,6 +161,7 @@ impl Aig {
         requires apart { gate.left / 2 < gate.right / 2 }
         requires within { IsLiteralOf self.old gate.right }
         ensures grows { Grows self.old self.new }
+        ensures one { AddsAtMost self.old gate self.new }
         ensures ok { IfOk result (IsConjunctionOf self.new gate.left gate.right) }
         ensures err { OnErr result (self.new ≡ self.old) }
     {

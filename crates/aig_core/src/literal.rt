@@ -1,6 +1,6 @@
 //! Literals: nodes with a sign. Source: AIGER's literals.
 ghost use Rattle.std.specs.Prelude.{◌≡◌, ◌/◌, ◌%◌, ◌==◌, if◌then◌else◌};
-ghost use Rattle.aig_core.specs.Grown.{IsOppositeOf};
+ghost use Rattle.aig_core.specs.Grown.{IsOppositeOf, opposite_of};
 
 /// Twice a node's number, and one more where its value is turned over.
 pub type Literal = u32;
@@ -28,7 +28,8 @@ pub fn is_negative(literal: Literal) -> bool
 
 /// The literal of the opposite value.
 pub fn opposite(literal: Literal) -> Literal
-    ensures { IsOppositeOf literal result }
+    ensures value { IsOppositeOf literal result }
+    ensures number { result ≡ opposite_of literal }
 {
     if is_negative(literal) {
         literal - 1

@@ -79,11 +79,12 @@ impl FlipSim {
         })
     }
 
-    /// Finds the values of the signals at all patterns. It takes no memory.
+    /// Finds the values of the signals at all patterns. What the last `run_flipped` left stays. It takes no memory.
     pub fn run(&mut self, net: &Net, patterns: &Patterns)
         requires inputs { patterns.now.inputs ≡ input_count net.now }
         requires room { IsForNet net.now patterns.now.vectors self.old }
-        ensures { IsNetSimulation net.now patterns.now.vectors self.new }
+        ensures simulation { IsNetSimulation net.now patterns.now.vectors self.new }
+        ensures flipped { self.new.flipped ≡ self.old.flipped }
     {
         // A net is sound by its type: the call brings that fact here.
         let _ = net.tables();

@@ -4,7 +4,7 @@ use Rattle.aig_core.proofs.tables.with_mark.Goals as goal
 
 pub returns-in-Zero-clause-ok : goal.returns-in-Zero-clause-ok
 returns-in-Zero-clause-ok c =
-    rw c.in-Zero.is (IfOk-weaker _ _ _ (λ r both. marked_zero c.and.new.self c.args.pin c.opposite.result c.args.all r c.opposite.ensures both) c.and.ensures.ok)
+    rw c.in-Zero.is (IfOk-weaker _ _ _ (λ r both. marked_zero c.and.new.self c.args.pin c.opposite.result c.args.all r c.opposite.ensures.value both) c.and.ensures.ok)
 
 pub returns-in-One-clause-ok : goal.returns-in-One-clause-ok
 returns-in-One-clause-ok c =

@@ -1,7 +1,7 @@
 use Rattle.std.proofs.Common.{sym, subst, arith}
 use Rattle.aig_core.specs.Graph.{GraphValue, IsLiteralOf}
-use Rattle.aig_core.specs.Grown.{Grows}
-use Rattle.aig_core.proofs.Growing.{with_gates, added_grows, added_graph, added_few, gate_conjunction, gates_differ, stored_gate}
+use Rattle.aig_core.specs.Grown.{Grows, AddsAtMost}
+use Rattle.aig_core.proofs.Growing.{with_gates, added_grows, added_once, added_graph, added_few, gate_conjunction, gates_differ, stored_gate}
 use Rattle.aig_core.proofs.graph.Aig.gate.Goals as goal
 
 pub invariant_of-self-2 : goal.invariant_of-self-2
@@ -17,6 +17,11 @@ pub returns-clause-grows : goal.returns-clause-grows
 returns-clause-grows c =
     let g : GraphValue = record { inputs = c.self.inside.inputs; gates = c.self.inside.gates.keys } in
     subst (λ h. Grows h (with_gates g c.insert_full.new.self.keys)) c.self.view_is (added_grows g c.insert_full.new.self.keys c.args.gate _ c.in_ok-at.ensures.keys)
+
+pub returns-clause-one : goal.returns-clause-one
+returns-clause-one c =
+    let g : GraphValue = record { inputs = c.self.inside.inputs; gates = c.self.inside.gates.keys } in
+    subst (λ h. AddsAtMost h c.args.gate (with_gates g c.insert_full.new.self.keys)) c.self.view_is (added_once g c.insert_full.new.self.keys c.args.gate _ c.in_ok-at.ensures.keys)
 
 pub returns-clause-ok : goal.returns-clause-ok
 returns-clause-ok c =
