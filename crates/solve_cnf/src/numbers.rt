@@ -50,6 +50,7 @@ pub fn number_of(word: &[u8], vars: u32, line: usize) -> Result<i32, ReadError>
     ensures within { IfOk result (λ n. nat_abs n ≤ vars) }
     ensures wrong { IfErr result (λ told. (refusal : Refusal)
         → refusal_of told ≡ Some refusal → wrong_word vars word.now ≡ Some refusal) }
+    ensures refused { IfErr result (λ told. (refusal : Refusal) × (refusal_of told ≡ Some refusal)) }
     ensures place { IfErr result (λ told. Names told (place_if (is_wrong vars word.now) line)) }
     ensures no_counts { IfErr result (λ told. counts_of told ≡ None) }
 {
