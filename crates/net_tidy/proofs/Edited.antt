@@ -1,6 +1,6 @@
 -- Edits of lists in place: a loop that writes f s over each number s, and a slice that is written back.
-use Rattle.std.proofs.Common.{◌≡◌, ℕ, ◌+◌, ◌<◌, List, ◌∷◌, ◌++◌, map, length, get_or, set, take, drop, ap, ◌∙◌, arith}
-use Rattle.std.proofs.lemmas.List.{get_or_default, get_or_at, get_or_read, length-map, length-take, drop_more, take-append-le, take_all}
+use Rattle.std.proofs.Common.{◌≡◌, ℕ, ◌+◌, ◌<◌, List, ◌++◌, map, length, get_or, set, take, drop, ◌∙◌, arith}
+use Rattle.std.proofs.lemmas.List.{get_or_default, take-append-le, take_all}
 use Rattle.std.proofs.lemmas.List.Edits.{map_over_more}
 
 pub map_numbers_more : (f : ℕ → ℕ) (xs ys : List ℕ) (i : ℕ) → i < length xs → length ys ≡ length xs → ys ≡ map f (take i xs) ++ drop i xs
@@ -9,11 +9,3 @@ map_numbers_more f xs ys i h w e = map_over_more f xs ys i (get_or ys i 0) h e (
 
 pub written_back : {X : Type 0} (n : ℕ) (new old : List X) → length new ≡ n → take n (new ++ drop (length new) old) ≡ new
 written_back n new old e = take-append-le n new (drop (length new) old) (omega (arith, e)) ∙ take_all n new (omega (arith, e))
-
--- where the first so many are edited, the next is as it was
-pub still_there : {X : Type 0} (f : X → X) (xs ys : List X) (i : ℕ) (x d : X) → i < length xs → ys ≡ map f (take i xs) ++ drop i xs → x ≡ get_or ys i x → x ≡ get_or xs i d
-still_there f xs ys i x d low h is =
-    let front = map f (take i xs) in
-    let long : length front ≡ i = length-map (take i xs) f ∙ omega (arith, length-take i xs) in
-    let parts : ys ≡ front ++ get_or xs i x ∷ drop (i + 1) xs = h ∙ ap (λ l. front ++ l) (drop_more xs i x low) in
-    get_or_read xs i x low (is ∙ ap (λ l. get_or l i x) parts ∙ get_or_at front _ _ x i long) d

@@ -13,6 +13,7 @@ use Rattle.chain_semantics.proofs.TidyTables.{map_none}
 use Rattle.chain_semantics.proofs.TidyTriples.{no_elements}
 use Rattle.net_tidy.specs.declared.rule.Rule.TheVariants.{ConstantPin, RepeatedPin}
 use Rattle.net_tidy.specs.Rule.{made_by}
+use Rattle.net_tidy.specs.Places.{DraftValue}
 
 set-set : {X : Type 0} (xs : List X) (i : ℕ) (x y : X) → set (set xs i x) i y ≡ set xs i y
 set-set [] i x y = refl
@@ -149,3 +150,10 @@ constant_value-rows n s tables table at e =
     ∙ sym (not_cond (is_empty (table_at tables (s - n)).rows) (table_at tables (s - n)).plane)
     ∙ ap (λ b. cond b (table_at tables (s - n)).plane (not (table_at tables (s - n)).plane)) (sym (free_rows (table_at tables (s - n)).rows (λ p. false)))
     ∙ ap (λ (ps : List ℕ). cond (list_any (λ marks. row_matches marks ps (λ p. false)) (table_at tables (s - n)).rows) (table_at tables (s - n)).plane (not (table_at tables (s - n)).plane)) (sym none)
+
+-- the net of a draft is changed once, and twice
+pub one_step : (D F : DraftValue) (Y Z : NetValue) → F ≡ record D { net = Y } → Y ≡ Z → F ≡ record D { net = Z }
+one_step D F Y Z m z = m ∙ ap (λ (n : NetValue). record D { net = n }) z
+
+pub two_steps : (D E F : DraftValue) (X Y Z : NetValue) → E ≡ record D { net = X } → F ≡ record E { net = Y } → Y ≡ Z → F ≡ record D { net = Z }
+two_steps D E F X Y Z k m z = one_step E F Y Z m z ∙ ap (λ (G : DraftValue). record G { net = Z }) k

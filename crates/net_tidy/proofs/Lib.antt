@@ -8,3 +8,8 @@ pub mod Fixing
 pub mod Passing
 pub mod Tidied
 pub mod Marking
+pub mod Listing
+pub mod Reading
+pub mod Ranks
+pub mod Dense
+pub mod Drafted

@@ -21,7 +21,7 @@ first_from-same p q start (suc count) f =
     let rest : first_from p (start + 1) count ≡ first_from q (start + 1) count = first_from-same p q (start + 1) count (λ k low high. f k (omega arith) (omega arith)) in
     cc
 
-eqb_map : (f : ℕ → ℕ) → ((s u : ℕ) → f s ≡ f u → s ≡ u) → (s u : ℕ) → eqb (f s) (f u) ≡ eqb s u
+pub eqb_map : (f : ℕ → ℕ) → ((s u : ℕ) → f s ≡ f u → s ≡ u) → (s u : ℕ) → eqb (f s) (f u) ≡ eqb s u
 eqb_map f distinct s u =
     elim (cases_eq s u) [
       | inl same ↦ eq-eqb (f s) (f u) (ap f same) ∙ sym (eq-eqb s u same)

@@ -1,15 +1,13 @@
 -- What is marked, and the flags that are raised by it.
-use Rattle.std.proofs.Common.{◌≡◌, ℕ, zero, suc, ◌+◌, ◌-◌, ◌<◌, ◌≤◌, Bool, true, false, ◌||◌, eqb, List, [], ◌∷◌, length, get_or, set, take, drop, replicate, refl, ap, sym, ◌∙◌, inl, inr, arith, get_or-set_same, get_or-set_other}
+use Rattle.std.proofs.Common.{◌≡◌, ℕ, zero, suc, ◌+◌, ◌<◌, ◌≤◌, Bool, true, false, ◌||◌, eqb, List, [], ◌∷◌, length, get_or, set, drop, replicate, refl, ap, sym, ◌∙◌, inl, inr, arith, get_or-set_same, get_or-set_other}
 use Rattle.std.specs.List.{list_any}
 use Rattle.std.proofs.lemmas.Bool.{cases_eq, ne_eqb, eq-eqb, false≢true}
-use Rattle.std.proofs.lemmas.List.{drop_more, drop_all, take_all, get_or-replicate, length-replicate, length-drop, take-append-drop}
-use Rattle.std.proofs.lemmas.List.Folds.{list_any-append}
+use Rattle.std.proofs.lemmas.List.{drop_more, drop_all, get_or-replicate, length-replicate}
 use Rattle.semantics.specs.Net.{TableValue, NetValue, no_table, table_at, table_count}
 use Rattle.chain_semantics.specs.TidyRules.{has, is_read}
-use Rattle.chain_semantics.specs.Tidy.{IsTidy, IsTidiedFrom}
+use Rattle.chain_semantics.specs.Tidy.{IsTidiedFrom}
 use Rattle.chain_semantics.specs.Tidy.IsReachedFrom.{start}
-use Rattle.net_tidy.specs.Rule.{rule_at}
-use Rattle.net_tidy.specs.Flags.{IsDown, IsFlagged}
+use Rattle.net_tidy.specs.Flags.{IsFlagged}
 use Rattle.net_tidy.proofs.Stepping.{tidy_by_rules}
 
 or_true : (a : Bool) → (a || true) ≡ true
@@ -91,30 +89,3 @@ tidied_already N flags raised h is none = record {
   reached = start;
   tidy = tidy_by_rules N (λ i within. h.rests i within (none_raised flags i (sym is ∙ none) (omega (arith, within, h.count))));
 }
-
--- ---- readers
-
-or_turn : (a b : Bool) → (a || b) ≡ (b || a)
-or_turn true b = sym (or_true b)
-or_turn false b = sym (or_false b)
-
--- the tables from a place on, and those before it
-pub read_apart : (tables : List TableValue) (k s : ℕ) → (is_read (drop k tables) s || is_read (take k tables) s) ≡ is_read tables s
-read_apart tables k s =
-    or_turn (is_read (drop k tables) s) (is_read (take k tables) s)
-    ∙ sym (list_any-append (λ t. has t.pins s) (take k tables) (drop k tables)) ∙ ap (λ ts. is_read ts s) (take-append-drop k tables)
-
-rest_all : (tables : List TableValue) (k : ℕ) → take (length tables - k) (drop k tables) ≡ drop k tables
-rest_all tables k = take_all (length tables - k) (drop k tables) (omega (arith, length-drop k tables))
-
--- the same in code
-pub read_behind : (tables : List TableValue) (k s : ℕ) (behind : Bool) → behind ≡ is_read (take (length tables - k) (drop k tables)) s → behind ≡ true → behind ≡ is_read tables s
-read_behind tables k s behind is found =
-    let whole : is_read (drop k tables) s ≡ true = ap (λ ts. is_read ts s) (sym (rest_all tables k)) ∙ sym is ∙ found in
-    found ∙ sym (ap (λ b. b || is_read (take k tables) s) whole) ∙ read_apart tables k s
-
-pub read_before : (tables : List TableValue) (k s : ℕ) (behind before : Bool) → behind ≡ is_read (take (length tables - k) (drop k tables)) s → behind ≡ false
-    → before ≡ is_read (take k tables) s → before ≡ is_read tables s
-read_before tables k s behind before is missed rest =
-    let none : is_read (drop k tables) s ≡ false = ap (λ ts. is_read ts s) (sym (rest_all tables k)) ∙ sym is ∙ missed in
-    rest ∙ sym (ap (λ b. b || is_read (take k tables) s) none) ∙ read_apart tables k s

@@ -1,2 +1,4 @@
 pub mod Rule
 pub mod Flags
+pub mod Places
+pub mod Readers

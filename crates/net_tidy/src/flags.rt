@@ -1,12 +1,11 @@
 //! A flag for each table, which is raised where a rule may apply.
 ghost use Rattle.std.specs.Prelude.{◌≡◌, ◌≢◌, ◌<◌, ◌≤◌, ◌^◌, ◌+◌, ℕ, true, false, not, length, replicate, slice_index_or, slice_set, All, IfOk};
-ghost use Rattle.std.specs.List.{list_any, remove};
+ghost use Rattle.std.specs.List.{list_any};
 ghost use Rattle.semantics.specs.Net.{table_at};
 ghost use Rattle.chain_semantics.specs.TidyRules.{has};
 ghost use Rattle.net_tidy.specs.Flags.{IsDown, IsLeft};
 
-use crate::rules::has;
-use crate::table_draft::TableDraft;
+use crate::tables::Tables;
 use net_core::items::Signal;
 use std::alloc::{AllocError, Global};
 use std::marker::Model;
@@ -36,6 +35,21 @@ impl Flags {
     {
         let flags = vec![in alloc; true; count]?;
         Ok(Flags { flags, first: 0 })
+    }
+
+    /// The first place from one on whose flag is raised, or the end.
+    pub(crate) fn next(&self, from: usize) -> usize
+        requires { from ≤ length self.now }
+        ensures from { from ≤ result }
+        ensures within { result ≤ length self.now }
+        ensures down { (j : ℕ) → from ≤ j → j < result → IsDown self.now j }
+    {
+        for i in from..self.flags.len() {
+            if self.flags[i] {
+                return i;
+            }
+        }
+        self.flags.len()
     }
 
     /// A place before which no flag is raised.
@@ -122,20 +136,28 @@ impl Flags {
         }
     }
 
-    /// Raises the flags of the tables that read a signal.
-    pub(crate) fn raise_readers(&mut self, tables: &[TableDraft], s: Signal)
-        requires { length self.old ≡ length tables.now }
+    /// Raises the flags at these places, where there are any.
+    pub(crate) fn raise_places(&mut self, places: &[u32])
         ensures count { length self.new ≡ length self.old }
-        ensures others { (j : ℕ) → j < length tables.now → IsDown self.new j
-            → IsDown self.old j × (has (table_at tables.now j).pins s ≡ false) }
+        ensures others { (j : ℕ) → IsDown self.new j → IsDown self.old j × (has places.now j ≡ false) }
     {
-        for (i, table) in tables.iter().enumerate() {
-            self.raise_if(i, has(table.pins(), s));
+        for place in places {
+            self.raise_within(*place as usize);
+        }
+    }
+
+    /// Raises the flag at a place, if it is one.
+    fn raise_within(&mut self, place: usize)
+        ensures count { length self.new ≡ length self.old }
+        ensures others { (j : ℕ) → IsDown self.new j → IsDown self.old j × (j ≢ place) }
+    {
+        if place < self.flags.len() {
+            self.raise_at(place);
         }
     }
 
     /// Raises the flags of a table that was edited, and, where it has no pins, of those that read it.
-    pub(crate) fn raise_edited(&mut self, inputs: u32, tables: &[TableDraft], t: u32)
+    pub(crate) fn raise_edited(&mut self, inputs: u32, tables: &Tables, t: u32)
         requires within { t < length tables.now }
         requires count { length self.old ≡ length tables.now }
         requires few { inputs + length tables.now < 2 ^ 31 }
@@ -143,17 +165,8 @@ impl Flags {
         ensures others { (j : ℕ) → j < length tables.now → IsDown self.new j → IsLeft inputs tables.now t self.old j }
     {
         self.raise(t);
-        if tables[t as usize].pins().is_empty() {
-            self.raise_readers(tables, inputs + t);
+        if tables.as_slice()[t as usize].pins().is_empty() {
+            self.raise_places(tables.readers(inputs + t));
         }
-    }
-
-    /// Takes out the flag of a table.
-    pub(crate) fn remove(&mut self, t: u32)
-        requires { t < length self.old }
-        ensures { self.new ≡ remove self.old t }
-    {
-        self.flags.remove(t as usize);
-        self.first = self.first.min(t as usize);
     }
 }

@@ -3,7 +3,8 @@ ghost use Rattle.std.specs.Prelude.{◌≡◌, ◌<◌, ◌==◌, ℕ, true, not
 ghost use Rattle.std.specs.List.{filter, list_any, remove};
 ghost use Rattle.semantics.specs.Net.{IsTable, constant_table};
 ghost use Rattle.semantics.specs.Value.{mark_matches};
-ghost use Rattle.semantics.specs.Renamed.{renamed, redirect, lowered};
+ghost use Rattle.semantics.specs.Renamed.{renamed, redirect};
+ghost use Rattle.net_tidy.specs.Places.{number_at};
 ghost use Rattle.chain_semantics.specs.TidyRules.{has, mark_at, clash, pin_at, without_pin, with_pin_fixed, with_pins_joined, with_marks_joined, with_marks_turned, is_inverter, reading_past};
 
 use crate::marks::{Marked, Marks, clash, mark_at};
@@ -105,11 +106,14 @@ fn redirected(pin: Signal, from: Signal, to: Signal) -> Signal
     if pin == from { to } else { pin }
 }
 
-/// A signal's number once another has gone.
-fn lowered(signal: Signal, gone: Signal) -> Signal
-    ensures { result ≡ lowered gone signal }
+/// The number that stands at a signal, and 0 past the end.
+pub(crate) fn number_at(numbers: &[u32], s: Signal) -> u32
+    ensures { result ≡ number_at numbers.now s }
 {
-    if gone < signal { signal - 1 } else { signal }
+    match numbers.get(s as usize) {
+        Some(number) => *number,
+        None => 0,
+    }
 }
 
 /// Puts one signal in the place of another.
@@ -121,12 +125,12 @@ fn redirect(pins: &mut [Signal], from: Signal, to: Signal)
     }
 }
 
-/// Lowers the signals above one that goes.
-pub(crate) fn lower(signals: &mut [Signal], gone: Signal)
-    ensures { signals.new ≡ map (lowered gone) signals.old }
+/// Puts for each signal the number that stands at it.
+fn renumber(signals: &mut [Signal], numbers: &[u32])
+    ensures { signals.new ≡ map (number_at numbers.now) signals.old }
 {
     for signal in signals.iter_mut() {
-        *signal = lowered(*signal, gone);
+        *signal = number_at(numbers, *signal);
     }
 }
 
@@ -269,10 +273,10 @@ impl TableDraft {
         Ok(Table::new(name, pins, rows, self.plane))
     }
 
-    /// Lowers the pins that read signals above one that goes.
-    pub(crate) fn lower(&mut self, gone: Signal)
-        ensures { self.new ≡ renamed (lowered gone) self.old }
+    /// Puts for each pin the number that stands at it.
+    pub(crate) fn renumber(&mut self, numbers: &[u32])
+        ensures { self.new ≡ renamed (number_at numbers.now) self.old }
     {
-        lower(&mut self.pins, gone);
+        renumber(&mut self.pins, numbers);
     }
 }

@@ -17,7 +17,7 @@ fn apply_rules(alloc: Global, net: &Net, flags: Flags) -> Result<Net, AllocError
 {
     let mut draft = NetDraft::from_net(alloc, net, flags)?;
     while let Some((t, rule)) = draft.first_rule() {
-        draft.apply(t, rule);
+        draft.apply(t, rule)?;
     }
     draft.into_net()
 }

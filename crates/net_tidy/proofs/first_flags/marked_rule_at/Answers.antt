@@ -1,4 +1,4 @@
-use Rattle.std.proofs.Common.{ℕ, ◌+◌, false, get_or, ap, ◌∙◌}
+use Rattle.std.proofs.Common.{ℕ, ◌+◌, ap, ◌∙◌}
 use Rattle.semantics.specs.Net.{TableValue, input_count}
 use Rattle.chain_semantics.specs.TidyRules.{has, is_read, constant_pin}
 use Rattle.net_tidy.proofs.Stepping.{rule_by_found}

@@ -1,5 +1,6 @@
 use Rattle.std.proofs.Common.{◌≡◌, take}
+use Rattle.net_tidy.specs.Places.{kept}
 use Rattle.net_tidy.proofs.net_draft.table_list.Given as goal
 
-abbrev pub invariant-loop-table : goal.invariant-loop-table
-invariant-loop-table l = l.list ≡ take l.table-index l.tables
+abbrev pub invariant-loop-i : goal.invariant-loop-i
+invariant-loop-i l = l.list ≡ kept (take l.i l.gone) (take l.i l.tables)

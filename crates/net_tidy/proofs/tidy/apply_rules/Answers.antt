@@ -1,34 +1,27 @@
-use Rattle.std.proofs.Common.{refl, sym, subst}
-use Rattle.chain_semantics.specs.Tidy.{IsReachedFrom}
-use Rattle.chain_semantics.specs.Tidy.IsReachedFrom.{start}
-use Rattle.net_tidy.proofs.Tidied.{sound_reached, one_more, one_more-falls, few_reached}
+use Rattle.std.proofs.Common.{ap, sym, subst, ◌∙◌}
+use Rattle.std.proofs.lemmas.Result.{IfOk-weaker}
+use Rattle.net_tidy.specs.Places.{DraftValue, dense, drafted}
+use Rattle.net_tidy.proofs.Tidied.{IsUnderWay, way_start, way_sound, way_next, way_falls, way_few, way_end}
 use Rattle.net_tidy.proofs.tidy.apply_rules.Goals as goal
 
 pub loop-t-init : goal.loop-t-init
-loop-t-init c = record {
-  built = c.in_ok-draft.ensures.built;
-  reached = subst (IsReachedFrom c.args.net.now) (sym c.in_ok-draft.ensures.ok) start;
-}
-
-pub first_rule-requires : goal.first_rule-requires
-first_rule-requires c = record { sound = sound_reached c.args.net.now c.loop-t.draft c.loop-t.draft c.loop-t.invariant.built c.loop-t.invariant.reached refl }
-
-pub apply-requires-clause-sound : goal.apply-requires-clause-sound
-apply-requires-clause-sound c = sound_reached c.args.net.now c.loop-t.draft c.first_rule.new.self c.loop-t.invariant.built c.loop-t.invariant.reached c.first_rule.ensures.same
+loop-t-init c = way_start c.args.net.now c.in_ok-draft.draft c.in_ok-draft.ensures.built c.in_ok-draft.ensures.ok
 
 pub loop-t-smaller : goal.loop-t-smaller
 loop-t-smaller c =
-    one_more-falls c.args.net.now c.loop-t.draft c.first_rule.new.self c.apply.new.self _ _ c.loop-t.invariant.built c.loop-t.invariant.reached c.first_rule.ensures.same
-    c.in-Some.ensures.found c.apply.ensures
+    way_falls c.args.net.now c.loop-t.draft c.apply.new.self _ _ c.loop-t.invariant c.in-Some.ensures.found (c.in_ok-apply.ensures ∙ ap (λ (D : DraftValue). drafted D c.in-Some.t c.in-Some.rule) c.first_rule.ensures.same)
 
 pub loop-t-preserved : goal.loop-t-preserved
-loop-t-preserved c = record {
-  built = c.loop-t.invariant.built;
-  reached = one_more c.args.net.now c.loop-t.draft c.first_rule.new.self c.apply.new.self _ _ c.loop-t.invariant.reached c.first_rule.ensures.same c.in-Some.ensures.found c.apply.ensures;
-}
+loop-t-preserved c =
+    way_next c.args.net.now c.loop-t.draft c.apply.new.self _ _ c.loop-t.invariant c.in-Some.ensures.found (c.in_ok-apply.ensures ∙ ap (λ (D : DraftValue). drafted D c.in-Some.t c.in-Some.rule) c.first_rule.ensures.same)
 
 pub into_net-requires-clause-sound : goal.into_net-requires-clause-sound
-into_net-requires-clause-sound c = sound_reached c.args.net.now c.loop-t.draft c.first_rule.new.self c.loop-t.invariant.built c.loop-t.invariant.reached c.first_rule.ensures.same
+into_net-requires-clause-sound c = way_sound c.args.net.now c.first_rule.new.self (subst (IsUnderWay c.args.net.now) (sym c.first_rule.ensures.same) c.loop-t.invariant)
 
 pub into_net-requires-clause-few_outputs : goal.into_net-requires-clause-few_outputs
-into_net-requires-clause-few_outputs c = few_reached c.args.net.now c.loop-t.draft c.first_rule.new.self c.loop-t.invariant.built c.loop-t.invariant.reached c.first_rule.ensures.same
+into_net-requires-clause-few_outputs c = way_few c.args.net.now c.first_rule.new.self (subst (IsUnderWay c.args.net.now) (sym c.first_rule.ensures.same) c.loop-t.invariant)
+
+pub returns : goal.returns
+returns c =
+    IfOk-weaker c.into_net.result _ _
+    (λ M e. way_end c.args.net.now c.loop-t.draft M c.loop-t.invariant c.in_default.ensures.found (e ∙ ap dense c.first_rule.ensures.same)) c.into_net.ensures

@@ -1,9 +1,0 @@
-use Rattle.std.proofs.Common.{set, ap, ◌∙◌}
-use Rattle.semantics.specs.Renamed.{lowered}
-use Rattle.net_tidy.proofs.Edited.{map_numbers_more}
-use Rattle.net_tidy.proofs.table_draft.lower.Goals as goal
-
-pub loop-signal-preserved : goal.loop-signal-preserved
-loop-signal-preserved c =
-    ap (set c.loop-signal.signals c.loop-signal.signal-index) c.lowered.ensures
-    ∙ map_numbers_more (lowered c.args.gone) c.args.signals.now c.loop-signal.signals c.loop-signal.signal-index c.loop-signal-test.true c.loop-signal.auto.signals c.loop-signal.invariant
