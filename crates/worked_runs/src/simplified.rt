@@ -15,6 +15,90 @@ struct Simplified<'a> {
     report: &'a [u8],
 }
 
+/// The half adder within several bounds, and a constant, a wire, rows that end in 0, and comments with continued lines.
+const NETLISTS: [Simplified; 10] = [
+    Simplified {
+        line: b"synth abs 3 1 ha.blif out",
+        text: HALF_ADDER,
+        netlist: BOTH_CONSTANT,
+        header: b"p cnf 75 242\n",
+        vectors: b"11\n00\n10\n01\n11\n",
+        report: b"salsa 2\nmetric abs\nbound 3\nmaximum 2\nwitness 11\ntables 2 2\nliterals 6 0\nminimal yes\n",
+    },
+    Simplified {
+        line: b"synth abs 1 1 ha.blif out",
+        text: HALF_ADDER,
+        netlist: CARRY_COPIED,
+        header: b"p cnf 76 245\n",
+        vectors: VECTORS,
+        report: REPORT,
+    },
+    Simplified {
+        line: b"synth abs 0 1 ha.blif out",
+        text: HALF_ADDER,
+        netlist: HALF_ADDER,
+        header: b"p cnf 78 254\n",
+        vectors: b"00\n00\n10\n01\n11\n",
+        report: b"salsa 2\nmetric abs\nbound 0\nmaximum 0\nwitness 00\ntables 2 2\nliterals 6 6\nminimal yes\n",
+    },
+    Simplified {
+        line: b"synth ham 1 1 ha.blif out",
+        text: HALF_ADDER,
+        netlist: BOTH_CONSTANT,
+        header: b"p cnf 30 71\n",
+        vectors: VECTORS,
+        report: b"salsa 2\nmetric ham\nbound 1\nmaximum 1\nwitness 10\ntables 2 2\nliterals 6 0\nminimal yes\n",
+    },
+    Simplified {
+        line: b"synth rel 999999 1 ha.blif out",
+        text: HALF_ADDER,
+        netlist: b".model ha\n.inputs a b\n.outputs s c\n.names a b s\n1- 1\n-1 1\n.names c\n.end\n",
+        header: b"p cnf 2377 8828\n",
+        vectors: b"11\n00\n10\n01\n11\n",
+        report: b"salsa 2\nmetric rel\nbound 999999\nmaximum 500000\nwitness 11\ntables 2 2\nliterals 6 2\nminimal yes\n",
+    },
+    Simplified {
+        line: b"synth rel 1000000 1 ha.blif out",
+        text: HALF_ADDER,
+        netlist: BOTH_CONSTANT,
+        header: b"p cnf 2375 8822\n",
+        vectors: VECTORS,
+        report: b"salsa 2\nmetric rel\nbound 1000000\nmaximum 1000000\nwitness 10\ntables 2 2\nliterals 6 0\nminimal yes\n",
+    },
+    Simplified {
+        line: b"synth abs 0 1 ha.blif out",
+        text: b".model k\n.outputs y\n.names y\n1\n.end\n",
+        netlist: b".model k\n.inputs\n.outputs y\n.names y\n1\n.end\n",
+        header: b"p cnf 44 138\n",
+        vectors: b"\n\n",
+        report: b"salsa 2\nmetric abs\nbound 0\nmaximum 0\nwitness \ntables 1 1\nliterals 0 0\nminimal yes\n",
+    },
+    Simplified {
+        line: b"synth abs 0 1 ha.blif out",
+        text: b".model w\n.inputs a\n.outputs a\n.end\n",
+        netlist: b".model w\n.inputs a\n.outputs a\n.end\n",
+        header: b"p cnf 41 132\n",
+        vectors: b"0\n0\n1\n",
+        report: b"salsa 2\nmetric abs\nbound 0\nmaximum 0\nwitness 0\ntables 0 0\nliterals 0 0\nminimal yes\n",
+    },
+    Simplified {
+        line: b"synth abs 0 1 ha.blif out",
+        text: b".model m\n.inputs a b\n.outputs y z\n.names a b y\n00 0\n.names a b z\n1- 1\n-1 1\n.end\n",
+        netlist: b".model m\n.inputs a b\n.outputs y z\n.names z y\n1 1\n.names a b z\n1- 1\n-1 1\n.end\n",
+        header: b"p cnf 78 249\n",
+        vectors: b"00\n00\n10\n01\n11\n",
+        report: b"salsa 2\nmetric abs\nbound 0\nmaximum 0\nwitness 00\ntables 2 2\nliterals 4 3\nminimal yes\n",
+    },
+    Simplified {
+        line: b"synth abs 0 1 ha.blif out",
+        text: b".model t # note \\\r\n.inputs a \\\r\n b\r\n.outputs y\r\n.names a b y\r\n11 1\r\n.end\r\n",
+        netlist: b".model t\n.inputs a b\n.outputs y\n.names a b y\n11 1\n.end\n",
+        header: b"p cnf 46 142\n",
+        vectors: b"00\n00\n10\n01\n11\n",
+        report: b"salsa 2\nmetric abs\nbound 0\nmaximum 0\nwitness 00\ntables 1 1\nliterals 2 2\nminimal yes\n",
+    },
+];
+
 fn is_simplified(rt: &HostRuntime, row: &Simplified) -> Result<bool, Fail> {
     let done = run_on(rt, row.line, row.text, 64, 0, 0)?;
     Ok(
@@ -30,89 +114,7 @@ fn is_simplified(rt: &HostRuntime, row: &Simplified) -> Result<bool, Fail> {
 
 #[test]
 fn netlists_that_are_simplified(rt: HostRuntime) -> Result<(), Fail> {
-    let rows = [
-        Simplified {
-            line: b"synth abs 3 1 ha.blif out",
-            text: HALF_ADDER,
-            netlist: BOTH_CONSTANT,
-            header: b"p cnf 75 242\n",
-            vectors: b"11\n00\n10\n01\n11\n",
-            report: b"salsa 2\nmetric abs\nbound 3\nmaximum 2\nwitness 11\ntables 2 2\nliterals 6 0\nminimal yes\n",
-        },
-        Simplified {
-            line: b"synth abs 1 1 ha.blif out",
-            text: HALF_ADDER,
-            netlist: CARRY_COPIED,
-            header: b"p cnf 76 245\n",
-            vectors: VECTORS,
-            report: REPORT,
-        },
-        Simplified {
-            line: b"synth abs 0 1 ha.blif out",
-            text: HALF_ADDER,
-            netlist: HALF_ADDER,
-            header: b"p cnf 78 254\n",
-            vectors: b"00\n00\n10\n01\n11\n",
-            report: b"salsa 2\nmetric abs\nbound 0\nmaximum 0\nwitness 00\ntables 2 2\nliterals 6 6\nminimal yes\n",
-        },
-        Simplified {
-            line: b"synth ham 1 1 ha.blif out",
-            text: HALF_ADDER,
-            netlist: BOTH_CONSTANT,
-            header: b"p cnf 30 71\n",
-            vectors: VECTORS,
-            report: b"salsa 2\nmetric ham\nbound 1\nmaximum 1\nwitness 10\ntables 2 2\nliterals 6 0\nminimal yes\n",
-        },
-        Simplified {
-            line: b"synth rel 999999 1 ha.blif out",
-            text: HALF_ADDER,
-            netlist: b".model ha\n.inputs a b\n.outputs s c\n.names a b s\n1- 1\n-1 1\n.names c\n.end\n",
-            header: b"p cnf 2377 8828\n",
-            vectors: b"11\n00\n10\n01\n11\n",
-            report: b"salsa 2\nmetric rel\nbound 999999\nmaximum 500000\nwitness 11\ntables 2 2\nliterals 6 2\nminimal yes\n",
-        },
-        Simplified {
-            line: b"synth rel 1000000 1 ha.blif out",
-            text: HALF_ADDER,
-            netlist: BOTH_CONSTANT,
-            header: b"p cnf 2375 8822\n",
-            vectors: VECTORS,
-            report: b"salsa 2\nmetric rel\nbound 1000000\nmaximum 1000000\nwitness 10\ntables 2 2\nliterals 6 0\nminimal yes\n",
-        },
-        Simplified {
-            line: b"synth abs 0 1 ha.blif out",
-            text: b".model k\n.outputs y\n.names y\n1\n.end\n",
-            netlist: b".model k\n.inputs\n.outputs y\n.names y\n1\n.end\n",
-            header: b"p cnf 44 138\n",
-            vectors: b"\n\n",
-            report: b"salsa 2\nmetric abs\nbound 0\nmaximum 0\nwitness \ntables 1 1\nliterals 0 0\nminimal yes\n",
-        },
-        Simplified {
-            line: b"synth abs 0 1 ha.blif out",
-            text: b".model w\n.inputs a\n.outputs a\n.end\n",
-            netlist: b".model w\n.inputs a\n.outputs a\n.end\n",
-            header: b"p cnf 41 132\n",
-            vectors: b"0\n0\n1\n",
-            report: b"salsa 2\nmetric abs\nbound 0\nmaximum 0\nwitness 0\ntables 0 0\nliterals 0 0\nminimal yes\n",
-        },
-        Simplified {
-            line: b"synth abs 0 1 ha.blif out",
-            text: b".model m\n.inputs a b\n.outputs y z\n.names a b y\n00 0\n.names a b z\n1- 1\n-1 1\n.end\n",
-            netlist: b".model m\n.inputs a b\n.outputs y z\n.names z y\n1 1\n.names a b z\n1- 1\n-1 1\n.end\n",
-            header: b"p cnf 78 249\n",
-            vectors: b"00\n00\n10\n01\n11\n",
-            report: b"salsa 2\nmetric abs\nbound 0\nmaximum 0\nwitness 00\ntables 2 2\nliterals 4 3\nminimal yes\n",
-        },
-        Simplified {
-            line: b"synth abs 0 1 ha.blif out",
-            text: b".model t # note \\\r\n.inputs a \\\r\n b\r\n.outputs y\r\n.names a b y\r\n11 1\r\n.end\r\n",
-            netlist: b".model t\n.inputs a b\n.outputs y\n.names a b y\n11 1\n.end\n",
-            header: b"p cnf 46 142\n",
-            vectors: b"00\n00\n10\n01\n11\n",
-            report: b"salsa 2\nmetric abs\nbound 0\nmaximum 0\nwitness 00\ntables 1 1\nliterals 2 2\nminimal yes\n",
-        },
-    ];
-    for (place, row) in rows.iter().enumerate() {
+    for (place, row) in NETLISTS.iter().enumerate() {
         assert!(rt; is_simplified(&rt, row)?, "row {place}");
     }
     Ok(())
