@@ -1,9 +1,9 @@
 //! The files of the operating system. They tell the count of their faults, the name that is open and the read turns, and nothing
 //! else.
-ghost use Rattle.std.specs.Prelude.{◌≡◌, ◌<◌, ◌≤◌, true, [], None, length, take, IsErr, IfOk, OnErr};
+ghost use Rattle.std.specs.Prelude.{◌≡◌, ◌<◌, ◌≤◌, true, [], None, length, take, IsErr, IsSome, IfOk, OnOk, OnErr};
 ghost use Rattle.std.specs.Fs.{new_options, with_write, with_create, with_truncate};
 ghost use Rattle.std.specs.Io.KnownBytes.{Appends, Consumes, IsAtEnd};
-ghost use Rattle.outside_semantics.specs.Outside.{Gave, ReadFailed, Wrote, WriteFailed};
+ghost use Rattle.outside_semantics.specs.Outside.{Gave, ReadFailed, Wrote, WriteFailed, Opened, OpenFailed, Created, CreateFailed};
 ghost use Rattle.console.specs.Untold.{untold, WhereOpen};
 
 use crate::counted::{fault, read_some, write_some};
@@ -52,7 +52,15 @@ fn options_of_create() -> OpenOptions
 impl<R: rt::Files> Files for RealFiles<'_, R> {
     ghost told = { λ s. untold s.faults s.reads };
 
-    fn open_file(&mut self, name: &[u8]) -> Result<(), FileFault> {
+    fn open_file(&mut self, name: &[u8]) -> Result<(), FileFault>
+        ensures ok { OnOk result
+            (Opened (untold self.old.faults self.old.reads) (untold self.new.faults self.new.reads) name.now) }
+        ensures err { OnErr result
+            (OpenFailed (untold self.old.faults self.old.reads) (untold self.new.faults self.new.reads) name.now) }
+        ensures opens { OnOk result (IsSome self.new.reading) }
+        ensures closes { OnErr result (self.new.reading ≡ None) }
+        ensures apart { self.new.writing ≡ self.old.writing }
+    {
         self.reading = None;
         self.reads = self.reads.close();
         let Ok(path) = str::from_utf8(name) else {
@@ -75,6 +83,7 @@ impl<R: rt::Files> Files for RealFiles<'_, R> {
         ensures err { OnErr result
             (ReadFailed (untold self.old.faults self.old.reads) (untold self.new.faults self.new.reads)) }
         ensures closed { self.old.reading ≡ None → IsErr result }
+        ensures apart { self.new.writing ≡ self.old.writing }
         ensures bytes { IfOk result (λ n. WhereOpen self.old.reading self.new.reading
             (λ a b. Consumes (R.File.remaining a) (R.File.remaining b) (take n buffer.new))) }
         ensures end { IfOk result (λ n. n ≡ 0 → 0 < length buffer.new
@@ -90,7 +99,15 @@ impl<R: rt::Files> Files for RealFiles<'_, R> {
         }
     }
 
-    fn create(&mut self, name: &[u8]) -> Result<(), FileFault> {
+    fn create(&mut self, name: &[u8]) -> Result<(), FileFault>
+        ensures ok { OnOk result
+            (Created (untold self.old.faults self.old.reads) (untold self.new.faults self.new.reads) name.now) }
+        ensures err { OnErr result
+            (CreateFailed (untold self.old.faults self.old.reads) (untold self.new.faults self.new.reads) name.now) }
+        ensures opens { OnOk result (IsSome self.new.writing) }
+        ensures closes { OnErr result (self.new.writing ≡ None) }
+        ensures apart { self.new.reading ≡ self.old.reading }
+    {
         self.writing = None;
         let Ok(path) = str::from_utf8(name) else {
             return Err(fault(&mut self.faults));
@@ -112,6 +129,7 @@ impl<R: rt::Files> Files for RealFiles<'_, R> {
         ensures err { OnErr result
             (WriteFailed (untold self.old.faults self.old.reads) (untold self.new.faults self.new.reads) []) }
         ensures closed { self.old.writing ≡ None → IsErr result }
+        ensures apart { self.new.reading ≡ self.old.reading }
         ensures bytes { IfOk result (λ n. WhereOpen self.old.writing self.new.writing
             (λ a b. Appends (R.File.contents a) (R.File.contents b) (take n piece.now))) }
     {
