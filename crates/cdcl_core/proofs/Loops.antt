@@ -2,11 +2,8 @@
 use Rattle.std.specs.Prelude.{◌≡◌, ◌⊎◌, ℕ, ◌<◌, ◌≤◌, Bool, true, false, List, take, length, slice_index, ℤ, neg_ℤ, All}
 use Rattle.std.specs.List.{Contains}
 use Rattle.proof_semantics.specs.Clauses.{Clause}
-use Rattle.cdcl_core.specs.Settled.{IsSettled}
 use Rattle.cdcl_core.specs.Trail.{literal_at}
-use Rattle.cdcl_core.specs.Explained.{Holds, IsMarked}
-use Rattle.cdcl_core.specs.Placed.{TrailValue}
-use Rattle.cdcl_core.specs.Propagation.{IsExtended}
+use Rattle.cdcl_core.specs.Explained.{IsMarked}
 use Rattle.cdcl_core.specs.Analysis.{mark_at}
 
 -- a literal of D is false by an entry from s on

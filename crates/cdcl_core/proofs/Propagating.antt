@@ -1,10 +1,9 @@
 -- The steps of propagation.
 use Rattle.std.specs.Prelude.{ℤ, neg_ℤ, ◌⊎◌, All}
 use Rattle.std.specs.List.{Contains}
-use Rattle.std.proofs.Common.{◌≡◌, ℕ, Bool, true, false, ◌+◌, ◌<◌, ◌≤◌, Some, List, [], ◌∷◌, ◌++◌, take, drop, length, get_or, refl, ap, subst, sym, ◌∙◌, length-append, arith}
-use Rattle.std.proofs.lemmas.List.{take-append-le, take-append-drop, take_more, take_all, get_or_read}
+use Rattle.std.proofs.Common.{◌≡◌, ℕ, ◌<◌, ◌≤◌, Some, List, [], ◌∷◌, ◌++◌, take, drop, length, get_or, refl, ap, sym, ◌∙◌, length-append, arith}
+use Rattle.std.proofs.lemmas.List.{take-append-le, take-append-drop, get_or_read}
 use Rattle.std.proofs.Math.Seq.{take-length}
-use Rattle.std.proofs.lemmas.List.Elements.{All-push}
 use Rattle.proof_semantics.specs.Clauses.{Clause}
 use Rattle.proof_semantics.specs.Conflicts.{clause_at}
 use Rattle.cdcl_core.specs.Explained.{Holds}

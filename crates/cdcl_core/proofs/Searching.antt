@@ -22,6 +22,7 @@ use Rattle.cdcl_core.specs.Settled.{IsSettled, IsSettledAt, IsOpen}
 use Rattle.cdcl_core.specs.Trail.{IsConsistent}
 use Rattle.cdcl_core.specs.Explained.{Holds}
 use Rattle.cdcl_core.specs.Placed.{TrailValue}
+use Rattle.cdcl_core.specs.StepLog.{LogValue}
 use Rattle.cdcl_core.specs.Watches.{WatchesValue}
 use Rattle.cdcl_core.specs.Propagation.{IsExtended}
 use Rattle.cdcl_core.specs.Jump.{IsRunning, closed}
@@ -80,7 +81,7 @@ running-empty clauses variables = record {
 }
 
 pub search_started : (f : Formula) (merged : List LogItem) (s : Search) → AreClausesOf f.variables f.clauses → f.variables < 2 ^ 31 → IsDerivation f merged
-    → s.clauses ≡ clauses_with f.clauses merged → s.trail ≡ record { variables = f.variables; literals = []; reasons = []; starts = [] } → s.order ≡ f.variables → s.log ≡ merged
+    → s.clauses.list ≡ clauses_with f.clauses merged → s.trail ≡ record { variables = f.variables; literals = []; reasons = []; starts = [] } → s.order ≡ f.variables → s.log.items ≡ merged
     → IsSearch f merged 0 s
 search_started f merged s literals small h clauses trail order log = record {
   searching = rw (clauses, trail, order) (record {
@@ -114,37 +115,37 @@ begins_longer : (merged log : List LogItem) (s : StepValue) (n : ℕ) → length
     → take (length merged) (log ++ Add s ∷ []) ≡ merged
 begins_longer merged log s n count h = take-append-le (length merged) log (Add s ∷ []) (omega arith) ∙ h
 
-pub search_learned : (f : Formula) (merged : List LogItem) (k : ℕ) (old new : Search) → IsSearch f merged k old → IsSearching new.clauses new.trail new.order
+pub search_learned : (f : Formula) (merged : List LogItem) (k : ℕ) (old new : Search) → IsSearch f merged k old → IsSearching new.clauses.list new.trail new.order
     → new.trail.variables ≡ old.trail.variables → HasLearned old new → IsSearch f merged (k + 1) new
 search_learned f merged k old new h searching variables learned =
     let s : StepValue = learned.step in
     let new_clause = learned.is_new in
-    let next : IsNextStep f old.log s =
-    next_of f old.log old.clauses s h.chain.derivation h.clauses learned.id learned.few
+    let next : IsNextStep f old.log.items s =
+    next_of f old.log.items old.clauses.list s h.chain.derivation h.clauses learned.id learned.few
     (subst (λ n. All (IsLiteralOf n) s.literals) h.variables learned.literals) learned.derives in
     record {
       searching = searching;
       variables = variables ∙ h.variables;
-      clauses = learned.added ∙ ap (λ c. c ++ s.literals ∷ []) h.clauses ∙ sym (clauses_with-pushed f.clauses old.log s) ∙ ap (clauses_with f.clauses) (sym learned.logged);
-      begins = ap (take (length merged)) learned.logged ∙ begins_longer merged old.log s k h.chain.count h.begins;
+      clauses = learned.added ∙ ap (λ c. c ++ s.literals ∷ []) h.clauses ∙ sym (clauses_with-pushed f.clauses old.log.items s) ∙ ap (clauses_with f.clauses) (sym learned.logged);
+      begins = ap (take (length merged)) learned.logged ∙ begins_longer merged old.log.items s k h.chain.count h.begins;
       chain = subst (IsConflictChain f (length merged) (k + 1)) (sym learned.logged)
-          (conflict_law.next f (length merged) k old.log s h.chain next (rw h.clauses at new_clause));
+          (conflict_law.next f (length merged) k old.log.items s h.chain next (rw h.clauses at new_clause));
     }
 
-pub search_ended : (f : Formula) (merged : List LogItem) (limit k : ℕ) (s : Search) (after : List LogItem) → IsSearch f merged k s → k < limit → HasEnded s.clauses s.log after
+pub search_ended : (f : Formula) (merged : List LogItem) (limit k : ℕ) (s : Search) (after : List LogItem) → IsSearch f merged k s → k < limit → HasEnded s.clauses.list s.log.items after
     → IsRefutation f merged after limit
 search_ended f merged limit k s after h low ended =
     let step : StepValue = ended.step in
-    let next : IsNextStep f s.log step =
-    next_of f s.log s.clauses step h.chain.derivation h.clauses ended.id ended.few
+    let next : IsNextStep f s.log.items step =
+    next_of f s.log.items s.clauses.list step h.chain.derivation h.clauses ended.id ended.few
     (subst (All (IsLiteralOf f.variables)) (sym ended.empty) (All-nil (IsLiteralOf f.variables))) ended.derives in
     let count = h.chain.count in
-    let longer = length-append s.log (Add step ∷ []) in
+    let longer = length-append s.log.items (Add step ∷ []) in
     rw ended.logged (record {
-      begins = begins_longer merged s.log step k h.chain.count h.begins;
+      begins = begins_longer merged s.log.items step k h.chain.count h.begins;
       short = omega arith;
-      derivation = derivation_law.next f s.log step h.chain.derivation next;
-      refutes = derivation_law.refutes f s.log step h.chain.derivation next ended.empty;
+      derivation = derivation_law.next f s.log.items step h.chain.derivation next;
+      refutes = derivation_law.refutes f s.log.items step h.chain.derivation next ended.empty;
     })
 
 -- ---- what was learned
@@ -159,21 +160,21 @@ searching_learned clauses more t u order after start r h same a running added va
 }
 
 -- a step of equal parts
-pub step_of : (s : StepValue) (id : ℕ) (C D : Clause) (hints more : List ℕ) → s ≡ record { id = id; literals = C; hints = hints } → C ≡ D → hints ≡ more → s ≡ record { id = id; literals = D; hints = more }
-step_of s id C D hints more is same same_hints = cc
+pub step_of : (s : StepValue) (id n : ℕ) (C D : Clause) (hints : List ℕ) → s ≡ record { id = id; literals = C; hints = hints } → id ≡ n → C ≡ D → s ≡ record { id = n; literals = D; hints = hints }
+step_of s id n C D hints is same_id same = cc
 
-pub has_learned : (old new : Search) (start : ℕ) (r : Learned) (s : StepValue) → IsAnalysed old.clauses old.trail start r
-    → s ≡ record { id = length old.clauses + 1; literals = r.clause.items; hints = reverse r.hints.items } → length old.clauses < 2 ^ 59
-    → new.log ≡ old.log ++ Add s ∷ [] → new.clauses ≡ old.clauses ++ r.clause.items ∷ [] → HasLearned old new
+pub has_learned : (old new : Search) (start : ℕ) (r : Learned) (s : StepValue) → IsAnalysed old.clauses.list old.trail start r
+    → s ≡ record { id = length old.clauses.list + 1; literals = r.clause.items; hints = reverse r.hints.items } → length old.clauses.list < 2 ^ 59
+    → new.log.items ≡ old.log.items ++ Add s ∷ [] → new.clauses.list ≡ old.clauses.list ++ r.clause.items ∷ [] → HasLearned old new
 has_learned old new start r s a is few logged added = record {
   step = s;
   logged = logged;
-  added = added ∙ ap (λ (t : StepValue). old.clauses ++ t.literals ∷ []) (sym is);
+  added = added ∙ ap (λ (t : StepValue). old.clauses.list ++ t.literals ∷ []) (sym is);
   id = ap (λ t. t.id) is;
   few = few;
   literals = subst (λ (t : StepValue). All (IsLiteralOf old.trail.variables) t.literals) (sym is) a.literals;
-  derives = subst (Derives (held_of old.clauses)) (sym is) (a.derives (length old.clauses + 1));
-  is_new = subst (λ (t : StepValue). IsNew old.clauses t.literals) (sym is) a.new;
+  derives = subst (Derives (held_of old.clauses.list)) (sym is) (a.derives (length old.clauses.list + 1));
+  is_new = subst (λ (t : StepValue). IsNew old.clauses.list t.literals) (sym is) a.new;
 }
 
 pub has_ended : (clauses : List Clause) (before after : List LogItem) (hints : List ℕ) (s : StepValue) → IsRefuted clauses hints
@@ -188,7 +189,7 @@ has_ended clauses before after hints s r is few logged = record {
 }
 
 -- a search whose trail went on
-pub search_found : (f : Formula) (merged : List LogItem) (k : ℕ) (s : Search) (t : TrailValue) (w : WatchesValue) (order : ℕ) → IsSearch f merged k s → IsSearching s.clauses t order → order ≡ s.order
+pub search_found : (f : Formula) (merged : List LogItem) (k : ℕ) (s : Search) (t : TrailValue) (w : WatchesValue) (order : ℕ) → IsSearch f merged k s → IsSearching s.clauses.list t order → order ≡ s.order
     → IsSearch f merged k (record s { trail = t; watches = w; order = order })
 search_found f merged k s t w order h searching same = record {
   searching = searching;
@@ -198,7 +199,7 @@ search_found f merged k s t w order h searching same = record {
   chain = h.chain;
 }
 
-pub moved_none : (s : Search) → IsSearching s.clauses s.trail s.order → HasMoved s s
+pub moved_none : (s : Search) → IsSearching s.clauses.list s.trail s.order → HasMoved s s
 moved_none s h = record { searching = h; variables = refl; clauses = refl; log = refl }
 
 pub moved_again : (a b c : Search) → HasMoved a b → HasMoved b c → HasMoved a c
@@ -209,7 +210,7 @@ moved_again a b c one two = record {
   log = two.log ∙ one.log;
 }
 
-pub moved_found : (s : Search) (t : TrailValue) (w : WatchesValue) (order : ℕ) → IsSearching s.clauses s.trail s.order → IsSearching s.clauses t order → order ≡ s.order → HasMoved s (record s { trail = t; watches = w; order = order })
+pub moved_found : (s : Search) (t : TrailValue) (w : WatchesValue) (order : ℕ) → IsSearching s.clauses.list s.trail s.order → IsSearching s.clauses.list t order → order ≡ s.order → HasMoved s (record s { trail = t; watches = w; order = order })
 moved_found s t w order h searching same = record {
   searching = searching;
   variables = sym searching.variables ∙ same ∙ h.variables;
@@ -222,9 +223,9 @@ pub search_moved : (f : Formula) (merged : List LogItem) (k : ℕ) (old new : Se
 search_moved f merged k old new h m = record {
   searching = m.searching;
   variables = m.variables ∙ h.variables;
-  clauses = m.clauses ∙ h.clauses ∙ ap (clauses_with f.clauses) (sym m.log);
-  begins = ap (take (length merged)) m.log ∙ h.begins;
-  chain = subst (IsConflictChain f (length merged) k) (sym m.log) h.chain;
+  clauses = m.clauses ∙ h.clauses ∙ ap (λ (l : LogValue). clauses_with f.clauses l.items) (sym m.log);
+  begins = ap (λ (l : LogValue). take (length merged) l.items) m.log ∙ h.begins;
+  chain = subst (λ (l : LogValue). IsConflictChain f (length merged) k l.items) (sym m.log) h.chain;
 }
 
 pub searching_closed : (clauses : List Clause) (t u : TrailValue) (order after m : ℕ) → IsSearching clauses t order → after ≡ order → m < length t.starts → u ≡ closed t m → IsSearching clauses u after
@@ -293,17 +294,17 @@ clause_true t bits C c full v ok (inl h) =
     let here : literal_value a h.literal ≡ true = literal_true t bits h.literal c v (All-contains (IsLiteralOf t.variables) C h.literal ok h.inside) h.holds in
     list_any_at (literal_value a) C inside.0 h.literal inside.1 (subst (λ l. literal_value a l ≡ true) (sym inside.2) here)
 
-pub search_modelled : (f : Formula) (merged : List LogItem) (k : ℕ) (s : Search) (bits : List Bool) → IsSearch f merged k s → IsConsistent s.trail.literals → IsModelTrail s.clauses s.trail
+pub search_modelled : (f : Formula) (merged : List LogItem) (k : ℕ) (s : Search) (bits : List Bool) → IsSearch f merged k s → IsConsistent s.trail.literals → IsModelTrail s.clauses.list s.trail
     → AreValues s.trail bits → IsModel f bits
 search_modelled f merged k s bits h c m v =
     let t : TrailValue = s.trail in
     let a : ℕ → Bool = by_place (λ place. get_or bits place false) in
-    let all : All (λ C. clause_value a C ≡ true) s.clauses = λ j d within.
-    clause_true t bits (get_or s.clauses j d) c m.full v (h.searching.literals j d within) (m.settled j d within) in
+    let all : All (λ C. clause_value a C ≡ true) s.clauses.list = λ j d within.
+    clause_true t bits (get_or s.clauses.list j d) c m.full v (h.searching.literals j d within) (m.settled j d within) in
     record {
       width = v.width ∙ h.variables;
       satisfies = list_all-from_AllPass (clause_value a) f.clauses (λ j d within.
-          All-contains (λ C. clause_value a C ≡ true) s.clauses (get_or f.clauses j d) all
+          All-contains (λ C. clause_value a C ≡ true) s.clauses.list (get_or f.clauses j d) all
           (subst (λ cs. Contains cs (get_or f.clauses j d)) (sym h.clauses)
-          (Contains-append_left f.clauses (added_clauses s.log) (get_or f.clauses j d) (All-contains_itself f.clauses j d within))));
+          (Contains-append_left f.clauses (added_clauses s.log.items) (get_or f.clauses j d) (All-contains_itself f.clauses j d within))));
     }

@@ -1,9 +1,9 @@
 -- The watches of the clauses that a search begins with.
-use Rattle.std.specs.Prelude.{ℤ, pos, neg_ℤ, ◌⊎◌, All}
-use Rattle.std.proofs.Common.{◌≡◌, ℕ, zero, Bool, true, ◌+◌, ◌*◌, ◌<◌, ◌≤◌, Some, List, [], ◌∷◌, ◌++◌, take, length, get_or, refl, ap, subst, sym, ◌∙◌, inl, inr, length-append, arith}
+use Rattle.std.specs.Prelude.{ℤ, neg_ℤ, ◌⊎◌, All}
+use Rattle.std.proofs.Common.{◌≡◌, ℕ, Bool, true, ◌+◌, ◌*◌, ◌<◌, ◌≤◌, List, [], take, length, get_or, refl, ap, subst, sym, ◌∙◌, inl, inr, arith}
 use Rattle.std.specs.List.{Contains}
 use Rattle.std.proofs.lemmas.Bool.{cases_lt}
-use Rattle.std.proofs.lemmas.List.{take_more, take_all, get_or-replicate, get_or_past, get_or-take, length-take, length-replicate}
+use Rattle.std.proofs.lemmas.List.{take_more, take_all, get_or-replicate, get_or_past, length-replicate}
 use Rattle.std.proofs.lemmas.List.Elements.{All-nil, All-contains, Contains-get_or}
 use Rattle.proof_semantics.specs.Clauses.{Clause, IsLiteralOf, AreClausesOf}
 use Rattle.proof_semantics.specs.Conflicts.{clause_at}
@@ -14,8 +14,7 @@ use Rattle.cdcl_core.specs.Placed.{TrailValue}
 use Rattle.cdcl_core.specs.Propagation.{IsExtended}
 use Rattle.cdcl_core.specs.Watched.{index_of, IsBinary}
 use Rattle.cdcl_core.specs.Watches.{WatchesValue, list_at, no_watches, watches_with}
-use Rattle.cdcl_core.specs.Watching.{AreFree, IsKept, IsWatching}
-use Rattle.cdcl_core.specs.Visited.{IsOtherWatch, AreOthersFalse}
+use Rattle.cdcl_core.specs.Watching.{IsKept, IsWatching}
 use Rattle.cdcl_core.specs.Started.{IsStarting}
 use Rattle.cdcl_core.specs.declared.watches.Watch.{Watch}
 use Rattle.cdcl_core.specs.declared.watches.Pair.{Pair}

@@ -7,7 +7,7 @@ use Rattle.std.proofs.lemmas.List.{get_or_push, get_or_append_left, get_or_past,
 use Rattle.cdcl_core.specs.Settled.{IsOpen}
 use Rattle.cdcl_core.specs.Trail.{literal_at, IsConsistent}
 use Rattle.cdcl_core.specs.Explained.{Holds}
-use Rattle.cdcl_core.specs.Placed.{IsPlaced, AreTold, IsHeld, HasPlaces}
+use Rattle.cdcl_core.specs.Placed.{AreTold, IsHeld, HasPlaces}
 use Rattle.cdcl_core.specs.Watched.{index_of}
 use Rattle.cdcl_core.proofs.WatchLists.{index_injective}
 use Rattle.cdcl_core.proofs.Visiting.{holds_last}

@@ -1,6 +1,6 @@
 -- The steps of a visit.
-use Rattle.std.specs.Prelude.{ℤ, pos, neg_ℤ, ◌⊎◌, All}
-use Rattle.std.proofs.Common.{◌≡◌, ℕ, zero, true, false, ◌+◌, ◌<◌, Some, List, [], ◌∷◌, ◌++◌, length, get_or, set, refl, ap, subst, sym, ◌∙◌, inl, inr, length-append, arith}
+use Rattle.std.specs.Prelude.{ℤ, pos, neg_ℤ, ◌⊎◌}
+use Rattle.std.proofs.Common.{◌≡◌, ℕ, zero, true, false, ◌+◌, ◌<◌, Some, List, [], ◌∷◌, ◌++◌, length, set, refl, ap, subst, sym, ◌∙◌, inl, inr, length-append, arith}
 use Rattle.std.specs.List.{Contains, swap_remove}
 use Rattle.std.proofs.lemmas.List.{get_or_push, get_or_past, get_or_append_left, get_or-set_same, length-set}
 use Rattle.std.proofs.lemmas.Bool.{cases_lt}
@@ -11,8 +11,8 @@ use Rattle.cdcl_core.specs.Settled.{IsFalse}
 use Rattle.cdcl_core.specs.Trail.{literal_at, IsTrueBelow}
 use Rattle.cdcl_core.specs.Explained.{Holds}
 use Rattle.cdcl_core.specs.Placed.{TrailValue}
-use Rattle.cdcl_core.specs.Propagation.{IsExtended, IsConflict}
-use Rattle.cdcl_core.specs.Watched.{index_of, IsBinary}
+use Rattle.cdcl_core.specs.Propagation.{IsExtended}
+use Rattle.cdcl_core.specs.Watched.{index_of}
 use Rattle.cdcl_core.specs.Watches.{WatchesValue, list_at, watch_at, pair_at, lists_with, no_watch, no_pair}
 use Rattle.cdcl_core.specs.Watching.{IsOneOf, AreFree, HasWatcher, IsWatcher, IsHandling}
 use Rattle.cdcl_core.specs.Visited.{IsOtherWatch, AreOthersFalse, IsPartner, IsFollowed, IsVisited}

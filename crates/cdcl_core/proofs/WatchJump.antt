@@ -1,8 +1,7 @@
 -- The watches after a jump.
-use Rattle.std.specs.Prelude.{ℤ, pos, neg_ℤ, ◌⊎◌, All}
-use Rattle.std.proofs.Common.{◌≡◌, ℕ, zero, Bool, true, ◌+◌, ◌-◌, ◌<◌, ◌≤◌, Option, Some, None, List, [], ◌∷◌, ◌++◌, take, length, get_or, refl, ap, subst, sym, ◌∙◌, inl, inr, length-append, arith}
+use Rattle.std.specs.Prelude.{ℤ, pos, neg_ℤ, All}
+use Rattle.std.proofs.Common.{◌≡◌, ℕ, zero, Bool, true, ◌-◌, ◌<◌, ◌≤◌, Some, List, [], ◌∷◌, ◌++◌, take, length, get_or, ap, subst, sym, ◌∙◌, inl, inr, length-append, arith}
 use Rattle.std.specs.List.{Contains}
-use Rattle.std.proofs.Math.IntN.{neg_ℤ-neg_ℤ}
 use Rattle.std.proofs.lemmas.Bool.{cases_lt}
 use Rattle.std.proofs.lemmas.List.{take-append-le, length-take, get_or-take, get_or_push}
 use Rattle.std.proofs.Math.Seq.{take-length}
@@ -14,8 +13,8 @@ use Rattle.cdcl_core.specs.Explained.{Holds}
 use Rattle.cdcl_core.specs.Placed.{TrailValue, last_start}
 use Rattle.cdcl_core.specs.Watched.{index_of, IsBinary}
 use Rattle.cdcl_core.specs.Watches.{WatchesValue, watches_with}
-use Rattle.cdcl_core.specs.Watching.{AreFree, AreKept, AreKeptAt, IsWatchedBelow, IsWatching}
-use Rattle.cdcl_core.specs.Jump.{IsRunning, IsLastOther, HasLastAs, IsJumpPair, jumped, closed}
+use Rattle.cdcl_core.specs.Watching.{AreFree, AreKeptAt, IsWatchedBelow, IsWatching}
+use Rattle.cdcl_core.specs.Jump.{IsRunning, IsJumpPair, jumped, closed}
 use Rattle.cdcl_core.specs.declared.watches.Pair.{Pair}
 use Rattle.cdcl_core.proofs.Back.{open-below, true-same}
 use Rattle.cdcl_core.proofs.Trails.{kept-below}

@@ -1,11 +1,11 @@
 -- What each step of propagation keeps of the watches.
-use Rattle.std.specs.Prelude.{ℤ, neg_ℤ, ◌⊎◌, All}
-use Rattle.std.proofs.Common.{◌≡◌, ℕ, ◌+◌, ◌<◌, ◌≤◌, List, [], ◌∷◌, ◌++◌, length, get_or, set, refl, ap, subst, sym, ◌∙◌, inl, inr, length-append, arith}
+use Rattle.std.specs.Prelude.{ℤ, neg_ℤ, ◌⊎◌}
+use Rattle.std.proofs.Common.{◌≡◌, ℕ, ◌+◌, ◌<◌, ◌≤◌, List, [], ◌∷◌, ◌++◌, length, set, ap, subst, sym, ◌∙◌, inl, inr, arith}
 use Rattle.std.specs.List.{Contains, swap_remove}
 use Rattle.std.specs.Ordering.{int_eq}
 use Rattle.std.proofs.lemmas.Bool.{cases_lt, cases_Bool}
 use Rattle.std.proofs.lemmas.Bool.Decides.{eqb_tells, Decides-int_eq}
-use Rattle.std.proofs.lemmas.List.{get_or-set_same, get_or-set_other, get_or_past, length-set}
+use Rattle.std.proofs.lemmas.List.{get_or-set_same, get_or-set_other, length-set}
 use Rattle.std.proofs.lemmas.List.Elements.{All-weaker}
 use Rattle.std.proofs.Math.IntN.{neg_ℤ-neg_ℤ}
 use Rattle.proof_semantics.specs.Clauses.{Clause}
@@ -17,11 +17,11 @@ use Rattle.cdcl_core.specs.Placed.{TrailValue}
 use Rattle.cdcl_core.specs.Propagation.{IsExtended}
 use Rattle.cdcl_core.specs.Watched.{index_of}
 use Rattle.cdcl_core.specs.Watches.{WatchesValue, list_at, watch_at, pair_at, lists_with, no_watch, no_pair}
-use Rattle.cdcl_core.specs.Watching.{IsOneOf, AreFree, IsKept, AreKept, AreKeptAt, HasWatcher, IsWatcher, AreWatched, IsWatching, IsHandling}
+use Rattle.cdcl_core.specs.Watching.{IsOneOf, AreFree, AreKept, AreKeptAt, HasWatcher, IsWatcher, IsWatching, IsHandling}
 use Rattle.cdcl_core.specs.declared.watches.Watch.{Watch}
 use Rattle.cdcl_core.specs.declared.watches.Pair.{Pair}
-use Rattle.cdcl_core.proofs.WatchLists.{here, there, written, watcher_removed, watcher_changed, removed_was, removed_length}
-use Rattle.cdcl_core.proofs.Watching.{true_more, below_holds, holds_longer, watching_extended, longer_from, has_pushed, watchers_pushed}
+use Rattle.cdcl_core.proofs.WatchLists.{here, there, written, watcher_removed, watcher_changed, removed_was}
+use Rattle.cdcl_core.proofs.Watching.{true_more, holds_longer, watching_extended, longer_from, has_pushed, watchers_pushed}
 
 pub neg_injective : (a b : ℤ) → neg_ℤ a ≡ neg_ℤ b → a ≡ b
 neg_injective a b e = sym (neg_ℤ-neg_ℤ a) ∙ ap neg_ℤ e ∙ neg_ℤ-neg_ℤ b

@@ -1,13 +1,13 @@
 -- What is kept of the watches as the trail and the clauses change.
 use Rattle.std.specs.Prelude.{ℤ, pos, neg_ℤ, ◌⊎◌, All, int_lt}
-use Rattle.std.proofs.Common.{◌≡◌, ℕ, zero, suc, Bool, true, false, cond, ◌+◌, ◌*◌, ◌<◌, ◌≤◌, None, Some, List, [], ◌∷◌, ◌++◌, take, length, get_or, set, refl, ap, subst, sym, ◌∙◌, inl, inr, length-append, arith}
+use Rattle.std.proofs.Common.{◌≡◌, ℕ, zero, suc, Bool, true, false, cond, ◌+◌, ◌*◌, ◌<◌, ◌≤◌, None, List, [], ◌∷◌, ◌++◌, take, length, get_or, refl, ap, subst, sym, ◌∙◌, inl, inr, length-append, arith}
 use Rattle.std.specs.List.{Contains}
 use Rattle.std.specs.Ordering.{int_eq}
 use Rattle.std.proofs.lemmas.Bool.{cases_lt, cases_Bool}
 use Rattle.std.proofs.lemmas.Bool.Decides.{Decides-int_eq}
-use Rattle.std.proofs.lemmas.List.{get_or-take, get_or_append_left, get_or_push, length-take, length-set, take-append-le, get_or_default}
+use Rattle.std.proofs.lemmas.List.{get_or_append_left, get_or_push, length-set, take-append-le, get_or_default}
 use Rattle.std.proofs.Math.Seq.{take-length}
-use Rattle.std.proofs.lemmas.List.Elements.{All-push, All-take, All-weaker, All-contains}
+use Rattle.std.proofs.lemmas.List.Elements.{All-push, All-weaker, All-contains}
 use Rattle.proof_semantics.specs.Clauses.{Clause, IsLiteralOf}
 use Rattle.proof_semantics.specs.Conflicts.{clause_at}
 use Rattle.cdcl_core.specs.Settled.{HasTrue, IsSettled, IsSettledAt}

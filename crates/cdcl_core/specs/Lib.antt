@@ -5,8 +5,10 @@ pub mod Trail
 pub mod Explained
 pub mod Placed
 pub mod Region
+pub mod StepLog
 pub mod Watched
 pub mod Watches
+pub mod WatchRoom
 pub mod Watching
 pub mod Propagation
 pub mod Visited

@@ -1,5 +1,5 @@
 -- Clauses in one region: each has the span in which its literals lie. Source: the clause arena of Chaff and MiniSat.
-use Rattle.std.specs.Prelude.{ℕ, ◌<◌, ◌≤◌, ◌^◌, List, length, map, slice_range, ℤ, All}
+use Rattle.std.specs.Prelude.{ℕ, ◌-◌, ◌<◌, ◌≤◌, ◌^◌, min, List, length, map, slice_range, ℤ, All}
 use Rattle.proof_semantics.specs.Clauses.{Clause}
 use Rattle.cdcl_core.specs.declared.clause_list.Span.{Span}
 
@@ -19,3 +19,18 @@ pub record IsRegion (spans : List Span) (region : List ℤ) : Type 0 where
   pub spans_within : All (IsSpan (length region)) spans
   pub small : length region < 2 ^ 32
   pub few : length spans < 2 ^ 32
+
+-- a list of clauses, with room for so many literals more, and for so many clauses more
+pub record ClausesValue : Type 0 where
+  pub list : List Clause
+  pub literal_room : ℕ
+  pub clause_room : ℕ
+
+-- how many items more there is room for, where half a word holds their number
+abbrev pub places_left : ℕ → ℕ → ℕ
+places_left capacity items = min capacity 4294967295 - items
+
+-- room for one clause more, of so many literals
+pub record HasPlace (literals : ℕ) (c : ClausesValue) : Type 0 where
+  pub for_literals : literals ≤ c.literal_room
+  pub for_clause : 0 < c.clause_room

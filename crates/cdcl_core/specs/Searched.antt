@@ -29,9 +29,9 @@ pub record IsModelTrail (clauses : List Clause) (t : TrailValue) : Type 0 where
 
 -- the trail went on or back, and nothing was learned
 pub record HasMoved (old new : Search) : Type 0 where
-  pub searching : IsSearching new.clauses new.trail new.order
+  pub searching : IsSearching new.clauses.list new.trail new.order
   pub variables : new.trail.variables ≡ old.trail.variables
-  pub clauses : new.clauses ≡ old.clauses
+  pub clauses : new.clauses.list ≡ old.clauses.list
   pub log : new.log ≡ old.log
 
 -- the step of the sweep is over, or a clause is false
@@ -45,11 +45,11 @@ Begins merged log = take (length merged) log ≡ merged
 
 -- the search over a formula after so many conflicts
 pub record IsSearch (f : Formula) (merged : List LogItem) (conflicts : ℕ) (s : Search) : Type 0 where
-  pub searching : IsSearching s.clauses s.trail s.order
+  pub searching : IsSearching s.clauses.list s.trail s.order
   pub variables : s.trail.variables ≡ f.variables
-  pub clauses : s.clauses ≡ clauses_with f.clauses s.log
-  pub begins : Begins merged s.log
-  pub chain : IsConflictChain f (length merged) conflicts s.log
+  pub clauses : s.clauses.list ≡ clauses_with f.clauses s.log.items
+  pub begins : Begins merged s.log.items
+  pub chain : IsConflictChain f (length merged) conflicts s.log.items
 
 -- the log ends with the empty clause, which derives from the clauses
 pub record HasEnded (clauses : List Clause) (before after : List LogItem) : Type 0 where
@@ -63,10 +63,17 @@ pub record HasEnded (clauses : List Clause) (before after : List LogItem) : Type
 -- a clause that is new and derives was logged and added
 pub record HasLearned (old new : Search) : Type 0 where
   pub step : StepValue
-  pub logged : new.log ≡ old.log ++ Add step ∷ []
-  pub added : new.clauses ≡ old.clauses ++ step.literals ∷ []
-  pub id : step.id ≡ length old.clauses + 1
-  pub few : length old.clauses < 2 ^ 59
+  pub logged : new.log.items ≡ old.log.items ++ Add step ∷ []
+  pub added : new.clauses.list ≡ old.clauses.list ++ step.literals ∷ []
+  pub id : step.id ≡ length old.clauses.list + 1
+  pub few : length old.clauses.list < 2 ^ 59
   pub literals : All (IsLiteralOf old.trail.variables) step.literals
-  pub derives : Derives (held_of old.clauses) step
-  pub is_new : IsNew old.clauses step.literals
+  pub derives : Derives (held_of old.clauses.list) step
+  pub is_new : IsNew old.clauses.list step.literals
+
+-- nothing is different but for memory, what the analysis marked, and the order
+pub record IsUnchanged (old new : Search) : Type 0 where
+  pub clauses : new.clauses.list ≡ old.clauses.list
+  pub trail : new.trail ≡ old.trail
+  pub watches : new.watches ≡ old.watches
+  pub log : new.log.items ≡ old.log.items

@@ -11,18 +11,18 @@ use Rattle.cdcl_core.specs.declared.turns.Turn.TheVariants.{Further, Refuted, Fu
 
 -- a search that goes on can take the next turn
 abbrev pub IsReady : Search → Turn → Type 0
-IsReady s Further = IsSearching s.clauses s.trail s.order × IsWatching s.clauses s.trail s.watches
+IsReady s Further = IsSearching s.clauses.list s.trail s.order × IsWatching s.clauses.list s.trail s.watches
 IsReady s Refuted = Unit {0}
 IsReady s Full = Unit {0}
 
 -- after k conflicts and a turn
 abbrev pub IsTurn : Formula → List LogItem → ℕ → Search → Turn → Type 0
 IsTurn f merged k s Further = IsSearch f merged (k + 1) s
-IsTurn f merged k s Refuted = (limit : ℕ) → k < limit → IsRefutation f merged s.log limit
-IsTurn f merged k s Full = IsSearch f merged k s × IsModelTrail s.clauses s.trail
+IsTurn f merged k s Refuted = (limit : ℕ) → k < limit → IsRefutation f merged s.log.items limit
+IsTurn f merged k s Full = IsSearch f merged k s × IsModelTrail s.clauses.list s.trail
 
 -- after at most so many turns
 abbrev pub IsEnd : Formula → List LogItem → ℕ → Search → Turn → Type 0
 IsEnd f merged limit s Further = IsSearch f merged limit s
-IsEnd f merged limit s Refuted = IsRefutation f merged s.log limit
-IsEnd f merged limit s Full = (k : ℕ) × (IsSearch f merged k s × IsModelTrail s.clauses s.trail)
+IsEnd f merged limit s Refuted = IsRefutation f merged s.log.items limit
+IsEnd f merged limit s Full = (k : ℕ) × (IsSearch f merged k s × IsModelTrail s.clauses.list s.trail)

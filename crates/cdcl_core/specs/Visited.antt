@@ -1,5 +1,5 @@
 -- What a visit of a watcher does.
-use Rattle.std.specs.Prelude.{◌≡◌, ◌⊎◌, ℕ, suc, ◌+◌, ◌<◌, Option, Some, None, [], ◌∷◌, ◌++◌, length, ℤ, neg_ℤ, List, All}
+use Rattle.std.specs.Prelude.{◌≡◌, ◌⊎◌, ℕ, ◌+◌, Option, Some, None, [], ◌∷◌, ◌++◌, length, ℤ, neg_ℤ, List, All}
 use Rattle.std.specs.List.{Contains}
 use Rattle.proof_semantics.specs.Clauses.{Clause}
 use Rattle.cdcl_core.specs.Settled.{IsSettled}

@@ -18,6 +18,7 @@ ghost use Rattle.cdcl_core.specs.Placed.{last_start};
 ghost use Rattle.cdcl_core.specs.Propagation.{IsConflict};
 ghost use Rattle.cdcl_core.specs.Analysis.{IsMarkedFrom, IsOneFrom, IsShortened};
 ghost use Rattle.cdcl_core.specs.Analysed.{IsAnalysed, HasRoom};
+ghost use Rattle.cdcl_core.specs.Region.{HasPlace};
 ghost use Rattle.cdcl_core.specs.Jump.{IsRunning};
 
 use crate::clause_list::{ClauseList, id_of};
@@ -50,15 +51,19 @@ impl Learned {
     }
 }
 
-/// Takes the memory for the analysis of a conflict where there are so many entries. No entry is marked then.
+/// Takes the memory for the analysis of a conflict where there are so many entries, and for the place of the learned clause among the
+/// clauses. No entry is marked then.
 pub fn make_room(
     entries: usize,
+    clauses: &mut ClauseList,
     order: &mut Order,
     marks: &mut Marks,
     learned: &mut Learned,
 ) -> Result<(), AllocError>
     requires { entries < 2 ^ 32 }
     ensures room { OnOk result (HasRoom entries marks.new (vec_capacity learned.new.clause) (vec_capacity learned.new.hints)) }
+    ensures place { OnOk result (HasPlace (length marks.new) clauses.new) }
+    ensures clauses { clauses.new.list ≡ clauses.old.list }
     ensures order { order.new ≡ order.old }
 {
     order.make_room(entries)?;
@@ -66,7 +71,8 @@ pub fn make_room(
     learned.clause.clear();
     learned.clause.reserve(marks.len())?;
     learned.hints.clear();
-    learned.hints.reserve(entries + 1)
+    learned.hints.reserve(entries + 1)?;
+    clauses.reserve(marks.len())
 }
 
 /// Resolves marked entries from the last on until one is left from `start` on, and answers its place.
@@ -79,11 +85,11 @@ fn reach_one(
 ) -> usize
     requires marks { length trail.now.literals ≤ length marks.old }
     requires room { vec_len hints.old + length trail.now.literals ≤ vec_capacity hints.old }
-    requires trail { IsTrail clauses.now trail.now.literals trail.now.reasons trail.now.starts }
+    requires trail { IsTrail clauses.now.list trail.now.literals trail.now.reasons trail.now.starts }
     requires last { All (λ s. s ≤ start) trail.now.starts }
     requires some { IsMarkedFrom marks.old start (length trail.now.literals) }
-    requires explained { IsExplained clauses.now trail.now.literals marks.old (reverse hints.old.items) }
-    ensures explained { IsExplained clauses.now trail.now.literals marks.new (reverse hints.new.items) }
+    requires explained { IsExplained clauses.now.list trail.now.literals marks.old (reverse hints.old.items) }
+    ensures explained { IsExplained clauses.now.list trail.now.literals marks.new (reverse hints.new.items) }
     ensures one { IsOneFrom trail.now.literals marks.new start result }
     ensures same { length marks.new ≡ length marks.old }
     ensures room { vec_len hints.new + start ≤ vec_capacity hints.new }
@@ -147,8 +153,8 @@ fn redundant(
 ) -> Option<usize>
     requires marks { length trail.now.literals ≤ length marks.now }
     requires place { place < length trail.now.literals }
-    requires trail { IsTrail clauses.now trail.now.literals trail.now.reasons trail.now.starts }
-    ensures { IfSome result (IsReason clauses.now trail.now.literals place) }
+    requires trail { IsTrail clauses.now.list trail.now.literals trail.now.reasons trail.now.starts }
+    ensures { IfSome result (IsReason clauses.now.list trail.now.literals place) }
 {
     let reason = trail.reason(place)?;
     let clause = clauses.get(reason);
@@ -171,9 +177,9 @@ fn shorten_at(
     requires marks { length trail.now.literals ≤ length marks.old }
     requires room { vec_len hints.old < vec_capacity hints.old }
     requires place { place < length trail.now.literals }
-    requires trail { IsTrail clauses.now trail.now.literals trail.now.reasons trail.now.starts }
-    requires explained { IsExplained clauses.now trail.now.literals marks.old (reverse hints.old.items) }
-    ensures explained { IsExplained clauses.now trail.now.literals marks.new (reverse hints.new.items) }
+    requires trail { IsTrail clauses.now.list trail.now.literals trail.now.reasons trail.now.starts }
+    requires explained { IsExplained clauses.now.list trail.now.literals marks.old (reverse hints.old.items) }
+    ensures explained { IsExplained clauses.now.list trail.now.literals marks.new (reverse hints.new.items) }
     ensures shortened { IsShortened marks.old marks.new (place + 1) }
     ensures one { vec_len hints.new ≤ vec_len hints.old + 1 }
     ensures room { vec_capacity hints.new ≡ vec_capacity hints.old }
@@ -199,9 +205,9 @@ fn shorten(
     requires room { vec_len hints.old + start ≤ vec_capacity hints.old }
     requires first { first ≤ start }
     requires start { start ≤ length trail.now.literals }
-    requires trail { IsTrail clauses.now trail.now.literals trail.now.reasons trail.now.starts }
-    requires explained { IsExplained clauses.now trail.now.literals marks.old (reverse hints.old.items) }
-    ensures explained { IsExplained clauses.now trail.now.literals marks.new (reverse hints.new.items) }
+    requires trail { IsTrail clauses.now.list trail.now.literals trail.now.reasons trail.now.starts }
+    requires explained { IsExplained clauses.now.list trail.now.literals marks.old (reverse hints.old.items) }
+    ensures explained { IsExplained clauses.now.list trail.now.literals marks.new (reverse hints.new.items) }
     ensures shortened { IsShortened marks.old marks.new start }
     ensures room { vec_len hints.new + first ≤ vec_capacity hints.new }
 {
@@ -230,9 +236,9 @@ fn resolve_base(
     requires marks { length trail.now.literals ≤ length marks.old }
     requires room { vec_len hints.old + first ≤ vec_capacity hints.old }
     requires first { first ≤ length trail.now.literals }
-    requires trail { IsTrail clauses.now trail.now.literals trail.now.reasons trail.now.starts }
-    requires explained { IsExplained clauses.now trail.now.literals marks.old (reverse hints.old.items) }
-    ensures explained { IsExplained clauses.now trail.now.literals marks.new (reverse hints.new.items) }
+    requires trail { IsTrail clauses.now.list trail.now.literals trail.now.reasons trail.now.starts }
+    requires explained { IsExplained clauses.now.list trail.now.literals marks.old (reverse hints.old.items) }
+    ensures explained { IsExplained clauses.now.list trail.now.literals marks.new (reverse hints.new.items) }
     ensures shortened { IsShortened marks.old marks.new first }
 {
     let mut top = first;
@@ -284,11 +290,12 @@ pub fn learn(
     conflict: usize,
 )
     requires room { HasRoom (length trail.now.literals) marks.old (vec_capacity learned.old.clause) (vec_capacity learned.old.hints) }
-    requires running { IsRunning clauses.now trail.now }
+    requires running { IsRunning clauses.now.list trail.now }
     requires levels { 0 < length trail.now.starts }
-    requires conflict { IsConflict clauses.now trail.now conflict }
-    requires literals { AreClausesOf trail.now.variables clauses.now }
-    ensures { IsAnalysed clauses.now trail.now (last_start trail.now) learned.new }
+    requires conflict { IsConflict clauses.now.list trail.now conflict }
+    requires literals { AreClausesOf trail.now.variables clauses.now.list }
+    ensures analysed { IsAnalysed clauses.now.list trail.now (last_start trail.now) learned.new }
+    ensures few { vec_len learned.new.clause ≤ length marks.old }
 {
     trail.consistent();
     let start = trail.start(trail.levels() - 1);

@@ -50,7 +50,7 @@ pub fn written(alloc: Global, clause: &[Literal]) -> Result<Lits, AllocError>
 
 /// Adds a copy of the clause.
 fn push_copy(alloc: Global, clauses: &mut ClauseList, lits: &Lits) -> Result<(), AllocError>
-    ensures { OnOk result (clauses.new ≡ clauses.old ++ lits.now ∷ []) }
+    ensures { OnOk result (clauses.new.list ≡ clauses.old.list ++ lits.now ∷ []) }
 {
     let clause = read_clause(alloc, lits.as_slice())?;
     clauses.push(clause.as_slice())?;
@@ -59,7 +59,7 @@ fn push_copy(alloc: Global, clauses: &mut ClauseList, lits: &Lits) -> Result<(),
 
 /// Adds copies of these clauses.
 pub fn push_all(alloc: Global, clauses: &mut ClauseList, more: &[Lits]) -> Result<(), AllocError>
-    ensures { OnOk result (clauses.new ≡ clauses.old ++ more.now) }
+    ensures { OnOk result (clauses.new.list ≡ clauses.old.list ++ more.now) }
 {
     for lits in more {
         push_copy(alloc, clauses, lits)?;
@@ -69,7 +69,7 @@ pub fn push_all(alloc: Global, clauses: &mut ClauseList, more: &[Lits]) -> Resul
 
 /// Adds copies of the clauses that the items of a log add.
 pub fn push_added(alloc: Global, clauses: &mut ClauseList, items: &[Item]) -> Result<(), AllocError>
-    ensures { OnOk result (clauses.new ≡ clauses.old ++ added_clauses items.now) }
+    ensures { OnOk result (clauses.new.list ≡ clauses.old.list ++ added_clauses items.now) }
 {
     for item in items {
         match item {

@@ -3,6 +3,7 @@
 //! clause goes by its place in the list, from 0, and a log speaks of it by the number after its place. Source: the clause arena of
 //! Chaff and MiniSat.
 ghost use Rattle.std.specs.Prelude.{◌≡◌, ◌<◌, ◌^◌, suc, [], ◌∷◌, ◌++◌, length, slice_index_or, OnOk, OnErr};
+ghost use Rattle.cdcl_core.specs.Region.{HasPlace};
 
 use crate::literal::Literal;
 use std::alloc::{AllocError, Global};
@@ -26,12 +27,16 @@ pub struct ClauseList {
 }
 
 impl Model for ClauseList {
-    ghost use Rattle.std.specs.Prelude.{List, ℤ};
-    ghost use Rattle.cdcl_core.specs.Region.{clauses_in, IsRegion};
+    ghost use Rattle.std.specs.Prelude.{length, vec_capacity};
+    ghost use Rattle.cdcl_core.specs.Region.{ClausesValue, clauses_in, places_left, IsRegion};
 
-    ghost Value = { List (List ℤ) };
+    ghost Value = { ClausesValue };
 
-    ghost view = { λ c. clauses_in c.spans.items c.region.items };
+    ghost view = { λ c. record {
+      list = clauses_in c.spans.items c.region.items;
+      literal_room = places_left (vec_capacity c.region) (length c.region.items);
+      clause_room = places_left (vec_capacity c.spans) (length c.spans.items);
+    } };
 
     ghost invariant = { λ c. IsRegion c.spans.items c.region.items };
 }
@@ -39,7 +44,7 @@ impl Model for ClauseList {
 impl ClauseList {
     /// The empty list, which takes no memory.
     pub fn new(alloc: Global) -> ClauseList
-        ensures { result ≡ [] }
+        ensures { result.list ≡ [] }
     {
         ClauseList {
             region: Vec::new(alloc),
@@ -48,51 +53,70 @@ impl ClauseList {
     }
 
     pub fn len(&self) -> usize
-        ensures { result ≡ length self.now }
+        ensures { result ≡ length self.now.list }
     {
         self.spans.len()
     }
 
     /// The clause at place `i`, from 0.
     pub fn get(&self, i: usize) -> &[Literal]
-        requires { i < length self.now }
-        ensures { result.now ≡ slice_index_or self.now i result.now }
+        requires { i < length self.now.list }
+        ensures { result.now ≡ slice_index_or self.now.list i result.now }
     {
         let Span { start, end } = self.spans[i];
         &self.region[start as usize..end as usize]
     }
 
-    /// Adds a clause at the end. Where it answers an error, for want of memory or of places that half a word can hold, the list stays as
-    /// it was.
-    pub fn push(&mut self, clause: &[Literal]) -> Result<(), AllocError>
-        ensures ok { OnOk result (self.new ≡ self.old ++ clause.now ∷ []) }
-        ensures err { OnErr result (self.new ≡ self.old) }
+    /// Makes room for a clause of so many literals. It answers an error for want of memory, or of places that half a word can hold.
+    pub fn reserve(&mut self, literals: usize) -> Result<(), AllocError>
+        ensures list { self.new.list ≡ self.old.list }
+        ensures room { OnOk result (HasPlace literals self.new) }
     {
-        let start = self.region.len();
-        if clause.len() > MOST - start || self.spans.len() >= MOST {
+        if literals > MOST - self.region.len() || self.spans.len() >= MOST {
             return Err(AllocError);
         }
         self.spans.reserve(1)?;
-        self.region.extend_from_slice(clause)?;
-        self.spans.push(Span {
+        self.region.reserve(literals)
+    }
+
+    /// Adds a clause at the end, where there is room for it. It takes no memory.
+    pub fn push_reserved(&mut self, clause: &[Literal])
+        requires { HasPlace (length clause.now) self.old }
+        ensures { self.new.list ≡ self.old.list ++ clause.now ∷ [] }
+    {
+        let start = self.region.len();
+        match self.region.extend_from_slice(clause) {
+            Ok(()) => {}
+            Err(_) => unreachable!(),
+        }
+        self.spans.push_reserved(Span {
             start: start as u32,
             end: (start + clause.len()) as u32,
-        })?;
+        });
+    }
+
+    /// Adds a clause at the end. Where it answers an error, as `reserve` does, the list stays as it was.
+    pub fn push(&mut self, clause: &[Literal]) -> Result<(), AllocError>
+        ensures ok { OnOk result (self.new.list ≡ self.old.list ++ clause.now ∷ []) }
+        ensures err { OnErr result (self.new.list ≡ self.old.list) }
+    {
+        self.reserve(clause.len())?;
+        self.push_reserved(clause);
         Ok(())
     }
 }
 
 /// How many clauses there are.
 pub fn count(clauses: &ClauseList) -> u64
-    ensures value { result ≡ length clauses.now }
-    ensures few { length clauses.now < 2 ^ 59 }
+    ensures value { result ≡ length clauses.now.list }
+    ensures few { length clauses.now.list < 2 ^ 59 }
 {
     clauses.spans.len() as u64
 }
 
 /// What a log calls the clause at a place.
 pub fn id_of(clauses: &ClauseList, place: usize) -> u64
-    requires { place < length clauses.now }
+    requires { place < length clauses.now.list }
     ensures { result ≡ suc place }
 {
     let _places = clauses.len();

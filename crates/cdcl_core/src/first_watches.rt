@@ -23,11 +23,11 @@ fn watch_clause(
     clauses: &ClauseList,
     place: usize,
 ) -> Result<bool, AllocError>
-    requires literals { AreClausesOf trail.old.variables clauses.now }
-    requires place { place < length clauses.now }
-    requires starting { IsStarting clauses.now place trail.old watches.old }
-    ensures started { IfOk result (IsStarted clauses.now place trail.new watches.new) }
-    ensures extended { OnOk result (IsExtended clauses.now trail.old trail.new) }
+    requires literals { AreClausesOf trail.old.variables clauses.now.list }
+    requires place { place < length clauses.now.list }
+    requires starting { IsStarting clauses.now.list place trail.old watches.old }
+    ensures started { IfOk result (IsStarted clauses.now.list place trail.new watches.new) }
+    ensures extended { OnOk result (IsExtended clauses.now.list trail.old trail.new) }
 {
     let clause = clauses.get(place);
     if clause.len() == 0 {
@@ -56,12 +56,12 @@ pub fn watch_all(
     watches: &mut Watches,
     clauses: &ClauseList,
 ) -> Result<Option<usize>, AllocError>
-    requires literals { AreClausesOf trail.old.variables clauses.now }
+    requires literals { AreClausesOf trail.old.variables clauses.now.list }
     requires starts { trail.old.starts ≡ [] }
     requires watches { watches.old ≡ no_watches trail.old.variables }
-    ensures extended { OnOk result (IsExtended clauses.now trail.old trail.new) }
+    ensures extended { OnOk result (IsExtended clauses.now.list trail.old trail.new) }
     ensures found { IfOk result (λ found. MatchOption found
-        (IsWatching clauses.now trail.new watches.new) (IsConflict clauses.now trail.new)) }
+        (IsWatching clauses.now.list trail.new watches.new) (IsConflict clauses.now.list trail.new)) }
 {
     for place in 0..clauses.len() {
         if !watch_clause(trail, watches, clauses, place)? {

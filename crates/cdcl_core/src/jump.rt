@@ -3,11 +3,12 @@
 //! The search goes back to the greatest level among the other literals of the learned clause, where they are all false and its
 //! literal of the conflict's level follows. No level between is worth keeping: there the clause would force that literal
 //! already. Source: the jump of GRASP and Chaff.
-ghost use Rattle.std.specs.Prelude.{◌≡◌, ◌⊎◌, ◌<◌, [], ◌∷◌, ◌++◌, length, neg_ℤ, All, OnOk};
+ghost use Rattle.std.specs.Prelude.{◌≡◌, ◌⊎◌, ◌<◌, [], ◌∷◌, ◌++◌, length, neg_ℤ, All, OnOk, OnErr};
 ghost use Rattle.proof_semantics.specs.Clauses.{IsLiteralOf};
 ghost use Rattle.cdcl_core.specs.Trail.{literal_at, IsTrueBelow, IsLearned, AreLevels};
 ghost use Rattle.cdcl_core.specs.Watching.{IsWatching, IsWatchedBelow};
 ghost use Rattle.cdcl_core.specs.Placed.{last_start};
+ghost use Rattle.cdcl_core.specs.Region.{HasPlace};
 ghost use Rattle.cdcl_core.specs.Searched.{IsSearching, HasMoved};
 ghost use Rattle.cdcl_core.specs.Jump.{IsRunning, IsJump, IsJumpPair, IsLastOther, later_of};
 
@@ -83,8 +84,8 @@ fn open_from(order: &mut Order, trail: &Trail, from: usize)
     }
 }
 
-/// Adds a learned clause, whose literal of the last level stands at `place`; closes the levels that none of its other literals
-/// has; and adds the literal that follows.
+/// Adds a learned clause, whose literal of the last level stands at `place` and for which there is room; closes the levels that none of its
+/// other literals has; and adds the literal that follows. Its watches alone take memory, before anything changes.
 pub fn jump(
     trail: &mut Trail,
     watches: &mut Watches,
@@ -93,26 +94,28 @@ pub fn jump(
     clause: &[Literal],
     place: usize,
 ) -> Result<(), AllocError>
-    requires running { IsRunning clauses.old trail.old }
-    requires watched { IsWatchedBelow clauses.old trail.old watches.old }
+    requires running { IsRunning clauses.old.list trail.old }
+    requires watched { IsWatchedBelow clauses.old.list trail.old watches.old }
     requires order { order.old ≡ trail.old.variables }
     requires levels { 0 < length trail.old.starts }
     requires literals { All (IsLiteralOf trail.old.variables) clause.now }
+    requires room { HasPlace (length clause.now) clauses.old }
     requires learned { IsLearned trail.old.literals (last_start trail.old) clause.now
         (neg_ℤ (literal_at trail.old.literals place)) place }
-    ensures running { OnOk result (IsRunning clauses.new trail.new) }
-    ensures watching { OnOk result (IsWatching clauses.new trail.new watches.new) }
-    ensures added { OnOk result (clauses.new ≡ clauses.old ++ clause.now ∷ []) }
+    ensures running { OnOk result (IsRunning clauses.new.list trail.new) }
+    ensures watching { OnOk result (IsWatching clauses.new.list trail.new watches.new) }
+    ensures added { OnOk result (clauses.new.list ≡ clauses.old.list ++ clause.now ∷ []) }
     ensures variables { OnOk result (trail.new.variables ≡ trail.old.variables) }
     ensures order { order.new ≡ order.old }
+    ensures err { OnErr result ((clauses.new ≡ clauses.old) × (trail.new ≡ trail.old) × (watches.new ≡ watches.old)) }
 {
     trail.consistent();
     let own = trail.literal(place).negated();
     let Target { level, other } = jump_target(trail, clause, own);
     let reason = clauses.len();
-    clauses.push(clause)?;
     let binary = is_binary(clause, own, other);
     watches.add(own, other, binary)?;
+    clauses.push_reserved(clause);
     let start = trail.start(level);
     open_from(order, trail, start);
     watches.set_handled(start);
@@ -123,10 +126,10 @@ pub fn jump(
 
 /// Closes every level, where that is due: the search goes back to its start.
 pub fn close_levels(search: &mut Search, due: bool)
-    requires searching { IsSearching search.old.clauses search.old.trail search.old.order }
-    requires watching { IsWatching search.old.clauses search.old.trail search.old.watches }
+    requires searching { IsSearching search.old.clauses.list search.old.trail search.old.order }
+    requires watching { IsWatching search.old.clauses.list search.old.trail search.old.watches }
     ensures moved { HasMoved search.old search.new }
-    ensures watching { IsWatching search.new.clauses search.new.trail search.new.watches }
+    ensures watching { IsWatching search.new.clauses.list search.new.trail search.new.watches }
 {
     if !due {
         return;

@@ -23,6 +23,7 @@ mod resolution;
 mod ring;
 mod search;
 pub mod solve;
+mod step_log;
 mod sweep;
 mod trail;
 mod turns;

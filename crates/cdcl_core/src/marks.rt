@@ -209,6 +209,7 @@ impl Marks {
         requires marks { length trail.now.literals ≤ length self.now }
         requires room { length self.now ≤ vec_capacity clause.old }
         ensures clause { IsClauseOf trail.now.literals self.now clause.new.items }
+        ensures few { vec_len clause.new ≤ length self.now }
         ensures room { vec_capacity clause.new ≡ vec_capacity clause.old }
     {
         clause.clear();

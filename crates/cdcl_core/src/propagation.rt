@@ -20,10 +20,10 @@ fn handle(
     clauses: &ClauseList,
     x: Literal,
 ) -> Result<Option<usize>, AllocError>
-    requires handling { IsHandling clauses.now trail.old watches.old x 0 }
+    requires handling { IsHandling clauses.now.list trail.old watches.old x 0 }
     requires literal { IsLiteralOf trail.old.variables x }
-    ensures found { IfOk result (IsHandled clauses.now trail.new watches.new) }
-    ensures extended { OnOk result (IsExtended clauses.now trail.old trail.new) }
+    ensures found { IfOk result (IsHandled clauses.now.list trail.new watches.new) }
+    ensures extended { OnOk result (IsExtended clauses.now.list trail.old trail.new) }
     ensures handled { OnOk result (watches.new.handled ≡ watches.old.handled) }
 {
     let mut at = 0;
@@ -45,9 +45,9 @@ pub fn propagate(
     watches: &mut Watches,
     clauses: &ClauseList,
 ) -> Result<Option<usize>, AllocError>
-    requires { IsWatching clauses.now trail.old watches.old }
-    ensures extended { OnOk result (IsExtended clauses.now trail.old trail.new) }
-    ensures complete { IfOk result (IsComplete clauses.now trail.new watches.new) }
+    requires { IsWatching clauses.now.list trail.old watches.old }
+    ensures extended { OnOk result (IsExtended clauses.now.list trail.old trail.new) }
+    ensures complete { IfOk result (IsComplete clauses.now.list trail.new watches.new) }
 {
     'entries: while watches.handled() < trail.len() {
         trail.consistent();

@@ -18,9 +18,9 @@ use crate::trail::Trail;
 fn resolve_all(trail: &Trail, clauses: &ClauseList, marks: &mut Marks, hints: &mut Vec<u64>)
     requires marks { length trail.now.literals ≤ length marks.old }
     requires room { vec_len hints.old + length trail.now.literals ≤ vec_capacity hints.old }
-    requires trail { IsTrail clauses.now trail.now.literals trail.now.reasons [] }
-    requires explained { IsExplained clauses.now trail.now.literals marks.old (reverse hints.old.items) }
-    ensures explained { IsExplained clauses.now trail.now.literals marks.new (reverse hints.new.items) }
+    requires trail { IsTrail clauses.now.list trail.now.literals trail.now.reasons [] }
+    requires explained { IsExplained clauses.now.list trail.now.literals marks.old (reverse hints.old.items) }
+    ensures explained { IsExplained clauses.now.list trail.now.literals marks.new (reverse hints.new.items) }
     ensures none { (p : ℕ) → p < length trail.now.literals → mark_at marks.new p ≡ false }
 {
     let mut top = trail.len();
@@ -43,10 +43,10 @@ pub fn refute(
     learned: &mut Learned,
     conflict: usize,
 )
-    requires trail { IsTrail clauses.now trail.now.literals trail.now.reasons [] }
-    requires conflict { IsConflict clauses.now trail.now conflict }
+    requires trail { IsTrail clauses.now.list trail.now.literals trail.now.reasons [] }
+    requires conflict { IsConflict clauses.now.list trail.now conflict }
     requires room { HasRoom (length trail.now.literals) marks.old (vec_capacity learned.old.clause) (vec_capacity learned.old.hints) }
-    ensures { IsRefuted clauses.now (reverse learned.new.hints.items) }
+    ensures { IsRefuted clauses.now.list (reverse learned.new.hints.items) }
 {
     mark_conflict(trail, clauses, marks, conflict);
     learned.hints.clear();

@@ -28,9 +28,9 @@ fn mark_others(trail: &Trail, marks: &mut Marks, clause: &[Literal], own: Litera
 /// Marks the entries that make the conflict's clause false.
 pub fn mark_conflict(trail: &Trail, clauses: &ClauseList, marks: &mut Marks, conflict: usize)
     requires marks { length trail.now.literals ≤ length marks.old }
-    requires conflict { IsConflict clauses.now trail.now conflict }
-    ensures explained { IsExplained clauses.now trail.now.literals marks.new (suc conflict ∷ []) }
-    ensures reaches { (start : ℕ) → IsSettled (IsTrueBelow trail.now.literals start) clauses.now
+    requires conflict { IsConflict clauses.now.list trail.now conflict }
+    ensures explained { IsExplained clauses.now.list trail.now.literals marks.new (suc conflict ∷ []) }
+    ensures reaches { (start : ℕ) → IsSettled (IsTrueBelow trail.now.literals start) clauses.now.list
         → IsMarkedFrom marks.new start (length trail.now.literals) }
     ensures same { length marks.new ≡ length marks.old }
 {
@@ -54,10 +54,10 @@ pub fn resolve(
 )
     requires marks { length trail.now.literals ≤ length marks.old }
     requires entry { entry < length trail.now.literals }
-    requires reason { IsReason clauses.now trail.now.literals entry reason }
+    requires reason { IsReason clauses.now.list trail.now.literals entry reason }
     requires room { vec_len hints.old < vec_capacity hints.old }
-    ensures explained { IsExplained clauses.now trail.now.literals marks.old (reverse hints.old.items)
-        → IsExplained clauses.now trail.now.literals marks.new (reverse hints.new.items) }
+    ensures explained { IsExplained clauses.now.list trail.now.literals marks.old (reverse hints.old.items)
+        → IsExplained clauses.now.list trail.now.literals marks.new (reverse hints.new.items) }
     ensures same { length marks.new ≡ length marks.old }
     ensures kept { (p : ℕ) → p ≢ entry → mark_at marks.old p ≡ true → mark_at marks.new p ≡ true }
     ensures below { (p : ℕ) → entry ≤ p → mark_at marks.new p ≡ true → (p ≢ entry) × (mark_at marks.old p ≡ true) }

@@ -18,6 +18,7 @@ use crate::log_copy::log_copy;
 use crate::marks::Marks;
 use crate::order::Order;
 use crate::propagation::propagate;
+use crate::step_log::StepLog;
 use crate::trail::Trail;
 use crate::watches::Watches;
 use proof_parts::cnf::Cnf;
@@ -32,14 +33,14 @@ pub struct Search {
     pub trail: Trail,
     pub watches: Watches,
     pub order: Order,
-    pub log: Log,
+    pub log: StepLog,
     pub marks: Marks,
     pub learned: Learned,
 }
 
 /// The clauses of the formula, and those that the log adds.
 fn all_clauses(alloc: Global, cnf: &Cnf, log: &Log) -> Result<ClauseList, AllocError>
-    ensures { IfOk result (λ clauses. clauses ≡ clauses_with cnf.now.clauses log.now) }
+    ensures { IfOk result (λ clauses. clauses.list ≡ clauses_with cnf.now.clauses log.now) }
 {
     let mut clauses = ClauseList::new(alloc);
     push_all(alloc, &mut clauses, cnf.clauses().as_slice())?;
@@ -59,7 +60,7 @@ pub fn start(alloc: Global, cnf: &Cnf, merged: &Log, signals: u32) -> Result<Sea
     let trail = Trail::new(alloc, variables)?;
     let watches = Watches::new(alloc, variables)?;
     let order = Order::new(alloc, variables, signals)?;
-    let log = log_copy(alloc, merged.as_slice())?;
+    let log = StepLog::new(alloc, log_copy(alloc, merged.as_slice())?);
     let marks = Marks::new(alloc);
     let learned = Learned::none(alloc);
     Ok(Search {
@@ -82,12 +83,12 @@ pub fn next_conflict(
     order: &mut Order,
     inputs: u32,
 ) -> Result<Option<usize>, AllocError>
-    requires searching { IsSearching clauses.now trail.old order.old }
-    requires watching { IsWatching clauses.now trail.old watches.old }
-    ensures searching { IfOk result (λ _. IsSearching clauses.now trail.new order.new) }
-    ensures watched { IfOk result (λ _. IsWatchedBelow clauses.now trail.new watches.new) }
+    requires searching { IsSearching clauses.now.list trail.old order.old }
+    requires watching { IsWatching clauses.now.list trail.old watches.old }
+    ensures searching { IfOk result (λ _. IsSearching clauses.now.list trail.new order.new) }
+    ensures watched { IfOk result (λ _. IsWatchedBelow clauses.now.list trail.new watches.new) }
     ensures found { IfOk result (λ found. MatchOption found
-        (IsModelTrail clauses.now trail.new) (IsConflict clauses.now trail.new)) }
+        (IsModelTrail clauses.now.list trail.new) (IsConflict clauses.now.list trail.new)) }
     ensures order { order.new ≡ order.old }
 {
     loop {

@@ -53,8 +53,8 @@ fn take_turns<P: Progress>(
     limit: u64,
     progress: &mut P,
 ) -> Result<Turn, AllocError>
-    requires searching { IsSearching search.old.clauses search.old.trail search.old.order }
-    requires watching { IsWatching search.old.clauses search.old.trail search.old.watches }
+    requires searching { IsSearching search.old.clauses.list search.old.trail search.old.order }
+    requires watching { IsWatching search.old.clauses.list search.old.trail search.old.watches }
     ensures variables { OnOk result (search.new.trail.variables ≡ search.old.trail.variables) }
     ensures shown { IfOk result (λ end. (f : Formula) (merged : List LogItem) → IsSearch f merged 0 search.old
         → IsEnd f merged limit search.new end) }
@@ -78,7 +78,7 @@ fn search_from<P: Progress>(
     progress: &mut P,
 ) -> Result<Turn, AllocError>
     requires limit { 1 ≤ limit }
-    requires searching { IsSearching search.old.clauses search.old.trail search.old.order }
+    requires searching { IsSearching search.old.clauses.list search.old.trail search.old.order }
     requires starts { search.old.trail.starts ≡ [] }
     requires watches { search.old.watches ≡ no_watches search.old.trail.variables }
     ensures variables { OnOk result (search.new.trail.variables ≡ search.old.trail.variables) }
@@ -102,8 +102,8 @@ fn answer(alloc: Global, search: Search, end: Turn) -> Result<Answer, AllocError
         → IsAnswer f merged limit answer) }
 {
     match end {
-        Turn::Further => Ok(Answer::Spent(search.log)),
-        Turn::Refuted => Ok(Answer::Refuted(search.log)),
+        Turn::Further => Ok(Answer::Spent(search.log.into_log(alloc)?)),
+        Turn::Refuted => Ok(Answer::Refuted(search.log.into_log(alloc)?)),
         Turn::Full => Ok(Answer::Model(values(alloc, &search.trail)?)),
     }
 }

@@ -40,10 +40,10 @@ fn step_conflict(
     sweep: &Sweep,
     guide: &Guide,
 ) -> Result<Option<usize>, AllocError>
-    requires searching { IsSearching clauses.now trail.old order.now }
-    requires watching { IsWatching clauses.now trail.old watches.old }
-    ensures searching { IfOk result (λ _. IsSearching clauses.now trail.new order.now) }
-    ensures found { IfOk result (IsSwept clauses.now trail.new watches.new) }
+    requires searching { IsSearching clauses.now.list trail.old order.now }
+    requires watching { IsWatching clauses.now.list trail.old watches.old }
+    ensures searching { IfOk result (λ _. IsSearching clauses.now.list trail.new order.now) }
+    ensures found { IfOk result (IsSwept clauses.now.list trail.new watches.new) }
 {
     loop {
         trail.consistent();
@@ -63,10 +63,10 @@ fn swept_conflict(
     sweep: &mut Sweep,
     guide: &Guide,
 ) -> Result<Option<usize>, AllocError>
-    requires searching { IsSearching search.old.clauses search.old.trail search.old.order }
-    requires watching { IsWatching search.old.clauses search.old.trail search.old.watches }
+    requires searching { IsSearching search.old.clauses.list search.old.trail search.old.order }
+    requires watching { IsWatching search.old.clauses.list search.old.trail search.old.watches }
     ensures moved { OnOk result (HasMoved search.old search.new) }
-    ensures found { IfOk result (IsSwept search.new.clauses search.new.trail search.new.watches) }
+    ensures found { IfOk result (IsSwept search.new.clauses.list search.new.trail search.new.watches) }
 {
     for _step in 0..sweep.steps(guide) {
         if !sweep.is_on(guide) {
@@ -97,13 +97,13 @@ fn find_conflict(
     guide: &Guide,
     inputs: u32,
 ) -> Result<Option<usize>, AllocError>
-    requires searching { IsSearching search.old.clauses search.old.trail search.old.order }
-    requires watching { IsWatching search.old.clauses search.old.trail search.old.watches }
+    requires searching { IsSearching search.old.clauses.list search.old.trail search.old.order }
+    requires watching { IsWatching search.old.clauses.list search.old.trail search.old.watches }
     ensures moved { OnOk result (HasMoved search.old search.new) }
-    ensures searching { OnOk result (IsSearching search.new.clauses search.new.trail search.new.order) }
-    ensures watched { OnOk result (IsWatchedBelow search.new.clauses search.new.trail search.new.watches) }
+    ensures searching { OnOk result (IsSearching search.new.clauses.list search.new.trail search.new.order) }
+    ensures watched { OnOk result (IsWatchedBelow search.new.clauses.list search.new.trail search.new.watches) }
     ensures found { IfOk result (λ found. MatchOption found
-        (IsModelTrail search.new.clauses search.new.trail) (IsConflict search.new.clauses search.new.trail)) }
+        (IsModelTrail search.new.clauses.list search.new.trail) (IsConflict search.new.clauses.list search.new.trail)) }
 {
     let swept = swept_conflict(search, sweep, guide)?;
     if let Some(conflict) = swept {
@@ -142,10 +142,10 @@ fn follow(
     guide: &Guide,
     levels: u64,
 ) -> Result<(), AllocError>
-    requires searching { IsSearching search.old.clauses search.old.trail search.old.order }
-    requires watching { IsWatching search.old.clauses search.old.trail search.old.watches }
+    requires searching { IsSearching search.old.clauses.list search.old.trail search.old.order }
+    requires watching { IsWatching search.old.clauses.list search.old.trail search.old.watches }
     ensures moved { OnOk result (HasMoved search.old search.new) }
-    ensures watching { OnOk result (IsWatching search.new.clauses search.new.trail search.new.watches) }
+    ensures watching { OnOk result (IsWatching search.new.clauses.list search.new.trail search.new.watches) }
 {
     let due = is_back_due(sweep, pace, guide, levels)?;
     close_levels(search, due);
@@ -160,8 +160,8 @@ pub fn take_turn(
     pace: &mut Pace,
     guide: &Guide,
 ) -> Result<Turn, AllocError>
-    requires searching { IsSearching search.old.clauses search.old.trail search.old.order }
-    requires watching { IsWatching search.old.clauses search.old.trail search.old.watches }
+    requires searching { IsSearching search.old.clauses.list search.old.trail search.old.order }
+    requires watching { IsWatching search.old.clauses.list search.old.trail search.old.watches }
     ensures ready { IfOk result (IsReady search.new) }
     ensures variables { OnOk result (search.new.trail.variables ≡ search.old.trail.variables) }
     ensures shown { IfOk result (λ turn. (f : Formula) (merged : List LogItem) (k : ℕ) → IsSearch f merged k search.old

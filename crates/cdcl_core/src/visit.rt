@@ -90,12 +90,12 @@ fn visit_clause(
     clause: usize,
     first: Literal,
 ) -> Result<Visit, AllocError>
-    requires handling { IsHandling clauses.now trail.old watches.old x at }
+    requires handling { IsHandling clauses.now.list trail.old watches.old x at }
     requires at { at < length (list_at watches.old.lists x) }
     requires clause { (watch_at (list_at watches.old.lists x) at).clause ≡ clause }
     requires first { IsPartner (pair_at watches.old.pairs clause) x first }
-    ensures visited { IfOk result (IsVisited clauses.now trail.new watches.old watches.new x at) }
-    ensures extended { OnOk result (IsExtended clauses.now trail.old trail.new) }
+    ensures visited { IfOk result (IsVisited clauses.now.list trail.new watches.old watches.new x at) }
+    ensures extended { OnOk result (IsExtended clauses.now.list trail.old trail.new) }
     ensures handled { OnOk result (watches.new.handled ≡ watches.old.handled) }
 {
     if first.is(x) {
@@ -133,10 +133,10 @@ pub fn visit_watcher(
     x: Literal,
     at: usize,
 ) -> Result<Visit, AllocError>
-    requires handling { IsHandling clauses.now trail.old watches.old x at }
+    requires handling { IsHandling clauses.now.list trail.old watches.old x at }
     requires at { at < length (list_at watches.old.lists x) }
-    ensures visited { IfOk result (IsVisited clauses.now trail.new watches.old watches.new x at) }
-    ensures extended { OnOk result (IsExtended clauses.now trail.old trail.new) }
+    ensures visited { IfOk result (IsVisited clauses.now.list trail.new watches.old watches.new x at) }
+    ensures extended { OnOk result (IsExtended clauses.now.list trail.old trail.new) }
     ensures handled { OnOk result (watches.new.handled ≡ watches.old.handled) }
 {
     let watch = watches.get(x, at);

@@ -3,10 +3,11 @@
 //!
 //! The literals of a clause keep their places, since the log speaks of them; so the two that are watched stand beside the clause.
 //! A watcher may be stale: its clause watches the literal no more. A visit takes it out. Source: Chaff; the blockers are MiniSat's.
-ghost use Rattle.std.specs.Prelude.{◌≡◌, ◌<◌, ◌^◌, [], length, map, replicate, slice_set, IfOk, OnOk};
+ghost use Rattle.std.specs.Prelude.{◌≡◌, ℕ, ◌<◌, ◌^◌, [], ◌∷◌, ◌++◌, length, map, replicate, slice_index_or, slice_set, IfOk, OnOk, OnErr};
 ghost use Rattle.std.specs.List.{swap_remove};
 ghost use Rattle.cdcl_core.specs.Watched.{index_of};
 ghost use Rattle.cdcl_core.specs.Watches.{list_at, watch_at, pair_at, lists_with, watches_with, no_watches};
+ghost use Rattle.cdcl_core.specs.WatchRoom.{HasRoomAt};
 
 use crate::literal::Literal;
 use std::alloc::{AllocError, Global};
@@ -53,6 +54,27 @@ fn no_watchers(alloc: Global, lists: usize) -> Result<Vec<Vec<Watch>>, AllocErro
         made.push(Vec::new(alloc))?;
     }
     Ok(made)
+}
+
+/// Makes room for two watchers more in a list.
+fn make_room(lists: &mut Vec<Vec<Watch>>, at: usize) -> Result<(), AllocError>
+    requires { at < length lists.old.items }
+    ensures items { map (λ v. v.items) lists.new.items ≡ map (λ v. v.items) lists.old.items }
+    ensures room { OnOk result (HasRoomAt lists.new.items 2 at) }
+    ensures kept { (k : ℕ) → HasRoomAt lists.old.items 2 k → HasRoomAt lists.new.items 2 k }
+{
+    lists[at].reserve(2)
+}
+
+/// One watcher more in a list that has room for it.
+fn push_reserved(lists: &mut Vec<Vec<Watch>>, at: usize, watch: Watch)
+    requires within { at < length lists.old.items }
+    requires room { HasRoomAt lists.old.items 1 at }
+    ensures items { map (λ v. v.items) lists.new.items
+        ≡ slice_set (map (λ v. v.items) lists.old.items) at (slice_index_or (map (λ v. v.items) lists.old.items) at [] ++ watch ∷ []) }
+    ensures kept { (k : ℕ) → HasRoomAt lists.old.items 2 k → HasRoomAt lists.new.items 1 k }
+{
+    lists[at].push_reserved(watch);
 }
 
 impl Watches {
@@ -132,30 +154,30 @@ impl Watches {
         self.pairs[clause] = pair;
     }
 
-    /// The next clause watches these two; `binary`: it has no others.
+    /// The next clause watches these two; `binary`: it has no others. The memory is taken before anything changes.
     pub fn add(&mut self, one: Literal, other: Literal, binary: bool) -> Result<(), AllocError>
         requires one { index_of one < length self.old.lists }
         requires other { index_of other < length self.old.lists }
-        ensures { OnOk result (self.new ≡ watches_with self.old one other binary) }
+        ensures ok { OnOk result (self.new ≡ watches_with self.old one other binary) }
+        ensures err { OnErr result (self.new ≡ self.old) }
     {
+        make_room(&mut self.lists, one.index())?;
+        make_room(&mut self.lists, other.index())?;
+        self.pairs.reserve(1)?;
         let clause = self.pairs.len();
-        self.push(
-            one,
-            Watch {
-                clause,
-                blocker: other,
-                binary,
-            },
-        )?;
-        self.push(
-            other,
-            Watch {
-                clause,
-                blocker: one,
-                binary,
-            },
-        )?;
-        self.pairs.push(Pair { one, other })?;
+        let watch = Watch {
+            clause,
+            blocker: other,
+            binary,
+        };
+        push_reserved(&mut self.lists, one.index(), watch);
+        let watch = Watch {
+            clause,
+            blocker: one,
+            binary,
+        };
+        push_reserved(&mut self.lists, other.index(), watch);
+        self.pairs.push_reserved(Pair { one, other });
         Ok(())
     }
 

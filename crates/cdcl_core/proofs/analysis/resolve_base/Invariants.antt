@@ -7,7 +7,7 @@ abbrev pub invariant-down : goal.invariant-down
 invariant-down l = record {
   low : l.top ≤ l.first;
   shortened : IsShortened l.fn.marks l.marks l.first;
-  explained : IsExplained l.clauses l.trail.literals l.marks (reverse l.hints.items);
+  explained : IsExplained l.clauses.list l.trail.literals l.marks (reverse l.hints.items);
   room : vec_len l.hints + l.top ≤ vec_capacity l.hints;
 }
 

@@ -6,7 +6,7 @@ use Rattle.cdcl_core.proofs.analysis.shorten.Given as goal
 abbrev pub invariant-down : goal.invariant-down
 invariant-down l = record {
   shortened : IsShortened l.fn.marks l.marks l.start;
-  explained : IsExplained l.clauses l.trail.literals l.marks (reverse l.hints.items);
+  explained : IsExplained l.clauses.list l.trail.literals l.marks (reverse l.hints.items);
   low : l.first ≤ l.top;
   high : l.top ≤ l.start;
   room : vec_len l.hints + l.top ≤ vec_capacity l.hints;

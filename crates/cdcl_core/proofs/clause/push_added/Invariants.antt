@@ -4,4 +4,4 @@ use Rattle.cdcl_core.proofs.clause.push_added.Given as goal
 
 -- with the clauses of the items that are left, all are there
 abbrev pub invariant-loop-item : goal.invariant-loop-item
-invariant-loop-item l = l.clauses ++ added_clauses (drop l.item-index l.items) ≡ l.initial.clauses ++ added_clauses l.items
+invariant-loop-item l = l.clauses.list ++ added_clauses (drop l.item-index l.items) ≡ l.initial.clauses.list ++ added_clauses l.items

@@ -4,6 +4,6 @@ use Rattle.cdcl_core.proofs.first_watches.watch_all.Given as goal
 
 abbrev pub invariant-loop-place : goal.invariant-loop-place
 invariant-loop-place l = record {
-  starting : IsStarting l.clauses l.place l.trail l.watches;
-  extended : IsExtended l.clauses l.initial.trail l.trail;
+  starting : IsStarting l.clauses.list l.place l.trail l.watches;
+  extended : IsExtended l.clauses.list l.initial.trail l.trail;
 }

@@ -1,5 +1,5 @@
-use Rattle.std.proofs.Common.{length, arith}
-use Rattle.cdcl_core.proofs.Touching.{touched_next, touched_none}
+use Rattle.std.proofs.Common.{arith}
+use Rattle.cdcl_core.proofs.Touching.{touched_none}
 use Rattle.cdcl_core.proofs.marks.unset_places.Goals as goal
 
 pub returns-clause-none : goal.returns-clause-none

@@ -8,7 +8,7 @@ invariant-down l = record {
   same_length : length l.marks ≡ length l.fn.marks;
   within : l.top ≤ length l.trail.literals;
   none : (p : ℕ) → l.top ≤ p → p < length l.trail.literals → mark_at l.marks p ≡ false;
-  explained : IsExplained l.clauses l.trail.literals l.marks (reverse l.hints.items);
+  explained : IsExplained l.clauses.list l.trail.literals l.marks (reverse l.hints.items);
   room : vec_len l.hints + l.top ≤ vec_capacity l.hints;
 }
 

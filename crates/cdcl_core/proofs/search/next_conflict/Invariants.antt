@@ -5,8 +5,8 @@ use Rattle.cdcl_core.proofs.search.next_conflict.Given as goal
 
 abbrev pub invariant-loop-conflict : goal.invariant-loop-conflict
 invariant-loop-conflict l = record {
-  searching : IsSearching l.clauses l.trail l.order;
-  watching : IsWatching l.clauses l.trail l.watches;
+  searching : IsSearching l.clauses.list l.trail l.order;
+  watching : IsWatching l.clauses.list l.trail l.watches;
   order : l.order ≡ l.fn.order;
 }
 

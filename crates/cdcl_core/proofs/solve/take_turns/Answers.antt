@@ -1,6 +1,5 @@
-use Rattle.std.proofs.Common.{◌≡◌, ◌∙◌, ◌+◌, ◌<◌, ◌≤◌, subst, arith}
-use Rattle.cdcl_core.specs.Searched.{IsSearch, IsSearching}
-use Rattle.cdcl_core.specs.Watching.{IsWatching}
+use Rattle.std.proofs.Common.{◌≡◌, ◌∙◌, subst, arith}
+use Rattle.cdcl_core.specs.Searched.{IsSearch}
 use Rattle.cdcl_core.specs.Turned.{IsReady, IsTurn}
 use Rattle.cdcl_core.specs.declared.turns.Turn.TheVariants.{Further}
 use Rattle.cdcl_core.proofs.solve.take_turns.Goals as goal

@@ -8,18 +8,18 @@ returns-in-Some-clause-searching c = c.in_ok-swept.ensures.moved.searching
 
 pub returns-in-Some-clause-watched : goal.returns-in-Some-clause-watched
 returns-in-Some-clause-watched c =
-    (subst (IsSwept c.swept_conflict.new.search.clauses c.swept_conflict.new.search.trail c.swept_conflict.new.search.watches) c.in-Some.is c.in_ok-swept.ensures.found).0
+    (subst (IsSwept c.swept_conflict.new.search.clauses.list c.swept_conflict.new.search.trail c.swept_conflict.new.search.watches) c.in-Some.is c.in_ok-swept.ensures.found).0
 
 pub returns-in-Some-clause-found : goal.returns-in-Some-clause-found
 returns-in-Some-clause-found c =
-    (subst (IsSwept c.swept_conflict.new.search.clauses c.swept_conflict.new.search.trail c.swept_conflict.new.search.watches) c.in-Some.is c.in_ok-swept.ensures.found).1
+    (subst (IsSwept c.swept_conflict.new.search.clauses.list c.swept_conflict.new.search.trail c.swept_conflict.new.search.watches) c.in-Some.is c.in_ok-swept.ensures.found).1
 
 pub next_conflict-requires-clause-searching : goal.next_conflict-requires-clause-searching
 next_conflict-requires-clause-searching c = c.in_ok-swept.ensures.moved.searching
 
 pub next_conflict-requires-clause-watching : goal.next_conflict-requires-clause-watching
 next_conflict-requires-clause-watching c =
-    subst (IsSwept c.swept_conflict.new.search.clauses c.swept_conflict.new.search.trail c.swept_conflict.new.search.watches) c.in_default.is c.in_ok-swept.ensures.found
+    subst (IsSwept c.swept_conflict.new.search.clauses.list c.swept_conflict.new.search.trail c.swept_conflict.new.search.watches) c.in_default.is c.in_ok-swept.ensures.found
 
 pub returns-clause-moved : goal.returns-clause-moved
 returns-clause-moved c =

@@ -23,14 +23,14 @@ returns-in-Some-clause-moved c =
 
 pub returns-in-Some-clause-found : goal.returns-in-Some-clause-found
 returns-in-Some-clause-found c =
-    subst (IsSwept c.loop-step.search.clauses c.step_conflict.new.trail c.step_conflict.new.watches) c.in-Some.is c.in_ok-found.ensures.found
+    subst (IsSwept c.loop-step.search.clauses.list c.step_conflict.new.trail c.step_conflict.new.watches) c.in-Some.is c.in_ok-found.ensures.found
 
 pub close_levels-requires-clause-searching : goal.close_levels-requires-clause-searching
 close_levels-requires-clause-searching c = c.in_ok-found.ensures.searching
 
 pub close_levels-requires-clause-watching : goal.close_levels-requires-clause-watching
 close_levels-requires-clause-watching c =
-    subst (IsSwept c.loop-step.search.clauses c.step_conflict.new.trail c.step_conflict.new.watches) c.in_default.is c.in_ok-found.ensures.found
+    subst (IsSwept c.loop-step.search.clauses.list c.step_conflict.new.trail c.step_conflict.new.watches) c.in_default.is c.in_ok-found.ensures.found
 
 pub step_conflict-requires-clause-searching : goal.step_conflict-requires-clause-searching
 step_conflict-requires-clause-searching c = c.loop-step.invariant.moved.searching

@@ -5,5 +5,5 @@ use Rattle.cdcl_core.proofs.turns.swept_conflict.Given as goal
 abbrev pub invariant-loop-step : goal.invariant-loop-step
 invariant-loop-step l = record {
   moved : HasMoved l.fn.search l.search;
-  watching : IsWatching l.search.clauses l.search.trail l.search.watches;
+  watching : IsWatching l.search.clauses.list l.search.trail l.search.watches;
 }

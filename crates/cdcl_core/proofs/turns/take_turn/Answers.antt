@@ -15,10 +15,10 @@ returns-clause-shown c f merged k h =
 pub returns-in_default-clause-shown : goal.returns-in_default-clause-shown
 returns-in_default-clause-shown c f merged k h = (
   search_moved f merged k c.args.search.now c.find_conflict.new.search h c.in_ok-found.ensures.moved,
-  subst (λ found. MatchOption found (IsModelTrail c.find_conflict.new.search.clauses c.find_conflict.new.search.trail) (IsConflict c.find_conflict.new.search.clauses c.find_conflict.new.search.trail)) c.in_default.is c.in_ok-found.ensures.found,
+  subst (λ found. MatchOption found (IsModelTrail c.find_conflict.new.search.clauses.list c.find_conflict.new.search.trail) (IsConflict c.find_conflict.new.search.clauses.list c.find_conflict.new.search.trail)) c.in_default.is c.in_ok-found.ensures.found,
 )
 
 pub returns-then-levels-eq0-clause-shown : goal.returns-then-levels-eq0-clause-shown
 returns-then-levels-eq0-clause-shown c f merged k h limit low =
-    search_ended f merged limit k c.find_conflict.new.search c.log_refutation.new.search.log
+    search_ended f merged limit k c.find_conflict.new.search c.log_refutation.new.search.log.items
     (search_moved f merged k c.args.search.now c.find_conflict.new.search h c.in_ok-found.ensures.moved) low c.in_ok-log_refutation.ensures.ended

@@ -1,67 +1,66 @@
-use Rattle.std.specs.Prelude.{IfSome, IsNone}
-use Rattle.std.proofs.Common.{◌≡◌, ◌<◌, true, length, refl, sym, subst, arith, rules, None}
+use Rattle.std.specs.Prelude.{IfSome}
+use Rattle.std.proofs.Common.{◌≡◌, ◌<◌, true, length, refl, sym, subst, rules}
 use Rattle.proof_semantics.specs.Conflicts.{clause_at}
 use Rattle.cdcl_core.specs.Explained.{Holds}
-use Rattle.cdcl_core.specs.Propagation.{IsExtended}
-use Rattle.cdcl_core.specs.Visited.{IsOtherWatch, AreOthersFalse, IsFollowed, IsVisited}
+use Rattle.cdcl_core.specs.Visited.{IsOtherWatch, AreOthersFalse}
 use Rattle.cdcl_core.proofs.Propagating.{clause_read}
 use Rattle.cdcl_core.proofs.Visiting.{held_by, next_by, first_in, first_literal, twice_next, list_low, rewatched, moved_at, followed_extended, followed_visited}
 use Rattle.cdcl_core.proofs.visit.visit_clause.Goals as goal
 
 pub returns-then-is-clause-visited : goal.returns-then-is-clause-visited
 returns-then-is-clause-visited c =
-    let held = held_by c.args.clauses.now c.args.trail.now c.args.watches.now c.args.x c.args.at c.args.clause c.requires.handling c.requires.at c.requires.clause in
-    (twice_next c.args.clauses.now c.args.trail.now c.args.watches.now c.args.x c.args.at c.args.clause c.args.first c.requires.handling held c.requires.clause c.requires.first (c.is.ensures.0 c.if-is.true), refl)
+    let held = held_by c.args.clauses.now.list c.args.trail.now c.args.watches.now c.args.x c.args.at c.args.clause c.requires.handling c.requires.at c.requires.clause in
+    (twice_next c.args.clauses.now.list c.args.trail.now c.args.watches.now c.args.x c.args.at c.args.clause c.args.first c.requires.handling held c.requires.clause c.requires.first (c.is.ensures.0 c.if-is.true), refl)
 
 pub is_true-requires : goal.is_true-requires
-is_true-requires c = first_literal c.args.clauses.now c.args.trail.now c.args.watches.now c.args.x c.args.at c.args.clause c.args.first c.requires.handling c.requires.at c.requires.clause c.requires.first
+is_true-requires c = first_literal c.args.clauses.now.list c.args.trail.now c.args.watches.now c.args.x c.args.at c.args.clause c.args.first c.requires.handling c.requires.at c.requires.clause c.requires.first
 
 pub set-requires-clause-literal : goal.set-requires-clause-literal
 set-requires-clause-literal c = list_low c.args.watches.now.lists c.args.x c.args.at c.requires.at
 
 pub returns-then-is_true-clause-visited : goal.returns-then-is_true-clause-visited
 returns-then-is_true-clause-visited c = (
-  next_by c.args.clauses.now c.args.trail.now c.args.watches.now c.args.x c.args.at c.args.clause c.args.first c.requires.handling c.requires.clause
-      (first_in c.args.clauses.now c.args.trail.now c.args.watches.now c.args.x c.args.at c.args.clause c.args.first c.requires.handling c.requires.at c.requires.clause c.requires.first) (c.is_true.ensures.0 c.if-is_true.true),
+  next_by c.args.clauses.now.list c.args.trail.now c.args.watches.now c.args.x c.args.at c.args.clause c.args.first c.requires.handling c.requires.clause
+      (first_in c.args.clauses.now.list c.args.trail.now c.args.watches.now c.args.x c.args.at c.args.clause c.args.first c.requires.handling c.requires.at c.requires.clause c.requires.first) (c.is_true.ensures.0 c.if-is_true.true),
   refl,
 )
 
 pub returns-in-Some-clause-visited : goal.returns-in-Some-clause-visited
 returns-in-Some-clause-visited c =
-    let held : c.args.clause < length c.args.clauses.now = held_by c.args.clauses.now c.args.trail.now c.args.watches.now c.args.x c.args.at c.args.clause c.requires.handling c.requires.at c.requires.clause in
-    let same : c.get.result.now ≡ clause_at c.args.clauses.now c.args.clause = clause_read c.args.clauses.now c.args.clause c.get.result.now c.get.result.now held c.get.ensures refl in
+    let held : c.args.clause < length c.args.clauses.now.list = held_by c.args.clauses.now.list c.args.trail.now c.args.watches.now c.args.x c.args.at c.args.clause c.requires.handling c.requires.at c.requires.clause in
+    let same : c.get.result.now ≡ clause_at c.args.clauses.now.list c.args.clause = clause_read c.args.clauses.now.list c.args.clause c.get.result.now c.get.result.now held c.get.ensures refl in
     let some : IsOtherWatch c.args.trail.now.literals c.get.result.now c.args.first c.in-Some.literal = subst (λ r. IfSome r (IsOtherWatch c.args.trail.now.literals c.get.result.now c.args.first)) c.in-Some.is c.other_watch.ensures.some in
     let holds : Holds c.args.trail.now.literals c.in-Some.literal = (let yes = c.if-is_true-2.true in search rules) in
-    rewatched c.args.clauses.now c.args.trail.now c.args.watches.now c.set.new.self c.args.x c.args.at c.args.clause c.in-Some.literal c.requires.handling c.requires.at c.requires.clause
+    rewatched c.args.clauses.now.list c.args.trail.now c.args.watches.now c.set.new.self c.args.x c.args.at c.args.clause c.in-Some.literal c.requires.handling c.requires.at c.requires.clause
     (subst (λ C. IsOtherWatch c.args.trail.now.literals C c.args.first c.in-Some.literal) same some).inside holds (rw (sym c.long_watch.ensures) c.set.ensures)
 
 pub follow-requires-clause-literal : goal.follow-requires-clause-literal
-follow-requires-clause-literal c = first_literal c.args.clauses.now c.args.trail.now c.args.watches.now c.args.x c.args.at c.args.clause c.args.first c.requires.handling c.requires.at c.requires.clause c.requires.first
+follow-requires-clause-literal c = first_literal c.args.clauses.now.list c.args.trail.now c.args.watches.now c.args.x c.args.at c.args.clause c.args.first c.requires.handling c.requires.at c.requires.clause c.requires.first
 
 pub returns-in_ok-push-in-Some-2-clause-visited : goal.returns-in_ok-push-in-Some-2-clause-visited
 returns-in_ok-push-in-Some-2-clause-visited c =
-    let held : c.args.clause < length c.args.clauses.now = held_by c.args.clauses.now c.args.trail.now c.args.watches.now c.args.x c.args.at c.args.clause c.requires.handling c.requires.at c.requires.clause in
-    let same : c.get.result.now ≡ clause_at c.args.clauses.now c.args.clause = clause_read c.args.clauses.now c.args.clause c.get.result.now c.get.result.now held c.get.ensures refl in
+    let held : c.args.clause < length c.args.clauses.now.list = held_by c.args.clauses.now.list c.args.trail.now c.args.watches.now c.args.x c.args.at c.args.clause c.requires.handling c.requires.at c.requires.clause in
+    let same : c.get.result.now ≡ clause_at c.args.clauses.now.list c.args.clause = clause_read c.args.clauses.now.list c.args.clause c.get.result.now c.get.result.now held c.get.ensures refl in
     let some : IsOtherWatch c.args.trail.now.literals c.get.result.now c.args.first c.in-Some.literal = subst (λ r. IfSome r (IsOtherWatch c.args.trail.now.literals c.get.result.now c.args.first)) c.in-Some.is c.other_watch.ensures.some in
-    moved_at c.args.clauses.now c.args.trail.now c.args.watches.now c.push.new.self c.set_pair.new.self c.remove.new.self c.args.x c.args.at c.args.clause c.args.first c.in-Some.literal
+    moved_at c.args.clauses.now.list c.args.trail.now c.args.watches.now c.push.new.self c.set_pair.new.self c.remove.new.self c.args.x c.args.at c.args.clause c.args.first c.in-Some.literal
     c.requires.handling c.requires.at c.requires.clause c.requires.first
     (λ e. let yes : c.is.result ≡ true = c.is.ensures.1 e in let no = c.if-is.false in cc)
     (subst (λ C. IsOtherWatch c.args.trail.now.literals C c.args.first c.in-Some.literal) same some) (rw (sym c.long_watch-in-Some-2.ensures) c.in_ok-push-in-Some-2.ensures) c.set_pair.ensures c.remove.ensures
 
 pub returns-in-None-clause-extended : goal.returns-in-None-clause-extended
 returns-in-None-clause-extended c =
-    let held : c.args.clause < length c.args.clauses.now = held_by c.args.clauses.now c.args.trail.now c.args.watches.now c.args.x c.args.at c.args.clause c.requires.handling c.requires.at c.requires.clause in
-    let same : c.get.result.now ≡ clause_at c.args.clauses.now c.args.clause = clause_read c.args.clauses.now c.args.clause c.get.result.now c.get.result.now held c.get.ensures refl in
+    let held : c.args.clause < length c.args.clauses.now.list = held_by c.args.clauses.now.list c.args.trail.now c.args.watches.now c.args.x c.args.at c.args.clause c.requires.handling c.requires.at c.requires.clause in
+    let same : c.get.result.now ≡ clause_at c.args.clauses.now.list c.args.clause = clause_read c.args.clauses.now.list c.args.clause c.get.result.now c.get.result.now held c.get.ensures refl in
     let none : AreOthersFalse c.args.trail.now.literals c.get.result.now c.args.first = c.other_watch.ensures.none (search rules) in
-    followed_extended c.args.clauses.now c.args.trail.now c.follow.new.trail c.args.clause c.args.first held
-    (first_in c.args.clauses.now c.args.trail.now c.args.watches.now c.args.x c.args.at c.args.clause c.args.first c.requires.handling c.requires.at c.requires.clause c.requires.first)
+    followed_extended c.args.clauses.now.list c.args.trail.now c.follow.new.trail c.args.clause c.args.first held
+    (first_in c.args.clauses.now.list c.args.trail.now c.args.watches.now c.args.x c.args.at c.args.clause c.args.first c.requires.handling c.requires.at c.requires.clause c.requires.first)
     (subst (λ C. AreOthersFalse c.args.trail.now.literals C c.args.first) same none) c.follow.result c.follow.ensures
 
 pub returns-in-None-clause-visited : goal.returns-in-None-clause-visited
 returns-in-None-clause-visited c =
-    let held : c.args.clause < length c.args.clauses.now = held_by c.args.clauses.now c.args.trail.now c.args.watches.now c.args.x c.args.at c.args.clause c.requires.handling c.requires.at c.requires.clause in
-    let same : c.get.result.now ≡ clause_at c.args.clauses.now c.args.clause = clause_read c.args.clauses.now c.args.clause c.get.result.now c.get.result.now held c.get.ensures refl in
+    let held : c.args.clause < length c.args.clauses.now.list = held_by c.args.clauses.now.list c.args.trail.now c.args.watches.now c.args.x c.args.at c.args.clause c.requires.handling c.requires.at c.requires.clause in
+    let same : c.get.result.now ≡ clause_at c.args.clauses.now.list c.args.clause = clause_read c.args.clauses.now.list c.args.clause c.get.result.now c.get.result.now held c.get.ensures refl in
     let none : AreOthersFalse c.args.trail.now.literals c.get.result.now c.args.first = c.other_watch.ensures.none (search rules) in
-    followed_visited c.args.clauses.now c.args.trail.now c.follow.new.trail c.args.watches.now c.args.x c.args.at c.args.clause c.args.first c.requires.handling c.requires.clause held
-    (first_in c.args.clauses.now c.args.trail.now c.args.watches.now c.args.x c.args.at c.args.clause c.args.first c.requires.handling c.requires.at c.requires.clause c.requires.first)
+    followed_visited c.args.clauses.now.list c.args.trail.now c.follow.new.trail c.args.watches.now c.args.x c.args.at c.args.clause c.args.first c.requires.handling c.requires.clause held
+    (first_in c.args.clauses.now.list c.args.trail.now c.args.watches.now c.args.x c.args.at c.args.clause c.args.first c.requires.handling c.requires.at c.requires.clause c.requires.first)
     (subst (λ C. AreOthersFalse c.args.trail.now.literals C c.args.first) same none) c.follow.result c.follow.ensures

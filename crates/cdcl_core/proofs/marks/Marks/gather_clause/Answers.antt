@@ -1,4 +1,4 @@
-use Rattle.std.proofs.Common.{◌≡◌, ◌∙◌, ℕ, ◌<◌, Bool, true, false, length, get_or, ap, subst, sym, arith, vec_len, vec_capacity}
+use Rattle.std.proofs.Common.{◌≡◌, ◌∙◌, ℕ, ◌<◌, true, false, length, get_or, ap, subst, sym, arith, vec_capacity}
 use Rattle.cdcl_core.proofs.Touching.{mark_read, listed_touched}
 use Rattle.cdcl_core.specs.Touched.{AreTouched}
 use Rattle.cdcl_core.specs.Analysis.{IsClauseOf}

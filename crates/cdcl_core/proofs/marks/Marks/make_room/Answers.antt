@@ -1,4 +1,4 @@
-use Rattle.std.proofs.Common.{◌≡◌, ◌≤◌, [], length, vec_capacity, ◌∙◌, arith}
+use Rattle.std.proofs.Common.{◌≤◌, vec_capacity, ◌∙◌, arith}
 use Rattle.cdcl_core.proofs.Touching.{listed_none}
 use Rattle.cdcl_core.proofs.marks.Marks.make_room.Goals as goal
 

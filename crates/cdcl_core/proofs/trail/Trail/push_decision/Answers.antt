@@ -1,4 +1,4 @@
-use Rattle.std.proofs.Common.{ap, subst, sym, rules, ◌∙◌, [], ◌∷◌, length, length-append, vec_capacity, arith}
+use Rattle.std.proofs.Common.{ap, subst, sym, rules, ◌∙◌, length, length-append, vec_capacity, arith}
 use Rattle.cdcl_core.specs.Explained.{Holds}
 use Rattle.cdcl_core.specs.Settled.{IsOpen}
 use Rattle.proof_semantics.specs.Clauses.{IsLiteralOf}

@@ -1,0 +1,113 @@
+//! The log of a search, whose last step may still lie in the lists in which the analysis made it.
+//!
+//! Those lists have room to spare, and were there before the analysis. So a step that is logged takes no memory. It is packed into lists of
+//! exact size, for which memory is taken, before the next conflict is analysed, or at the end.
+ghost use Rattle.std.specs.Prelude.{◌≡◌, true, false, ◌∷◌, ◌++◌, [], reverse, IfOk, OnOk};
+ghost use Rattle.proof_semantics.specs.declared.item.Item.TheVariants.{Add};
+
+use crate::analysis::Learned;
+use crate::clause::written;
+use crate::literal::Literal;
+use net_parts::items::Items;
+use proof_parts::log::{Ids, Item, Log, Step};
+use std::alloc::{AllocError, Global};
+use std::marker::Model;
+use std::mem;
+
+/// The packed steps, and the parts of one that is held, whose hints are given the last one first.
+#[derive(Drop)]
+pub struct StepLog {
+    packed: Log,
+    is_held: bool,
+    id: u64,
+    clause: Vec<Literal>,
+    hints: Vec<u64>,
+}
+
+impl Model for StepLog {
+    ghost use Rattle.std.specs.Prelude.{not};
+    ghost use Rattle.cdcl_core.specs.StepLog.{LogValue, with_held};
+
+    ghost Value = { LogValue };
+
+    ghost view = { λ l. record {
+      items = with_held l.packed l.is_held l.id l.clause.items l.hints.items;
+      is_packed = not l.is_held;
+    } };
+}
+
+/// The hints in the other order.
+fn reversed(alloc: Global, hints: &[u64]) -> Result<Ids, AllocError>
+    ensures { IfOk result (λ ids. ids ≡ reverse hints.now) }
+{
+    let mut ids = Items::new(alloc);
+    for hint in hints.iter().rev() {
+        ids.push(*hint)?;
+    }
+    Ok(ids)
+}
+
+/// A step in lists of exact size, whose hints are given the last one first.
+fn packed_step(
+    alloc: Global,
+    id: u64,
+    clause: &[Literal],
+    hints: &[u64],
+) -> Result<Step, AllocError>
+    ensures { IfOk result (λ s. s ≡ record { id = id; literals = clause.now; hints = reverse hints.now }) }
+{
+    let hints = reversed(alloc, hints)?;
+    Ok(Step::new(id, written(alloc, clause)?, hints))
+}
+
+impl StepLog {
+    /// The steps of a log. It takes no memory.
+    pub fn new(alloc: Global, packed: Log) -> StepLog
+        ensures { result ≡ record { items = packed; is_packed = true } }
+    {
+        StepLog {
+            packed,
+            is_held: false,
+            id: 0,
+            clause: Vec::new(alloc),
+            hints: Vec::new(alloc),
+        }
+    }
+
+    /// The last step lies in lists of exact size then.
+    pub fn pack(&mut self, alloc: Global) -> Result<(), AllocError>
+        ensures items { self.new.items ≡ self.old.items }
+        ensures packed { OnOk result (self.new.is_packed ≡ true) }
+    {
+        if self.is_held {
+            let step = packed_step(alloc, self.id, &self.clause, &self.hints)?;
+            self.packed.push(Item::Add(step))?;
+            self.is_held = false;
+        }
+        Ok(())
+    }
+
+    /// Logs the step of what was learned, and gives lists in exchange. It takes no memory.
+    pub fn hold(&mut self, id: u64, learned: &mut Learned)
+        requires { self.old.is_packed ≡ true }
+        ensures { self.new ≡ record {
+          items = self.old.items
+              ++ Add (record { id = id; literals = learned.old.clause.items; hints = reverse learned.old.hints.items }) ∷ [];
+          is_packed = false;
+        } }
+    {
+        mem::swap(&mut self.clause, &mut learned.clause);
+        mem::swap(&mut self.hints, &mut learned.hints);
+        self.id = id;
+        self.is_held = true;
+    }
+
+    /// The whole log.
+    pub fn into_log(self, alloc: Global) -> Result<Log, AllocError>
+        ensures { IfOk result (λ log. log ≡ self.items) }
+    {
+        let mut log = self;
+        log.pack(alloc)?;
+        Ok(log.packed)
+    }
+}
