@@ -6,7 +6,6 @@ use Rattle.cdcl_core.specs.Placed.{last_start}
 use Rattle.cdcl_core.specs.Analysed.{IsAnalysed}
 use Rattle.cdcl_core.specs.StepLog.{LogValue}
 use Rattle.cdcl_core.specs.declared.analysis.Learned.{Learned}
-use Rattle.cdcl_core.specs.declared.search.Search.{Search}
 use Rattle.cdcl_core.proofs.Searching.{step_of, has_learned}
 use Rattle.cdcl_core.proofs.learning.learn_from.Goals as goal
 
@@ -15,8 +14,7 @@ returns-clause-logged c =
     let r : Learned = c.learn.new.learned in
     let s : StepValue = record { id = c.count-id.result + 1; literals = r.clause.items; hints = reverse r.hints.items } in
     let same : c.make_room.new.clauses.list ≡ c.args.search.now.clauses.list = c.make_room.ensures.clauses in
-    let after : Search = record { clauses = c.jump.new.clauses; trail = c.jump.new.trail; watches = c.jump.new.watches; order = c.jump.new.order; log = c.hold.new.self; marks = c.learn.new.marks; learned = c.hold.new.learned } in
-    has_learned c.args.search.now after (last_start c.args.search.now.trail) r s
+    has_learned c.args.search.now _ (last_start c.args.search.now.trail) r s
     (subst (λ (cs : List Clause). IsAnalysed cs c.args.search.now.trail (last_start c.args.search.now.trail) r) same c.learn.ensures.analysed)
     (step_of s (c.count-id.result + 1) (length c.args.search.now.clauses.list + 1) r.clause.items r.clause.items (reverse r.hints.items) refl (ap (λ (n : ℕ). n + 1) (c.count-id.ensures.value ∙ ap length same)) refl)
     (subst (λ (cs : List Clause). length cs < 2 ^ 59) same c.count-id.ensures.few)
