@@ -1,5 +1,5 @@
 -- How turns of reading join, and what the text is once they end.
-use Rattle.std.proofs.Common.{◌≡◌, ℕ, ◌+◌, ◌≤◌, Bool, true, false, [], length, take, Some, refl, sym, ap, ◌∙◌, inl, inr, arith}
+use Rattle.std.proofs.Common.{◌≡◌, ℕ, ◌+◌, ◌≤◌, Bool, true, false, [], length, take, Some, refl, sym, subst, ap, ◌∙◌, inl, inr, arith}
 use Rattle.std.proofs.lemmas.List.{take_all, length-take}
 use Rattle.std.proofs.lemmas.Bool.{false_from_ne_true}
 use Rattle.semantics.specs.Texts.{Bytes}
@@ -21,8 +21,13 @@ KeepsAtRead-KeepsAtRead p q = record {
   stays = λ h told. q.stays h (p.stays h told);
 }
 
-pub SoFar-none : (a : FilesTold) → SoFar a a [] 0
-SoFar-none a = record { keeps = KeepsAtRead-same a; taken = omega arith; counted = λ name opened. omega arith; reads = λ held name told has. has }
+pub SoFar-none : (a : FilesTold) (text : Bytes) → text ≡ [] → SoFar a a text 0
+SoFar-none a text none = record {
+  keeps = KeepsAtRead-same a;
+  taken = omega arith;
+  counted = λ name opened. omega arith;
+  reads = λ held name told has. subst (HasRead a held name) (sym none) has;
+}
 
 pub SoFar-more : {o a b : FilesTold} {before after : Bytes} {room turns : ℕ} {more : Bool} → SoFar o a before turns → TurnRead a b before after room more → more ≡ true
     → SoFar o b after (turns + 1)

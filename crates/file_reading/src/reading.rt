@@ -1,5 +1,7 @@
 //! A file from its first byte on. A file without an end is read no further than the budget of turns.
 ghost use Rattle.std.specs.Prelude.{◌≡◌, ◌≤◌, [], ◌++◌, length, take, Err, IfOk, IfErr, OnOk};
+ghost use Rattle.semantics.specs.Texts.{Bytes};
+ghost use Rattle.outside_semantics.specs.Outside.{FilesTold, Opened};
 ghost use Rattle.file_reading.specs.Reading.{TurnRead, FileRead};
 ghost use Rattle.file_reading.specs.Refused.{TurnRefused, FileUnread};
 
@@ -22,14 +24,19 @@ fn take_front<I: Intake>(intake: &mut I, buffer: &[u8], count: usize) -> Result<
     intake.take(&buffer[..count])
 }
 
-/// Hands on the next bytes of the open file, and answers whether there were any; where none are wanted it asks for none.
-fn read_turn<F: Files, I: Intake>(files: &mut F, intake: &mut I) -> Result<bool, Unread>
+/// Hands on the next bytes of the open file, and answers whether there were any; where none are wanted it asks for none. They come
+/// through the buffer.
+fn read_turn<F: Files, I: Intake>(
+    files: &mut F,
+    intake: &mut I,
+    buffer: &mut [u8],
+) -> Result<bool, Unread>
+    requires { length buffer.old ≡ TURN_BYTES }
     ensures ok { IfOk result
         (λ more. TurnRead (F.told files.old) (F.told files.new) (I.text intake.old) (I.text intake.new) (I.room intake.new) more) }
     ensures aim { OnOk result (I.aim intake.new ≡ I.aim intake.old) }
     ensures err { IfErr result (TurnRefused (F.told files.old) (F.told files.new)) }
 {
-    let mut buffer = [0u8; TURN_BYTES];
     let room = intake.wanted().min(buffer.len());
     if room == 0 {
         return Ok(false);
@@ -41,6 +48,26 @@ fn read_turn<F: Files, I: Intake>(files: &mut F, intake: &mut I) -> Result<bool,
     }
     take_front(intake, part, count)?;
     Ok(true)
+}
+
+/// Hands on the bytes of the file that was just opened, all of them or as many as are wanted. The clauses speak of any moment from
+/// which on it was opened.
+fn read_opened<F: Files, I: Intake>(files: &mut F, intake: &mut I) -> Result<(), Unread>
+    requires { I.text intake.old ≡ [] }
+    ensures ok { (before : FilesTold) (name : Bytes) → Opened before (F.told files.old) name → OnOk result
+        (FileRead before (F.told files.new) name (I.text intake.new) (I.room intake.new)) }
+    ensures aim { OnOk result (I.aim intake.new ≡ I.aim intake.old) }
+    ensures err { (before : FilesTold) (name : Bytes) → Opened before (F.told files.old) name → IfErr result
+        (FileUnread before (F.told files.new) name (I.text intake.new)) }
+    ensures endless { result ≡ Err Unread.Endless → I.aim intake.new ≡ I.aim intake.old }
+{
+    let mut buffer = [0u8; TURN_BYTES];
+    for turn in 0..TURNS {
+        if !read_turn(files, intake, &mut buffer)? {
+            return Ok(());
+        }
+    }
+    Err(Unread::Endless)
 }
 
 /// Hands on the bytes of a file, all of them or as many as are wanted.
@@ -58,10 +85,5 @@ pub fn read_file<F: Files, I: Intake>(
     ensures endless { result ≡ Err Unread.Endless → I.aim intake.new ≡ I.aim intake.old }
 {
     files.open_file(name)?;
-    for turn in 0..TURNS {
-        if !read_turn(files, intake)? {
-            return Ok(());
-        }
-    }
-    Err(Unread::Endless)
+    read_opened(files, intake)
 }

@@ -1,5 +1,5 @@
 use Rattle.std.proofs.Common.{◌≡◌, ℕ, ◌+◌, ◌<◌, ◌≤◌, false, true, ◌++◌, length, take, drop, Some, refl, sym, ap, ◌∙◌, inr, arith, length-append, length-take-le}
-use Rattle.std.proofs.lemmas.List.{append-nil, length-take, length-replicate}
+use Rattle.std.proofs.lemmas.List.{append-nil, length-take}
 use Rattle.std.proofs.Math.Seq.{take-add}
 use Rattle.semantics.specs.Texts.{Bytes}
 use Rattle.outside_semantics.specs.Outside.{Held, FilesTold, Gave, bytes_of, turn_bytes}
@@ -47,10 +47,10 @@ turn_ended old new before buffer n room none asked gave =
 
 pub returns-then-count-eq0-clause-ok : goal.returns-then-count-eq0-clause-ok
 returns-then-count-eq0-clause-ok g c =
-    let whole : length c.read.new.buffer ≡ c.min-room.result = omega (arith, length-replicate {A = ℕ}, length-take {A = ℕ}) in
+    let whole : length c.read.new.buffer ≡ c.min-room.result = omega (arith, length-take {A = ℕ}) in
     turn_ended _ _ _ c.read.new.buffer c.in_ok-count.count _ (omega arith) (omega arith) c.in_ok-count.ensures.ok
 
 pub returns-clause-ok : goal.returns-clause-ok
 returns-clause-ok g c =
-    let whole : length c.read.new.buffer ≡ c.min-room.result = omega (arith, length-replicate {A = ℕ}, length-take {A = ℕ}) in
+    let whole : length c.read.new.buffer ≡ c.min-room.result = omega (arith, length-take {A = ℕ}) in
     turn_gave _ _ _ _ c.read.new.buffer c.in_ok-count.count _ (omega arith) c.in_ok-count.ensures.within (omega arith) c.in_ok-count.ensures.ok c.in_ok-take_front.ensures.text

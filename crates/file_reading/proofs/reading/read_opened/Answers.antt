@@ -1,21 +1,20 @@
 use Rattle.std.proofs.Common.{rules, subst, sym, refl, ◌∙◌, arith}
 use Rattle.std.proofs.lemmas.Result.{err_from_is_err_and}
-use Rattle.file_reading.specs.Reading.{SoFar}
 use Rattle.file_reading.specs.Refused.{TurnRefused}
 use Rattle.file_reading.proofs.Turns.{SoFar-none, SoFar-more, FileRead-from, FileEndless-from, FileUnread-from}
-use Rattle.file_reading.proofs.reading.read_file.Goals as goal
+use Rattle.file_reading.proofs.reading.read_opened.Goals as goal
 
 pub loop-turn-init : goal.loop-turn-init
-loop-turn-init g c = (subst (λ t. SoFar (g.F.Files.told c.open_file.new.self) (g.F.Files.told c.open_file.new.self) t 0) (sym c.requires) (SoFar-none _), refl)
+loop-turn-init g c = (SoFar-none _ _ c.requires, refl)
 
 pub returns-in_err-read_turn-clause-err : goal.returns-in_err-read_turn-clause-err
-returns-in_err-read_turn-clause-err g c =
-    let p = err_from_is_err_and c.from_residual-in_err-read_turn.result c.from_residual-in_err-read_turn.ensures.1 in
+returns-in_err-read_turn-clause-err g c before name opened =
+    let p = err_from_is_err_and c.from_residual.result c.from_residual.ensures.1 in
     let refused = subst (TurnRefused (g.F.Files.told c.loop-turn.files) (g.F.Files.told c.read_turn.new.files)) (sym p.2) c.in_err-read_turn.ensures.err in
-    rw p.1 (FileUnread-from _ _ p.0 c.in_ok-open_file.ensures.ok c.loop-turn.invariant.0.keeps refused)
+    rw p.1 (FileUnread-from _ _ p.0 opened c.loop-turn.invariant.0.keeps refused)
 
 pub returns-then-not-branch-clause-ok : goal.returns-then-not-branch-clause-ok
-returns-then-not-branch-clause-ok g c = FileRead-from c.in_ok-open_file.ensures.ok c.loop-turn.invariant.0 c.in_ok-read_turn.ensures.ok (search rules)
+returns-then-not-branch-clause-ok g c before name opened = FileRead-from opened c.loop-turn.invariant.0 c.in_ok-read_turn.ensures.ok (search rules)
 
 pub loop-turn-preserved : goal.loop-turn-preserved
 loop-turn-preserved g c =
@@ -23,4 +22,4 @@ loop-turn-preserved g c =
     (SoFar-more c.loop-turn.invariant.0 turn (search rules), c.in_ok-read_turn.ensures.aim ∙ c.loop-turn.invariant.1)
 
 pub returns-clause-err : goal.returns-clause-err
-returns-clause-err g c = FileEndless-from c.in_ok-open_file.ensures.ok c.loop-turn.invariant.0 (omega arith)
+returns-clause-err g c before name opened = FileEndless-from opened c.loop-turn.invariant.0 (omega arith)

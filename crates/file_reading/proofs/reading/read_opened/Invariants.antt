@@ -1,6 +1,6 @@
 use Rattle.std.proofs.Common.{◌≡◌}
 use Rattle.file_reading.specs.Reading.{SoFar}
-use Rattle.file_reading.proofs.reading.read_file.Given as goal
+use Rattle.file_reading.proofs.reading.read_opened.Given as goal
 
 abbrev pub invariant-loop-turn : goal.invariant-loop-turn
 invariant-loop-turn g l =
