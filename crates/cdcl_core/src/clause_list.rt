@@ -19,7 +19,7 @@ pub struct Span {
     pub end: u32,
 }
 
-/// A list of clauses, whose literals lie in one region.
+/// A list of clauses, whose literals lie in one region, with the room that there is for more.
 #[derive(Drop)]
 pub struct ClauseList {
     region: Vec<Literal>,
