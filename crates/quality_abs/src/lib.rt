@@ -12,6 +12,7 @@ pub use crate::signed::quality_signed;
 use bus_nets::word_net::WordNet;
 use net_core::net::Net;
 use net_parts::items::Signal;
+use semantics::limits::MOST_OUTPUTS;
 use std::alloc::{AllocError, Global};
 
 /// Appends what says whether two words of so many bits, the inputs of the network, are more than `k` apart.
@@ -30,7 +31,7 @@ fn excess(net: &mut WordNet, width: u32, k: u128) -> Result<Signal, AllocError>
 /// The output of the network: the constant 0 where no two words of so many bits are more than `k` apart.
 fn output(net: &mut WordNet, width: u32, k: u128) -> Result<Signal, AllocError>
     requires start { net.old ≡ started (width + width) }
-    requires narrow { width ≤ 64 }
+    requires narrow { width ≤ MOST_OUTPUTS }
     ensures ok { OnOk result (net.new ≡ (quality Abs width k).net) }
     ensures signal { IfOk result (λ s. s ≡ (quality Abs width k).signal) }
     ensures within { IfOk result (λ s. s < signals net.new) }
@@ -44,7 +45,7 @@ fn output(net: &mut WordNet, width: u32, k: u128) -> Result<Signal, AllocError>
 
 /// The net whose output says whether the absolute error of two words of so many bits exceeds `k`.
 pub fn quality(alloc: Global, width: u32, k: u128) -> Result<Net, AllocError>
-    requires { width ≤ 64 }
+    requires { width ≤ MOST_OUTPUTS }
     ensures net { IfOk result (λ n. n ≡ quality_net Abs width k) }
     ensures tells { IfOk result (λ n. TellsExcess Abs width k n) }
 {

@@ -9,6 +9,7 @@ ghost use Rattle.quality_semantics.specs.Quality.{quality, quality_net, differin
 use bus_nets::word_net::WordNet;
 use net_core::net::Net;
 use net_parts::items::Signal;
+use semantics::limits::MOST_OUTPUTS;
 use std::alloc::{AllocError, Global};
 
 /// Appends what says whether two words of so many bits, the inputs of the network, differ in more than `k` of them.
@@ -28,7 +29,7 @@ fn excess(net: &mut WordNet, width: u32, k: u32) -> Result<Signal, AllocError>
 /// The output of the network: the constant 0 where no two words of so many bits differ in more than `k` of them.
 fn output(net: &mut WordNet, width: u32, k: u128) -> Result<Signal, AllocError>
     requires start { net.old ≡ started (width + width) }
-    requires narrow { width ≤ 64 }
+    requires narrow { width ≤ MOST_OUTPUTS }
     ensures ok { OnOk result (net.new ≡ (quality Ham width k).net) }
     ensures signal { IfOk result (λ s. s ≡ (quality Ham width k).signal) }
     ensures within { IfOk result (λ s. s < signals net.new) }
@@ -42,7 +43,7 @@ fn output(net: &mut WordNet, width: u32, k: u128) -> Result<Signal, AllocError>
 
 /// The net whose output says whether two words of so many bits differ in more than `k` of them.
 pub fn quality(alloc: Global, width: u32, k: u128) -> Result<Net, AllocError>
-    requires { width ≤ 64 }
+    requires { width ≤ MOST_OUTPUTS }
     ensures net { IfOk result (λ n. n ≡ quality_net Ham width k) }
     ensures tells { IfOk result (λ n. TellsExcess Ham width k n) }
 {

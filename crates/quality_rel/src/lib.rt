@@ -9,6 +9,7 @@ ghost use Rattle.quality_semantics.specs.Quality.{quality, quality_net, relative
 use bus_nets::word_net::WordNet;
 use net_core::net::Net;
 use net_parts::items::Signal;
+use semantics::limits::MOST_OUTPUTS;
 use std::alloc::{AllocError, Global};
 
 /// The parts of the unit.
@@ -35,7 +36,7 @@ fn excess(net: &mut WordNet, width: u32, k: u128) -> Result<Signal, AllocError>
 /// The output of the network: the constant 0 where no relative error of words of so many bits exceeds `k`.
 fn output(net: &mut WordNet, width: u32, k: u128) -> Result<Signal, AllocError>
     requires start { net.old ≡ started (width + width) }
-    requires narrow { width ≤ 64 }
+    requires narrow { width ≤ MOST_OUTPUTS }
     ensures ok { OnOk result (net.new ≡ (quality Rel width k).net) }
     ensures signal { IfOk result (λ s. s ≡ (quality Rel width k).signal) }
     ensures within { IfOk result (λ s. s < signals net.new) }
@@ -49,7 +50,7 @@ fn output(net: &mut WordNet, width: u32, k: u128) -> Result<Signal, AllocError>
 
 /// The net whose output says whether the relative error of two words of so many bits exceeds `k`.
 pub fn quality(alloc: Global, width: u32, k: u128) -> Result<Net, AllocError>
-    requires { width ≤ 64 }
+    requires { width ≤ MOST_OUTPUTS }
     ensures net { IfOk result (λ n. n ≡ quality_net Rel width k) }
     ensures tells { IfOk result (λ n. TellsExcess Rel width k n) }
 {
