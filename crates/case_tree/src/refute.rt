@@ -18,6 +18,7 @@ use proof_parts::clause::Lits;
 use proof_parts::cnf::Cnf;
 use proof_parts::literal::literal_at;
 use proof_parts::log::{Item, Log, Step};
+use semantics::limits::TRIED_INPUTS;
 use std::alloc::{AllocError, Global};
 
 /// How many inputs have all their vectors side by side, in a word of 64 bits.
@@ -25,7 +26,7 @@ const SIDE_BY_SIDE: u32 = 6;
 
 /// The clause that is false exactly where the first inputs have these bits.
 fn negation(alloc: Global, front: &[bool]) -> Result<Lits, AllocError>
-    requires { length front.now ≤ 15 }
+    requires { length front.now ≤ TRIED_INPUTS }
     ensures { IfOk result (λ clause. clause ≡ negation front.now) }
 {
     let mut clause = Lits::new(alloc);
@@ -94,7 +95,7 @@ fn join_step(
     half: u64,
     other: u64,
 ) -> Result<Step, AllocError>
-    requires { length front.now ≤ 15 }
+    requires { length front.now ≤ TRIED_INPUTS }
     ensures { IfOk result (λ s. s ≡ join_step id front.now half other) }
 {
     let mut hints = Items::new(alloc);
@@ -174,7 +175,7 @@ fn clause_count(goal: &Cnf) -> u64
 /// A log that refutes the goal of a net whose one output is 0 at every input vector: one step for each input vector and one for
 /// each front of a vector, so at most 65,535 steps.
 pub fn refute(alloc: Global, joint: &Net, goal: &Cnf) -> Result<Log, AllocError>
-    requires few_inputs { input_count joint.now ≤ 15 }
+    requires few_inputs { input_count joint.now ≤ TRIED_INPUTS }
     requires its_goal { goal.now ≡ goal_of joint.now }
     requires always_0 { (x : List Bool) → length x ≡ input_count joint.now → outputs_of joint.now x ≡ false ∷ [] }
     ensures refutes { IfOk result (λ log. Refutes goal.now.clauses log) }
