@@ -19,6 +19,7 @@ use net_core::net::Net;
 use net_errors::compared::Compared;
 use progress::progress::Progress;
 use proof_parts::log::Log;
+use semantics::limits::FEW_INPUTS;
 use semantics::metric::Metric;
 use std::alloc::{AllocError, Global};
 use sweep_guide::guide::guide_of;
@@ -120,7 +121,7 @@ pub(crate) fn ask_solver<P: Progress>(
     limit: u64,
     progress: &mut P,
 ) -> Result<Exceed, AllocError>
-    requires many_inputs { 8 < input_count nets.now.exact }
+    requires many_inputs { FEW_INPUTS < input_count nets.now.exact }
     requires limit { 1 ≤ limit }
     ensures { IfOk result (IsAsked metric nets.now.exact nets.now.approx k limit) }
 {
