@@ -19,7 +19,7 @@ pub struct Span {
     pub end: u32,
 }
 
-/// A list of clauses, whose literals lie in one region, with the room that there is for more.
+/// A list of clauses, whose literals lie in one region.
 #[derive(Drop)]
 pub struct ClauseList {
     region: Vec<Literal>,

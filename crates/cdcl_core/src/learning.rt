@@ -2,8 +2,6 @@
 //!
 //! Each step has the next id, and its hints are the clauses that were resolved, so a checker follows the log by unit propagation
 //! along hints and searches nothing. Source: LRAT.
-//!
-//! The memory is taken before a conflict is analysed, but for the watches of the learned clause, which take theirs before anything changes.
 ghost use Rattle.std.specs.Prelude.{◌≡◌, ◌<◌, [], length, OnOk, OnErr};
 ghost use Rattle.cdcl_core.specs.Propagation.{IsConflict};
 ghost use Rattle.cdcl_core.specs.Searched.{IsSearching, HasEnded, HasLearned, IsUnchanged};
@@ -48,8 +46,7 @@ pub fn log_refutation(alloc: Global, search: &mut Search, conflict: usize) -> Re
     Ok(())
 }
 
-/// Learns a clause of a conflict, logs it, goes back to where it forces a literal, and answers of how many levels its literals are. Where it
-/// answers an error, clauses, trail, watches and log are as they were.
+/// Learns a clause of a conflict, logs it, goes back to where it forces a literal, and answers of how many levels its literals are.
 pub fn learn_from(alloc: Global, search: &mut Search, conflict: usize) -> Result<u64, AllocError>
     requires searching { IsSearching search.old.clauses.list search.old.trail search.old.order }
     requires conflict { IsConflict search.old.clauses.list search.old.trail conflict }
