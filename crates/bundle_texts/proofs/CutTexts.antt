@@ -1,11 +1,12 @@
 -- Pieces at the front of a text are cut off in one way.
-use Rattle.std.proofs.Common.{◌≡◌, ◌≢◌, ℕ, suc, ◌+◌, ◌-◌, ◌<◌, ◌≤◌, ◌^◌, Bool, true, false, ◌&&◌, ◌==◌, List, [], ◌∷◌, ◌++◌, length, get_or, take, drop, decimal, Option, Some, None, if◌then◌else◌, nat_le, lt_of_le_of_lt, refl, ap, sym, subst, ◌∙◌, inl, inr, arith}
+use Rattle.std.proofs.Common.{◌≡◌, ◌≢◌, ℕ, suc, ◌+◌, ◌-◌, ◌<◌, ◌≤◌, ◌^◌, Bool, true, false, ◌&&◌, ◌==◌, List, [], ◌∷◌, ◌++◌, length, get_or, take, drop, decimal, Option, Some, None, if◌then◌else◌, nat_le, refl, ap, sym, subst, ◌∙◌, inl, inr, arith}
 use Rattle.std.specs.List.{list_all}
 use Rattle.std.proofs.lemmas.Bool.{and_parts, le-leb, leb-true, eqb-true, eqb-false, ne_eqb, or_cases}
 use Rattle.std.proofs.lemmas.List.{append_cancel_left, length-append, length-map, length-take-le, take_at, take-append-drop}
 use Rattle.std.proofs.Math.Seq.{drop-cons, get_or-append_right}
 use Rattle.std.proofs.lemmas.List.Elements.{All-head, All-tail, All-nil, All-cons}
 use Rattle.semantics.specs.Texts.{Bytes, bit_byte, bits_word}
+use Rattle.semantics.specs.declared.limits.TheConstants.{LARGEST_ERROR}
 use Rattle.semantics.specs.Decimal.{is_digit, digits_number, is_decimal}
 use Rattle.semantics.proofs.Numerals.{digits_number-decimal, is_decimal-decimal, decimal_from}
 use Rattle.job_semantics.specs.Job.{number_from_to}
@@ -42,11 +43,11 @@ digits_lack end (c ∷ word) other all =
 pub decimal-lacks : (end n : ℕ) → is_digit end ≡ false → n < 10 ^ 64 → Lacks end (decimal n)
 decimal-lacks end n other few = digits_lack end (decimal n) other (digits-decimal (decimal n) (is_decimal-decimal n few))
 
-few_decimal : (n most : ℕ) → n ≤ most → most < 2 ^ 84 → n < 10 ^ 64
-few_decimal n most le lt = few_digits n (lt_of_le_of_lt le lt)
+few_decimal : (n most : ℕ) → n ≤ most → most ≤ LARGEST_ERROR → n < 10 ^ 64
+few_decimal n most le lt = few_digits n (omega (arith, le, lt))
 
 -- the word of a number is read as it
-number_read : (n most : ℕ) → n ≤ most → most < 2 ^ 84 → number_from_to 0 most (decimal n) ≡ Some n
+number_read : (n most : ℕ) → n ≤ most → most ≤ LARGEST_ERROR → number_from_to 0 most (decimal n) ≡ Some n
 number_read n most le lt =
     let few = few_decimal n most le lt in
     let is : digits_number (decimal n) ≡ n = digits_number-decimal n few in
@@ -59,14 +60,14 @@ some_if true false c m n h = absurd (cc)
 some_if false b c m n h = absurd (cc)
 
 -- a word that is read as a number is the word of that number
-number_word : (most n : ℕ) (word : Bytes) → most < 2 ^ 84 → number_from_to 0 most word ≡ Some n → (n ≤ most) × (word ≡ decimal n)
+number_word : (most n : ℕ) (word : Bytes) → most ≤ LARGEST_ERROR → number_from_to 0 most word ≡ Some n → (n ≤ most) × (word ≡ decimal n)
 number_word most n word lt read =
     let parts = some_if (is_decimal word) (nat_le 0 (digits_number word)) (nat_le (digits_number word) most) (digits_number word) n read in
     let low : digits_number word ≤ most = leb-true (digits_number word) most parts.1 in
     let few : n ≤ most = omega (arith, parts.2) in
     (few, decimal_from word n (few_decimal n most few lt) parts.0 parts.2)
 
-module _ (most end : ℕ) (text : Bytes) (lt : most < 2 ^ 84) (other : is_digit end ≡ false) where
+module _ (most end : ℕ) (text : Bytes) (lt : most ≤ LARGEST_ERROR) (other : is_digit end ≡ false) where
   pub no_end : Lacks end text → (n : ℕ) (rest : Bytes) → ¬ IsNumberBefore most end text n rest
   no_end lacks n rest is = lacked end text (decimal n) rest lacks is.spelled
 

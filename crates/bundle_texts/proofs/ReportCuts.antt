@@ -1,8 +1,9 @@
 -- The parts of a report's text are cut off in one way.
-use Rattle.std.proofs.Common.{◌≡◌, ◌≢◌, ℕ, ◌-◌, ◌<◌, ◌^◌, Bool, true, false, List, [], ◌∷◌, ◌++◌, length, decimal, codes, refl, ap, sym, subst, ◌∙◌, append_assoc, arith}
+use Rattle.std.proofs.Common.{◌≡◌, ◌≢◌, ℕ, ◌<◌, ◌≤◌, ◌^◌, Bool, true, false, List, [], ◌∷◌, ◌++◌, length, decimal, codes, refl, ap, sym, subst, ◌∙◌, append_assoc, arith}
 use Rattle.std.proofs.lemmas.List.{append_cancel_left}
 use Rattle.semantics.specs.Texts.{Bytes, bits_word, line_text}
 use Rattle.semantics.specs.Decimal.{is_digit}
+use Rattle.semantics.specs.declared.limits.TheConstants.{LARGEST_ERROR}
 use Rattle.semantics.specs.declared.metric.Metric.{Metric}
 use Rattle.job_semantics.specs.declared.version.Version.{Version}
 use Rattle.job_semantics.specs.Report.{Report, version_word, metric_word, report_text}
@@ -14,9 +15,9 @@ use Rattle.bundle_texts.specs.Pieces.{IsNumberBefore, IsVectorBefore}
 use Rattle.bundle_texts.specs.ReportParts.{head_text, counts_text, minimal_text, tail_text, AreCountsBefore, IsFrontBefore, IsTail}
 use Rattle.bundle_texts.specs.Reading.{report_read}
 
-number_once : (end n m : ℕ) (s t : Bytes) → is_digit end ≡ false → n < 2 ^ 84 → m < 2 ^ 84 → decimal n ++ end ∷ s ≡ decimal m ++ end ∷ t → (n ≡ m) × (s ≡ t)
+number_once : (end n m : ℕ) (s t : Bytes) → is_digit end ≡ false → n ≤ LARGEST_ERROR → m ≤ LARGEST_ERROR → decimal n ++ end ∷ s ≡ decimal m ++ end ∷ t → (n ≡ m) × (s ≡ t)
 number_once end n m s t other few fewer same =
-    let cut = number-cut n m end end s t (few_digits n few) (few_digits m fewer) other other same in
+    let cut = number-cut n m end end s t (few_digits n (omega (arith, few))) (few_digits m (omega (arith, fewer))) other other same in
     (cut.0, append_cancel_left (end ∷ []) s t cut.1)
 
 -- ---- a line of two counts
@@ -73,7 +74,7 @@ module _ (head : Bytes) (width : ℕ) (text r1 : Bytes) (start : text ≡ head +
       → r1 ≡ decimal maximum ++ 10 ∷ (codes "witness " ++ (bits_word x ++ 10 ∷ rest))
   maximum_start maximum x rest h = append_cancel_left head r1 _ (sym start ∙ h.spelled)
 
-  module _ (most : ℕ) (all : most ≡ 2 ^ 84 - 1) where
+  module _ (most : ℕ) (all : most ≡ LARGEST_ERROR) where
     pub no_maximum : ((n : ℕ) (rest : Bytes) → ¬ IsNumberBefore most 10 r1 n rest) → (maximum : ℕ) (x : List Bool) (rest : Bytes) → ¬ IsFrontBefore head width text maximum x rest
     no_maximum none maximum x rest h =
         none maximum (codes "witness " ++ (bits_word x ++ 10 ∷ rest)) (record { few = omega (arith, h.few, all); spelled = maximum_start maximum x rest h })
@@ -131,7 +132,7 @@ parts_are r = head_is r.version r.metric r.bound _ ∙ sym (report_text-is r)
 module _ (inputs : ℕ) (version : Version) (metric : Metric) (bound : ℕ) (text head : Bytes) (head_there : head ≡ head_text version metric bound) where
   front_of : (r : Report) → r.version ≡ version → IsReportText inputs metric bound text r → IsFrontBefore head inputs text r.maximum r.witness (tail_of r)
   front_of r same h = record {
-    few = h.maximum;
+    few = omega (arith, h.maximum);
     width_is = h.witness;
     spelled =
         let behind : Bytes = decimal r.maximum ++ 10 ∷ (codes "witness " ++ (bits_word r.witness ++ 10 ∷ tail_of r)) in
@@ -160,7 +161,7 @@ module _ (inputs : ℕ) (version : Version) (metric : Metric) (bound : ℕ) (tex
           ∙ parts_are (report_read metric bound found);
       same_metric = refl;
       same_bound = refl;
-      maximum = subst (λ n. n < 2 ^ 84) (sym same_maximum) front.few;
+      maximum = omega (arith, same_maximum, front.few);
       witness = ap length same_witness ∙ front.width_is;
       counts = (tail.few_old_tables, (tail.few_new_tables, (tail.few_old_literals, (tail.few_new_literals, tt))));
     }

@@ -1,6 +1,7 @@
 -- The text of a report by parts, as they stand one behind another.
-use Rattle.std.specs.Prelude.{◌≡◌, ℕ, ◌^◌, ◌<◌, Bool, List, [], ◌∷◌, ◌++◌, length, codes, decimal}
+use Rattle.std.specs.Prelude.{◌≡◌, ℕ, ◌^◌, ◌<◌, ◌≤◌, Bool, List, [], ◌∷◌, ◌++◌, length, codes, decimal}
 use Rattle.semantics.specs.Texts.{Bytes, bits_word, line_text}
+use Rattle.semantics.specs.declared.limits.TheConstants.{LARGEST_ERROR}
 use Rattle.semantics.specs.declared.metric.Metric.{Metric}
 use Rattle.job_semantics.specs.declared.version.Version.{Version}
 use Rattle.job_semantics.specs.Report.{version_word, metric_word, yes_word}
@@ -14,7 +15,7 @@ head_text version metric bound =
 
 -- the head, the maximum, the line of the witness, and then the rest
 pub record IsFrontBefore (head : Bytes) (width : ℕ) (text : Bytes) (maximum : ℕ) (x : List Bool) (rest : Bytes) : Type 0 where
-  pub few : maximum < 2 ^ 84
+  pub few : maximum ≤ LARGEST_ERROR
   pub width_is : length x ≡ width
   pub spelled : text ≡ head ++ (decimal maximum ++ 10 ∷ (codes "witness " ++ (bits_word x ++ 10 ∷ rest)))
 

@@ -1,10 +1,11 @@
 //! Pieces at the front of a text: each reader answers what it found and what stands behind.
-ghost use Rattle.std.specs.Prelude.{◌≡◌, ◌≢◌, ◌<◌, ◌^◌, ◌++◌, ◌∷◌, ℕ, Bool, List, false, MatchOption};
+ghost use Rattle.std.specs.Prelude.{◌≡◌, ◌≢◌, ◌≤◌, ◌++◌, ◌∷◌, ℕ, Bool, List, false, MatchOption};
 ghost use Rattle.semantics.specs.Decimal.{is_digit};
 ghost use Rattle.bundle_texts.specs.Pieces.{Lacks, bits_in, IsNumberBefore, IsVectorBefore};
 
 use crate::bits::are_bit_digits;
 use decimal_words::decimal::number_from_to;
+use semantics::limits::LARGEST_ERROR;
 
 /// What stands behind the word.
 pub(crate) fn after<'a>(text: &'a [u8], word: &[u8]) -> Option<&'a [u8]>
@@ -27,7 +28,7 @@ fn split_at(text: &[u8], end: u8) -> Option<(&[u8], &[u8])>
 
 /// The decimal number up to `most` that ends before `end`.
 pub(crate) fn number_before(text: &[u8], most: u128, end: u8) -> Option<(u128, &[u8])>
-    requires few { most < 2 ^ 84 }
+    requires few { most ≤ LARGEST_ERROR }
     requires no_digit { is_digit end ≡ false }
     ensures { MatchOption result
         ((n : ℕ) (rest : List ℕ) → ¬ IsNumberBefore most end text.now n rest)

@@ -11,11 +11,9 @@ use crate::pieces::{after, number_before, vector_before};
 use bundle_writing::report_lines::{ReportText, add_number, add_word, metric_word, version_word};
 use job_semantics::version::Version;
 use net_core::items::Bits;
+use semantics::limits::LARGEST_ERROR;
 use semantics::metric::Metric;
 use std::alloc::{AllocError, Global};
-
-/// The greatest maximum of a report: errors of at most 64 outputs have fewer bits.
-const MOST_MAXIMUM: u128 = (1 << 84) - 1;
 
 /// The greatest count of a report.
 const MOST_COUNT: u128 = u32::MAX as u128;
@@ -59,7 +57,7 @@ fn front<'a>(text: &'a [u8], head: &[u8], width: usize) -> Option<(u128, &'a [u8
         (λ p. IsFrontBefore head.now width text.now p.0 (bits_in p.1.now) p.2.now) }
 {
     let rest = after(text, head)?;
-    let (maximum, rest) = number_before(rest, MOST_MAXIMUM, b'\n')?;
+    let (maximum, rest) = number_before(rest, LARGEST_ERROR, b'\n')?;
     let rest = after(rest, b"witness ")?;
     let (digits, rest) = vector_before(rest, width)?;
     Some((maximum, digits, rest))

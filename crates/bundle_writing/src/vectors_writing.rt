@@ -22,7 +22,7 @@ fn fill_line(x: &[bool], line: &mut [u8])
 }
 
 fn write_vector<F: Files>(x: &[bool], files: &mut F, page: &mut Page) -> Result<(), FileFault>
-    requires { length x.now ≤ 256 }
+    requires { length x.now ≤ MOST_BITS }
     ensures { Gathers result (F.told files.old) (F.told files.new) page.old page.new (vector_line x.now) }
 {
     let mut buffer = [0; MOST_BITS + 1];
@@ -50,7 +50,7 @@ pub fn write_vectors<F: Files>(
     pool: &Patterns,
     files: &mut F,
 ) -> Result<(), FileFault>
-    requires { length witness.now ≤ 256 }
+    requires { length witness.now ≤ MOST_BITS }
     ensures { Writes result (F.told files.old) (F.told files.new) (vectors_text witness.now pool.now.vectors) }
 {
     let mut page = Page::new();

@@ -4,5 +4,4 @@
 pub mod delivery;
 pub mod demonstration;
 pub mod preparing;
-mod soundness;
 pub mod work;

@@ -10,8 +10,8 @@ ghost use Rattle.worst_case.specs.Maximum.{IsMaximumAnswer};
 ghost use Rattle.synth_jobs.specs.Spent.{told_query};
 ghost use Rattle.synth_jobs.specs.Prepared.{bundle_of, AreFound, IsSearched, IsPrepared};
 
-use crate::soundness::see_sound;
 use bundle_writing::bundle::{Bundle, Version};
+use bundle_writing::soundness::see_sound;
 use cnf_core::cnf::Cnf;
 use cnf_core::log::Log;
 use miter::level::miter_of;
