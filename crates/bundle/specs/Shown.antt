@@ -3,6 +3,7 @@ use Rattle.std.specs.Prelude.{◌≡◌, ◌↔◌, ℕ, ◌<◌, ◌≤◌, Boo
 use Rattle.semantics.specs.Texts.{Bytes}
 use Rattle.semantics.specs.Net.{NetValue, IsSmall, input_count}
 use Rattle.semantics.specs.Error.{IsCandidate}
+use Rattle.semantics.specs.declared.limits.TheConstants.{MOST_INPUTS}
 use Rattle.semantics.specs.declared.metric.Metric.{Metric}
 use Rattle.chain_semantics.specs.declared.moves.Move.{Move}
 use Rattle.chain_semantics.specs.Minimality.{IsBrokenBySome, AreBrokenBySome}
@@ -23,7 +24,7 @@ pub record AskedValue : Type 0 where
 pub record IsAsked (a : AskedValue) : Type 0 where
   pub candidate : IsCandidate a.exact a.approx
   pub small : IsSmall a.approx
-  pub few : length a.witness ≤ 256
+  pub few : length a.witness ≤ MOST_INPUTS
   pub width : length a.witness ≡ input_count a.exact
 
 abbrev pub claimed_moves : Option Version → NetValue → List Move

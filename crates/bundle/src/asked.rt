@@ -1,14 +1,16 @@
 //! What the vectors of a bundle are to show.
-ghost use Rattle.std.specs.Prelude.{◌≡◌, IfOk, MatchOption, Some, None};
-ghost use Rattle.semantics.specs.Net.{input_count};
+ghost use Rattle.std.specs.Prelude.{◌≡◌, ◌≤◌, length, IfOk, MatchOption, Some, None};
+ghost use Rattle.semantics.specs.Net.{IsSmall, input_count};
 ghost use Rattle.bundle.specs.Shown.{AskedValue, IsAsked, asked_moves};
 
 use adc_core::growing::GrowingMasks;
 use job_semantics::version::Version;
 use lane_bits::patterns::Patterns;
 use net_core::net::Net;
+use net_errors::compared::Compared;
 use net_moves::list::Moves;
 use net_moves::moves::{moves, old_moves};
+use semantics::limits::MOST_INPUTS;
 use semantics::metric::Metric;
 use std::alloc::{AllocError, Global};
 use std::marker::Model;
@@ -51,24 +53,18 @@ impl<'a> Model for Asked<'a> {
 
 impl<'a> Asked<'a> {
     pub(crate) fn new(
-        exact: &'a Net,
-        approx: &'a Net,
+        nets: &Compared<'a>,
         metric: Metric,
         bound: u128,
         witness: &'a [bool],
         version: Option<Version>,
     ) -> Asked<'a>
-        requires { IsAsked (record {
-          exact = exact.now;
-          approx = approx.now;
-          metric = metric;
-          bound = bound;
-          witness = witness.now;
-          version = version;
-        }) }
+        requires small { IsSmall nets.now.approx }
+        requires few { length witness.now ≤ MOST_INPUTS }
+        requires width { length witness.now ≡ input_count nets.now.exact }
         ensures { result ≡ record {
-          exact = exact.now;
-          approx = approx.now;
+          exact = nets.now.exact;
+          approx = nets.now.approx;
           metric = metric;
           bound = bound;
           witness = witness.now;
@@ -76,8 +72,8 @@ impl<'a> Asked<'a> {
         } }
     {
         Asked {
-            exact,
-            approx,
+            exact: nets.exact(),
+            approx: nets.approx(),
             metric,
             bound,
             witness,

@@ -22,6 +22,7 @@ use file_reading::front::Front;
 use file_reading::reading::read_file;
 use file_reading::unread::Unread;
 use net_core::net::Net;
+use semantics::limits::MOST_INPUTS;
 use semantics::metric::Metric;
 use std::alloc::Global;
 
@@ -60,7 +61,7 @@ pub(crate) fn read_report_file<F: Files>(
     bound: u128,
     inputs: u32,
 ) -> Result<Option<ReportRead>, Unread>
-    requires { inputs ≤ 256 }
+    requires { inputs ≤ MOST_INPUTS }
     ensures ok { IfOk result
         (λ report. TextRead (F.told files.old) (F.told files.new) name.now (IsReportIn inputs metric bound report)) }
     ensures width { IfOk result (λ report. IfSome report (λ r. length r.witness ≡ inputs)) }

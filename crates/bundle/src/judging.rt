@@ -1,7 +1,7 @@
 //! The walk over the clauses of a certificate, in their order. Each file is opened when a clause first needs it, and the walk ends at the
 //! first clause that fails.
 ghost use Rattle.std.specs.Prelude.{◌≡◌, length};
-ghost use Rattle.semantics.specs.Net.{HasSamePorts, IsSmall, input_count};
+ghost use Rattle.semantics.specs.Net.{IsSmall, input_count};
 ghost use Rattle.proof_semantics.specs.Miter.{miter};
 ghost use Rattle.job_semantics.specs.Certificate.{Texts};
 ghost use Rattle.bundle_texts.specs.Reading.{report_read};
@@ -9,7 +9,7 @@ ghost use Rattle.bundle.specs.Shown.{claimed_version};
 ghost use Rattle.bundle.specs.Judging.{Answers, IsFirstFault, NothingKnown, NetKnown, ReportKnown, WitnessKnown, FormulaKnown, LogKnown};
 
 use crate::asked::Asked;
-use crate::claim::{Claim, Contents, are_counts, error_at, miter};
+use crate::claim::{Claim, Contents, are_counts};
 use crate::file_texts::{is_formula, read_log, read_netlist, read_report_file, read_vectors_file};
 use crate::judged::Judged;
 use bundle_texts::item_sink::ItemSink;
@@ -21,21 +21,24 @@ use file_reading::unread::Unread;
 use job_semantics::clause::Clause;
 use job_semantics::ending::Ending;
 use job_semantics::version::Version;
+use miter::level::miter_of;
 use net_core::net::Net;
+use net_errors::compared::Compared;
+use net_errors::net_error::error_at;
 use net_errors::ports::same_ports;
 use semantics::metric::Metric;
 use std::alloc::Global;
 
 /// The first clause that fails of those on the counts and on the report's last line, which need no further file.
 fn check_counts(claim: &Claim, contents: &Contents) -> Option<Clause>
-    requires exact { IsSmall claim.now.exact.now }
-    requires approx { IsSmall contents.now.approx.now }
+    requires exact { IsSmall claim.now.nets.now.exact }
+    requires approx { IsSmall claim.now.nets.now.approx }
     ensures { (texts : Texts)
-        → LogKnown claim.now.exact.now claim.now.metric claim.now.bound contents.now.approx.now
+        → LogKnown claim.now.nets.now.exact claim.now.metric claim.now.bound claim.now.nets.now.approx
         (report_read claim.now.metric claim.now.bound contents.now.report.now) contents.now.is_shown texts
-        → IsFirstFault claim.now.exact.now claim.now.metric claim.now.bound texts result }
+        → IsFirstFault claim.now.nets.now.exact claim.now.metric claim.now.bound texts result }
 {
-    if !are_counts(claim.exact, contents.approx, contents.report) {
+    if !are_counts(claim.nets, contents.report) {
         return Some(Clause::Counts);
     }
     if !contents.is_shown {
@@ -52,13 +55,12 @@ fn check_log<F: Files, L: ItemSink>(
     formula: Cnf,
     files: &mut F,
 ) -> Result<Judged<L>, Unread>
-    requires exact { IsSmall claim.now.exact.now }
-    requires approx { IsSmall contents.now.approx.now }
-    requires ports { HasSamePorts claim.now.exact.now contents.now.approx.now }
-    requires formula { formula ≡ miter claim.now.exact.now contents.now.approx.now claim.now.metric
+    requires exact { IsSmall claim.now.nets.now.exact }
+    requires approx { IsSmall claim.now.nets.now.approx }
+    requires formula { formula ≡ miter claim.now.nets.now.exact claim.now.nets.now.approx claim.now.metric
         contents.now.report.now.maximum }
-    ensures { Answers L.holds claim.now.exact.now claim.now.metric claim.now.bound claim.now.stem.now
-        (FormulaKnown claim.now.exact.now claim.now.metric claim.now.bound contents.now.approx.now
+    ensures { Answers L.holds claim.now.nets.now.exact claim.now.metric claim.now.bound claim.now.stem.now
+        (FormulaKnown claim.now.nets.now.exact claim.now.metric claim.now.bound claim.now.nets.now.approx
         (report_read claim.now.metric claim.now.bound contents.now.report.now) contents.now.is_shown)
         (F.told files.old) (F.told files.new) result }
 {
@@ -78,16 +80,15 @@ fn check_formula<F: Files, L: ItemSink>(
     contents: &Contents,
     files: &mut F,
 ) -> Result<Judged<L>, Unread>
-    requires exact { IsSmall claim.now.exact.now }
-    requires approx { IsSmall contents.now.approx.now }
-    requires ports { HasSamePorts claim.now.exact.now contents.now.approx.now }
-    ensures { Answers L.holds claim.now.exact.now claim.now.metric claim.now.bound claim.now.stem.now
-        (WitnessKnown claim.now.exact.now claim.now.metric claim.now.bound contents.now.approx.now
+    requires exact { IsSmall claim.now.nets.now.exact }
+    requires approx { IsSmall claim.now.nets.now.approx }
+    ensures { Answers L.holds claim.now.nets.now.exact claim.now.metric claim.now.bound claim.now.stem.now
+        (WitnessKnown claim.now.nets.now.exact claim.now.metric claim.now.bound claim.now.nets.now.approx
         (report_read claim.now.metric claim.now.bound contents.now.report.now) contents.now.is_shown)
         (F.told files.old) (F.told files.new) result }
 {
     let level = contents.report.maximum;
-    let formula = miter(alloc, claim.exact, contents.approx, claim.metric, level)?;
+    let formula = miter_of(alloc, claim.nets, claim.metric, level)?;
     if !is_formula(files, claim.stem.name(Ending::Formula), &formula)? {
         return Ok(Judged::Failing(Clause::Formula));
     }
@@ -109,41 +110,28 @@ fn claimed_version(report: &ReportRead) -> Option<Version>
 fn check_witness<F: Files, L: ItemSink>(
     alloc: Global,
     claim: &Claim,
-    approx: &Net,
     report: &ReportRead,
     files: &mut F,
 ) -> Result<Judged<L>, Unread>
-    requires exact { IsSmall claim.now.exact.now }
-    requires approx { IsSmall approx.now }
-    requires ports { HasSamePorts claim.now.exact.now approx.now }
-    requires width { length report.now.witness ≡ input_count claim.now.exact.now }
-    ensures { Answers L.holds claim.now.exact.now claim.now.metric claim.now.bound claim.now.stem.now
-        (ReportKnown claim.now.exact.now claim.now.metric claim.now.bound approx.now
+    requires exact { IsSmall claim.now.nets.now.exact }
+    requires approx { IsSmall claim.now.nets.now.approx }
+    requires width { length report.now.witness ≡ input_count claim.now.nets.now.exact }
+    ensures { Answers L.holds claim.now.nets.now.exact claim.now.metric claim.now.bound claim.now.stem.now
+        (ReportKnown claim.now.nets.now.exact claim.now.metric claim.now.bound claim.now.nets.now.approx
         (report_read claim.now.metric claim.now.bound report.now))
         (F.told files.old) (F.told files.new) result }
 {
     let witness = report.witness.as_slice();
     let version = claimed_version(report);
-    let asked = Asked::new(
-        claim.exact,
-        approx,
-        claim.metric,
-        claim.bound,
-        witness,
-        version,
-    );
+    let asked = Asked::new(claim.nets, claim.metric, claim.bound, witness, version);
     let name = claim.stem.name(Ending::Vectors);
     let Some(is_shown) = read_vectors_file(alloc, files, name, asked)? else {
         return Ok(Judged::Failing(Clause::Witness));
     };
-    if error_at(alloc, claim.exact, approx, claim.metric, witness)? != report.maximum {
+    if error_at(alloc, claim.nets, claim.metric, witness)? != report.maximum {
         return Ok(Judged::Failing(Clause::Attained));
     }
-    let contents = Contents {
-        approx,
-        report,
-        is_shown,
-    };
+    let contents = Contents { report, is_shown };
     check_formula(alloc, claim, &contents, files)
 }
 
@@ -151,18 +139,16 @@ fn check_witness<F: Files, L: ItemSink>(
 fn check_report<F: Files, L: ItemSink>(
     alloc: Global,
     claim: &Claim,
-    approx: &Net,
     files: &mut F,
 ) -> Result<Judged<L>, Unread>
-    requires exact { IsSmall claim.now.exact.now }
-    requires approx { IsSmall approx.now }
-    requires ports { HasSamePorts claim.now.exact.now approx.now }
-    ensures { Answers L.holds claim.now.exact.now claim.now.metric claim.now.bound claim.now.stem.now
-        (NetKnown claim.now.exact.now approx.now)
+    requires exact { IsSmall claim.now.nets.now.exact }
+    requires approx { IsSmall claim.now.nets.now.approx }
+    ensures { Answers L.holds claim.now.nets.now.exact claim.now.metric claim.now.bound claim.now.stem.now
+        (NetKnown claim.now.nets.now.exact claim.now.nets.now.approx)
         (F.told files.old) (F.told files.new) result }
 {
     let name = claim.stem.name(Ending::Report);
-    let inputs = claim.exact.inputs();
+    let inputs = claim.nets.exact().inputs();
     let Some(report) = read_report_file(alloc, files, name, claim.metric, claim.bound, inputs)?
     else {
         return Ok(Judged::Failing(Clause::ReportForm));
@@ -170,7 +156,7 @@ fn check_report<F: Files, L: ItemSink>(
     if report.maximum > claim.bound {
         return Ok(Judged::Failing(Clause::MaximumWithin));
     }
-    check_witness(alloc, claim, approx, &report, files)
+    check_witness(alloc, claim, &report, files)
 }
 
 /// What all clauses come to, from the netlist's on: the first that fails, or the formula of the certificate and what a sink keeps of
@@ -192,11 +178,12 @@ pub(crate) fn check_netlist<F: Files, L: ItemSink>(
     if !same_ports(net, &approx) {
         return Ok(Judged::Failing(Clause::Ports));
     }
+    let nets = Compared::new(net, &approx);
     let claim = Claim {
-        exact: net,
+        nets: &nets,
         metric,
         bound,
         stem,
     };
-    check_report(alloc, &claim, &approx, files)
+    check_report(alloc, &claim, files)
 }

@@ -25,8 +25,8 @@ returns-then-not-are_counts c texts known =
     let contents = c.args.contents.now in
     let metric = claim.metric in
     let read = contents.report.now in
-    let N = claim.exact.now in
-    let M = contents.approx.now in other_counts N metric claim.bound texts M (report_read metric claim.bound read) contents.is_shown known
+    let N = claim.nets.now.exact in
+    let M = claim.nets.now.approx in other_counts N metric claim.bound texts M (report_read metric claim.bound read) contents.is_shown known
     (λ counts. let yes : c.are_counts.result ≡ true = c.are_counts.ensures.1 (counts_at N M read metric Abs claim.bound 0 counts) in cc)
 
 pub returns-then-not-contents : goal.returns-then-not-contents
@@ -35,8 +35,8 @@ returns-then-not-contents c texts known =
     let contents = c.args.contents.now in
     let metric = claim.metric in
     let read = contents.report.now in
-    let N = claim.exact.now in
-    let M = contents.approx.now in
+    let N = claim.nets.now.exact in
+    let M = claim.nets.now.approx in
     not_shown N metric claim.bound texts M (report_read metric claim.bound read) contents.is_shown known
     (counts_at N M read Abs metric 0 claim.bound (c.are_counts.ensures.0 c.if-not-are_counts.false)) (λ is. absurd (cc (is, c.if-not-contents.true)))
 
@@ -46,7 +46,7 @@ returns c texts known =
     let contents = c.args.contents.now in
     let metric = claim.metric in
     let read = contents.report.now in
-    let N = claim.exact.now in
-    let M = contents.approx.now in
+    let N = claim.nets.now.exact in
+    let M = claim.nets.now.approx in
     all_hold N metric claim.bound texts M (report_read metric claim.bound read) contents.is_shown known
     (counts_at N M read Abs metric 0 claim.bound (c.are_counts.ensures.0 c.if-not-are_counts.false)) c.if-not-contents.false

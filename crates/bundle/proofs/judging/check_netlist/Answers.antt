@@ -1,9 +1,10 @@
 use Rattle.std.proofs.Common.{◌≡◌, true, sym, subst}
 use Rattle.std.proofs.lemmas.Result.{err_from_is_err_and}
+use Rattle.net_errors.specs.Compared.{NetPair}
 use Rattle.job_semantics.specs.declared.ending.Ending.TheVariants as file
 use Rattle.job_semantics.specs.declared.clause.Clause.TheVariants as clause
 use Rattle.bundle_texts.specs.FilesRead.{IsNetIn}
-use Rattle.bundle.specs.Judging.{TextRead, TextUnread, NothingKnown, NetKnown}
+use Rattle.bundle.specs.Judging.{TextRead, TextUnread, Answers, NothingKnown, NetKnown}
 use Rattle.std.proofs.Common.{Some, None}
 use Rattle.bundle.proofs.JudgedTexts.{no_netlist, other_ports, netlist_needed}
 use Rattle.bundle.proofs.ToldAnswers.{answers_unread, answers_failing, answers_later}
@@ -65,4 +66,8 @@ returns g c =
     subst (λ n. TextRead old mid n (IsNetIn (Some M))) c.name.ensures (subst (λ o. TextRead old mid c.name.result.now (IsNetIn o)) c.in-Some.is c.in_ok-approx.ensures.ok) in
     answers_later g.L.ItemSink.holds N metric bound stem old mid new file.Netlist (IsNetIn (Some M)) NothingKnown (NetKnown N M) was
     (λ texts known. netlist_needed N metric bound texts)
-    (λ texts known net. record { netlist = net; ports = c.same_ports.ensures.0 c.if-not-same_ports.false }) c.check_report.result c.check_report.ensures
+    (λ texts known net. record { netlist = net; ports = c.same_ports.ensures.0 c.if-not-same_ports.false }) c.check_report.result
+    (subst (λ (p : NetPair). Answers g.L.ItemSink.holds p.exact metric bound stem (NetKnown p.exact p.approx) mid new c.check_report.result) c.new-nets.ensures c.check_report.ensures)
+
+pub new-nets-requires : goal.new-nets-requires
+new-nets-requires g c = record { ports = c.same_ports.ensures.0 c.if-not-same_ports.false; few_outputs = c.requires.outputs }

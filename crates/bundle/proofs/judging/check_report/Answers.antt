@@ -1,6 +1,7 @@
-use Rattle.std.proofs.Common.{sym, subst, arith}
+use Rattle.std.proofs.Common.{sym, ap, subst, ◌∙◌, arith}
 use Rattle.std.proofs.lemmas.Result.{err_from_is_err_and}
 use Rattle.semantics.specs.Texts.{Bytes}
+use Rattle.semantics.specs.Net.{input_count}
 use Rattle.job_semantics.specs.declared.ending.Ending.TheVariants as file
 use Rattle.job_semantics.specs.declared.clause.Clause.TheVariants as clause
 use Rattle.bundle_texts.specs.Reading.{report_read}
@@ -15,9 +16,9 @@ use Rattle.bundle.proofs.judging.check_report.Goals as goal
 pub returns-in_err-report : goal.returns-in_err-report
 returns-in_err-report g c =
     let claim = c.args.claim.now in
-    let N = claim.exact.now in
+    let N = claim.nets.now.exact in
     let metric = claim.metric in
-    let M = c.args.approx.now in
+    let M = claim.nets.now.approx in
     let K = NetKnown N M in
     let inputs = c.inputs-inputs.result in
     let old = g.F.Files.told c.args.files.now in
@@ -31,9 +32,9 @@ returns-in_err-report g c =
 pub returns-in_default : goal.returns-in_default
 returns-in_default g c =
     let claim = c.args.claim.now in
-    let N = claim.exact.now in
+    let N = claim.nets.now.exact in
     let metric = claim.metric in
-    let M = c.args.approx.now in
+    let M = claim.nets.now.approx in
     let K = NetKnown N M in
     let inputs = c.inputs-inputs.result in
     let old = g.F.Files.told c.args.files.now in
@@ -45,14 +46,14 @@ returns-in_default g c =
     answers_failing g.L.ItemSink.holds N metric claim.bound claim.stem.now old new file.Report Q K clause.ReportForm was
     (λ texts known. report_needed N metric claim.bound texts M known)
     (λ texts known none. no_report N metric claim.bound texts M known
-    (λ r is. none r (subst (λ k. IsReportText k metric claim.bound (texts file.Report) r) (sym c.inputs-inputs.ensures.value) is)))
+    (λ r is. none r (subst (λ k. IsReportText k metric claim.bound (texts file.Report) r) (sym (c.inputs-inputs.ensures.value ∙ ap input_count c.exact.ensures.value)) is)))
 
 pub returns-then-report-claim : goal.returns-then-report-claim
 returns-then-report-claim g c =
     let claim = c.args.claim.now in
-    let N = claim.exact.now in
+    let N = claim.nets.now.exact in
     let metric = claim.metric in
-    let M = c.args.approx.now in
+    let M = claim.nets.now.approx in
     let K = NetKnown N M in
     let inputs = c.inputs-inputs.result in
     let old = g.F.Files.told c.args.files.now in
@@ -65,15 +66,15 @@ returns-then-report-claim g c =
     (subst (λ o. TextRead old new c.name-name.result.now (IsReportIn inputs metric claim.bound o)) c.in-Some.is c.in_ok-report.ensures.ok) in
     answers_failing g.L.ItemSink.holds N metric claim.bound claim.stem.now old new file.Report Q K clause.MaximumWithin was
     (λ texts known. report_needed N metric claim.bound texts M known)
-    (λ texts known is. above_bound N metric claim.bound texts M r known (subst (λ k. IsReportText k metric claim.bound (texts file.Report) r) c.inputs-inputs.ensures.value is)
+    (λ texts known is. above_bound N metric claim.bound texts M r known (subst (λ k. IsReportText k metric claim.bound (texts file.Report) r) (c.inputs-inputs.ensures.value ∙ ap input_count c.exact.ensures.value) is)
     (λ within. omega (arith, within, c.if-report-claim.true)))
 
 pub returns : goal.returns
 returns g c =
     let claim = c.args.claim.now in
-    let N = claim.exact.now in
+    let N = claim.nets.now.exact in
     let metric = claim.metric in
-    let M = c.args.approx.now in
+    let M = claim.nets.now.approx in
     let K = NetKnown N M in
     let inputs = c.inputs-inputs.result in
     let old = g.F.Files.told c.args.files.now in
@@ -90,7 +91,7 @@ returns g c =
     (λ texts known is.
     record {
       net = known;
-      report = subst (λ k. IsReportText k metric claim.bound (texts file.Report) r) c.inputs-inputs.ensures.value is;
+      report = subst (λ k. IsReportText k metric claim.bound (texts file.Report) r) (c.inputs-inputs.ensures.value ∙ ap input_count c.exact.ensures.value) is;
       within = omega (arith, c.if-report-claim.false);
     })
     c.check_witness.result c.check_witness.ensures

@@ -16,8 +16,8 @@ use Rattle.bundle.proofs.judging.check_witness.Goals as goal
 pub returns-in_err-is_shown : goal.returns-in_err-is_shown
 returns-in_err-is_shown g c =
     let claim = c.args.claim.now in
-    let N = claim.exact.now in
-    let M = c.args.approx.now in
+    let N = claim.nets.now.exact in
+    let M = claim.nets.now.approx in
     let metric = claim.metric in
     let r = report_read metric claim.bound c.args.report.now in
     let K = ReportKnown N metric claim.bound M r in
@@ -33,8 +33,8 @@ returns-in_err-is_shown g c =
 pub returns-in_default : goal.returns-in_default
 returns-in_default g c =
     let claim = c.args.claim.now in
-    let N = claim.exact.now in
-    let M = c.args.approx.now in
+    let N = claim.nets.now.exact in
+    let M = claim.nets.now.approx in
     let metric = claim.metric in
     let r = report_read metric claim.bound c.args.report.now in
     let K = ReportKnown N metric claim.bound M r in
@@ -57,8 +57,8 @@ returns-in_default g c =
 pub returns-in_err-error_at : goal.returns-in_err-error_at
 returns-in_err-error_at g c =
     let claim = c.args.claim.now in
-    let N = claim.exact.now in
-    let M = c.args.approx.now in
+    let N = claim.nets.now.exact in
+    let M = claim.nets.now.approx in
     let metric = claim.metric in
     let r = report_read metric claim.bound c.args.report.now in
     let K = ReportKnown N metric claim.bound M r in
@@ -80,8 +80,8 @@ returns-in_err-error_at g c =
 pub returns-then-branch-report : goal.returns-then-branch-report
 returns-then-branch-report g c =
     let claim = c.args.claim.now in
-    let N = claim.exact.now in
-    let M = c.args.approx.now in
+    let N = claim.nets.now.exact in
+    let M = claim.nets.now.approx in
     let metric = claim.metric in
     let r = report_read metric claim.bound c.args.report.now in
     let K = ReportKnown N metric claim.bound M r in
@@ -106,8 +106,8 @@ returns-then-branch-report g c =
 pub returns : goal.returns
 returns g c =
     let claim = c.args.claim.now in
-    let N = claim.exact.now in
-    let M = c.args.approx.now in
+    let N = claim.nets.now.exact in
+    let M = claim.nets.now.approx in
     let metric = claim.metric in
     let r = report_read metric claim.bound c.args.report.now in
     let K = ReportKnown N metric claim.bound M r in
@@ -132,10 +132,8 @@ returns g c =
     })
     c.check_formula.result c.check_formula.ensures
 
-pub new-asked-requires : goal.new-asked-requires
-new-asked-requires g c = record {
-  candidate = record { ports = c.requires.ports; few_outputs = c.requires.exact.outputs };
-  small = c.requires.approx;
-  few = omega (arith, ap length c.as_slice-witness.ensures, c.requires.width, c.requires.exact.inputs);
-  width = ap length c.as_slice-witness.ensures ∙ c.requires.width;
-}
+pub new-asked-requires-clause-few : goal.new-asked-requires-clause-few
+new-asked-requires-clause-few g c = omega (arith, ap length c.as_slice-witness.ensures, c.requires.width, c.requires.exact.inputs)
+
+pub new-asked-requires-clause-width : goal.new-asked-requires-clause-width
+new-asked-requires-clause-width g c = ap length c.as_slice-witness.ensures ∙ c.requires.width
