@@ -2,7 +2,6 @@
 ghost use Rattle.std.specs.Prelude.{◌≡◌};
 ghost use Rattle.synth_jobs.specs.Work.{work_exit};
 
-use std::fmt;
 use worst_case::query::Spent;
 
 /// What the work on a net comes to.
@@ -30,17 +29,5 @@ impl Work {
             Work::Budget { .. } => 4,
             Work::WriteFault => 6,
         }
-    }
-}
-
-/// The line on standard error, without the program's name.
-impl fmt::Display for Work {
-    fn fmt<W: fmt::Write>(&self, f: &mut fmt::Formatter<W>) -> fmt::Result {
-        f.write_str(match self {
-            Work::Done(_) => "done",
-            Work::NoMemory => "out of memory",
-            Work::Budget { .. } => "conflicts spent",
-            Work::WriteFault => "write fault",
-        })
     }
 }
