@@ -17,8 +17,8 @@ use Rattle.synth_jobs.specs.declared.work.Work.TheVariants as work
 use Rattle.synth_jobs.specs.Work.{WorkSays}
 use Rattle.job_answers.specs.declared.status.Status.{Status}
 use Rattle.job_answers.specs.declared.status.Status.TheVariants.{Done, NoMemory, Budget, WriteFault}
-use Rattle.jobs.specs.declared.status.Outcome.{Outcome}
-use Rattle.jobs.specs.Status.{outcome_of}
+use Rattle.jobs.specs.declared.outcome.Outcome.{Outcome}
+use Rattle.jobs.specs.Outcome.{outcome_of}
 use Rattle.jobs.specs.Run.{BundleAnswerAt, BundleAnswer, IsWorkOf}
 
 -- what the work on a net says is what its answer says

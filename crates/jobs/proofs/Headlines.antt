@@ -22,9 +22,9 @@ use Rattle.job_semantics.proofs.FileWords.{file_words_law}
 use Rattle.job_semantics.proofs.CheckedFiles.{one_net, joined_runs_law}
 use Rattle.job_answers.specs.declared.status.Status.{Status}
 use Rattle.job_answers.specs.declared.status.Status.TheVariants.{Done, Verified, Text, NoMemory, Budget, ReadFault, WriteFault}
-use Rattle.jobs.specs.declared.status.Outcome.{Outcome}
+use Rattle.jobs.specs.declared.outcome.Outcome.{Outcome}
 use Rattle.synth_jobs.specs.Spent.{told_query}
-use Rattle.jobs.specs.Status.{NothingSpent}
+use Rattle.jobs.specs.Outcome.{NothingSpent}
 use Rattle.jobs.specs.Run.{SynthAnswerAt, RunSays}
 use Rattle.check_jobs.proofs.CheckAnswers.{verified_end}
 use Rattle.jobs.proofs.SynthAnswers.{quiet_ends}

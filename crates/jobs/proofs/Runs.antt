@@ -11,16 +11,14 @@ use Rattle.job_semantics.specs.Demo.{demo_net}
 use Rattle.job_semantics.specs.Demonstration.{demo_stem}
 use Rattle.job_answers.specs.declared.status.Status.{Status}
 use Rattle.job_answers.specs.declared.status.Status.TheVariants.{Done, Usage, Text, NoMemory, Budget, ReadFault, WriteFault}
-use Rattle.jobs.specs.declared.status.Outcome.{Outcome}
+use Rattle.jobs.specs.declared.outcome.Outcome.{Outcome}
 use Rattle.synth_jobs.specs.Spent.{told_query}
-use Rattle.jobs.specs.Status.{SpendsAs, SpendsAsTold}
+use Rattle.jobs.specs.Outcome.{SpendsAs, SpendsAsTold}
 use Rattle.job_answers.specs.Refused.{TellsBlif, TellsHier, TellsAiger}
 use Rattle.job_answers.proofs.Refusals.{AsksNothing, no_usage_asked, blif_is_refusal, hier_is_refusal, aiger_is_refusal}
 use Rattle.conversions.specs.Texts.{flat_text, aag_text, netlist_text}
-use Rattle.conversions.specs.Answers.{ConversionAnswer}
 use Rattle.conversions.proofs.Conversions.{quiet_conversion_ends, conversion_asks_nothing}
-use Rattle.check_jobs.specs.Answers.{CheckAnswer, TrimAnswer}
-use Rattle.jobs.specs.Run.{SynthAnswerAt, SynthAnswer, BundleAnswerAt, BundleAnswer, JobAnswer, RunSays, IsQuietJob, EndsAsAsked}
+use Rattle.jobs.specs.Run.{SynthAnswerAt, SynthAnswer, BundleAnswerAt, BundleAnswer, JobAnswer, IsOnFiles, RunSays, IsQuietJob, EndsAsAsked}
 use Rattle.jobs.proofs.BundleAnswers.{quiet_demo_ends}
 use Rattle.check_jobs.proofs.CheckAnswers.{check_asks_nothing, quiet_check_ends}
 use Rattle.jobs.proofs.SynthAnswers.{quiet_ends}
@@ -55,6 +53,20 @@ asks_nothing_spends Done is = refl
 asks_nothing_spends Budget is = absurd is
 asks_nothing_spends _ is = (refl, refl)
 
+-- a job that is done with files alone asks the solver nothing
+files_ask_nothing : (old new : FilesTold) (said says : SinkTold) (job : Job) (status : Status) → IsOnFiles job
+    → JobAnswer job old new said says (record { status = status; spent = None; level = None }) → AsksNothing status
+files_ask_nothing old new said says (synth metric bound conflicts input stem) status on answer = absurd on
+files_ask_nothing old new said says (check metric bound input stem) status on answer = check_asks_nothing status answer.0 answer.1
+files_ask_nothing old new said says (demo width bound conflicts) status on answer = absurd on
+files_ask_nothing old new said says (flat input output) status on answer =
+    conversion_asks_nothing flat_text TellsHier hier_is_refusal input output status answer.0.0 answer.0.1
+files_ask_nothing old new said says (aag input output) status on answer =
+    conversion_asks_nothing aag_text TellsBlif blif_is_refusal input output status answer.0.0 answer.0.1
+files_ask_nothing old new said says (blif input output) status on answer =
+    conversion_asks_nothing netlist_text TellsAiger aiger_is_refusal input output status answer.0.0 answer.0.1
+files_ask_nothing old new said says (trim metric bound input stem output) status on answer = trim_asks_nothing status answer.0.0 answer.0.1
+
 module _ {words : List Bytes} {old new : FilesTold} {said says : SinkTold} where
   job_says : (job : Job) (o : Outcome) → job_of words ≡ Some job → o.status ≢ Usage → SpendsAsTold o → JobAnswer job old new said says o → RunSays words old new said says o
   job_says job o named no_usage spends answer = record {
@@ -84,30 +96,13 @@ module _ {words : List Bytes} {old new : FilesTold} {said says : SinkTold} where
   asking_nothing job o status is named nothing answer = subst (RunSays words old new said says) (sym is)
       (job_says job (record { status = status; spent = None; level = None }) named (no_usage_asked status nothing) (asks_nothing_spends status nothing) answer)
 
-  pub check-says : {metric : Metric} {bound : ℕ} {input stem : Bytes} (o : Outcome) (status : Status) → o ≡ record { status = status; spent = None; level = None }
-      → job_of words ≡ Some (check metric bound input stem) → CheckAnswer metric bound input stem old new said says status → RunSays words old new said says o
-  check-says {metric} {bound} {input} {stem} o status is named answer =
-      asking_nothing (check metric bound input stem) o status is named (check_asks_nothing status answer.0 answer.1) answer
+  pub on_files-says : (job : Job) (o : Outcome) (status : Status) → o ≡ record { status = status; spent = None; level = None } → job_of words ≡ Some job → IsOnFiles job
+      → JobAnswer job old new said says (record { status = status; spent = None; level = None }) → RunSays words old new said says o
+  on_files-says job o status is named on answer = asking_nothing job o status is named (files_ask_nothing old new said says job status on answer) answer
 
-  pub flat-says : {input output : Bytes} (o : Outcome) (status : Status) → o ≡ record { status = status; spent = None; level = None }
-      → job_of words ≡ Some (flat input output) → ConversionAnswer flat_text TellsHier input output old new said says status → RunSays words old new said says o
-  flat-says {input} {output} o status is named answer =
-      asking_nothing (flat input output) o status is named (conversion_asks_nothing flat_text TellsHier hier_is_refusal input output status answer.0 answer.1) (answer, (refl, refl))
-
-  pub aag-says : {input output : Bytes} (o : Outcome) (status : Status) → o ≡ record { status = status; spent = None; level = None }
-      → job_of words ≡ Some (aag input output) → ConversionAnswer aag_text TellsBlif input output old new said says status → RunSays words old new said says o
-  aag-says {input} {output} o status is named answer =
-      asking_nothing (aag input output) o status is named (conversion_asks_nothing aag_text TellsBlif blif_is_refusal input output status answer.0 answer.1) (answer, (refl, refl))
-
-  pub blif-says : {input output : Bytes} (o : Outcome) (status : Status) → o ≡ record { status = status; spent = None; level = None }
-      → job_of words ≡ Some (blif input output) → ConversionAnswer netlist_text TellsAiger input output old new said says status → RunSays words old new said says o
-  blif-says {input} {output} o status is named answer =
-      asking_nothing (blif input output) o status is named (conversion_asks_nothing netlist_text TellsAiger aiger_is_refusal input output status answer.0 answer.1) (answer, (refl, refl))
-
-  pub trim-says : {metric : Metric} {bound : ℕ} {input stem output : Bytes} (o : Outcome) (status : Status) → o ≡ record { status = status; spent = None; level = None }
-      → job_of words ≡ Some (trim metric bound input stem output) → TrimAnswer metric bound input stem output old new said says status → RunSays words old new said says o
-  trim-says {metric} {bound} {input} {stem} {output} o status is named answer =
-      asking_nothing (trim metric bound input stem output) o status is named (trim_asks_nothing status answer.0 answer.1) (answer, (refl, refl))
+  -- words that name a job are not answered by `Usage`
+  pub named_is_no_usage : (job : Job) (o : Outcome) → job_of words ≡ Some job → RunSays words old new said says o → o.status ≢ Usage
+  named_is_no_usage job o named run usage = let bad : ◌≡◌ {A = Option Job} None (Some job) = sym (run.usage.0 usage) ∙ named in cc
 
   pub demo-says : {width bound limit : ℕ} (o : Outcome) → job_of words ≡ Some (demo width bound limit)
       → BundleAnswer Abs bound limit (demo_net width) demo_stem old new said says o → RunSays words old new said says o

@@ -14,7 +14,7 @@ use Rattle.job_semantics.specs.Input.{input_reading, IsReadAs, IsAccepted}
 use Rattle.bundle_writing.proofs.FilesInOrder.{FilesWritten-then, FilesCutShort-after}
 use Rattle.job_answers.specs.declared.status.Status.{Status}
 use Rattle.job_answers.specs.declared.status.Status.TheVariants.{Done, Text, NoMemory, Budget, ReadFault, WriteFault}
-use Rattle.jobs.specs.declared.status.Outcome.{Outcome}
+use Rattle.jobs.specs.declared.outcome.Outcome.{Outcome}
 use Rattle.job_answers.specs.Ends.{EndsWell}
 use Rattle.conversions.specs.Input.{NetRead, NetUnread}
 use Rattle.conversions.proofs.InputReadings.{OfInput-later}
@@ -25,7 +25,7 @@ use Rattle.jobs.specs.Run.{SynthAnswerAt, SynthAnswer, BundleAnswerAt, BundleAns
 use Rattle.check_jobs.proofs.CheckAnswers.{input_refused}
 use Rattle.synth_jobs.specs.declared.work.Work.{Work}
 use Rattle.synth_jobs.specs.Work.{WorkSays}
-use Rattle.jobs.specs.Status.{outcome_of}
+use Rattle.jobs.specs.Outcome.{outcome_of}
 use Rattle.jobs.proofs.BundleAnswers.{BundleAnswer-told, enough_spends_nothing, not_quiet_cut}
 
 -- nothing was written while IN was read

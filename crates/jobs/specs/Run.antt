@@ -25,9 +25,9 @@ use Rattle.job_answers.specs.Ends.{EndsWell}
 use Rattle.check_jobs.specs.Answers.{CheckAnswer, TrimAnswer, Refuses, IsCheckAnswerTo, IsTrimAnswerTo}
 use Rattle.conversions.specs.Texts.{flat_text, aag_text, netlist_text}
 use Rattle.conversions.specs.Answers.{ConversionAnswer, IsConvertedAs}
-use Rattle.jobs.specs.declared.status.Outcome.{Outcome}
+use Rattle.jobs.specs.declared.outcome.Outcome.{Outcome}
 use Rattle.synth_jobs.specs.Spent.{told_query}
-use Rattle.jobs.specs.Status.{NothingSpent, SpendsAsTold}
+use Rattle.jobs.specs.Outcome.{NothingSpent, SpendsAsTold}
 
 -- IN is refused for the reason that is told, which is not want of memory
 abbrev pub IsToldRefused : BlifRefusal → Bytes → FilesTold → FilesTold → SinkTold → SinkTold → Type 0
@@ -94,6 +94,12 @@ JobAnswer (flat input output) old new said says o = ConversionAnswer flat_text T
 JobAnswer (aag input output) old new said says o = ConversionAnswer aag_text TellsBlif input output old new said says o.status × AsksNoQuery o
 JobAnswer (blif input output) old new said says o = ConversionAnswer netlist_text TellsAiger input output old new said says o.status × AsksNoQuery o
 JobAnswer (trim metric bound input stem output) old new said says o = TrimAnswer metric bound input stem output old new said says o.status × AsksNoQuery o
+
+-- the job is done with files alone: no net is simplified, and no report is put
+abbrev pub IsOnFiles : Job → Type 0
+IsOnFiles (synth metric bound conflicts input stem) = ⊥
+IsOnFiles (demo width bound conflicts) = ⊥
+IsOnFiles job = Unit {0}
 
 -- What every run says, by its words, its answer, and what files and sink told at entry and at exit: words that are no job, and only those, are
 -- `Usage`; a spent query is told with `Budget` and with `Done` alone, that of the search for the greatest error exactly with `Budget`; and the

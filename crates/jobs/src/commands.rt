@@ -1,9 +1,13 @@
 //! The jobs by their words, and what each of their answers says.
-ghost use Rattle.std.specs.Prelude.{◌≡◌};
-ghost use Rattle.jobs.specs.Run.{RunSays};
+ghost use Rattle.std.specs.Prelude.{◌≡◌, List, Some, None};
+ghost use Rattle.semantics.specs.Texts.{Bytes};
+ghost use Rattle.outside_semantics.specs.Outside.{SinkTold};
+ghost use Rattle.job_semantics.specs.Job.{job_of};
+ghost use Rattle.command_words.specs.Words.{job_meaning};
+ghost use Rattle.jobs.specs.Run.{IsOnFiles, JobAnswer, RunSays};
 
 use crate::demonstration::demonstrate;
-use crate::status::{Outcome, Status, only};
+use crate::outcome::{Outcome, Status, only};
 use crate::synthesis::synthesize;
 use check_jobs::checking::check;
 use check_jobs::trimming::trim_bundle;
@@ -16,6 +20,40 @@ use progress::progress::Progress;
 use std::alloc::Global;
 use synth_jobs::preparing::Constraint;
 
+/// Carries out a job that is done with files alone: a check, a conversion, or a trimmed log.
+fn on_files<F: Files>(alloc: Global, command: Command, files: &mut F) -> Status
+    requires on_files { IsOnFiles (job_meaning command) }
+    requires named { (words : List Bytes) × (job_of words ≡ Some (job_meaning command)) }
+    ensures { (said : SinkTold) → JobAnswer
+        (job_meaning command.entry)
+        (F.told files.old)
+        (F.told files.new)
+        said
+        said
+        (record { status = result; spent = None; level = None }) }
+{
+    match command {
+        Command::Check {
+            metric,
+            bound,
+            input,
+            stem,
+        } => check(alloc, metric, bound, input, stem, files),
+        Command::Flat { input, output } => flat(alloc, input, output, files),
+        Command::Aag { input, output } => aag(alloc, input, output, files),
+        Command::Blif { input, output } => blif(alloc, input, output, files),
+        Command::Trim {
+            metric,
+            bound,
+            input,
+            stem,
+            output,
+        } => trim_bundle(alloc, metric, bound, input, stem, output, files),
+        Command::Synth { .. } => unreachable!(),
+        Command::Demo { .. } => unreachable!(),
+    }
+}
+
 /// Carries out the job that the words name. Who follows it is told how far a search is.
 pub fn carry_out<F: Files, K: Sink, P: Progress>(
     alloc: Global,
@@ -27,17 +65,17 @@ pub fn carry_out<F: Files, K: Sink, P: Progress>(
     ensures says { RunSays words.now (F.told files.old) (F.told files.new) (K.told say.old) (K.told say.new) result }
     ensures usage_touches_nothing { result.status ≡ Status.Usage → (files.new ≡ files.old) × (say.new ≡ say.old) }
 {
-    match command_named(words) {
-        None => only(Status::Usage),
-        Some(
-            Command::Synth {
-                metric,
-                bound,
-                conflicts,
-                input,
-                stem,
-            },
-        ) => {
+    let Some(command) = command_named(words) else {
+        return only(Status::Usage);
+    };
+    match command {
+        Command::Synth {
+            metric,
+            bound,
+            conflicts,
+            input,
+            stem,
+        } => {
             let aim = Constraint {
                 metric,
                 bound,
@@ -45,40 +83,14 @@ pub fn carry_out<F: Files, K: Sink, P: Progress>(
             };
             synthesize(alloc, aim, input, stem, files, say, progress)
         }
-        Some(
-            Command::Check {
-                metric,
-                bound,
-                input,
-                stem,
-            },
-        ) => only(check(alloc, metric, bound, input, stem, files)),
-        Some(
-            Command::Demo {
-                width,
-                bound,
-                conflicts,
-            },
-        ) => demonstrate(
-            alloc,
+        Command::Demo {
             width,
             bound,
-            u64::from(conflicts),
-            files,
-            say,
-            progress,
-        ),
-        Some(Command::Flat { input, output }) => only(flat(alloc, input, output, files)),
-        Some(Command::Aag { input, output }) => only(aag(alloc, input, output, files)),
-        Some(Command::Blif { input, output }) => only(blif(alloc, input, output, files)),
-        Some(
-            Command::Trim {
-                metric,
-                bound,
-                input,
-                stem,
-                output,
-            },
-        ) => only(trim_bundle(alloc, metric, bound, input, stem, output, files)),
+            conflicts,
+        } => {
+            let limit = u64::from(conflicts);
+            demonstrate(alloc, width, bound, limit, files, say, progress)
+        }
+        _ => only(on_files(alloc, command, files)),
     }
 }

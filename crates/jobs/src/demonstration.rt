@@ -5,7 +5,7 @@ ghost use Rattle.job_semantics.specs.Demo.{demo_net};
 ghost use Rattle.job_semantics.specs.Demonstration.{demo_stem};
 ghost use Rattle.jobs.specs.Run.{BundleAnswer};
 
-use crate::status::{Outcome, outcome_of};
+use crate::outcome::{Outcome, outcome_of};
 use file_core::files::Files;
 use file_core::sink::Sink;
 use progress::progress::Progress;

@@ -4,6 +4,6 @@
 
 mod commands;
 mod demonstration;
+pub mod outcome;
 pub mod run;
-pub mod status;
 mod synthesis;

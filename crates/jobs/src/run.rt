@@ -15,7 +15,7 @@ ghost use Rattle.check_jobs.specs.Answers.{IsCheckAnswerTo};
 ghost use Rattle.jobs.specs.Run.{RunSays, IsQuietJob, EndsAsAsked, IsAnswerTo, IsWorkOf};
 
 use crate::commands::carry_out;
-use crate::status::{Outcome, Status};
+use crate::outcome::{Outcome, Status};
 use file_core::files::Files;
 use file_core::sink::Sink;
 use file_core::sure_files::SureFiles;

@@ -2,7 +2,7 @@
 ghost use Rattle.std.specs.Prelude.{◌≤◌};
 ghost use Rattle.jobs.specs.Run.{SynthAnswer};
 
-use crate::status::{Outcome, Status, only, outcome_of};
+use crate::outcome::{Outcome, Status, only, outcome_of};
 use bundle_writing::stem::Stem;
 use conversions::input::read_net;
 use file_core::files::Files;

@@ -1,5 +1,7 @@
 //! Texts that are turned into others, each with what it becomes or the line by which it is refused.
-use crate::parts::{HALF_ADDER, holds, joined, run_on};
+use memory_runs::half_adder::HALF_ADDER;
+use memory_runs::held::{holds, joined};
+use memory_runs::runs::run_on;
 use std::test::Fail;
 
 const CIRCUIT: &[u8] =
@@ -34,7 +36,7 @@ fn ends(
     said: &str,
     wanted: Option<&[u8]>,
 ) -> Result<bool, Fail> {
-    let ended = run_on(rt, line, text, 64, 0, 0)?;
+    let ended = run_on(rt.alloc(), line, text)?;
     let told = ended.status.to_string(rt.alloc())?;
     Ok(
         ended.status.exit() == exit

@@ -8,14 +8,16 @@ mod checked;
 #[cfg(test)]
 mod converted;
 #[cfg(test)]
-mod faults;
-#[cfg(test)]
-mod parts;
+mod larger;
 #[cfg(test)]
 mod refused;
 #[cfg(test)]
 mod simplified;
 #[cfg(test)]
 mod statuses;
+#[cfg(test)]
+mod sure;
+#[cfg(test)]
+mod texts;
 #[cfg(test)]
 mod trimmed;

@@ -1,7 +1,8 @@
 //! Netlists that are simplified, and words that are jobs and that are none. The expected texts are worked by hand.
-use crate::parts::{
-    BOTH_CONSTANT, CARRY_COPIED, HALF_ADDER, REPORT, VECTORS, begins, holds, run_on,
-};
+use crate::texts::{BOTH_CONSTANT, CARRY_COPIED};
+use memory_runs::half_adder::{HALF_ADDER, REPORT, VECTORS};
+use memory_runs::held::{begins, holds};
+use memory_runs::runs::run_on;
 use std::test::Fail;
 
 /// A run that is done: its words, the text of IN, and the files that it leaves, of the formula the first line.
@@ -100,7 +101,7 @@ const NETLISTS: [Simplified; 10] = [
 ];
 
 fn is_simplified(rt: &HostRuntime, row: &Simplified) -> Result<bool, Fail> {
-    let done = run_on(rt, row.line, row.text, 64, 0, 0)?;
+    let done = run_on(rt.alloc(), row.line, row.text)?;
     Ok(
         done.status.exit() == 0
             && holds(&done.files, b"out.blif", Some(row.netlist))
@@ -122,7 +123,7 @@ fn netlists_that_are_simplified(rt: HostRuntime) -> Result<(), Fail> {
 
 /// Whether the words end with this number, and make `b.blif` exactly where they are done.
 fn ends_with(rt: &HostRuntime, line: &[u8], exit: u8) -> Result<bool, Fail> {
-    let ended = run_on(rt, line, HALF_ADDER, 64, 0, 0)?;
+    let ended = run_on(rt.alloc(), line, HALF_ADDER)?;
     Ok(
         ended.status.exit() == exit
             && ended.files.bytes(b"b.blif").is_some() == (exit == 0)

@@ -1,5 +1,5 @@
 //! The exit number and the line of each answer.
-use jobs::status::Status;
+use jobs::outcome::Status;
 use std::alloc::{AllocError, Global};
 use std::test::Fail;
 

@@ -12,7 +12,7 @@ use Rattle.job_semantics.specs.Demonstration.{demo_stem}
 use Rattle.file_core.specs.Sure.{SureValue, sure_told, held_where, sure_sink_told}
 use Rattle.job_answers.specs.declared.status.Status.{Status}
 use Rattle.job_answers.specs.declared.status.Status.TheVariants.{Usage, ReadFault, WriteFault}
-use Rattle.jobs.specs.declared.status.Outcome.{Outcome}
+use Rattle.jobs.specs.declared.outcome.Outcome.{Outcome}
 use Rattle.synth_jobs.specs.Spent.{told_query}
 use Rattle.jobs.specs.Run.{BundleAnswerAt, JobAnswer, RunSays, IsQuietJob, EndsAsAsked}
 use Rattle.jobs.proofs.Runs.{quiet_job_ends}

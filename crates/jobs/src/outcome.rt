@@ -1,6 +1,6 @@
 //! What a run comes to.
 ghost use Rattle.std.specs.Prelude.{◌≡◌, None};
-ghost use Rattle.jobs.specs.Status.{outcome_of};
+ghost use Rattle.jobs.specs.Outcome.{outcome_of};
 
 pub use job_answers::status::Status;
 use synth_jobs::work::Work;

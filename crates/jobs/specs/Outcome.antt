@@ -6,7 +6,7 @@ use Rattle.synth_jobs.specs.declared.work.Work.TheVariants as work
 use Rattle.synth_jobs.specs.Spent.{told_query}
 use Rattle.job_answers.specs.declared.status.Status.{Status}
 use Rattle.job_answers.specs.declared.status.Status.TheVariants.{Done, Budget, NoMemory, WriteFault}
-use Rattle.jobs.specs.declared.status.Outcome.{Outcome}
+use Rattle.jobs.specs.declared.outcome.Outcome.{Outcome}
 
 -- no query was spent
 abbrev pub NothingSpent : Option SpentValue → Option SpentValue → Type 0

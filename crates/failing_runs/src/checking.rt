@@ -1,0 +1,113 @@
+//! Each call on the files of a check fails in turn.
+ghost use Rattle.std.specs.Prelude.{◌<◌};
+
+use file_core::memory_files::MemFiles;
+use memory_runs::bundles::{are_whole, whole_bundle, with_file};
+use memory_runs::half_adder::{CHECK, HALF_ADDER, NAMES};
+use memory_runs::held::{bytes_of, holds};
+use memory_runs::runs::{Run, run_failing};
+use std::alloc::{AllocError, Global};
+use std::test::Fail;
+
+/// More calls than a check makes, if each one takes a byte.
+const MOST_CALLS: u64 = 20_000;
+
+/// How far apart the calls are that fail, where there are many.
+const STRIDE: u64 = 23;
+
+/// A check of the bundle, over files that work in chunks of this size. The call of this number alone fails.
+fn failing_at(alloc: Global, whole: &MemFiles, chunk: usize, call: u64) -> Result<Run, AllocError>
+    requires { 0 < chunk }
+{
+    let held = with_file(alloc, whole, b"ha.blif", HALF_ADDER)?;
+    run_failing(alloc, CHECK, held, chunk, call, 0)
+}
+
+/// Whether all files are as they were, and nothing is put.
+fn is_quiet(ended: &Run, whole: &MemFiles) -> bool {
+    are_whole(&ended.files, whole)
+        && holds(&ended.files, b"ha.blif", Some(HALF_ADDER))
+        && ended.sink.bytes().is_empty()
+}
+
+/// The first of the calls FROM, FROM + STRIDE and so on that is not made, so that the bundle is verified; none where a call before it
+/// does not answer a read fault, or leaves other files.
+fn first_done(
+    alloc: Global,
+    whole: &MemFiles,
+    chunk: usize,
+    from: u64,
+    stride: u64,
+) -> Result<Option<u64>, AllocError>
+    requires { 0 < chunk }
+{
+    let mut call = from;
+    for _ in 0..MOST_CALLS {
+        let ended = failing_at(alloc, whole, chunk, call)?;
+        let is_done = ended.status.exit() == 0;
+        if !is_quiet(&ended, whole) || !is_done && ended.status.exit() != 5 {
+            return Ok(None);
+        }
+        if is_done {
+            return Ok(Some(call));
+        }
+        call = call.saturating_add(stride);
+    }
+    Ok(None)
+}
+
+/// How many bytes a check reads.
+fn bytes_read(whole: &MemFiles) -> usize {
+    let mut bytes = HALF_ADDER.len();
+    for name in NAMES {
+        bytes = bytes.saturating_add(bytes_of(whole, name).len());
+    }
+    bytes
+}
+
+/// Whether each call on files from this one on, in chunks of this size, fails in turn, until the bundle is verified. So many calls are
+/// made that they can read all.
+fn reads_fail_in_turn(
+    alloc: Global,
+    whole: &MemFiles,
+    chunk: usize,
+    from: u64,
+) -> Result<bool, AllocError>
+    requires { 0 < chunk }
+{
+    match first_done(alloc, whole, chunk, from, 1)? {
+        Some(done) => Ok(done.saturating_mul(chunk as u64) > bytes_read(whole) as u64),
+        None => Ok(false),
+    }
+}
+
+/// Whether each call on files, in chunks of this size, fails in turn.
+fn files_fail_in_turn(alloc: Global, chunk: usize) -> Result<bool, AllocError>
+    requires { 0 < chunk }
+{
+    let whole = whole_bundle(alloc)?;
+    reads_fail_in_turn(alloc, &whole, chunk, 1)
+}
+
+/// The same in chunks of a byte. There are some thousand calls, of which these fail in turn, since each has a run of its own: every
+/// 23rd, and the last 23.
+fn many_fail_in_turn(alloc: Global) -> Result<bool, AllocError> {
+    let whole = whole_bundle(alloc)?;
+    match first_done(alloc, &whole, 1, 1, STRIDE)? {
+        Some(done) => reads_fail_in_turn(alloc, &whole, 1, done.saturating_sub(STRIDE)),
+        None => Ok(false),
+    }
+}
+
+#[test]
+fn each_call_of_a_check_fails_in_turn(rt: HostRuntime) -> Result<(), Fail> {
+    assert!(rt; files_fail_in_turn(rt.alloc(), 7)?);
+    assert!(rt; files_fail_in_turn(rt.alloc(), 64)?);
+    Ok(())
+}
+
+#[test]
+fn each_byte_of_a_check_fails_in_turn(rt: HostRuntime) -> Result<(), Fail> {
+    assert!(rt; many_fail_in_turn(rt.alloc())?);
+    Ok(())
+}

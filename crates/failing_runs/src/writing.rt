@@ -1,0 +1,253 @@
+//! Each call on the files of a job that writes a bundle fails in turn.
+ghost use Rattle.std.specs.Prelude.{◌<◌};
+
+use file_core::memory_files::MemFiles;
+use memory_runs::half_adder::{HALF_ADDER, NAMES, SYNTHESIS};
+use memory_runs::held::{bytes_of, holding, holds, holds_at_most};
+use memory_runs::runs::{Run, run_failing, run_on};
+use std::alloc::{AllocError, Global};
+use std::test::Fail;
+
+/// A job: its words, whether it reads a file, and the names of its bundle in the order in which they are written.
+#[derive(Clone, Copy)]
+struct Writing<'a> {
+    line: &'a [u8],
+    reads: bool,
+    names: [&'a [u8]; 5],
+}
+
+const OF_THE_HALF_ADDER: Writing = Writing {
+    line: SYNTHESIS,
+    reads: true,
+    names: NAMES,
+};
+
+/// Its adder is the half adder.
+const DEMONSTRATION: Writing = Writing {
+    line: b"demo 1 1 1",
+    reads: false,
+    names: [
+        b"demo.blif",
+        b"demo.cnf",
+        b"demo.lrat",
+        b"demo.wit",
+        b"demo.txt",
+    ],
+};
+
+/// More calls than a run makes, if each one takes a byte.
+const MOST_CALLS: u64 = 20_000;
+
+/// How far apart the calls are that fail, where there are many.
+const STRIDE: u64 = 97;
+
+/// The job's run beside the half adder, over files that work in chunks of this size. The call of this number alone fails.
+fn failing_at(alloc: Global, job: &Writing, chunk: usize, call: u64) -> Result<Run, AllocError>
+    requires { 0 < chunk }
+{
+    let held = holding(alloc, HALF_ADDER)?;
+    run_failing(alloc, job.line, held, chunk, call, 0)
+}
+
+/// Whether the input is as it was, and nothing is put.
+fn is_quiet(ended: &Run) -> bool {
+    holds(&ended.files, b"ha.blif", Some(HALF_ADDER)) && ended.sink.bytes().is_empty()
+}
+
+/// Whether none of the files is there.
+fn none_is_there(files: &MemFiles, names: &[&[u8]; 5]) -> bool {
+    for name in names {
+        if files.bytes(name).is_some() {
+            return false;
+        }
+    }
+    true
+}
+
+/// Whether one of the files is not whole: it is a first part, or is not there. Those before it are whole, and those after it are
+/// not there.
+fn is_cut_short(files: &MemFiles, names: &[&[u8]; 5], whole: &MemFiles) -> bool {
+    let mut is_cut = false;
+    for name in names {
+        let Some(text) = whole.bytes(name) else {
+            return false;
+        };
+        if is_cut && files.bytes(name).is_some() || !holds_at_most(files, name, text) {
+            return false;
+        }
+        is_cut = is_cut || !holds(files, name, Some(text));
+    }
+    is_cut
+}
+
+/// Whether the call failed as one that writes: a write fault is answered, and the bundle is cut short.
+fn is_left_by_a_write(ended: &Run, job: &Writing, whole: &MemFiles) -> bool {
+    ended.status.exit() == 6 && is_quiet(ended) && is_cut_short(&ended.files, &job.names, whole)
+}
+
+/// The number of the first call whose fault is no read fault: each run before it makes nothing.
+fn first_write(alloc: Global, job: &Writing, chunk: usize) -> Result<u64, AllocError>
+    requires { 0 < chunk }
+{
+    for call in 1..MOST_CALLS {
+        let ended = failing_at(alloc, job, chunk, call)?;
+        if ended.status.exit() != 5
+            || !is_quiet(&ended)
+            || !none_is_there(&ended.files, &job.names)
+        {
+            return Ok(call);
+        }
+    }
+    Ok(MOST_CALLS)
+}
+
+/// Whether the netlist is not there where the first call that writes fails, and is there where one of the next two does.
+fn is_made_in_turn(
+    alloc: Global,
+    job: &Writing,
+    chunk: usize,
+    first: u64,
+) -> Result<bool, AllocError>
+    requires { 0 < chunk }
+{
+    for late in 0..3 {
+        let ended = failing_at(alloc, job, chunk, first.saturating_add(late))?;
+        if ended.files.bytes(job.names[0]).is_some() != (late > 0) {
+            return Ok(false);
+        }
+    }
+    Ok(true)
+}
+
+/// The first of the calls FROM, FROM + STRIDE and so on that is not made, so that the run is done; none where a call before it failed
+/// in another way than one that writes.
+fn first_done(
+    alloc: Global,
+    job: &Writing,
+    whole: &MemFiles,
+    chunk: usize,
+    from: u64,
+    stride: u64,
+) -> Result<Option<u64>, AllocError>
+    requires { 0 < chunk }
+{
+    let mut call = from;
+    for _ in 0..MOST_CALLS {
+        let ended = failing_at(alloc, job, chunk, call)?;
+        if ended.status.exit() == 0 {
+            return Ok(Some(call));
+        }
+        if !is_left_by_a_write(&ended, job, whole) {
+            return Ok(None);
+        }
+        call = call.saturating_add(stride);
+    }
+    Ok(None)
+}
+
+/// Whether the run is done only where this call is not made: where the one before it fails, no more than the last chunk is missing.
+fn is_done_at(
+    alloc: Global,
+    job: &Writing,
+    whole: &MemFiles,
+    chunk: usize,
+    done: u64,
+) -> Result<bool, AllocError>
+    requires { 0 < chunk }
+{
+    let ended = failing_at(alloc, job, chunk, done.saturating_sub(1))?;
+    let written = bytes_of(&ended.files, job.names[4]).len();
+    Ok(
+        is_left_by_a_write(&ended, job, whole)
+            && written.saturating_add(chunk) >= bytes_of(whole, job.names[4]).len()
+            && holds(&ended.files, job.names[3], whole.bytes(job.names[3])),
+    )
+}
+
+/// Whether each call from this one on that writes fails in turn, until the run is done.
+fn writes_fail_in_turn(
+    alloc: Global,
+    job: &Writing,
+    whole: &MemFiles,
+    chunk: usize,
+    from: u64,
+) -> Result<bool, AllocError>
+    requires { 0 < chunk }
+{
+    match first_done(alloc, job, whole, chunk, from, 1)? {
+        Some(done) => is_done_at(alloc, job, whole, chunk, done),
+        None => Ok(false),
+    }
+}
+
+/// Whether each call on the job's files, in chunks of this size, fails in turn: first those that read, and then those that write.
+fn files_fail_in_turn(alloc: Global, job: &Writing, chunk: usize) -> Result<bool, AllocError>
+    requires { 0 < chunk }
+{
+    let whole = run_on(alloc, job.line, HALF_ADDER)?.files;
+    let first = first_write(alloc, job, chunk)?;
+    Ok(
+        (first > 1) == job.reads
+            && is_made_in_turn(alloc, job, chunk, first)?
+            && writes_fail_in_turn(alloc, job, &whole, chunk, first)?,
+    )
+}
+
+/// Whether each of the calls FROM to UNTIL fails as one that writes, in chunks of a byte.
+fn bytes_fail_in_turn(
+    alloc: Global,
+    job: &Writing,
+    whole: &MemFiles,
+    from: u64,
+    until: u64,
+) -> Result<bool, AllocError> {
+    for call in from..until {
+        if !is_left_by_a_write(&failing_at(alloc, job, 1, call)?, job, whole) {
+            return Ok(false);
+        }
+    }
+    Ok(true)
+}
+
+/// The same in chunks of a byte. There are some thousand calls, of which these fail in turn, since each has a run of its own: all that
+/// read, all that write the netlist, then every 97th, and the last 97.
+fn many_fail_in_turn(alloc: Global, job: &Writing) -> Result<bool, AllocError> {
+    let whole = run_on(alloc, job.line, HALF_ADDER)?.files;
+    let first = first_write(alloc, job, 1)?;
+    let formula = first.saturating_add(bytes_of(&whole, job.names[0]).len() as u64 + 1);
+    let Some(done) = first_done(alloc, job, &whole, 1, formula, STRIDE)? else {
+        return Ok(false);
+    };
+    Ok(
+        (first > 1) == job.reads
+            && is_made_in_turn(alloc, job, 1, first)?
+            && bytes_fail_in_turn(alloc, job, &whole, first, formula)?
+            && writes_fail_in_turn(alloc, job, &whole, 1, done.saturating_sub(STRIDE))?,
+    )
+}
+
+#[test]
+fn each_call_of_a_synthesis_fails_in_turn(rt: HostRuntime) -> Result<(), Fail> {
+    assert!(rt; files_fail_in_turn(rt.alloc(), &OF_THE_HALF_ADDER, 7)?);
+    assert!(rt; files_fail_in_turn(rt.alloc(), &OF_THE_HALF_ADDER, 64)?);
+    Ok(())
+}
+
+#[test]
+fn each_byte_of_a_synthesis_fails_in_turn(rt: HostRuntime) -> Result<(), Fail> {
+    assert!(rt; many_fail_in_turn(rt.alloc(), &OF_THE_HALF_ADDER)?);
+    Ok(())
+}
+
+#[test]
+fn each_call_of_a_demonstration_fails_in_turn(rt: HostRuntime) -> Result<(), Fail> {
+    assert!(rt; files_fail_in_turn(rt.alloc(), &DEMONSTRATION, 7)?);
+    assert!(rt; files_fail_in_turn(rt.alloc(), &DEMONSTRATION, 64)?);
+    Ok(())
+}
+
+#[test]
+fn each_byte_of_a_demonstration_fails_in_turn(rt: HostRuntime) -> Result<(), Fail> {
+    assert!(rt; many_fail_in_turn(rt.alloc(), &DEMONSTRATION)?);
+    Ok(())
+}

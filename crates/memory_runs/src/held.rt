@@ -1,0 +1,83 @@
+//! Words and files in memory: how they are made, and what is held.
+ghost use Rattle.std.specs.Prelude.{◌≡◌, [], ◌∷◌, ◌++◌, codes, IfOk, OnOk, OnErr};
+ghost use Rattle.outside_semantics.specs.Outside.{bytes_of};
+
+use file_core::lists::FileList;
+use file_core::memory_files::MemFiles;
+use file_core::word::Word;
+use std::alloc::{AllocError, Global};
+
+/// The words of a line, which stand between single blanks; an empty line has none.
+pub fn words(alloc: Global, line: &[u8]) -> Result<Vec<Word>, AllocError> {
+    let mut words = Vec::new(alloc);
+    if line.is_empty() {
+        return Ok(words);
+    }
+    for word in line.split(|byte| *byte == b' ') {
+        words.push(Word::new(alloc, word)?)?;
+    }
+    Ok(words)
+}
+
+/// The text of two parts, one after the other.
+pub fn joined(alloc: Global, first: &[u8], second: &[u8]) -> Result<Vec<u8>, AllocError>
+    ensures { IfOk result (λ text. text.items ≡ first.now ++ second.now) }
+{
+    let mut text = Vec::from_slice(alloc, first)?;
+    text.extend_from_slice(second)?;
+    Ok(text)
+}
+
+/// Adds a file to the end of the list. Of two files with one name the first counts.
+pub fn add_file(
+    alloc: Global,
+    files: &mut FileList,
+    name: &[u8],
+    text: &[u8],
+) -> Result<(), AllocError>
+    ensures ok { OnOk result (files.new ≡ files.old ++ (name.now, text.now) ∷ []) }
+    ensures err { OnErr result (files.new ≡ files.old) }
+{
+    files.push((Word::new(alloc, name)?, Word::new(alloc, text)?))
+}
+
+/// Files that hold `ha.blif` alone, with this text.
+pub fn holding(alloc: Global, text: &[u8]) -> Result<FileList, AllocError>
+    ensures { IfOk result (λ files. files ≡ (codes "ha.blif", text.now) ∷ []) }
+{
+    let mut files = FileList::new(alloc);
+    add_file(alloc, &mut files, b"ha.blif", text)?;
+    Ok(files)
+}
+
+/// The bytes of a file, none where it is not held.
+pub fn bytes_of<'a>(files: &'a MemFiles, name: &[u8]) -> &'a [u8]
+    ensures { result.now ≡ bytes_of files.now.held name.now }
+{
+    files.bytes(name).unwrap_or(b"")
+}
+
+/// Whether the name is held with these bytes; with none, whether it is not held.
+pub fn holds(files: &MemFiles, name: &[u8], wanted: Option<&[u8]>) -> bool {
+    match (files.bytes(name), wanted) {
+        (Some(bytes), Some(wanted)) => bytes == wanted,
+        (None, None) => true,
+        _ => false,
+    }
+}
+
+/// Whether the name is not held, or is held with a first part of the text.
+pub fn holds_at_most(files: &MemFiles, name: &[u8], text: &[u8]) -> bool {
+    match files.bytes(name) {
+        Some(bytes) => text.starts_with(bytes),
+        None => true,
+    }
+}
+
+/// Whether the name is held with a text that begins with these bytes.
+pub fn begins(files: &MemFiles, name: &[u8], front: &[u8]) -> bool {
+    match files.bytes(name) {
+        Some(bytes) => bytes.starts_with(front),
+        None => false,
+    }
+}
