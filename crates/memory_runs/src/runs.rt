@@ -5,8 +5,8 @@ use crate::held::{holding, words};
 use file_core::lists::{CallList, FileList};
 use file_core::memory_files::MemFiles;
 use file_core::memory_sink::MemSink;
-use jobs::run::run;
 use jobs::outcome::Status;
+use jobs::run::run;
 use std::alloc::{AllocError, Global};
 
 /// What a run leaves.

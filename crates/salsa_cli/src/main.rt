@@ -7,8 +7,8 @@ use console::real_files::RealFiles;
 use console::real_sink::RealSink;
 use console::terminal::Terminal;
 use file_core::word::Word;
-use jobs::run::run_followed;
 use jobs::outcome::Status;
+use jobs::run::run_followed;
 use std::io::IsTerminal;
 use std::process::ExitCode;
 
