@@ -12,9 +12,6 @@ use std::test::Fail;
 /// More calls than a check makes, if each one takes a byte.
 const MOST_CALLS: u64 = 20_000;
 
-/// How far apart the calls are that fail, where there are many.
-const STRIDE: u64 = 23;
-
 /// A check of the bundle, over files that work in chunks of this size. The call of this number alone fails.
 fn failing_at(alloc: Global, whole: &MemFiles, chunk: usize, call: u64) -> Result<Run, AllocError>
     requires { 0 < chunk }
@@ -30,19 +27,12 @@ fn is_quiet(ended: &Run, whole: &MemFiles) -> bool {
         && ended.sink.bytes().is_empty()
 }
 
-/// The first of the calls FROM, FROM + STRIDE and so on that is not made, so that the bundle is verified; none where a call before it
-/// does not answer a read fault, or leaves other files.
-fn first_done(
-    alloc: Global,
-    whole: &MemFiles,
-    chunk: usize,
-    from: u64,
-    stride: u64,
-) -> Result<Option<u64>, AllocError>
+/// The first call that is not made, so that the bundle is verified; none where a call before it does not answer a read fault, or leaves
+/// other files.
+fn first_done(alloc: Global, whole: &MemFiles, chunk: usize) -> Result<Option<u64>, AllocError>
     requires { 0 < chunk }
 {
-    let mut call = from;
-    for _ in 0..MOST_CALLS {
+    for call in 1..MOST_CALLS {
         let ended = failing_at(alloc, whole, chunk, call)?;
         let is_done = ended.status.exit() == 0;
         if !is_quiet(&ended, whole) || !is_done && ended.status.exit() != 5 {
@@ -51,7 +41,6 @@ fn first_done(
         if is_done {
             return Ok(Some(call));
         }
-        call = call.saturating_add(stride);
     }
     Ok(None)
 }
@@ -65,36 +54,14 @@ fn bytes_read(whole: &MemFiles) -> usize {
     bytes
 }
 
-/// Whether each call on files from this one on, in chunks of this size, fails in turn, until the bundle is verified. So many calls are
-/// made that they can read all.
-fn reads_fail_in_turn(
-    alloc: Global,
-    whole: &MemFiles,
-    chunk: usize,
-    from: u64,
-) -> Result<bool, AllocError>
-    requires { 0 < chunk }
-{
-    match first_done(alloc, whole, chunk, from, 1)? {
-        Some(done) => Ok(done.saturating_mul(chunk as u64) > bytes_read(whole) as u64),
-        None => Ok(false),
-    }
-}
-
-/// Whether each call on files, in chunks of this size, fails in turn.
+/// Whether each call on files, in chunks of this size, fails in turn, until the bundle is verified. So many calls are made that they can
+/// read all.
 fn files_fail_in_turn(alloc: Global, chunk: usize) -> Result<bool, AllocError>
     requires { 0 < chunk }
 {
     let whole = whole_bundle(alloc)?;
-    reads_fail_in_turn(alloc, &whole, chunk, 1)
-}
-
-/// The same in chunks of a byte. There are some thousand calls, of which these fail in turn, since each has a run of its own: every
-/// 23rd, and the last 23.
-fn many_fail_in_turn(alloc: Global) -> Result<bool, AllocError> {
-    let whole = whole_bundle(alloc)?;
-    match first_done(alloc, &whole, 1, 1, STRIDE)? {
-        Some(done) => reads_fail_in_turn(alloc, &whole, 1, done.saturating_sub(STRIDE)),
+    match first_done(alloc, &whole, chunk)? {
+        Some(done) => Ok(done.saturating_mul(chunk as u64) > bytes_read(&whole) as u64),
         None => Ok(false),
     }
 }
@@ -108,6 +75,6 @@ fn each_call_of_a_check_fails_in_turn(rt: HostRuntime) -> Result<(), Fail> {
 
 #[test]
 fn each_byte_of_a_check_fails_in_turn(rt: HostRuntime) -> Result<(), Fail> {
-    assert!(rt; many_fail_in_turn(rt.alloc())?);
+    assert!(rt; files_fail_in_turn(rt.alloc(), 1)?);
     Ok(())
 }

@@ -38,9 +38,6 @@ const DEMONSTRATION: Writing = Writing {
 /// More calls than a run makes, if each one takes a byte.
 const MOST_CALLS: u64 = 20_000;
 
-/// How far apart the calls are that fail, where there are many.
-const STRIDE: u64 = 97;
-
 /// The job's run beside the half adder, over files that work in chunks of this size. The call of this number alone fails.
 fn failing_at(alloc: Global, job: &Writing, chunk: usize, call: u64) -> Result<Run, AllocError>
     requires { 0 < chunk }
@@ -119,20 +116,18 @@ fn is_made_in_turn(
     Ok(true)
 }
 
-/// The first of the calls FROM, FROM + STRIDE and so on that is not made, so that the run is done; none where a call before it failed
-/// in another way than one that writes.
+/// The first call from this one on that is not made, so that the run is done; none where a call before it failed in another way than
+/// one that writes.
 fn first_done(
     alloc: Global,
     job: &Writing,
     whole: &MemFiles,
     chunk: usize,
     from: u64,
-    stride: u64,
 ) -> Result<Option<u64>, AllocError>
     requires { 0 < chunk }
 {
-    let mut call = from;
-    for _ in 0..MOST_CALLS {
+    for call in from..MOST_CALLS {
         let ended = failing_at(alloc, job, chunk, call)?;
         if ended.status.exit() == 0 {
             return Ok(Some(call));
@@ -140,7 +135,6 @@ fn first_done(
         if !is_left_by_a_write(&ended, job, whole) {
             return Ok(None);
         }
-        call = call.saturating_add(stride);
     }
     Ok(None)
 }
@@ -174,7 +168,7 @@ fn writes_fail_in_turn(
 ) -> Result<bool, AllocError>
     requires { 0 < chunk }
 {
-    match first_done(alloc, job, whole, chunk, from, 1)? {
+    match first_done(alloc, job, whole, chunk, from)? {
         Some(done) => is_done_at(alloc, job, whole, chunk, done),
         None => Ok(false),
     }
@@ -193,39 +187,6 @@ fn files_fail_in_turn(alloc: Global, job: &Writing, chunk: usize) -> Result<bool
     )
 }
 
-/// Whether each of the calls FROM to UNTIL fails as one that writes, in chunks of a byte.
-fn bytes_fail_in_turn(
-    alloc: Global,
-    job: &Writing,
-    whole: &MemFiles,
-    from: u64,
-    until: u64,
-) -> Result<bool, AllocError> {
-    for call in from..until {
-        if !is_left_by_a_write(&failing_at(alloc, job, 1, call)?, job, whole) {
-            return Ok(false);
-        }
-    }
-    Ok(true)
-}
-
-/// The same in chunks of a byte. There are some thousand calls, of which these fail in turn, since each has a run of its own: all that
-/// read, all that write the netlist, then every 97th, and the last 97.
-fn many_fail_in_turn(alloc: Global, job: &Writing) -> Result<bool, AllocError> {
-    let whole = run_on(alloc, job.line, HALF_ADDER)?.files;
-    let first = first_write(alloc, job, 1)?;
-    let formula = first.saturating_add(bytes_of(&whole, job.names[0]).len() as u64 + 1);
-    let Some(done) = first_done(alloc, job, &whole, 1, formula, STRIDE)? else {
-        return Ok(false);
-    };
-    Ok(
-        (first > 1) == job.reads
-            && is_made_in_turn(alloc, job, 1, first)?
-            && bytes_fail_in_turn(alloc, job, &whole, first, formula)?
-            && writes_fail_in_turn(alloc, job, &whole, 1, done.saturating_sub(STRIDE))?,
-    )
-}
-
 #[test]
 fn each_call_of_a_synthesis_fails_in_turn(rt: HostRuntime) -> Result<(), Fail> {
     assert!(rt; files_fail_in_turn(rt.alloc(), &OF_THE_HALF_ADDER, 7)?);
@@ -235,7 +196,7 @@ fn each_call_of_a_synthesis_fails_in_turn(rt: HostRuntime) -> Result<(), Fail> {
 
 #[test]
 fn each_byte_of_a_synthesis_fails_in_turn(rt: HostRuntime) -> Result<(), Fail> {
-    assert!(rt; many_fail_in_turn(rt.alloc(), &OF_THE_HALF_ADDER)?);
+    assert!(rt; files_fail_in_turn(rt.alloc(), &OF_THE_HALF_ADDER, 1)?);
     Ok(())
 }
 
@@ -248,6 +209,6 @@ fn each_call_of_a_demonstration_fails_in_turn(rt: HostRuntime) -> Result<(), Fai
 
 #[test]
 fn each_byte_of_a_demonstration_fails_in_turn(rt: HostRuntime) -> Result<(), Fail> {
-    assert!(rt; many_fail_in_turn(rt.alloc(), &DEMONSTRATION)?);
+    assert!(rt; files_fail_in_turn(rt.alloc(), &DEMONSTRATION, 1)?);
     Ok(())
 }
