@@ -2,6 +2,11 @@
 //! files and its standard output is [`jobs::run::run_followed`].
 #![tactic(auto)]
 
+ghost use Rattle.std.specs.Prelude.{◌≡◌};
+ghost use Rattle.outside_semantics.specs.Outside.{FilesTold, SinkTold};
+ghost use Rattle.jobs.specs.Run.{RunSays};
+ghost use Rattle.jobs.specs.declared.outcome.Outcome.{Outcome};
+
 use console::arguments;
 use console::real_files::RealFiles;
 use console::real_sink::RealSink;
@@ -12,8 +17,12 @@ use jobs::run::run_followed;
 use std::io::IsTerminal;
 use std::process::ExitCode;
 
-/// Carries out the job that the words name, over the files and the standard output of the system.
-fn answer(rt: &HostRuntime, words: &[Word]) -> Status {
+/// Carries out the job that the words name, over the files and the standard output of the system: the answer is that of a run on these
+/// words.
+fn answer(rt: &HostRuntime, words: &[Word]) -> Status
+    ensures { (old : FilesTold) × (new : FilesTold) × (said : SinkTold) × (says : SinkTold) × (o : Outcome)
+        × (result ≡ o.status) × RunSays words.now old new said says o }
+{
     let mut files = RealFiles::new(rt);
     let mut say = RealSink::new(rt);
     let mut terminal = Terminal::of_user(rt, rt.stderr().is_terminal());
