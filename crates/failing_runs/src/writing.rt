@@ -10,20 +10,20 @@ use std::test::Fail;
 
 /// A job: its words, whether it reads a file, and the names of its bundle in the order in which they are written.
 #[derive(Clone, Copy)]
-struct Writing<'a> {
-    line: &'a [u8],
+pub(crate) struct Writing<'a> {
+    pub(crate) line: &'a [u8],
     reads: bool,
-    names: [&'a [u8]; 5],
+    pub(crate) names: [&'a [u8]; 5],
 }
 
-const OF_THE_HALF_ADDER: Writing = Writing {
+pub(crate) const OF_THE_HALF_ADDER: Writing = Writing {
     line: SYNTHESIS,
     reads: true,
     names: NAMES,
 };
 
 /// Its adder is the half adder.
-const DEMONSTRATION: Writing = Writing {
+pub(crate) const DEMONSTRATION: Writing = Writing {
     line: b"demo 1 1 1",
     reads: false,
     names: [
