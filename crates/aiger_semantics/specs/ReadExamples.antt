@@ -1,5 +1,6 @@
 -- Worked examples of reading, computed from the definitions.
 use Rattle.std.specs.Prelude.{◌≡◌, ℕ, true, false, List, [], ◌∷◌, ◌++◌, codes, Result, Ok, Err}
+use Rattle.semantics.specs.declared.limits.TheConstants.{MOST_INPUT_BYTES}
 use Rattle.semantics.specs.declared.mark.Mark.{Mark}
 use Rattle.semantics.specs.declared.mark.Mark.TheVariants.{Zero, One}
 use Rattle.semantics.specs.Texts.{Bytes}
@@ -9,10 +10,10 @@ use Rattle.aiger_semantics.specs.NetCircuit.{ands_of}
 use Rattle.aiger_semantics.specs.Text.{aiger_text}
 use Rattle.aiger_semantics.specs.TextLines.{text_lines}
 use Rattle.aiger_semantics.specs.CircuitLines.{Refusal, text_long, no_header, has_latches, wrong_line, wrong_symbol, twice, undefined, no_output, loop, doubled, circuit_reading}
-use Rattle.aiger_semantics.specs.Reading.{aiger_limit, aiger_reading}
+use Rattle.aiger_semantics.specs.Reading.{aiger_reading}
 
 abbrev pub read : List Bytes → Result NetValue Refusal
-read lines = aiger_reading (text lines) aiger_limit
+read lines = aiger_reading (text lines) MOST_INPUT_BYTES
 
 abbrev pub half_adder_lines : List Bytes
 half_adder_lines =
@@ -49,7 +50,7 @@ pub record TextLineExamples : Type 0 where
 -- What is written is read as the circuit that was written, and names without symbols are those of the places.
 pub record ReadExamples : Type 0 where
   pub circuit_back : circuit_reading (text_lines (aiger_text (ands_of half_adder))) ≡ Ok (ands_of half_adder)
-  pub half_adder_back : aiger_reading (aiger_text (ands_of half_adder)) aiger_limit ≡ Ok (half_adder_read (codes "a") (codes "b") (codes "s") (codes "c"))
+  pub half_adder_back : aiger_reading (aiger_text (ands_of half_adder)) MOST_INPUT_BYTES ≡ Ok (half_adder_read (codes "a") (codes "b") (codes "s") (codes "c"))
   pub half_adder_counts :
       (table_count (half_adder_read (codes "a") (codes "b") (codes "s") (codes "c")) ≡ 6)
       × (literal_count (half_adder_read (codes "a") (codes "b") (codes "s") (codes "c")) ≡ 10)
@@ -82,7 +83,7 @@ pub record ReadExamples : Type 0 where
 
 -- lines that are refused
 pub record LineRefusals : Type 0 where
-  pub empty : aiger_reading [] aiger_limit ≡ Err no_header
+  pub empty : aiger_reading [] MOST_INPUT_BYTES ≡ Err no_header
   pub too_long : aiger_reading (codes "aag 0 0 0 0 0") 12 ≡ Err text_long
   pub binary : read (codes "aig 0 0 0 0 0" ∷ []) ≡ Err no_header
   pub leading_zero : read (codes "aag 00 0 0 0 0" ∷ []) ≡ Err no_header

@@ -10,10 +10,6 @@ use Rattle.aiger_semantics.specs.TextLines.{text_lines}
 use Rattle.aiger_semantics.specs.CircuitLines.{Refusal, text_long, twice, undefined, no_output, loop, doubled, limit, and_then, circuit_reading}
 use Rattle.aiger_semantics.specs.ReadNet.{variables, signal_of_variable, net_of}
 
--- the most bytes of a text that is read
-abbrev pub aiger_limit : ℕ
-aiger_limit = 4194304
-
 abbrev pub has_variable : List ℕ → ℕ → Bool
 has_variable defined variable = list_any (λ v. v == variable) defined
 

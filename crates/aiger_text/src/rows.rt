@@ -1,6 +1,7 @@
 //! Texts that are read, and texts that are refused.
 use crate::reading::read_aiger;
 use crate::refusal::AigerRefusal;
+use semantics::limits::MOST_INPUT_BYTES;
 use std::alloc::Global;
 
 const HALF_ADDER: &[u8] =
@@ -8,7 +9,7 @@ const HALF_ADDER: &[u8] =
 
 /// How many tables the net of a text has, and 0; or 0, and the number of the refusal.
 fn tables_or_refusal(alloc: Global, text: &[u8]) -> (u32, u8) {
-    match read_aiger(alloc, text, 4_194_304) {
+    match read_aiger(alloc, text, MOST_INPUT_BYTES as u64) {
         Ok(net) => (net.tables(), 0),
         Err(refusal) => (0, refusal.number()),
     }
@@ -16,7 +17,7 @@ fn tables_or_refusal(alloc: Global, text: &[u8]) -> (u32, u8) {
 
 /// The line of an input, an output or an AND that is refused, or 0.
 fn refused_line(alloc: Global, text: &[u8]) -> u64 {
-    match read_aiger(alloc, text, 4_194_304) {
+    match read_aiger(alloc, text, MOST_INPUT_BYTES as u64) {
         Err(AigerRefusal::Line(line)) => line,
         _ => 0,
     }

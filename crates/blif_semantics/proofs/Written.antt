@@ -2,6 +2,7 @@
 use Rattle.std.proofs.Common.{◌≡◌, Result, ℕ, ◌<◌, ◌≤◌, List, [], map, length, All, None, Ok, refl, ap, sym, subst, ◌∙◌, arith}
 use Rattle.std.proofs.lemmas.Bool.{le-leb, ne_eqb}
 use Rattle.std.proofs.lemmas.List.{length-map}
+use Rattle.semantics.specs.declared.limits.TheConstants.{MOST_BUNDLE_BYTES}
 use Rattle.semantics.specs.Texts.{Bytes, Line}
 use Rattle.semantics.specs.Net.{NetValue, input_count, signal_names, name_of, signal_count, IsSound, IsSmall}
 use Rattle.semantics.specs.Refusals.{first_doubled, first_ungrounded, first_limit}
@@ -9,7 +10,7 @@ use Rattle.semantics.specs.Blif.{blif_lines, blif_text}
 use Rattle.semantics.proofs.Refused.{differ-undoubled, acyclic-grounded, limits-small}
 use Rattle.blif_semantics.specs.Lines.{Statement, logical_lines, statements}
 use Rattle.blif_semantics.specs.Statements.{first_wrong}
-use Rattle.blif_semantics.specs.Reading.{Refusal, wrong_line, bundle_limit, unless_refused, single, lines_reading, blif_reading}
+use Rattle.blif_semantics.specs.Reading.{Refusal, wrong_line, unless_refused, single, lines_reading, blif_reading}
 use Rattle.blif_semantics.proofs.WordLines.{statements-text_of}
 use Rattle.blif_semantics.proofs.NetLines.{length-signal_names, blif_lines-are_lines}
 use Rattle.blif_semantics.proofs.RightLines.{AllRight, none_wrong}
@@ -58,15 +59,15 @@ read_within N most h small short =
     ∙ ap single (named_net-blif_lines N h.tables_formed)
     ∙ named_of-read N h small
 
-pub within : (N : NetValue) → IsSound N → IsSmall N → length (blif_text N) ≤ bundle_limit
+pub within : (N : NetValue) → IsSound N → IsSmall N → length (blif_text N) ≤ MOST_BUNDLE_BYTES
 within N h small = omega (arith, blif_text-short N h small, small.all_pins)
 
-pub read : (N : NetValue) → IsSound N → IsSmall N → blif_reading (blif_text N) bundle_limit ≡ Ok N
-read N h small = read_within N bundle_limit h small (within N h small)
+pub read : (N : NetValue) → IsSound N → IsSmall N → blif_reading (blif_text N) MOST_BUNDLE_BYTES ≡ Ok N
+read N h small = read_within N MOST_BUNDLE_BYTES h small (within N h small)
 
 -- what is read depends on the statements alone
 pub same_reading : (text other : Bytes) (most : ℕ) → length text ≤ most → length other ≤ most → statements (logical_lines text) ≡ statements (logical_lines other) → blif_reading text most ≡ blif_reading other most
 same_reading text other most short short' e = within_limit text most short ∙ ap statements_reading e ∙ sym (within_limit other most short')
 
 pub only : (N M : NetValue) → IsSound N → IsSmall N → IsSound M → IsSmall M → blif_text N ≡ blif_text M → N ≡ M
-only N M n n' m m' e = same_Ok N M (sym (read N n n') ∙ ap (λ text. blif_reading text bundle_limit) e ∙ read M m m')
+only N M n n' m m' e = same_Ok N M (sym (read N n n') ∙ ap (λ text. blif_reading text MOST_BUNDLE_BYTES) e ∙ read M m m')

@@ -1,5 +1,6 @@
 -- Worked examples, computed from the definitions.
 use Rattle.std.specs.Prelude.{◌↔◌, ◌≡◌, ℕ, ◌^◌, ◌<◌, true, false, List, [], ◌∷◌, ◌++◌, map, flat_map, length, replicate, codes, Option, Some, None, Result, Ok, Err}
+use Rattle.semantics.specs.declared.limits.TheConstants.{MOST_BUNDLE_BYTES, MOST_INPUT_BYTES}
 use Rattle.semantics.specs.declared.mark.Mark.TheVariants.{Zero, One, Dash}
 use Rattle.semantics.specs.declared.which.Which.TheVariants as which
 use Rattle.semantics.specs.Texts.{Bytes, Line}
@@ -8,7 +9,7 @@ use Rattle.semantics.specs.Examples.{half_adder, out_of_order, wire, constant_on
 use Rattle.semantics.specs.Blif.{blif_text}
 use Rattle.blif_semantics.specs.Lines.{logical_lines, words_of, statements}
 use Rattle.blif_semantics.specs.Statements.{Wrong, bad_byte, command, stray_row, bad_row, mixed_plane, second_model, after_end, names_empty, bad_name, WrongLine, first_wrong}
-use Rattle.blif_semantics.specs.Reading.{Refusal, text_long, wrong_line, doubled, no_output, undriven, cycle, limit, input_limit, bundle_limit, blif_reading}
+use Rattle.blif_semantics.specs.Reading.{Refusal, text_long, wrong_line, doubled, no_output, undriven, cycle, limit, blif_reading}
 
 -- a line and its number, as words
 pub record NumberedWords : Type 0 where
@@ -89,7 +90,7 @@ pub record WrongExamples : Type 0 where
   pub leading_blank : after_three (codes ".names $false" ∷ codes " 0" ∷ codes ".names $undef" ∷ []) ≡ None
 
 abbrev pub after_two : List Bytes → Result NetValue Refusal
-after_two lines = blif_reading (lf (codes ".model m" ∷ codes ".inputs a b" ∷ lines)) input_limit
+after_two lines = blif_reading (lf (codes ".model m" ∷ codes ".inputs a b" ∷ lines)) MOST_INPUT_BYTES
 
 abbrev pub buffers : List Bytes
 buffers = codes ".names z y" ∷ codes "1 1" ∷ codes ".names y z" ∷ codes "1 1" ∷ []
@@ -99,7 +100,7 @@ outputs_line n = codes ".inputs a" ++ 10 ∷ codes ".outputs" ++ flat_map (λ (w
 
 pub record ReadingExamples : Type 0 where
   pub joined :
-      blif_reading continued input_limit
+      blif_reading continued MOST_INPUT_BYTES
       ≡ Ok (record {
         model = codes "t";
         inputs = codes "a" ∷ codes "b" ∷ [];
@@ -125,7 +126,7 @@ pub record ReadingExamples : Type 0 where
         outputs = 2 ∷ 2 ∷ [];
       })
   pub without_model :
-      blif_reading (lf (codes ".outputs y" ∷ codes ".names y" ∷ codes " 0" ∷ codes ".inputs a" ∷ [])) input_limit
+      blif_reading (lf (codes ".outputs y" ∷ codes ".names y" ∷ codes " 0" ∷ codes ".inputs a" ∷ [])) MOST_INPUT_BYTES
       ≡ Ok (record {
         model = codes "top";
         inputs = codes "a" ∷ [];
@@ -133,19 +134,19 @@ pub record ReadingExamples : Type 0 where
         outputs = 1 ∷ [];
       })
   pub a_bad_byte_before_what_is_not_driven : after_two ((128 ∷ []) ∷ codes ".outputs y" ∷ []) ≡ Err (wrong_line 3 bad_byte)
-  pub a_stray_row_before_what_is_driven_twice : blif_reading (lf (codes ".inputs a a" ∷ codes ".outputs a" ∷ codes "1 1" ∷ [])) input_limit ≡ Err (wrong_line 3 stray_row)
+  pub a_stray_row_before_what_is_driven_twice : blif_reading (lf (codes ".inputs a a" ∷ codes ".outputs a" ∷ codes "1 1" ∷ [])) MOST_INPUT_BYTES ≡ Err (wrong_line 3 stray_row)
   pub too_long : blif_reading (codes ".end") 3 ≡ Err text_long
   pub as_long_as_may_be : blif_reading (codes ".end") 4 ≡ Err no_output
-  pub too_long_an_input : (text : Bytes) → (blif_reading text input_limit ≡ Err text_long) ↔ (2 ^ 22 < length text)
-  pub too_long_for_a_bundle : (text : Bytes) → (blif_reading text bundle_limit ≡ Err text_long) ↔ (2 ^ 28 < length text)
-  pub empty_text : blif_reading [] input_limit ≡ Err no_output
+  pub too_long_an_input : (text : Bytes) → (blif_reading text MOST_INPUT_BYTES ≡ Err text_long) ↔ (2 ^ 22 < length text)
+  pub too_long_for_a_bundle : (text : Bytes) → (blif_reading text MOST_BUNDLE_BYTES ≡ Err text_long) ↔ (2 ^ 28 < length text)
+  pub empty_text : blif_reading [] MOST_INPUT_BYTES ≡ Err no_output
   pub comments : blif_reading (35 ∷ 35 ∷ 35 ∷ []) 3 ≡ Err no_output
-  pub many_outputs : blif_reading (outputs_line 65) input_limit ≡ Err (limit which.Outputs)
-  pub most_outputs : blif_reading (outputs_line 64) input_limit ≡ Ok (record { model = codes "top"; inputs = codes "a" ∷ []; tables = []; outputs = replicate 64 0 })
-  pub half_adder_back : blif_reading (blif_text half_adder) input_limit ≡ Ok half_adder
-  pub out_of_order_back : blif_reading (blif_text out_of_order) input_limit ≡ Ok out_of_order
-  pub wire_back : blif_reading (blif_text wire) input_limit ≡ Ok wire
-  pub constant_back : blif_reading (blif_text constant_one) input_limit ≡ Ok constant_one
+  pub many_outputs : blif_reading (outputs_line 65) MOST_INPUT_BYTES ≡ Err (limit which.Outputs)
+  pub most_outputs : blif_reading (outputs_line 64) MOST_INPUT_BYTES ≡ Ok (record { model = codes "top"; inputs = codes "a" ∷ []; tables = []; outputs = replicate 64 0 })
+  pub half_adder_back : blif_reading (blif_text half_adder) MOST_INPUT_BYTES ≡ Ok half_adder
+  pub out_of_order_back : blif_reading (blif_text out_of_order) MOST_INPUT_BYTES ≡ Ok out_of_order
+  pub wire_back : blif_reading (blif_text wire) MOST_INPUT_BYTES ≡ Ok wire
+  pub constant_back : blif_reading (blif_text constant_one) MOST_INPUT_BYTES ≡ Ok constant_one
 
 -- lists in several lines, words that go on over a backslash, and texts for which several refusals hold
 pub record SeveralExamples : Type 0 where
@@ -158,7 +159,7 @@ pub record SeveralExamples : Type 0 where
         outputs = 5 ∷ 0 ∷ 5 ∷ 1 ∷ [];
       })
   pub words_that_go_on :
-      blif_reading (lf (codes ".inp\\" ∷ codes "uts ab\\ " ∷ codes "c \\" ∷ codes "d" ∷ codes ".outputs abc\\" ∷ [])) input_limit
+      blif_reading (lf (codes ".inp\\" ∷ codes "uts ab\\ " ∷ codes "c \\" ∷ codes "d" ∷ codes ".outputs abc\\" ∷ [])) MOST_INPUT_BYTES
       ≡ Ok (record { model = codes "top"; inputs = codes "abc" ∷ codes "d" ∷ []; tables = []; outputs = 0 ∷ [] })
   pub rows_of_two_tables :
       after_two (codes ".outputs y" ∷ codes ".names y z" ∷ codes ".names a b y" ∷ codes "11 1" ∷ codes "" ∷ codes "0- 1" ∷ codes ".outputs z" ∷ codes ".names x" ∷ codes "1" ∷ [])
@@ -175,5 +176,5 @@ pub record SeveralExamples : Type 0 where
   pub twice_before_no_output : after_two (codes ".names q r" ∷ codes ".names r" ∷ codes ".names r" ∷ []) ≡ Err (doubled (codes "r"))
   pub first_of_two_doubled : after_two (codes ".outputs a" ∷ codes ".names r" ∷ codes ".names q" ∷ codes ".names q" ∷ codes ".names r" ∷ []) ≡ Err (doubled (codes "q"))
   pub first_of_three_undriven : after_two (codes ".outputs o" ∷ codes ".names a q r" ∷ codes ".names p s" ∷ []) ≡ Err (undriven (codes "q"))
-  pub cycle_before_limit : blif_reading (outputs_line 65 ++ 10 ∷ lf buffers) input_limit ≡ Err (cycle (codes "y"))
-  pub undriven_before_limit : blif_reading (outputs_line 65 ++ 10 ∷ codes ".outputs b") input_limit ≡ Err (undriven (codes "b"))
+  pub cycle_before_limit : blif_reading (outputs_line 65 ++ 10 ∷ lf buffers) MOST_INPUT_BYTES ≡ Err (cycle (codes "y"))
+  pub undriven_before_limit : blif_reading (outputs_line 65 ++ 10 ∷ codes ".outputs b") MOST_INPUT_BYTES ≡ Err (undriven (codes "b"))

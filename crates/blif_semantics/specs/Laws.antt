@@ -1,6 +1,7 @@
 -- The laws about what a text means, each the contract of a function without parameters.
 use Rattle.std.specs.Prelude.{◌↔◌, ◌≡◌, ◌≢◌, ℕ, ◌+◌, ◌*◌, ◌^◌, ◌<◌, ◌≤◌, ◌==◌, [], ◌∷◌, ◌++◌, flat_map, map, length, Contains, All, Some, None, List, Result, Ok, Err, if◌then◌else◌}
 use Rattle.std.specs.List.{AllByRecursion}
+use Rattle.semantics.specs.declared.limits.TheConstants.{MOST_BUNDLE_BYTES}
 use Rattle.semantics.specs.Texts.{Bytes}
 use Rattle.semantics.specs.Net.{NetValue, signal_names, name_of, pin_count, IsSound, IsSmall}
 use Rattle.semantics.specs.Refusals.{first_doubled, NetRefused, net_refusal}
@@ -11,7 +12,7 @@ use Rattle.blif_semantics.specs.declared.kind.Kind.TheVariants as kind
 use Rattle.blif_semantics.specs.Lines.{Statement, logical_lines, statements}
 use Rattle.blif_semantics.specs.Statements.{kind_of, arguments, WrongLine, first_wrong}
 use Rattle.blif_semantics.specs.Tables.{last_word, is_one, named, with_rows, rows_first}
-use Rattle.blif_semantics.specs.Reading.{bundle_limit, Refusal, text_long, doubled, no_output, undriven, cycle, limit, NamedNet, names_of, names_read, first_undriven_name, numbered, single, blif_reading}
+use Rattle.blif_semantics.specs.Reading.{Refusal, text_long, doubled, no_output, undriven, cycle, limit, NamedNet, names_of, names_read, first_undriven_name, numbered, single, blif_reading}
 use Rattle.blif_semantics.specs.FirstRefusals.{IsFirstWrong, IsFirstUndriven}
 
 -- with a CR before each LF
@@ -37,11 +38,11 @@ pub record ReadingLaw : Type 0 where
 -- a small sound net is read back from the text that is written for it, which is the text of no other, and that text keeps the limit
 -- of a bundle's netlist
 pub record WrittenLaw : Type 0 where
-  pub read : (N : NetValue) → IsSound N → IsSmall N → blif_reading (blif_text N) bundle_limit ≡ Ok N
+  pub read : (N : NetValue) → IsSound N → IsSmall N → blif_reading (blif_text N) MOST_BUNDLE_BYTES ≡ Ok N
   pub read_within : (N : NetValue) (most : ℕ) → IsSound N → IsSmall N → length (blif_text N) ≤ most → blif_reading (blif_text N) most ≡ Ok N
   pub only : (N M : NetValue) → IsSound N → IsSmall N → IsSound M → IsSmall M → blif_text N ≡ blif_text M → N ≡ M
   pub short : (N : NetValue) → IsSound N → IsSmall N → length (blif_text N) < pin_count N * 1024 + 2 ^ 24
-  pub within : (N : NetValue) → IsSound N → IsSmall N → length (blif_text N) ≤ bundle_limit
+  pub within : (N : NetValue) → IsSound N → IsSmall N → length (blif_text N) ≤ MOST_BUNDLE_BYTES
 
 -- what a refusal of numbered parts says of the net of names
 abbrev pub refusal_of : List Bytes → NetRefused → Refusal

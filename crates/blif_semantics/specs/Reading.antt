@@ -11,13 +11,6 @@ use Rattle.blif_semantics.specs.Lines.{logical_lines, statements}
 use Rattle.blif_semantics.specs.Statements.{kind_of, first_word, arguments, is_model, Wrong, first_wrong}
 use Rattle.blif_semantics.specs.Tables.{NamedTable, tables_of}
 
--- the most bytes of a netlist that is read, and of a netlist that stands in a bundle
-abbrev pub input_limit : ℕ
-input_limit = 4194304
-
-abbrev pub bundle_limit : ℕ
-bundle_limit = 268435456
-
 pub data Refusal : Type 0 where
   text_long : Refusal
   wrong_line : (line : ℕ) → Wrong → Refusal

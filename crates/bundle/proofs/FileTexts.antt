@@ -3,9 +3,10 @@ use Rattle.std.proofs.Common.{◌≡◌, ℕ, ◌+◌, ◌-◌, ◌<◌, Bool, t
 use Rattle.std.specs.Prelude.{◌↔◌, IsTrue, IfSome, MatchOption}
 use Rattle.std.proofs.lemmas.Bool.{cases_lt}
 use Rattle.std.proofs.lemmas.Bool.Decides.{nat_tests}
+use Rattle.semantics.specs.declared.limits.TheConstants.{MOST_BUNDLE_BYTES}
 use Rattle.semantics.specs.Texts.{Bytes}
 use Rattle.semantics.specs.Net.{NetValue, input_count}
-use Rattle.blif_semantics.specs.Reading.{bundle_limit, Refusal, text_long, blif_reading}
+use Rattle.blif_semantics.specs.Reading.{Refusal, text_long, blif_reading}
 use Rattle.blif_text.specs.Refusals.{refusal_of, Tells}
 use Rattle.blif_text.specs.declared.refusal.BlifRefusal.{BlifRefusal}
 use Rattle.blif_text.specs.declared.refusal.BlifRefusal.TheVariants as b
@@ -35,11 +36,11 @@ unfolding blif_reading
 too_long text most long = if_false (nat_le (length text) most) _ _ (grind (arith, nat_tests))
 
 -- the reading of a netlist is that of its front up to one byte past the limit
-pub reading_front : (content text : Bytes) (limit : ℕ) → limit ≡ bundle_limit → IsAllWanted content text (limit + 1 - length text) → blif_reading text bundle_limit ≡ blif_reading content bundle_limit
+pub reading_front : (content text : Bytes) (limit : ℕ) → limit ≡ MOST_BUNDLE_BYTES → IsAllWanted content text (limit + 1 - length text) → blif_reading text MOST_BUNDLE_BYTES ≡ blif_reading content MOST_BUNDLE_BYTES
 reading_front content text limit is wanted =
-    elim (cases_lt bundle_limit (length text)) [
-      | inl long ↦ too_long text bundle_limit long ∙ sym (too_long content bundle_limit (front_at_most content text (limit + 1 - length text) (bundle_limit + 1) wanted (omega (arith, long))))
-      | inr short ↦ ap (λ t. blif_reading t bundle_limit) (whole_front content text limit wanted (omega (arith, short, is)))
+    elim (cases_lt MOST_BUNDLE_BYTES (length text)) [
+      | inl long ↦ too_long text MOST_BUNDLE_BYTES long ∙ sym (too_long content MOST_BUNDLE_BYTES (front_at_most content text (limit + 1 - length text) (MOST_BUNDLE_BYTES + 1) wanted (omega (arith, long))))
+      | inr short ↦ ap (λ t. blif_reading t MOST_BUNDLE_BYTES) (whole_front content text limit wanted (omega (arith, short, is)))
     ]
 
 -- a refusal but want of memory is one of the text
@@ -62,11 +63,11 @@ told_refusal (b.Limit which) other = (_, refl)
 told_refusal b.OutOfMemory other = absurd (other refl)
 
 -- no net is in a text that is refused
-pub refused_text : (reason : BlifRefusal) (content text : Bytes) → blif_reading text bundle_limit ≡ blif_reading content bundle_limit → Tells reason (blif_reading text bundle_limit) → ¬ (reason ≡ b.OutOfMemory)
+pub refused_text : (reason : BlifRefusal) (content text : Bytes) → blif_reading text MOST_BUNDLE_BYTES ≡ blif_reading content MOST_BUNDLE_BYTES → Tells reason (blif_reading text MOST_BUNDLE_BYTES) → ¬ (reason ≡ b.OutOfMemory)
     → IsNetIn None content
 refused_text reason content text same tells other M is =
     let told = told_refusal reason other in
-    let refused : blif_reading text bundle_limit ≡ Err told.0 = tells told.0 told.1 in
+    let refused : blif_reading text MOST_BUNDLE_BYTES ≡ Err told.0 = tells told.0 told.1 in
     cc
 
 -- ---- what was read of a report and of vectors

@@ -22,12 +22,9 @@ use file_reading::front::Front;
 use file_reading::reading::read_file;
 use file_reading::unread::Unread;
 use net_core::net::Net;
-use semantics::limits::MOST_INPUTS;
+use semantics::limits::{MOST_BUNDLE_BYTES, MOST_INPUTS};
 use semantics::metric::Metric;
 use std::alloc::Global;
-
-/// The limit of a netlist's bytes.
-const NETLIST_LIMIT: usize = 268_435_456;
 
 /// The net of a file, if its text is one.
 pub(crate) fn read_netlist<F: Files>(
@@ -40,9 +37,9 @@ pub(crate) fn read_netlist<F: Files>(
     ensures small { IfOk result (λ net. IfSome net IsSmall) }
     ensures err { IfErr result (TextUnread (F.told files.old) (F.told files.new) name.now) }
 {
-    let mut front = Front::new(alloc, NETLIST_LIMIT);
+    let mut front = Front::new(alloc, MOST_BUNDLE_BYTES);
     read_file(files, name, &mut front)?;
-    match read_blif(alloc, front.bytes(), NETLIST_LIMIT as u64) {
+    match read_blif(alloc, front.bytes(), MOST_BUNDLE_BYTES as u64) {
         Ok(net) => Ok(Some(net)),
         Err(refusal) => match refusal {
             BlifRefusal::OutOfMemory => Err(Unread::OutOfMemory),

@@ -3,6 +3,7 @@ use Rattle.std.proofs.Common.{◌≡◌, ℕ, ◌+◌, ◌-◌, ◌<◌, ◌≤�
 use Rattle.std.proofs.lemmas.Fmt.{length-decimal-le_wide}
 use Rattle.std.proofs.lemmas.List.{length-append, length-map}
 use Rattle.std.proofs.lemmas.Bool.{cases_lt}
+use Rattle.semantics.specs.declared.limits.TheConstants.{MOST_INPUTS}
 use Rattle.semantics.specs.Texts.{Bytes, bit_byte, bits_word}
 use Rattle.semantics.specs.declared.metric.Metric.{Metric}
 use Rattle.semantics.specs.declared.metric.Metric.TheVariants.{Abs, Rel, Ham, Sabs}
@@ -48,7 +49,7 @@ counts_length key old new rest few fewer =
 last_length : (minimal : Bool) → length (codes "minimal " ++ (yes_word minimal ++ 10 ∷ [])) ≤ 12
 last_length minimal = omega (arith, length-append (codes "minimal ") (yes_word minimal ++ 10 ∷ []), length-append (yes_word minimal) (10 ∷ []), yes_length minimal)
 
-rest_length : (r : Report) (inputs : ℕ) (metric : Metric) (bound : ℕ) (text : Bytes) → IsReportText inputs metric bound text r → inputs ≤ 256 → length (report_rest r) ≤ 640
+rest_length : (r : Report) (inputs : ℕ) (metric : Metric) (bound : ℕ) (text : Bytes) → IsReportText inputs metric bound text r → inputs ≤ MOST_INPUTS → length (report_rest r) ≤ 640
 rest_length r inputs metric bound text h few =
     let last : Bytes = codes "minimal " ++ (yes_word r.minimal ++ 10 ∷ []) in
     let literals : Bytes = counts_line (codes "literals ") r.old_literals r.new_literals last in
@@ -87,7 +88,7 @@ head_length version metric bound rest few =
       length-append (codes "maximum ") rest,
     )
 
-pub report_length : (inputs : ℕ) (metric : Metric) (bound : ℕ) (text : Bytes) (r : Report) → IsReportText inputs metric bound text r → inputs ≤ 256 → bound < 2 ^ 128 → length text ≤ 1024
+pub report_length : (inputs : ℕ) (metric : Metric) (bound : ℕ) (text : Bytes) (r : Report) → IsReportText inputs metric bound text r → inputs ≤ MOST_INPUTS → bound < 2 ^ 128 → length text ≤ 1024
 report_length inputs metric bound text r h few small =
     omega (
       arith,
@@ -96,7 +97,7 @@ report_length inputs metric bound text r h few small =
       head_length r.version r.metric r.bound (report_rest r) (subst (λ n. n < 2 ^ 128) (sym h.same_bound) small),
     )
 
-module _ (inputs : ℕ) (metric : Metric) (bound : ℕ) (few : inputs ≤ 256) (small : bound < 2 ^ 128) where
+module _ (inputs : ℕ) (metric : Metric) (bound : ℕ) (few : inputs ≤ MOST_INPUTS) (small : bound < 2 ^ 128) where
   long_front : (content text : Bytes) (room : ℕ) (o : Option ReportRead) → 1024 < length text → IsAllWanted content text room → IsReportIn inputs metric bound o text
       → IsReportIn inputs metric bound o content
   long_front content text room None long wanted h = λ r k.

@@ -3,20 +3,22 @@ ghost use Rattle.std.specs.Prelude.{◌≡◌, ◌≢◌, ◌≤◌, [], false, 
 ghost use Rattle.bundle_texts.specs.VectorLine.{is_next, line_after, is_whole};
 
 use crate::bits::is_bit_digit;
-use bundle_writing::bits::{MOST_BITS, bit_byte};
+use bundle_writing::bits::bit_byte;
+use semantics::limits::MOST_INPUTS;
 use std::marker::Model;
 
 /// The bits of the line that has not ended, and whether one has ended before it. It takes no memory but its own.
 #[derive(Drop)]
 pub struct VectorLine {
     inputs: u32,
-    bits: [bool; MOST_BITS],
+    bits: [bool; MOST_INPUTS],
     filled: usize,
     has_ended: bool,
 }
 
 impl Model for VectorLine {
     ghost use Rattle.std.specs.Prelude.{◌≡◌, ◌≤◌, length, take};
+    ghost use Rattle.semantics.specs.declared.limits.TheConstants.{MOST_INPUTS};
     ghost use Rattle.bundle_texts.specs.VectorLine.{LineValue};
 
     ghost Value = { LineValue };
@@ -27,18 +29,18 @@ impl Model for VectorLine {
       has_ended = a.has_ended;
     } };
 
-    ghost invariant = { λ a. (a.filled ≤ a.inputs) × ((a.inputs ≤ 256) × (length a.bits ≡ 256)) };
+    ghost invariant = { λ a. (a.filled ≤ a.inputs) × ((a.inputs ≤ MOST_INPUTS) × (length a.bits ≡ MOST_INPUTS)) };
 }
 
 impl VectorLine {
     /// No line yet, of vectors of so many bits.
     pub fn new(inputs: u32) -> VectorLine
-        requires { inputs ≤ 256 }
+        requires { inputs ≤ MOST_INPUTS }
         ensures { result ≡ record { inputs = inputs; begun = []; has_ended = false } }
     {
         VectorLine {
             inputs,
-            bits: [false; MOST_BITS],
+            bits: [false; MOST_INPUTS],
             filled: 0,
             has_ended: false,
         }

@@ -1,5 +1,6 @@
 -- What a bundle in memory is.
 use Rattle.std.specs.Prelude.{Bool, ◌^◌, ◌<◌, ◌≤◌, List, length}
+use Rattle.semantics.specs.declared.limits.TheConstants.{MOST_INPUTS}
 use Rattle.semantics.specs.Texts.{Bytes}
 use Rattle.semantics.specs.Net.{NetValue, literal_count}
 use Rattle.outside_semantics.specs.WrittenFiles.{File}
@@ -21,6 +22,6 @@ report_of_bundle b = report_text (bundle_report b)
 
 -- two nets and a witness small enough for a report
 pub record FitsReport (exact approx : NetValue) (witness : List Bool) : Type 0 where
-  pub few_bits : length witness ≤ 256
+  pub few_bits : length witness ≤ MOST_INPUTS
   pub few_exact : literal_count exact < 2 ^ 63
   pub few_approx : literal_count approx < 2 ^ 63

@@ -4,11 +4,12 @@ ghost use Rattle.file_core.specs.Page.{Gathers, Writes};
 ghost use Rattle.job_semantics.specs.Report.{vectors_text};
 ghost use Rattle.bundle_writing.specs.VectorLines.{vector_line, vector_lines};
 
-use crate::bits::{MOST_BITS, bit_byte};
+use crate::bits::bit_byte;
 use file_core::fault::FileFault;
 use file_core::files::Files;
 use file_core::page::{Page, gather, send};
 use lane_bits::patterns::Patterns;
+use semantics::limits::MOST_INPUTS;
 
 /// Fills a buffer with the line of a vector.
 fn fill_line(x: &[bool], line: &mut [u8])
@@ -22,10 +23,10 @@ fn fill_line(x: &[bool], line: &mut [u8])
 }
 
 fn write_vector<F: Files>(x: &[bool], files: &mut F, page: &mut Page) -> Result<(), FileFault>
-    requires { length x.now ≤ MOST_BITS }
+    requires { length x.now ≤ MOST_INPUTS }
     ensures { Gathers result (F.told files.old) (F.told files.new) page.old page.new (vector_line x.now) }
 {
-    let mut buffer = [0; MOST_BITS + 1];
+    let mut buffer = [0; MOST_INPUTS + 1];
     let line = &mut buffer[..=x.len()];
     fill_line(x, line);
     gather(files, page, line)
@@ -34,7 +35,7 @@ fn write_vector<F: Files>(x: &[bool], files: &mut F, page: &mut Page) -> Result<
 fn write_pool<F: Files>(pool: &Patterns, files: &mut F, page: &mut Page) -> Result<(), FileFault>
     ensures { Gathers result (F.told files.old) (F.told files.new) page.old page.new (vector_lines pool.now.vectors) }
 {
-    let mut buffer = [false; MOST_BITS];
+    let mut buffer = [false; MOST_INPUTS];
     let x = &mut buffer[..pool.inputs() as usize];
     for i in 0..pool.count() {
         pool.get(i, x);
@@ -50,7 +51,7 @@ pub fn write_vectors<F: Files>(
     pool: &Patterns,
     files: &mut F,
 ) -> Result<(), FileFault>
-    requires { length witness.now ≤ MOST_BITS }
+    requires { length witness.now ≤ MOST_INPUTS }
     ensures { Writes result (F.told files.old) (F.told files.new) (vectors_text witness.now pool.now.vectors) }
 {
     let mut page = Page::new();

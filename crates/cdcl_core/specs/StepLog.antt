@@ -1,5 +1,5 @@
 -- The log of a search, whose last step may be held in the lists in which it was made.
-use Rattle.std.specs.Prelude.{ℕ, Bool, true, false, List, [], ◌∷◌, ◌++◌, reverse}
+use Rattle.std.specs.Prelude.{ℕ, Bool, true, false, List, [], ◌∷◌, ◌++◌}
 use Rattle.proof_semantics.specs.declared.item.Item.TheVariants.{Add}
 use Rattle.proof_semantics.specs.Clauses.{Clause}
 use Rattle.proof_semantics.specs.Logs.{LogItem}
@@ -9,7 +9,7 @@ pub record LogValue : Type 0 where
   pub items : List LogItem
   pub is_packed : Bool
 
--- the packed items, and behind them the step of these parts, if it is held; its hints are given the last one first
+-- the packed items, and behind them the step of these parts, if it is held
 abbrev pub with_held : List LogItem → Bool → ℕ → Clause → List ℕ → List LogItem
 with_held packed false id C hints = packed
-with_held packed true id C hints = packed ++ Add (record { id = id; literals = C; hints = reverse hints }) ∷ []
+with_held packed true id C hints = packed ++ Add (record { id = id; literals = C; hints = hints }) ∷ []

@@ -41,7 +41,7 @@ pub fn is_binary(clause: &[Literal], one: Literal, other: Literal) -> bool
 pub fn written(alloc: Global, clause: &[Literal]) -> Result<Lits, AllocError>
     ensures { IfOk result (λ lits. lits ≡ clause.now) }
 {
-    let mut lits = Lits::new(alloc);
+    let mut lits = Lits::with_room(alloc, clause.len())?;
     for literal in clause {
         lits.push(literal.code())?;
     }

@@ -11,8 +11,8 @@
 //! restarts: then it goes over their vectors, as far as clauses do not rule them out many at a time.
 ghost use Rattle.std.specs.Prelude.{◌<◌, ◌≤◌};
 
-/// How many inputs are few.
-const FEW_INPUTS: u32 = 16;
+/// With at most so many inputs they come to be decided in the order of their numbers.
+const ORDERED_INPUTS: u32 = 16;
 
 /// The conflicts of a search, besides an eighth of the vectors, from which on it decides few inputs in the order of their numbers.
 const LONG: u64 = 3000;
@@ -52,7 +52,7 @@ impl Pace {
             slow: 0,
             learned: 0,
             since: 0,
-            inputs: if inputs <= FEW_INPUTS { inputs } else { 0 },
+            inputs: if inputs <= ORDERED_INPUTS { inputs } else { 0 },
             is_net,
         }
     }
@@ -67,7 +67,7 @@ impl Pace {
 
     /// How many inputs are decided first, in the order of their numbers.
     pub fn inputs_first(&self) -> u32 {
-        let few: u64 = 1 << self.inputs.min(FEW_INPUTS);
+        let few: u64 = 1 << self.inputs.min(ORDERED_INPUTS);
         if self.learned >= few / 8 + LONG {
             self.inputs
         } else {

@@ -8,13 +8,12 @@ ghost use Rattle.proof_semantics.specs.declared.item.Item.TheVariants.{Add};
 use crate::analysis::Learned;
 use crate::clause::written;
 use crate::literal::Literal;
-use net_parts::items::Items;
 use proof_parts::log::{Ids, Item, Log, Step};
 use std::alloc::{AllocError, Global};
 use std::marker::Model;
 use std::mem;
 
-/// The packed steps, and the parts of one that is held, whose hints are given the last one first.
+/// The packed steps, and the parts of one that is held.
 #[derive(Drop)]
 pub struct StepLog {
     packed: Log,
@@ -36,27 +35,16 @@ impl Model for StepLog {
     } };
 }
 
-/// The hints in the other order.
-fn reversed(alloc: Global, hints: &[u64]) -> Result<Ids, AllocError>
-    ensures { IfOk result (λ ids. ids ≡ reverse hints.now) }
-{
-    let mut ids = Items::new(alloc);
-    for hint in hints.iter().rev() {
-        ids.push(*hint)?;
-    }
-    Ok(ids)
-}
-
-/// A step in lists of exact size, whose hints are given the last one first.
+/// A step in lists of exact size.
 fn packed_step(
     alloc: Global,
     id: u64,
     clause: &[Literal],
     hints: &[u64],
 ) -> Result<Step, AllocError>
-    ensures { IfOk result (λ s. s ≡ record { id = id; literals = clause.now; hints = reverse hints.now }) }
+    ensures { IfOk result (λ s. s ≡ record { id = id; literals = clause.now; hints = hints.now }) }
 {
-    let hints = reversed(alloc, hints)?;
+    let hints = Ids::from_slice(alloc, hints)?;
     Ok(Step::new(id, written(alloc, clause)?, hints))
 }
 
@@ -87,7 +75,7 @@ impl StepLog {
         Ok(())
     }
 
-    /// Logs the step of what was learned, and gives lists in exchange. It takes no memory.
+    /// Logs the step of what was learned, whose hints are given the last one first, and gives lists in exchange. It takes no memory.
     pub fn hold(&mut self, id: u64, learned: &mut Learned)
         requires { self.old.is_packed ≡ true }
         ensures { self.new ≡ record {
@@ -98,6 +86,7 @@ impl StepLog {
     {
         mem::swap(&mut self.clause, &mut learned.clause);
         mem::swap(&mut self.hints, &mut learned.hints);
+        self.hints.reverse();
         self.id = id;
         self.is_held = true;
     }

@@ -3,9 +3,10 @@ use Rattle.std.proofs.Common.{◌≡◌, ◌+◌, ◌-◌, ◌<◌, ◌≤◌, �
 use Rattle.std.proofs.lemmas.List.{take_all, length-take}
 use Rattle.std.proofs.lemmas.Bool.{cases_lt}
 use Rattle.std.proofs.lemmas.Bool.Decides.{nat_tests}
+use Rattle.semantics.specs.declared.limits.TheConstants.{MOST_INPUT_BYTES}
 use Rattle.semantics.specs.Texts.{Bytes}
 use Rattle.semantics.specs.Net.{NetValue}
-use Rattle.blif_semantics.specs.Reading.{input_limit, Refusal, text_long, blif_reading}
+use Rattle.blif_semantics.specs.Reading.{Refusal, text_long, blif_reading}
 use Rattle.blif_semantics.proofs.ReadNet.{read_sound, read_small}
 use Rattle.outside_semantics.specs.Outside.{FilesTold, Goes, bytes_of}
 use Rattle.file_core.proofs.Told.{held_before}
@@ -22,22 +23,22 @@ use Rattle.conversions.proofs.Told.{blif_told, blif_untold}
 
 -- the reading of a text is that of its front up to one byte past the limit
 abbrev pub ReadsFront : {X : Type 0} → (Bytes → X) → Type 0
-ReadsFront reading = (content : Bytes) → reading (take (input_limit + 1) content) ≡ reading content
+ReadsFront reading = (content : Bytes) → reading (take (MOST_INPUT_BYTES + 1) content) ≡ reading content
 
 -- so it is where all texts past the limit are read alike
-pub reads_front : {X : Type 0} (reading : Bytes → X) (long : X) → ((text : Bytes) → input_limit < length text → reading text ≡ long) → ReadsFront reading
+pub reads_front : {X : Type 0} (reading : Bytes → X) (long : X) → ((text : Bytes) → MOST_INPUT_BYTES < length text → reading text ≡ long) → ReadsFront reading
 reads_front reading long alike content =
-    elim (cases_lt input_limit (length content)) [
-      | inl past ↦ alike (take (input_limit + 1) content) (omega (arith, length-take (input_limit + 1) content)) ∙ sym (alike content past)
-      | inr short ↦ ap reading (take_all (input_limit + 1) content (omega arith))
+    elim (cases_lt MOST_INPUT_BYTES (length content)) [
+      | inl past ↦ alike (take (MOST_INPUT_BYTES + 1) content) (omega (arith, length-take (MOST_INPUT_BYTES + 1) content)) ∙ sym (alike content past)
+      | inr short ↦ ap reading (take_all (MOST_INPUT_BYTES + 1) content (omega arith))
     ]
 
 pub if_false : {X : Type 0} (b : Bool) (x y : X) → b ≡ false → (if not b then x else y) ≡ x
 if_false b x y is = ap (λ t. if not t then x else y) is
 
-too_long : (text : Bytes) → input_limit < length text → input_reading text ≡ Err text_long
+too_long : (text : Bytes) → MOST_INPUT_BYTES < length text → input_reading text ≡ Err text_long
 unfolding blif_reading
-too_long text past = if_false (nat_le (length text) input_limit) _ _ (grind (arith, nat_tests))
+too_long text past = if_false (nat_le (length text) MOST_INPUT_BYTES) _ _ (grind (arith, nat_tests))
 
 pub net_reads_front : ReadsFront input_reading
 net_reads_front = reads_front input_reading (Err text_long) too_long
@@ -50,12 +51,12 @@ front_is content text most room within is all =
       | inr part ↦ part.1 ∙ ap (λ k. take k content) (omega (arith, part.0, is, within))
     ]
 
-pub FrontRead-from : {old new : FilesTold} {name text : Bytes} {room : ℕ} → length text ≤ input_limit + 1 → room ≡ input_limit + 1 - length text
+pub FrontRead-from : {old new : FilesTold} {name text : Bytes} {room : ℕ} → length text ≤ MOST_INPUT_BYTES + 1 → room ≡ MOST_INPUT_BYTES + 1 - length text
     → FileRead old new name text room → FrontRead old new name text
 FrontRead-from {name = name} {text = text} {room = room} within is read = record {
   stay = read.stay;
   held = read.held;
-  front = λ a b told tells. front_is (bytes_of a name) text input_limit room within is (read.all a b told tells);
+  front = λ a b told tells. front_is (bytes_of a name) text MOST_INPUT_BYTES room within is (read.all a b told tells);
 }
 
 -- what is read of the front is read of IN
@@ -77,8 +78,8 @@ pub NetRead-from : {old new : FilesTold} {name text bytes : Bytes} {N : NetValue
 NetRead-from {bytes = bytes} {N = N} read same is = record {
   stay = read.stay;
   read = OfInput-from input_reading net_reads_front (Ok N) read (ap input_reading (sym same) ∙ is);
-  sound = read_sound bytes input_limit N is;
-  small = read_small bytes input_limit N is;
+  sound = read_sound bytes MOST_INPUT_BYTES N is;
+  small = read_small bytes MOST_INPUT_BYTES N is;
 }
 
 -- where IN was not read, there is no net

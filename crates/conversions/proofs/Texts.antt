@@ -1,15 +1,16 @@
 -- A conversion reads no more of IN than one byte past the limit, and what it answers where IN is refused.
 use Rattle.std.proofs.Common.{◌≡◌, ◌<◌, length, nat_le, Option, Some, None, Result, Err, ap, subst, ◌∙◌, arith}
 use Rattle.std.proofs.lemmas.Bool.Decides.{nat_tests}
+use Rattle.semantics.specs.declared.limits.TheConstants.{MOST_INPUT_BYTES}
 use Rattle.semantics.specs.Texts.{Bytes}
 use Rattle.outside_semantics.specs.Outside.{FilesTold, SinkTold}
 use Rattle.semantics.specs.Blif.{blif_text}
-use Rattle.blif_semantics.specs.Reading.{input_limit, text_long}
+use Rattle.blif_semantics.specs.Reading.{text_long}
 use Rattle.hierarchy_semantics.specs.Refusals as hierarchy
 use Rattle.hierarchy_semantics.specs.Reading.{hier_reading}
 use Rattle.hierarchy_semantics.specs.Flat.{flattened}
 use Rattle.aiger_semantics.specs.CircuitLines as aiger
-use Rattle.aiger_semantics.specs.Reading.{aiger_limit, aiger_reading}
+use Rattle.aiger_semantics.specs.Reading.{aiger_reading}
 use Rattle.aiger_semantics.specs.NetCircuit.{ands_of}
 use Rattle.aiger_semantics.specs.Text.{aiger_text}
 use Rattle.job_semantics.specs.Input.{input_reading}
@@ -32,20 +33,20 @@ use Rattle.conversions.proofs.Conversions.{refused-at}
 pub aag_reads_front : ReadsFront aag_text
 aag_reads_front content = ap (λ r. made aiger_text (made ands_of r)) (net_reads_front content)
 
-long_hierarchy : (text : Bytes) → input_limit < length text → hier_reading text input_limit ≡ Err (hierarchy.line text_long)
+long_hierarchy : (text : Bytes) → MOST_INPUT_BYTES < length text → hier_reading text MOST_INPUT_BYTES ≡ Err (hierarchy.line text_long)
 unfolding hier_reading
-long_hierarchy text past = if_false (nat_le (length text) input_limit) _ _ (grind (arith, nat_tests))
+long_hierarchy text past = if_false (nat_le (length text) MOST_INPUT_BYTES) _ _ (grind (arith, nat_tests))
 
 pub flat_reads_front : ReadsFront flat_text
 flat_reads_front content =
-    ap (λ r. made blif_text (read_further flattened r)) (reads_front (λ text. hier_reading text input_limit) (Err (hierarchy.line text_long)) long_hierarchy content)
+    ap (λ r. made blif_text (read_further flattened r)) (reads_front (λ text. hier_reading text MOST_INPUT_BYTES) (Err (hierarchy.line text_long)) long_hierarchy content)
 
-long_circuit : (text : Bytes) → input_limit < length text → aiger_reading text aiger_limit ≡ Err aiger.text_long
+long_circuit : (text : Bytes) → MOST_INPUT_BYTES < length text → aiger_reading text MOST_INPUT_BYTES ≡ Err aiger.text_long
 unfolding aiger_reading
-long_circuit text past = if_false (nat_le (length text) aiger_limit) _ _ (grind (arith, nat_tests))
+long_circuit text past = if_false (nat_le (length text) MOST_INPUT_BYTES) _ _ (grind (arith, nat_tests))
 
 pub netlist_reads_front : ReadsFront netlist_text
-netlist_reads_front content = ap (made blif_text) (reads_front (λ text. aiger_reading text aiger_limit) (Err aiger.text_long) long_circuit content)
+netlist_reads_front content = ap (made blif_text) (reads_front (λ text. aiger_reading text MOST_INPUT_BYTES) (Err aiger.text_long) long_circuit content)
 
 -- what is told with a refusal of a hierarchy, or without one
 abbrev IsTold : {X : Type 0} → HierRefusal → Result X hierarchy.HierRefusal → Option hierarchy.HierRefusal → Type 0
@@ -74,7 +75,7 @@ module _ {input output : Bytes} {old mid : FilesTold} {said : SinkTold} {text by
       (λ none. is ∙ hier_untold told (out_of_memory told (flat_reading bytes) tells none))
       (λ r some. (ap (made blif_text) (refusal_told told (flat_reading bytes) r tells some), (told, some, is ∙ hier_told told r some)))
 
-  pub blif-refused : (told : AigerRefusal) → aiger_refusals.Tells told (aiger_reading bytes aiger_limit) → answer ≡ aiger_answer told
+  pub blif-refused : (told : AigerRefusal) → aiger_refusals.Tells told (aiger_reading bytes MOST_INPUT_BYTES) → answer ≡ aiger_answer told
       → ConversionAnswer netlist_text TellsAiger input output old mid said said answer
   blif-refused told tells is =
       refused-at netlist_text TellsAiger input output netlist_reads_front read same answer (aiger_refusals.refusal_of told)

@@ -1,9 +1,10 @@
 -- What the reading of IN comes to.
 use Rattle.std.specs.Prelude.{◌≡◌, ◌+◌, IsTrue, Some, take}
 use Rattle.std.specs.FinMap.{contains_key}
+use Rattle.semantics.specs.declared.limits.TheConstants.{MOST_INPUT_BYTES}
 use Rattle.semantics.specs.Texts.{Bytes}
 use Rattle.semantics.specs.Net.{NetValue, IsSound, IsSmall}
-use Rattle.blif_semantics.specs.Reading.{input_limit, Refusal}
+use Rattle.blif_semantics.specs.Reading.{Refusal}
 use Rattle.outside_semantics.specs.Outside.{FilesTold, WhereTold, bytes_of}
 use Rattle.file_reading.specs.Reading.{FileFailed, FilesStay}
 use Rattle.job_semantics.specs.Input.{IsReadAs, IsRefusedFor}
@@ -16,7 +17,7 @@ use Rattle.job_answers.specs.declared.status.Status.TheVariants.{Text, NoMemory,
 pub record FrontRead (old new : FilesTold) (name text : Bytes) : Type 0 where
   pub stay : FilesStay old new name
   pub held : WhereTold old new (λ a b. IsTrue (contains_key a name))
-  pub front : WhereTold old new (λ a b. text ≡ take (input_limit + 1) (bytes_of a name))
+  pub front : WhereTold old new (λ a b. text ≡ take (MOST_INPUT_BYTES + 1) (bytes_of a name))
 
 -- the answer where IN was not read
 abbrev pub FrontUnread : FilesTold → FilesTold → Bytes → Status → Type 0

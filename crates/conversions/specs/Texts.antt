@@ -1,15 +1,15 @@
 -- The text that each conversion makes of IN, or why IN is refused. Source: this tool's own table of commands; BLIF and AIGER.
 use Rattle.std.specs.Prelude.{Result, Ok, Err}
+use Rattle.semantics.specs.declared.limits.TheConstants.{MOST_INPUT_BYTES}
 use Rattle.semantics.specs.Texts.{Bytes}
 use Rattle.semantics.specs.Net.{NetValue}
 use Rattle.semantics.specs.Blif.{blif_text}
 use Rattle.blif_semantics.specs.Reading as blif
-use Rattle.blif_semantics.specs.Reading.{input_limit}
 use Rattle.hierarchy_semantics.specs.Refusals as hierarchy
 use Rattle.hierarchy_semantics.specs.Reading.{hier_reading}
 use Rattle.hierarchy_semantics.specs.Flat.{flattened}
 use Rattle.aiger_semantics.specs.CircuitLines as aiger
-use Rattle.aiger_semantics.specs.Reading.{aiger_limit, aiger_reading}
+use Rattle.aiger_semantics.specs.Reading.{aiger_reading}
 use Rattle.aiger_semantics.specs.Circuit.{CircuitValue}
 use Rattle.aiger_semantics.specs.NetCircuit.{ands_of}
 use Rattle.aiger_semantics.specs.Text.{aiger_text}
@@ -27,7 +27,7 @@ read_further f (Err refusal) = Err refusal
 
 -- the flat net of the hierarchy of a text
 abbrev pub flat_reading : Bytes → Result NetValue hierarchy.HierRefusal
-flat_reading text = read_further flattened (hier_reading text input_limit)
+flat_reading text = read_further flattened (hier_reading text MOST_INPUT_BYTES)
 
 abbrev pub flat_text : Bytes → Result Bytes hierarchy.HierRefusal
 flat_text text = made blif_text (flat_reading text)
@@ -41,4 +41,4 @@ aag_text text = made aiger_text (circuit_reading text)
 
 -- the text of the net of an AIGER text
 abbrev pub netlist_text : Bytes → Result Bytes aiger.Refusal
-netlist_text text = made blif_text (aiger_reading text aiger_limit)
+netlist_text text = made blif_text (aiger_reading text MOST_INPUT_BYTES)

@@ -4,13 +4,14 @@ ghost use Rattle.job_answers.specs.Refused.{TellsBlif, TellsHier, TellsAiger};
 ghost use Rattle.conversions.specs.Answers.{ConversionAnswer};
 ghost use Rattle.conversions.specs.Texts.{flat_text, aag_text, netlist_text};
 
-use crate::input::{INPUT_LIMIT, read_front};
+use crate::input::read_front;
 use crate::making::{circuit, flat_net};
 use crate::output::{answer_of_writing, write_circuit, write_netlist};
 use aiger_text::reading::read_aiger;
 use file_core::files::Files;
 use job_answers::refused::{aiger_answer, blif_answer, hier_answer};
 use job_answers::status::Status;
+use semantics::limits::MOST_INPUT_BYTES;
 use std::alloc::Global;
 
 /// The text of a hierarchy of models is turned into that of its flat net.
@@ -76,7 +77,7 @@ pub fn blif<F: Files>(alloc: Global, input: &[u8], output: &[u8], files: &mut F)
         Ok(text) => text,
         Err(answer) => return answer,
     };
-    match read_aiger(alloc, text.bytes(), INPUT_LIMIT as u64) {
+    match read_aiger(alloc, text.bytes(), MOST_INPUT_BYTES as u64) {
         Ok(net) => answer_of_writing(write_netlist(&net, output, files)),
         Err(reason) => aiger_answer(reason),
     }

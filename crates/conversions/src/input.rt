@@ -10,17 +10,15 @@ use file_reading::unread::Unread;
 use job_answers::refused::blif_answer;
 use job_answers::status::Status;
 use net_core::net::Net;
+use semantics::limits::MOST_INPUT_BYTES;
 use std::alloc::Global;
-
-/// The most bytes of IN that are read.
-pub const INPUT_LIMIT: usize = 4_194_304;
 
 /// Reads a file no further than one byte past the limit, so that none is endless. Where it cannot be read, that is the answer.
 pub fn read_front<F: Files>(alloc: Global, files: &mut F, name: &[u8]) -> Result<Front, Status>
     ensures ok { IfOk result (λ front. FrontRead (F.told files.old) (F.told files.new) name.now front.bytes) }
     ensures err { IfErr result (FrontUnread (F.told files.old) (F.told files.new) name.now) }
 {
-    let mut front = Front::new(alloc, INPUT_LIMIT);
+    let mut front = Front::new(alloc, MOST_INPUT_BYTES);
     let read = read_file(files, name, &mut front);
     let _ = front.bytes();
     match read {
@@ -40,7 +38,7 @@ pub fn read_net<F: Files>(alloc: Global, files: &mut F, name: &[u8]) -> Result<N
         Ok(front) => front,
         Err(answer) => return Err(answer),
     };
-    match read_blif(alloc, front.bytes(), INPUT_LIMIT as u64) {
+    match read_blif(alloc, front.bytes(), MOST_INPUT_BYTES as u64) {
         Ok(net) => Ok(net),
         Err(reason) => Err(blif_answer(reason)),
     }

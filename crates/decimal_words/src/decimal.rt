@@ -1,10 +1,12 @@
 //! Decimal numbers of the command line and of reports: `0`, or digits without a leading zero; no sign.
-ghost use Rattle.std.specs.Prelude.{◌≡◌, ◌^◌, ◌<◌, ◌+◌, ◌*◌, ◌-◌, ◌/◌};
+ghost use Rattle.std.specs.Prelude.{◌≡◌, ◌≤◌, ◌^◌, ◌<◌, ◌+◌, ◌*◌, ◌-◌, ◌/◌};
 ghost use Rattle.job_semantics.specs.Job.{number_from_to};
+
+use semantics::limits::LARGEST_ERROR;
 
 /// The number that the word is, if it is a decimal number from `low` to `high`.
 pub fn number_from_to(word: &[u8], low: u128, high: u128) -> Option<u128>
-    requires { high < 2 ^ 84 }
+    requires { high ≤ LARGEST_ERROR }
     ensures { result ≡ number_from_to low high word.now }
 {
     if word.is_empty() || (word.len() > 1 && word[0] == b'0') {

@@ -1,5 +1,6 @@
 -- Worked examples, computed from the definitions.
 use Rattle.std.specs.Prelude.{◌≡◌, ℕ, Bool, true, false, List, [], ◌∷◌, ◌++◌, map, codes, Option, Some, None, Result, Ok, Err, flat_map, replicate}
+use Rattle.semantics.specs.declared.limits.TheConstants.{MOST_INPUT_BYTES}
 use Rattle.semantics.specs.declared.mark.Mark.{Mark}
 use Rattle.semantics.specs.declared.mark.Mark.TheVariants.{Zero, One, Dash}
 use Rattle.semantics.specs.declared.which.Which.TheVariants as which
@@ -8,7 +9,7 @@ use Rattle.semantics.specs.Net.{NetValue, TableValue, literal_count}
 use Rattle.semantics.specs.Value.{outputs_of}
 use Rattle.semantics.specs.Vectors.{all_vectors}
 use Rattle.blif_semantics.specs.Statements.{stray_row, after_end, bad_name}
-use Rattle.blif_semantics.specs.Reading.{text_long, wrong_line, doubled, no_output, undriven, cycle, input_limit, limit}
+use Rattle.blif_semantics.specs.Reading.{text_long, wrong_line, doubled, no_output, undriven, cycle, limit}
 use Rattle.blif_semantics.specs.Examples.{lf}
 use Rattle.hierarchy_semantics.specs.Models.{Hierarchy}
 use Rattle.hierarchy_semantics.specs.Refusals.{HierRefusal, line, same_model, no_model_named, recursive, ports, formal, unbound, part, taken, flat}
@@ -40,7 +41,7 @@ refused (Ok h) = None
 refused (Err r) = Some r
 
 abbrev pub refusal_of : Bytes → Option HierRefusal
-refusal_of text = refused (hier_reading text input_limit)
+refusal_of text = refused (hier_reading text MOST_INPUT_BYTES)
 
 -- the flat net of a text, or its refusal
 abbrev pub flat_of : Result Hierarchy HierRefusal → Result NetValue HierRefusal
@@ -48,7 +49,7 @@ flat_of (Ok h) = flattened h
 flat_of (Err r) = Err r
 
 abbrev pub flat_reading : Bytes → Result NetValue HierRefusal
-flat_reading text = flat_of (hier_reading text input_limit)
+flat_reading text = flat_of (hier_reading text MOST_INPUT_BYTES)
 
 abbrev pub table_of : Bytes → List ℕ → List (List Mark) → TableValue
 table_of name pins rows = record { name = name; pins = pins; rows = rows; plane = true }
@@ -99,10 +100,10 @@ pub record FullAdderExamples : Type 0 where
   pub circle : refusal_of in_a_circle ≡ Some (recursive (codes "fa"))
   -- the sum and the carry of three bits
   pub values :
-      values_in (hier_reading full_adder input_limit) 8 3 (codes "s" ∷ codes "co" ∷ [])
+      values_in (hier_reading full_adder MOST_INPUT_BYTES) 8 3 (codes "s" ∷ codes "co" ∷ [])
       ≡ bits false false ∷ bits true false ∷ bits true false ∷ bits false true ∷ bits true false ∷ bits false true ∷ bits false true ∷ bits true true ∷ []
   -- too few steps give no value
-  pub few_steps : values_in (hier_reading full_adder input_limit) 2 0 (codes "s" ∷ codes "a" ∷ []) ≡ (None ∷ Some false ∷ []) ∷ []
+  pub few_steps : values_in (hier_reading full_adder MOST_INPUT_BYTES) 2 0 (codes "s" ∷ codes "a" ∷ []) ≡ (None ∷ Some false ∷ []) ∷ []
   pub outputs : map (outputs_of flat_full_adder) (all_vectors 3)
       ≡ word false false ∷ word true false ∷ word true false ∷ word false true ∷ word true false ∷ word false true ∷ word false true ∷ word true true ∷ []
 

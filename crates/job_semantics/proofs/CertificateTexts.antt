@@ -4,6 +4,7 @@ use Rattle.std.specs.List.{AllByRecursion}
 use Rattle.std.specs.Prelude.{flat_map}
 use Rattle.std.specs.Fmt.{digits}
 use Rattle.std.proofs.lemmas.List.{length-append, length-map, length_push}
+use Rattle.semantics.specs.declared.limits.TheConstants.{MOST_BUNDLE_BYTES}
 use Rattle.semantics.specs.Texts.{Bytes, bit_byte, bits_word, line_text, text_of}
 use Rattle.semantics.specs.Refusals.{first_ungrounded}
 use Rattle.semantics.specs.Net.{NetValue, HasSamePorts}
@@ -11,7 +12,7 @@ use Rattle.semantics.specs.declared.metric.Metric.TheVariants.{Abs}
 use Rattle.semantics.specs.Examples.{half_adder, both_constant}
 use Rattle.blif_semantics.specs.Lines.{logical_lines}
 use Rattle.blif_semantics.specs.Statements.{first_wrong}
-use Rattle.blif_semantics.specs.Reading.{Refusal, bundle_limit, named_net, numbered, blif_reading}
+use Rattle.blif_semantics.specs.Reading.{Refusal, named_net, numbered, blif_reading}
 use Rattle.proof_semantics.specs.Formula.{Formula, dimacs_text}
 use Rattle.job_semantics.specs.declared.version.Version.{Version}
 use Rattle.job_semantics.specs.declared.version.Version.TheVariants.{One, Two}
@@ -79,15 +80,15 @@ the_one text r s = verified_law.one_report half_adder Abs 3 (texts_of_three both
 abbrev pub swapped : NetValue
 swapped = record both_constant { inputs = codes "b" ∷ codes "a" ∷ [] }
 
-pub no_net : (M : NetValue) → blif_reading [] bundle_limit ≡ Ok M → ⊥
+pub no_net : (M : NetValue) → blif_reading [] MOST_BUNDLE_BYTES ≡ Ok M → ⊥
 unfolding first_ungrounded logical_lines first_wrong named_net numbered blif_reading
 no_net M is = cc
 
-pub swapped_read : blif_reading (netlist_with (codes ".inputs b a")) bundle_limit ≡ Ok swapped
+pub swapped_read : blif_reading (netlist_with (codes ".inputs b a")) MOST_BUNDLE_BYTES ≡ Ok swapped
 unfolding text_of first_ungrounded logical_lines first_wrong named_net numbered blif_reading
 swapped_read = refl
 
-pub other_ports : (M : NetValue) → blif_reading (netlist_with (codes ".inputs b a")) bundle_limit ≡ Ok M → HasSamePorts half_adder M → ⊥
+pub other_ports : (M : NetValue) → blif_reading (netlist_with (codes ".inputs b a")) MOST_BUNDLE_BYTES ≡ Ok M → HasSamePorts half_adder M → ⊥
 other_ports M is ports =
     let same : swapped ≡ M = (let both : ◌≡◌ {A = Result NetValue Refusal} (Ok swapped) (Ok M) = sym swapped_read ∙ is in cc) in
     let names : codes "a" ∷ codes "b" ∷ [] ≡ codes "b" ∷ codes "a" ∷ [] = ports.inputs ∙ ap (λ N. N.inputs) (sym same) in

@@ -3,12 +3,12 @@ use Rattle.std.specs.Prelude.{unwrap_or}
 use Rattle.std.proofs.Common.{◌≡◌, ℕ, ◌^◌, ◌<◌, ◌≤◌, List, [], ◌∷◌, ◌++◌, refl, ap, sym, subst, ◌∙◌, lt_of_le_of_lt, arith}
 use Rattle.std.proofs.lemmas.List.{append_cancel_left}
 use Rattle.std.specs.List.{AllByRecursion}
+use Rattle.semantics.specs.declared.limits.TheConstants.{MOST_BUNDLE_BYTES}
 use Rattle.semantics.specs.Texts.{Bytes}
 use Rattle.semantics.specs.Net.{NetValue, input_count, table_count, literal_count, HasSamePorts, IsSound, IsSmall}
 use Rattle.semantics.specs.Error.{net_error}
 use Rattle.semantics.specs.declared.metric.Metric.{Metric}
 use Rattle.quality_semantics.proofs.Joint.{comparable}
-use Rattle.blif_semantics.specs.Reading.{bundle_limit}
 use Rattle.blif_semantics.proofs.ReadNet.{read_sound}
 use Rattle.blif_semantics.proofs.Written.{read}
 use Rattle.proof_semantics.specs.Formula.{dimacs_text}
@@ -72,7 +72,7 @@ module _ (exact : NetValue) (metric : Metric) (bound : ℕ) (texts : Texts) (sou
   verified = record {
     ports = with_ports;
     safe =
-        let other = read_sound (texts file.Netlist) bundle_limit M net in
+        let other = read_sound (texts file.Netlist) MOST_BUNDLE_BYTES M net in
         miter_law.refuted exact M metric r.maximum (comparable exact M sound other with_ports) refuted.0 refuted.1.refutes;
     within = of_report exact metric bound texts (λ s. s.maximum ≤ bound) r report c.1.1.1.0;
     width = report.witness;

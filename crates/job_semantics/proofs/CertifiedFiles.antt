@@ -2,13 +2,14 @@
 use Rattle.std.proofs.Common.{◌≡◌, ℕ, Bool, true, false, List, [], ◌∷◌, get_or, Option, Some, None, is_some, Result, Ok, Err, refl, ap, sym, subst, ◌∙◌, arith}
 use Rattle.std.specs.Prelude.{IsTrue, unwrap_or}
 use Rattle.std.specs.FinMap.{get, contains_key}
+use Rattle.semantics.specs.declared.limits.TheConstants.{MOST_BUNDLE_BYTES, MOST_INPUT_BYTES}
 use Rattle.semantics.specs.Texts.{Bytes, text_of}
 use Rattle.semantics.specs.Net.{NetValue}
 use Rattle.semantics.specs.declared.metric.Metric.{Metric}
 use Rattle.outside_semantics.specs.Outside.{Held, bytes_of}
 use Rattle.blif_semantics.specs.Lines.{logical_lines}
 use Rattle.blif_semantics.specs.Statements.{first_wrong}
-use Rattle.blif_semantics.specs.Reading.{Refusal, bundle_limit, input_limit, no_output, named_net, blif_reading}
+use Rattle.blif_semantics.specs.Reading.{Refusal, no_output, named_net, blif_reading}
 use Rattle.proof_semantics.specs.Clauses.{Clause}
 use Rattle.proof_semantics.specs.Formula.{Formula, dimacs_text}
 use Rattle.proof_semantics.specs.Logs.{LogItem, Refutes, last_added}
@@ -28,13 +29,13 @@ use Rattle.job_semantics.proofs.ReportTexts.{report_text-is}
 pub no_bytes : (N : NetValue) → ¬ IsReadAs [] N
 unfolding blif_reading first_wrong logical_lines named_net
 no_bytes N is =
-    let none : blif_reading [] input_limit ≡ Err no_output = refl in
+    let none : blif_reading [] MOST_INPUT_BYTES ≡ Err no_output = refl in
     let both : ◌≡◌ {A = Result NetValue Refusal} (Err no_output) (Ok N) = sym none ∙ is in cc
 
-no_netlist : (N : NetValue) → blif_reading [] bundle_limit ≡ Ok N → ⊥
+no_netlist : (N : NetValue) → blif_reading [] MOST_BUNDLE_BYTES ≡ Ok N → ⊥
 unfolding blif_reading first_wrong logical_lines named_net
 no_netlist N is =
-    let none : blif_reading [] bundle_limit ≡ Err no_output = refl in
+    let none : blif_reading [] MOST_BUNDLE_BYTES ≡ Err no_output = refl in
     let both : ◌≡◌ {A = Result NetValue Refusal} (Err no_output) (Ok N) = sym none ∙ is in cc
 
 no_report : (r : Report) → [] ≡ report_text r → ⊥
@@ -63,7 +64,7 @@ held_if (Some bytes) some = refl
 
 module _ (exact : NetValue) (metric : Metric) (bound : ℕ) (stem : Bytes) (held : Held) (c : Certifies exact metric bound (texts_of held stem)) where
   not_empty : (ending : Ending) → texts_of held stem ending ≡ [] → ⊥
-  not_empty file.Netlist is = no_netlist c.0.0 (subst (λ t. blif_reading t bundle_limit ≡ Ok c.0.0) is c.0.1)
+  not_empty file.Netlist is = no_netlist c.0.0 (subst (λ t. blif_reading t MOST_BUNDLE_BYTES ≡ Ok c.0.0) is c.0.1)
   not_empty file.Report is = no_report c.1.1.0.0 (sym is ∙ c.1.1.0.1.spelled)
   not_empty file.Vectors is = no_vectors c.1.1.1.1.0.0.witness c.1.1.1.1.0.2.0 (sym is ∙ c.1.1.1.1.0.2.1.spelled)
   not_empty file.Formula is = no_formula _ (sym is ∙ c.1.1.1.1.1.1.0.2.2)

@@ -3,6 +3,7 @@
 use Rattle.std.specs.Prelude.{◌≡◌, ℕ, ◌^◌, ◌<◌, ◌≤◌, Bool, IsTrue, nat_le, List, [], ◌∷◌, ◌++◌, length, filter, Contains, Ok}
 use Rattle.std.specs.List.{AllByRecursion}
 use Rattle.std.specs.FinMap.{contains_key}
+use Rattle.semantics.specs.declared.limits.TheConstants.{MOST_BUNDLE_BYTES, LARGEST_ERROR}
 use Rattle.semantics.specs.Texts.{Bytes}
 use Rattle.semantics.specs.Net.{NetValue, input_count, table_count, literal_count, HasSamePorts}
 use Rattle.semantics.specs.Error.{net_error}
@@ -10,7 +11,7 @@ use Rattle.semantics.specs.declared.metric.Metric.{Metric}
 use Rattle.chain_semantics.specs.declared.moves.Move.{Move}
 use Rattle.chain_semantics.specs.Moves.{moves_of, old_moves_of}
 use Rattle.chain_semantics.specs.Minimality.{AreBrokenBySome}
-use Rattle.blif_semantics.specs.Reading.{bundle_limit, blif_reading}
+use Rattle.blif_semantics.specs.Reading.{blif_reading}
 use Rattle.proof_semantics.specs.Formula.{dimacs_text}
 use Rattle.proof_semantics.specs.Logs.{LogItem, Refutes}
 use Rattle.proof_semantics.specs.LratReading.{lrat_items}
@@ -39,14 +40,14 @@ OfBundle old new stem P = WhereTold old new (λ a b. P (texts_of b stem))
 
 -- `.blif` is read as the net
 abbrev pub IsNetlist : Texts → NetValue → Type 0
-IsNetlist texts M = blif_reading (texts file.Netlist) bundle_limit ≡ Ok M
+IsNetlist texts M = blif_reading (texts file.Netlist) MOST_BUNDLE_BYTES ≡ Ok M
 
 -- the text is that of the report, which is one for so many inputs, the metric and the bound, of either version
 pub record IsReportText (inputs : ℕ) (metric : Metric) (bound : ℕ) (text : Bytes) (r : Report) : Type 0 where
   pub spelled : text ≡ report_text r
   pub same_metric : r.metric ≡ metric
   pub same_bound : r.bound ≡ bound
-  pub maximum : r.maximum < 2 ^ 84
+  pub maximum : r.maximum ≤ LARGEST_ERROR
   pub witness : length r.witness ≡ inputs
   pub counts : AllByRecursion (λ count. count < 2 ^ 32) (r.old_tables ∷ r.new_tables ∷ r.old_literals ∷ r.new_literals ∷ [])
 

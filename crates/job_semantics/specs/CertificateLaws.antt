@@ -1,6 +1,7 @@
 -- The laws about certificates, each the contract of a function without parameters.
 use Rattle.std.specs.Prelude.{◌≡◌, ℕ, ◌^◌, ◌<◌, ◌≤◌, Bool, IsTrue, List, ◌∷◌, length}
 use Rattle.std.specs.List.{AllByRecursion}
+use Rattle.semantics.specs.declared.limits.TheConstants.{LARGEST_ERROR}
 use Rattle.semantics.specs.Texts.{Bytes}
 use Rattle.semantics.specs.Net.{NetValue, input_count, table_count, literal_count, HasSamePorts, IsSound, IsSmall}
 use Rattle.semantics.specs.Error.{net_error, IsWithin}
@@ -48,7 +49,7 @@ pub record IsRightBundle (b : BundleValue) : Type 0 where
   pub approx_sound : IsSound b.approx
   pub approx_small : IsSmall b.approx
   pub ports : HasSamePorts b.exact b.approx
-  pub bound : b.bound < 2 ^ 84
+  pub bound : b.bound ≤ LARGEST_ERROR
   pub within : b.maximum ≤ b.bound
   pub width : length b.witness ≡ input_count b.exact
   pub attained : net_error b.metric b.exact b.approx b.witness ≡ b.maximum

@@ -2,7 +2,8 @@
 ghost use Rattle.std.specs.Prelude.{◌≡◌, ◌≢◌, ℕ, true, IsTrue, Some};
 ghost use Rattle.std.specs.FinMap.{contains_key};
 ghost use Rattle.outside_semantics.specs.Outside.{bytes_of};
-ghost use Rattle.blif_semantics.specs.Reading.{input_limit, blif_reading};
+ghost use Rattle.blif_semantics.specs.Reading.{blif_reading};
+ghost use Rattle.semantics.specs.declared.limits.TheConstants.{MOST_INPUT_BYTES};
 ghost use Rattle.semantics.specs.Texts.{Bytes};
 ghost use Rattle.semantics.specs.Net.{input_count};
 ghost use Rattle.semantics.specs.declared.metric.Metric.{Metric};
@@ -109,11 +110,11 @@ pub fn run_surely(
     ensures answers { (metric : Metric) (bound conflicts : ℕ) (input stem : Bytes)
         → job_of words.now ≡ Some (synth metric bound conflicts input stem)
         → files.old.told ≡ true → IsTrue (contains_key files.old.given input)
-        → IsAnswerTo conflicts (told_query result.spent) (blif_reading (bytes_of files.old.given input) input_limit) result.status }
+        → IsAnswerTo conflicts (told_query result.spent) (blif_reading (bytes_of files.old.given input) MOST_INPUT_BYTES) result.status }
     ensures check_answers { (metric : Metric) (bound : ℕ) (input stem : Bytes)
         → job_of words.now ≡ Some (check metric bound input stem)
         → files.old.told ≡ true → IsTrue (contains_key files.old.given input)
-        → IsCheckAnswerTo (blif_reading (bytes_of files.old.given input) input_limit) result.status }
+        → IsCheckAnswerTo (blif_reading (bytes_of files.old.given input) MOST_INPUT_BYTES) result.status }
     ensures demo_answers { (width bound conflicts : ℕ)
         → job_of words.now ≡ Some (demo width bound conflicts)
         → IsWorkOf conflicts (input_count (demo_net width)) (told_query result.spent) result.status }

@@ -6,6 +6,7 @@ use Rattle.std.proofs.lemmas.List.{ext_get_or, length_push, get_or_push, get_or_
 use Rattle.std.proofs.lemmas.List.Elements.{All-from_get_or}
 use Rattle.std.proofs.lemmas.List.FromFn.{get_or-map-range_with_len}
 use Rattle.std.proofs.lemmas.Nat.Bits.{bit_at_lowest, bit_at-suc, bit_at_cat_low, bit_at_cat_high}
+use Rattle.semantics.specs.declared.limits.TheConstants.{MOST_INPUTS}
 use Rattle.semantics.specs.Vectors.{bits_of, all_vectors}
 use Rattle.semantics.proofs.Vectors.{length-bits_of, length-all_vectors}
 use Rattle.lane_bits.specs.Rows.{row_bit, word_count}
@@ -112,7 +113,7 @@ bit_of zero j i low = absurd (omega arith)
 bit_of (suc n) j zero low = ap (λ b. b == 1) (sym (bit_at_lowest j))
 bit_of (suc n) j (suc i) low = bit_of n (j / 2) i (omega arith) ∙ ap (λ b. b == 1) (sym (bit_at-suc j i))
 
-module _ (inputs count : ℕ) (rows : List (List ℕ)) (few : inputs ≤ 256) (all : count ≡ 2 ^ inputs) (are : AreCountingRows inputs count rows) where
+module _ (inputs count : ℕ) (rows : List (List ℕ)) (few : inputs ≤ MOST_INPUTS) (all : count ≡ 2 ^ inputs) (are : AreCountingRows inputs count rows) where
   pub counting_formed : AreRowsOf inputs count rows
   counting_formed = record {
     few = few;

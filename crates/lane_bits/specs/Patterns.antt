@@ -2,6 +2,7 @@
 -- each vector.
 use Rattle.std.specs.Prelude.{◌≡◌, ℕ, ◌≤◌, Bool, false, List, [], map, length, slice_index_or}
 use Rattle.std.specs.List.{AllByRecursion, range_with_len}
+use Rattle.semantics.specs.declared.limits.TheConstants.{MOST_INPUTS}
 use Rattle.lane_bits.specs.Rows.{row_bit, word_count}
 
 -- a list of vectors, each of as many bits as there are inputs
@@ -10,7 +11,7 @@ pub record PatternSet : Type 0 where
   pub vectors : List (List Bool)
 
 pub record IsPatternSet (s : PatternSet) : Type 0 where
-  pub few : s.inputs ≤ 256
+  pub few : s.inputs ≤ MOST_INPUTS
   pub widths : AllByRecursion (λ x. length x ≡ s.inputs) s.vectors
 
 -- an input's bit in a vector; past the last vector it is 0

@@ -1,5 +1,6 @@
 -- How rows of bits hold a set of vectors, and how they change when a vector is added.
 use Rattle.std.specs.Prelude.{◌≡◌, ◌⊎◌, ℕ, ◌<◌, ◌≤◌, ◌==◌, ◌||◌, ◌&&◌, Bool, false, List, [], length, slice_index_or, All}
+use Rattle.semantics.specs.declared.limits.TheConstants.{MOST_INPUTS}
 use Rattle.lane_bits.specs.Rows.{row_bit, word_count}
 
 -- a row has room for so many bits, and those past them are 0
@@ -9,7 +10,7 @@ pub record IsRowFor (count : ℕ) (row : List ℕ) : Type 0 where
 
 -- one row for each input, or none before the first vector
 pub record AreRowsOf (inputs count : ℕ) (rows : List (List ℕ)) : Type 0 where
-  pub few : inputs ≤ 256
+  pub few : inputs ≤ MOST_INPUTS
   pub each : (length rows ≡ inputs) ⊎ ((count ≡ 0) × (rows ≡ []))
   pub formed : All (IsRowFor count) rows
 

@@ -8,6 +8,7 @@ ghost use Rattle.lane_bits.specs.Store.{AreGrownFrom, AreReadied, AreSetAt, row_
 use crate::bit_row::BitRow;
 use crate::counting::counting_rows;
 use crate::kernels::word_count;
+use semantics::limits::MOST_INPUTS;
 use std::alloc::{AllocError, Global};
 use std::marker::Model;
 
@@ -94,7 +95,7 @@ fn get_bits(rows: &[BitRow], p: u64, x: &mut [bool])
 impl Patterns {
     /// The set without vectors, which takes no memory.
     pub fn new(alloc: Global, inputs: u32) -> Patterns
-        requires { inputs ≤ 256 }
+        requires { inputs ≤ MOST_INPUTS }
         ensures { result ≡ record { inputs = inputs; vectors = [] } }
     {
         Patterns {

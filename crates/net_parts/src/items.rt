@@ -133,6 +133,7 @@ impl<T: Duplicate> Items<T> {
         ensures ok { OnOk result (self.new ≡ self.old ++ more.now) }
         ensures err { OnErr result ((n : ℕ) × (n ≤ length more.now) × (self.new ≡ self.old ++ take n more.now)) }
     {
+        self.items.reserve(more.len())?;
         for item in more {
             self.push(item.duplicate()?)?;
         }

@@ -1,6 +1,6 @@
 //! The two searches that make a simplification: that along the chain, and that for the greatest error.
 ghost use Rattle.std.specs.Prelude.{◌≡◌, ◌≤◌, length, option_map, IfOk};
-ghost use Rattle.semantics.specs.Net.{input_count, HasSamePorts, IsSmall};
+ghost use Rattle.semantics.specs.Net.{input_count, IsSmall};
 ghost use Rattle.semantics.specs.Error.{IsWithin};
 ghost use Rattle.job_semantics.specs.Shrinking.{IsShrinking};
 ghost use Rattle.worst_case.specs.Exceeds.{spent_value};
@@ -8,6 +8,7 @@ ghost use Rattle.worst_case.specs.Maximum.{IsMaximumAnswer};
 
 use lane_bits::patterns::Patterns;
 use net_core::net::Net;
+use net_errors::compared::Compared;
 use progress::progress::Progress;
 use semantics::limits::MOST_OUTPUTS;
 use semantics::metric::Metric;
@@ -43,17 +44,14 @@ pub trait Search {
     /// The greatest error of an approximate net that is within the bound. `progress` is told how far the search is.
     fn maximum<P: Progress>(
         alloc: Global,
-        exact: &Net,
-        approx: &Net,
+        nets: &Compared,
         metric: Metric,
         bound: u128,
         limit: u64,
         progress: &mut P,
     ) -> Result<Maximum, AllocError>
-        requires small { IsSmall exact.now }
-        requires ports { HasSamePorts exact.now approx.now }
-        requires few_outputs { length exact.now.outputs ≤ MOST_OUTPUTS }
+        requires small { IsSmall nets.now.exact }
         requires limit { 1 ≤ limit }
-        requires within { IsWithin metric exact.now bound approx.now }
-        ensures { IfOk result (IsMaximumAnswer metric exact.now approx.now bound limit) };
+        requires within { IsWithin metric nets.now.exact bound nets.now.approx }
+        ensures { IfOk result (IsMaximumAnswer metric nets.now.exact nets.now.approx bound limit) };
 }

@@ -39,6 +39,14 @@ impl Lits {
         }
     }
 
+    /// The empty clause, with room for so many literals.
+    pub fn with_room(alloc: Global, room: usize) -> Result<Lits, AllocError>
+        ensures { IfOk result (λ clause. clause ≡ []) }
+    {
+        let literals = SmallVec::with_capacity(alloc, room)?;
+        Ok(Lits { literals })
+    }
+
     /// The clause of these literals.
     pub fn from_slice(alloc: Global, literals: &[Literal]) -> Result<Lits, AllocError>
         requires { AreLiterals literals.now }

@@ -3,7 +3,7 @@
 use Rattle.std.specs.Prelude.{◌≡◌, ℕ, ◌+◌, ◌-◌, ◌*◌, ◌/◌, ◌%◌, ◌^◌, ◌≤◌, min, max, ℤ, pos, ◌-ℤ◌, unsigned_abs, Bool, true, false, not, List, [], ◌∷◌, length, slice_index_or, slice_set}
 use Rattle.semantics.specs.declared.metric.Metric.{Metric}
 use Rattle.semantics.specs.declared.metric.Metric.TheVariants.{Abs, Rel, Ham, Sabs}
-use Rattle.semantics.specs.declared.limits.TheConstants.{MOST_OUTPUTS}
+use Rattle.semantics.specs.declared.limits.TheConstants.{MOST_OUTPUTS, LARGEST_ERROR}
 use Rattle.semantics.specs.Net.{NetValue, input_count, HasSamePorts}
 use Rattle.semantics.specs.Value.{outputs_of}
 
@@ -57,12 +57,12 @@ greatest_error Rel width = (2 ^ width - 1) * 1000000
 greatest_error Ham width = width
 greatest_error Sabs width = 2 ^ width - 1
 
--- what every error of at most 64 outputs is below
+-- what every error of so few outputs is below
 abbrev pub errors_below : Metric → ℕ
-errors_below Abs = 2 ^ 64
-errors_below Rel = 2 ^ 84
-errors_below Ham = 65
-errors_below Sabs = 2 ^ 64
+errors_below Abs = 2 ^ MOST_OUTPUTS
+errors_below Rel = LARGEST_ERROR + 1
+errors_below Ham = MOST_OUTPUTS + 1
+errors_below Sabs = 2 ^ MOST_OUTPUTS
 
 unfoldable pub net_error : Metric → NetValue → NetValue → List Bool → ℕ
 net_error metric exact approx x = error_of metric (outputs_of exact x) (outputs_of approx x)

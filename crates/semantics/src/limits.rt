@@ -26,3 +26,9 @@ pub const TRIED_INPUTS: u32 = 15;
 
 /// The largest error, level and bound: with at most `MOST_OUTPUTS` outputs no error of any metric is larger.
 pub const LARGEST_ERROR: u128 = (1 << 84) - 1;
+
+/// The most bytes of a netlist that is read as an input, in BLIF or AIGER.
+pub const MOST_INPUT_BYTES: usize = 4_194_304;
+
+/// The most bytes of a netlist that stands in a bundle.
+pub const MOST_BUNDLE_BYTES: usize = 268_435_456;

@@ -1,6 +1,7 @@
 //! The search of `salsa`: along the chain of simplifications, and for the greatest error.
 use crate::shrink::shrink_followed;
 use net_core::net::Net;
+use net_errors::compared::Compared;
 use net_search::search::{Search, Shrunk};
 use progress::progress::Progress;
 use semantics::metric::Metric;
@@ -25,13 +26,12 @@ impl Search for Chain {
 
     fn maximum<P: Progress>(
         alloc: Global,
-        exact: &Net,
-        approx: &Net,
+        nets: &Compared,
         metric: Metric,
         bound: u128,
         limit: u64,
         progress: &mut P,
     ) -> Result<Maximum, AllocError> {
-        maximum_followed(alloc, exact, approx, metric, bound, limit, progress)
+        maximum_followed(alloc, nets, metric, bound, limit, progress)
     }
 }

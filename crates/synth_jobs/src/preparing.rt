@@ -129,7 +129,8 @@ fn search<S: Search, P: Progress>(
         limit,
     } = aim;
     let shrunk = S::shrink(alloc, exact, metric, bound, limit, progress)?;
-    let maximum = S::maximum(alloc, exact, &shrunk.net, metric, bound, limit, progress)?;
+    let nets = Compared::new(exact, &shrunk.net);
+    let maximum = S::maximum(alloc, &nets, metric, bound, limit, progress)?;
     Ok(together(shrunk, maximum))
 }
 

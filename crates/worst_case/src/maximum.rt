@@ -140,24 +140,20 @@ fn search<P: Progress>(
 /// levels meet, before the log is asked for.
 pub fn maximum_followed<P: Progress>(
     alloc: Global,
-    exact: &Net,
-    approx: &Net,
+    nets: &Compared,
     metric: Metric,
     bound: u128,
     limit: u64,
     progress: &mut P,
 ) -> Result<Maximum, AllocError>
-    requires small { IsSmall exact.now }
-    requires ports { HasSamePorts exact.now approx.now }
-    requires few_outputs { length exact.now.outputs ≤ MOST_OUTPUTS }
+    requires small { IsSmall nets.now.exact }
     requires limit { 1 ≤ limit }
-    requires within { IsWithin metric exact.now bound approx.now }
-    ensures { IfOk result (IsMaximumAnswer metric exact.now approx.now bound limit) }
+    requires within { IsWithin metric nets.now.exact bound nets.now.approx }
+    ensures { IfOk result (IsMaximumAnswer metric nets.now.exact nets.now.approx bound limit) }
 {
     progress.narrowed(0, bound);
-    let nets = Compared::new(exact, approx);
-    let range = first_range(alloc, &nets, metric, bound)?;
-    search(alloc, &nets, metric, limit, range, progress)
+    let range = first_range(alloc, nets, metric, bound)?;
+    search(alloc, nets, metric, limit, range, progress)
 }
 
 /// The greatest error of a net whose error is at most `bound`; with at most eight inputs the witness is the first vector in counting
@@ -177,5 +173,6 @@ pub fn maximum(
     requires within { IsWithin metric exact.now bound approx.now }
     ensures { IfOk result (IsMaximumAnswer metric exact.now approx.now bound limit) }
 {
-    maximum_followed(alloc, exact, approx, metric, bound, limit, &mut Silent)
+    let nets = Compared::new(exact, approx);
+    maximum_followed(alloc, &nets, metric, bound, limit, &mut Silent)
 }

@@ -1,11 +1,12 @@
 -- by computation, and for every text by the law on lengths
 use Rattle.std.proofs.Common.{refl}
+use Rattle.semantics.specs.declared.limits.TheConstants.{MOST_BUNDLE_BYTES, MOST_INPUT_BYTES}
 use Rattle.semantics.specs.Texts.{text_of}
 use Rattle.semantics.specs.Blif.{blif_text}
 use Rattle.semantics.specs.Refusals.{first_ungrounded}
 use Rattle.blif_semantics.specs.Lines.{logical_lines}
 use Rattle.blif_semantics.specs.Statements.{first_wrong}
-use Rattle.blif_semantics.specs.Reading.{input_limit, bundle_limit, named_net, numbered, blif_reading}
+use Rattle.blif_semantics.specs.Reading.{named_net, numbered, blif_reading}
 use Rattle.blif_semantics.proofs.Lengths.{long}
 use Rattle.blif_semantics.proofs.examples.readings.Goals as goal
 
@@ -26,8 +27,8 @@ returns c = record {
   a_stray_row_before_what_is_driven_twice = refl;
   too_long = refl;
   as_long_as_may_be = refl;
-  too_long_an_input = λ text. long text input_limit;
-  too_long_for_a_bundle = λ text. long text bundle_limit;
+  too_long_an_input = λ text. long text MOST_INPUT_BYTES;
+  too_long_for_a_bundle = λ text. long text MOST_BUNDLE_BYTES;
   empty_text = refl;
   comments = refl;
   many_outputs = refl;

@@ -1,6 +1,7 @@
 use Rattle.std.proofs.Common.{Some, None, ap, subst, sym, ◌∙◌}
 use Rattle.std.proofs.lemmas.Result.{err_from_is_err_and}
-use Rattle.blif_semantics.specs.Reading.{bundle_limit, blif_reading}
+use Rattle.semantics.specs.declared.limits.TheConstants.{MOST_BUNDLE_BYTES}
+use Rattle.blif_semantics.specs.Reading.{blif_reading}
 use Rattle.blif_semantics.proofs.ReadNet.{read_small}
 use Rattle.file_reading.specs.Front.{FrontValue}
 use Rattle.file_reading.specs.Refused.{FileUnread}
@@ -22,10 +23,10 @@ returns-in-Ok-clause-ok g c =
     let front = c.read_file.new.intake in
     let limit = c.in_ok-read_file.ensures.aim ∙ ap (λ (v : FrontValue). v.limit) c.new-front.ensures in
     text_read (IsNetIn (Some c.in-Ok.net)) c.in_ok-read_file.ensures.ok
-    (λ content wanted. sym (reading_front content front.bytes front.limit limit wanted) ∙ ap (λ t. blif_reading t bundle_limit) (sym c.bytes.ensures.value) ∙ c.in-Ok.ensures.ok)
+    (λ content wanted. sym (reading_front content front.bytes front.limit limit wanted) ∙ ap (λ t. blif_reading t MOST_BUNDLE_BYTES) (sym c.bytes.ensures.value) ∙ c.in-Ok.ensures.ok)
 
 pub returns-in-Ok-clause-small : goal.returns-in-Ok-clause-small
-returns-in-Ok-clause-small g c = read_small c.bytes.result.now bundle_limit c.in-Ok.net c.in-Ok.ensures.ok
+returns-in-Ok-clause-small g c = read_small c.bytes.result.now MOST_BUNDLE_BYTES c.in-Ok.net c.in-Ok.ensures.ok
 
 pub returns : goal.returns
 returns g c =
@@ -35,7 +36,7 @@ returns g c =
       ok = text_read (IsNetIn None) c.in_ok-read_file.ensures.ok
           (λ content wanted.
           refused_text c.in-Err.refusal content c.bytes.result.now
-          (ap (λ t. blif_reading t bundle_limit) c.bytes.ensures.value ∙ reading_front content front.bytes front.limit limit wanted) c.in-Err.ensures.err c.in_default.not-OutOfMemory);
+          (ap (λ t. blif_reading t MOST_BUNDLE_BYTES) c.bytes.ensures.value ∙ reading_front content front.bytes front.limit limit wanted) c.in-Err.ensures.err c.in_default.not-OutOfMemory);
       small = tt;
       err = tt;
     }
