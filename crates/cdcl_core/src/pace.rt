@@ -4,8 +4,8 @@
 //! average, the decisions are not worth keeping: the search restarts. The averages weigh a clause the less the older it is, in fixed
 //! point with 32 bits behind it. Source: Glucose, with the averages of Biere and Froehlich, which CaDiCaL has.
 //!
-//! Where nothing is known of a net behind the formula the search does not restart: in a trial outside of this repository formulas of
-//! multipliers then took about half the conflicts.
+//! Where nothing is known of a net behind the formula the last clauses have to be of many more levels: in a trial outside of this
+//! repository formulas of multipliers then took hardly more conflicts than without any restart, and large formulas of adders far fewer.
 //!
 //! With few inputs a search ends soonest, once it has gone on for long, if it decides them in the order of their numbers, without
 //! restarts: then it goes over their vectors, as far as clauses do not rule them out many at a time.
@@ -21,6 +21,11 @@ const LONG: u64 = 3000;
 const FAST: u32 = 5;
 
 const SLOW: u32 = 14;
+
+/// How large the fast average has to be, in hundredths of the slow one, where the signals of a net are known, and where they are not.
+const NET_MARGIN: u64 = 105;
+
+const BARE_MARGIN: u64 = 130;
 
 /// The averages, the clauses that were learned, those since the last restart, and the number of inputs where they are few.
 #[derive(Drop)]
@@ -77,10 +82,10 @@ impl Pace {
 
     /// Whether the search goes back to its start now.
     pub fn restarts(&mut self) -> bool {
-        let due = self.is_net
-            && self.since >= 2
+        let margin = if self.is_net { NET_MARGIN } else { BARE_MARGIN };
+        let due = self.since >= 2
             && self.inputs_first() == 0
-            && self.fast / 65536 * 100 > self.slow / 65536 * 105;
+            && self.fast / 65536 * 100 > self.slow / 65536 * margin;
         if due {
             self.since = 0;
         }

@@ -1,5 +1,5 @@
 -- The texts of the worked examples of certificates.
-use Rattle.std.proofs.Common.{◌≡◌, ℕ, ◌*◌, ◌%◌, Bool, true, false, List, [], ◌∷◌, map, length, get_or, codes, Result, Ok, refl, ap, sym, ◌∙◌, lit<, arith}
+use Rattle.std.proofs.Common.{◌≡◌, ℕ, ◌*◌, ◌%◌, Bool, true, false, List, [], ◌∷◌, map, length, get_or, codes, Result, Ok, refl, ap, sym, ◌∙◌, lit<, lit≤, arith}
 use Rattle.std.specs.List.{AllByRecursion}
 use Rattle.std.specs.Prelude.{flat_map}
 use Rattle.std.specs.Fmt.{digits}
@@ -42,35 +42,35 @@ netlist_read = refl
 
 pub report_read : IsReportText 2 Abs 3 both_constant_report (the_report 2 0 false)
 unfolding text_of report_text digits
-report_read = record { spelled = refl; same_metric = refl; same_bound = refl; maximum = lit< tt; witness = refl; counts = (lit< tt, (lit< tt, (lit< tt, (lit< tt, tt)))) }
+report_read = record { spelled = refl; same_metric = refl; same_bound = refl; maximum = lit≤ tt; witness = refl; counts = (lit< tt, (lit< tt, (lit< tt, (lit< tt, tt)))) }
 
 abbrev pub large_report : Bytes
 large_report = report_with (codes "maximum 4") (codes "literals 6 0") (codes "minimal no")
 
 pub large_read : IsReportText 2 Abs 3 large_report (the_report 4 0 false)
 unfolding text_of report_text digits
-large_read = record { spelled = refl; same_metric = refl; same_bound = refl; maximum = lit< tt; witness = refl; counts = (lit< tt, (lit< tt, (lit< tt, (lit< tt, tt)))) }
+large_read = record { spelled = refl; same_metric = refl; same_bound = refl; maximum = lit≤ tt; witness = refl; counts = (lit< tt, (lit< tt, (lit< tt, (lit< tt, tt)))) }
 
 abbrev pub zero_report : Bytes
 zero_report = report_with (codes "maximum 0") (codes "literals 6 0") (codes "minimal no")
 
 pub zero_read : IsReportText 2 Abs 3 zero_report (the_report 0 0 false)
 unfolding text_of report_text digits
-zero_read = record { spelled = refl; same_metric = refl; same_bound = refl; maximum = lit< tt; witness = refl; counts = (lit< tt, (lit< tt, (lit< tt, (lit< tt, tt)))) }
+zero_read = record { spelled = refl; same_metric = refl; same_bound = refl; maximum = lit≤ tt; witness = refl; counts = (lit< tt, (lit< tt, (lit< tt, (lit< tt, tt)))) }
 
 abbrev pub literal_report : Bytes
 literal_report = report_with (codes "maximum 2") (codes "literals 6 1") (codes "minimal no")
 
 pub literal_read : IsReportText 2 Abs 3 literal_report (the_report 2 1 false)
 unfolding text_of report_text digits
-literal_read = record { spelled = refl; same_metric = refl; same_bound = refl; maximum = lit< tt; witness = refl; counts = (lit< tt, (lit< tt, (lit< tt, (lit< tt, tt)))) }
+literal_read = record { spelled = refl; same_metric = refl; same_bound = refl; maximum = lit≤ tt; witness = refl; counts = (lit< tt, (lit< tt, (lit< tt, (lit< tt, tt)))) }
 
 abbrev pub minimal_report : Bytes
 minimal_report = report_with (codes "maximum 2") (codes "literals 6 0") (codes "minimal yes")
 
 pub minimal_read : IsReportText 2 Abs 3 minimal_report (the_report 2 0 true)
 unfolding text_of report_text digits
-minimal_read = record { spelled = refl; same_metric = refl; same_bound = refl; maximum = lit< tt; witness = refl; counts = (lit< tt, (lit< tt, (lit< tt, (lit< tt, tt)))) }
+minimal_read = record { spelled = refl; same_metric = refl; same_bound = refl; maximum = lit≤ tt; witness = refl; counts = (lit< tt, (lit< tt, (lit< tt, (lit< tt, tt)))) }
 
 -- a text has one report
 pub the_one : (text : Bytes) (r s : Report) → IsReportText 2 Abs 3 text r → IsReportText 2 Abs 3 text s → r ≡ s

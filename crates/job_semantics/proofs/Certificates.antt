@@ -1,6 +1,6 @@
 -- What a certificate shows, and which bundles are written as certificates.
 use Rattle.std.specs.Prelude.{unwrap_or}
-use Rattle.std.proofs.Common.{◌≡◌, ℕ, ◌^◌, ◌<◌, ◌≤◌, List, [], ◌∷◌, ◌++◌, refl, ap, sym, subst, ◌∙◌, lt_of_le_of_lt, arith}
+use Rattle.std.proofs.Common.{◌≡◌, ℕ, ◌^◌, ◌<◌, ◌≤◌, List, [], ◌∷◌, ◌++◌, refl, ap, sym, subst, ◌∙◌, arith}
 use Rattle.std.proofs.lemmas.List.{append_cancel_left}
 use Rattle.std.specs.List.{AllByRecursion}
 use Rattle.semantics.specs.declared.limits.TheConstants.{MOST_BUNDLE_BYTES}
@@ -111,7 +111,7 @@ module _ (b : BundleValue) (h : IsRightBundle b) where
     spelled = refl;
     same_metric = refl;
     same_bound = refl;
-    maximum = lt_of_le_of_lt h.within h.bound;
+    maximum = omega (arith, h.within, h.bound);
     witness = h.width;
     counts = (
       few_tables b.exact h.exact_small,

@@ -52,8 +52,8 @@ netlist_read first_line formula log = refl
 
 pub report_read : (version : Version) → IsReportText 3 Abs 0 (parity_report (first_word version)) (parity_report_of version)
 unfolding text_of report_text digits
-report_read One = record { spelled = refl; same_metric = refl; same_bound = refl; maximum = lit< tt; witness = refl; counts = (lit< tt, (lit< tt, (lit< tt, (lit< tt, tt)))) }
-report_read Two = record { spelled = refl; same_metric = refl; same_bound = refl; maximum = lit< tt; witness = refl; counts = (lit< tt, (lit< tt, (lit< tt, (lit< tt, tt)))) }
+report_read One = record { spelled = refl; same_metric = refl; same_bound = refl; maximum = lit≤ tt; witness = refl; counts = (lit< tt, (lit< tt, (lit< tt, (lit< tt, tt)))) }
+report_read Two = record { spelled = refl; same_metric = refl; same_bound = refl; maximum = lit≤ tt; witness = refl; counts = (lit< tt, (lit< tt, (lit< tt, (lit< tt, tt)))) }
 
 pub vectors_read : IsVectorsText 3 parity_vectors (false ∷ false ∷ false ∷ []) all_eight
 unfolding text_of vectors_text all_eight

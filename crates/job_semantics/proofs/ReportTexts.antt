@@ -1,9 +1,10 @@
 -- The text of a report, from its first byte to its last, and that it is the text of no other report.
-use Rattle.std.proofs.Common.{◌≡◌, ℕ, ◌^◌, ◌<◌, Bool, true, false, ◌&&◌, List, [], ◌∷◌, ◌++◌, length, get_or, drop, decimal, refl, ap, sym, ◌∙◌, append_assoc, codes, lit<, arith}
+use Rattle.std.proofs.Common.{◌≡◌, ℕ, ◌^◌, ◌<◌, ◌≤◌, Bool, true, false, ◌&&◌, List, [], ◌∷◌, ◌++◌, length, get_or, drop, decimal, refl, ap, sym, ◌∙◌, append_assoc, codes, lit<, arith}
 use Rattle.std.specs.List.{list_all, take_while, AllByRecursion}
 use Rattle.std.proofs.lemmas.Bool.{and_parts}
 use Rattle.std.proofs.lemmas.List.{append_cancel_left}
 use Rattle.std.proofs.lemmas.List.Sums.{take_while-cons}
+use Rattle.semantics.specs.declared.limits.TheConstants.{LARGEST_ERROR}
 use Rattle.semantics.specs.Texts.{Bytes, line_text, text_of, bits_word}
 use Rattle.semantics.specs.Decimal.{is_digit, digits_number, is_decimal}
 use Rattle.semantics.specs.declared.metric.Metric.{Metric}
@@ -140,11 +141,11 @@ head-cut version metric bound s t same =
 
 -- numbers that a report may hold
 pub record AreFew (r : Report) : Type 0 where
-  pub maximum : r.maximum < 2 ^ 84
+  pub maximum : r.maximum ≤ LARGEST_ERROR
   pub counts : AllByRecursion (λ count. count < 2 ^ 32) (r.old_tables ∷ r.new_tables ∷ r.old_literals ∷ r.new_literals ∷ [])
 
-pub few_digits : (n : ℕ) → n < 2 ^ 84 → n < 10 ^ 64
-few_digits n h = let large : 2 ^ 84 < 10 ^ 64 = lit< tt in omega arith
+pub few_digits : (n : ℕ) → n ≤ LARGEST_ERROR → n < 10 ^ 64
+few_digits n h = let large : LARGEST_ERROR < 10 ^ 64 = lit< tt in omega arith
 
 pub rest-cut : (r s : Report) → AreFew r → AreFew s → r.version ≡ s.version → r.metric ≡ s.metric → r.bound ≡ s.bound → length r.witness ≡ length s.witness
     → report_rest r ≡ report_rest s → r ≡ s
