@@ -79,8 +79,8 @@ fn long_watch(clause: usize, blocker: Literal) -> Watch
     }
 }
 
-/// A visit of a clause that watches `x` and `first`. A clause that another literal makes true goes on watching `x`, with that one as the
-/// blocker: it is likely to be true again when `x` is false.
+/// A visit of a clause that watches `x` and `first`. A clause that one of its literals makes true goes on watching `x`, with that one as
+/// the blocker: it is likely to be true again when `x` is false.
 fn visit_clause(
     trail: &mut Trail,
     watches: &mut Watches,
@@ -102,6 +102,7 @@ fn visit_clause(
         return Ok(Visit::Next);
     }
     if trail.is_true(first) {
+        watches.set(x, at, long_watch(clause, first));
         return Ok(Visit::Next);
     }
     match other_watch(trail, clauses.get(clause), first) {

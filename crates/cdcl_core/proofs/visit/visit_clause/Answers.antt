@@ -4,7 +4,7 @@ use Rattle.proof_semantics.specs.Conflicts.{clause_at}
 use Rattle.cdcl_core.specs.Explained.{Holds}
 use Rattle.cdcl_core.specs.Visited.{IsOtherWatch, AreOthersFalse}
 use Rattle.cdcl_core.proofs.Propagating.{clause_read}
-use Rattle.cdcl_core.proofs.Visiting.{held_by, next_by, first_in, first_literal, twice_next, list_low, rewatched, moved_at, followed_extended, followed_visited}
+use Rattle.cdcl_core.proofs.Visiting.{held_by, first_in, first_literal, twice_next, list_low, rewatched, moved_at, followed_extended, followed_visited}
 use Rattle.cdcl_core.proofs.visit.visit_clause.Goals as goal
 
 pub returns-then-is-clause-visited : goal.returns-then-is-clause-visited
@@ -19,11 +19,10 @@ pub set-requires-clause-literal : goal.set-requires-clause-literal
 set-requires-clause-literal c = list_low c.args.watches.now.lists c.args.x c.args.at c.requires.at
 
 pub returns-then-is_true-clause-visited : goal.returns-then-is_true-clause-visited
-returns-then-is_true-clause-visited c = (
-  next_by c.args.clauses.now.list c.args.trail.now c.args.watches.now c.args.x c.args.at c.args.clause c.args.first c.requires.handling c.requires.clause
-      (first_in c.args.clauses.now.list c.args.trail.now c.args.watches.now c.args.x c.args.at c.args.clause c.args.first c.requires.handling c.requires.at c.requires.clause c.requires.first) (c.is_true.ensures.0 c.if-is_true.true),
-  refl,
-)
+returns-then-is_true-clause-visited c =
+    rewatched c.args.clauses.now.list c.args.trail.now c.args.watches.now c.set.new.self c.args.x c.args.at c.args.clause c.args.first c.requires.handling c.requires.at c.requires.clause
+    (first_in c.args.clauses.now.list c.args.trail.now c.args.watches.now c.args.x c.args.at c.args.clause c.args.first c.requires.handling c.requires.at c.requires.clause c.requires.first)
+    (c.is_true.ensures.0 c.if-is_true.true) (rw (sym c.long_watch.ensures) c.set.ensures)
 
 pub returns-in-Some-clause-visited : goal.returns-in-Some-clause-visited
 returns-in-Some-clause-visited c =
@@ -31,8 +30,8 @@ returns-in-Some-clause-visited c =
     let same : c.get.result.now ≡ clause_at c.args.clauses.now.list c.args.clause = clause_read c.args.clauses.now.list c.args.clause c.get.result.now c.get.result.now held c.get.ensures refl in
     let some : IsOtherWatch c.args.trail.now.literals c.get.result.now c.args.first c.in-Some.literal = subst (λ r. IfSome r (IsOtherWatch c.args.trail.now.literals c.get.result.now c.args.first)) c.in-Some.is c.other_watch.ensures.some in
     let holds : Holds c.args.trail.now.literals c.in-Some.literal = (let yes = c.if-is_true-2.true in search rules) in
-    rewatched c.args.clauses.now.list c.args.trail.now c.args.watches.now c.set.new.self c.args.x c.args.at c.args.clause c.in-Some.literal c.requires.handling c.requires.at c.requires.clause
-    (subst (λ C. IsOtherWatch c.args.trail.now.literals C c.args.first c.in-Some.literal) same some).inside holds (rw (sym c.long_watch.ensures) c.set.ensures)
+    rewatched c.args.clauses.now.list c.args.trail.now c.args.watches.now c.set-in-Some.new.self c.args.x c.args.at c.args.clause c.in-Some.literal c.requires.handling c.requires.at c.requires.clause
+    (subst (λ C. IsOtherWatch c.args.trail.now.literals C c.args.first c.in-Some.literal) same some).inside holds (rw (sym c.long_watch-in-Some.ensures) c.set-in-Some.ensures)
 
 pub follow-requires-clause-literal : goal.follow-requires-clause-literal
 follow-requires-clause-literal c = first_literal c.args.clauses.now.list c.args.trail.now c.args.watches.now c.args.x c.args.at c.args.clause c.args.first c.requires.handling c.requires.at c.requires.clause c.requires.first
