@@ -6,6 +6,7 @@ pub mod judging;
 pub mod line_list;
 mod lines;
 mod message;
+pub mod name_list;
 mod named_net;
 pub mod named_table;
 mod names;

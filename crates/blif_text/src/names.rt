@@ -9,22 +9,10 @@ ghost use Rattle.text_words.specs.Slices.{texts};
 
 use crate::refusal::BlifRefusal;
 use indexmap::IndexSet;
-use net_core::items::{Items, NameList, Signal, SignalList};
+use net_core::items::{Items, Signal, SignalList};
 use net_core::name::Name;
 use std::alloc::{AllocError, Global};
 use std::marker::Model;
-
-/// The names that words are known to be.
-pub fn name_list(alloc: Global, words: &[&[u8]]) -> Result<NameList, AllocError>
-    requires { All IsName (texts words.now) }
-    ensures { IfOk result (λ names. names ≡ texts words.now) }
-{
-    let mut names = Items::new(alloc);
-    for word in words {
-        names.push(Name::known(alloc, word)?)?;
-    }
-    Ok(names)
-}
 
 /// Names that differ, in order. A name is found in about constant time.
 #[derive(Drop)]

@@ -9,9 +9,10 @@ ghost use Rattle.blif_text.specs.Refusals.{Tells};
 ghost use Rattle.blif_text.specs.Names.{first_unknown};
 ghost use Rattle.text_words.specs.Slices.{texts};
 
+use crate::name_list::name_list;
 use crate::named_net::NamedNet;
 use crate::named_table::NamedTable;
-use crate::names::{Names, name_list};
+use crate::names::Names;
 use crate::refusal::BlifRefusal;
 use net_core::items::{Items, NameList, SignalList, TableList};
 use net_core::limits::first_limit;

@@ -1,10 +1,9 @@
 //! The flat net of models that are a hierarchy. Source: BLIF's `.subckt`.
-ghost use Rattle.std.specs.Prelude.{◌≡◌, ◌+◌, ◌<◌, ◌^◌, ◌++◌, [], true, Ok, None, Some, IfOk, IfErr, All, length, map};
+ghost use Rattle.std.specs.Prelude.{◌≡◌, ◌+◌, ◌<◌, ◌^◌, ◌++◌, [], true, Ok, None, Some, IfOk, IfErr, length, map};
 ghost use Rattle.std.specs.List.{range_with_len};
-ghost use Rattle.semantics.specs.Net.{IsName, IsSound, IsSmall, name_of};
+ghost use Rattle.semantics.specs.Net.{IsSound, IsSmall, name_of};
 ghost use Rattle.semantics.specs.Refusals.{first_limit};
 ghost use Rattle.blif_semantics.specs.Reading.{cycle};
-ghost use Rattle.text_words.specs.Slices.{texts};
 ghost use Rattle.hierarchy_semantics.specs.Models.{main_of};
 ghost use Rattle.hierarchy_semantics.specs.Refusals.{flat, model_names};
 ghost use Rattle.hierarchy_semantics.specs.Flat.{flat_net, flat_checked, flattened};
@@ -16,6 +15,7 @@ ghost use Rattle.hier_flat.specs.Flattening.{signal_of, with_model, main_signal,
 use crate::counting::counted_limit;
 use crate::flat_tables::{add_model, pins};
 use crate::frames::{Frame, Sizes, frame_of};
+use blif_text::name_list::name_list;
 use blif_text::refusal::BlifRefusal;
 use hier_parts::interfaces::Interfaces;
 use hier_parts::models::{BlifModel, model_names};
@@ -25,18 +25,6 @@ use net_core::name::Name;
 use net_core::net::Net;
 use net_core::refusal::NetRefusal;
 use std::alloc::{AllocError, Global};
-
-/// The names that words are known to be.
-fn name_list(alloc: Global, words: &[&[u8]]) -> Result<NameList, AllocError>
-    requires { All IsName (texts words.now) }
-    ensures { IfOk result (λ names. names ≡ texts words.now) }
-{
-    let mut names = Items::new(alloc);
-    for word in words {
-        names.push(Name::known(alloc, word)?)?;
-    }
-    Ok(names)
-}
 
 /// The names of inputs and of tables.
 fn signal_names(

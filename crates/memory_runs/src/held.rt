@@ -1,5 +1,6 @@
 //! Words and files in memory: how they are made, and what is held.
-ghost use Rattle.std.specs.Prelude.{◌≡◌, [], ◌∷◌, ◌++◌, codes, IfOk, OnOk, OnErr};
+ghost use Rattle.std.specs.Prelude.{◌≡◌, ◌↔◌, IsTrue, MatchOption, ⊤, [], ◌∷◌, ◌++◌, length, take, codes, option_map, IfOk, OnOk, OnErr};
+ghost use Rattle.std.specs.FinMap.{get};
 ghost use Rattle.outside_semantics.specs.Outside.{bytes_of};
 
 use file_core::lists::FileList;
@@ -58,7 +59,9 @@ pub fn bytes_of<'a>(files: &'a MemFiles, name: &[u8]) -> &'a [u8]
 }
 
 /// Whether the name is held with these bytes; with none, whether it is not held.
-pub fn holds(files: &MemFiles, name: &[u8], wanted: Option<&[u8]>) -> bool {
+pub fn holds(files: &MemFiles, name: &[u8], wanted: Option<&[u8]>) -> bool
+    ensures { IsTrue result ↔ (get files.now.held name.now ≡ option_map (λ text. text.now) wanted.entry) }
+{
     match (files.bytes(name), wanted) {
         (Some(bytes), Some(wanted)) => bytes == wanted,
         (None, None) => true,
@@ -67,17 +70,21 @@ pub fn holds(files: &MemFiles, name: &[u8], wanted: Option<&[u8]>) -> bool {
 }
 
 /// Whether the name is not held, or is held with a first part of the text.
-pub fn holds_at_most(files: &MemFiles, name: &[u8], text: &[u8]) -> bool {
+pub fn holds_at_most(files: &MemFiles, name: &[u8], text: &[u8]) -> bool
+    ensures { IsTrue result ↔ MatchOption (get files.now.held name.now) ⊤ (λ bytes. take (length bytes) text.now ≡ bytes) }
+{
     match files.bytes(name) {
-        Some(bytes) => text.starts_with(bytes),
+        Some(bytes) => bytes.len() <= text.len() && bytes == &text[..bytes.len()],
         None => true,
     }
 }
 
 /// Whether the name is held with a text that begins with these bytes.
-pub fn begins(files: &MemFiles, name: &[u8], front: &[u8]) -> bool {
+pub fn begins(files: &MemFiles, name: &[u8], front: &[u8]) -> bool
+    ensures { IsTrue result ↔ MatchOption (get files.now.held name.now) ⊥ (λ bytes. take (length front.now) bytes ≡ front.now) }
+{
     match files.bytes(name) {
-        Some(bytes) => bytes.starts_with(front),
+        Some(bytes) => front.len() <= bytes.len() && front == &bytes[..front.len()],
         None => false,
     }
 }

@@ -1,6 +1,0 @@
-use Rattle.std.proofs.Common.{◌≡◌, take}
-use Rattle.text_words.specs.Slices.{texts}
-use Rattle.hier_flat.proofs.flat_net.name_list.Given as goal
-
-abbrev pub invariant-loop-word : goal.invariant-loop-word
-invariant-loop-word l = l.names ≡ texts (take l.word-index l.words)
