@@ -1,4 +1,6 @@
 //! A literal as the solver holds it: a variable from 1 with a sign, in contracts a whole number.
+//!
+//! It is held as the place of its watchers, so that a look at its value or at those costs no arithmetic. Source: MiniSat.
 ghost use Rattle.std.specs.Prelude.{◌≡◌, ◌<◌, ◌^◌, ◌↔◌, if◌then◌else◌, int_lt, IsTrue, pos, neg_ℤ, nat_abs};
 ghost use Rattle.proof_semantics.specs.Clauses.{IsLiteralOf};
 ghost use Rattle.proof_parts.specs.Literals.{IsLiteral};
@@ -6,23 +8,23 @@ ghost use Rattle.cdcl_core.specs.Watched.{index_of};
 
 use std::marker::Model;
 
-/// A variable's number from 1, negative where the variable is to be false.
+/// A variable's number from 1, doubled, and one more where the variable is to be true.
 #[derive(Clone, Copy, Drop)]
 pub struct Literal {
-    code: i32,
+    index: u32,
 }
 
 impl Model for Literal {
-    ghost use Rattle.std.specs.Prelude.{ℤ};
-    ghost use Rattle.proof_parts.specs.Literals.{IsLiteral};
+    ghost use Rattle.std.specs.Prelude.{ℤ, ◌≤◌};
+    ghost use Rattle.cdcl_core.specs.Watched.{index_of, literal_of};
 
     ghost Value = { ℤ };
 
-    ghost view = { λ l. l.code };
+    ghost view = { λ l. literal_of l.index };
 
-    ghost inverse = { λ z. record { code = z } };
+    ghost inverse = { λ z. record { index = index_of z } };
 
-    ghost invariant = { λ l. IsLiteral l.code };
+    ghost invariant = { λ l. 2 ≤ l.index };
 }
 
 impl Literal {
@@ -30,7 +32,10 @@ impl Literal {
         requires { IsLiteral code }
         ensures { result ≡ code }
     {
-        Literal { code }
+        let variable = code.unsigned_abs();
+        Literal {
+            index: variable * 2 + (if code > 0 { 1 } else { 0 }),
+        }
     }
 
     /// That the variable has this value.
@@ -40,8 +45,9 @@ impl Literal {
         ensures value { result ≡ (if value then pos variable else neg_ℤ (pos variable)) }
         ensures formed { IsLiteralOf variable result }
     {
-        let code = variable as i32;
-        Literal::new(if value { code } else { -code })
+        Literal {
+            index: variable * 2 + (if value { 1 } else { 0 }),
+        }
     }
 
     /// The literal as formulas and logs have it.
@@ -49,7 +55,8 @@ impl Literal {
         ensures value { result ≡ self }
         ensures formed { IsLiteral result }
     {
-        self.code
+        let variable = (self.index / 2) as i32;
+        if self.sign() { variable } else { -variable }
     }
 
     pub fn variable(self) -> usize
@@ -57,32 +64,35 @@ impl Literal {
         ensures positive { 0 < result }
         ensures small { result < 2 ^ 31 }
     {
-        self.code.unsigned_abs() as usize
+        (self.index / 2) as usize
     }
 
     /// Whether the variable is to be true.
     pub fn sign(self) -> bool
         ensures { result ≡ int_lt (pos 0) self }
     {
-        self.code > 0
+        self.index % 2 == 1
     }
 
     pub fn negated(self) -> Literal
         ensures { result ≡ neg_ℤ self }
     {
-        Literal { code: -self.code }
+        let sign = self.index % 2;
+        Literal {
+            index: self.index - sign + (1 - sign),
+        }
     }
 
     pub fn is(self, other: Literal) -> bool
         ensures { IsTrue result ↔ (self ≡ other) }
     {
-        self.code == other.code
+        self.index == other.index
     }
 
     /// Where the watchers of the literal are held.
     pub fn index(self) -> usize
         ensures { result ≡ index_of self }
     {
-        self.variable() * 2 + (if self.sign() { 1 } else { 0 })
+        self.index as usize
     }
 }
