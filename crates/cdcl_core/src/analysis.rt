@@ -111,7 +111,7 @@ fn reach_one(
 }
 
 /// The variables of the entries that were marked come first in the order, but for those that stand without a decision.
-pub fn bring_forward(trail: &Trail, marks: &Marks, order: &mut Order)
+fn bring_marked(trail: &Trail, marks: &Marks, order: &mut Order)
     requires { 0 < length trail.now.starts }
     ensures { order.new ≡ order.old }
 {
@@ -124,6 +124,46 @@ pub fn bring_forward(trail: &Trail, marks: &Marks, order: &mut Order)
         }
     }
     order.bump();
+}
+
+/// The variables of a clause come first in the order, that of its last literal before the others.
+fn bring_clause(clause: &[Literal], order: &mut Order)
+    ensures { order.new ≡ order.old }
+{
+    for literal in clause {
+        order.bring(*literal);
+    }
+}
+
+/// The variables of the clauses that were resolved come first in the order, those of the last one before the others.
+fn bring_resolved(clauses: &ClauseList, hints: &[u64], order: &mut Order)
+    ensures { order.new ≡ order.old }
+{
+    for hint in hints {
+        let number = *hint as usize;
+        if 0 < number && number <= clauses.len() {
+            bring_clause(clauses.get(number - 1), order);
+        }
+    }
+}
+
+/// The variables of a conflict come first in the order: where they keep their order those that were marked, else those of each clause
+/// that was resolved.
+pub fn bring_forward(
+    trail: &Trail,
+    clauses: &ClauseList,
+    marks: &Marks,
+    hints: &[u64],
+    order: &mut Order,
+)
+    requires { 0 < length trail.now.starts }
+    ensures { order.new ≡ order.old }
+{
+    if order.keeps_order() {
+        bring_marked(trail, marks, order);
+    } else {
+        bring_resolved(clauses, hints, order);
+    }
 }
 
 /// Whether the entries that make the literals of a clause false, but for one literal, are marked or stand before `first`.

@@ -75,7 +75,13 @@ pub fn learn_from(alloc: Global, search: &mut Search, conflict: usize) -> Result
         &mut search.learned,
         conflict,
     );
-    bring_forward(&search.trail, &search.marks, &mut search.order);
+    bring_forward(
+        &search.trail,
+        &search.clauses,
+        &search.marks,
+        &search.learned.hints,
+        &mut search.order,
+    );
     jump(
         &mut search.trail,
         &mut search.watches,

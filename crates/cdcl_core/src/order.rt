@@ -6,9 +6,9 @@
 //! RSat and MiniSat, so that a jump back does not throw away what was found in other parts of the formula.
 //!
 //! Where the signals of a net are known they alone are in the ring: the variables of rows follow from them, and those of one
-//! conflict keep their order. Where they are not known the variables of a conflict come in the order in which the analysis met
-//! them, so that those farthest from the conflict, the inputs among them, are decided first: in a trial outside of this repository
-//! formulas of multipliers then took about half the conflicts.
+//! conflict keep their order. Where they are not known each literal of each clause that was resolved brings its variable to the front,
+//! from clause to clause, so that those farthest from the conflict, the inputs among them, are decided first: in a trial outside of
+//! this repository formulas of multipliers then took about half the conflicts.
 //!
 //! Nothing rests on the order: any would do, and a decision looks for an open variable elsewhere where the ring shows none.
 ghost use Rattle.std.specs.Prelude.{◌≡◌, ◌<◌, ◌≤◌, ◌^◌, IfOk};
@@ -28,7 +28,7 @@ pub struct Order {
     ring: Ring,
     values: Vec<bool>,
     noted: Vec<u64>,
-    /// Whether the variables of a conflict keep their order, or come in the order in which they were met.
+    /// Whether the variables of a conflict keep their order.
     keeps_order: bool,
 }
 
@@ -128,6 +128,21 @@ impl Order {
         }
     }
 
+    /// Whether the variables of a conflict keep their order, since the signals of a net are known.
+    pub fn keeps_order(&self) -> bool {
+        self.keeps_order
+    }
+
+    /// The literal's variable, which has a value, comes first.
+    pub fn bring(&mut self, literal: Literal)
+        ensures { self.new ≡ self.old }
+    {
+        let variable = literal.variable();
+        if self.ring.has(variable) {
+            self.ring.move_to_front(variable as u32);
+        }
+    }
+
     /// Takes the memory to note so many variables.
     pub fn make_room(&mut self, variables: usize) -> Result<(), AllocError>
         ensures { self.new ≡ self.old }
@@ -141,12 +156,7 @@ impl Order {
     {
         let variable = literal.variable();
         if self.ring.has(variable) && self.noted.len() < self.noted.capacity() {
-            let place = if self.keeps_order {
-                self.ring.stamp(variable as u32)
-            } else {
-                self.noted.len() as u64
-            };
-            let later = !place << VARIABLE_BITS;
+            let later = !self.ring.stamp(variable as u32) << VARIABLE_BITS;
             self.noted.push_reserved(later | variable as u64);
         }
     }

@@ -25,7 +25,7 @@ const SLOW: u32 = 14;
 /// How large the fast average has to be, in hundredths of the slow one, where the signals of a net are known, and where they are not.
 const NET_MARGIN: u64 = 105;
 
-const BARE_MARGIN: u64 = 130;
+const BARE_MARGIN: u64 = 120;
 
 /// The averages, the clauses that were learned, those since the last restart, and the number of inputs where they are few.
 #[derive(Drop)]

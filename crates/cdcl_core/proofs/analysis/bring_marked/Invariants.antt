@@ -1,5 +1,5 @@
 use Rattle.std.proofs.Common.{◌≡◌}
-use Rattle.cdcl_core.proofs.analysis.bring_forward.Given as goal
+use Rattle.cdcl_core.proofs.analysis.bring_marked.Given as goal
 
 abbrev pub invariant-loop-i : goal.invariant-loop-i
 invariant-loop-i l = l.order ≡ l.initial.order
