@@ -1,7 +1,6 @@
 //! A visit of a clause that watches a literal which became false: the clause is true, or another of its literals is watched, or
 //! the other one that it watches follows, or it is false. The blocker may show that it is true before it is looked at, and of a clause of
-//! two literals the watcher tells all. Source: Chaff; the blockers are MiniSat's, the watchers of two literals those of Glucose, and what a
-//! true literal does is CaDiCaL's.
+//! two literals the watcher tells all. Source: Chaff; the blockers are MiniSat's, and the watchers of two literals those of Glucose.
 ghost use Rattle.std.specs.Prelude.{◌≡◌, ◌<◌, false, length, All, IfOk, OnOk, IfSome, IsNone};
 ghost use Rattle.proof_semantics.specs.Clauses.{IsLiteralOf};
 ghost use Rattle.cdcl_core.specs.Explained.{Holds};
@@ -79,8 +78,8 @@ fn long_watch(clause: usize, blocker: Literal) -> Watch
     }
 }
 
-/// A visit of a clause that watches `x` and `first`. A clause that one of its literals makes true goes on watching `x`, with that one as
-/// the blocker: it is likely to be true again when `x` is false.
+/// A visit of a clause that watches `x` and `first`. Where `first` is true it becomes the blocker: it is likely to be true again when `x`
+/// is false.
 fn visit_clause(
     trail: &mut Trail,
     watches: &mut Watches,
@@ -106,10 +105,6 @@ fn visit_clause(
         return Ok(Visit::Next);
     }
     match other_watch(trail, clauses.get(clause), first) {
-        Some(literal) if trail.is_true(literal) => {
-            watches.set(x, at, long_watch(clause, literal));
-            Ok(Visit::Next)
-        }
         Some(literal) => {
             watches.push(literal, long_watch(clause, first))?;
             watches.set_pair(

@@ -1,7 +1,6 @@
 use Rattle.std.specs.Prelude.{IfSome}
 use Rattle.std.proofs.Common.{◌≡◌, ◌<◌, true, length, refl, sym, subst, rules}
 use Rattle.proof_semantics.specs.Conflicts.{clause_at}
-use Rattle.cdcl_core.specs.Explained.{Holds}
 use Rattle.cdcl_core.specs.Visited.{IsOtherWatch, AreOthersFalse}
 use Rattle.cdcl_core.proofs.Propagating.{clause_read}
 use Rattle.cdcl_core.proofs.Visiting.{held_by, first_in, first_literal, twice_next, list_low, rewatched, moved_at, followed_extended, followed_visited}
@@ -24,27 +23,18 @@ returns-then-is_true-clause-visited c =
     (first_in c.args.clauses.now.list c.args.trail.now c.args.watches.now c.args.x c.args.at c.args.clause c.args.first c.requires.handling c.requires.at c.requires.clause c.requires.first)
     (c.is_true.ensures.0 c.if-is_true.true) (rw (sym c.long_watch.ensures) c.set.ensures)
 
-pub returns-in-Some-clause-visited : goal.returns-in-Some-clause-visited
-returns-in-Some-clause-visited c =
-    let held : c.args.clause < length c.args.clauses.now.list = held_by c.args.clauses.now.list c.args.trail.now c.args.watches.now c.args.x c.args.at c.args.clause c.requires.handling c.requires.at c.requires.clause in
-    let same : c.get.result.now ≡ clause_at c.args.clauses.now.list c.args.clause = clause_read c.args.clauses.now.list c.args.clause c.get.result.now c.get.result.now held c.get.ensures refl in
-    let some : IsOtherWatch c.args.trail.now.literals c.get.result.now c.args.first c.in-Some.literal = subst (λ r. IfSome r (IsOtherWatch c.args.trail.now.literals c.get.result.now c.args.first)) c.in-Some.is c.other_watch.ensures.some in
-    let holds : Holds c.args.trail.now.literals c.in-Some.literal = (let yes = c.if-is_true-2.true in search rules) in
-    rewatched c.args.clauses.now.list c.args.trail.now c.args.watches.now c.set-in-Some.new.self c.args.x c.args.at c.args.clause c.in-Some.literal c.requires.handling c.requires.at c.requires.clause
-    (subst (λ C. IsOtherWatch c.args.trail.now.literals C c.args.first c.in-Some.literal) same some).inside holds (rw (sym c.long_watch-in-Some.ensures) c.set-in-Some.ensures)
-
 pub follow-requires-clause-literal : goal.follow-requires-clause-literal
 follow-requires-clause-literal c = first_literal c.args.clauses.now.list c.args.trail.now c.args.watches.now c.args.x c.args.at c.args.clause c.args.first c.requires.handling c.requires.at c.requires.clause c.requires.first
 
-pub returns-in_ok-push-in-Some-2-clause-visited : goal.returns-in_ok-push-in-Some-2-clause-visited
-returns-in_ok-push-in-Some-2-clause-visited c =
+pub returns-in_ok-push-in-Some-clause-visited : goal.returns-in_ok-push-in-Some-clause-visited
+returns-in_ok-push-in-Some-clause-visited c =
     let held : c.args.clause < length c.args.clauses.now.list = held_by c.args.clauses.now.list c.args.trail.now c.args.watches.now c.args.x c.args.at c.args.clause c.requires.handling c.requires.at c.requires.clause in
     let same : c.get.result.now ≡ clause_at c.args.clauses.now.list c.args.clause = clause_read c.args.clauses.now.list c.args.clause c.get.result.now c.get.result.now held c.get.ensures refl in
     let some : IsOtherWatch c.args.trail.now.literals c.get.result.now c.args.first c.in-Some.literal = subst (λ r. IfSome r (IsOtherWatch c.args.trail.now.literals c.get.result.now c.args.first)) c.in-Some.is c.other_watch.ensures.some in
     moved_at c.args.clauses.now.list c.args.trail.now c.args.watches.now c.push.new.self c.set_pair.new.self c.remove.new.self c.args.x c.args.at c.args.clause c.args.first c.in-Some.literal
     c.requires.handling c.requires.at c.requires.clause c.requires.first
     (λ e. let yes : c.is.result ≡ true = c.is.ensures.1 e in let no = c.if-is.false in cc)
-    (subst (λ C. IsOtherWatch c.args.trail.now.literals C c.args.first c.in-Some.literal) same some) (rw (sym c.long_watch-in-Some-2.ensures) c.in_ok-push-in-Some-2.ensures) c.set_pair.ensures c.remove.ensures
+    (subst (λ C. IsOtherWatch c.args.trail.now.literals C c.args.first c.in-Some.literal) same some) (rw (sym c.long_watch-in-Some.ensures) c.in_ok-push-in-Some.ensures) c.set_pair.ensures c.remove.ensures
 
 pub returns-in-None-clause-extended : goal.returns-in-None-clause-extended
 returns-in-None-clause-extended c =
