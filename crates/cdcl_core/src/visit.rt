@@ -26,18 +26,59 @@ pub enum Visit {
     Conflict(usize),
 }
 
+/// A literal that may be watched, and its place, on which nothing rests.
+#[derive(Clone, Copy, Drop)]
+struct Free {
+    literal: Literal,
+    place: usize,
+}
+
+/// The first of these literals that is not false, other than `first`, and its place among them.
+fn free_literal(trail: &Trail, literals: &[Literal], first: Literal) -> Option<Free>
+    requires { All (IsLiteralOf trail.now.variables) literals.now }
+    ensures some { IfSome result (λ free. IsOtherWatch trail.now.literals literals.now first free.literal) }
+    ensures none { IsNone result → AreOthersFalse trail.now.literals literals.now first }
+{
+    let mut place: usize = 0;
+    for literal in literals {
+        if !literal.is(first) && !trail.is_false(*literal) {
+            return Some(Free {
+                literal: *literal,
+                place,
+            });
+        }
+        place = place.wrapping_add(1);
+    }
+    None
+}
+
 /// A literal of the clause that is not false, other than `first`.
 pub fn other_watch(trail: &Trail, clause: &[Literal], first: Literal) -> Option<Literal>
     requires { All (IsLiteralOf trail.now.variables) clause.now }
     ensures some { IfSome result (IsOtherWatch trail.now.literals clause.now first) }
     ensures none { IsNone result → AreOthersFalse trail.now.literals clause.now first }
 {
-    for literal in clause {
-        if !literal.is(first) && !trail.is_false(*literal) {
-            return Some(*literal);
-        }
+    match free_literal(trail, clause, first) {
+        Some(free) => Some(free.literal),
+        None => None,
     }
-    None
+}
+
+/// The same from a place on, or else before it.
+fn find_watch(trail: &Trail, clause: &[Literal], first: Literal, start: usize) -> Option<Free>
+    requires { All (IsLiteralOf trail.now.variables) clause.now }
+    ensures some { IfSome result (λ free. IsOtherWatch trail.now.literals clause.now first free.literal) }
+    ensures none { IsNone result → AreOthersFalse trail.now.literals clause.now first }
+{
+    let from = start.min(clause.len());
+    let (front, back) = clause.split_at(from);
+    match free_literal(trail, back, first) {
+        Some(free) => Some(Free {
+            literal: free.literal,
+            place: free.place.wrapping_add(from),
+        }),
+        None => free_literal(trail, front, first),
+    }
 }
 
 /// What the clause watches besides `literal`, if it watches that one.
@@ -104,16 +145,17 @@ fn visit_clause(
         watches.set(x, at, long_watch(clause, first));
         return Ok(Visit::Next);
     }
-    match other_watch(trail, clauses.get(clause), first) {
-        Some(literal) => {
-            watches.push(literal, long_watch(clause, first))?;
+    match find_watch(trail, clauses.get(clause), first, watches.start(clause)) {
+        Some(free) => {
+            watches.push(free.literal, long_watch(clause, first))?;
             watches.set_pair(
                 clause,
                 Pair {
                     one: first,
-                    other: literal,
+                    other: free.literal,
                 },
             );
+            watches.set_start(clause, free.place);
             watches.remove(x, at);
             Ok(Visit::Again)
         }

@@ -29,10 +29,13 @@ pub struct Pair {
     pub other: Literal,
 }
 
+/// The watchers of each literal, what each clause watches, where a search of it for another literal begins, and how many entries have been
+/// handled.
 #[derive(Drop)]
 pub struct Watches {
     lists: Vec<Vec<Watch>>,
     pairs: Vec<Pair>,
+    starts: Vec<u32>,
     handled: usize,
 }
 
@@ -77,6 +80,14 @@ fn push_reserved(lists: &mut Vec<Vec<Watch>>, at: usize, watch: Watch)
     lists[at].push_reserved(watch);
 }
 
+/// A start for a clause that has none yet.
+fn first_start(starts: &mut Vec<u32>, clause: usize) -> Result<(), AllocError> {
+    if starts.len() <= clause {
+        starts.push(0)?;
+    }
+    Ok(())
+}
+
 impl Watches {
     /// No clause is watched yet.
     pub fn new(alloc: Global, variables: u32) -> Result<Watches, AllocError>
@@ -86,6 +97,7 @@ impl Watches {
         Ok(Watches {
             lists: no_watchers(alloc, variables as usize * 2 + 2)?,
             pairs: Vec::new(alloc),
+            starts: Vec::new(alloc),
             handled: 0,
         })
     }
@@ -154,6 +166,24 @@ impl Watches {
         self.pairs[clause] = pair;
     }
 
+    /// The place in a clause from which on it is searched for another literal to watch: where the last one was found. So those that are
+    /// often false are left behind. Nothing rests on it.
+    pub fn start(&self, clause: usize) -> usize {
+        match self.starts.get(clause) {
+            Some(start) => *start as usize,
+            None => 0,
+        }
+    }
+
+    /// The next search of a clause begins at this place.
+    pub fn set_start(&mut self, clause: usize, place: usize)
+        ensures { self.new ≡ self.old }
+    {
+        if clause < self.starts.len() {
+            self.starts[clause] = u32::try_from(place).unwrap_or(0);
+        }
+    }
+
     /// The next clause watches these two; `binary`: it has no others. The memory is taken before anything changes.
     pub fn add(&mut self, one: Literal, other: Literal, binary: bool) -> Result<(), AllocError>
         requires one { index_of one < length self.old.lists }
@@ -161,6 +191,7 @@ impl Watches {
         ensures ok { OnOk result (self.new ≡ watches_with self.old one other binary) }
         ensures err { OnErr result (self.new ≡ self.old) }
     {
+        first_start(&mut self.starts, self.pairs.len())?;
         make_room(&mut self.lists, one.index())?;
         make_room(&mut self.lists, other.index())?;
         self.pairs.reserve(1)?;
