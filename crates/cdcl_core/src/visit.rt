@@ -65,17 +65,17 @@ pub fn other_watch(trail: &Trail, clause: &[Literal], first: Literal) -> Option<
 }
 
 /// The same from a place on, or else before it.
-fn find_watch(trail: &Trail, clause: &[Literal], first: Literal, start: usize) -> Option<Free>
+fn find_watch(trail: &Trail, clause: &[Literal], first: Literal, from: usize) -> Option<Free>
     requires { All (IsLiteralOf trail.now.variables) clause.now }
     ensures some { IfSome result (λ free. IsOtherWatch trail.now.literals clause.now first free.literal) }
     ensures none { IsNone result → AreOthersFalse trail.now.literals clause.now first }
 {
-    let from = start.min(clause.len());
-    let (front, back) = clause.split_at(from);
+    let middle = from.min(clause.len());
+    let (front, back) = clause.split_at(middle);
     match free_literal(trail, back, first) {
         Some(free) => Some(Free {
             literal: free.literal,
-            place: free.place.wrapping_add(from),
+            place: free.place.wrapping_add(middle),
         }),
         None => free_literal(trail, front, first),
     }
@@ -145,7 +145,7 @@ fn visit_clause(
         watches.set(x, at, long_watch(clause, first));
         return Ok(Visit::Next);
     }
-    match find_watch(trail, clauses.get(clause), first, watches.start(clause)) {
+    match find_watch(trail, clauses.get(clause), first, watches.found(clause)) {
         Some(free) => {
             watches.push(free.literal, long_watch(clause, first))?;
             watches.set_pair(
@@ -155,7 +155,7 @@ fn visit_clause(
                     other: free.literal,
                 },
             );
-            watches.set_start(clause, free.place);
+            watches.set_found(clause, free.place);
             watches.remove(x, at);
             Ok(Visit::Again)
         }

@@ -29,13 +29,13 @@ pub struct Pair {
     pub other: Literal,
 }
 
-/// The watchers of each literal, what each clause watches, where a search of it for another literal begins, and how many entries have been
-/// handled.
+/// The watchers of each literal, what each clause watches, the place in it where the last of these was found, and how many entries have
+/// been handled.
 #[derive(Drop)]
 pub struct Watches {
     lists: Vec<Vec<Watch>>,
     pairs: Vec<Pair>,
-    starts: Vec<u32>,
+    found: Vec<u32>,
     handled: usize,
 }
 
@@ -80,10 +80,10 @@ fn push_reserved(lists: &mut Vec<Vec<Watch>>, at: usize, watch: Watch)
     lists[at].push_reserved(watch);
 }
 
-/// A start for a clause that has none yet.
-fn first_start(starts: &mut Vec<u32>, clause: usize) -> Result<(), AllocError> {
-    if starts.len() <= clause {
-        starts.push(0)?;
+/// For a clause that has no such place yet it is the first.
+fn add_found(found: &mut Vec<u32>, clause: usize) -> Result<(), AllocError> {
+    if found.len() <= clause {
+        found.push(0)?;
     }
     Ok(())
 }
@@ -97,7 +97,7 @@ impl Watches {
         Ok(Watches {
             lists: no_watchers(alloc, variables as usize * 2 + 2)?,
             pairs: Vec::new(alloc),
-            starts: Vec::new(alloc),
+            found: Vec::new(alloc),
             handled: 0,
         })
     }
@@ -166,21 +166,21 @@ impl Watches {
         self.pairs[clause] = pair;
     }
 
-    /// The place in a clause from which on it is searched for another literal to watch: where the last one was found. So those that are
+    /// The place in a clause where the last literal to watch was found. The next one is searched for from there on, so that those that are
     /// often false are left behind. Nothing rests on it.
-    pub fn start(&self, clause: usize) -> usize {
-        match self.starts.get(clause) {
-            Some(start) => *start as usize,
+    pub fn found(&self, clause: usize) -> usize {
+        match self.found.get(clause) {
+            Some(place) => *place as usize,
             None => 0,
         }
     }
 
-    /// The next search of a clause begins at this place.
-    pub fn set_start(&mut self, clause: usize, place: usize)
+    /// A literal to watch was found at this place.
+    pub fn set_found(&mut self, clause: usize, place: usize)
         ensures { self.new ≡ self.old }
     {
-        if clause < self.starts.len() {
-            self.starts[clause] = u32::try_from(place).unwrap_or(0);
+        if clause < self.found.len() {
+            self.found[clause] = u32::try_from(place).unwrap_or(0);
         }
     }
 
@@ -191,7 +191,7 @@ impl Watches {
         ensures ok { OnOk result (self.new ≡ watches_with self.old one other binary) }
         ensures err { OnErr result (self.new ≡ self.old) }
     {
-        first_start(&mut self.starts, self.pairs.len())?;
+        add_found(&mut self.found, self.pairs.len())?;
         make_room(&mut self.lists, one.index())?;
         make_room(&mut self.lists, other.index())?;
         self.pairs.reserve(1)?;

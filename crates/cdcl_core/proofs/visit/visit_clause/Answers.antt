@@ -31,10 +31,10 @@ returns-in_ok-push-in-Some-clause-visited c =
     let held : c.args.clause < length c.args.clauses.now.list = held_by c.args.clauses.now.list c.args.trail.now c.args.watches.now c.args.x c.args.at c.args.clause c.requires.handling c.requires.at c.requires.clause in
     let same : c.get.result.now ≡ clause_at c.args.clauses.now.list c.args.clause = clause_read c.args.clauses.now.list c.args.clause c.get.result.now c.get.result.now held c.get.ensures refl in
     let some : IsOtherWatch c.args.trail.now.literals c.get.result.now c.args.first c.in-Some.free.literal = subst (λ r. IfSome r (λ free. IsOtherWatch c.args.trail.now.literals c.get.result.now c.args.first free.literal)) c.in-Some.is c.find_watch.ensures.some in
-    moved_at c.args.clauses.now.list c.args.trail.now c.args.watches.now c.push.new.self c.set_start.new.self c.remove.new.self c.args.x c.args.at c.args.clause c.args.first c.in-Some.free.literal
+    moved_at c.args.clauses.now.list c.args.trail.now c.args.watches.now c.push.new.self c.set_found.new.self c.remove.new.self c.args.x c.args.at c.args.clause c.args.first c.in-Some.free.literal
     c.requires.handling c.requires.at c.requires.clause c.requires.first
     (λ e. let yes : c.is.result ≡ true = c.is.ensures.1 e in let no = c.if-is.false in cc)
-    (subst (λ C. IsOtherWatch c.args.trail.now.literals C c.args.first c.in-Some.free.literal) same some) (rw (sym c.long_watch-in-Some.ensures) c.in_ok-push-in-Some.ensures) (c.set_start.ensures ∙ c.set_pair.ensures) c.remove.ensures
+    (subst (λ C. IsOtherWatch c.args.trail.now.literals C c.args.first c.in-Some.free.literal) same some) (rw (sym c.long_watch-in-Some.ensures) c.in_ok-push-in-Some.ensures) (c.set_found.ensures ∙ c.set_pair.ensures) c.remove.ensures
 
 pub returns-in-None-clause-extended : goal.returns-in-None-clause-extended
 returns-in-None-clause-extended c =
