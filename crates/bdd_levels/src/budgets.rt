@@ -23,6 +23,7 @@ pub const LAST_STEPS: u64 = 40_000_000;
 /// then of nets that nobody asks about any more.
 pub const GROWTH: usize = 8;
 
+/// The nodes that diagrams may always have beyond `GROWTH` times those of the exact net.
 pub const SPARE_NODES: usize = 1_000_000;
 
 /// The results that are remembered while orders are tried, and over an exact net of few nodes: so many stay near to the processor.

@@ -45,6 +45,7 @@ impl<'a> LogicalLine<'a> {
         self.number
     }
 
+    /// Its bytes, of all its physical lines together.
     pub fn bytes(&self) -> &[u8]
         ensures { result.now ≡ self.now.bytes }
     {

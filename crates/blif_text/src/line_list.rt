@@ -31,6 +31,7 @@ impl Model for LogLine {
     ghost view = { λ a. record { line = a.line; words = a.words } };
 }
 
+/// The logical lines of a text, in their order.
 pub type LineList = Items<LogLine>;
 
 fn word_list(alloc: Global, words: &[&[u8]]) -> Result<WordList, AllocError>

@@ -116,6 +116,7 @@ impl<'a> NamedTable<'a> {
         Ok(())
     }
 
+    /// The name of the signal that the table drives.
     pub fn name(&self) -> &'a [u8]
         ensures { result.now ≡ self.now.name }
     {
@@ -129,6 +130,7 @@ impl<'a> NamedTable<'a> {
         &self.pins
     }
 
+    /// The rows, with a mark for each pin.
     pub fn rows(&self) -> &RowList
         ensures { result.now ≡ self.now.rows }
     {

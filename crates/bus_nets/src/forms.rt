@@ -12,12 +12,16 @@ use net_parts::row::Row;
 use net_parts::table::Table;
 use std::alloc::{AllocError, Global};
 
+/// The negation of a pin.
 pub const INV: [[Mark; 1]; 1] = [[Mark::Zero]];
 
+/// The disjunction of two pins.
 pub const OR2: [[Mark; 2]; 2] = [[Mark::One, Mark::Dash], [Mark::Dash, Mark::One]];
 
+/// Whether one pin of two is true: the sum of a half adder.
 pub const XOR2: [[Mark; 2]; 2] = [[Mark::One, Mark::Zero], [Mark::Zero, Mark::One]];
 
+/// Whether one pin of three is true, or all are: the sum of a full adder.
 pub const XOR3: [[Mark; 3]; 4] = [
     [Mark::One, Mark::Zero, Mark::Zero],
     [Mark::Zero, Mark::One, Mark::Zero],
@@ -25,18 +29,21 @@ pub const XOR3: [[Mark; 3]; 4] = [
     [Mark::One, Mark::One, Mark::One],
 ];
 
+/// Whether two pins of three are true: the carry of a full adder.
 pub const MAJ: [[Mark; 3]; 3] = [
     [Mark::One, Mark::One, Mark::Dash],
     [Mark::One, Mark::Dash, Mark::One],
     [Mark::Dash, Mark::One, Mark::One],
 ];
 
+/// Whether a number exceeds another as far as to this bit: pins are its bit, the other's, and whether it does by the lower bits.
 pub const GT: [[Mark; 3]; 3] = [
     [Mark::One, Mark::Zero, Mark::Dash],
     [Mark::One, Mark::Dash, Mark::One],
     [Mark::Dash, Mark::Zero, Mark::One],
 ];
 
+/// A pin, or the conjunction of two others.
 pub const GROW: [[Mark; 3]; 2] = [
     [Mark::One, Mark::Dash, Mark::Dash],
     [Mark::Dash, Mark::One, Mark::One],

@@ -2,6 +2,7 @@
 use net_parts::items::Bits;
 use proof_parts::log::Log;
 
+/// What a search comes to.
 #[derive(Drop)]
 pub enum Answer {
     /// A value for each variable, with which the formula is satisfied.

@@ -11,6 +11,7 @@ use proof_parts::clause::Lits;
 use proof_parts::log::Item;
 use std::alloc::{AllocError, Global};
 
+/// The literals of a clause.
 pub type Clause = Items<Literal>;
 
 /// The clause as the solver holds it.

@@ -52,6 +52,7 @@ impl ClauseList {
         }
     }
 
+    /// How many clauses there are.
     pub fn len(&self) -> usize
         ensures { result ≡ length self.now.list }
     {

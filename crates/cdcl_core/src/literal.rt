@@ -28,6 +28,7 @@ impl Model for Literal {
 }
 
 impl Literal {
+    /// The literal of a formula's or a log's number.
     pub fn new(code: i32) -> Self
         requires { IsLiteral code }
         ensures { result ≡ code }
@@ -59,6 +60,7 @@ impl Literal {
         if self.sign() { variable } else { -variable }
     }
 
+    /// The number of its variable, from 1.
     pub fn variable(self) -> usize
         ensures value { result ≡ nat_abs self }
         ensures positive { 0 < result }
@@ -74,6 +76,7 @@ impl Literal {
         self.index % 2 == 1
     }
 
+    /// The literal of the same variable with the other sign.
     pub fn negated(self) -> Literal
         ensures { result ≡ neg_ℤ self }
     {
@@ -83,6 +86,7 @@ impl Literal {
         }
     }
 
+    /// Whether both are the same literal.
     pub fn is(self, other: Literal) -> bool
         ensures { IsTrue result ↔ (self ≡ other) }
     {

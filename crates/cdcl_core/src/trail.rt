@@ -15,6 +15,7 @@ use crate::literal::Literal;
 use std::alloc::{AllocError, Global};
 use std::marker::Model;
 
+/// The literals that hold, in the order in which they came to hold, each with its reason, and where each level starts.
 #[derive(Drop)]
 pub struct Trail {
     literals: Vec<Literal>,
@@ -70,6 +71,7 @@ impl Trail {
         })
     }
 
+    /// Whether the literal holds.
     pub fn is_true(&self, literal: Literal) -> bool
         requires { IsLiteralOf self.now.variables literal }
         ensures { IsTrue result ↔ Holds self.now.literals literal }
@@ -77,6 +79,7 @@ impl Trail {
         self.told[literal.index()]
     }
 
+    /// Whether the literal's negation holds.
     pub fn is_false(&self, literal: Literal) -> bool
         requires { IsLiteralOf self.now.variables literal }
         ensures { IsTrue result ↔ Holds self.now.literals (neg_ℤ literal) }

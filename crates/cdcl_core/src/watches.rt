@@ -110,6 +110,7 @@ impl Watches {
         self.lists[literal.index()].len()
     }
 
+    /// Watcher `at` of the literal, from 0.
     pub fn get(&self, literal: Literal, at: usize) -> Watch
         requires literal { index_of literal < length self.now.lists }
         requires at { at < length (list_at self.now.lists literal) }

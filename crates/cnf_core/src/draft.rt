@@ -41,12 +41,14 @@ impl<T> Draft<T> {
         self.items.allocator()
     }
 
+    /// How many items the list at hand has.
     pub fn len(&self) -> usize
         ensures { result ≡ length self.now.at_hand }
     {
         self.items.len() - self.first
     }
 
+    /// The items of the list at hand.
     pub fn as_slice(&self) -> &[T]
         ensures { result.now ≡ self.now.at_hand }
     {

@@ -24,6 +24,7 @@ pub struct NumberSoFar {
     pub size: u64,
 }
 
+/// Whether the byte stands between tokens.
 #[tactic(auto, unfolding(proof_semantics::specs::LratTokens::is_blank))]
 #[inline(always)]
 pub fn is_blank(byte: u8) -> bool
@@ -84,6 +85,7 @@ impl HeldWord {
         }
     }
 
+    /// Whether no token has begun.
     #[inline(always)]
     pub fn is_empty(self) -> bool
         ensures { IsTrue result → self ≡ HeldWord.Empty }

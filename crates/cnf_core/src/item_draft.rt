@@ -65,6 +65,7 @@ impl ItemDraft {
         self.numbers.begin();
     }
 
+    /// Adds a literal to the list at hand. A refusal leaves everything as it was.
     pub fn push_literal(&mut self, literal: Literal) -> Result<(), AllocError>
         requires { IsLiteral literal }
         ensures ok { OnOk result (self.new
@@ -75,6 +76,7 @@ impl ItemDraft {
         self.literals.push(literal)
     }
 
+    /// Adds a hint or an id to the list at hand. A refusal leaves everything as it was.
     pub fn push_number(&mut self, number: u64) -> Result<(), AllocError>
         ensures ok { OnOk result (self.new
             ≡ record self.old { numbers = record self.old.numbers { at_hand = self.old.numbers.at_hand ++ number ∷ [] } }) }
@@ -113,6 +115,7 @@ impl ItemDraft {
         Ids::from_slice(*self.numbers.allocator(), self.numbers.as_slice())
     }
 
+    /// How many literals and how many hints or ids are at hand.
     pub fn lengths(&self) -> Lengths
         ensures literals { result.literals ≡ length self.now.literals.at_hand }
         ensures numbers { result.numbers ≡ length self.now.numbers.at_hand }

@@ -172,6 +172,7 @@ impl Part {
         }
     }
 
+    /// Why the text so far begins no log, if it begins none.
     #[inline(always)]
     pub fn refusal(self, draft: &ItemDraft) -> Option<LratRefusal>
         ensures { result ≡ refusal_at (stage_at self draft.now) }

@@ -25,6 +25,7 @@ pub struct RealFiles<'a, R: rt::Files> {
 }
 
 impl<'a, R: rt::Files> RealFiles<'a, R> {
+    /// The files of a runtime. None is open, and no call has failed.
     pub fn new(runtime: &'a R) -> Self
         ensures faults { result.faults ≡ 0 }
         ensures closed { (result.reading ≡ None) × (result.writing ≡ None) }

@@ -14,6 +14,7 @@ pub struct RealSink<'a, P: Print> {
 }
 
 impl<'a, P: Print> RealSink<'a, P> {
+    /// The output of a runtime, of which no call has failed.
     pub fn new(to: &'a P) -> Self
         ensures { result.faults ≡ 0 }
     {

@@ -20,6 +20,7 @@ impl Model for FileList {
 }
 
 impl FileList {
+    /// No files. It takes no memory.
     pub fn new(alloc: Global) -> Self
         ensures { result ≡ [] }
     {
@@ -28,6 +29,7 @@ impl FileList {
         }
     }
 
+    /// Adds a name and its text at the end. A refusal leaves the list as it was.
     pub fn push(&mut self, item: (Word, Word)) -> Result<(), AllocError>
         ensures ok { OnOk result (self.new ≡ self.old ++ item ∷ []) }
         ensures err { OnErr result (self.new ≡ self.old) }
@@ -136,6 +138,7 @@ impl Model for CallList {
 }
 
 impl CallList {
+    /// No calls. It takes no memory.
     pub fn new(alloc: Global) -> Self
         ensures { result ≡ [] }
     {
@@ -144,6 +147,7 @@ impl CallList {
         }
     }
 
+    /// Adds the number of a call at the end. A refusal leaves the list as it was.
     pub fn push(&mut self, item: u64) -> Result<(), AllocError>
         ensures ok { OnOk result (self.new ≡ self.old ++ item ∷ []) }
         ensures err { OnErr result (self.new ≡ self.old) }

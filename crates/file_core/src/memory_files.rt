@@ -40,6 +40,7 @@ impl Model for MemFiles {
 }
 
 impl MemFiles {
+    /// These files, of which none is open, where the calls with these numbers fail and a call reads or appends at most `chunk` bytes.
     pub fn new(files: FileList, failing: CallList, chunk: usize) -> MemFiles
         requires { 0 < chunk }
         ensures { result ≡ files_at_first files failing chunk }

@@ -39,6 +39,7 @@ impl Model for MemSink {
 }
 
 impl MemSink {
+    /// A sink that holds nothing, where the calls with these numbers fail and a call takes at most `chunk` bytes.
     pub fn new(alloc: Global, failing: CallList, chunk: usize) -> MemSink
         requires { 0 < chunk }
         ensures { result ≡ sink_at_first failing chunk }

@@ -27,6 +27,7 @@ impl Model for Page {
 }
 
 impl Page {
+    /// The page without bytes.
     pub fn new() -> Page
         ensures { result ≡ [] }
     {

@@ -47,6 +47,7 @@ impl Model for SureFiles {
 }
 
 impl SureFiles {
+    /// These files, which are told.
     pub fn new(files: FileList) -> SureFiles
         ensures { result ≡ sure_at_first files }
     {

@@ -11,6 +11,7 @@ use crate::sink::Sink;
 pub struct SureSink;
 
 impl SureSink {
+    /// The sink.
     pub fn new() -> SureSink
         ensures { result ≡ record {} }
     {

@@ -17,6 +17,7 @@ impl Model for Word {
 }
 
 impl Word {
+    /// A copy of the bytes.
     pub fn new(alloc: Global, bytes: &[u8]) -> Result<Word, AllocError>
         ensures { IfOk result (λ w. w ≡ bytes.now) }
     {
@@ -24,6 +25,7 @@ impl Word {
         Ok(Word { bytes })
     }
 
+    /// The bytes.
     pub fn bytes(&self) -> &[u8]
         ensures { result.now ≡ self.now }
     {

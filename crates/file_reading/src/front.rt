@@ -36,6 +36,7 @@ impl Front {
         }
     }
 
+    /// The bytes so far: at most one more than the limit.
     pub fn bytes(&self) -> &[u8]
         ensures value { result.now ≡ self.now.bytes }
         ensures within { length self.now.bytes ≤ self.now.limit + 1 }

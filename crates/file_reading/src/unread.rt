@@ -2,9 +2,12 @@
 use file_core::fault::FileFault;
 use std::alloc::AllocError;
 
+/// Why a file was not read.
 #[derive(Clone, Copy, Debug, PartialEq, Eq)]
 pub enum Unread {
+    /// A call of the files failed.
     Fault,
+    /// Memory ran out.
     OutOfMemory,
     /// All turns were taken, and the file goes on.
     Endless,

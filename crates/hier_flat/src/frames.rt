@@ -39,6 +39,7 @@ impl<'f, 'm, 'a> Model for Sizes<'f, 'm, 'a> {
 }
 
 impl<'f, 'm, 'a> Sizes<'f, 'm, 'a> {
+    /// These models, and the number of flat tables of each, which is counted here.
     pub fn new(
         alloc: Global,
         models: &'f Interfaces<'m, 'a>,

@@ -48,24 +48,28 @@ impl<'m, 'a> Interface<'m, 'a> {
         })
     }
 
+    /// The model.
     pub fn model(&self) -> &'m BlifModel<'a>
         ensures { result.now ≡ self.now }
     {
         self.model
     }
 
+    /// Whether the model has an input or an output of this name.
     pub fn has_port(&self, name: &[u8]) -> bool
         ensures { result ≡ has_name self.now.ports name.now }
     {
         self.ports.contains(name)
     }
 
+    /// Whether the model has an input of this name.
     pub fn has_input(&self, name: &[u8]) -> bool
         ensures { result ≡ has_name self.now.inputs name.now }
     {
         self.inputs.contains(name)
     }
 
+    /// Whether the model has an output of this name.
     pub fn has_output(&self, name: &[u8]) -> bool
         ensures { result ≡ has_name self.now.outputs name.now }
     {

@@ -28,6 +28,7 @@ impl<'a> Model for Names<'a> {
 }
 
 impl<'a> Names<'a> {
+    /// No names. It takes no memory.
     pub fn new(alloc: Global) -> Names<'a>
         ensures { result ≡ [] }
     {
@@ -43,6 +44,7 @@ impl<'a> Names<'a> {
         self.names.get_index_of(name)
     }
 
+    /// Whether the name was added.
     pub fn contains(&self, name: &[u8]) -> bool
         ensures { result ≡ has_name self.now name.now }
     {

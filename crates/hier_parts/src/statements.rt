@@ -54,6 +54,7 @@ impl<'a> Statement<'a> {
         self.number
     }
 
+    /// The words of the line.
     pub fn words(&self) -> &[&'a [u8]]
         ensures { texts result.now ≡ self.now.words }
     {

@@ -28,18 +28,21 @@ impl WordList {
         }
     }
 
+    /// The list of these words. It takes no memory.
     pub fn of(words: Vec<u64>) -> WordList
         ensures { result ≡ words.items }
     {
         WordList { words }
     }
 
+    /// The words.
     pub fn as_slice(&self) -> &[u64]
         ensures { result.now ≡ self.now }
     {
         self.words.as_slice()
     }
 
+    /// How many words there are.
     pub fn len(&self) -> usize
         ensures { result ≡ length self.now }
     {

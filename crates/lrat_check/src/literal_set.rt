@@ -92,6 +92,7 @@ impl LiteralSet {
         self.apart = HashSet::new(*self.members.allocator());
     }
 
+    /// Whether the literal is in the set.
     #[inline(always)]
     pub fn contains(&self, literal: Literal) -> bool
         ensures { result ≡ set.contains self.now literal }
@@ -104,6 +105,7 @@ impl LiteralSet {
         }
     }
 
+    /// Adds a literal.
     #[inline(always)]
     pub fn insert(&mut self, literal: Literal) -> Result<(), AllocError>
         ensures { OnOk result (self.new ≡ set.insert self.old literal) }

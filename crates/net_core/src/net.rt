@@ -168,6 +168,7 @@ impl Net {
         Ok(Net::from_ordered(model, inputs, tables, outputs, order))
     }
 
+    /// The name of the model.
     pub fn model(&self) -> &Name
         ensures value { result.now ≡ self.now.model }
     {

@@ -14,10 +14,13 @@ pub type Signal = u32;
 /// Pins of a table, or outputs of a net.
 pub type SignalList = Items<Signal>;
 
+/// Names, of inputs or of outputs.
 pub type NameList = Items<Name>;
 
+/// The rows of a table.
 pub type RowList = Items<Row>;
 
+/// The tables of a net, in the order of their numbers.
 pub type TableList = Items<Table>;
 
 /// A vector of truth values.
@@ -71,12 +74,14 @@ impl<T> Items<T> {
         }
     }
 
+    /// How many items there are.
     pub fn len(&self) -> usize
         ensures { result ≡ length self.now }
     {
         self.items.len()
     }
 
+    /// Whether there are no items.
     pub fn is_empty(&self) -> bool
         ensures { result ≡ (length self.now == 0) }
     {
@@ -91,6 +96,7 @@ impl<T> Items<T> {
         &self.items[i]
     }
 
+    /// The items.
     pub fn as_slice(&self) -> &[T]
         ensures { result.now ≡ self.now }
     {

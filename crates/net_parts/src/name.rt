@@ -104,6 +104,7 @@ impl Name {
         Ok(Name { bytes })
     }
 
+    /// The bytes of the name.
     pub fn bytes(&self) -> &[u8]
         ensures value { result.now ≡ self.now }
         ensures named { IsName self.now }

@@ -49,12 +49,14 @@ impl Row {
         Ok(())
     }
 
+    /// How many marks the row has.
     pub fn len(&self) -> usize
         ensures { result ≡ length self.now }
     {
         self.marks.as_slice().len()
     }
 
+    /// Whether the row has no marks, as that of a constant.
     pub fn is_empty(&self) -> bool
         ensures { result ≡ (length self.now == 0) }
     {
@@ -69,6 +71,7 @@ impl Row {
         &self.marks.as_slice()[i]
     }
 
+    /// The marks, one a pin.
     pub fn as_slice(&self) -> &[Mark]
         ensures { result.now ≡ self.now }
     {

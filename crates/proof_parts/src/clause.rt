@@ -79,12 +79,14 @@ impl Lits {
         self.push(literal)
     }
 
+    /// How many literals the clause has.
     pub fn len(&self) -> usize
         ensures { result ≡ length self.now }
     {
         self.as_slice().len()
     }
 
+    /// Whether the clause has no literals.
     pub fn is_empty(&self) -> bool
         ensures { result ≡ (length self.now == 0) }
     {
@@ -100,6 +102,7 @@ impl Lits {
         &self.as_slice()[i]
     }
 
+    /// The literals.
     pub fn as_slice(&self) -> &[Literal]
         ensures value { result.now ≡ self.now }
         ensures formed { AreLiterals self.now }

@@ -40,6 +40,7 @@ impl Cnf {
         self.vars
     }
 
+    /// The clauses, in their order.
     pub fn clauses(&self) -> &ClauseList
         ensures value { result.now ≡ self.now.clauses }
         ensures formed { IsCnf self.now }

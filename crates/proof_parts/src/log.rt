@@ -38,6 +38,7 @@ impl Step {
         Step { id, lits, hints }
     }
 
+    /// The number of the clause that the step adds.
     pub fn id(&self) -> u64
         ensures { result ≡ self.now.id }
     {
@@ -51,6 +52,7 @@ impl Step {
         &self.lits
     }
 
+    /// The numbers of the clauses from which the step follows, in the order in which they become unit.
     pub fn hints(&self) -> &Ids
         ensures { result.now ≡ self.now.hints }
     {

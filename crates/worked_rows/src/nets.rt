@@ -11,6 +11,7 @@ use std::alloc::{AllocError, Global};
 use std::test::Fail;
 use word_nets::multiplier::mul_net;
 
+/// A half adder.
 pub const HALF_ADDER: &[u8] =
     b".model ha\n.inputs a b\n.outputs s c\n.names a b s\n10 1\n01 1\n.names a b c\n11 1\n.end\n";
 

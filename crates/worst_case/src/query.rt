@@ -16,6 +16,7 @@ pub struct Spent {
     pub log: Log,
 }
 
+/// Whether an error exceeds a level, or what was spent on the question.
 #[derive(Drop)]
 pub enum Exceed {
     /// An input vector whose error exceeds the level.
