@@ -59,8 +59,7 @@ fn set_exceeding_row(net: &Net, blocks: &[WordList], limit: &Limit, row: &mut [u
         → length vectors ≡ limit.now.count → AreOutputWordsOf exact vectors limit.now.outputs → AreBlocksOf net.now vectors blocks.now
         → IsRowWhere vectors (Exceeds limit.now.metric exact limit.now.level net.now) row.new }
 {
-    // A net is sound by its type: the call brings that fact here.
-    let _ = net.tables();
+    net.see_sound();
     for k in 0..blocks.len() {
         row[k] = exceeding_word(net, blocks[k].as_slice(), limit, k);
     }
@@ -109,8 +108,7 @@ fn set_care_row(
         → length vectors ≡ limit.now.count → AreOutputWordsOf exact vectors limit.now.outputs → AreBlocksOf net.now vectors blocks.now
         → IsRowWhere vectors (IsCaredFor limit.now.metric exact limit.now.level net.now t) row.new }
 {
-    // A net is sound by its type: the call brings that fact here.
-    let _ = net.tables();
+    net.see_sound();
     for k in 0..blocks.len() {
         words.copy_from_slice(blocks[k].as_slice());
         flip_words(net, t, later, words);

@@ -102,8 +102,7 @@ pub(crate) fn first_broken(
         → IsRowWhere vectors (Exceeds metric exact bound net.now) exceeds.now
         → FindsFirstBroken metric exact bound net.now vectors step result }
 {
-    // A net is sound by its type: the call brings that fact here.
-    let _ = net.tables();
+    net.see_sound();
     for k in 0..blocks.len() {
         let broken = broken_word(net, step, blocks[k].as_slice(), care[k], exceeds[k]);
         if let Some(b) = lowest_bit(broken) {

@@ -180,8 +180,7 @@ impl<'a> GrowingMasks<'a> {
         ensures ok { OnOk result (self.new ≡ record self.old { vectors = patterns.now.vectors }) }
         ensures err { OnErr result (self.new ≡ record self.old { vectors = [] }) }
     {
-        // A net is sound by its type: the call brings that fact here.
-        let _ = self.judged.nets.approx().tables();
+        self.judged.nets.approx().see_sound();
         let full = (self.count / 64) as usize;
         let alloc = *self.blocks.allocator();
         self.blocks.truncate(full);
@@ -207,8 +206,7 @@ impl<'a> GrowingMasks<'a> {
             (FindsFirstBroken self.old.metric self.old.exact self.old.bound self.old.net self.old.vectors step) }
         ensures same { self.new ≡ self.old }
     {
-        // A net is sound by its type: the call brings that fact here.
-        let _ = self.judged.nets.approx().tables();
+        self.judged.nets.approx().see_sound();
         first_broken(
             &self.judged,
             step,

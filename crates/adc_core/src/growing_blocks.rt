@@ -41,9 +41,8 @@ fn block_of(
     requires within { k < word_count (length patterns.now.vectors) }
     ensures { IfOk result (IsBlockOf judged.now patterns.now.vectors k) }
 {
-    // A net is sound by its type: the call brings that fact here.
     let net = judged.nets.approx();
-    let _ = net.tables();
+    net.see_sound();
     let words = block(alloc, net, patterns, k)?;
     let outputs = output_block(alloc, judged.nets.exact(), patterns, k)?;
     let used = used_word(patterns.count(), k);
@@ -97,9 +96,8 @@ fn add_care_words(
     ensures few { length row.new ≤ to }
     ensures ok { OnOk result (to ≤ length row.new) }
 {
-    // A net is sound by its type: the call brings that fact here.
     let net = judged.nets.approx();
-    let _ = net.tables();
+    net.see_sound();
     for k in row.len()..to {
         words.copy_from_slice(blocks[k].words.as_slice());
         flip_words(net, t, later, words);

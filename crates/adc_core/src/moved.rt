@@ -83,8 +83,7 @@ pub fn moved_word(net: &Net, step: Move, words: &[u64]) -> u64
     ensures { (b : ℕ) → b < 64 → word_bit result b
         ≡ table_value (moved_table (table_at net.now.tables (table_of step)) step) (values_at words.now b) }
 {
-    // A net is sound by its type: the call brings that fact here.
-    let _ = net.tables();
+    net.see_sound();
     match step {
         Move::Const { value, .. } => constant_word(value),
         Move::DropRow { t, row } => without_row(net.table(t), row as usize, words),

@@ -180,8 +180,7 @@ pub(crate) fn finished(net: WordNet, output: Signal) -> Result<Net, AllocError>
     ensures { IfOk result (λ made. (metric : Metric) (w k : ℕ) → SaysExcess metric w k net output → TellsLevel metric w k made) }
 {
     let made: Net = net.finish(&[output])?;
-    // A net is sound by its type: the call brings that fact here.
-    let _ = made.inputs();
+    made.see_sound();
     Ok(made)
 }
 

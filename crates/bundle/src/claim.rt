@@ -6,7 +6,6 @@ ghost use Rattle.job_semantics.specs.Certificate.{AreCounts};
 ghost use Rattle.bundle_texts.specs.Reading.{report_read};
 
 use bundle_texts::report_reading::ReportRead;
-use bundle_writing::soundness::see_sound;
 use bundle_writing::stem::Stem;
 use net_errors::compared::Compared;
 use semantics::metric::Metric;
@@ -36,8 +35,8 @@ pub(crate) fn are_counts(nets: &Compared, report: &ReportRead) -> bool
 {
     let exact = nets.exact();
     let approx = nets.approx();
-    see_sound(exact);
-    see_sound(approx);
+    exact.see_sound();
+    approx.see_sound();
     let old_literals = exact.literals();
     let new_literals = approx.literals();
     report.counts.old_tables == exact.tables()

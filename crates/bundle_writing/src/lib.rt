@@ -5,7 +5,6 @@ pub mod bits;
 pub mod bundle;
 pub mod report_lines;
 mod report_writing;
-pub mod soundness;
 pub mod stem;
 pub mod vectors_writing;
 pub mod writing;

@@ -48,8 +48,7 @@ pub(crate) fn set_values_behind(net: &Net, front: &[bool], rest: &Patterns, word
     requires words { length words.old ≡ signal_count net.now }
     ensures { AreValuesBehind net.now front.now words.new }
 {
-    // A net is sound by its type: the call brings that fact here.
-    let _ = net.tables();
+    net.see_sound();
     set_front(front, words);
     set_rest(rest, front.len(), words);
     eval_words(net, words);

@@ -72,7 +72,7 @@ fn acyclic_net(
     let names = signal_names(alloc, &inputs, &tables)?;
     match Net::from_parts(alloc, model, inputs, tables, outputs) {
         Ok(net) => {
-            let _ = net.inputs();
+            net.see_sound();
             Ok(net)
         }
         Err(NetRefusal::Cycle(signal)) => Err(cycle_at(&names, signal)),

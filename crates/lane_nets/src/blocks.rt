@@ -35,8 +35,7 @@ pub fn set_block(net: &Net, patterns: &Patterns, k: usize, words: &mut [u64])
     ensures block { IsBlock net.now patterns.now.vectors k words.new }
     ensures built { IsBuilt net.now }
 {
-    // A net is sound by its type: the call brings that fact here.
-    let _ = net.tables();
+    net.see_sound();
     set_inputs(patterns, k, words);
     eval_words(net, words);
 }

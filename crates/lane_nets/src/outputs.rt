@@ -27,8 +27,7 @@ pub fn set_output_words(net: &Net, words: &[u64], outputs: &mut [u64])
     requires room { length outputs.old ≡ length net.now.outputs }
     ensures { outputs.new ≡ output_words net.now words.now }
 {
-    // A net is sound by its type: the call brings that fact here.
-    let _ = net.tables();
+    net.see_sound();
     for i in 0..net.outputs() {
         outputs[i as usize] = words[net.output(i) as usize];
     }

@@ -46,8 +46,7 @@ fn set_wide_block(net: &Net, patterns: &Patterns, q: usize, wides: &mut [u64x8])
     requires room { length wides.old ≡ signal_count net.now }
     ensures { IsWideBlock net.now patterns.now.vectors q wides.new }
 {
-    // A net is sound by its type: the call brings that fact here.
-    let _ = net.tables();
+    net.see_sound();
     set_wide_inputs(patterns, q, wides);
     eval_wides(net, wides);
 }
@@ -61,7 +60,7 @@ pub(crate) fn reach_block(net: &Net, patterns: &Patterns, k: usize, wides: &mut 
     ensures block { IsWideBlock net.now patterns.now.vectors (k / 8) wides.new }
     ensures built { IsBuilt net.now }
 {
-    let _ = net.tables();
+    net.see_sound();
     if k % 8 != 0 {
         return;
     }
@@ -76,8 +75,7 @@ pub(crate) fn set_lane_outputs(net: &Net, wides: &[u64x8], j: usize, outputs: &m
     requires room { length outputs.old ≡ length net.now.outputs }
     ensures { outputs.new ≡ output_words net.now (lane_words wides.now j) }
 {
-    // A net is sound by its type: the call brings that fact here.
-    let _ = net.tables();
+    net.see_sound();
     for i in 0..net.outputs() {
         outputs[i as usize] = wides[net.output(i) as usize].to_array()[j];
     }

@@ -1,6 +1,6 @@
 //! Nets: sound, with an order of their tables, and of a size that fits their numbers.
 ghost use Rattle.std.specs.Prelude.{◌≡◌, ℕ, ◌+◌, ◌<◌, ◌^◌, false, length, slice_index, slice_index_or, sum_by, All, None, IfOk, IfErr, OnOk, OnErr};
-ghost use Rattle.semantics.specs.Net.{IsName, IsTable, IsAcyclic, input_count, table_count, signal_count, literal_count, signal_names, name_of, table_at, table_literals};
+ghost use Rattle.semantics.specs.Net.{IsName, IsTable, IsAcyclic, IsSound, input_count, table_count, signal_count, literal_count, signal_names, name_of, table_at, table_literals};
 ghost use Rattle.semantics.specs.Value.{value_of};
 ghost use Rattle.semantics.specs.Order.{IsOrderOf};
 ghost use Rattle.semantics.specs.Refusals.{net_refusal};
@@ -181,6 +181,14 @@ impl Net {
         ensures built { IsBuilt self.now }
     {
         self.inputs.len() as u32
+    }
+
+    /// Shows that the net is sound, which its type holds. It does nothing.
+    pub fn see_sound(&self)
+        ensures sound { IsSound self.now }
+        ensures built { IsBuilt self.now }
+    {
+        let _ = self.inputs();
     }
 
     /// How many tables there are.

@@ -217,6 +217,20 @@ impl Sorting {
     }
 }
 
+/// The tables after a visit to each: those that wait for no table have a place.
+fn visited(alloc: Global, inputs: u32, tables: &[Table], count: u32) -> Result<Sorting, AllocError>
+    requires count { count ≡ length tables.now }
+    requires pins { All (λ t. All (λ s. s < inputs + length tables.now) t.pins) tables.now }
+    ensures sorting { IfOk result (λ s. IsSorting inputs tables.now s) }
+    ensures settled { IfOk result (λ s. IsSettled inputs tables.now s 0 []) }
+{
+    let mut sorting = Sorting::new(alloc, tables.len())?;
+    for i in 0..count {
+        sorting.visit(inputs, tables, i)?;
+    }
+    Ok(sorting)
+}
+
 /// The tables, each with a place in the order or waiting for one without.
 fn settle(alloc: Global, inputs: u32, tables: &[Table], count: u32) -> Result<Sorting, AllocError>
     requires count { count ≡ length tables.now }
@@ -224,10 +238,7 @@ fn settle(alloc: Global, inputs: u32, tables: &[Table], count: u32) -> Result<So
     ensures sorting { IfOk result (λ s. IsSorting inputs tables.now s) }
     ensures settled { IfOk result (λ s. IsSettled inputs tables.now s (length s.order) []) }
 {
-    let mut sorting = Sorting::new(alloc, tables.len())?;
-    for i in 0..count {
-        sorting.visit(inputs, tables, i)?;
-    }
+    let mut sorting = visited(alloc, inputs, tables, count)?;
     let mut head = 0;
     while head < sorting.count() {
         sorting.step(inputs, tables, head)?;

@@ -135,8 +135,7 @@ pub fn apply(alloc: Global, net: &Net, step: Move) -> Result<Net, AllocError>
     requires { Contains (moves_of net.now) step }
     ensures { IfOk result (λ n. n ≡ moved net.now step) }
 {
-    // A net is sound by its type: the call brings that fact here.
-    let _ = net.tables();
+    net.see_sound();
     let t = table_of(step);
     let table = moved_table(alloc, net.table(t), step)?;
     net.with_table(t, table)
@@ -150,8 +149,7 @@ pub fn make(alloc: Global, net: &mut Net, step: Move) -> Result<Table, AllocErro
     ensures err { OnErr result (net.new ≡ net.old) }
     ensures taken { IfOk result (λ table. table ≡ table_at net.old.tables (table_of step)) }
 {
-    // A net is sound by its type: the call brings that fact here.
-    let _ = net.tables();
+    net.see_sound();
     let t = table_of(step);
     let table = moved_table(alloc, net.table(t), step)?;
     net.exchange_table(t, table)

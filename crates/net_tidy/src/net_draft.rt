@@ -59,16 +59,25 @@ fn number_after(number: u32, goes: bool) -> u32
     if goes { number } else { number + 1 }
 }
 
+/// The numbers of so many inputs, which keep their own.
+fn input_numbers(alloc: Global, inputs: u32) -> Result<Vec<u32>, AllocError>
+    ensures count { IfOk result (λ numbers. length numbers.items ≡ inputs) }
+    ensures each { IfOk result (λ numbers. (s : ℕ) → s < inputs → number_at numbers.items s ≡ s) }
+{
+    let mut numbers = Vec::new(alloc);
+    for s in 0..inputs {
+        numbers.push(s)?;
+    }
+    Ok(numbers)
+}
+
 /// The numbers of the signals once the tables that have gone are left out.
 fn numbers_of(alloc: Global, inputs: u32, gone: &[bool]) -> Result<Vec<u32>, AllocError>
     requires { inputs + length gone.now < 2 ^ 31 }
     ensures { IfOk result (λ numbers. (s : ℕ) → s < inputs + length gone.now
         → number_at numbers.items s ≡ rank (signals_gone inputs gone.now) s) }
 {
-    let mut numbers = Vec::new(alloc);
-    for s in 0..inputs {
-        numbers.push(s)?;
-    }
+    let mut numbers = input_numbers(alloc, inputs)?;
     let mut next = inputs;
     for i in 0..gone.len() {
         numbers.push(next)?;

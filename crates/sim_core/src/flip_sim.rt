@@ -86,8 +86,7 @@ impl FlipSim {
         ensures simulation { IsNetSimulation net.now patterns.now.vectors self.new }
         ensures flipped { self.new.flipped ≡ self.old.flipped }
     {
-        // A net is sound by its type: the call brings that fact here.
-        let _ = net.tables();
+        net.see_sound();
         self.outputs.copy_from_slice(net.output_signals());
         self.marks.fill(true);
         set_input_rows(&mut self.rows, patterns);

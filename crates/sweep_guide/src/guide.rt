@@ -24,6 +24,19 @@ fn order_of(alloc: Global, net: &Net) -> Result<SignalList, AllocError> {
     Ok(order)
 }
 
+/// The first input of each key.
+fn first_inputs(
+    alloc: Global,
+    net: &Net,
+    signatures: &Signatures,
+) -> Result<HashMap<u64, Signal>, AllocError> {
+    let mut firsts = HashMap::new(alloc);
+    for input in 0..net.inputs() {
+        let _first = signatures.pair(&mut firsts, input)?;
+    }
+    Ok(firsts)
+}
+
 /// The tables' signals that may be equal to an earlier one, in their order: the first of those that have the same key.
 fn candidates_of(
     alloc: Global,
@@ -31,11 +44,8 @@ fn candidates_of(
     order: &[Signal],
 ) -> Result<Items<Candidate>, AllocError> {
     let signatures = Signatures::of(alloc, net)?;
-    let mut firsts = HashMap::new(alloc);
+    let mut firsts = first_inputs(alloc, net, &signatures)?;
     let mut candidates = Items::new(alloc);
-    for input in 0..net.inputs() {
-        let _first = signatures.pair(&mut firsts, input)?;
-    }
     for signal in order {
         if let Some(candidate) = signatures.pair(&mut firsts, *signal)? {
             candidates.push(candidate)?;

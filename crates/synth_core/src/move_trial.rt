@@ -83,8 +83,7 @@ pub(crate) fn try_move<P: Progress>(
     ensures trial { IfOk result
         (IsTrial terms.metric nets.now.exact terms.bound terms.limit nets.now.approx step scratch.new) }
 {
-    // A net is sound by its type: the call brings that fact here.
-    let _ = nets.approx().inputs();
+    nets.approx().see_sound();
     let table = make(alloc, scratch, step)?;
     match judge(alloc, nets, held, decider, terms, scratch, progress)? {
         Margin::Over(x) => {

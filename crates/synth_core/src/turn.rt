@@ -44,8 +44,7 @@ pub(crate) fn take_turn<P: Progress>(
     ensures pool { IfOk result (λ _. IsPool net.now pool.new) }
     ensures turn { IfOk result (IsTurn terms.metric net.now terms.bound terms.limit member.now pool.new.vectors) }
 {
-    // A net is sound by its type: the call brings that fact here.
-    let _ = net.inputs();
+    net.see_sound();
     progress.reached(member.literals());
     let nets = Compared::new(net, member);
     let mut scratch = member.copy()?;

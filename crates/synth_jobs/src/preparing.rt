@@ -11,7 +11,6 @@ ghost use Rattle.synth_jobs.specs.Spent.{told_query};
 ghost use Rattle.synth_jobs.specs.Prepared.{bundle_of, AreFound, IsSearched, IsPrepared};
 
 use bundle_writing::bundle::{Bundle, Version};
-use bundle_writing::soundness::see_sound;
 use cnf_core::cnf::Cnf;
 use cnf_core::log::Log;
 use miter::level::miter_of;
@@ -122,7 +121,7 @@ fn search<S: Search, P: Progress>(
     requires limit { 1 ≤ aim.limit }
     ensures { IfOk result (IsSearched exact.now aim.metric aim.bound aim.limit) }
 {
-    see_sound(exact);
+    exact.see_sound();
     let Constraint {
         metric,
         bound,
@@ -148,8 +147,8 @@ fn goal_for(
     ensures exact_sound { IsSound exact.now }
     ensures approx_sound { IsSound found.now.shrunk.net }
 {
-    see_sound(exact);
-    see_sound(&found.shrunk.net);
+    exact.see_sound();
+    found.shrunk.net.see_sound();
     let nets = Compared::new(exact, &found.shrunk.net);
     miter_of(alloc, &nets, aim.metric, found.maximum)
 }

@@ -7,6 +7,6 @@ use net_errors::compared::Compared;
 pub(crate) fn see_comparable(nets: &Compared)
     ensures { AreComparable nets.now.exact nets.now.approx }
 {
-    let _ = nets.exact().inputs();
-    let _ = nets.approx().inputs();
+    nets.exact().see_sound();
+    nets.approx().see_sound();
 }

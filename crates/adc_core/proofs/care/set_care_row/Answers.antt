@@ -9,7 +9,7 @@ pub loop-k-preserved : goal.loop-k-preserved
 loop-k-preserved c =
     let old : c.copy_from_slice.new.self ≡ row_at c.args.blocks.now c.loop-k.k =
     c.copy_from_slice.ensures.after ∙ c.as_slice.ensures ∙ c.index-blocks-k.is ∙ get_or_default c.args.blocks.now c.loop-k.k c.index-blocks-k.result [] c.loop-k-test.true in
-    cared_more c.args.limit.now.metric c.args.net.now c.args.limit.now.level c.args.limit.now.count c.args.limit.now.outputs c.args.blocks.now c.tables.ensures.built.sound c.requires.same
+    cared_more c.args.limit.now.metric c.args.net.now c.args.limit.now.level c.args.limit.now.count c.args.limit.now.outputs c.args.blocks.now c.see_sound.ensures.sound c.requires.same
     c.args.t c.loop-k.row c.copy_from_slice.new.self c.flip_words.new.words c.loop-k.k c.exceeding_word.result c.loop-k-test.true
     (omega (arith, c.requires.row, c.loop-k.auto.row, c.loop-k-test.true)) old c.flip_words.ensures c.exceeding_word.ensures.word c.loop-k.invariant
 

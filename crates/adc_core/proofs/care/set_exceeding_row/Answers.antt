@@ -9,7 +9,7 @@ pub loop-k-preserved : goal.loop-k-preserved
 loop-k-preserved c =
     let words : c.as_slice.result.now ≡ row_at c.args.blocks.now c.loop-k.k =
     c.as_slice.ensures ∙ c.index-blocks-k.is ∙ get_or_default c.args.blocks.now c.loop-k.k c.index-blocks-k.result [] c.loop-k-test.true in
-    exceeding_more c.args.limit.now.metric c.args.net.now c.args.limit.now.level c.args.limit.now.count c.args.limit.now.outputs c.args.blocks.now c.tables.ensures.built.sound c.requires.same
+    exceeding_more c.args.limit.now.metric c.args.net.now c.args.limit.now.level c.args.limit.now.count c.args.limit.now.outputs c.args.blocks.now c.see_sound.ensures.sound c.requires.same
     c.loop-k.row c.as_slice.result.now c.loop-k.k c.exceeding_word.result c.loop-k-test.true (omega (arith, c.requires.row, c.loop-k.auto.row, c.loop-k-test.true)) words
     c.exceeding_word.ensures.word c.loop-k.invariant
 

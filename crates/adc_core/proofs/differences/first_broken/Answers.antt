@@ -9,7 +9,7 @@ use Rattle.adc_core.proofs.differences.first_broken.Goals as goal
 pub returns-in-Some : goal.returns-in-Some
 returns-in-Some c =
     let N = c.args.net.now in
-    let sound = c.tables.ensures.built.sound in
+    let sound = c.see_sound.ensures.sound in
     let is : IsMoveOf c.args.net.now c.args.step = move_is c.args.net.now sound.acyclic c.args.step c.requires.step in
     let words : c.as_slice.result.now ≡ row_at c.args.blocks.now c.loop-k.k =
     c.as_slice.ensures ∙ c.index-blocks-k.is ∙ get_or_default c.args.blocks.now c.loop-k.k c.index-blocks-k.result [] c.loop-k-test.true in
@@ -21,7 +21,7 @@ returns-in-Some c =
 pub loop-k-preserved : goal.loop-k-preserved
 loop-k-preserved c =
     let N = c.args.net.now in
-    let sound = c.tables.ensures.built.sound in
+    let sound = c.see_sound.ensures.sound in
     let is : IsMoveOf c.args.net.now c.args.step = move_is c.args.net.now sound.acyclic c.args.step c.requires.step in
     let words : c.as_slice.result.now ≡ row_at c.args.blocks.now c.loop-k.k =
     c.as_slice.ensures ∙ c.index-blocks-k.is ∙ get_or_default c.args.blocks.now c.loop-k.k c.index-blocks-k.result [] c.loop-k-test.true in

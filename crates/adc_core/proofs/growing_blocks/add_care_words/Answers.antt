@@ -13,7 +13,7 @@ loop-k-preserved c =
     let j = c.args.judged.now in
     let k : ℕ = c.loop-k.k in
     let low : k < length c.args.blocks.now = omega (arith, c.loop-k-test.true, c.requires.within) in
-    let sound = subst IsSound c.approx-net.ensures.value c.tables.ensures.built.sound in
+    let sound = subst IsSound c.approx-net.ensures.value c.see_sound.ensures.sound in
     let flipped = subst (λ (N : NetValue). (b : ℕ) (x : List Bool) → b < 64 → HasValues N c.copy_from_slice.new.self b x → HasFlippedValues N c.args.t c.flip_words.new.words b x)
     c.approx-net.ensures.value c.flip_words.ensures in (
       omega (arith, ap length c.in_ok-push.ensures.ok, length_push c.loop-k.row c.over_bound-cared.result, c.loop-k.invariant.0),

@@ -11,7 +11,7 @@ returns c =
     let vectors = c.args.patterns.now.vectors in
     let values = subst (λ (N : NetValue). IsBlock N c.args.patterns.now.vectors c.args.k c.in_ok-words.words) c.approx-net.ensures.value c.in_ok-words.ensures in
     let outputs = subst (λ (N : NetValue). IsOutputBlock N c.args.patterns.now.vectors c.args.k c.in_ok-outputs.outputs) c.exact.ensures.value c.in_ok-outputs.ensures in
-    let sound = subst IsSound c.approx-net.ensures.value c.tables.ensures.built.sound in
+    let sound = subst IsSound c.approx-net.ensures.value c.see_sound.ensures.sound in
     record {
       values = values;
       outputs = outputs;

@@ -1,14 +1,6 @@
 use Rattle.std.proofs.Common.{◌-◌, length, []}
-use Rattle.std.specs.List.{range_with_len}
 use Rattle.net_core.specs.Sorting.{IsSorting, IsSettled}
 use Rattle.net_core.proofs.order.settle.Given as goal
-
--- the tables from table i on are in hand
-abbrev pub invariant-loop-i : goal.invariant-loop-i
-invariant-loop-i l = record {
-  sorting : IsSorting l.inputs l.tables l.sorting;
-  settled : IsSettled l.inputs l.tables l.sorting 0 (range_with_len l.i (l.count - l.i));
-}
 
 -- nothing waits for the members before the next
 abbrev pub invariant-loop-head : goal.invariant-loop-head

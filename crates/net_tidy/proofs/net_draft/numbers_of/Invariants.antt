@@ -2,12 +2,6 @@ use Rattle.std.proofs.Common.{◌≡◌, ◌+◌, ℕ, ◌<◌, ◌≤◌, lengt
 use Rattle.net_tidy.specs.Places.{rank, signals_gone, number_at}
 use Rattle.net_tidy.proofs.net_draft.numbers_of.Given as goal
 
-abbrev pub invariant-loop-s : goal.invariant-loop-s
-invariant-loop-s l = record {
-  count : length l.numbers.items ≡ l.s;
-  each : (s : ℕ) → s < l.s → number_at l.numbers.items s ≡ s;
-}
-
 abbrev pub invariant-loop-i : goal.invariant-loop-i
 invariant-loop-i l = record {
   count : length l.numbers.items ≡ l.inputs + l.i;

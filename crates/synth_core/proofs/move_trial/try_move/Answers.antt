@@ -13,7 +13,7 @@ pub judge-requires-clause-candidate : goal.judge-requires-clause-candidate
 judge-requires-clause-candidate g c =
     let nets = c.args.nets.now in
     moved-candidate nets.exact nets.approx c.args.step c.make.new.net (c.in_ok-table.ensures.ok ∙ ap (λ N. moved N c.args.step) c.requires.scratch)
-    (subst IsSound c.approx.ensures.value c.inputs.ensures.built.sound) c.requires.step c.approx.ensures.candidate
+    (subst IsSound c.approx.ensures.value c.see_sound.ensures.sound) c.requires.step c.approx.ensures.candidate
 
 pub judge-requires-clause-known : goal.judge-requires-clause-known
 judge-requires-clause-known g c =
@@ -24,7 +24,7 @@ judge-requires-clause-known g c =
 pub take_back-requires : goal.take_back-requires
 take_back-requires g c = (
   c.args.nets.now.approx,
-  made_in c.args.nets.now.approx c.args.scratch.now c.make.new.net c.args.step c.in_ok-table.table c.requires.scratch (subst IsSound c.approx.ensures.value c.inputs.ensures.built.sound)
+  made_in c.args.nets.now.approx c.args.scratch.now c.make.new.net c.args.step c.in_ok-table.table c.requires.scratch (subst IsSound c.approx.ensures.value c.see_sound.ensures.sound)
       c.requires.step c.in_ok-table.ensures.ok c.in_ok-table.ensures.taken,
 )
 
@@ -35,5 +35,5 @@ returns-in_ok-take_back-in-Over-clause-trial g c =
       over = subst (λ M. IsFoundOver c.args.terms.metric c.args.nets.now.exact c.args.terms.bound M c.in-Over.x) made (rw c.in-Over.is at c.in_ok-x.ensures.judged);
       back = c.in_ok-take_back-in-Over.ensures.ok c.args.nets.now.approx
           (made_in c.args.nets.now.approx c.args.scratch.now c.make.new.net c.args.step c.in_ok-table.table c.requires.scratch
-          (subst IsSound c.approx.ensures.value c.inputs.ensures.built.sound) c.requires.step c.in_ok-table.ensures.ok c.in_ok-table.ensures.taken);
+          (subst IsSound c.approx.ensures.value c.see_sound.ensures.sound) c.requires.step c.in_ok-table.ensures.ok c.in_ok-table.ensures.taken);
     }

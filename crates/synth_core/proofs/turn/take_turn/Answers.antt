@@ -9,14 +9,14 @@ use Rattle.synth_core.proofs.turn.take_turn.Goals as goal
 
 pub literals-requires : goal.literals-requires
 literals-requires g c =
-    let sound = c.inputs.ensures.built.sound in
+    let sound = c.see_sound.ensures.sound in
     let N = c.args.member.now in
     let small = simplified-small c.args.terms.metric c.args.net.now c.args.terms.bound sound N c.requires.ready.small c.requires.member in
     omega (arith, literals_at_most N small (simplified c.args.terms.metric c.args.net.now c.args.terms.bound sound N c.requires.member).sound.tables_formed)
 
 pub new-nets-requires : goal.new-nets-requires
 new-nets-requires g c = record {
-  ports = (simplified c.args.terms.metric c.args.net.now c.args.terms.bound c.inputs.ensures.built.sound c.args.member.now c.requires.member).ports;
+  ports = (simplified c.args.terms.metric c.args.net.now c.args.terms.bound c.see_sound.ensures.sound c.args.member.now c.requires.member).ports;
   few_outputs = c.requires.ready.few_outputs;
 }
 
@@ -29,13 +29,13 @@ find_step-requires-clause-decider g c = c.requires.ready.decider ∙ sym (ap (λ
 pub find_step-requires-clause-small : goal.find_step-requires-clause-small
 find_step-requires-clause-small g c =
     subst (λ P. IsSmall P.approx) (sym c.new-nets.ensures)
-    (simplified-small c.args.terms.metric c.args.net.now c.args.terms.bound c.inputs.ensures.built.sound c.args.member.now c.requires.ready.small c.requires.member)
+    (simplified-small c.args.terms.metric c.args.net.now c.args.terms.bound c.see_sound.ensures.sound c.args.member.now c.requires.ready.small c.requires.member)
 
 pub returns-in_ok-tidy-in-Moved-clause-turn : goal.returns-in_ok-tidy-in-Moved-clause-turn
 returns-in_ok-tidy-in-Moved-clause-turn g c =
     let told = subst (λ P. IsStep c.args.terms.metric P.exact c.args.terms.bound c.args.terms.limit P.approx c.find_step.new.pool.vectors c.find_step.new.scratch c.in_ok-find_step.field-0)
     c.new-nets.ensures c.in_ok-find_step.ensures.step in
-    next-member c.args.terms.metric c.args.net.now c.args.terms.bound c.args.member.now c.find_step.new.scratch c.in_ok-tidy-in-Moved.field-0 c.inputs.ensures.built.sound c.requires.member
+    next-member c.args.terms.metric c.args.net.now c.args.terms.bound c.args.member.now c.find_step.new.scratch c.in_ok-tidy-in-Moved.field-0 c.see_sound.ensures.sound c.requires.member
     (rw c.in-Moved.is at told) c.in_ok-tidy-in-Moved.ensures
 
 pub returns-in-End-clause-turn : goal.returns-in-End-clause-turn

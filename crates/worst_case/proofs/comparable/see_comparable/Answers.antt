@@ -5,5 +5,5 @@ use Rattle.worst_case.proofs.comparable.see_comparable.Goals as goal
 
 pub returns : goal.returns
 returns c =
-    comparable c.args.nets.now.exact c.args.nets.now.approx (subst IsSound c.exact.ensures.value c.inputs.ensures.built.sound)
-    (subst IsSound c.approx.ensures.value c.inputs-2.ensures.built.sound) c.exact.ensures.candidate.ports
+    comparable c.args.nets.now.exact c.args.nets.now.approx (subst IsSound c.exact.ensures.value c.see_sound.ensures.sound)
+    (subst IsSound c.approx.ensures.value c.see_sound-2.ensures.sound) c.exact.ensures.candidate.ports

@@ -19,7 +19,7 @@ pub index_mut-requires : goal.index_mut-requires
 index_mut-requires c =
     let N : NetValue = c.self.inside.judged.nets.approx in
     let step = subst (λ (M : NetValue). Contains (moves_of M) c.args.step) (sym (ap (λ (m : GrowingValue). m.net) c.self.view_is)) c.requires in
-    let sound : IsSound N = subst IsSound c.approx.ensures.value c.tables.ensures.built.sound in
+    let sound : IsSound N = subst IsSound c.approx.ensures.value c.see_sound.ensures.sound in
     let is : IsMoveOf N c.args.step = move_is N sound.acyclic c.args.step step in
     omega (arith, c.table_of.ensures, move-within N c.args.step is, c.self.invariant.tables, c.self.inside.care.ok.0)
 
@@ -27,7 +27,7 @@ pub first_broken-requires-clause-few : goal.first_broken-requires-clause-few
 first_broken-requires-clause-few c =
     let N : NetValue = c.self.inside.judged.nets.approx in
     let step = subst (λ (M : NetValue). Contains (moves_of M) c.args.step) (sym (ap (λ (m : GrowingValue). m.net) c.self.view_is)) c.requires in
-    let sound : IsSound N = subst IsSound c.approx.ensures.value c.tables.ensures.built.sound in
+    let sound : IsSound N = subst IsSound c.approx.ensures.value c.see_sound.ensures.sound in
     let is : IsMoveOf N c.args.step = move_is N sound.acyclic c.args.step step in
     let within : c.table_of.result < table_count N = omega (arith, c.table_of.ensures, move-within N c.args.step is) in
     let row : c.index_mut.result.now ≡ row_at c.self.inside.care.items c.table_of.result =
@@ -38,7 +38,7 @@ pub invariant_of-self : goal.invariant_of-self
 invariant_of-self c =
     let N : NetValue = c.self.inside.judged.nets.approx in
     let step = subst (λ (M : NetValue). Contains (moves_of M) c.args.step) (sym (ap (λ (m : GrowingValue). m.net) c.self.view_is)) c.requires in
-    let sound : IsSound N = subst IsSound c.approx.ensures.value c.tables.ensures.built.sound in
+    let sound : IsSound N = subst IsSound c.approx.ensures.value c.see_sound.ensures.sound in
     let is : IsMoveOf N c.args.step = move_is N sound.acyclic c.args.step step in
     let within : c.table_of.result < table_count N = omega (arith, c.table_of.ensures, move-within N c.args.step is) in
     let row : c.index_mut.result.now ≡ row_at c.self.inside.care.items c.table_of.result =
@@ -57,7 +57,7 @@ pub returns-clause-broken : goal.returns-clause-broken
 returns-clause-broken c =
     let N : NetValue = c.self.inside.judged.nets.approx in
     let step = subst (λ (M : NetValue). Contains (moves_of M) c.args.step) (sym (ap (λ (m : GrowingValue). m.net) c.self.view_is)) c.requires in
-    let sound : IsSound N = subst IsSound c.approx.ensures.value c.tables.ensures.built.sound in
+    let sound : IsSound N = subst IsSound c.approx.ensures.value c.see_sound.ensures.sound in
     let is : IsMoveOf N c.args.step = move_is N sound.acyclic c.args.step step in
     let within : c.table_of.result < table_count N = omega (arith, c.table_of.ensures, move-within N c.args.step is) in
     let row : c.index_mut.result.now ≡ row_at c.self.inside.care.items c.table_of.result =

@@ -39,7 +39,7 @@ invariant_of-self c =
     ∙ c.cut_rows.ensures ∙ ap (map (take (c.self.inside.count / 64))) c.deref_mut.ensures.value in
     subst (λ (r : List (List ℕ)). AreGrowing c.self.inside.judged c.count-self-inside.result c.add_blocks.new.blocks.items r c.self.inside.room) (sym rows)
     (growing_grown j c.count-self-inside.result (c.self.inside.count / 64) old new c.add_blocks.new.blocks.items c.self.inside.care.items c.self.inside.room
-    (subst IsSound c.approx.ensures.value c.tables.ensures.built.sound) c.count-self-inside.ensures.value c.count-self-inside.type_inv c.in-Ok.ensures.count c.in-Ok.ensures.known
+    (subst IsSound c.approx.ensures.value c.see_sound.ensures.sound) c.count-self-inside.ensures.value c.count-self-inside.type_inv c.in-Ok.ensures.count c.in-Ok.ensures.known
     (subst (λ (n : ℕ). AllByRecursion (λ (x : List Bool). length x ≡ n) c.args.patterns.now.vectors) inputs c.count-self-inside.ensures.formed.widths)
     front (ap (λ n. n / 64) (sym long)) c.self.invariant.tables c.self.invariant.care c.self.invariant.room)
 
@@ -61,6 +61,6 @@ returns-in-Ok-clause-ok c =
     let inputs = c.requires.inputs ∙ ap (λ (m : GrowingValue). input_count m.exact) (sym c.self.view_is)
     ∙ sym (same_inputs c.self.inside.judged.nets.exact c.self.inside.judged.nets.approx c.approx.ensures.candidate.ports) in
     grown_view c.args.self.now j old (vectors_in_blocks (input_count c.self.inside.judged.nets.approx) c.count-self-inside.result c.add_blocks.new.blocks.items) new c.self.view_is
-    (vectors_are_back j new c.count-self-inside.result c.add_blocks.new.blocks.items (subst IsSound c.approx.ensures.value c.tables.ensures.built.sound) c.count-self-inside.ensures.value
+    (vectors_are_back j new c.count-self-inside.result c.add_blocks.new.blocks.items (subst IsSound c.approx.ensures.value c.see_sound.ensures.sound) c.count-self-inside.ensures.value
     (c.in-Ok.ensures.count ∙ ap word_count (sym c.count-self-inside.ensures.value)) c.in-Ok.ensures.known
     (subst (λ (n : ℕ). AllByRecursion (λ (x : List Bool). length x ≡ n) c.args.patterns.now.vectors) inputs c.count-self-inside.ensures.formed.widths))
