@@ -1,4 +1,4 @@
-use Rattle.std.proofs.Common.{◌≡◌, length, true, ap, refl, sym, ◌∙◌, arith}
+use Rattle.std.proofs.Common.{length, true, ap, refl, sym, ◌∙◌, arith}
 use Rattle.std.proofs.lemmas.List.{length-append}
 use Rattle.net_tidy.proofs.Ranks.{rank_at, rank_input, number_by, numbers_more}
 use Rattle.net_tidy.proofs.net_draft.numbers_of.Goals as goal
