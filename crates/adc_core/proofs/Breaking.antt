@@ -1,9 +1,9 @@
 -- Where a move changes its table's value, and where it breaks the bound, bit by bit.
-use Rattle.std.proofs.Common.{◌≡◌, ◌≢◌, ◌↔◌, ◌⊎◌, ℕ, ◌+◌, ◌-◌, ◌*◌, ◌^◌, ◌<◌, ◌≤◌, Bool, true, false, not, ◌&&◌, ◌||◌, ltb, List, length, get_or, set, IsTrue, All, w64, refl, ap, sym, subst, ◌∙◌, inl, inr, arith, get_or-set_same, get_or-set_other}
+use Rattle.std.proofs.Common.{◌≡◌, ◌≢◌, ◌↔◌, ◌⊎◌, ℕ, ◌+◌, ◌-◌, ◌*◌, ◌^◌, ◌<◌, ◌≤◌, Bool, true, false, not, ◌&&◌, ◌||◌, if◌then◌else◌, ltb, List, [], ◌∷◌, length, get_or, set, IsTrue, All, w64, refl, ap, sym, subst, ◌∙◌, inl, inr, arith, get_or-set_same, get_or-set_other}
 use Rattle.std.specs.Prelude.{bit_and, bit_or, bit_xor, ◌==◌}
-use Rattle.std.specs.Int.{bit_not, trailing_zeros}
-use Rattle.std.proofs.lemmas.Bool.{cases_eq, cases_lt, and_parts, and_from, or_cases, or_left, or_right, not-true, not_from_false, false_from_ne_true, lt-ltb, le-ltb, ltb-true}
-use Rattle.std.proofs.lemmas.Nat.Bits.{bit_at_ones, bit_at_ones_above, bit_at-trailing_zeros}
+use Rattle.std.specs.Int.{bit_not}
+use Rattle.std.proofs.lemmas.Bool.{cases_eq, cases_lt, and_parts, and_from, lt-ltb, le-ltb, ltb-true}
+use Rattle.std.proofs.lemmas.Nat.Bits.{bit_at_ones, bit_at_ones_above}
 use Rattle.std.proofs.lemmas.List.Elements.{All-weaker, recursion_from_All}
 use Rattle.semantics.specs.Net.{TableValue, NetValue, table_at, input_count, signal_count, IsSound}
 use Rattle.semantics.specs.Value.{table_value, value_of}
@@ -15,7 +15,7 @@ use Rattle.chain_semantics.specs.Care.{IsCaredFor, Exceeds, moved_value, Changes
 use Rattle.chain_semantics.specs.MoveLaws.{IsMoveOf}
 use Rattle.chain_semantics.proofs.MovedNets.{move-within, moved-pins}
 use Rattle.chain_semantics.proofs.MovedFlips.{move-broken}
-use Rattle.lane_bits.specs.Rows.{row_bit, turned, word_count}
+use Rattle.lane_bits.specs.Rows.{row_bit, turned, word_count, HasNoneSet, IsFirstSet}
 use Rattle.lane_bits.proofs.Bits.{and_bit, or_bit, xor_bit}
 use Rattle.lane_nets.specs.Words.{word_bit, values_at, HasValues}
 use Rattle.lane_nets.specs.Blocks.{vector_at, row_at, IsRowWhere, AreBlocksOf, IsWordWhere}
@@ -59,12 +59,6 @@ used_low count k b left low is some =
 pub used_all : (count k b : ℕ) → b < 64 → 64 ≤ count - 64 * k → word_bit (2 ^ 64 - 1) b ≡ ltb (64 * k + b) count
 used_all count k b low full = ones_bit b low ∙ sym (lt-ltb (64 * k + b) count (omega arith))
 
-pub lowest_is : (word : ℕ) → 0 < word → word < 2 ^ 64
-    → (trailing_zeros w64 word < 64) × (word_bit word (trailing_zeros w64 word) ≡ true) × ((b : ℕ) → b < trailing_zeros w64 word → word_bit word b ≡ false)
-lowest_is word some fits =
-    let h = bit_at-trailing_zeros w64 word some fits in
-    (h.0, ap (λ n. n == 1) h.1, λ b low. ap (λ n. n == 1) (h.2 b low))
-
 -- one more word of the patterns at which a move changes its table's value
 pub changes_more : (N : NetValue) (m : Move) (blocks : List (List ℕ)) (count k : ℕ) (words row : List ℕ) (differs used : ℕ) → k < length blocks → words ≡ row_at blocks k → k < length row
     → ((b : ℕ) (x : List Bool) → b < 64 → HasValues N words b x → IsTrue (word_bit differs b) ↔ Changes N m x) → ((b : ℕ) → b < 64 → word_bit used b ≡ ltb (64 * k + b) count)
@@ -95,25 +89,39 @@ changes_all N m blocks count k row room whole past each vectors long are =
 abbrev pub TellsBroken : NetValue → Move → List Bool → Bool → Bool → Bool → Type 0
 TellsBroken N m x care exceeds bit = IsTrue bit ↔ ((Changes N m x × IsTrue care) ⊎ ((¬ Changes N m x) × IsTrue exceeds))
 
-pub broken_bits : (N : NetValue) (m : Move) (x : List Bool) (differs care exceeds b : ℕ) → differs < 2 ^ 64 → b < 64 → IsTrue (word_bit differs b) ↔ Changes N m x
-    → TellsBroken N m x (word_bit care b) (word_bit exceeds b) (word_bit (bit_or (bit_and differs care) (bit_and exceeds (bit_not w64 differs))) b)
-broken_bits N m x differs care exceeds b fits inside iff =
-    let c : Bool = word_bit care b in
-    let e : Bool = word_bit exceeds b in
-    let d : Bool = word_bit differs b in
-    let whole : word_bit (bit_or (bit_and differs care) (bit_and exceeds (bit_not w64 differs))) b ≡ ((d && c) || (e && not d)) =
+-- one of two bits, by a third
+pub chosen_bit : (differs care exceeds b : ℕ) → differs < 2 ^ 64 → b < 64
+    → word_bit (bit_or (bit_and differs care) (bit_and exceeds (bit_not w64 differs))) b ≡ (if word_bit differs b then word_bit care b else word_bit exceeds b)
+chosen_bit differs care exceeds b fits inside =
     or_bit (bit_and differs care) (bit_and exceeds (bit_not w64 differs)) b
-    ∙ (λ j. and_bit differs care b j || (and_bit exceeds (bit_not w64 differs) b ∙ ap (λ y. e && y) (not_bit differs b fits inside)) j) in (
-      λ set. elim (or_cases (d && c) (e && not d) (sym whole ∙ set)) [
-        | inl both ↦ (let parts = and_parts d c both in inl (iff.0 parts.0, parts.1))
-        | inr both ↦
-            let parts = and_parts e (not d) both in
-            let clear : d ≡ false = not-true d parts.1 in
-            inr ((λ changes. (let set' : d ≡ true = iff.1 changes in cc)), parts.0)
-      ],
-      λ h. whole ∙ elim h [
-        | inl changed ↦ or_left (d && c) (e && not d) (and_from d c (iff.1 changed.0) changed.1)
-        | inr left ↦ or_right (d && c) (e && not d) (and_from e (not d) left.1 (not_from_false d (false_from_ne_true d (λ set. left.0 (iff.0 set)))))
+    ∙ (λ j. and_bit differs care b j || (and_bit exceeds (bit_not w64 differs) b ∙ ap (λ y. word_bit exceeds b && y) (not_bit differs b fits inside)) j)
+    ∙ chosen (word_bit differs b) (word_bit care b) (word_bit exceeds b)
+  where
+    chosen : (d c e : Bool) → ((d && c) || (e && not d)) ≡ (if d then c else e)
+    chosen true true true = refl
+    chosen true true false = refl
+    chosen true false true = refl
+    chosen true false false = refl
+    chosen false true true = refl
+    chosen false true false = refl
+    chosen false false true = refl
+    chosen false false false = refl
+
+pub broken_bits : (N : NetValue) (m : Move) (x : List Bool) (differs care exceeds bit : Bool) → IsTrue differs ↔ Changes N m x → bit ≡ (if differs then care else exceeds)
+    → TellsBroken N m x care exceeds bit
+broken_bits N m x true care exceeds bit iff is = (
+  λ set. inl (iff.0 refl, sym is ∙ set),
+  λ h. is ∙ elim h [
+    | inl changed ↦ changed.1
+    | inr left ↦ absurd (left.0 (iff.0 refl))
+  ],
+)
+broken_bits N m x false care exceeds bit iff is =
+    let stays : ¬ Changes N m x = λ changes. (let set : false ≡ true = iff.1 changes in cc) in (
+      λ set. inr (stays, sym is ∙ set),
+      λ h. is ∙ elim h [
+        | inl changed ↦ absurd (stays changed.0)
+        | inr left ↦ left.1
       ],
     )
 
@@ -130,6 +138,12 @@ broken_nowhere N m x care exceeds b no_care none =
       ],
     )
 
+-- a row of one word
+only_word : (word b : ℕ) → b < 64 → row_bit (word ∷ []) b ≡ word_bit word b
+only_word word b low =
+    let place : b ≡ 64 * 0 + b = omega arith in
+    ap (row_bit (word ∷ [])) place ∙ row_bit-word (word ∷ []) 0 b low
+
 module _ (metric : Metric) (E N : NetValue) (bound : ℕ) (m : Move) (vectors : List (List Bool)) where
   abbrev Broken : ℕ → Type 0
   Broken p = IsBrokenAt metric E bound N m (vector_at vectors p)
@@ -137,10 +151,10 @@ module _ (metric : Metric) (E N : NetValue) (bound : ℕ) (m : Move) (vectors : 
   -- the first bit of a block behind blocks that break nowhere
   pub broken_first : (k word t p : ℕ) → p ≡ 64 * k + t
       → ((b : ℕ) → b < 64 → (word_bit word b ≡ true) ↔ ((64 * k + b < length vectors) × IsBrokenAt metric E bound N m (vector_at vectors (64 * k + b))))
-      → (t < 64) × (word_bit word t ≡ true) × ((b : ℕ) → b < t → word_bit word b ≡ false)
+      → IsFirstSet (word ∷ []) 64 t
       → ((q : ℕ) → q < 64 * k → q < length vectors → ¬ IsBrokenAt metric E bound N m (vector_at vectors q)) → IsFirstBroken metric E bound N vectors m p
   broken_first k word t p at bits first before =
-      let here = (bits t first.0).0 first.1 in
+      let here = (bits t first.within).0 (sym (only_word word t first.within) ∙ first.set) in
       record {
         within = omega (arith, here.0);
         broken = subst Broken (sym at) here.1;
@@ -150,8 +164,8 @@ module _ (metric : Metric) (E N : NetValue) (bound : ℕ) (m : Move) (vectors : 
               | inr new ↦
                   let b : ℕ = q - 64 * k in
                   let place : q ≡ 64 * k + b = omega arith in
-                  let set : word_bit word b ≡ true = (bits b (omega (arith, first.0))).1 (omega (arith, here.0), subst Broken place broken) in
-                  let clear : word_bit word b ≡ false = first.2 b (omega arith) in
+                  let set : word_bit word b ≡ true = (bits b (omega (arith, first.within))).1 (omega (arith, here.0), subst Broken place broken) in
+                  let clear : word_bit word b ≡ false = sym (only_word word b (omega (arith, first.within))) ∙ first.before b (omega arith) in
                   cc
             ];
       }
@@ -159,7 +173,7 @@ module _ (metric : Metric) (E N : NetValue) (bound : ℕ) (m : Move) (vectors : 
   -- a block without a bit
   pub broken_none : (k word : ℕ)
       → ((b : ℕ) → b < 64 → (word_bit word b ≡ true) ↔ ((64 * k + b < length vectors) × IsBrokenAt metric E bound N m (vector_at vectors (64 * k + b))))
-      → ((b : ℕ) → b < 64 → word_bit word b ≡ false)
+      → HasNoneSet (word ∷ []) 64
       → ((q : ℕ) → q < 64 * k → q < length vectors → ¬ IsBrokenAt metric E bound N m (vector_at vectors q))
       → (q : ℕ) → q < 64 * (k + 1) → q < length vectors → ¬ IsBrokenAt metric E bound N m (vector_at vectors q)
   broken_none k word bits none before q low within broken =
@@ -169,7 +183,7 @@ module _ (metric : Metric) (E N : NetValue) (bound : ℕ) (m : Move) (vectors : 
             let b : ℕ = q - 64 * k in
             let place : q ≡ 64 * k + b = omega arith in
             let set : word_bit word b ≡ true = (bits b (omega arith)).1 (omega arith, subst Broken place broken) in
-            let clear : word_bit word b ≡ false = none b (omega arith) in
+            let clear : word_bit word b ≡ false = sym (only_word word b (omega arith)) ∙ none b (omega arith) in
             cc
       ]
 

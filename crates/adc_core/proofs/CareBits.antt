@@ -37,18 +37,35 @@ abbrev pub TellsOver : Metric → NetValue → ℕ → ℕ → List (List ℕ) �
 TellsOver metric N level count outputs k words word =
     (b : ℕ) → b < 64 → IsTrue (word_bit word b) ↔ ((64 * k + b < count) × (level < error_of metric (lane_at (row_at outputs k) b) (map (values_at words b) N.outputs)))
 
-pub over_used : (metric : Metric) (N : NetValue) (level count k : ℕ) (outputs : List (List ℕ)) (words exact approx : List ℕ) (over used : ℕ) → exact ≡ row_at outputs k → approx ≡ output_words N words
-    → ((b : ℕ) → b < 64 → IsTrue (word_bit over b) ↔ (level < error_of metric (lane_at exact b) (lane_at approx b))) → ((b : ℕ) → b < 64 → word_bit used b ≡ ltb (64 * k + b) count)
-    → TellsOver metric N level count outputs k words (bit_and over used)
-over_used metric N level count k outputs words exact approx over used exact_is approx_is bits use_is b low =
-    let lanes : lane_at approx b ≡ map (values_at words b) N.outputs = outputs_lane N N words approx b refl approx_is in
-    let same : error_of metric (lane_at exact b) (lane_at approx b) ≡ error_of metric (lane_at (row_at outputs k) b) (map (values_at words b) N.outputs) =
-    (λ j. error_of metric (lane_at (exact_is j) b) (lanes j)) in
+-- where the error exceeds the level at the patterns that are used
+abbrev pub TellsOverUsed : Metric → NetValue → ℕ → List ℕ → List ℕ → ℕ → ℕ → Type 0
+TellsOverUsed metric N level words exact used word =
+    (b : ℕ) → b < 64 → IsTrue (word_bit word b) ↔ (IsTrue (word_bit used b) × (level < error_of metric (lane_at exact b) (map (values_at words b) N.outputs)))
+
+pub over_of_used : (metric : Metric) (N : NetValue) (level : ℕ) (words exact approx : List ℕ) (over used : ℕ) → approx ≡ output_words N words
+    → ((b : ℕ) → b < 64 → IsTrue (word_bit over b) ↔ (level < error_of metric (lane_at exact b) (lane_at approx b)))
+    → TellsOverUsed metric N level words exact used (bit_and over used)
+over_of_used metric N level words exact approx over used approx_is bits b low =
+    let same : error_of metric (lane_at exact b) (lane_at approx b) ≡ error_of metric (lane_at exact b) (map (values_at words b) N.outputs) =
+    ap (error_of metric (lane_at exact b)) (outputs_lane N N words approx b refl approx_is) in
     let iff = bits b low in (
       λ set.
           let parts = and_parts (word_bit over b) (word_bit used b) (sym (and_bit over used b) ∙ set) in
-          (omega (arith, ltb-true (64 * k + b) count (sym (use_is b low) ∙ parts.1)), omega (arith, same, iff.0 parts.0)),
-      λ h. and_bit over used b ∙ and_from (word_bit over b) (word_bit used b) (iff.1 (omega (arith, same, h.1))) (use_is b low ∙ lt-ltb (64 * k + b) count h.0),
+          (parts.1, omega (arith, same, iff.0 parts.0)),
+      λ h. and_bit over used b ∙ and_from (word_bit over b) (word_bit used b) (iff.1 (omega (arith, same, h.1))) h.0,
+    )
+
+-- among the patterns of a set those that are used are the first so many
+pub tells_over : (metric : Metric) (N : NetValue) (level count k : ℕ) (outputs : List (List ℕ)) (words exact : List ℕ) (word used : ℕ) → exact ≡ row_at outputs k
+    → TellsOverUsed metric N level words exact used word → ((b : ℕ) → b < 64 → word_bit used b ≡ ltb (64 * k + b) count) → TellsOver metric N level count outputs k words word
+tells_over metric N level count k outputs words exact word used exact_is bits use_is b low =
+    let same : error_of metric (lane_at exact b) (map (values_at words b) N.outputs) ≡ error_of metric (lane_at (row_at outputs k) b) (map (values_at words b) N.outputs) =
+    ap (λ l. error_of metric (lane_at l b) (map (values_at words b) N.outputs)) exact_is in
+    let iff = bits b low in (
+      λ set.
+          let parts = iff.0 set in
+          (omega (arith, ltb-true (64 * k + b) count (sym (use_is b low) ∙ parts.0)), omega (arith, same, parts.1)),
+      λ h. iff.1 (use_is b low ∙ lt-ltb (64 * k + b) count h.0, (let more = h.1 in omega (arith, same, more))),
     )
 
 pub outputs_from_flipped : (N : NetValue) (t : ℕ) (words : List ℕ) (b : ℕ) (x : List Bool) → IsSound N → HasFlippedValues N t words b x → map (values_at words b) N.outputs ≡ flipped_outputs N x t

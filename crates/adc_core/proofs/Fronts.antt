@@ -1,5 +1,5 @@
 -- Lists of patterns that begin with others.
-use Rattle.std.proofs.Common.{ℕ, Bool, List, [], ◌∷◌, ◌++◌, arith}
+use Rattle.std.proofs.Common.{Bool, List, [], ◌∷◌, ◌++◌, arith}
 use Rattle.std.proofs.lemmas.List.{get_or_append_left, length_push}
 use Rattle.adc_core.specs.Growing.{IsFrontOf}
 

@@ -1,10 +1,9 @@
 -- Blocks of patterns that are made one after another, and the words of what is cared for, as far as they are asked for.
-use Rattle.std.proofs.Common.{◌≡◌, ◌↔◌, ◌⊎◌, ℕ, ◌+◌, ◌*◌, ◌/◌, ◌%◌, ◌^◌, ◌<◌, ◌≤◌, Bool, true, false, zero, suc, ltb, List, [], ◌∷◌, ◌++◌, map, length, get_or, set, take, IsTrue, refl, ap, sym, subst, ◌∙◌, inl, inr, arith, get_or-set_same, get_or-set_other}
-use Rattle.std.specs.Prelude.{bit_and}
+use Rattle.std.proofs.Common.{◌≡◌, ◌↔◌, ℕ, ◌+◌, ◌*◌, ◌/◌, ◌^◌, ◌<◌, ◌≤◌, Bool, true, false, zero, suc, ltb, List, [], ◌∷◌, ◌++◌, map, length, get_or, set, take, IsTrue, refl, ap, sym, subst, ◌∙◌, inl, inr, arith, get_or-set_same, get_or-set_other}
 use Rattle.std.specs.List.{AllByRecursion}
-use Rattle.std.proofs.lemmas.Bool.{cases_eq, cases_lt, and_parts, and_from, lt-ltb, ltb-true}
+use Rattle.std.proofs.lemmas.Bool.{cases_eq, lt-ltb, ltb-true}
 use Rattle.std.proofs.lemmas.List.{get_or_push, get_or_append_left, length_push, get_or-take, length-take, length-map, length-set, get_or-map}
-use Rattle.semantics.specs.Net.{NetValue, input_count, table_count, signal_count, IsSound}
+use Rattle.semantics.specs.Net.{NetValue, input_count, table_count, IsSound}
 use Rattle.semantics.specs.Value.{outputs_of}
 use Rattle.semantics.specs.Error.{error_of}
 use Rattle.semantics.specs.declared.metric.Metric.{Metric}
@@ -14,41 +13,20 @@ use Rattle.chain_semantics.specs.Care.{IsCaredFor, Exceeds, Changes, IsBrokenAt}
 use Rattle.chain_semantics.specs.MoveLaws.{IsMoveOf}
 use Rattle.chain_semantics.proofs.MovedFlips.{move-broken}
 use Rattle.lane_bits.specs.Rows.{word_count}
-use Rattle.lane_bits.proofs.Bits.{and_bit}
 use Rattle.lane_nets.specs.Words.{word_bit, values_at, HasValues}
 use Rattle.lane_nets.specs.Blocks.{vector_at, row_at, IsBlock, AreBlocksOf, IsWordWhere}
-use Rattle.lane_nets.specs.Lanes.{lane_at, output_words, IsOutputBlock}
+use Rattle.lane_nets.specs.Lanes.{lane_at, IsOutputBlock}
 use Rattle.lane_nets.proofs.WordBits.{zero_bit}
-use Rattle.lane_nets.proofs.BlockErrors.{outputs_lane}
 use Rattle.adc_core.specs.Flips.{HasFlippedValues}
-use Rattle.adc_core.specs.Filled.{vectors_in}
-use Rattle.adc_core.specs.Growing.{GrowingValue, IsFrontOf, IsBlockOf, AreBlocksFor, FitBlocks, AreCareWords, FitsRoom, AreGrowing, vectors_in_blocks}
+use Rattle.adc_core.specs.Growing.{GrowingValue, IsFrontOf, IsBlockOf, AreBlocksFor, AreCareWords, FitsRoom, AreGrowing, vectors_in_blocks}
 use Rattle.adc_core.specs.declared.judged.Judged.{Judged}
 use Rattle.adc_core.specs.declared.growing_blocks.Block.{Block}
 use Rattle.adc_core.specs.declared.growing_blocks.Room.{Room}
 use Rattle.adc_core.proofs.Breaking.{TellsBroken}
-use Rattle.adc_core.proofs.CareBits.{cared_at, exceeds_at}
+use Rattle.adc_core.proofs.CareBits.{TellsOverUsed, cared_at, exceeds_at}
 use Rattle.adc_core.proofs.Filling.{vectors-back}
 
 -- ---- one word
-
--- where the error exceeds the level at the patterns that are used
-abbrev pub TellsOverUsed : Metric → NetValue → ℕ → List ℕ → List ℕ → ℕ → ℕ → Type 0
-TellsOverUsed metric N level words exact used word =
-    (b : ℕ) → b < 64 → IsTrue (word_bit word b) ↔ (IsTrue (word_bit used b) × (level < error_of metric (lane_at exact b) (map (values_at words b) N.outputs)))
-
-pub over_of_used : (metric : Metric) (N : NetValue) (level : ℕ) (words exact approx : List ℕ) (over used : ℕ) → approx ≡ output_words N words
-    → ((b : ℕ) → b < 64 → IsTrue (word_bit over b) ↔ (level < error_of metric (lane_at exact b) (lane_at approx b)))
-    → TellsOverUsed metric N level words exact used (bit_and over used)
-over_of_used metric N level words exact approx over used approx_is bits b low =
-    let same : error_of metric (lane_at exact b) (lane_at approx b) ≡ error_of metric (lane_at exact b) (map (values_at words b) N.outputs) =
-    ap (error_of metric (lane_at exact b)) (outputs_lane N N words approx b refl approx_is) in
-    let iff = bits b low in (
-      λ set.
-          let parts = and_parts (word_bit over b) (word_bit used b) (sym (and_bit over used b) ∙ set) in
-          (parts.1, omega (arith, same, iff.0 parts.0)),
-      λ h. and_bit over used b ∙ and_from (word_bit over b) (word_bit used b) (iff.1 (omega (arith, same, h.1))) h.0,
-    )
 
 module _ (metric : Metric) (E N : NetValue) (bound k count : ℕ) (vectors : List (List Bool)) (words outputs : List ℕ) (word used : ℕ) (long : length vectors ≡ count)
     (outputs_are : IsOutputBlock E vectors k outputs) (use_is : (b : ℕ) → b < 64 → word_bit used b ≡ ltb (64 * k + b) count)

@@ -1,11 +1,9 @@
 -- Masks over a list of patterns that grows. Source: SALSA's approximation don't-cares, over the vectors that broke moves.
-use Rattle.std.specs.Prelude.{◌≡◌, ℕ, ◌/◌, ◌%◌, ◌^◌, ◌<◌, ◌≤◌, Bool, List, [], map, length, slice_index, slice_index_or}
-use Rattle.std.specs.List.{range_with_len}
+use Rattle.std.specs.Prelude.{◌≡◌, ℕ, ◌^◌, ◌<◌, ◌≤◌, Bool, List, map, length, slice_index, slice_index_or}
 use Rattle.semantics.specs.Net.{NetValue, input_count, table_count, signal_count}
 use Rattle.semantics.specs.declared.metric.Metric.{Metric}
 use Rattle.chain_semantics.specs.Care.{IsCaredFor, Exceeds}
 use Rattle.lane_bits.specs.Rows.{word_count}
-use Rattle.lane_nets.specs.Words.{values_at}
 use Rattle.lane_nets.specs.Blocks.{vector_at, row_at, IsBlock, IsWordWhere}
 use Rattle.lane_nets.specs.Lanes.{IsOutputBlock}
 use Rattle.adc_core.specs.Filled.{vectors_in}

@@ -1,19 +1,16 @@
 //! Rows of bits that tell where the error exceeds the bound: with the net as it is, and with a table turned over.
-ghost use Rattle.std.specs.Prelude.{◌≡◌, ◌↔◌, ◌+◌, ◌*◌, ◌<◌, ◌≤◌, ℕ, Bool, List, map, length, IsTrue, IfOk};
+ghost use Rattle.std.specs.Prelude.{◌≡◌, ◌<◌, ◌≤◌, ℕ, Bool, List, length, IfOk};
 ghost use Rattle.semantics.specs.Net.{NetValue, signal_count, table_count};
-ghost use Rattle.semantics.specs.Error.{error_of};
 ghost use Rattle.chain_semantics.specs.Care.{IsCaredFor, Exceeds};
 ghost use Rattle.net_core.specs.Built.{IsBuilt};
-ghost use Rattle.lane_nets.specs.Words.{word_bit, values_at};
 ghost use Rattle.lane_nets.specs.Blocks.{row_at, IsRowWhere, AreBlocksOf};
-ghost use Rattle.lane_nets.specs.Lanes.{lane_at, AreOutputWordsOf};
+ghost use Rattle.lane_nets.specs.Lanes.{AreOutputWordsOf};
 ghost use Rattle.adc_core.specs.Filled.{FitsOutputs};
 ghost use Rattle.adc_core.specs.Flips.{AreLater};
 
 use crate::differences::used_word;
 use crate::flips::{flip_words, list_later};
-use lane_nets::lanes::over_word;
-use lane_nets::outputs::set_output_words;
+use crate::judged::over_bound;
 use lane_nets::word_list::WordList;
 use net_core::items::Items;
 use net_core::net::Net;
@@ -30,24 +27,6 @@ pub(crate) struct Limit {
     pub(crate) level: u128,
 }
 
-/// Where the error exceeds the level at the patterns of block k, in which the signals have these words. The words of the outputs are
-/// gathered on the stack.
-fn exceeding_word(net: &Net, words: &[u64], limit: &Limit, k: usize) -> u64
-    requires words { length words.now ≡ signal_count net.now }
-    requires few_outputs { length net.now.outputs ≤ MOST_OUTPUTS }
-    requires limit { FitsOutputs net.now limit.now.count limit.now.outputs }
-    requires within { k < length limit.now.outputs }
-    ensures word { (b : ℕ) → b < 64 → IsTrue (word_bit result b) ↔ ((64 * k + b < limit.now.count)
-        × (limit.now.level < error_of limit.now.metric (lane_at (row_at limit.now.outputs k) b) (map (values_at words.now b) net.now.outputs))) }
-    ensures built { IsBuilt net.now }
-{
-    let mut room = [0; MOST_OUTPUTS];
-    let outputs = &mut room[..net.outputs() as usize];
-    set_output_words(net, words, outputs);
-    let exact = limit.outputs.get(k).as_slice();
-    over_word(limit.metric, limit.level, exact, outputs) & used_word(limit.count, k)
-}
-
 /// Sets `row` to the patterns at which the net itself exceeds the level.
 fn set_exceeding_row(net: &Net, blocks: &[WordList], limit: &Limit, row: &mut [u64])
     requires few_outputs { length net.now.outputs ≤ MOST_OUTPUTS }
@@ -61,7 +40,10 @@ fn set_exceeding_row(net: &Net, blocks: &[WordList], limit: &Limit, row: &mut [u
 {
     net.see_sound();
     for k in 0..blocks.len() {
-        row[k] = exceeding_word(net, blocks[k].as_slice(), limit, k);
+        let words = blocks[k].as_slice();
+        let exact = limit.outputs.get(k).as_slice();
+        let used = used_word(limit.count, k);
+        row[k] = over_bound(net, limit.metric, limit.level, words, exact, used);
     }
 }
 
@@ -112,7 +94,9 @@ fn set_care_row(
     for k in 0..blocks.len() {
         words.copy_from_slice(blocks[k].as_slice());
         flip_words(net, t, later, words);
-        row[k] = exceeding_word(net, words, limit, k);
+        let exact = limit.outputs.get(k).as_slice();
+        let used = used_word(limit.count, k);
+        row[k] = over_bound(net, limit.metric, limit.level, words, exact, used);
     }
 }
 

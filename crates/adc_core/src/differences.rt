@@ -1,5 +1,5 @@
 //! At which patterns a move changes its table's value, and where that breaks the bound.
-ghost use Rattle.std.specs.Prelude.{◌≡◌, ◌↔◌, ◌⊎◌, ◌+◌, ◌*◌, ◌<◌, ◌≤◌, ◌^◌, ℕ, Bool, List, true, false, length, nat_lt, IsTrue, MatchOption, Contains};
+ghost use Rattle.std.specs.Prelude.{◌≡◌, ◌↔◌, ◌⊎◌, ◌+◌, ◌*◌, ◌<◌, ◌≤◌, ◌^◌, ℕ, Bool, List, length, nat_lt, IsTrue, if◌then◌else◌, Contains};
 ghost use Rattle.semantics.specs.Net.{NetValue, signal_count};
 ghost use Rattle.semantics.specs.declared.metric.Metric.{Metric};
 ghost use Rattle.chain_semantics.specs.Moves.{moves_of, table_of};
@@ -12,6 +12,7 @@ ghost use Rattle.adc_core.specs.Masks.{FindsFirstBroken};
 
 use crate::moved::moved_word;
 use chain_semantics::moves::Move;
+use lane_bits::kernels::first_set;
 use lane_nets::word_list::WordList;
 use net_core::net::Net;
 use net_moves::apply::table_of;
@@ -57,20 +58,16 @@ pub(crate) fn set_differences(
     }
 }
 
-/// The lowest bit that is 1.
-pub(crate) fn lowest_bit(word: u64) -> Option<u32>
-    ensures { MatchOption result ((b : ℕ) → b < 64 → word_bit word b ≡ false)
-        (λ t. (t < 64) × (word_bit word t ≡ true) × ((b : ℕ) → b < t → word_bit word b ≡ false)) }
+/// Where a move breaks the bound, in one block: where it changes its table's value and the pattern is cared for, or where it leaves
+/// the value and the net itself exceeds the bound.
+pub(crate) fn broken_word(differs: u64, care: u64, exceeds: u64) -> u64
+    ensures { (b : ℕ) → b < 64 → word_bit result b ≡ (if word_bit differs b then word_bit care b else word_bit exceeds b) }
 {
-    if word == 0 {
-        return None;
-    }
-    Some(word.trailing_zeros())
+    (differs & care) | (exceeds & !differs)
 }
 
-/// Where the move breaks the bound, in one block: where it changes its table's value and the pattern is cared for, or where it
-/// leaves the value and the net itself exceeds the bound.
-fn broken_word(net: &Net, step: Move, words: &[u64], care: u64, exceeds: u64) -> u64
+/// Where the move breaks the bound, in one block whose words are all known.
+fn known_broken_word(net: &Net, step: Move, words: &[u64], care: u64, exceeds: u64) -> u64
     requires step { Contains (moves_of net.now) step }
     requires room { length words.now ≡ signal_count net.now }
     ensures { (b : ℕ) (x : List Bool) → b < 64 → HasValues net.now words.now b x → IsTrue (word_bit result b)
@@ -80,8 +77,7 @@ fn broken_word(net: &Net, step: Move, words: &[u64], care: u64, exceeds: u64) ->
     if care == 0 && exceeds == 0 {
         return 0;
     }
-    let differs = difference_word(net, step, words);
-    (differs & care) | (exceeds & !differs)
+    broken_word(difference_word(net, step, words), care, exceeds)
 }
 
 /// The first pattern at which the move breaks the bound.
@@ -104,9 +100,9 @@ pub(crate) fn first_broken(
 {
     net.see_sound();
     for k in 0..blocks.len() {
-        let broken = broken_word(net, step, blocks[k].as_slice(), care[k], exceeds[k]);
-        if let Some(b) = lowest_bit(broken) {
-            return Some(64 * k as u64 + u64::from(b));
+        let broken = known_broken_word(net, step, blocks[k].as_slice(), care[k], exceeds[k]);
+        if let Some(b) = first_set(&[broken], 64) {
+            return Some(64 * k as u64 + b);
         }
     }
     None

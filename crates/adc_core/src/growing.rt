@@ -9,10 +9,11 @@ ghost use Rattle.lane_nets.specs.Blocks.{vector_at};
 ghost use Rattle.adc_core.specs.Masks.{FindsFirstBroken};
 ghost use Rattle.adc_core.specs.Growing.{IsFrontOf, AreBlocksFor, FitBlocks, AreCareWords, FitsRoom};
 
-use crate::differences::{difference_word, lowest_bit};
+use crate::differences::{broken_word, difference_word};
 use crate::growing_blocks::{Block, Room, add_blocks, reach_care_words};
 use crate::judged::Judged;
 use chain_semantics::moves::Move;
+use lane_bits::kernels::first_set;
 use lane_bits::patterns::Patterns;
 use lane_nets::word_list::WordList;
 use net_core::net::Net;
@@ -51,7 +52,7 @@ impl<'a> Model for GrowingMasks<'a> {
 }
 
 /// Where the move breaks the bound, in block k. The words of those that are cared for at its table are made where they are asked for.
-fn broken_word(
+fn reach_broken_word(
     judged: &Judged,
     step: Move,
     count: u64,
@@ -80,7 +81,7 @@ fn broken_word(
         return Ok(exceeds);
     }
     reach_care_words(judged, table_of(step), count, blocks, k + 1, room, row)?;
-    Ok((differs & row.as_slice()[k]) | (exceeds & !differs))
+    Ok(broken_word(differs, row.as_slice()[k], exceeds))
 }
 
 /// The first pattern at which the moved net exceeds the bound.
@@ -105,9 +106,9 @@ fn first_broken(
     ensures room { FitsRoom judged.now room.new }
 {
     for k in 0..blocks.len() {
-        let broken = broken_word(judged, step, count, blocks, k, room, row)?;
-        if let Some(b) = lowest_bit(broken) {
-            return Ok(Some(64 * k as u64 + u64::from(b)));
+        let broken = reach_broken_word(judged, step, count, blocks, k, room, row)?;
+        if let Some(b) = first_set(&[broken], 64) {
+            return Ok(Some(64 * k as u64 + b));
         }
     }
     Ok(None)

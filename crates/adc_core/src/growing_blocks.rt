@@ -46,7 +46,14 @@ fn block_of(
     let words = block(alloc, net, patterns, k)?;
     let outputs = output_block(alloc, judged.nets.exact(), patterns, k)?;
     let used = used_word(patterns.count(), k);
-    let exceeds = over_bound(judged, words.as_slice(), outputs.as_slice(), used);
+    let exceeds = over_bound(
+        net,
+        judged.metric,
+        judged.bound,
+        words.as_slice(),
+        outputs.as_slice(),
+        used,
+    );
     Ok(Block {
         words,
         outputs,
@@ -102,7 +109,8 @@ fn add_care_words(
         words.copy_from_slice(blocks[k].words.as_slice());
         flip_words(net, t, later, words);
         let outputs = blocks[k].outputs.as_slice();
-        let cared = over_bound(judged, words, outputs, used_word(count, k));
+        let used = used_word(count, k);
+        let cared = over_bound(net, judged.metric, judged.bound, words, outputs, used);
         row.push(cared)?;
     }
     Ok(())

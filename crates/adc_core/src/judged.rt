@@ -7,6 +7,7 @@ ghost use Rattle.lane_nets.specs.Lanes.{lane_at};
 
 use lane_nets::lanes::over_word;
 use lane_nets::outputs::set_output_words;
+use net_core::net::Net;
 use net_errors::compared::Compared;
 use semantics::limits::MOST_OUTPUTS;
 use semantics::metric::Metric;
@@ -19,17 +20,24 @@ pub(crate) struct Judged<'a> {
     pub(crate) bound: u128,
 }
 
-/// Where the error exceeds the bound at the patterns of a block that are used: the second net's signals have these words there, and the
-/// exact outputs those. The words of the outputs are gathered on the stack.
-pub(crate) fn over_bound(judged: &Judged, words: &[u64], exact: &[u64], used: u64) -> u64
-    requires words { length words.now ≡ signal_count judged.now.nets.approx }
-    requires exact { length exact.now ≡ length judged.now.nets.exact.outputs }
+/// Where the error exceeds the bound at the patterns of a block that are used: the net's signals have these words there, and the exact
+/// outputs those. The words of the outputs are gathered on the stack.
+pub(crate) fn over_bound(
+    net: &Net,
+    metric: Metric,
+    bound: u128,
+    words: &[u64],
+    exact: &[u64],
+    used: u64,
+) -> u64
+    requires few_outputs { length net.now.outputs ≤ MOST_OUTPUTS }
+    requires words { length words.now ≡ signal_count net.now }
+    requires exact { length exact.now ≡ length net.now.outputs }
     ensures { (b : ℕ) → b < 64 → IsTrue (word_bit result b) ↔ (IsTrue (word_bit used b)
-        × (judged.now.bound < error_of judged.now.metric (lane_at exact.now b) (map (values_at words.now b) judged.now.nets.approx.outputs))) }
+        × (bound < error_of metric (lane_at exact.now b) (map (values_at words.now b) net.now.outputs))) }
 {
     let mut room = [0; MOST_OUTPUTS];
-    let net = judged.nets.approx();
     let outputs = &mut room[..net.outputs() as usize];
     set_output_words(net, words, outputs);
-    over_word(judged.metric, judged.bound, exact, outputs) & used
+    over_word(metric, bound, exact, outputs) & used
 }

@@ -14,14 +14,13 @@ ghost use Rattle.bdd_levels.specs.Levels.{TellsLevel};
 ghost use Rattle.bdd_levels.specs.Subtraction.{IsPlaceOf, IsDifferenceOf, SaysExcess};
 
 use bus_nets::bus::Bus;
+use bus_nets::forms::XOR2;
 use bus_nets::word_net::WordNet;
 use net_core::net::Net;
 use net_parts::items::Signal;
 use net_parts::mark::Mark;
 use semantics::limits::MOST_OUTPUTS;
 use std::alloc::{AllocError, Global};
-
-const XOR: [[Mark; 2]; 2] = [[Mark::One, Mark::Zero], [Mark::Zero, Mark::One]];
 
 /// The second pin where the first is 1, and else the third.
 const CHOICE: [[Mark; 3]; 2] = [
@@ -44,8 +43,8 @@ fn subtract_place(
     ensures begins { BeginsWith net.new net.old }
     ensures is { IfOk result (λ r. IsPlaceOf net.new a b before r.0 r.1) }
 {
-    let differs = net.append_form([a, b], &XOR)?;
-    let bit = net.append_form([differs, before], &XOR)?;
+    let differs = net.append_form([a, b], &XOR2)?;
+    let bit = net.append_form([differs, before], &XOR2)?;
     let borrow = net.append_form([differs, b, before], &CHOICE)?;
     Ok((bit, borrow))
 }

@@ -12,16 +12,19 @@ use net_parts::row::Row;
 use net_parts::table::Table;
 use std::alloc::{AllocError, Global};
 
-/// The negation of a pin.
-pub const INV: [[Mark; 1]; 1] = [[Mark::Zero]];
+/// The opposite.
+pub(crate) const INV: [[Mark; 1]; 1] = [[Mark::Zero]];
 
-/// The disjunction of two pins.
-pub const OR2: [[Mark; 2]; 2] = [[Mark::One, Mark::Dash], [Mark::Dash, Mark::One]];
+/// Whether one of two bits is 1.
+pub(crate) const OR2: [[Mark; 2]; 2] = [[Mark::One, Mark::Dash], [Mark::Dash, Mark::One]];
 
-/// Whether one pin of two is true: the sum of a half adder.
+/// Whether both bits are 1: the carry of a half adder.
+pub const AND2: [[Mark; 2]; 1] = [[Mark::One, Mark::One]];
+
+/// Whether two bits differ: the sum's bit of a half adder.
 pub const XOR2: [[Mark; 2]; 2] = [[Mark::One, Mark::Zero], [Mark::Zero, Mark::One]];
 
-/// Whether one pin of three is true, or all are: the sum of a full adder.
+/// Whether an odd number of three bits is 1: the sum's bit of a full adder.
 pub const XOR3: [[Mark; 3]; 4] = [
     [Mark::One, Mark::Zero, Mark::Zero],
     [Mark::Zero, Mark::One, Mark::Zero],
@@ -29,22 +32,22 @@ pub const XOR3: [[Mark; 3]; 4] = [
     [Mark::One, Mark::One, Mark::One],
 ];
 
-/// Whether two pins of three are true: the carry of a full adder.
+/// The majority of three bits: the carry of a full adder.
 pub const MAJ: [[Mark; 3]; 3] = [
     [Mark::One, Mark::One, Mark::Dash],
     [Mark::One, Mark::Dash, Mark::One],
     [Mark::Dash, Mark::One, Mark::One],
 ];
 
-/// Whether a number exceeds another as far as to this bit: pins are its bit, the other's, and whether it does by the lower bits.
-pub const GT: [[Mark; 3]; 3] = [
+/// A bit of a comparison: the first is greater than the second, or they are equal and the third is 1.
+pub(crate) const GT: [[Mark; 3]; 3] = [
     [Mark::One, Mark::Zero, Mark::Dash],
     [Mark::One, Mark::Dash, Mark::One],
     [Mark::Dash, Mark::Zero, Mark::One],
 ];
 
-/// A pin, or the conjunction of two others.
-pub const GROW: [[Mark; 3]; 2] = [
+/// A bit of a counter: the first is 1 already, or both others are.
+pub(crate) const GROW: [[Mark; 3]; 2] = [
     [Mark::One, Mark::Dash, Mark::Dash],
     [Mark::Dash, Mark::One, Mark::One],
 ];
@@ -62,7 +65,7 @@ fn row_with_front(alloc: Global, first: Mark, rest: Mark, count: usize) -> Resul
 }
 
 /// The rows of a table over so many pins, at least one, that says whether the first is 1 or all are 0.
-pub fn low_rows(alloc: Global, width: usize) -> Result<RowList, AllocError>
+pub(crate) fn low_rows(alloc: Global, width: usize) -> Result<RowList, AllocError>
     requires { 0 < width }
     ensures { IfOk result
         (λ r. r ≡ (One ∷ replicate (width - 1) Dash) ∷ (Zero ∷ replicate (width - 1) Zero) ∷ []) }
@@ -74,7 +77,7 @@ pub fn low_rows(alloc: Global, width: usize) -> Result<RowList, AllocError>
 }
 
 /// The table at a place, from 0, with these pins and rows.
-pub fn numbered_table(
+pub(crate) fn numbered_table(
     alloc: Global,
     place: usize,
     pins: SignalList,
@@ -88,7 +91,7 @@ pub fn numbered_table(
 }
 
 /// The name of the model.
-pub fn model_name(alloc: Global) -> Result<Name, AllocError>
+pub(crate) fn model_name(alloc: Global) -> Result<Name, AllocError>
     ensures { IfOk result (λ n. n ≡ codes "word") }
 {
     Name::known(alloc, b"word")

@@ -3,5 +3,5 @@
 #![tactic(auto)]
 
 pub mod bus;
-mod forms;
+pub mod forms;
 pub mod word_net;

@@ -96,9 +96,9 @@ number_low bits i number few is =
     omega (arith, is, number_of-few (drop (length bits - i) bits) (omega (arith, length-drop (length bits - i) bits, few)))
 
 -- the values of a lane, read from the words
-pub vals_told : (N : NetValue) (words : List ℕ) (b : ℕ) (x vals : List Bool) → vals ≡ map (λ word. word_bit word b) words → length words ≡ signal_count N → HasValues N words b x
-    → (s : ℕ) → s < signal_count N → get_or vals s false ≡ value_of (input_count N) N.tables x s
-vals_told N words b x vals are wide values s within =
+pub values_told : (N : NetValue) (words : List ℕ) (b : ℕ) (x bits : List Bool) → bits ≡ map (λ word. word_bit word b) words → length words ≡ signal_count N → HasValues N words b x
+    → (s : ℕ) → s < signal_count N → get_or bits s false ≡ value_of (input_count N) N.tables x s
+values_told N words b x bits are wide values s within =
     ap (λ l. get_or l s false) are ∙ get_or-map (λ word. word_bit word b) words s 0 false (omega (arith, within, wide)) ∙ values s within
 
 -- ---- the front stays, and so do the values

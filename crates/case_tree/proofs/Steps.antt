@@ -229,11 +229,11 @@ table_last n tables v needed order left i flags one hints two some within read a
     table_pushed n tables v needed order (left - 1) i flags one hints two (omega (arith, some, within)) read (rw e are) (rw e pushed) first second
 
 -- the hints of an input vector, in their order
-pub hints_turned : (n : ℕ) (tables : List TableValue) (order : List ℕ) (count out output : ℕ) (vals old filled : List Bool) (ids turned hints : List ℕ) → vals ≡ old → filled ≡ replicate count false
-    → count ≡ n + length tables → out ≡ output → hints ≡ reverse (hints_before n tables (λ s. get_or vals s false) (set filled out true) order) → turned ≡ hints → ids ≡ reverse turned
+pub hints_turned : (n : ℕ) (tables : List TableValue) (order : List ℕ) (count out output : ℕ) (values old filled : List Bool) (ids turned hints : List ℕ) → values ≡ old → filled ≡ replicate count false
+    → count ≡ n + length tables → out ≡ output → hints ≡ reverse (hints_before n tables (λ s. get_or values s false) (set filled out true) order) → turned ≡ hints → ids ≡ reverse turned
     → ids ≡ ordered_hints n tables order output (λ s. get_or old s false)
-hints_turned n tables order count out output vals old filled ids turned hints same cleared as_many here pushed is back =
-    let whole : List ℕ = hints_before n tables (λ s. get_or vals s false) (set filled out true) order in
+hints_turned n tables order count out output values old filled ids turned hints same cleared as_many here pushed is back =
+    let whole : List ℕ = hints_before n tables (λ s. get_or values s false) (set filled out true) order in
     let flags : set filled out true ≡ only_needed (n + length tables) output = cc (cleared, as_many, here) in
     back ∙ ap reverse (is ∙ pushed) ∙ reverse-reverse whole
     ∙ ap (λ l. hints_before n tables (λ s. get_or l s false) (set filled out true) order) same

@@ -5,5 +5,5 @@ use Rattle.case_tree.specs.declared.hints.Room.{Room}
 
 -- a value and a flag for each signal
 pub record FitsRoom (N : NetValue) (room : Room) : Type 0 where
-  pub vals : length room.vals.items ≡ signal_count N
+  pub values : length room.values.items ≡ signal_count N
   pub needed : length room.needed.items ≡ signal_count N

@@ -18,15 +18,15 @@ use proof_parts::log::Ids;
 use std::alloc::{AllocError, Global};
 
 /// The clause that decides a row, of those from the id `next` on.
-fn row_hint(next: u64, marks: &[Mark], pins: &[Signal], vals: &[bool]) -> u64
+fn row_hint(next: u64, marks: &[Mark], pins: &[Signal], values: &[bool]) -> u64
     requires widths { length marks.now ≡ length pins.now }
-    requires pins_in { All (λ s. s < length vals.now) pins.now }
+    requires pins_in { All (λ s. s < length values.now) pins.now }
     requires ids { next < 2 ^ 63 }
-    ensures { result ≡ row_hint next marks.now pins.now (λ s. slice_index_or vals.now s false) }
+    ensures { result ≡ row_hint next marks.now pins.now (λ s. slice_index_or values.now s false) }
 {
     let mut hint = next;
     for (i, mark) in marks.iter().enumerate() {
-        if !mark_matches(*mark, vals[pins[i] as usize]) {
+        if !mark_matches(*mark, values[pins[i] as usize]) {
             return hint;
         }
         if is_literal(*mark) {
@@ -50,16 +50,16 @@ fn ask_row(marks: &[Mark], pins: &[Signal], needed: &mut [bool])
 }
 
 /// Asks for the signal of a row's first literal that is false.
-fn ask_failing(marks: &[Mark], pins: &[Signal], vals: &[bool], needed: &mut [bool])
+fn ask_failing(marks: &[Mark], pins: &[Signal], values: &[bool], needed: &mut [bool])
     requires widths { length marks.now ≡ length pins.now }
-    requires pins_in { All (λ s. s < length vals.now) pins.now }
-    requires flags { length needed.old ≡ length vals.now }
+    requires pins_in { All (λ s. s < length values.now) pins.now }
+    requires flags { length needed.old ≡ length values.now }
     ensures { needed.new
-        ≡ asked_by_failing marks.now pins.now (λ s. slice_index_or vals.now s false) needed.old }
+        ≡ asked_by_failing marks.now pins.now (λ s. slice_index_or values.now s false) needed.old }
 {
     for (i, mark) in marks.iter().enumerate() {
         let pin = pins[i] as usize;
-        if !mark_matches(*mark, vals[pin]) {
+        if !mark_matches(*mark, values[pin]) {
             needed[pin] = true;
             return;
         }
@@ -75,26 +75,26 @@ fn push_match(
     first: u64,
     rows: &[Row],
     pins: &[Signal],
-    vals: &[bool],
+    values: &[bool],
 ) -> Result<(), AllocError>
     requires widths { All (λ marks. length marks ≡ length pins.now) rows.now }
-    requires pins_in { All (λ s. s < length vals.now) pins.now }
-    requires flags { length needed.old ≡ length vals.now }
+    requires pins_in { All (λ s. s < length values.now) pins.now }
+    requires flags { length needed.old ≡ length values.now }
     requires ids { next + sum_by (λ marks. row_literals marks + 1) rows.now < 2 ^ 63 }
     requires implying { first + length rows.now < 2 ^ 63 }
     ensures hints { OnOk result (hints.new.items ≡ hints.old.items
-        ++ reverse (match_hints next first pins.now rows.now (λ s. slice_index_or vals.now s false))) }
+        ++ reverse (match_hints next first pins.now rows.now (λ s. slice_index_or values.now s false))) }
     ensures asked { OnOk result (needed.new
-        ≡ asked_by_match pins.now rows.now (λ s. slice_index_or vals.now s false) needed.old) }
+        ≡ asked_by_match pins.now rows.now (λ s. slice_index_or values.now s false) needed.old) }
 {
     let mut id = next;
     let mut implied = first;
     for row in rows {
         let marks = row.as_slice();
-        if row_matches(marks, pins, vals) {
+        if row_matches(marks, pins, values) {
             ask_row(marks, pins, needed);
             hints.push(implied)?;
-            hints.push(row_hint(id, marks, pins, vals))?;
+            hints.push(row_hint(id, marks, pins, values))?;
             return Ok(());
         }
         id += row_literals(marks) as u64 + 1;
@@ -111,18 +111,18 @@ fn push_failing(
     last: u64,
     rows: &[Row],
     pins: &[Signal],
-    vals: &[bool],
+    values: &[bool],
 ) -> Result<(), AllocError>
     requires widths { All (λ marks. length marks ≡ length pins.now) rows.now }
-    requires pins_in { All (λ s. s < length vals.now) pins.now }
-    requires flags { length needed.old ≡ length vals.now }
+    requires pins_in { All (λ s. s < length values.now) pins.now }
+    requires flags { length needed.old ≡ length values.now }
     requires few { last < 2 ^ 63 }
     requires ids { sum_by (λ marks. row_literals marks + 1) rows.now + length rows.now ≤ last }
     ensures hints { OnOk result (hints.new.items ≡ hints.old.items
         ++ reverse (failing_hints (last - length rows.now - sum_by (λ marks. row_literals marks + 1) rows.now)
-        (last - length rows.now) pins.now rows.now (λ s. slice_index_or vals.now s false))) }
+        (last - length rows.now) pins.now rows.now (λ s. slice_index_or values.now s false))) }
     ensures asked { OnOk result (needed.new
-        ≡ asked_by_rows pins.now rows.now (λ s. slice_index_or vals.now s false) needed.old) }
+        ≡ asked_by_rows pins.now rows.now (λ s. slice_index_or values.now s false) needed.old) }
 {
     hints.push(last)?;
     let mut id = last - rows.len() as u64;
@@ -131,8 +131,8 @@ fn push_failing(
         left -= 1;
         let marks = rows[left].as_slice();
         id -= row_literals(marks) as u64 + 1;
-        hints.push(row_hint(id, marks, pins, vals))?;
-        ask_failing(marks, pins, vals, needed);
+        hints.push(row_hint(id, marks, pins, values))?;
+        ask_failing(marks, pins, values, needed);
     }
     Ok(())
 }
@@ -151,20 +151,20 @@ fn push_table(
     net: &Net,
     firsts: &[u64],
     i: u32,
-    vals: &[bool],
+    values: &[bool],
 ) -> Result<(), AllocError>
     requires table { i < table_count net.now }
-    requires values { length vals.now ≡ signal_count net.now }
-    requires flags { length needed.old ≡ length vals.now }
+    requires values { length values.now ≡ signal_count net.now }
+    requires flags { length needed.old ≡ length values.now }
     requires firsts { firsts.now ≡ first_ids 1 net.now.tables }
     requires ids { sum_by table_clause_count net.now.tables < 2 ^ 62 }
     ensures hints { OnOk result (hints.new.items ≡ hints.old.items
         ++ reverse (if slice_index_or needed.old (input_count net.now + i) false
         then hints_from (slice_index (first_ids 1 net.now.tables) i) (input_count net.now + i) (table_at net.now.tables i)
-        (λ s. slice_index_or vals.now s false)
+        (λ s. slice_index_or values.now s false)
         else [])) }
     ensures asked { OnOk result (needed.new ≡ (if slice_index_or needed.old (input_count net.now + i) false
-        then asked_by_table (input_count net.now + i) (table_at net.now.tables i) (λ s. slice_index_or vals.now s false)
+        then asked_by_table (input_count net.now + i) (table_at net.now.tables i) (λ s. slice_index_or values.now s false)
         (slice_set needed.old (input_count net.now + i) false)
         else needed.old)) }
 {
@@ -177,11 +177,19 @@ fn push_table(
     let pins = table.pins().as_slice();
     let rows = table.rows().as_slice();
     let last = firsts[i as usize + 1] - 1;
-    if has_match(table.plane(), vals[place]) {
+    if has_match(table.plane(), values[place]) {
         let implied = last - rows.len() as u64;
-        return push_match(hints, needed, firsts[i as usize], implied, rows, pins, vals);
+        return push_match(
+            hints,
+            needed,
+            firsts[i as usize],
+            implied,
+            rows,
+            pins,
+            values,
+        );
     }
-    push_failing(hints, needed, last, rows, pins, vals)
+    push_failing(hints, needed, last, rows, pins, values)
 }
 
 /// How many clauses a table has.
@@ -215,21 +223,21 @@ fn push_tables(
     net: &Net,
     order: &[u32],
     firsts: &[u64],
-    vals: &[bool],
+    values: &[bool],
 ) -> Result<(), AllocError>
-    requires values { length vals.now ≡ signal_count net.now }
-    requires flags { length needed.old ≡ length vals.now }
+    requires values { length values.now ≡ signal_count net.now }
+    requires flags { length needed.old ≡ length values.now }
     requires order { IsOrderOf (input_count net.now) net.now.tables order.now }
     requires firsts { firsts.now ≡ first_ids 1 net.now.tables }
     requires ids { sum_by table_clause_count net.now.tables < 2 ^ 62 }
     requires start { hints.old.items ≡ slice_index (first_ids 1 net.now.tables) (table_count net.now) ∷ [] }
     ensures { OnOk result (hints.new.items
-        ≡ reverse (hints_before (input_count net.now) net.now.tables (λ s. slice_index_or vals.now s false) needed.old order.now)) }
+        ≡ reverse (hints_before (input_count net.now) net.now.tables (λ s. slice_index_or values.now s false) needed.old order.now)) }
 {
     let mut left = order.len();
     while left > 0 {
         left -= 1;
-        push_table(hints, needed, net, firsts, order[left], vals)?;
+        push_table(hints, needed, net, firsts, order[left], values)?;
     }
     Ok(())
 }
@@ -237,7 +245,7 @@ fn push_tables(
 /// Room for the hints of a vector: the values of the signals there, which of them are needed, and the hints, the last one first.
 #[derive(Drop)]
 pub(crate) struct Room {
-    pub(crate) vals: Vec<bool>,
+    pub(crate) values: Vec<bool>,
     needed: Vec<bool>,
     hints: Vec<u64>,
 }
@@ -248,7 +256,7 @@ pub(crate) fn room_for(alloc: Global, net: &Net) -> Result<Room, AllocError>
 {
     let signals = net.signals() as usize;
     Ok(Room {
-        vals: vec![in alloc; false; signals]?,
+        values: vec![in alloc; false; signals]?,
         needed: vec![in alloc; false; signals]?,
         hints: Vec::new(alloc),
     })
@@ -279,7 +287,7 @@ pub(crate) fn vector_hints(
     requires firsts { firsts.now ≡ first_ids 1 net.now.tables }
     requires ids { sum_by table_clause_count net.now.tables < 2 ^ 62 }
     ensures hints { IfOk result (λ hints. hints ≡ ordered_hints (input_count net.now) net.now.tables order.now
-        (slice_index net.now.outputs 0) (λ s. slice_index_or room.old.vals.items s false)) }
+        (slice_index net.now.outputs 0) (λ s. slice_index_or room.old.values.items s false)) }
     ensures room { FitsRoom net.now room.new }
 {
     let count = net.tables() as usize;
@@ -288,6 +296,6 @@ pub(crate) fn vector_hints(
     let needed = room.needed.as_mut_slice();
     needed.fill(false);
     needed[net.output(0) as usize] = true;
-    push_tables(&mut room.hints, needed, net, order, firsts, &room.vals)?;
+    push_tables(&mut room.hints, needed, net, order, firsts, &room.values)?;
     reversed(alloc, &room.hints)
 }

@@ -1,5 +1,5 @@
 //! The values of all signals at 64 input vectors at a time: those that begin with a front, with every way to go on behind it.
-ghost use Rattle.std.specs.Prelude.{◌≡◌, ℕ, ◌+◌, ◌*◌, ◌<◌, ◌≤◌, Bool, List, false, map, length, take, drop, slice_index, slice_index_or};
+ghost use Rattle.std.specs.Prelude.{◌≡◌, ℕ, ◌+◌, ◌*◌, ◌<◌, ◌≤◌, false, length, take, drop, slice_index, slice_index_or};
 ghost use Rattle.semantics.specs.Net.{input_count, signal_count};
 ghost use Rattle.semantics.specs.Error.{number_of};
 ghost use Rattle.semantics.specs.Vectors.{all_vectors};
@@ -65,23 +65,4 @@ pub(crate) fn lane_of(bits: &[bool]) -> u32
         number = number * 2 + u32::from(bits[bits.len() - 1 - i]);
     }
     number
-}
-
-/// One bit of a word.
-fn word_bit(word: u64, b: u32) -> bool
-    requires { b < 64 }
-    ensures { result ≡ word_bit word b }
-{
-    (word >> b) & 1 == 1
-}
-
-/// Sets `vals` to the values at one of the 64 patterns.
-pub(crate) fn set_vals(words: &[u64], b: u32, vals: &mut [bool])
-    requires lane { b < 64 }
-    requires room { length vals.old ≡ length words.now }
-    ensures { vals.new ≡ map (λ word. word_bit word b) words.now }
-{
-    for (s, word) in words.iter().enumerate() {
-        vals[s] = word_bit(*word, b);
-    }
 }

@@ -10,8 +10,9 @@ ghost use Rattle.case_tree.specs.Rooms.{FitsRoom};
 ghost use Rattle.case_tree.specs.Trees.{IsTree};
 
 use crate::hints::{Room, first_ids, room_for, vector_hints};
-use crate::lanes::{lane_of, set_vals, set_values_behind};
+use crate::lanes::{lane_of, set_values_behind};
 use lane_bits::patterns::Patterns;
+use lane_nets::lanes::set_lane;
 use net_core::items::Items;
 use net_core::net::Net;
 use proof_parts::clause::Lits;
@@ -65,7 +66,7 @@ fn vector_step(
     ensures room { FitsRoom tree.now.net.now room.new }
 {
     let front = x.len() - tree.rest.inputs() as usize;
-    set_vals(words, lane_of(&x[front..]), &mut room.vals);
+    set_lane(words, lane_of(&x[front..]), &mut room.values);
     let hints = vector_hints(alloc, tree.net, tree.order, tree.firsts, room)?;
     Ok(Step::new(id, negation(alloc, x)?, hints))
 }

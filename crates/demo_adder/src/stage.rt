@@ -3,29 +3,13 @@ ghost use Rattle.std.specs.Prelude.{◌≡◌, ◌+◌, ◌≤◌, ◌<◌, [], 
 ghost use Rattle.quality_semantics.specs.Forms.{form};
 ghost use Rattle.job_semantics.specs.Demo.{demo_name, demo_table, sum_signal, carry_signal, sum_form, carry_form, stage_tables};
 
+use bus_nets::forms::{AND2, MAJ, XOR2, XOR3};
 use net_core::items::{Signal, SignalList, TableList};
 use net_core::mark::Mark;
 use net_core::name::Name;
 use net_core::row::rows_of;
 use net_core::table::Table;
 use std::alloc::{AllocError, Global};
-
-const HALF_SUM: [[Mark; 2]; 2] = [[Mark::One, Mark::Zero], [Mark::Zero, Mark::One]];
-
-const HALF_CARRY: [[Mark; 2]; 1] = [[Mark::One, Mark::One]];
-
-const FULL_SUM: [[Mark; 3]; 4] = [
-    [Mark::One, Mark::Zero, Mark::Zero],
-    [Mark::Zero, Mark::One, Mark::Zero],
-    [Mark::Zero, Mark::Zero, Mark::One],
-    [Mark::One, Mark::One, Mark::One],
-];
-
-const FULL_CARRY: [[Mark; 3]; 3] = [
-    [Mark::One, Mark::One, Mark::Dash],
-    [Mark::One, Mark::Dash, Mark::One],
-    [Mark::Dash, Mark::One, Mark::One],
-];
 
 /// The signal of a stage's bit of the sum.
 pub fn sum_signal(width: u32, stage: u32) -> Signal
@@ -68,10 +52,10 @@ fn sum_table(alloc: Global, width: u32, stage: u32) -> Result<Table, AllocError>
 {
     let name = Name::numbered(alloc, b's', u64::from(stage))?;
     if stage == 0 {
-        table_of(alloc, name, &[0, width], &HALF_SUM)
+        table_of(alloc, name, &[0, width], &XOR2)
     } else {
         let carry = carry_signal(width, stage - 1);
-        table_of(alloc, name, &[stage, width + stage, carry], &FULL_SUM)
+        table_of(alloc, name, &[stage, width + stage, carry], &XOR3)
     }
 }
 
@@ -83,10 +67,10 @@ fn carry_table(alloc: Global, width: u32, stage: u32) -> Result<Table, AllocErro
 {
     let name = Name::numbered(alloc, b'c', u64::from(stage + 1))?;
     if stage == 0 {
-        table_of(alloc, name, &[0, width], &HALF_CARRY)
+        table_of(alloc, name, &[0, width], &AND2)
     } else {
         let carry = carry_signal(width, stage - 1);
-        table_of(alloc, name, &[stage, width + stage, carry], &FULL_CARRY)
+        table_of(alloc, name, &[stage, width + stage, carry], &MAJ)
     }
 }
 

@@ -98,8 +98,8 @@ fn unequal_word(exact: &[u64], approx: &[u64]) -> u64
     unequal
 }
 
-/// Sets `bits` to the outputs at pattern b.
-fn set_lane(words: &[u64], b: u32, bits: &mut [bool])
+/// Sets `bits` to the bits of the words at pattern b.
+pub fn set_lane(words: &[u64], b: u32, bits: &mut [bool])
     requires pattern { b < 64 }
     requires room { length bits.old ≡ length words.now }
     ensures { bits.new ≡ lane_at words.now b }

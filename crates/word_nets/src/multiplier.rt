@@ -7,10 +7,10 @@ ghost use Rattle.quality_semantics.specs.Laws.{number};
 ghost use Rattle.bus_nets.specs.Numbers.{HasNumber};
 
 use bus_nets::bus::{Bus, repeated};
+use bus_nets::forms::AND2;
 use bus_nets::word_net::WordNet;
 use net_core::net::Net;
 use net_parts::items::{Items, Signal};
-use net_parts::mark::Mark;
 use std::alloc::{AllocError, Global};
 
 /// The bus, doubled so many times: that many times the signal of 0 in front.
@@ -21,9 +21,6 @@ fn doubled(alloc: Global, zero: Signal, times: usize, bus: &Bus) -> Result<Bus, 
     doubled.push_copies(bus.as_slice())?;
     Ok(doubled)
 }
-
-/// The rows of a conjunction.
-const AND2: [[Mark; 2]; 1] = [[Mark::One, Mark::One]];
 
 /// Each bit of a bus, and one more bit.
 #[tactic(auto, using(crate::proofs::Multiplying::begins_after))]

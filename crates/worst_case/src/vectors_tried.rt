@@ -4,6 +4,7 @@ ghost use Rattle.semantics.specs.Net.{input_count, IsSmall};
 ghost use Rattle.semantics.specs.Error.{net_error};
 ghost use Rattle.worst_case.specs.VectorsTried.{IsTrial, IsFirstGreatestIn, IsHeldFor, IsEveryVectorHeld, IsTried};
 
+use bdd_core::chance::chance;
 use lane_bits::patterns::Patterns;
 use lane_nets::reference::Reference;
 use net_core::items::Bits;
@@ -28,18 +29,10 @@ pub struct Attained {
     pub witness: Bits,
 }
 
-/// A bit that looks like chance: which one is free.
-fn chance(j: u32, i: usize) -> bool {
-    let mixed = (u64::from(j).wrapping_mul(0x9E37_79B9_7F4A_7C15) ^ i as u64).wrapping_mul(
-        0xBF58_476D_1CE4_E5B9,
-    );
-    (mixed ^ mixed >> 29).wrapping_mul(0x94D0_49BB_1331_11EB) >> 63 == 1
-}
-
 /// Sets `x` to trial vector `j`: all zeros, all ones, and then others.
 fn set_trial(j: u32, x: &mut [bool]) {
     for (i, bit) in x.iter_mut().enumerate() {
-        *bit = j == 1 || j > 1 && chance(j, i);
+        *bit = j == 1 || j > 1 && chance(j, i as u64);
     }
 }
 

@@ -1,11 +1,5 @@
-use Rattle.std.proofs.Common.{arith}
-use Rattle.adc_core.proofs.Breaking.{broken_bits, broken_nowhere}
+use Rattle.adc_core.proofs.Breaking.{chosen_bit}
 use Rattle.adc_core.proofs.differences.broken_word.Goals as goal
 
-pub returns-then-exceeds-eq0 : goal.returns-then-exceeds-eq0
-returns-then-exceeds-eq0 c = λ b x low values. broken_nowhere c.args.net.now c.args.step x c.args.care c.args.exceeds b (omega arith) (omega arith)
-
 pub returns : goal.returns
-returns c =
-    λ b x low values. broken_bits c.args.net.now c.args.step x c.difference_word-differs.result c.args.care c.args.exceeds b c.difference_word-differs.type_inv low
-    (c.difference_word-differs.ensures.bits b x low values)
+returns c = λ b low. chosen_bit c.args.differs c.args.care c.args.exceeds b c.ranges.differs.fits low

@@ -1,4 +1,4 @@
-use Rattle.std.proofs.Common.{◌≡◌, ◌+◌, ◌*◌, [], ap, ◌∙◌, arith}
+use Rattle.std.proofs.Common.{◌≡◌, [], refl, ◌∙◌, arith}
 use Rattle.std.proofs.lemmas.List.{get_or_default}
 use Rattle.chain_semantics.specs.MoveLaws.{IsMoveOf}
 use Rattle.chain_semantics.proofs.MoveMembers.{move_is}
@@ -13,9 +13,9 @@ returns-in-Some c =
     let is : IsMoveOf c.args.net.now c.args.step = move_is c.args.net.now sound.acyclic c.args.step c.requires.step in
     let words : c.as_slice.result.now ≡ row_at c.args.blocks.now c.loop-k.k =
     c.as_slice.ensures ∙ c.index-blocks-k.is ∙ get_or_default c.args.blocks.now c.loop-k.k c.index-blocks-k.result [] c.loop-k-test.true in
-    λ metric exact bound vectors are cared exceeded. broken_first metric exact N bound c.args.step vectors c.loop-k.k _ c.in-Some.b _ (ap (λ b. 64 * c.loop-k.k + b) c.from.ensures)
-    (broken_bit metric exact N bound c.args.step sound is vectors c.args.blocks.now c.args.care.now c.args.exceeds.now are cared exceeded c.loop-k.k c.broken_word-broken.result
-    c.as_slice.result.now c.loop-k-test.true words c.broken_word-broken.ensures)
+    λ metric exact bound vectors are cared exceeded. broken_first metric exact N bound c.args.step vectors c.loop-k.k _ c.in-Some.b _ refl
+    (broken_bit metric exact N bound c.args.step sound is vectors c.args.blocks.now c.args.care.now c.args.exceeds.now are cared exceeded c.loop-k.k c.known_broken_word-broken.result
+    c.as_slice.result.now c.loop-k-test.true words c.known_broken_word-broken.ensures)
     c.in-Some.ensures (c.loop-k.invariant metric exact bound vectors are cared exceeded)
 
 pub loop-k-preserved : goal.loop-k-preserved
@@ -26,8 +26,8 @@ loop-k-preserved c =
     let words : c.as_slice.result.now ≡ row_at c.args.blocks.now c.loop-k.k =
     c.as_slice.ensures ∙ c.index-blocks-k.is ∙ get_or_default c.args.blocks.now c.loop-k.k c.index-blocks-k.result [] c.loop-k-test.true in
     λ metric exact bound vectors are cared exceeded. broken_none metric exact N bound c.args.step vectors c.loop-k.k _
-    (broken_bit metric exact N bound c.args.step sound is vectors c.args.blocks.now c.args.care.now c.args.exceeds.now are cared exceeded c.loop-k.k c.broken_word-broken.result
-    c.as_slice.result.now c.loop-k-test.true words c.broken_word-broken.ensures)
+    (broken_bit metric exact N bound c.args.step sound is vectors c.args.blocks.now c.args.care.now c.args.exceeds.now are cared exceeded c.loop-k.k c.known_broken_word-broken.result
+    c.as_slice.result.now c.loop-k-test.true words c.known_broken_word-broken.ensures)
     c.in_default.ensures (c.loop-k.invariant metric exact bound vectors are cared exceeded)
 
 pub returns : goal.returns

@@ -1,4 +1,4 @@
-use Rattle.std.proofs.Common.{length, ap, arith}
+use Rattle.std.proofs.Common.{arith}
 use Rattle.std.proofs.lemmas.List.{length_push}
 use Rattle.adc_core.proofs.GrownBlocks.{blocks_more}
 use Rattle.adc_core.proofs.growing_blocks.add_blocks.Goals as goal

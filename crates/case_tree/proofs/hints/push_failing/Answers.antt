@@ -19,7 +19,7 @@ overflow_sub-id-in-loop-left c =
 
 pub loop-left-preserved : goal.loop-left-preserved
 loop-left-preserved c =
-    let v : Assignment = λ s. get_or c.args.vals.now s false in
+    let v : Assignment = λ s. get_or c.args.values.now s false in
     let pins : List ℕ = c.args.pins.now in
     let row = c.index-rows-left.result in
     let next : ℕ = c.loop-left.id - (c.row_literals.result + 1) in

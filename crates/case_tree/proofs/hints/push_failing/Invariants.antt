@@ -8,8 +8,8 @@ abbrev pub invariant-loop-left : goal.invariant-loop-left
 invariant-loop-left l = record {
   within : l.left ≤ length l.rows;
   pushed : l.hints.items
-      ≡ l.fn.hints.items ++ reverse (failing_hints l.id (l.last - length l.rows + l.left) l.pins (drop l.left l.rows) (λ s. slice_index_or l.vals s false));
-  asked : l.needed ≡ asked_by_rows l.pins (drop l.left l.rows) (λ s. slice_index_or l.vals s false) l.fn.needed;
+      ≡ l.fn.hints.items ++ reverse (failing_hints l.id (l.last - length l.rows + l.left) l.pins (drop l.left l.rows) (λ s. slice_index_or l.values s false));
+  asked : l.needed ≡ asked_by_rows l.pins (drop l.left l.rows) (λ s. slice_index_or l.values s false) l.fn.needed;
   ids : l.id + sum_by (λ marks. row_literals marks + 1) (drop l.left l.rows) + length l.rows ≡ l.last;
 }
 

@@ -7,7 +7,7 @@ use Rattle.case_tree.proofs.hints.push_match.Goals as goal
 
 pub returns-then-row_matches-clause-hints : goal.returns-then-row_matches-clause-hints
 returns-then-row_matches-clause-hints c =
-    let v : Assignment = λ s. get_or c.args.vals.now s false in
+    let v : Assignment = λ s. get_or c.args.values.now s false in
     let pins : List ℕ = c.args.pins.now in
     let match = sym (c.row_matches.ensures ∙ ap (λ r. row_matches r pins v) c.as_slice-marks.ensures) ∙ c.if-row_matches.true in
     let second = c.in_ok-push-2.ensures.items ∙ ap (λ h. c.push.new.self.items ++ h ∷ []) (c.row_hint.ensures ∙ ap (λ r. row_hint c.loop-row.id r pins v) c.as_slice-marks.ensures) in
@@ -16,7 +16,7 @@ returns-then-row_matches-clause-hints c =
 
 pub returns-then-row_matches-clause-asked : goal.returns-then-row_matches-clause-asked
 returns-then-row_matches-clause-asked c =
-    let v : Assignment = λ s. get_or c.args.vals.now s false in
+    let v : Assignment = λ s. get_or c.args.values.now s false in
     let pins : List ℕ = c.args.pins.now in
     let match = sym (c.row_matches.ensures ∙ ap (λ r. row_matches r pins v) c.as_slice-marks.ensures) ∙ c.if-row_matches.true in
     match_asked pins c.args.rows.now v c.loop-row.row-index c.row-item.result c.loop-row.needed c.ask_row.new.needed _
@@ -24,7 +24,7 @@ returns-then-row_matches-clause-asked c =
 
 pub loop-row-preserved : goal.loop-row-preserved
 loop-row-preserved c =
-    let v : Assignment = λ s. get_or c.args.vals.now s false in
+    let v : Assignment = λ s. get_or c.args.values.now s false in
     let pins : List ℕ = c.args.pins.now in
     let fails = sym (c.row_matches.ensures ∙ ap (λ r. row_matches r pins v) c.as_slice-marks.ensures) ∙ c.if-row_matches.false in
     let count = c.row_literals.ensures ∙ ap row_literals c.as_slice-marks.ensures in

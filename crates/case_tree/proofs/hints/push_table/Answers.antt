@@ -58,7 +58,7 @@ push_failing-requires-clause-ids c =
 
 pub returns-then-has_match-clause-hints : goal.returns-then-has_match-clause-hints
 returns-then-has_match-clause-hints c =
-    let v : Assignment = λ s. get_or c.args.vals.now s false in
+    let v : Assignment = λ s. get_or c.args.values.now s false in
     let place : ℕ = c.inputs.result + c.args.i in
     let here : place ≡ input_count c.args.net.now + c.args.i = omega (arith, c.inputs.ensures.value) in
     on_ok_weaker c.push_match.result
@@ -69,7 +69,7 @@ returns-then-has_match-clause-hints c =
 
 pub returns-clause-hints : goal.returns-clause-hints
 returns-clause-hints c =
-    let v : Assignment = λ s. get_or c.args.vals.now s false in
+    let v : Assignment = λ s. get_or c.args.values.now s false in
     let place : ℕ = c.inputs.result + c.args.i in
     let here : place ≡ input_count c.args.net.now + c.args.i = omega (arith, c.inputs.ensures.value) in
     on_ok_weaker c.push_failing.result

@@ -10,7 +10,7 @@ push_table-requires-clause-table c =
 
 pub loop-left-preserved : goal.loop-left-preserved
 loop-left-preserved c =
-    let v : Assignment = λ s. get_or c.args.vals.now s false in
+    let v : Assignment = λ s. get_or c.args.values.now s false in
     let next =
     table_last (input_count c.args.net.now) c.args.net.now.tables v c.args.needed.now c.args.order.now c.loop-left.left (get_or c.args.order.now (c.loop-left.left - 1) 0)
     c.loop-left.needed c.push_table.new.needed c.loop-left.hints.items c.push_table.new.hints.items c.loop-left-test.true c.loop-left.invariant.within refl

@@ -2,7 +2,7 @@ use Rattle.std.proofs.Common.{◌∙◌, ℕ, Bool, List, get_or, false, ap, sym
 use Rattle.semantics.specs.Net.{NetValue, input_count}
 use Rattle.lane_nets.specs.Words.{HasValues}
 use Rattle.case_tree.specs.Cases.{ordered_hints}
-use Rattle.case_tree.proofs.Behind.{rest_slice, values_here, vals_told}
+use Rattle.case_tree.proofs.Behind.{rest_slice, values_here, values_told}
 use Rattle.case_tree.proofs.Walk.{written-back, vector_step-is}
 use Rattle.case_tree.proofs.refute.vector_step.Goals as goal
 
@@ -16,8 +16,8 @@ returns-clause-step c =
     let here = values_here N x c.args.tree.now.rest.now.inputs words c.requires.width c.requires.values in
     let lane = c.lane_of.ensures.value ∙ rest_slice x c.inputs.result c.args.tree.now.rest.now.inputs c.inputs.ensures.value in
     let at_lane : HasValues N words c.lane_of.result x = subst (λ b. HasValues N words b x) (sym lane) here in
-    let along = c.in_ok-hints.ensures.hints ∙ ap (λ vals. ordered_hints (input_count N) N.tables order output (λ s. get_or vals s false))
-    (written-back c.args.room.now.vals.len c.set_vals.new.vals c.args.room.now.vals.items (c.set_vals.auto.vals ∙ c.deref_mut.ensures.len)) in
+    let along = c.in_ok-hints.ensures.hints ∙ ap (λ values. ordered_hints (input_count N) N.tables order output (λ s. get_or values s false))
+    (written-back c.args.room.now.values.len c.set_lane.new.bits c.args.room.now.values.items (c.set_lane.auto.bits ∙ c.deref_mut.ensures.len)) in
     c.new.ensures
-    ∙ vector_step-is c.args.id (input_count N) N.tables order output x (λ s. get_or c.set_vals.new.vals s false) c.in_ok-negation.field-0 c.in_ok-hints.hints
-    c.requires.tree.order c.in_ok-negation.ensures along (vals_told N words c.lane_of.result x c.set_vals.new.vals c.set_vals.ensures c.requires.words at_lane)
+    ∙ vector_step-is c.args.id (input_count N) N.tables order output x (λ s. get_or c.set_lane.new.bits s false) c.in_ok-negation.field-0 c.in_ok-hints.hints
+    c.requires.tree.order c.in_ok-negation.ensures along (values_told N words c.lane_of.result x c.set_lane.new.bits c.set_lane.ensures c.requires.words at_lane)

@@ -1,8 +1,8 @@
-use Rattle.std.proofs.Common.{◌≡◌, ℕ, ◌/◌, List, Bool, [], length, map, take, ap, sym, subst, ◌∙◌, arith}
+use Rattle.std.proofs.Common.{◌≡◌, ℕ, ◌/◌, List, Bool, length, map, take, ap, sym, subst, ◌∙◌, arith}
 use Rattle.std.specs.List.{AllByRecursion}
 use Rattle.std.specs.Vec.{with_items}
 use Rattle.std.proofs.lemmas.List.{length-take, with_items_is}
-use Rattle.semantics.specs.Net.{NetValue, IsSound, input_count}
+use Rattle.semantics.specs.Net.{IsSound, input_count}
 use Rattle.lane_bits.specs.Rows.{word_count}
 use Rattle.lane_nets.proofs.FirstOver.{same_inputs}
 use Rattle.adc_core.specs.Growing.{GrowingValue, IsFrontOf, AreBlocksFor, AreGrowing, vectors_in_blocks}

@@ -1,4 +1,4 @@
-use Rattle.std.proofs.Common.{◌≡◌, ◌↔◌, ℕ, ◌<◌, List, Bool, IsTrue, get_or, sym, subst, arith}
+use Rattle.std.proofs.Common.{◌↔◌, ℕ, ◌<◌, List, Bool, IsTrue, get_or, sym, subst, arith}
 use Rattle.semantics.specs.Net.{NetValue, IsSound}
 use Rattle.chain_semantics.specs.Moves.{table_of}
 use Rattle.chain_semantics.specs.Care.{IsCaredFor, Changes}
@@ -10,7 +10,7 @@ use Rattle.lane_nets.specs.Blocks.{IsBlock, IsWordWhere}
 use Rattle.adc_core.specs.Growing.{AreCareWords}
 use Rattle.adc_core.proofs.Breaking.{broken_bits}
 use Rattle.adc_core.proofs.GrownBlocks.{broken_told, left_told}
-use Rattle.adc_core.proofs.growing.broken_word.Goals as goal
+use Rattle.adc_core.proofs.growing.reach_broken_word.Goals as goal
 
 pub returns-then-differs-eq0-clause-broken : goal.returns-then-differs-eq0-clause-broken
 returns-then-differs-eq0-clause-broken c =
@@ -54,7 +54,7 @@ returns-clause-broken c =
     (subst (IsBlock j.nets.approx vectors c.args.k) (sym c.as_slice.ensures) (are c.args.k c.index-blocks-k.result c.requires.within).values)
     (are c.args.k c.index-blocks-k-2.result c.requires.within).exceeds
     (get_or c.as_slice-2.result.now c.args.k 0) _ care
-    (λ b x low values. broken_bits j.nets.approx c.args.step x c.difference_word-differs.result _ _ b c.difference_word-differs.type_inv low (tells b x low values))
+    (λ b x low values. broken_bits j.nets.approx c.args.step x _ _ _ _ (tells b x low values) (c.broken_word.ensures b low))
 
 pub returns-clause-cared : goal.returns-clause-cared
 returns-clause-cared c = λ vectors long are before.
