@@ -1,13 +1,16 @@
 -- How the writing of one file after another joins, and what a fault leaves.
-use Rattle.std.proofs.Common.{◌≡◌, true, false, ◌&&◌, List, [], ◌∷◌, ◌++◌, take, Some, append_assoc, inl, inr, refl, sym, ap, subst, ◌∙◌, arith}
+use Rattle.std.proofs.Common.{◌≡◌, true, false, ◌&&◌, List, [], ◌∷◌, ◌++◌, take, Some, Result, Err, append_assoc, inl, inr, refl, sym, ap, subst, ◌∙◌, arith}
 use Rattle.std.specs.Prelude.{IsTrue}
 use Rattle.std.specs.FinMap.{insert}
 use Rattle.std.proofs.lemmas.Bool.{false_from_ne_true}
+use Rattle.std.proofs.lemmas.Result.{on_ok_weaker, on_err_weaker}
 use Rattle.semantics.specs.Texts.{Bytes}
 use Rattle.outside_semantics.specs.Outside.{Held, FilesTold, Goes, Created, CreateFailed, Wrote, WriteFailed, added_to, appended}
 use Rattle.outside_semantics.specs.WrittenFiles.{File, with_files, are_steady, FilesWritten, IsCutAt, IsCutShort, FilesCutShort}
 use Rattle.outside_semantics.proofs.HeldFiles.{get-insert_same, insert-insert, with_files-append}
+use Rattle.file_core.specs.Page.{Writes}
 use Rattle.file_core.proofs.Told.{Goes-Goes, held_before}
+use Rattle.bundle_writing.specs.Outcomes.{WritesFiles}
 
 -- a text that is added to a file just created is the file
 created_with : (h : Held) (name text : Bytes) → appended (insert h name []) (Some name) text ≡ insert h name text
@@ -134,9 +137,25 @@ FilesCutShort-more {a} {b} {fs} gs short = record {
   held = λ h k told tells. IsCutShort-more gs (short.held h k told tells);
 }
 
--- a text that is known by another term
-pub Wrote-is : {a b : FilesTold} {s t : Bytes} → s ≡ t → Wrote a b s → Wrote a b t
-Wrote-is {a} {b} is wrote = subst (λ x. Wrote a b x) is wrote
+module _ {T E : Type 0} where
+  -- a file was created, and then its text was written
+  pub WritesFiles-one : {r : Result T E} {a b c : FilesTold} {name text : Bytes} → Created a b name → Writes r b c text → WritesFiles r a c (record { name = name; text = text } ∷ [])
+  WritesFiles-one {r = r} made w = record {
+    ok = on_ok_weaker r (λ wrote. FilesWritten-one made wrote) w.ok;
+    err = on_err_weaker r (λ failed. FilesCutShort-write made failed) w.err;
+  }
 
-pub WriteFailed-is : {a b : FilesTold} {s t : Bytes} → s ≡ t → WriteFailed a b s → WriteFailed a b t
-WriteFailed-is {a} {b} is failed = subst (λ x. WriteFailed a b x) is failed
+  -- a file could not be created
+  pub WritesFiles-not_created : {e : E} {a b : FilesTold} {name : Bytes} (text : Bytes) → CreateFailed a b name → WritesFiles {T = T} {E = E} (Err e) a b (record { name = name; text = text } ∷ [])
+  WritesFiles-not_created text failed = record { ok = tt; err = FilesCutShort-create text failed }
+
+  -- some files were written, and then the others
+  pub WritesFiles-then : {r : Result T E} {a b c : FilesTold} {fs gs : List File} → FilesWritten a b fs → WritesFiles r b c gs → WritesFiles r a c (fs ++ gs)
+  WritesFiles-then {r = r} first w = record {
+    ok = on_ok_weaker r (λ second. FilesWritten-then first second) w.ok;
+    err = on_err_weaker r (λ short. FilesCutShort-after first short) w.err;
+  }
+
+-- a fault among the first files is answered by the writing of all
+pub WritesFiles-first : {S T E F : Type 0} {e : E} {f : F} {a b : FilesTold} {fs : List File} (gs : List File) → WritesFiles {T = S} (Err e) a b fs → WritesFiles {T = T} (Err f) a b (fs ++ gs)
+WritesFiles-first gs w = record { ok = tt; err = FilesCutShort-more gs w.err }
