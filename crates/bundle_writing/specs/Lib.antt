@@ -1,4 +1,3 @@
 pub mod Names
-pub mod Outcomes
 pub mod Value
 pub mod VectorLines

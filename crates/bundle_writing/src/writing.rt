@@ -2,8 +2,8 @@
 ghost use Rattle.std.specs.Prelude.{[], ◌∷◌, OnOk, OnErr};
 ghost use Rattle.outside_semantics.specs.Outside.{Created, CreateFailed, Took, TakeFailed};
 ghost use Rattle.job_semantics.specs.Endings.{bundle_name};
+ghost use Rattle.file_core.specs.Page.{WritesFiles};
 ghost use Rattle.bundle_writing.specs.Value.{file_of, files_of, report_of_bundle};
-ghost use Rattle.bundle_writing.specs.Outcomes.{WritesFiles};
 
 use crate::bundle::{Bundle, BundleFault};
 use crate::report_writing::report;

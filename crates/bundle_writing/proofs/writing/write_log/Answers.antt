@@ -1,5 +1,5 @@
 use Rattle.std.proofs.lemmas.Result.{err_from_is_err_and}
-use Rattle.bundle_writing.proofs.FilesInOrder.{WritesFiles-one, WritesFiles-not_created}
+use Rattle.file_core.proofs.OneFile.{WritesFiles-one, WritesFiles-not_created}
 use Rattle.bundle_writing.proofs.writing.write_log.Goals as goal
 
 pub returns-in_err-create : goal.returns-in_err-create

@@ -2,7 +2,7 @@ use Rattle.std.proofs.Common.{ap}
 use Rattle.std.proofs.lemmas.Result.{err_from_is_err_and}
 use Rattle.job_semantics.specs.Report.{vectors_text}
 use Rattle.file_core.proofs.Outcomes.{Writes-is}
-use Rattle.bundle_writing.proofs.FilesInOrder.{WritesFiles-one, WritesFiles-not_created}
+use Rattle.file_core.proofs.OneFile.{WritesFiles-one, WritesFiles-not_created}
 use Rattle.bundle_writing.proofs.writing.write_vectors_file.Goals as goal
 
 pub returns-in_err-create : goal.returns-in_err-create
