@@ -1,66 +1,13 @@
 -- How the writing of one file after another joins, and what a fault leaves.
-use Rattle.std.proofs.Common.{◌≡◌, true, false, ◌&&◌, List, [], ◌∷◌, ◌++◌, take, Some, append_assoc, inl, inr, refl, sym, ap, subst, ◌∙◌, arith}
+use Rattle.std.proofs.Common.{◌≡◌, true, false, ◌&&◌, List, [], ◌∷◌, ◌++◌, Result, Err, append_assoc, refl, sym, ap, subst, ◌∙◌, arith}
 use Rattle.std.specs.Prelude.{IsTrue}
-use Rattle.std.specs.FinMap.{insert}
 use Rattle.std.proofs.lemmas.Bool.{false_from_ne_true}
-use Rattle.semantics.specs.Texts.{Bytes}
-use Rattle.outside_semantics.specs.Outside.{Held, FilesTold, Goes, Created, CreateFailed, Wrote, WriteFailed, added_to, appended}
+use Rattle.std.proofs.lemmas.Result.{on_ok_weaker, on_err_weaker}
+use Rattle.outside_semantics.specs.Outside.{Held, FilesTold, Goes}
 use Rattle.outside_semantics.specs.WrittenFiles.{File, with_files, are_steady, FilesWritten, IsCutAt, IsCutShort, FilesCutShort}
-use Rattle.outside_semantics.proofs.HeldFiles.{get-insert_same, insert-insert, with_files-append}
+use Rattle.outside_semantics.proofs.HeldFiles.{with_files-append}
+use Rattle.file_core.specs.Page.{WritesFiles}
 use Rattle.file_core.proofs.Told.{Goes-Goes, held_before}
-
--- a text that is added to a file just created is the file
-created_with : (h : Held) (name text : Bytes) → appended (insert h name []) (Some name) text ≡ insert h name text
-created_with h name text =
-    ap (λ found. added_to found (insert h name []) name text) (get-insert_same h name []) ∙ insert-insert h name [] text
-
-pub FilesWritten-one : {a b c : FilesTold} {name text : Bytes} → Created a b name → Wrote b c text → FilesWritten a c (record { name = name; text = text } ∷ [])
-FilesWritten-one {a} {b} {c} {name} {text} made wrote = record {
-  goes = Goes-Goes made.goes wrote.goes;
-  held = λ h k told tells.
-      let m = held_before b c wrote.goes k tells in
-      wrote.held m.0 k m.1 tells
-      ∙ (λ i. appended (made.made h m.0 told m.1 i) (made.writing h m.0 told m.1 i) text)
-      ∙ created_with h name text;
-}
-
-one_not_steady : (a : FilesTold) (f : File) → a.steady_write f.name ≡ false → are_steady a (f ∷ []) ≡ false
-one_not_steady a f fails = ap (λ t. t && true) fails
-
-pub FilesCutShort-create : {a b : FilesTold} {name : Bytes} (text : Bytes) → CreateFailed a b name → FilesCutShort a b (record { name = name; text = text } ∷ [])
-FilesCutShort-create {a} {b} {name} text failed = record {
-  goes = failed.goes;
-  rose = failed.rose;
-  not_steady = one_not_steady a (record { name = name; text = text }) failed.not_steady;
-  held = λ h k told tells. record {
-    whole = [];
-    failed = record { name = name; text = text };
-    later = [];
-    order = refl;
-    cut = inl (failed.stays h k told tells);
-  };
-}
-
--- a file is not steady where its writing failed
-not_steady_from : {a b : FilesTold} {name : Bytes} → Created a b name → b.calm_write ≡ false → a.steady_write name ≡ false
-not_steady_from made fails = false_from_ne_true _ (λ steady. cc (made.calm steady, fails))
-
-pub FilesCutShort-write : {a b c : FilesTold} {name text : Bytes} → Created a b name → WriteFailed b c text → FilesCutShort a c (record { name = name; text = text } ∷ [])
-FilesCutShort-write {a} {b} {c} {name} {text} made failed = record {
-  goes = Goes-Goes made.goes failed.goes;
-  rose = omega (arith, made.goes.counts, failed.rose);
-  not_steady = one_not_steady a (record { name = name; text = text }) (not_steady_from made failed.not_calm);
-  held = λ h k told tells.
-      let m = held_before b c failed.goes k tells in
-      let part = failed.held m.0 k m.1 tells in
-      record {
-        whole = [];
-        failed = record { name = name; text = text };
-        later = [];
-        order = refl;
-        cut = inr (part.0, part.1, part.2 ∙ (λ i. appended (made.made h m.0 told m.1 i) (made.writing h m.0 told m.1 i) (take part.0 text)) ∙ created_with h name (take part.0 text));
-      };
-}
 
 are_steady-append_left : (a : FilesTold) (fs gs : List File) → are_steady a fs ≡ false → are_steady a (fs ++ gs) ≡ false
 are_steady-append_left a [] gs fails = absurd (let e : true ≡ false = fails in cc)
@@ -134,9 +81,13 @@ FilesCutShort-more {a} {b} {fs} gs short = record {
   held = λ h k told tells. IsCutShort-more gs (short.held h k told tells);
 }
 
--- a text that is known by another term
-pub Wrote-is : {a b : FilesTold} {s t : Bytes} → s ≡ t → Wrote a b s → Wrote a b t
-Wrote-is {a} {b} is wrote = subst (λ x. Wrote a b x) is wrote
+-- some files were written, and then the others
+pub WritesFiles-then : {T E : Type 0} {r : Result T E} {a b c : FilesTold} {fs gs : List File} → FilesWritten a b fs → WritesFiles r b c gs → WritesFiles r a c (fs ++ gs)
+WritesFiles-then {r = r} first w = record {
+  ok = on_ok_weaker r (λ second. FilesWritten-then first second) w.ok;
+  err = on_err_weaker r (λ short. FilesCutShort-after first short) w.err;
+}
 
-pub WriteFailed-is : {a b : FilesTold} {s t : Bytes} → s ≡ t → WriteFailed a b s → WriteFailed a b t
-WriteFailed-is {a} {b} is failed = subst (λ x. WriteFailed a b x) is failed
+-- a fault among the first files is answered by the writing of all
+pub WritesFiles-first : {S T E F : Type 0} {e : E} {f : F} {a b : FilesTold} {fs : List File} (gs : List File) → WritesFiles {T = S} (Err e) a b fs → WritesFiles {T = T} (Err f) a b (fs ++ gs)
+WritesFiles-first gs w = record { ok = tt; err = FilesCutShort-more gs w.err }

@@ -2,6 +2,7 @@
 ghost use Rattle.std.specs.Prelude.{◌≡◌, ◌+◌, ◌≤◌, [], ◌∷◌, ◌++◌, length, decimal};
 ghost use Rattle.semantics.specs.Texts.{line_text};
 ghost use Rattle.job_semantics.specs.Report.{metric_word, version_word};
+ghost use Rattle.bundle_writing.specs.declared.report_lines.TheConstants.{REPORT_LIMIT};
 
 use arrayvec::ArrayString;
 use itoa::Buffer;
@@ -16,7 +17,7 @@ pub type ReportText = ArrayString<REPORT_LIMIT>;
 
 /// Adds a line of a key and a word.
 pub fn add_word(text: &mut ReportText, key: &str, word: &str)
-    requires { length text.old.bytes + length key.now + length word.now + 2 ≤ 1024 }
+    requires { length text.old.bytes + length key.now + length word.now + 2 ≤ REPORT_LIMIT }
     ensures bytes { text.new.bytes ≡ text.old.bytes ++ line_text (key.now ∷ word.now ∷ []) }
     ensures len { length text.new.bytes ≡ length text.old.bytes + length key.now + length word.now + 2 }
 {
@@ -28,7 +29,7 @@ pub fn add_word(text: &mut ReportText, key: &str, word: &str)
 
 /// Adds a line of a key and a number.
 pub fn add_number(text: &mut ReportText, key: &str, number: u128)
-    requires { length text.old.bytes + length key.now + 42 ≤ 1024 }
+    requires { length text.old.bytes + length key.now + 42 ≤ REPORT_LIMIT }
     ensures bytes { text.new.bytes ≡ text.old.bytes ++ line_text (key.now ∷ decimal number ∷ []) }
     ensures len { length text.new.bytes ≤ length text.old.bytes + length key.now + 42 }
 {

@@ -2,6 +2,7 @@
 ghost use Rattle.std.specs.Prelude.{◌≡◌, ◌+◌, ◌≤◌, [], ◌∷◌, ◌++◌, length, codes, decimal};
 ghost use Rattle.semantics.specs.Texts.{bits_word, line_text};
 ghost use Rattle.job_semantics.specs.Report.{yes_word};
+ghost use Rattle.bundle_writing.specs.declared.report_lines.TheConstants.{REPORT_LIMIT};
 ghost use Rattle.bundle_writing.specs.Value.{report_of_bundle};
 
 use crate::bundle::Bundle;
@@ -10,7 +11,7 @@ use itoa::Buffer;
 
 /// Adds a line of a key and two numbers.
 fn add_numbers(text: &mut ReportText, key: &str, old: u64, new: u64)
-    requires { length text.old.bytes + length key.now + 83 ≤ 1024 }
+    requires { length text.old.bytes + length key.now + 83 ≤ REPORT_LIMIT }
     ensures bytes { text.new.bytes
         ≡ text.old.bytes ++ line_text (key.now ∷ decimal old ∷ decimal new ∷ []) }
     ensures len { length text.new.bytes ≤ length text.old.bytes + length key.now + 83 }
@@ -27,7 +28,7 @@ fn add_numbers(text: &mut ReportText, key: &str, old: u64, new: u64)
 
 /// Adds one digit for each bit, in their order.
 fn add_bits(text: &mut ReportText, bits: &[bool])
-    requires { length text.old.bytes + length bits.now ≤ 1024 }
+    requires { length text.old.bytes + length bits.now ≤ REPORT_LIMIT }
     ensures bytes { text.new.bytes ≡ text.old.bytes ++ bits_word bits.now }
     ensures len { length text.new.bytes ≡ length text.old.bytes + length bits.now }
 {
@@ -38,7 +39,7 @@ fn add_bits(text: &mut ReportText, bits: &[bool])
 
 /// Adds the line of the witness.
 fn add_witness(text: &mut ReportText, bits: &[bool])
-    requires { length text.old.bytes + length bits.now + 9 ≤ 1024 }
+    requires { length text.old.bytes + length bits.now + 9 ≤ REPORT_LIMIT }
     ensures bytes { text.new.bytes ≡ text.old.bytes ++ line_text (codes "witness" ∷ bits_word bits.now ∷ []) }
     ensures len { length text.new.bytes ≡ length text.old.bytes + length bits.now + 9 }
 {

@@ -1,8 +1,8 @@
 //! A bundle's files, one after another, and its report. Nothing here takes memory.
 ghost use Rattle.std.specs.Prelude.{[], ◌∷◌, OnOk, OnErr};
 ghost use Rattle.outside_semantics.specs.Outside.{Created, CreateFailed, Took, TakeFailed};
-ghost use Rattle.outside_semantics.specs.WrittenFiles.{FilesWritten, FilesCutShort};
 ghost use Rattle.job_semantics.specs.Endings.{bundle_name};
+ghost use Rattle.file_core.specs.Page.{WritesFiles};
 ghost use Rattle.bundle_writing.specs.Value.{file_of, files_of, report_of_bundle};
 
 use crate::bundle::{Bundle, BundleFault};
@@ -28,50 +28,35 @@ fn create<F: Files>(files: &mut F, stem: &Stem, ending: Ending) -> Result<(), Fi
 }
 
 fn write_netlist<F: Files>(b: &Bundle, stem: &Stem, files: &mut F) -> Result<(), FileFault>
-    ensures ok { OnOk result
-        (FilesWritten (F.told files.old) (F.told files.new) (file_of stem.now b.now Ending.Netlist ∷ [])) }
-    ensures err { OnErr result
-        (FilesCutShort (F.told files.old) (F.told files.new) (file_of stem.now b.now Ending.Netlist ∷ [])) }
+    ensures { WritesFiles result (F.told files.old) (F.told files.new) (file_of stem.now b.now Ending.Netlist ∷ []) }
 {
     create(files, stem, Ending::Netlist)?;
     write_blif(&b.approx, files)
 }
 
 fn write_formula<F: Files>(b: &Bundle, stem: &Stem, files: &mut F) -> Result<(), FileFault>
-    ensures ok { OnOk result
-        (FilesWritten (F.told files.old) (F.told files.new) (file_of stem.now b.now Ending.Formula ∷ [])) }
-    ensures err { OnErr result
-        (FilesCutShort (F.told files.old) (F.told files.new) (file_of stem.now b.now Ending.Formula ∷ [])) }
+    ensures { WritesFiles result (F.told files.old) (F.told files.new) (file_of stem.now b.now Ending.Formula ∷ []) }
 {
     create(files, stem, Ending::Formula)?;
     write_dimacs(&b.goal, files)
 }
 
 fn write_log<F: Files>(b: &Bundle, stem: &Stem, files: &mut F) -> Result<(), FileFault>
-    ensures ok { OnOk result
-        (FilesWritten (F.told files.old) (F.told files.new) (file_of stem.now b.now Ending.Log ∷ [])) }
-    ensures err { OnErr result
-        (FilesCutShort (F.told files.old) (F.told files.new) (file_of stem.now b.now Ending.Log ∷ [])) }
+    ensures { WritesFiles result (F.told files.old) (F.told files.new) (file_of stem.now b.now Ending.Log ∷ []) }
 {
     create(files, stem, Ending::Log)?;
     write_lrat(&b.log, files)
 }
 
 fn write_vectors_file<F: Files>(b: &Bundle, stem: &Stem, files: &mut F) -> Result<(), FileFault>
-    ensures ok { OnOk result
-        (FilesWritten (F.told files.old) (F.told files.new) (file_of stem.now b.now Ending.Vectors ∷ [])) }
-    ensures err { OnErr result
-        (FilesCutShort (F.told files.old) (F.told files.new) (file_of stem.now b.now Ending.Vectors ∷ [])) }
+    ensures { WritesFiles result (F.told files.old) (F.told files.new) (file_of stem.now b.now Ending.Vectors ∷ []) }
 {
     create(files, stem, Ending::Vectors)?;
     write_vectors(b.witness.as_slice(), &b.pool, files)
 }
 
 fn write_report<F: Files>(b: &Bundle, stem: &Stem, files: &mut F) -> Result<(), FileFault>
-    ensures ok { OnOk result
-        (FilesWritten (F.told files.old) (F.told files.new) (file_of stem.now b.now Ending.Report ∷ [])) }
-    ensures err { OnErr result
-        (FilesCutShort (F.told files.old) (F.told files.new) (file_of stem.now b.now Ending.Report ∷ [])) }
+    ensures { WritesFiles result (F.told files.old) (F.told files.new) (file_of stem.now b.now Ending.Report ∷ []) }
 {
     create(files, stem, Ending::Report)?;
     append_all(files, report(b).as_str().as_bytes())
@@ -79,8 +64,7 @@ fn write_report<F: Files>(b: &Bundle, stem: &Stem, files: &mut F) -> Result<(), 
 
 /// Makes the files in their order.
 fn write_files<F: Files>(b: &Bundle, stem: &Stem, files: &mut F) -> Result<(), FileFault>
-    ensures ok { OnOk result (FilesWritten (F.told files.old) (F.told files.new) (files_of stem.now b.now)) }
-    ensures err { OnErr result (FilesCutShort (F.told files.old) (F.told files.new) (files_of stem.now b.now)) }
+    ensures { WritesFiles result (F.told files.old) (F.told files.new) (files_of stem.now b.now) }
 {
     write_netlist(b, stem, files)?;
     write_formula(b, stem, files)?;
@@ -92,8 +76,7 @@ fn write_files<F: Files>(b: &Bundle, stem: &Stem, files: &mut F) -> Result<(), F
 /// Makes the five files of the stem. After a fault the files before the one that failed are whole, and that one is
 /// untouched, empty or a first part.
 pub fn write_bundle<F: Files>(b: &Bundle, stem: &Stem, files: &mut F) -> Result<(), BundleFault>
-    ensures ok { OnOk result (FilesWritten (F.told files.old) (F.told files.new) (files_of stem.now b.now)) }
-    ensures err { OnErr result (FilesCutShort (F.told files.old) (F.told files.new) (files_of stem.now b.now)) }
+    ensures { WritesFiles result (F.told files.old) (F.told files.new) (files_of stem.now b.now) }
 {
     match write_files(b, stem, files) {
         Ok(()) => Ok(()),

@@ -1,12 +1,13 @@
 -- What a trim job comes to, from what its steps say; and that a quiet call has no fault.
 use Rattle.std.proofs.Common.{◌≡◌, ◌≢◌, ◌⊎◌, ◌≤◌, ℕ, Bool, true, false, not, ◌&&◌, ◌||◌, List, [], ◌∷◌, ◌++◌, take, Some, Result, Ok, Err, inl, inr, refl, ap, sym, subst, ◌∙◌}
-use Rattle.std.specs.Prelude.{IsTrue, OnOk, OnErr}
+use Rattle.std.specs.Prelude.{IsTrue}
 use Rattle.semantics.specs.Texts.{Bytes}
 use Rattle.semantics.specs.Net.{NetValue}
 use Rattle.semantics.specs.declared.metric.Metric.{Metric}
 use Rattle.blif_semantics.specs.Reading.{Refusal}
 use Rattle.outside_semantics.specs.Outside.{Held, FilesTold, SinkTold, Goes, bytes_of}
-use Rattle.outside_semantics.specs.WrittenFiles.{File, with_files, IsCutAt, IsCutShort, FilesWritten, FilesCutShort}
+use Rattle.outside_semantics.specs.WrittenFiles.{File, with_files, IsCutAt, IsCutShort}
+use Rattle.file_core.specs.Page.{WritesFiles}
 use Rattle.file_core.proofs.Told.{held_before}
 use Rattle.file_reading.specs.declared.unread.Unread.{Unread}
 use Rattle.file_reading.specs.declared.unread.Unread.TheVariants as unread
@@ -186,10 +187,9 @@ module _ (metric : Metric) (bound : ℕ) (input stem output names : Bytes) (old 
 
 -- the writing of the trimmed log
 pub trimmed-written : {T E : Type 0} (clauses : List clauses.Clause) (log short : List LogItem) (output : Bytes) (old new : FilesTold) (written : Result T E) → IsTrimmed log short
-    → Refutes clauses short → OnOk written (FilesWritten old new (log_file output short ∷ [])) → OnErr written (FilesCutShort old new (log_file output short ∷ []))
-    → TrimmedAnswer clauses log output old new (answer_of_writing written)
-trimmed-written clauses log short output old new (Ok whole) trimmed refutes ok err = (short, record { trimmed = trimmed; refutes = refutes }, ok)
-trimmed-written clauses log short output old new (Err fault) trimmed refutes ok err = (short, record { trimmed = trimmed; refutes = refutes }, err)
+    → Refutes clauses short → WritesFiles written old new (log_file output short ∷ []) → TrimmedAnswer clauses log output old new (answer_of_writing written)
+trimmed-written clauses log short output old new (Ok whole) trimmed refutes w = (short, record { trimmed = trimmed; refutes = refutes }, w.ok)
+trimmed-written clauses log short output old new (Err fault) trimmed refutes w = (short, record { trimmed = trimmed; refutes = refutes }, w.err)
 
 -- ---- what follows of the answer
 

@@ -1,11 +1,11 @@
 //! A trim job: IN is read, and then the bundle is checked against it. Where its certificate stands, its log is trimmed and written.
-ghost use Rattle.std.specs.Prelude.{[], ◌∷◌, IsTrue, OnOk, OnErr};
+ghost use Rattle.std.specs.Prelude.{[], ◌∷◌, IsTrue};
 ghost use Rattle.outside_semantics.specs.Outside.{SinkTold};
-ghost use Rattle.outside_semantics.specs.WrittenFiles.{FilesWritten, FilesCutShort};
 ghost use Rattle.proof_semantics.specs.Logs.{Refutes};
 ghost use Rattle.proof_semantics.specs.Lrat.{lrat_text};
 ghost use Rattle.job_semantics.specs.Job.{are_trim_words};
 ghost use Rattle.job_semantics.specs.Conversion.{output_file};
+ghost use Rattle.file_core.specs.Page.{WritesFiles};
 ghost use Rattle.check_jobs.specs.Answers.{TrimAnswer};
 ghost use Rattle.check_jobs.specs.Trimmed.{TrimmedAnswer};
 
@@ -27,10 +27,7 @@ use std::alloc::Global;
 
 /// Makes the file with the text of a log. It takes no memory.
 fn write_log<F: Files>(log: &Log, output: &[u8], files: &mut F) -> Result<(), FileFault>
-    ensures ok { OnOk result
-        (FilesWritten (F.told files.old) (F.told files.new) (output_file output.now (lrat_text log.now) ∷ [])) }
-    ensures err { OnErr result
-        (FilesCutShort (F.told files.old) (F.told files.new) (output_file output.now (lrat_text log.now) ∷ [])) }
+    ensures { WritesFiles result (F.told files.old) (F.told files.new) (output_file output.now (lrat_text log.now) ∷ []) }
 {
     files.create(output)?;
     write_lrat(log, files)

@@ -1,9 +1,8 @@
 -- What a conversion comes to, from what its steps say; and that a quiet call has no fault.
 use Rattle.std.proofs.Common.{◌≡◌, true, false, [], ◌∷◌, Option, Some, None, Result, Ok, Err, inl, inr, refl, ap, sym, subst, ◌∙◌}
-use Rattle.std.specs.Prelude.{OnOk, OnErr}
 use Rattle.semantics.specs.Texts.{Bytes}
 use Rattle.outside_semantics.specs.Outside.{FilesTold, SinkTold, bytes_of}
-use Rattle.outside_semantics.specs.WrittenFiles.{FilesWritten, FilesCutShort}
+use Rattle.file_core.specs.Page.{WritesFiles}
 use Rattle.file_reading.specs.Reading.{FilesStay, FileFailed}
 use Rattle.job_semantics.specs.Synthesis.{IsUntouched, InputReadFault, AreFilesSteady, IsQuiet}
 use Rattle.job_semantics.specs.Conversion.{output_file, ConversionCutShort, ConversionEnd, done, refused, out_of_memory, not_read, not_written, IsQuietConversion}
@@ -38,21 +37,21 @@ module _ {R : Type 0} (reading : Bytes → Result Bytes R) (Tells : R → Status
         (refused refusal (record { untouched = untouched read.stay; held = read.held; refused = OfInput-from reading front (Err refusal) read is }), tells)
 
     module _ {new : FilesTold} (made : Bytes) (is : reading text ≡ Ok made) where
-      pub written-answer : {T E : Type 0} (written : Result T E) → OnOk written (FilesWritten mid new (output_file output made ∷ []))
-          → OnErr written (FilesCutShort mid new (output_file output made ∷ [])) → ConversionAnswer reading Tells input output old new said said (answer_of_writing written)
-      written-answer (Ok whole) ok err = (
+      pub written-answer : {T E : Type 0} (written : Result T E) → WritesFiles written mid new (output_file output made ∷ [])
+          → ConversionAnswer reading Tells input output old new said said (answer_of_writing written)
+      written-answer (Ok whole) w = (
         done (record {
           text = made;
-          read = OfInput-later (λ t. reading t ≡ Ok made) ok.goes (OfInput-from reading front (Ok made) read is);
-          written = record { files = written_after read.stay.goes read.stay.stays (output_file output made ∷ []) ok; sink = refl };
+          read = OfInput-later (λ t. reading t ≡ Ok made) w.ok.goes (OfInput-from reading front (Ok made) read is);
+          written = record { files = written_after read.stay.goes read.stay.stays (output_file output made ∷ []) w.ok; sink = refl };
         }),
         refl,
       )
-      written-answer (Err fault) ok err = (
+      written-answer (Err fault) w = (
         not_written (record {
           text = made;
-          read = OfInput-later (λ t. reading t ≡ Ok made) err.goes (OfInput-from reading front (Ok made) read is);
-          left = record { files = cut_after read.stay.goes read.stay.stays (output_file output made) err; sink = refl };
+          read = OfInput-later (λ t. reading t ≡ Ok made) w.err.goes (OfInput-from reading front (Ok made) read is);
+          left = record { files = cut_after read.stay.goes read.stay.stays (output_file output made) w.err; sink = refl };
         }),
         refl,
       )
@@ -65,12 +64,11 @@ module _ {R : Type 0} (reading : Bytes → Result Bytes R) (Tells : R → Status
     refused-at (Some refusal) none some =
         let told = some refusal refl in refused-answer front read refusal answer (ap reading (sym same) ∙ told.0) told.1
 
-    pub written-at : {new : FilesTold} {T E : Type 0} (made : Bytes) → reading bytes ≡ Ok made → (written : Result T E) → OnOk written (FilesWritten mid new (output_file output made ∷ []))
-        → OnErr written (FilesCutShort mid new (output_file output made ∷ [])) → answer ≡ answer_of_writing written
-        → ConversionAnswer reading Tells input output old new said said answer
-    written-at {new} made is written ok err answers =
+    pub written-at : {new : FilesTold} {T E : Type 0} (made : Bytes) → reading bytes ≡ Ok made → (written : Result T E) → WritesFiles written mid new (output_file output made ∷ [])
+        → answer ≡ answer_of_writing written → ConversionAnswer reading Tells input output old new said said answer
+    written-at {new} made is written w answers =
         subst (ConversionAnswer reading Tells input output old new said said) (sym answers)
-        (written-answer front read made (ap reading (sym same) ∙ is) written ok err)
+        (written-answer front read made (ap reading (sym same) ∙ is) written w)
 
 -- ---- a quiet call
 

@@ -1,9 +1,9 @@
 //! OUT is created, and its text is appended. Nothing here takes memory.
-ghost use Rattle.std.specs.Prelude.{◌≡◌, [], ◌∷◌, OnOk, OnErr};
+ghost use Rattle.std.specs.Prelude.{◌≡◌, [], ◌∷◌};
 ghost use Rattle.semantics.specs.Blif.{blif_text};
 ghost use Rattle.aiger_semantics.specs.Text.{aiger_text};
-ghost use Rattle.outside_semantics.specs.WrittenFiles.{FilesWritten, FilesCutShort};
 ghost use Rattle.job_semantics.specs.Conversion.{output_file};
+ghost use Rattle.file_core.specs.Page.{WritesFiles};
 ghost use Rattle.conversions.specs.Answers.{answer_of_writing};
 
 use aiger_text::ands::Ands;
@@ -20,10 +20,7 @@ pub fn write_circuit<F: Files>(
     output: &[u8],
     files: &mut F,
 ) -> Result<(), FileFault>
-    ensures ok { OnOk result
-        (FilesWritten (F.told files.old) (F.told files.new) (output_file output.now (aiger_text circuit.now) ∷ [])) }
-    ensures err { OnErr result
-        (FilesCutShort (F.told files.old) (F.told files.new) (output_file output.now (aiger_text circuit.now) ∷ [])) }
+    ensures { WritesFiles result (F.told files.old) (F.told files.new) (output_file output.now (aiger_text circuit.now) ∷ []) }
 {
     files.create(output)?;
     write_aiger(circuit, files)
@@ -31,10 +28,7 @@ pub fn write_circuit<F: Files>(
 
 /// Makes the file with the text of a net.
 pub fn write_netlist<F: Files>(net: &Net, output: &[u8], files: &mut F) -> Result<(), FileFault>
-    ensures ok { OnOk result
-        (FilesWritten (F.told files.old) (F.told files.new) (output_file output.now (blif_text net.now) ∷ [])) }
-    ensures err { OnErr result
-        (FilesCutShort (F.told files.old) (F.told files.new) (output_file output.now (blif_text net.now) ∷ [])) }
+    ensures { WritesFiles result (F.told files.old) (F.told files.new) (output_file output.now (blif_text net.now) ∷ []) }
 {
     files.create(output)?;
     write_blif(net, files)

@@ -3,6 +3,7 @@ pub mod Pieces
 pub mod Gathering
 pub mod Parts
 pub mod Outcomes
+pub mod OneFile
 pub mod Entries
 pub mod Memory
 pub mod Sure

@@ -1,7 +1,8 @@
--- Text that is gathered in a page before it is appended, and what a call that gathers or writes a text comes to.
-use Rattle.std.specs.Prelude.{◌≡◌, [], ◌++◌, Result, OnOk, OnErr}
+-- Text that is gathered in a page before it is appended, and what a call that gathers or writes a text, or writes files, comes to.
+use Rattle.std.specs.Prelude.{◌≡◌, List, [], ◌++◌, Result, OnOk, OnErr}
 use Rattle.semantics.specs.Texts.{Bytes}
 use Rattle.outside_semantics.specs.Outside.{FilesTold, SinkTold, Wrote, WriteFailed, Took, TakeFailed}
+use Rattle.outside_semantics.specs.WrittenFiles.{File, FilesWritten, FilesCutShort}
 
 -- the text came behind what the page held, a first part of both was appended, and the page holds the rest
 pub record Gathered (old new : FilesTold) (before after text : Bytes) : Type 0 where
@@ -24,3 +25,8 @@ pub record Writes {T E : Type 0} (result : Result T E) (old new : FilesTold) (te
 pub record Puts {T E : Type 0} (result : Result T E) (old new : SinkTold) (text : Bytes) : Type 0 where
   pub ok : OnOk result (Took old new text)
   pub err : OnErr result (TakeFailed old new text)
+
+-- the files were written in their order; or a fault came, and the writing was cut short at one of them
+pub record WritesFiles {T E : Type 0} (result : Result T E) (old new : FilesTold) (files : List File) : Type 0 where
+  pub ok : OnOk result (FilesWritten old new files)
+  pub err : OnErr result (FilesCutShort old new files)

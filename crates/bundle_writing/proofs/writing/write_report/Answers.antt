@@ -1,15 +1,13 @@
 use Rattle.std.proofs.Common.{◌∙◌}
-use Rattle.std.proofs.lemmas.Result.{err_from_is_err_and, on_ok_weaker, on_err_weaker}
-use Rattle.bundle_writing.proofs.FilesInOrder.{FilesWritten-one, FilesCutShort-create, FilesCutShort-write, Wrote-is, WriteFailed-is}
+use Rattle.std.proofs.lemmas.Result.{err_from_is_err_and}
+use Rattle.file_core.proofs.Outcomes.{Writes-is}
+use Rattle.file_core.proofs.OneFile.{WritesFiles-one, WritesFiles-not_created}
 use Rattle.bundle_writing.proofs.writing.write_report.Goals as goal
 
-pub returns-in_err-create-clause-err : goal.returns-in_err-create-clause-err
-returns-in_err-create-clause-err g c =
+pub returns-in_err-create : goal.returns-in_err-create
+returns-in_err-create g c =
     let p = err_from_is_err_and c.from_residual.result c.from_residual.ensures.1 in
-    rw p.1 (FilesCutShort-create _ c.in_err-create.ensures.err)
+    rw p.1 (WritesFiles-not_created _ c.in_err-create.ensures.err)
 
-pub returns-clause-ok : goal.returns-clause-ok
-returns-clause-ok g c = on_ok_weaker _ (λ wrote. FilesWritten-one c.in_ok-create.ensures.ok (Wrote-is (c.as_bytes.ensures.value ∙ c.as_str.ensures.value ∙ c.report.ensures) wrote)) c.append_all.ensures.ok
-
-pub returns-clause-err : goal.returns-clause-err
-returns-clause-err g c = on_err_weaker _ (λ failed. FilesCutShort-write c.in_ok-create.ensures.ok (WriteFailed-is (c.as_bytes.ensures.value ∙ c.as_str.ensures.value ∙ c.report.ensures) failed)) c.append_all.ensures.err
+pub returns : goal.returns
+returns g c = WritesFiles-one c.in_ok-create.ensures.ok (Writes-is (c.as_bytes.ensures.value ∙ c.as_str.ensures.value ∙ c.report.ensures) c.append_all.ensures)

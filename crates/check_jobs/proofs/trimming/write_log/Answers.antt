@@ -1,14 +1,11 @@
-use Rattle.std.proofs.lemmas.Result.{err_from_is_err_and, on_ok_weaker, on_err_weaker}
-use Rattle.conversions.proofs.OneFile.{one_written, one_not_created, one_cut_short}
+use Rattle.std.proofs.lemmas.Result.{err_from_is_err_and}
+use Rattle.file_core.proofs.OneFile.{WritesFiles-one, WritesFiles-not_created}
 use Rattle.check_jobs.proofs.trimming.write_log.Goals as goal
 
-pub returns-in_err-create-clause-err : goal.returns-in_err-create-clause-err
-returns-in_err-create-clause-err g c =
+pub returns-in_err-create : goal.returns-in_err-create
+returns-in_err-create g c =
     let p = err_from_is_err_and c.from_residual.result c.from_residual.ensures.1 in
-    rw p.1 (one_not_created _ c.in_err-create.ensures.err)
+    rw p.1 (WritesFiles-not_created _ c.in_err-create.ensures.err)
 
-pub returns-clause-ok : goal.returns-clause-ok
-returns-clause-ok g c = on_ok_weaker _ (one_written c.in_ok-create.ensures.ok) c.write_lrat.ensures.ok
-
-pub returns-clause-err : goal.returns-clause-err
-returns-clause-err g c = on_err_weaker _ (one_cut_short c.in_ok-create.ensures.ok) c.write_lrat.ensures.err
+pub returns : goal.returns
+returns g c = WritesFiles-one c.in_ok-create.ensures.ok c.write_lrat.ensures

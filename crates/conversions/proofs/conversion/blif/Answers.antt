@@ -12,7 +12,7 @@ returns-in-Err g c = λ said. not_read-answer netlist_text TellsAiger c.args.inp
 pub returns-in-Ok-read_aiger : goal.returns-in-Ok-read_aiger
 returns-in-Ok-read_aiger g c = λ said.
     written-at netlist_text TellsAiger c.args.input.now c.args.output.now netlist_reads_front c.in-Ok.ensures.ok c.bytes.ensures.value c.answer_of_writing.result
-    _ (ap (made blif_text) c.in-Ok-read_aiger.ensures.ok) c.write_netlist.result c.write_netlist.ensures.ok c.write_netlist.ensures.err c.answer_of_writing.ensures
+    _ (ap (made blif_text) c.in-Ok-read_aiger.ensures.ok) c.write_netlist.result c.write_netlist.ensures c.answer_of_writing.ensures
 
 pub returns : goal.returns
 returns g c = λ said. blif-refused c.in-Ok.ensures.ok c.bytes.ensures.value c.aiger_answer.result c.in-Err-read_aiger.reason c.in-Err-read_aiger.ensures.err c.aiger_answer.ensures

@@ -12,7 +12,7 @@ returns-in-Err g c = λ said. not_read-answer flat_text TellsHier c.args.input.n
 pub returns-in-Ok-flat_net : goal.returns-in-Ok-flat_net
 returns-in-Ok-flat_net g c = λ said.
     written-at flat_text TellsHier c.args.input.now c.args.output.now flat_reads_front c.in-Ok.ensures.ok c.bytes.ensures.value c.answer_of_writing.result
-    _ (ap (made blif_text) c.in-Ok-flat_net.ensures.ok) c.write_netlist.result c.write_netlist.ensures.ok c.write_netlist.ensures.err c.answer_of_writing.ensures
+    _ (ap (made blif_text) c.in-Ok-flat_net.ensures.ok) c.write_netlist.result c.write_netlist.ensures c.answer_of_writing.ensures
 
 pub returns : goal.returns
 returns g c = λ said. flat-refused c.in-Ok.ensures.ok c.bytes.ensures.value c.hier_answer.result c.in-Err-flat_net.reason c.in-Err-flat_net.ensures.err c.hier_answer.ensures
