@@ -19,7 +19,7 @@ use Rattle.lane_nets.specs.Lanes.{lane_at, IsOutputBlock}
 use Rattle.lane_nets.proofs.WordBits.{zero_bit}
 use Rattle.adc_core.specs.Flips.{HasFlippedValues}
 use Rattle.adc_core.specs.Growing.{GrowingValue, IsFrontOf, IsBlockOf, AreBlocksFor, AreCareWords, FitsRoom, AreGrowing, vectors_in_blocks}
-use Rattle.adc_core.specs.declared.judged.Judged.{Judged}
+use Rattle.adc_core.specs.declared.judged_nets.Judged.{Judged}
 use Rattle.adc_core.specs.declared.growing_blocks.Block.{Block}
 use Rattle.adc_core.specs.declared.growing_blocks.Room.{Room}
 use Rattle.adc_core.proofs.Breaking.{TellsBroken}

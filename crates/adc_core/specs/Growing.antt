@@ -7,7 +7,7 @@ use Rattle.lane_bits.specs.Rows.{word_count}
 use Rattle.lane_nets.specs.Blocks.{vector_at, row_at, IsBlock, IsWordWhere}
 use Rattle.lane_nets.specs.Lanes.{IsOutputBlock}
 use Rattle.adc_core.specs.Filled.{vectors_in}
-use Rattle.adc_core.specs.declared.judged.Judged.{Judged}
+use Rattle.adc_core.specs.declared.judged_nets.Judged.{Judged}
 use Rattle.adc_core.specs.declared.growing_blocks.Block.{Block}
 use Rattle.adc_core.specs.declared.growing_blocks.Room.{Room}
 

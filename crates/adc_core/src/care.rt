@@ -10,7 +10,7 @@ ghost use Rattle.adc_core.specs.Flips.{AreLater};
 
 use crate::differences::used_word;
 use crate::flips::{flip_words, list_later};
-use crate::judged::over_bound;
+use crate::judged_nets::over_bound;
 use lane_nets::word_list::WordList;
 use net_core::items::Items;
 use net_core::net::Net;

@@ -10,7 +10,7 @@ ghost use Rattle.lane_nets.specs.Words.{word_bit, HasValues};
 ghost use Rattle.lane_nets.specs.Blocks.{row_at, IsRowWhere, AreBlocksOf};
 ghost use Rattle.adc_core.specs.Masks.{FindsFirstBroken};
 
-use crate::moved::moved_word;
+use crate::moved_values::moved_word;
 use chain_semantics::moves::Move;
 use lane_bits::kernels::first_set;
 use lane_nets::word_list::WordList;

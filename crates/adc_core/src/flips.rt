@@ -6,7 +6,7 @@ ghost use Rattle.semantics.specs.Order.{IsOrderOf};
 ghost use Rattle.lane_nets.specs.Words.{HasValues};
 ghost use Rattle.adc_core.specs.Flips.{HasFlippedValues, AreLater};
 
-use lane_nets::words::table_word;
+use lane_nets::table_words::table_word;
 use net_core::net::Net;
 
 /// Whether the word of table `i` is found again: not for table `t` itself, and where it is marked.

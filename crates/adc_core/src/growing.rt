@@ -11,7 +11,7 @@ ghost use Rattle.adc_core.specs.Growing.{IsFrontOf, AreBlocksFor, FitBlocks, Are
 
 use crate::differences::{broken_word, difference_word};
 use crate::growing_blocks::{Block, Room, add_blocks, reach_care_words};
-use crate::judged::Judged;
+use crate::judged_nets::Judged;
 use chain_semantics::moves::Move;
 use lane_bits::kernels::first_set;
 use lane_bits::patterns::Patterns;

@@ -7,7 +7,7 @@ ghost use Rattle.adc_core.specs.Growing.{IsBlockOf, AreBlocksFor, FitBlocks, Are
 
 use crate::differences::used_word;
 use crate::flips::{flip_words, list_later};
-use crate::judged::{Judged, over_bound};
+use crate::judged_nets::{Judged, over_bound};
 use lane_bits::kernels::word_count;
 use lane_bits::patterns::Patterns;
 use lane_nets::blocks::block;

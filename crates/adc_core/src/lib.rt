@@ -13,5 +13,5 @@ mod differences;
 mod flips;
 pub mod growing;
 mod growing_blocks;
-mod judged;
-mod moved;
+mod judged_nets;
+mod moved_values;

@@ -7,7 +7,7 @@ mod circuit_net;
 mod circuit_reading;
 mod conjunctions;
 mod header;
-mod joining;
+mod joined_literals;
 mod lines;
 pub mod literal;
 mod loops;
@@ -16,12 +16,12 @@ mod place_names;
 mod ports;
 pub mod reading;
 pub mod refusal;
-#[cfg(test)]
-mod rows;
 mod sections;
 mod signals;
 mod symbol;
 mod symbols;
 mod text_lines;
+#[cfg(test)]
+mod text_rows;
 mod variables;
 pub mod writing;

@@ -3,7 +3,7 @@ ghost use Rattle.std.specs.Prelude.{◌≡◌, ◌+◌, ◌-◌, ◌^◌, ◌<�
 ghost use Rattle.aiger_semantics.specs.Circuit.{negated};
 ghost use Rattle.aiger_semantics.specs.NetCircuit.{rows_ands, table_ands, rows_joins, rows_joined, table_joins, table_literal};
 
-use crate::joining::{ask, joined, push_joins};
+use crate::joined_literals::{ask, joined, push_joins};
 use crate::literal::{Literal, negated};
 use aiger_semantics::and_line::AndLine;
 use net_core::items::{Items, Signal};

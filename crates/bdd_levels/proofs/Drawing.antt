@@ -19,8 +19,8 @@ use Rattle.bdd_core.specs.Diagrams.{IsValuation, Grows, HasOneValuation, value_o
 use Rattle.bdd_core.proofs.Growing.{valuation_before}
 use Rattle.bdd_nets.specs.Signals.{AreVariablesOf, AreOutputsOf}
 use Rattle.bdd_nets.specs.Decided.{IsDiagramDecided}
-use Rattle.bdd_nets.specs.declared.decision.Decision.{Decision}
-use Rattle.bdd_nets.specs.declared.decision.Decision.TheVariants.{Never, At, Unknown}
+use Rattle.bdd_nets.specs.declared.ever_true.Decision.{Decision}
+use Rattle.bdd_nets.specs.declared.ever_true.Decision.TheVariants.{Never, At, Unknown}
 use Rattle.bdd_nets.proofs.Signals.{within_later}
 use Rattle.bdd_nets.proofs.Deciding.{looked_up, looked_up_all}
 use Rattle.bdd_levels.specs.Levels.{TellsLevel, IsOverOf, AreDrawn, AreInputVariables, IsLevelDecided}

@@ -8,8 +8,8 @@ use Rattle.quality_semantics.specs.Quality.{TellsExcess}
 use Rattle.bdd_core.specs.declared.node.Node.{Node}
 use Rattle.bdd_core.specs.Diagrams.{IsValuation}
 use Rattle.bdd_nets.specs.Signals.{AreVariablesOf, AreOutputsOf}
-use Rattle.bdd_nets.specs.declared.decision.Decision.{Decision}
-use Rattle.bdd_nets.specs.declared.decision.Decision.TheVariants.{Never, At, Unknown}
+use Rattle.bdd_nets.specs.declared.ever_true.Decision.{Decision}
+use Rattle.bdd_nets.specs.declared.ever_true.Decision.TheVariants.{Never, At, Unknown}
 use Rattle.bdd_levels.specs.declared.level.Level.{Level}
 
 -- the net reads two words of w bits, and its one output says whether the error of the second against the first exceeds k

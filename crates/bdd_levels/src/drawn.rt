@@ -11,7 +11,7 @@ use crate::level::Level;
 use bdd_core::diagrams::{Allowed, Diagrams};
 use bdd_core::node::Diagram;
 use bdd_core::stop::Stop;
-use bdd_nets::decision::{Decision, decide_diagram};
+use bdd_nets::ever_true::{Decision, decide_diagram};
 use bdd_nets::nets::{output_diagrams, variable_diagrams};
 use net_core::net::Net;
 use net_errors::compared::Compared;

@@ -9,7 +9,7 @@ use Rattle.blif_semantics.specs.Tables.{NamedTable, named, with_row, with_rows, 
 use Rattle.blif_semantics.specs.Reading.{NamedNet, model_of, is_inputs, is_outputs, listed}
 
 -- what was read so far, and the table that may get more rows
-pub record Draft : Type 0 where
+pub record NetSoFar : Type 0 where
   pub model : Option Bytes
   pub inputs : List Bytes
   pub outputs : List Bytes
@@ -22,8 +22,8 @@ after_begun None lines = tables_of lines
 after_begun (Some t) lines = with_rows t (rows_first lines) ∷ tables_of lines
 
 -- the net of what was read so far and of the lines to come
-abbrev pub after_draft : Draft → List Line → NamedNet
-after_draft d lines = record {
+abbrev pub with_rest : NetSoFar → List Line → NamedNet
+with_rest d lines = record {
   model = elim d.model [ None ↦ model_of lines | Some model ↦ model ];
   inputs = d.inputs ++ listed is_inputs lines;
   outputs = d.outputs ++ listed is_outputs lines;
@@ -31,19 +31,19 @@ after_draft d lines = record {
 }
 
 -- before any line
-abbrev pub no_draft : Draft
-no_draft = record { model = None; inputs = []; outputs = []; tables = []; begun = None }
+abbrev pub nothing_read : NetSoFar
+nothing_read = record { model = None; inputs = []; outputs = []; tables = []; begun = None }
 
 -- no table gets more rows
-abbrev pub ended : Draft → Draft
+abbrev pub ended : NetSoFar → NetSoFar
 ended d = record d { tables = d.tables ++ option_to_list d.begun; begun = None }
 
 -- the row goes to the table that may get more, if there is one
-abbrev pub row_added : Draft → Line → Draft
+abbrev pub row_added : NetSoFar → Line → NetSoFar
 row_added d words = record d { begun = option_map (λ t. with_row t words) d.begun }
 
 -- the words after the first of a line of this kind that is no row
-abbrev pub added : Kind → Draft → List Bytes → Draft
+abbrev pub added : Kind → NetSoFar → List Bytes → NetSoFar
 added kind.Model d words = record d { model = elim d.model [ None ↦ Some (first_word words) | Some model ↦ Some model ] }
 added kind.Inputs d words = record d { inputs = d.inputs ++ words }
 added kind.Outputs d words = record d { outputs = d.outputs ++ words }

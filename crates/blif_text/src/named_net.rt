@@ -3,7 +3,7 @@ ghost use Rattle.std.specs.Prelude.{◌≡◌, [], ◌∷◌, List, IfOk, OnOk, 
 ghost use Rattle.semantics.specs.Texts.{Line};
 ghost use Rattle.blif_semantics.specs.Lines.{words_of};
 ghost use Rattle.blif_semantics.specs.Reading.{named_net};
-ghost use Rattle.blif_text.specs.NamedNets.{no_draft, ended, row_added, added, after_draft};
+ghost use Rattle.blif_text.specs.NamedNets.{nothing_read, ended, row_added, added, with_rest};
 ghost use Rattle.text_words.specs.Slices.{texts};
 
 use crate::joining::LogicalLine;
@@ -16,7 +16,7 @@ use text_words::words::words_of;
 
 /// What the lines so far say, and the table to which the next row belongs.
 #[derive(Drop)]
-struct Draft<'a> {
+struct NetSoFar<'a> {
     model: Option<&'a [u8]>,
     inputs: Vec<&'a [u8]>,
     outputs: Vec<&'a [u8]>,
@@ -24,12 +24,12 @@ struct Draft<'a> {
     begun: Option<NamedTable<'a>>,
 }
 
-impl<'a> Model for Draft<'a> {
+impl<'a> Model for NetSoFar<'a> {
     ghost use Rattle.std.specs.Option.{option_map};
-    ghost use Rattle.blif_text.specs.NamedNets.{Draft};
+    ghost use Rattle.blif_text.specs.NamedNets.{NetSoFar};
     ghost use Rattle.text_words.specs.Slices.{texts};
 
-    ghost Value = { Draft };
+    ghost Value = { NetSoFar };
 
     ghost view = { λ a. record {
       model = option_map (λ word. word.now) a.model;
@@ -63,12 +63,12 @@ impl<'a> Model for NamedNet<'a> {
     } };
 }
 
-impl<'a> Draft<'a> {
+impl<'a> NetSoFar<'a> {
     /// Nothing was read.
-    fn new(alloc: Global) -> Draft<'a>
-        ensures { result ≡ no_draft }
+    fn new(alloc: Global) -> NetSoFar<'a>
+        ensures { result ≡ nothing_read }
     {
-        Draft {
+        NetSoFar {
             model: None,
             inputs: Vec::new(alloc),
             outputs: Vec::new(alloc),
@@ -117,7 +117,7 @@ impl<'a> Draft<'a> {
 
     /// Adds a line.
     fn add_line(&mut self, words: &[&'a [u8]]) -> Result<(), AllocError>
-        ensures { OnOk result ((rest : List Line) → after_draft self.new rest ≡ after_draft self.old (texts words.now ∷ rest)) }
+        ensures { OnOk result ((rest : List Line) → with_rest self.new rest ≡ with_rest self.old (texts words.now ∷ rest)) }
     {
         match kind_of(words) {
             Kind::Row => self.add_row(words),
@@ -130,10 +130,10 @@ impl<'a> Draft<'a> {
 
     /// The net, with no more lines to come.
     fn finish(mut self) -> Result<NamedNet<'a>, AllocError>
-        ensures { IfOk result (λ d. d ≡ after_draft self.entry []) }
+        ensures { IfOk result (λ d. d ≡ with_rest self.entry []) }
     {
         self.end_table()?;
-        let Draft {
+        let NetSoFar {
             model,
             inputs,
             outputs,
@@ -157,10 +157,10 @@ pub fn named_net<'a>(
 ) -> Result<NamedNet<'a>, AllocError>
     ensures { IfOk result (λ d. d ≡ named_net (map (λ l. words_of l.bytes) lines.now)) }
 {
-    let mut draft = Draft::new(alloc);
+    let mut so_far = NetSoFar::new(alloc);
     for line in lines {
         let words = words_of(alloc, line.bytes())?;
-        draft.add_line(&words)?;
+        so_far.add_line(&words)?;
     }
-    draft.finish()
+    so_far.finish()
 }

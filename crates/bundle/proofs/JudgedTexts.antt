@@ -8,7 +8,7 @@ use Rattle.proof_semantics.specs.Formula.{Formula, dimacs_text}
 use Rattle.proof_semantics.specs.Logs.{LogItem, Refutes}
 use Rattle.proof_semantics.specs.Miter.{miter}
 use Rattle.job_semantics.specs.declared.ending.Ending.TheVariants as file
-use Rattle.job_semantics.specs.declared.clause.Clause.TheVariants as clause
+use Rattle.job_semantics.specs.declared.certificate_clause.Clause.TheVariants as clause
 use Rattle.job_semantics.specs.Report.{Report}
 use Rattle.job_semantics.specs.Certificate.{IsNeededFor, Texts, moves_in, IsNetlist, IsReport, AreVectors, IsRefutation, AreCounts, OfNet, OfReport, IsShownMinimal, OfBoth, Holds, Certifies, IsFirstFailing}
 use Rattle.job_semantics.proofs.Certificates.{verified_law}

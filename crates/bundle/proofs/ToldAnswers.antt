@@ -13,7 +13,7 @@ use Rattle.file_reading.specs.Refused.{FileUnread}
 use Rattle.job_semantics.specs.declared.ending.Ending.{Ending}
 use Rattle.job_semantics.specs.Endings.{bundle_name}
 use Rattle.job_semantics.specs.Certificate.{Texts, texts_of, OfBundle, IsNeededFor, IsFirstFailing}
-use Rattle.job_semantics.specs.declared.clause.Clause.{Clause}
+use Rattle.job_semantics.specs.declared.certificate_clause.Clause.{Clause}
 use Rattle.bundle.specs.declared.verdict.Verdict.{Verdict}
 use Rattle.bundle.specs.declared.judged.Judged.{Judged}
 use Rattle.bundle.specs.declared.judged.Judged.TheVariants.{Good, Failing}

@@ -7,7 +7,7 @@ use Rattle.outside_semantics.specs.Outside.{FilesTold}
 use Rattle.proof_semantics.specs.Formula.{Formula}
 use Rattle.proof_semantics.specs.Logs.{LogItem, Refutes}
 use Rattle.proof_semantics.specs.Miter.{miter}
-use Rattle.job_semantics.specs.declared.clause.Clause.{Clause}
+use Rattle.job_semantics.specs.declared.certificate_clause.Clause.{Clause}
 use Rattle.job_semantics.specs.Certificate.{Texts, OfBundle, OfBoth, IsRefutation, Certifies, IsFirstFailing, clause_number}
 use Rattle.bundle.specs.declared.judged.Judged.{Judged}
 use Rattle.bundle.specs.declared.judged.Judged.TheVariants as judged

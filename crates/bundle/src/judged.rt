@@ -3,7 +3,7 @@ ghost use Rattle.std.specs.Prelude.{◌≡◌};
 ghost use Rattle.bundle.specs.Judging.{failing_of};
 
 use cnf_core::cnf::Cnf;
-use job_semantics::clause::Clause;
+use job_semantics::certificate_clause::Clause;
 
 /// A certificate's formula and what was kept of its log, or the first clause that fails.
 #[derive(Drop)]

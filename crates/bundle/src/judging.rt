@@ -18,7 +18,7 @@ use bundle_writing::stem::Stem;
 use cnf_core::cnf::Cnf;
 use file_core::files::Files;
 use file_reading::unread::Unread;
-use job_semantics::clause::Clause;
+use job_semantics::certificate_clause::Clause;
 use job_semantics::ending::Ending;
 use job_semantics::version::Version;
 use miter::level::miter_of;

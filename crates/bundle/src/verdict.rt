@@ -3,7 +3,7 @@ ghost use Rattle.std.specs.Prelude.{◌≡◌};
 ghost use Rattle.job_semantics.specs.Certificate.{clause_number};
 ghost use Rattle.bundle.specs.Judging.{verdict_of};
 
-use job_semantics::clause::Clause;
+use job_semantics::certificate_clause::Clause;
 
 /// Whether the texts of a bundle are a certificate.
 #[derive(Clone, Copy, Debug, Drop, PartialEq, Eq)]

@@ -9,8 +9,8 @@ ghost use Rattle.case_tree.specs.Behind.{AreValuesBehind};
 ghost use Rattle.case_tree.specs.Rooms.{FitsRoom};
 ghost use Rattle.case_tree.specs.Trees.{IsTree};
 
+use crate::front_lanes::{lane_of, set_values_behind};
 use crate::hints::{Room, first_ids, room_for, vector_hints};
-use crate::lanes::{lane_of, set_values_behind};
 use lane_bits::patterns::Patterns;
 use lane_nets::lanes::set_lane;
 use net_core::items::Items;

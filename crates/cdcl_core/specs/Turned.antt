@@ -6,8 +6,8 @@ use Rattle.cdcl_core.specs.Watching.{IsWatching}
 use Rattle.cdcl_core.specs.Searched.{IsSearch, IsSearching, IsModelTrail}
 use Rattle.cdcl_core.specs.Answers.{IsRefutation}
 use Rattle.cdcl_core.specs.declared.search.Search.{Search}
-use Rattle.cdcl_core.specs.declared.turns.Turn.{Turn}
-use Rattle.cdcl_core.specs.declared.turns.Turn.TheVariants.{Further, Refuted, Full}
+use Rattle.cdcl_core.specs.declared.search_turns.Turn.{Turn}
+use Rattle.cdcl_core.specs.declared.search_turns.Turn.TheVariants.{Further, Refuted, Full}
 
 -- a search that goes on can take the next turn
 abbrev pub IsReady : Search → Turn → Type 0

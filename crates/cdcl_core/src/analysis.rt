@@ -22,11 +22,11 @@ ghost use Rattle.cdcl_core.specs.Region.{HasPlace};
 ghost use Rattle.cdcl_core.specs.Jump.{IsRunning};
 
 use crate::clause_list::{ClauseList, id_of};
+use crate::decision_order::Order;
 use crate::literal::Literal;
-use crate::marks::Marks;
-use crate::order::Order;
 use crate::resolution::{mark_conflict, resolve};
 use crate::trail::Trail;
+use crate::trail_marks::Marks;
 use std::alloc::{AllocError, Global};
 
 /// A learned clause: its literals, its hints, the last one first, and the entry of its literal of the conflict's level.

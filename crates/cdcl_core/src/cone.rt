@@ -3,9 +3,9 @@ ghost use Rattle.std.specs.Prelude.{◌≡◌, ◌<◌, ◌≤◌, ◌^◌, IfSo
 ghost use Rattle.cdcl_core.specs.Decided.{IsDecision};
 
 use crate::decision::if_open;
+use crate::decision_order::Order;
 use crate::guide::Guide;
 use crate::literal::Literal;
-use crate::order::Order;
 use crate::trail::Trail;
 use net_parts::items::Signal;
 use std::alloc::{AllocError, Global};

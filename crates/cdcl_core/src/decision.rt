@@ -6,8 +6,8 @@ ghost use Rattle.std.specs.Prelude.{◌≡◌, ◌<◌, ◌^◌, IfSome, IsNone}
 ghost use Rattle.proof_semantics.specs.Clauses.{IsLiteralOf};
 ghost use Rattle.cdcl_core.specs.Decided.{IsDecision, IsFull};
 
+use crate::decision_order::Order;
 use crate::literal::Literal;
-use crate::order::Order;
 use crate::trail::Trail;
 
 /// The literal, where it is open.

@@ -14,8 +14,8 @@ ghost use Rattle.cdcl_core.specs.Jump.{IsRunning, IsJump, IsJumpPair, IsLastOthe
 
 use crate::clause::is_binary;
 use crate::clause_list::ClauseList;
+use crate::decision_order::Order;
 use crate::literal::Literal;
-use crate::order::Order;
 use crate::search::Search;
 use crate::trail::Trail;
 use crate::watches::Watches;

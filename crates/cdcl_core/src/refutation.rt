@@ -10,9 +10,9 @@ ghost use Rattle.cdcl_core.specs.Refuted.{IsRefuted};
 
 use crate::analysis::Learned;
 use crate::clause_list::{ClauseList, id_of};
-use crate::marks::Marks;
 use crate::resolution::{mark_conflict, resolve};
 use crate::trail::Trail;
+use crate::trail_marks::Marks;
 
 /// Resolves every marked entry, where there is no decision. There is room for a hint of each entry.
 fn resolve_all(trail: &Trail, clauses: &ClauseList, marks: &mut Marks, hints: &mut Vec<u64>)

@@ -8,8 +8,8 @@ ghost use Rattle.cdcl_core.specs.Analysis.{mark_at, IsMarkedFrom, AreOthersMarke
 
 use crate::clause_list::{ClauseList, id_of};
 use crate::literal::Literal;
-use crate::marks::Marks;
 use crate::trail::Trail;
+use crate::trail_marks::Marks;
 
 /// Marks the entries before `bound` that make the literals of a clause false, but for one literal.
 fn mark_others(trail: &Trail, marks: &mut Marks, clause: &[Literal], own: Literal, bound: usize)

@@ -10,9 +10,9 @@ ghost use Rattle.cdcl_core.specs.Decided.{IsDecision};
 
 use crate::cone::Cone;
 use crate::decision::if_open;
+use crate::decision_order::Order;
 use crate::guide::{Candidate, Guide};
 use crate::literal::Literal;
-use crate::order::Order;
 use crate::trail::Trail;
 use net_parts::items::Signal;
 use std::alloc::{AllocError, Global};

@@ -11,7 +11,7 @@ use Rattle.file_core.proofs.Told.{Goes-Goes, held_before}
 use Rattle.file_reading.specs.declared.unread.Unread.{Unread}
 use Rattle.file_reading.specs.declared.unread.Unread.TheVariants as unread
 use Rattle.file_reading.specs.Reading.{FilesStay}
-use Rattle.job_semantics.specs.declared.clause.Clause.{Clause}
+use Rattle.job_semantics.specs.declared.certificate_clause.Clause.{Clause}
 use Rattle.job_semantics.specs.declared.ending.Ending.{Ending}
 use Rattle.job_semantics.specs.Endings.{bundle_name}
 use Rattle.job_semantics.specs.Input.{input_reading, IsReadAs, IsRefusedFor}

@@ -16,7 +16,7 @@ use Rattle.proof_semantics.specs.Formula.{Formula}
 use Rattle.proof_semantics.specs.Logs.{LogItem, Refutes}
 use Rattle.proof_semantics.specs.Lrat.{lrat_text}
 use Rattle.trim_semantics.specs.Trimmed.{IsTrimmed}
-use Rattle.job_semantics.specs.declared.clause.Clause.{Clause}
+use Rattle.job_semantics.specs.declared.certificate_clause.Clause.{Clause}
 use Rattle.job_semantics.specs.Endings.{is_bundle_name}
 use Rattle.job_semantics.specs.Job.{are_file_words, is_output_word, are_trim_words}
 use Rattle.job_semantics.specs.Certificate.{Texts, texts_of, OfBundle, IsFirstFailing, clause_number}

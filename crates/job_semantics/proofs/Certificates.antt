@@ -20,7 +20,7 @@ use Rattle.outside_semantics.specs.WrittenFiles.{with_files}
 use Rattle.job_semantics.specs.declared.ending.Ending.{Ending}
 use Rattle.job_semantics.specs.declared.ending.Ending.TheVariants as file
 use Rattle.job_semantics.specs.Endings.{bundle_files}
-use Rattle.job_semantics.specs.declared.clause.Clause.{Clause}
+use Rattle.job_semantics.specs.declared.certificate_clause.Clause.{Clause}
 use Rattle.job_semantics.specs.Report.{Report}
 use Rattle.job_semantics.specs.Bundle.{BundleValue, bundle_report, bundle_text}
 use Rattle.job_semantics.specs.Certificate.{Texts, texts_of, moves_in, IsNetlist, IsReport, AreVectors, IsRefutation, IsShownMinimal, AreCounts, OfNet, OfReport, OfBoth, Holds, Certifies, IsFirstFailing}

@@ -11,7 +11,7 @@ use Rattle.outside_semantics.specs.Outside.{Held, FilesTold, SinkTold, bytes_of}
 use Rattle.outside_semantics.specs.WrittenFiles.{with_files}
 use Rattle.blif_semantics.specs.Reading.{Refusal}
 use Rattle.job_semantics.specs.declared.ending.Ending.{Ending}
-use Rattle.job_semantics.specs.declared.clause.Clause.{Clause}
+use Rattle.job_semantics.specs.declared.certificate_clause.Clause.{Clause}
 use Rattle.job_semantics.specs.Endings.{bundle_endings, bundle_name, bundle_files, is_bundle_name}
 use Rattle.job_semantics.specs.Job.{are_file_words, is_empty_word}
 use Rattle.job_semantics.specs.Input.{IsReadAs, IsRefusedFor}

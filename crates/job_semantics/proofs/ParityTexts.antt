@@ -19,7 +19,7 @@ use Rattle.chain_semantics.specs.Minimality.{IsBrokenBySome, AreBrokenBySome}
 use Rattle.job_semantics.specs.declared.version.Version.{Version}
 use Rattle.job_semantics.specs.declared.version.Version.TheVariants.{One, Two}
 use Rattle.job_semantics.specs.Report.{Report, report_text, vectors_text}
-use Rattle.job_semantics.specs.declared.clause.Clause.TheVariants as clause
+use Rattle.job_semantics.specs.declared.certificate_clause.Clause.TheVariants as clause
 use Rattle.job_semantics.specs.Certificate.{Texts, moves_in, IsNetlist, IsReportText, IsVectorsText, AreCounts, Holds}
 use Rattle.job_semantics.specs.VersionExamples.{conjunction_by_parity, parity_vectors, parity_report, parity_texts}
 use Rattle.job_semantics.proofs.Certificates.{verified_law}

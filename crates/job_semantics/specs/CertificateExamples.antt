@@ -4,7 +4,7 @@ use Rattle.semantics.specs.Texts.{Bytes}
 use Rattle.semantics.specs.declared.metric.Metric.TheVariants.{Abs}
 use Rattle.semantics.specs.Examples.{text, half_adder}
 use Rattle.job_semantics.specs.declared.ending.Ending.TheVariants as file
-use Rattle.job_semantics.specs.declared.clause.Clause.TheVariants as clause
+use Rattle.job_semantics.specs.declared.certificate_clause.Clause.TheVariants as clause
 use Rattle.job_semantics.specs.Certificate.{Texts, Holds, IsFirstFailing, certificate_clauses, clause_number, needed_endings}
 
 pub record CertificateClauseExamples : Type 0 where

@@ -12,7 +12,7 @@ use Rattle.outside_semantics.specs.Outside.{FilesTold}
 use Rattle.outside_semantics.specs.WrittenFiles.{FilesWritten}
 use Rattle.proof_semantics.specs.Logs.{Refutes, IsDerivation}
 use Rattle.proof_semantics.specs.Miter.{miter}
-use Rattle.job_semantics.specs.declared.clause.Clause.{Clause}
+use Rattle.job_semantics.specs.declared.certificate_clause.Clause.{Clause}
 use Rattle.job_semantics.specs.Endings.{bundle_files}
 use Rattle.job_semantics.specs.Report.{Report}
 use Rattle.job_semantics.specs.Bundle.{BundleValue, bundle_text}

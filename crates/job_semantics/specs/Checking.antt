@@ -7,7 +7,7 @@ use Rattle.semantics.specs.Net.{NetValue}
 use Rattle.semantics.specs.declared.metric.Metric.{Metric}
 use Rattle.blif_semantics.specs.Reading.{Refusal}
 use Rattle.outside_semantics.specs.Outside.{Held, FilesTold, SinkTold, Goes, Rose, WhereTold, IsReadOut, turn_budget, bytes_of}
-use Rattle.job_semantics.specs.declared.clause.Clause.{Clause}
+use Rattle.job_semantics.specs.declared.certificate_clause.Clause.{Clause}
 use Rattle.job_semantics.specs.declared.ending.Ending.{Ending}
 use Rattle.job_semantics.specs.Certificate.{Texts, texts_of, OfBundle, IsNetlist, IsReport, Certifies, IsFirstFailing, IsNeededFor, AreNeededHeld}
 use Rattle.job_semantics.specs.CertificateLaws.{IsVerified}

@@ -6,7 +6,7 @@ use Rattle.semantics.specs.declared.mark.Mark.TheVariants.{Zero, One, Dash}
 use Rattle.semantics.specs.declared.metric.Metric.TheVariants.{Abs}
 use Rattle.semantics.specs.Examples.{text}
 use Rattle.job_semantics.specs.declared.ending.Ending.TheVariants as file
-use Rattle.job_semantics.specs.declared.clause.Clause.TheVariants as clause
+use Rattle.job_semantics.specs.declared.certificate_clause.Clause.TheVariants as clause
 use Rattle.job_semantics.specs.Certificate.{Texts, Holds, Certifies, IsFirstFailing}
 
 -- y is the exclusive or of w and q, which equals u and v: of all single moves only one to the two signals u and v keeps its values

@@ -2,7 +2,7 @@
 #![tactic(auto)]
 
 mod bit_row;
-mod counting;
+mod counting_rows;
 mod eights;
 pub mod examples;
 pub mod kernels;

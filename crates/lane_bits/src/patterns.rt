@@ -6,7 +6,7 @@ ghost use Rattle.lane_bits.specs.Patterns.{IsPatternSet, IsRowOf, vector_at};
 ghost use Rattle.lane_bits.specs.Store.{AreGrownFrom, AreReadied, AreSetAt, row_at};
 
 use crate::bit_row::BitRow;
-use crate::counting::counting_rows;
+use crate::counting_rows::counting_rows;
 use crate::kernels::word_count;
 use semantics::limits::MOST_INPUTS;
 use std::alloc::{AllocError, Global};

@@ -3,7 +3,7 @@ ghost use Rattle.std.specs.Prelude.{◌≡◌, ◌<◌, ℕ, List, Bool, length}
 ghost use Rattle.semantics.specs.Net.{signal_count};
 ghost use Rattle.lane_nets.specs.Words.{HasInputs, HasValues};
 
-use crate::words::table_word;
+use crate::table_words::table_word;
 use net_core::net::Net;
 
 /// Finds the words of the tables from those of the inputs, which stay.

@@ -3,7 +3,7 @@ ghost use Rattle.std.specs.Prelude.{◌≡◌, ◌+◌, ◌*◌, ◌<◌, ◌^�
 ghost use Rattle.semantics.specs.Net.{row_literals};
 ghost use Rattle.merge_log.specs.Chains.{ended_with, asked, row_chain, table_chain};
 
-use crate::chain::Chain;
+use crate::hint_chain::Chain;
 use crate::merged::Merged;
 use net_core::items::Signal;
 use net_core::mark::Mark;

@@ -1,8 +1,8 @@
 //! Structural merges: logs that make alike tables of a net equal before a search.
 #![tactic(auto)]
 
-mod chain;
 mod form;
+mod hint_chain;
 mod hints;
 mod level_lists;
 mod levels;

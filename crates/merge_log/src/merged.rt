@@ -3,7 +3,7 @@ ghost use Rattle.std.specs.Prelude.{◌≡◌, ℕ, ◌+◌, ◌<◌, ◌^◌, l
 ghost use Rattle.proof_semantics.specs.NetClauses.{literal_at};
 ghost use Rattle.merge_log.specs.Chains.{first_of, id_of, implied, carried, to_first, from_first};
 
-use crate::chain::Chain;
+use crate::hint_chain::Chain;
 use net_core::items::Signal;
 use std::alloc::{AllocError, Global};
 use std::marker::Model;

@@ -10,7 +10,7 @@ ghost use Rattle.merge_log.specs.Chains.{first_of};
 ghost use Rattle.merge_log.specs.Ids.{HaveIds, AreMerged, forth, back};
 ghost use Rattle.merge_log.specs.Steps.{Adds, IsRowAt, row_pairs};
 
-use crate::chain::{Chain, two_literals};
+use crate::hint_chain::{Chain, two_literals};
 use crate::hints::row_hints;
 use crate::merged::Merged;
 use net_core::items::Signal;

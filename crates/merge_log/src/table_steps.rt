@@ -9,7 +9,7 @@ ghost use Rattle.merge_log.specs.Chains.{first_of};
 ghost use Rattle.merge_log.specs.Ids.{HaveIds, AreMerged, forth, back};
 ghost use Rattle.merge_log.specs.Steps.{Adds, row_pairs};
 
-use crate::chain::Chain;
+use crate::hint_chain::Chain;
 use crate::hints::table_hints;
 use crate::merged::Merged;
 use crate::steps::{Place, merge_rows, next_id, push_pair};

@@ -6,9 +6,9 @@ pub mod flip_sim;
 mod net_rows;
 #[cfg(test)]
 mod net_tests;
-mod rows;
+mod row_blocks;
+mod row_steps;
 mod signal_row;
 pub mod sim;
-mod steps;
 #[cfg(test)]
 mod tests;

@@ -4,8 +4,8 @@ ghost use Rattle.lane_bits.specs.Rows.{word_count};
 ghost use Rattle.aig_core.specs.Graph.{GraphValue, truth_of};
 ghost use Rattle.sim_core.specs.Simulation.{IsForGraph, IsSimulationOf, IsRowOfValues};
 
-use crate::rows::side_of;
-use crate::steps::{set_gates, set_inputs};
+use crate::row_blocks::side_of;
+use crate::row_steps::{set_gates, set_inputs};
 use aig_core::graph::Aig;
 use aig_core::literal::Literal;
 use lane_bits::kernels::{and_rows, clear_past, word_count};

@@ -14,7 +14,7 @@ use Rattle.solve_cnf.specs.Slices.{line_texts}
 use Rattle.text_words.specs.Slices.{texts}
 use Rattle.solve_cnf.specs.FormulaDraft.{DraftValue, gone_on, clauses_with, after_number, with_number}
 use Rattle.solve_cnf.specs.Refusals.{Tells}
-use Rattle.solve_cnf.specs.declared.error.ReadError.{ReadError}
+use Rattle.solve_cnf.specs.declared.formula_error.ReadError.{ReadError}
 
 abbrev is_end : ℤ → Bool
 is_end n = int_eq n (pos 0)

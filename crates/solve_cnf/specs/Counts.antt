@@ -6,8 +6,8 @@ use Rattle.blif_semantics.specs.Lines.{words_of}
 use Rattle.proof_semantics.specs.Clauses.{Clause}
 use Rattle.solve_cnf.specs.Reading.{Refusal, Header, lines_of, header_of, clauses_of}
 use Rattle.solve_cnf.specs.Header.{held_number}
-use Rattle.solve_cnf.specs.declared.error.ReadError.{ReadError}
-use Rattle.solve_cnf.specs.declared.error.ReadError.TheVariants as e
+use Rattle.solve_cnf.specs.declared.formula_error.ReadError.{ReadError}
+use Rattle.solve_cnf.specs.declared.formula_error.ReadError.TheVariants as e
 
 abbrev pub counts_with : Header → Result (List Clause) Refusal → Option (ℕ × ℕ)
 counts_with header (Err refusal) = None

@@ -6,8 +6,8 @@ use Rattle.std.specs.Option.{is_some}
 use Rattle.semantics.specs.Texts.{Bytes}
 use Rattle.blif_semantics.specs.Lines.{is_blank, physical_lines, words_of}
 use Rattle.solve_cnf.specs.Reading.{Header, is_comment, header_of, wrong_word}
-use Rattle.solve_cnf.specs.declared.error.ReadError.{ReadError}
-use Rattle.solve_cnf.specs.declared.error.ReadError.TheVariants as e
+use Rattle.solve_cnf.specs.declared.formula_error.ReadError.{ReadError}
+use Rattle.solve_cnf.specs.declared.formula_error.ReadError.TheVariants as e
 
 -- the lines that are no comments and have more than blanks, each behind how many lines of the text stand before it
 abbrev pub numbered_lines : Bytes → List (ℕ × Bytes)

@@ -1,8 +1,8 @@
 -- Why a text is not read.
 use Rattle.std.specs.Prelude.{◌≡◌, Option, Some, None, Result, Err}
 use Rattle.solve_cnf.specs.Reading.{Refusal, no_header, bad_header, no_number, no_variable, unended, wrong_count}
-use Rattle.solve_cnf.specs.declared.error.ReadError.{ReadError}
-use Rattle.solve_cnf.specs.declared.error.ReadError.TheVariants as e
+use Rattle.solve_cnf.specs.declared.formula_error.ReadError.{ReadError}
+use Rattle.solve_cnf.specs.declared.formula_error.ReadError.TheVariants as e
 
 -- the refusal that the code tells, if it is not want of memory
 abbrev pub refusal_of : ReadError → Option Refusal

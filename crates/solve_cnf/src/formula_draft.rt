@@ -11,7 +11,7 @@ ghost use Rattle.solve_cnf.specs.Slices.{line_texts};
 ghost use Rattle.solve_cnf.specs.Places.{has_wrong, is_wrong, line_number, line_of, line_values, place_if, wrong_line, Names};
 ghost use Rattle.solve_cnf.specs.Counts.{counts_with, counts_of, Counts};
 
-use crate::error::ReadError;
+use crate::formula_error::ReadError;
 use crate::lines::{Line, line_number};
 use crate::numbers::number_of;
 use cnf_core::clause::{ClauseList, Lits};

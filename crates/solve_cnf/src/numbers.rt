@@ -7,7 +7,7 @@ ghost use Rattle.solve_cnf.specs.Refusals.{refusal_of};
 ghost use Rattle.solve_cnf.specs.Places.{is_wrong, place_if, Names};
 ghost use Rattle.solve_cnf.specs.Counts.{counts_of};
 
-use crate::error::ReadError;
+use crate::formula_error::ReadError;
 
 /// The number of decimal digits, or `u64::MAX` where it is greater.
 pub fn digits_number(digits: &[u8]) -> Option<u64>

@@ -6,10 +6,10 @@ ghost use Rattle.solve_cnf.specs.Refusals.{Tells};
 ghost use Rattle.solve_cnf.specs.Places.{refused_line, Names};
 ghost use Rattle.solve_cnf.specs.Counts.{clause_counts, Counts};
 
-use crate::error::ReadError;
 use crate::formula_draft::FormulaDraft;
-use crate::header::header_of;
+use crate::formula_error::ReadError;
 use crate::lines::{line_number, lines_of};
+use crate::problem_line::header_of;
 use cnf_core::cnf::Cnf;
 use std::alloc::Global;
 use text_words::words::words_of;

@@ -3,7 +3,7 @@ ghost use Rattle.std.specs.Prelude.{◌≡◌, ◌≤◌, OnOk, IfErr};
 ghost use Rattle.solve_cnf.specs.Run.{limit_of, IsAnswered, HasFailed};
 ghost use Rattle.solve_cnf.specs.declared.run.RunError.TheVariants.{Refused as RefusedText, OutOfMemory as NoMemory, Write as NotWritten};
 
-use crate::error::ReadError;
+use crate::formula_error::ReadError;
 use crate::numbers::digits_number;
 use crate::reading::read_formula;
 use crate::writing::write_answer;

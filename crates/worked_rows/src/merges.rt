@@ -6,6 +6,7 @@ use merge_log::merges::merges;
 use miter::level::{Miter, joint_miter};
 use net_errors::compared::Compared;
 use net_errors::ports::same_ports;
+use semantics::limits::MOST_OUTPUTS;
 use semantics::metric::Metric;
 use std::alloc::Global;
 use std::test::Fail;
@@ -40,7 +41,7 @@ fn is_accepted(alloc: Global, miter: &Miter, log: &Log) -> Result<bool, Fail> {
 /// Whether the copies of the sum and of the carry are made equal to the first ones, by steps that a checker accepts.
 fn tables_are_merged(alloc: Global) -> Result<bool, Fail> {
     let half_adder = net(alloc, HALF_ADDER)?;
-    if half_adder.outputs() > 64 || !same_ports(&half_adder, &half_adder) {
+    if half_adder.outputs() as usize > MOST_OUTPUTS || !same_ports(&half_adder, &half_adder) {
         return Ok(false);
     }
     let nets = Compared::new(&half_adder, &half_adder);

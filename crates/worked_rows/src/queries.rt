@@ -11,6 +11,7 @@ use net_core::net::Net;
 use net_errors::compared::Compared;
 use net_errors::ports::same_ports;
 use net_moves::apply::apply;
+use semantics::limits::MOST_OUTPUTS;
 use semantics::metric::Metric;
 use std::alloc::Global;
 use std::test::Fail;
@@ -83,7 +84,7 @@ fn is_answered(
     may_be_spent: bool,
 ) -> Result<bool, Fail> {
     let (exact, approx) = nets;
-    if limit == 0 || exact.outputs() > 64 || !same_ports(exact, approx) {
+    if limit == 0 || exact.outputs() as usize > MOST_OUTPUTS || !same_ports(exact, approx) {
         return Ok(false);
     }
     match exceeds(alloc, exact, approx, metric, 0, limit)? {

@@ -10,7 +10,7 @@ use crate::solver_query::ask_solver;
 use crate::vectors_tried::{LANE_INPUTS, try_vectors};
 use bdd_levels::budgets::{LAST_STEPS, QUESTION_STEPS};
 use bdd_levels::decider::Decider;
-use bdd_nets::decision::Decision;
+use bdd_nets::ever_true::Decision;
 use lane_nets::reference::Reference;
 use net_core::items::Bits;
 use net_errors::compared::Compared;

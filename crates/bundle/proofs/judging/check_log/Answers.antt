@@ -2,7 +2,7 @@ use Rattle.std.proofs.Common.{Some, None, sym, subst}
 use Rattle.std.proofs.lemmas.Result.{err_from_is_err_and}
 use Rattle.semantics.specs.Texts.{Bytes}
 use Rattle.job_semantics.specs.declared.ending.Ending.TheVariants as file
-use Rattle.job_semantics.specs.declared.clause.Clause.TheVariants as clause
+use Rattle.job_semantics.specs.declared.certificate_clause.Clause.TheVariants as clause
 use Rattle.bundle_texts.specs.Reading.{report_read}
 use Rattle.std.specs.Prelude.{IfSome}
 use Rattle.bundle.specs.Judging.{TextRead, TextUnread, FormulaKnown}

@@ -1,6 +1,6 @@
 use Rattle.std.proofs.Common.{subst}
 use Rattle.cdcl_core.specs.Turned.{IsEnd}
-use Rattle.cdcl_core.specs.declared.turns.Turn.TheVariants.{Full}
+use Rattle.cdcl_core.specs.declared.search_turns.Turn.TheVariants.{Full}
 use Rattle.cdcl_core.proofs.Searching.{search_modelled}
 use Rattle.cdcl_core.proofs.solve.answer.Goals as goal
 

@@ -1,7 +1,7 @@
 use Rattle.std.proofs.Common.{◌≡◌, ◌∙◌, subst, arith}
 use Rattle.cdcl_core.specs.Searched.{IsSearch}
 use Rattle.cdcl_core.specs.Turned.{IsReady, IsTurn}
-use Rattle.cdcl_core.specs.declared.turns.Turn.TheVariants.{Further}
+use Rattle.cdcl_core.specs.declared.search_turns.Turn.TheVariants.{Further}
 use Rattle.cdcl_core.proofs.solve.take_turns.Goals as goal
 
 pub returns-in-Refuted-clause-shown : goal.returns-in-Refuted-clause-shown

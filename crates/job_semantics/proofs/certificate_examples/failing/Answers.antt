@@ -5,7 +5,7 @@ use Rattle.semantics.specs.Value.{after_rounds, value_of, outputs_of}
 use Rattle.semantics.specs.Error.{net_error}
 use Rattle.semantics.specs.declared.metric.Metric.TheVariants.{Abs}
 use Rattle.semantics.specs.Examples.{text, half_adder, both_constant}
-use Rattle.job_semantics.specs.declared.clause.Clause.TheVariants as clause
+use Rattle.job_semantics.specs.declared.certificate_clause.Clause.TheVariants as clause
 use Rattle.job_semantics.specs.Report.{vectors_text}
 use Rattle.job_semantics.specs.Certificate.{IsVectorsText}
 use Rattle.job_semantics.specs.CertificateExamples.{both_constant_texts, both_constant_vectors, both_constant_report}

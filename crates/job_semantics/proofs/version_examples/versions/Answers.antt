@@ -1,6 +1,6 @@
 use Rattle.std.proofs.Common.{[], ◌∷◌, codes, refl, lit≤}
 use Rattle.job_semantics.specs.declared.version.Version.TheVariants.{One, Two}
-use Rattle.job_semantics.specs.declared.clause.Clause.TheVariants as clause
+use Rattle.job_semantics.specs.declared.certificate_clause.Clause.TheVariants as clause
 use Rattle.job_semantics.specs.VersionExamples.{conjunction_by_parity}
 use Rattle.job_semantics.proofs.ParityTexts.{parity_report_of, all_eight, netlist_read, report_read, vectors_read, same_ports, attained, counts, old_moves_break, not_minimal}
 use Rattle.job_semantics.proofs.version_examples.versions.Goals as goal

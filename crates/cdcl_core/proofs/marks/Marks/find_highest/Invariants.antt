@@ -1,8 +1,0 @@
-use Rattle.cdcl_core.proofs.Loops.{IsNoneFrom}
-use Rattle.cdcl_core.proofs.marks.Marks.find_highest.Given as goal
-
-abbrev pub invariant-down : goal.invariant-down
-invariant-down l = IsNoneFrom l.self-inside.on.items l.low l.high l.place
-
-abbrev pub decreases-down : goal.decreases-down
-decreases-down l = l.place

@@ -1,8 +1,0 @@
-use Rattle.std.proofs.Common.{◌≡◌, length}
-use Rattle.cdcl_core.proofs.order.move_noted.Given as goal
-
-abbrev pub invariant-each : goal.invariant-each
-invariant-each l = l.ring ≡ l.fn.ring
-
-abbrev pub decreases-each : goal.decreases-each
-decreases-each l = length l.noted.items
