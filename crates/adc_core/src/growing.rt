@@ -1,7 +1,6 @@
 //! The masks of an approximate net over a list of patterns that grows.
 ghost use Rattle.std.specs.Prelude.{◌≡◌, ◌↔◌, ◌+◌, ◌*◌, ◌<◌, ◌≤◌, ℕ, List, Bool, true, [], map, take, length, replicate, IfOk, OnOk, OnErr, Contains};
 ghost use Rattle.semantics.specs.Net.{input_count};
-ghost use Rattle.semantics.specs.Error.{IsCandidate};
 ghost use Rattle.chain_semantics.specs.Moves.{moves_of, table_of};
 ghost use Rattle.chain_semantics.specs.Care.{IsBrokenAt};
 ghost use Rattle.lane_nets.specs.Words.{word_bit};
@@ -147,20 +146,18 @@ fn room_for(alloc: Global, judged: &Judged) -> Result<Room, AllocError>
 }
 
 impl<'a> GrowingMasks<'a> {
-    /// The masks of `approx` against `exact` over no pattern.
+    /// The masks of the approximate net over no pattern.
     pub fn new(
         alloc: Global,
-        exact: &'a Net,
-        approx: &'a Net,
+        nets: &Compared<'a>,
         metric: Metric,
         bound: u128,
     ) -> Result<GrowingMasks<'a>, AllocError>
-        requires { IsCandidate exact.now approx.now }
-        ensures { IfOk result
-            (λ m. m ≡ record { exact = exact.now; net = approx.now; metric = metric; bound = bound; vectors = [] }) }
+        ensures { IfOk result (λ m. m
+            ≡ record { exact = nets.now.exact; net = nets.now.approx; metric = metric; bound = bound; vectors = [] }) }
     {
         let judged = Judged {
-            nets: Compared::new(exact, approx),
+            nets: Compared::new(nets.exact(), nets.approx()),
             metric,
             bound,
         };
@@ -169,7 +166,7 @@ impl<'a> GrowingMasks<'a> {
             judged,
             count: 0,
             blocks: Vec::new(alloc),
-            care: empty_rows(alloc, approx.tables())?,
+            care: empty_rows(alloc, nets.approx().tables())?,
             room,
         })
     }

@@ -123,7 +123,8 @@ impl<'a> Asked<'a> {
           vectors = patterns.now.vectors;
         }) }
     {
-        let mut masks = GrowingMasks::new(alloc, self.exact, self.approx, self.metric, self.bound)?;
+        let nets = Compared::new(self.exact, self.approx);
+        let mut masks = GrowingMasks::new(alloc, &nets, self.metric, self.bound)?;
         masks.grow(patterns)?;
         Ok(masks)
     }

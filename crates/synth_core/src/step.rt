@@ -40,8 +40,7 @@ fn pool_masks<'a>(
     requires inputs { pool.now.inputs ≡ input_count nets.now.exact }
     ensures { IfOk result (AreMasksOver terms.metric nets.now.exact terms.bound nets.now.approx pool.now.vectors) }
 {
-    let (exact, approx) = (nets.exact(), nets.approx());
-    let mut masks = GrowingMasks::new(alloc, exact, approx, terms.metric, terms.bound)?;
+    let mut masks = GrowingMasks::new(alloc, nets, terms.metric, terms.bound)?;
     masks.grow(pool)?;
     Ok(masks)
 }
