@@ -1,8 +1,8 @@
 //! A bundle's files, one after another, and its report. Nothing here takes memory.
 ghost use Rattle.std.specs.Prelude.{[], ◌∷◌, OnOk, OnErr};
-ghost use Rattle.outside_semantics.specs.Outside.{Created, CreateFailed, Took, TakeFailed};
+ghost use Rattle.outside_semantics.specs.Outside.{Created, CreateFailed};
 ghost use Rattle.job_semantics.specs.Endings.{bundle_name};
-ghost use Rattle.file_core.specs.Page.{WritesFiles};
+ghost use Rattle.file_core.specs.Page.{WritesFiles, Puts};
 ghost use Rattle.bundle_writing.specs.Value.{file_of, files_of, report_of_bundle};
 
 use crate::bundle::{Bundle, BundleFault};
@@ -86,8 +86,7 @@ pub fn write_bundle<F: Files>(b: &Bundle, stem: &Stem, files: &mut F) -> Result<
 
 /// Puts the report. After a fault a first part of it was put.
 pub fn put_report<K: Sink>(b: &Bundle, say: &mut K) -> Result<(), FileFault>
-    ensures ok { OnOk result (Took (K.told say.old) (K.told say.new) (report_of_bundle b.now)) }
-    ensures err { OnErr result (TakeFailed (K.told say.old) (K.told say.new) (report_of_bundle b.now)) }
+    ensures { Puts result (K.told say.old) (K.told say.new) (report_of_bundle b.now) }
 {
     put_all(say, report(b).as_str().as_bytes())
 }

@@ -24,7 +24,7 @@ use Rattle.blif_text.specs.declared.refusal.BlifRefusal.{BlifRefusal}
 use Rattle.bundle.specs.declared.verdict.Verdict.{Verdict}
 use Rattle.bundle.specs.Judging.{FilesKept, IsVerdict, IsFirstFault, verdict_of, IsCause, NothingKnown}
 use Rattle.job_answers.specs.declared.status.Status.{Status}
-use Rattle.job_answers.specs.declared.status.Status.TheVariants.{Done, Verified, Refuted, Usage, Text, NoMemory, Budget, ReadFault, WriteFault, Endless}
+use Rattle.job_answers.specs.declared.status.Status.TheVariants.{Verified, Refuted, Text, NoMemory, ReadFault, WriteFault, Endless}
 use Rattle.job_answers.specs.Ends.{EndsWell}
 use Rattle.conversions.specs.Input.{NetRead, NetUnread, TextRefused}
 use Rattle.conversions.proofs.InputReadings.{OfInput-later}

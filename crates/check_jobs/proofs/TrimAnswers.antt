@@ -1,5 +1,5 @@
 -- What a trim job comes to, from what its steps say; and that a quiet call has no fault.
-use Rattle.std.proofs.Common.{◌≡◌, ◌≢◌, ◌⊎◌, ◌≤◌, ℕ, Bool, true, false, not, ◌&&◌, ◌||◌, List, [], ◌∷◌, ◌++◌, take, Some, Result, Ok, Err, inl, inr, refl, ap, sym, subst, ◌∙◌}
+use Rattle.std.proofs.Common.{◌≡◌, ◌≢◌, ℕ, Bool, true, false, not, ◌&&◌, List, [], ◌∷◌, ◌++◌, take, Some, Result, Ok, Err, inl, inr, refl, ap, sym, subst, ◌∙◌}
 use Rattle.std.specs.Prelude.{IsTrue}
 use Rattle.semantics.specs.Texts.{Bytes}
 use Rattle.semantics.specs.Net.{NetValue}
@@ -16,20 +16,19 @@ use Rattle.proof_semantics.specs.Formula.{Formula}
 use Rattle.proof_semantics.specs.Logs.{LogItem, Refutes}
 use Rattle.proof_semantics.specs.Lrat.{lrat_text}
 use Rattle.trim_semantics.specs.Trimmed.{IsTrimmed}
-use Rattle.job_semantics.specs.declared.certificate_clause.Clause.{Clause}
 use Rattle.job_semantics.specs.Endings.{is_bundle_name}
 use Rattle.job_semantics.specs.Job.{are_file_words, is_output_word, are_trim_words}
-use Rattle.job_semantics.specs.Certificate.{Texts, texts_of, OfBundle, IsFirstFailing, clause_number}
-use Rattle.job_semantics.specs.Checking.{CheckEnd, verified, refuted, refused, out_of_memory, not_read, endless, IsVerifiedEnd, IsLeftAlone, IsQuietCheck}
+use Rattle.job_semantics.specs.Certificate.{Texts, texts_of, OfBundle}
+use Rattle.job_semantics.specs.Checking.{CheckEnd, verified, refuted, refused, out_of_memory, not_read, endless, IsLeftAlone, IsQuietCheck}
 use Rattle.job_semantics.specs.Conversion.{output_file}
-use Rattle.job_semantics.specs.Trimming.{IsTrimmedText, IsTrimmedBundle, Trimmed, TrimCutShort, TrimEnd, done, not_written, not_verified, IsQuietTrim}
+use Rattle.job_semantics.specs.Trimming.{IsTrimmedBundle, TrimCutShort, TrimEnd, done, not_written, not_verified, IsQuietTrim}
 use Rattle.job_semantics.proofs.BundleNames.{texts_stay}
 use Rattle.job_semantics.specs.Input.{input_reading, IsReadAs}
 use Rattle.bundle.specs.Judging.{FilesKept, IsCause, NothingKnown}
 use Rattle.bundle.specs.Loading.{IsCertificateOf, IsLoaded}
 use Rattle.bundle.specs.declared.loaded.Loaded.TheVariants as load
 use Rattle.job_answers.specs.declared.status.Status.{Status}
-use Rattle.job_answers.specs.declared.status.Status.TheVariants.{Done, Verified, Refuted, Usage, Text, NoMemory, Budget, ReadFault, WriteFault, Endless}
+use Rattle.job_answers.specs.declared.status.Status.TheVariants.{Done, Verified, Refuted, NoMemory, WriteFault}
 use Rattle.job_answers.specs.Ends.{EndsWell}
 use Rattle.job_answers.proofs.Refusals.{AsksNothing}
 use Rattle.conversions.specs.Input.{NetRead, NetUnread}

@@ -1,9 +1,9 @@
 -- What the net of parts tells of the flat net.
-use Rattle.std.proofs.Common.{◌≡◌, ℕ, ◌+◌, ◌-◌, ◌==◌, ◌<◌, ◌≤◌, zero, suc, Bool, true, false, cond, List, [], ◌∷◌, ◌++◌, map, length, get_or, Option, Some, None, Result, Ok, Err, refl, ap, sym, subst, ◌∙◌, arith}
+use Rattle.std.proofs.Common.{◌≡◌, ℕ, ◌+◌, ◌==◌, Bool, true, false, cond, length, Option, Some, None, Result, Ok, Err, refl, ap, sym, subst, ◌∙◌}
 use Rattle.semantics.specs.declared.which.Which.{Which}
 use Rattle.semantics.specs.Texts.{Bytes}
 use Rattle.semantics.specs.Net.{NetValue, input_count, signal_names, name_of, IsSound, IsSmall}
-use Rattle.semantics.specs.Refusals.{NetRefused, doubled, no_output, undriven, cycle, limit, or_else, first_doubled, first_undriven, first_ungrounded, first_limit, net_refusal}
+use Rattle.semantics.specs.Refusals.{doubled, no_output, undriven, cycle, limit, or_else, first_doubled, first_undriven, first_ungrounded, first_limit, net_refusal}
 use Rattle.semantics.proofs.Refused.{acyclic-grounded, small}
 use Rattle.blif_semantics.specs.Reading as r
 use Rattle.hierarchy_semantics.specs.Refusals as h

@@ -1,17 +1,16 @@
 -- The signals of the names in a model are those of its places.
-use Rattle.std.proofs.Common.{◌≡◌, ℕ, zero, suc, ◌+◌, ◌≤◌, ltb, ◌&&◌, not, Bool, true, false, cond, List, [], ◌∷◌, ◌++◌, map, length, get_or, find, bytes_eq, Option, Some, None, refl, ap, sym, subst, ◌∙◌, inl, inr, arith}
+use Rattle.std.proofs.Common.{◌≡◌, ℕ, suc, ◌+◌, ◌≤◌, ltb, not, Bool, true, false, cond, List, [], ◌∷◌, ◌++◌, map, length, get_or, find, bytes_eq, Option, Some, None, refl, ap, sym, subst, ◌∙◌, arith}
 use Rattle.std.specs.List.{position_or_len, range_with_len}
 use Rattle.std.proofs.lemmas.Bool.{false≢true, and_parts, ltb-false}
 use Rattle.std.proofs.lemmas.List.{map-append, length-map, get_or_past}
 use Rattle.semantics.specs.Texts.{Bytes}
-use Rattle.hierarchy_semantics.specs.Models.{Subcircuit, Part, subckt_part, BlifModel, Hierarchy, main_of, model_named}
-use Rattle.hierarchy_semantics.specs.Driven.{Source, by_input, by_table, by_output, Driven, over_parts, inputs_driven, part_driven, driven_of, names_driven, source_of}
+use Rattle.hierarchy_semantics.specs.Models.{Subcircuit, Part, BlifModel, Hierarchy, main_of, model_named}
+use Rattle.hierarchy_semantics.specs.Driven.{Source, Driven, over_parts, inputs_driven, part_driven, driven_of, names_driven, source_of}
 use Rattle.hierarchy_semantics.specs.Places.{Path, use_at, model_at, actual_of}
 use Rattle.hierarchy_semantics.specs.Flat.{FlatItem, flat_items, is_place, source_or, input_or, table_signal, place_signal}
-use Rattle.hierarchy_semantics.proofs.Members.{IsIn, in_right, found_in, none_found, same_bytes, equal_bytes}
+use Rattle.hierarchy_semantics.proofs.Members.{IsIn, in_right, found_in, none_found, same_bytes}
 use Rattle.hierarchy_semantics.proofs.Parts.{from_parts, PartSource, is_table, is_output, part_source}
 use Rattle.hierarchy_semantics.proofs.Placed.{flat_placed}
-use Rattle.hier_parts.specs.Driven.{driven_names}
 use Rattle.hier_flat.specs.Flattening.{part_signals, signal_in, model_signal, used_signal, main_signal}
 use Rattle.hier_parts.proofs.Found.{sym_eq}
 use Rattle.hier_parts.proofs.DrivenNames.{driven-same}

@@ -1,14 +1,14 @@
 -- The tables that are made model by model are those of the flat net.
-use Rattle.std.proofs.Common.{◌≡◌, ℕ, zero, suc, ◌+◌, ◌*◌, ◌<◌, ◌≤◌, Bool, true, false, List, [], ◌∷◌, ◌++◌, map, length, get_or, append_assoc, append-nil, refl, ap, sym, subst, ◌∙◌, inl, inr, arith}
+use Rattle.std.proofs.Common.{◌≡◌, ℕ, zero, suc, ◌+◌, ◌<◌, ◌≤◌, Bool, true, false, List, [], ◌∷◌, ◌++◌, map, length, get_or, append_assoc, append-nil, refl, ap, sym, subst, ◌∙◌, inl, inr, arith}
 use Rattle.std.proofs.lemmas.Bool.{false≢true}
 use Rattle.std.proofs.lemmas.List.{map-append, length-append}
 use Rattle.semantics.specs.Texts.{Bytes}
-use Rattle.semantics.specs.Net.{TableValue, NetValue}
+use Rattle.semantics.specs.Net.{TableValue}
 use Rattle.blif_semantics.specs.Tables.{NamedTable}
 use Rattle.hierarchy_semantics.specs.Models.{Binding, Subcircuit, Part, names_part, subckt_part, BlifModel, Hierarchy, main_of, model_named, part_uses, uses_of}
-use Rattle.hierarchy_semantics.specs.Driven.{Driven, by_table, by_output, bound_outputs, over_parts, inputs_driven, part_driven, driven_of, names_driven}
+use Rattle.hierarchy_semantics.specs.Driven.{Driven, by_table, by_output, bound_outputs, over_parts, inputs_driven, part_driven, names_driven}
 use Rattle.hierarchy_semantics.specs.Refusals.{is_model_grounded}
-use Rattle.hierarchy_semantics.specs.Places.{Path, use_of, use_at, model_at, IsUse}
+use Rattle.hierarchy_semantics.specs.Places.{Path, use_of, model_at, IsUse}
 use Rattle.hierarchy_semantics.specs.Flat.{FlatItem, items_at, part_items, items_of, flat_items, table_signal, place_signal, flat_name, flat_table, tables_from, flat_net}
 use Rattle.hierarchy_semantics.proofs.Members.{IsIn, in_right, in_append}
 use Rattle.hierarchy_semantics.proofs.Parts.{no_part, in_flat_map}
@@ -16,7 +16,7 @@ use Rattle.hierarchy_semantics.proofs.Placed.{IsGood, fit_at, used_model}
 use Rattle.hierarchy_semantics.proofs.Distinct.{Distinct, distinct_right, distinct_names}
 use Rattle.hier_flat.specs.Flattening.{label, table_made, buffer_made, used_signal, main_signal, part_signals, with_buffers, with_part, with_parts, with_model}
 use Rattle.hier_flat.proofs.FlatSizes.{grounded_inside, weight_level}
-use Rattle.hier_flat.proofs.FlatPlaces.{EndsIn, ends_here, ends_before, not_itself, one_end, own_path, model_ends, map_same_in, HaveSizes, Stands, model_found}
+use Rattle.hier_flat.proofs.FlatPlaces.{EndsIn, ends_before, not_itself, one_end, own_path, model_ends, map_same_in, HaveSizes, Stands, model_found}
 use Rattle.hier_flat.proofs.FlatFrames.{used_framed, main_framed}
 
 -- ---- the items that are left

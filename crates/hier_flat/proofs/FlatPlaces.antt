@@ -1,16 +1,14 @@
 -- Where the flat tables of a model stand in the flat list.
 use Rattle.std.proofs.Common.{◌≡◌, ℕ, zero, suc, ◌+◌, ◌<◌, ◌*◌, ◌&&◌, Bool, true, false, cond, List, [], ◌∷◌, ◌++◌, map, length, bytes_eq, Option, Some, None, append_assoc, refl, ap, sym, subst, ◌∙◌, inl, inr, arith}
 use Rattle.std.specs.List.{position_from, range_with_len}
-use Rattle.std.proofs.lemmas.Bool.{false≢true}
-use Rattle.std.proofs.lemmas.List.{map-append, length-map, length-append}
+use Rattle.std.proofs.lemmas.List.{map-append, length-append}
 use Rattle.semantics.specs.Texts.{Bytes}
-use Rattle.hierarchy_semantics.specs.Models.{Binding, Subcircuit, Part, names_part, subckt_part, BlifModel, Hierarchy, main_of, model_named, uses_of}
-use Rattle.hierarchy_semantics.specs.Driven.{by_output, Driven, bound_outputs, over_parts, part_driven}
-use Rattle.hierarchy_semantics.specs.Refusals.{is_model_grounded}
+use Rattle.hierarchy_semantics.specs.Models.{Subcircuit, Part, names_part, subckt_part, BlifModel, Hierarchy, main_of, model_named}
+use Rattle.hierarchy_semantics.specs.Driven.{Driven, bound_outputs, over_parts, part_driven}
 use Rattle.hierarchy_semantics.specs.Places.{Path}
 use Rattle.hierarchy_semantics.specs.Flat.{FlatItem, items_at, part_items, items_of, flat_items, is_place, table_signal}
 use Rattle.hierarchy_semantics.specs.Counts.{model_weight}
-use Rattle.hierarchy_semantics.proofs.Members.{IsIn, in_left, in_right, in_append, in_map, from_map, same_bytes, equal_bytes}
+use Rattle.hierarchy_semantics.proofs.Members.{IsIn, in_append, in_map, from_map, same_bytes, equal_bytes}
 use Rattle.hierarchy_semantics.proofs.Distinct.{Distinct, distinct_left, distinct_right, distinct_apart}
 use Rattle.hier_flat.specs.Flattening.{by_tables, size_of, part_size, own_signals, part_signals}
 use Rattle.hier_flat.proofs.FlatSizes.{outputs_length, part_length, model_length}

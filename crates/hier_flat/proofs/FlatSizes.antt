@@ -1,18 +1,18 @@
 -- How many flat tables a model has, at any number of levels that grounds it.
-use Rattle.std.proofs.Common.{◌≡◌, ℕ, zero, suc, ◌+◌, ◌*◌, ◌-◌, ◌<◌, ◌≤◌, Bool, true, List, [], ◌∷◌, ◌++◌, map, length, sum_by, refl, ap, sym, subst, ◌∙◌, inl, inr, arith}
+use Rattle.std.proofs.Common.{◌≡◌, ℕ, zero, suc, ◌+◌, ◌*◌, ◌-◌, ◌≤◌, Bool, true, List, [], ◌∷◌, length, sum_by, refl, ap, sym, subst, ◌∙◌, inl, inr, arith}
 use Rattle.std.specs.List.{list_all}
 use Rattle.std.proofs.lemmas.Bool.{false≢true, and_parts, and_from}
 use Rattle.std.proofs.lemmas.List.{length-map, length-append}
 use Rattle.std.proofs.lemmas.List.Sums.{sum_by-cons}
-use Rattle.hierarchy_semantics.specs.Models.{Binding, Subcircuit, Part, names_part, subckt_part, BlifModel, Hierarchy, model_named, part_uses, uses_of}
+use Rattle.hierarchy_semantics.specs.Models.{Subcircuit, Part, names_part, subckt_part, BlifModel, Hierarchy, model_named, part_uses, uses_of}
 use Rattle.hierarchy_semantics.specs.Driven.{Driven, by_output, bound_outputs, over_parts, part_driven}
 use Rattle.hierarchy_semantics.specs.Refusals.{is_model_grounded}
 use Rattle.hierarchy_semantics.specs.Places.{Path}
-use Rattle.hierarchy_semantics.specs.Flat.{FlatItem, items_at, part_items, items_of}
+use Rattle.hierarchy_semantics.specs.Flat.{items_at, part_items, items_of}
 use Rattle.hierarchy_semantics.specs.Counts.{Weight, part_weight, model_weight}
 use Rattle.hierarchy_semantics.proofs.Members.{IsIn, passed_in}
 use Rattle.hierarchy_semantics.proofs.Parts.{in_flat_map}
-use Rattle.hier_flat.specs.Flattening.{by_tables, size_of, part_size}
+use Rattle.hier_flat.specs.Flattening.{by_tables}
 
 pub sum_same : {X : Type 0} (f g : X → ℕ) (xs : List X) → ((x : X) → IsIn x xs → f x ≡ g x) → sum_by f xs ≡ sum_by g xs
 sum_same f g [] same = refl

@@ -1,9 +1,8 @@
 -- The signals of a model, one part after another.
-use Rattle.std.proofs.Common.{◌≡◌, ℕ, ◌+◌, ◌-◌, ◌^◌, ◌<◌, ◌≤◌, zero, suc, List, [], ◌∷◌, ◌++◌, map, length, get_or, sum_by, drop, None, append_assoc, append-nil, refl, ap, sym, subst, ◌∙◌, arith}
+use Rattle.std.proofs.Common.{◌≡◌, ℕ, ◌+◌, ◌-◌, ◌^◌, ◌<◌, ◌≤◌, suc, List, [], ◌∷◌, ◌++◌, map, length, get_or, sum_by, drop, append_assoc, append-nil, ap, sym, ◌∙◌, arith}
 use Rattle.std.specs.List.{range_with_len}
 use Rattle.std.proofs.lemmas.List.{drop_more, drop_all}
 use Rattle.std.proofs.lemmas.List.Sums.{sum_by-cons}
-use Rattle.semantics.specs.Texts.{Bytes}
 use Rattle.hierarchy_semantics.specs.Models.{Part, Hierarchy}
 use Rattle.hier_flat.specs.Weights.{capped}
 use Rattle.hier_flat.specs.Flattening.{part_size, own_signals, part_signals}

@@ -1,5 +1,5 @@
 -- The limit that a flat net passes, by counting.
-use Rattle.std.proofs.Common.{◌≡◌, ℕ, zero, suc, ◌+◌, ◌-◌, ◌^◌, ◌<◌, ◌≤◌, leb, not, ◌&&◌, Bool, true, false, cond, List, [], ◌∷◌, map, length, get_or, sum_by, Option, Some, None, refl, ap, sym, ◌∙◌, arith}
+use Rattle.std.proofs.Common.{◌≡◌, ℕ, ◌+◌, ◌-◌, ◌^◌, ◌<◌, leb, not, ◌&&◌, Bool, true, false, cond, List, [], ◌∷◌, length, get_or, sum_by, Option, refl, ap, sym, ◌∙◌, arith}
 use Rattle.std.specs.List.{list_all}
 use Rattle.std.proofs.lemmas.Bool.{le-leb, leb-true, leb-false, lt-leb}
 use Rattle.std.proofs.lemmas.List.{length-map}
@@ -9,7 +9,7 @@ use Rattle.semantics.specs.declared.limits.TheConstants.{MOST_INPUTS, MOST_OUTPU
 use Rattle.semantics.specs.Net.{TableValue, NetValue, pin_count, row_count}
 use Rattle.semantics.specs.Refusals.{first_limit}
 use Rattle.hierarchy_semantics.specs.Models.{Hierarchy, main_of}
-use Rattle.hierarchy_semantics.specs.Counts.{Weight, model_weight, flat_weight}
+use Rattle.hierarchy_semantics.specs.Counts.{Weight, flat_weight}
 use Rattle.hierarchy_semantics.specs.Flat.{place_signal, flat_net}
 use Rattle.hierarchy_semantics.proofs.Counted.{tables_count, pins_count, rows_count, wide_count}
 use Rattle.hier_flat.specs.declared.weights.Measure.TheVariants.{Tables, WideTables, Pins, Rows}

@@ -11,7 +11,6 @@ use Rattle.hierarchy_semantics.specs.Flat.{flat_net, flat_checked, flattened}
 use Rattle.hierarchy_semantics.specs.Refusals as r
 use Rattle.hierarchy_semantics.specs.Refusals.{model_names}
 use Rattle.hierarchy_semantics.proofs.Members.{IsIn}
-use Rattle.hierarchy_semantics.proofs.Placed.{IsGood}
 use Rattle.hierarchy_semantics.proofs.Accepted.{read_parts, main_read}
 use Rattle.hierarchy_semantics.proofs.Formed.{IsFormed}
 use Rattle.blif_text.specs.declared.refusal.BlifRefusal.{BlifRefusal}

@@ -1,17 +1,16 @@
 -- What is known of a hierarchy that was read.
-use Rattle.std.proofs.Common.{◌≡◌, ap, subst, sym, ◌∙◌, Some, None}
+use Rattle.std.proofs.Common.{ap, subst, sym, ◌∙◌}
 use Rattle.std.specs.List.{AllByRecursion}
 use Rattle.semantics.specs.Net.{IsName}
-use Rattle.semantics.specs.Texts.{Bytes}
 use Rattle.semantics.specs.Refusals.{first_doubled}
-use Rattle.blif_semantics.specs.Lines.{Statement, logical_lines, statements}
+use Rattle.blif_semantics.specs.Lines.{logical_lines, statements}
 use Rattle.hierarchy_semantics.specs.Models.{Part, names_part, subckt_part, BlifModel, Hierarchy, model_named}
 use Rattle.hierarchy_semantics.proofs.Members.{IsIn, each_in}
 use Rattle.hierarchy_semantics.proofs.Placed.{IsGood}
 use Rattle.hierarchy_semantics.proofs.Accepted.{read_parts, good_reading}
 use Rattle.hierarchy_semantics.proofs.Formed.{IsFormed, formed, HasFormedParts, formed_named}
 use Rattle.hier_flat.specs.Hierarchies.{IsReading}
-use Rattle.hier_flat.specs.Flattening.{IsFormedPart, IsReady, AreReady}
+use Rattle.hier_flat.specs.Flattening.{IsFormedPart, AreReady}
 use Rattle.hier_parts.proofs.DrivenNames.{driven-same}
 
 pub reading_good : (h : Hierarchy) → IsReading h → IsGood h

@@ -1,5 +1,5 @@
 -- The weights of models, one level after another.
-use Rattle.std.proofs.Common.{◌≡◌, ℕ, zero, suc, ◌+◌, ◌-◌, ◌*◌, ◌<◌, ◌≤◌, ltb, cond, List, [], ◌∷◌, map, length, get_or, sum_by, replicate, take, drop, ◌++◌, bytes_eq, Option, Some, None, refl, ap, sym, subst, ◌∙◌, arith}
+use Rattle.std.proofs.Common.{◌≡◌, ℕ, zero, suc, ◌+◌, ◌-◌, ◌*◌, ◌<◌, ◌≤◌, List, [], ◌∷◌, map, length, get_or, sum_by, replicate, take, drop, ◌++◌, bytes_eq, Option, Some, None, refl, ap, sym, subst, ◌∙◌, arith}
 use Rattle.std.specs.List.{position_or_len}
 use Rattle.std.proofs.lemmas.List.{length-map, map-append, drop_more, drop_all, take_more}
 use Rattle.std.proofs.lemmas.List.Sums.{sum_by-cons}
