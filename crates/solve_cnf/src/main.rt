@@ -2,13 +2,13 @@
 //! the log of as many conflicts as the limit allows.
 #![tactic(auto)]
 
-mod error;
 mod examples;
 mod formula_draft;
-mod header;
+mod formula_error;
 mod laws;
 mod lines;
 mod numbers;
+mod problem_line;
 mod reading;
 mod run;
 mod writing;

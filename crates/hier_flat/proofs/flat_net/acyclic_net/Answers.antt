@@ -8,7 +8,7 @@ use Rattle.hier_flat.proofs.flat_net.acyclic_net.Goals as goal
 pub returns-in-Ok-clause-ok : goal.returns-in-Ok-clause-ok
 returns-in-Ok-clause-ok c =
     let N : NetValue = record { model = c.args.model; inputs = c.args.inputs; tables = c.args.tables; outputs = c.args.outputs } in
-    checked_at N c.in-Ok.net c.in-Ok.ensures.ok c.requires.limit c.see_sound-in-Ok.ensures.sound
+    checked_at N c.in-Ok.net c.in-Ok.ensures.ok c.requires.limit c.see_sound.ensures.sound
 
 pub returns-in-Ok-clause-small : goal.returns-in-Ok-clause-small
 returns-in-Ok-clause-small c =
