@@ -1,4 +1,8 @@
 //! The bundle of the half adder within 1, whole or with one file changed.
+ghost use Rattle.std.specs.Prelude.{◌≡◌, ◌↔◌, IsTrue};
+ghost use Rattle.std.specs.List.{All};
+ghost use Rattle.std.specs.FinMap.{get};
+
 use crate::half_adder::{HALF_ADDER, NAMES, SYNTHESIS};
 use crate::held::{add_file, bytes_of, holds};
 use crate::runs::run_on;
@@ -27,9 +31,11 @@ pub fn with_file(
     Ok(files)
 }
 
-/// Whether the files hold the whole bundle.
-pub fn are_whole(files: &MemFiles, whole: &MemFiles) -> bool {
-    for name in NAMES {
+/// Whether the files hold each of the names as the whole bundle does.
+pub fn are_whole(files: &MemFiles, names: &[&[u8]], whole: &MemFiles) -> bool
+    ensures { IsTrue result ↔ All (λ name. get files.now.held name.now ≡ get whole.now.held name.now) names.now }
+{
+    for name in names {
         if !holds(files, name, whole.bytes(name)) {
             return false;
         }
