@@ -1,7 +1,8 @@
 //! The bundle of the half adder within 1, whole or with one file changed.
-ghost use Rattle.std.specs.Prelude.{◌≡◌, ◌↔◌, IsTrue};
+ghost use Rattle.std.specs.Prelude.{◌≡◌, ◌↔◌, IsTrue, IfOk};
 ghost use Rattle.std.specs.List.{All};
 ghost use Rattle.std.specs.FinMap.{get};
+ghost use Rattle.memory_runs.specs.Bundles.{changed_bundle};
 
 use crate::half_adder::{HALF_ADDER, NAMES, SYNTHESIS};
 use crate::held::{add_file, bytes_of, holds};
@@ -21,7 +22,9 @@ pub fn with_file(
     whole: &MemFiles,
     name: &[u8],
     text: &[u8],
-) -> Result<FileList, AllocError> {
+) -> Result<FileList, AllocError>
+    ensures { IfOk result (λ files. files ≡ changed_bundle whole.now.held name.now text.now) }
+{
     let mut files = FileList::new(alloc);
     add_file(alloc, &mut files, name, text)?;
     for kept in NAMES {
