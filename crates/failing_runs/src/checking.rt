@@ -22,7 +22,7 @@ fn failing_at(alloc: Global, whole: &MemFiles, chunk: usize, call: u64) -> Resul
 
 /// Whether all files are as they were, and nothing is put.
 fn is_quiet(ended: &Run, whole: &MemFiles) -> bool {
-    are_whole(&ended.files, whole)
+    are_whole(&ended.files, &NAMES, whole)
         && holds(&ended.files, b"ha.blif", Some(HALF_ADDER))
         && ended.sink.bytes().is_empty()
 }

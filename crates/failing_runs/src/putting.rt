@@ -2,9 +2,9 @@
 ghost use Rattle.std.specs.Prelude.{◌<◌};
 
 use crate::writing::{DEMONSTRATION, OF_THE_HALF_ADDER, Writing};
-use file_core::memory_files::MemFiles;
+use memory_runs::bundles::are_whole;
 use memory_runs::half_adder::HALF_ADDER;
-use memory_runs::held::{bytes_of, holding, holds};
+use memory_runs::held::{bytes_of, holding};
 use memory_runs::runs::{Run, run_failing, run_on};
 use std::alloc::{AllocError, Global};
 use std::test::Fail;
@@ -18,16 +18,6 @@ fn failing_at(alloc: Global, job: &Writing, chunk: usize, call: u64) -> Result<R
 {
     let held = holding(alloc, HALF_ADDER)?;
     run_failing(alloc, job.line, held, chunk, 0, call)
-}
-
-/// Whether the bundle is whole.
-fn is_whole(files: &MemFiles, names: &[&[u8]; 5], whole: &MemFiles) -> bool {
-    for name in names {
-        if !holds(files, name, whole.bytes(name)) {
-            return false;
-        }
-    }
-    true
 }
 
 /// Whether a write fault is answered, and a first part of the report was put, but not all.
@@ -46,7 +36,7 @@ fn sink_fails_in_turn(alloc: Global, job: &Writing, chunk: usize) -> Result<bool
     let report = bytes_of(&whole, job.names[4]);
     for call in 1..MOST_CALLS {
         let ended = failing_at(alloc, job, chunk, call)?;
-        if !is_whole(&ended.files, &job.names, &whole) {
+        if !are_whole(&ended.files, &job.names, &whole) {
             return Ok(false);
         }
         if !is_left_by_the_sink(&ended, report) {

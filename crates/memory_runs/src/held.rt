@@ -2,6 +2,7 @@
 ghost use Rattle.std.specs.Prelude.{◌≡◌, ◌↔◌, IsTrue, MatchOption, ⊤, [], ◌∷◌, ◌++◌, length, take, codes, option_map, IfOk, OnOk, OnErr};
 ghost use Rattle.std.specs.FinMap.{get};
 ghost use Rattle.outside_semantics.specs.Outside.{bytes_of};
+ghost use Rattle.memory_runs.specs.Words.{words_of};
 
 use file_core::lists::FileList;
 use file_core::memory_files::MemFiles;
@@ -9,7 +10,9 @@ use file_core::word::Word;
 use std::alloc::{AllocError, Global};
 
 /// The words of a line, which stand between single blanks; an empty line has none.
-pub fn words(alloc: Global, line: &[u8]) -> Result<Vec<Word>, AllocError> {
+pub fn words(alloc: Global, line: &[u8]) -> Result<Vec<Word>, AllocError>
+    ensures { IfOk result (λ words. words.items ≡ words_of line.now) }
+{
     let mut words = Vec::new(alloc);
     if line.is_empty() {
         return Ok(words);
