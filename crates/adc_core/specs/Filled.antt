@@ -6,16 +6,16 @@ use Rattle.lane_bits.specs.Rows.{row_bit, word_count}
 use Rattle.lane_nets.specs.Words.{values_at}
 use Rattle.lane_nets.specs.Blocks.{row_at, AreBlocksOf}
 
--- so many vectors, read from the blocks' inputs
+-- `count` vectors, read from the inputs of the blocks
 abbrev pub vectors_in : ℕ → ℕ → List (List ℕ) → List (List Bool)
 vectors_in inputs count blocks = map (λ p. map (values_at (row_at blocks (p / 64)) (p % 64)) (range_with_len 0 inputs)) (range_with_len 0 count)
 
--- a row of the length that so many patterns need, with no bit past them
+-- a row with the words that `count` patterns need, and with no bit past them
 pub record IsRowFor (count : ℕ) (row : List ℕ) : Type 0 where
   pub words : length row ≡ word_count count
   pub clear : (p : ℕ) → count ≤ p → row_bit row p ≡ false
 
--- what the fields of the masks of a net hold, whatever they were made for
+-- what the fields of the masks of a net hold, whatever nets they were made for
 pub record AreFilled (N : NetValue) (count : ℕ) (held rows : List (List ℕ)) (last room : List ℕ) : Type 0 where
   pub blocks : AreBlocksOf N (vectors_in (input_count N) count held) held
   pub sound : IsSound N
@@ -25,7 +25,7 @@ pub record AreFilled (N : NetValue) (count : ℕ) (held rows : List (List ℕ)) 
   pub exceeds : IsRowFor count last
   pub differs : length room ≡ word_count count
 
--- words of outputs for so many patterns: in each block as many as the net has outputs
+-- words of outputs for `count` patterns: in each block as many words as the net has outputs
 pub record FitsOutputs (N : NetValue) (count : ℕ) (outputs : List (List ℕ)) : Type 0 where
   pub blocks : length outputs ≡ word_count count
   pub widths : (k : ℕ) → k < length outputs → length (row_at outputs k) ≡ length N.outputs

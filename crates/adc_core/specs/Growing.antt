@@ -49,7 +49,7 @@ pub record FitsRoom (j : Judged) (room : Room) : Type 0 where
   pub marks : length room.marks.items ≡ signal_count j.nets.approx
   pub words : length room.words.items ≡ signal_count j.nets.approx
 
--- so many vectors, read from the blocks' inputs
+-- `count` vectors, read from the inputs of the blocks
 abbrev pub vectors_in_blocks : ℕ → ℕ → List Block → List (List Bool)
 vectors_in_blocks inputs count blocks = vectors_in inputs count (map (λ (b : Block). b.words) blocks)
 

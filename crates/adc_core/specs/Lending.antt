@@ -5,6 +5,6 @@ use mathlib.Core.Option.{none}
 use Rattle.adc_core.specs.Masks.{Masks}
 use Rattle.adc_core.specs.contracts.adc.Adc.{the_row}
 
--- after the borrow they are what they were before it
+-- after the borrow the masks are what they were before it
 abbrev pub StayTheSame : MutBor Masks → Fml
 StayTheSame masks = follows_so the_row the_row masks.ghost_name none (λ _ _. ⊤) (λ after. after ≡ masks.now)

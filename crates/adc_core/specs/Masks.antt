@@ -13,7 +13,8 @@ pub record Masks : Type 0 where
   pub care : List (List ℕ)
   pub exceeds : List ℕ
 
--- each table's row tells the patterns that are cared for, and the last those at which the net itself exceeds the bound
+-- each table's row tells the patterns that are cared for, and the last row the patterns at which the net
+-- itself exceeds the bound
 pub record AreMasksOf (metric : Metric) (exact : NetValue) (bound : ℕ) (m : Masks) : Type 0 where
   pub care : (t : ℕ) → t < table_count m.net → IsRowWhere m.vectors (IsCaredFor metric exact bound m.net t) (row_at m.care t)
   pub exceeds : IsRowWhere m.vectors (Exceeds metric exact bound m.net) m.exceeds

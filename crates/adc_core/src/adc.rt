@@ -25,8 +25,8 @@ use semantics::metric::Metric;
 use std::alloc::{AllocError, Global};
 use std::marker::Model;
 
-/// The net's values at the patterns in blocks of 64, for each table the row of the patterns that are cared for, the row of those
-/// at which the net itself exceeds the bound, and room for one more row.
+/// The net's values at the patterns in blocks of 64; for each table the row of the patterns that are cared
+/// for; the row of the patterns at which the net itself exceeds the bound; and room for one more row.
 #[derive(Drop)]
 pub struct Adc {
     net: Net,
@@ -115,7 +115,7 @@ impl Adc {
         self.care.get(t as usize).as_slice()
     }
 
-    /// The row of the patterns at which the move changes its table's value.
+    /// The row of the patterns at which the move changes the value of its table.
     pub fn differs(&mut self, step: Move) -> &[u64]
         requires { Contains (moves_of self.old.net) step }
         ensures* masks { sem 𝓛 (StayTheSame self.entry) }

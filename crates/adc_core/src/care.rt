@@ -18,7 +18,8 @@ use semantics::limits::MOST_OUTPUTS;
 use semantics::metric::Metric;
 use std::alloc::{AllocError, Global};
 
-/// The words of the exact outputs in blocks of 64 patterns, the number of the patterns, and how far other outputs may err.
+/// The words of the exact outputs in blocks of 64 patterns, the number of patterns, and the greatest error
+/// that other outputs may have.
 #[derive(Drop)]
 pub(crate) struct Limit {
     pub(crate) outputs: Items<WordList>,
@@ -67,8 +68,8 @@ pub(crate) fn exceeding_row(
     Ok(WordList::of(row))
 }
 
-/// Sets `row` to the patterns that are cared for at table `t`, on which the tables `later` depend. Each block's values with the table
-/// turned over are found in `words`.
+/// Sets `row` to the patterns that are cared for at table `t`; the tables `later` depend on `t`. The values
+/// of each block with the table turned over are computed in `words`.
 fn set_care_row(
     net: &Net,
     t: u32,
@@ -100,7 +101,7 @@ fn set_care_row(
     }
 }
 
-/// For each table the row of the patterns that are cared for. The loop takes memory for the rows alone.
+/// For each table the row of the patterns that are cared for. Only the rows take memory.
 pub(crate) fn care_rows(
     alloc: Global,
     net: &Net,

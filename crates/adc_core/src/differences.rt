@@ -1,4 +1,4 @@
-//! At which patterns a move changes its table's value, and where that breaks the bound.
+//! The patterns at which a move changes its table's value, and those at which this breaks the bound.
 ghost use Rattle.std.specs.Prelude.{◌≡◌, ◌↔◌, ◌⊎◌, ◌+◌, ◌*◌, ◌<◌, ◌≤◌, ◌^◌, ℕ, Bool, List, length, nat_lt, IsTrue, if◌then◌else◌, Contains};
 ghost use Rattle.semantics.specs.Net.{NetValue, signal_count};
 ghost use Rattle.semantics.specs.declared.metric.Metric.{Metric};
@@ -17,7 +17,7 @@ use lane_nets::word_list::WordList;
 use net_core::net::Net;
 use net_moves::apply::table_of;
 
-/// Where the move changes its table's value, in one block.
+/// The lanes where the move changes its table's value, in one block.
 pub(crate) fn difference_word(net: &Net, step: Move, words: &[u64]) -> u64
     requires step { Contains (moves_of net.now) step }
     requires room { length words.now ≡ signal_count net.now }
@@ -29,7 +29,7 @@ pub(crate) fn difference_word(net: &Net, step: Move, words: &[u64]) -> u64
     moved_word(net, step, words) ^ value
 }
 
-/// The bits of block k that are patterns.
+/// The bits of block k that belong to patterns.
 pub(crate) fn used_word(count: u64, k: usize) -> u64
     requires { k < word_count count }
     ensures { (b : ℕ) → b < 64 → word_bit result b ≡ nat_lt (64 * k + b) count }
@@ -58,22 +58,22 @@ pub(crate) fn set_differences(
     }
 }
 
-/// Where a move breaks the bound, in one block: where it changes its table's value and the pattern is cared for, or where it leaves
-/// the value and the net itself exceeds the bound.
+/// The lanes where a move breaks the bound, in one block: where it changes its table's value and the pattern
+/// is cared for, or where it leaves the value and the net itself exceeds the bound.
 pub(crate) fn broken_word(differs: u64, care: u64, exceeds: u64) -> u64
     ensures { (b : ℕ) → b < 64 → word_bit result b ≡ (if word_bit differs b then word_bit care b else word_bit exceeds b) }
 {
     (differs & care) | (exceeds & !differs)
 }
 
-/// Where the move breaks the bound, in one block whose words are all known.
+/// The lanes where the move breaks the bound, in one block whose words are all known.
 fn known_broken_word(net: &Net, step: Move, words: &[u64], care: u64, exceeds: u64) -> u64
     requires step { Contains (moves_of net.now) step }
     requires room { length words.now ≡ signal_count net.now }
     ensures { (b : ℕ) (x : List Bool) → b < 64 → HasValues net.now words.now b x → IsTrue (word_bit result b)
         ↔ ((Changes net.now step x × IsTrue (word_bit care b)) ⊎ ((¬ Changes net.now step x) × IsTrue (word_bit exceeds b))) }
 {
-    // Then the block breaks nowhere, whatever the move changes.
+    // Then the block breaks no move.
     if care == 0 && exceeds == 0 {
         return 0;
     }

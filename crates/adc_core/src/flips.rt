@@ -9,15 +9,16 @@ ghost use Rattle.adc_core.specs.Flips.{HasFlippedValues, AreLater};
 use lane_nets::table_words::table_word;
 use net_core::net::Net;
 
-/// Whether the word of table `i` is found again: not for table `t` itself, and where it is marked.
+/// Whether the word of table `i` is computed again: not for table `t` itself, and else where table `i` is
+/// marked.
 fn is_found_again(i: u32, t: u32, marked: bool) -> bool
     ensures { result ≡ (not (i == t) && marked) }
 {
     i != t && marked
 }
 
-/// Sets the first of `later` to the tables other than `t` that depend on it, which are marked, in an order of evaluation: so many are
-/// they.
+/// Sets the front of `later` to the tables other than `t` that depend on it, which are marked, in an order of
+/// evaluation. Returns the number of these tables.
 pub fn list_later(net: &Net, order: &[u32], t: u32, marks: &[bool], later: &mut [u32]) -> usize
     requires order { IsOrderOf (input_count net.now) net.now.tables order.now }
     requires room { length later.old ≡ length order.now }
@@ -38,7 +39,7 @@ pub fn list_later(net: &Net, order: &[u32], t: u32, marks: &[bool], later: &mut 
     count
 }
 
-/// Turns over the words of table `t`, and finds again those of the tables that depend on it.
+/// Turns over the words of table `t`, and computes again those of the tables that depend on it.
 pub fn flip_words(net: &Net, t: u32, later: &[u32], words: &mut [u64])
     requires table { t < table_count net.now }
     requires room { length words.old ≡ signal_count net.now }

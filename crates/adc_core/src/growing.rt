@@ -22,8 +22,8 @@ use semantics::metric::Metric;
 use std::alloc::{AllocError, Global};
 use std::marker::Model;
 
-/// Two nets, the blocks of the patterns, and for each table the first words of those that are cared for there, as far as moves have
-/// asked for them.
+/// Two nets, the blocks of the patterns, and for each table the first words of the row of the patterns that
+/// are cared for, as far as moves have asked for them.
 #[derive(Drop)]
 pub struct GrowingMasks<'a> {
     judged: Judged<'a>,
@@ -50,7 +50,8 @@ impl<'a> Model for GrowingMasks<'a> {
     ghost invariant = { λ a. AreGrowing a.judged a.count a.blocks.items a.care.items a.room };
 }
 
-/// Where the move breaks the bound, in block k. The words of those that are cared for at its table are made where they are asked for.
+/// The lanes where the move breaks the bound, in block k. The words of the patterns that are cared for at its
+/// table are computed when they are asked for.
 fn reach_broken_word(
     judged: &Judged,
     step: Move,
@@ -113,7 +114,7 @@ fn first_broken(
     Ok(None)
 }
 
-/// Keeps the words of the first blocks alone.
+/// Keeps only the words of the first blocks.
 fn cut_rows(rows: &mut [WordList], blocks: usize)
     ensures { rows.new ≡ map (take blocks) rows.old }
 {
@@ -133,7 +134,7 @@ fn empty_rows(alloc: Global, tables: u32) -> Result<Vec<WordList>, AllocError>
     Ok(rows)
 }
 
-/// Room to turn the tables of the second net over.
+/// Room to turn over the tables of the second net.
 fn room_for(alloc: Global, judged: &Judged) -> Result<Room, AllocError>
     ensures { IfOk result (FitsRoom judged.now) }
 {
@@ -171,7 +172,8 @@ impl<'a> GrowingMasks<'a> {
         })
     }
 
-    /// Goes over to a longer list of patterns. Only the last block that they fill in part, and the blocks behind it, are made anew.
+    /// Goes over to a longer list of patterns. Only a last block that the old list fills in part, and the
+    /// blocks behind it, are made anew.
     pub fn grow(&mut self, patterns: &Patterns) -> Result<(), AllocError>
         requires inputs { patterns.now.inputs ≡ input_count self.old.exact }
         requires front { IsFrontOf self.old.vectors patterns.now.vectors }
@@ -197,7 +199,8 @@ impl<'a> GrowingMasks<'a> {
         }
     }
 
-    /// The first pattern at which the moved net exceeds the bound. The first move that asks for more of its table takes memory for it.
+    /// The first pattern at which the moved net exceeds the bound. The first move that asks for more words of
+    /// its table takes memory for them.
     pub fn breaks(&mut self, step: Move) -> Result<Option<u64>, AllocError>
         requires { Contains (moves_of self.old.net) step }
         ensures broken { IfOk result

@@ -80,8 +80,9 @@ pub(crate) fn add_blocks(
     Ok(())
 }
 
-/// Adds to `row` the words of the patterns that are cared for at table `t`, on which the tables `later` depend, up to so many blocks.
-/// Each block's values with the table turned over are found in `words`.
+/// Adds to `row` the words of the patterns that are cared for at table `t`, on which the tables `later`
+/// depend, up to `blocks` blocks. The values of each block with the table turned over are computed in
+/// `words`.
 fn add_care_words(
     judged: &Judged,
     t: u32,
@@ -116,7 +117,7 @@ fn add_care_words(
     Ok(())
 }
 
-/// Lets `row` have the words of the patterns that are cared for at table `t` for at least so many blocks.
+/// Lets `row` have the words of the patterns that are cared for at table `t` for at least `blocks` blocks.
 pub(crate) fn reach_care_words(
     judged: &Judged,
     t: u32,

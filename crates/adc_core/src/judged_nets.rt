@@ -1,4 +1,4 @@
-//! What masks are made for: two nets, an error and a bound on it.
+//! What masks are made for: two nets, a metric and a bound.
 ghost use Rattle.std.specs.Prelude.{◌≡◌, ◌↔◌, ◌<◌, ◌≤◌, ℕ, map, length, IsTrue};
 ghost use Rattle.semantics.specs.Net.{signal_count};
 ghost use Rattle.semantics.specs.Error.{error_of};
@@ -20,8 +20,8 @@ pub(crate) struct Judged<'a> {
     pub(crate) bound: u128,
 }
 
-/// Where the error exceeds the bound at the patterns of a block that are used: the net's signals have these words there, and the exact
-/// outputs those. The words of the outputs are gathered on the stack.
+/// The lanes among `used` where the error exceeds the bound, in a block in which the net's signals have
+/// `words` and the exact outputs `exact`. The words of the outputs are gathered on the stack.
 pub(crate) fn over_bound(
     net: &Net,
     metric: Metric,

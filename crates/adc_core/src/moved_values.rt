@@ -1,4 +1,4 @@
-//! The values that a move gives to its table, at 64 patterns at a time. No table is made for it.
+//! The values that a move gives to its table, at 64 patterns at a time. No moved table is made.
 ghost use Rattle.std.specs.Prelude.{◌≡◌, ◌<◌, ◌&&◌, ℕ, length, remove, slice_set, All, Contains};
 ghost use Rattle.semantics.specs.declared.mark.Mark.TheVariants.{Dash};
 ghost use Rattle.semantics.specs.Net.{table_at, signal_count};

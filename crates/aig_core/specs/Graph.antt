@@ -39,14 +39,15 @@ node_at g n =
 abbrev pub IsLiteralOf : GraphValue → ℕ → Type 0
 IsLiteralOf g l = l < 2 * node_count g
 
--- Each gate reads two nodes before it, the lesser one first and none of them the constant, and no two gates read the same literals.
+-- Each gate reads two nodes before it, the lesser one first and neither the constant, and no two gates read
+-- the same literals.
 pub record IsGraph (g : GraphValue) : Type 0 where
   pub varying : (i : ℕ) → i < length g.gates → 0 < (gate_at g i).left / 2
   pub apart : (i : ℕ) → i < length g.gates → (gate_at g i).left / 2 < (gate_at g i).right / 2
   pub before : (i : ℕ) → i < length g.gates → (gate_at g i).right / 2 < gate_node g i
   pub distinct : AllPairs ◌≢◌ g.gates
 
--- the value of a literal, and that of a gate, by the values of the nodes
+-- the value of a literal, and the value of a gate, by the values of the nodes
 abbrev pub literal_value : Assignment → ℕ → Bool
 literal_value v l = if l % 2 == 1 then not (v (l / 2)) else v (l / 2)
 
@@ -59,7 +60,8 @@ pub record IsConsistent (g : GraphValue) (x : List Bool) (v : Assignment) : Type
   pub input : (i : ℕ) → i < g.inputs → v (input_node i) ≡ slice_index_or x i false
   pub gate : (i : ℕ) → i < length g.gates → v (gate_node g i) ≡ gate_value v (gate_at g i)
 
--- All nodes from the values before. After as many rounds as there are nodes nothing changes any more (`HasOneValue`).
+-- All nodes from the values before. After as many rounds as there are nodes the values no longer change
+-- (`HasOneValue`).
 abbrev pub round : GraphValue → List Bool → Assignment → Assignment
 round g x v n =
     if n == 0 then false

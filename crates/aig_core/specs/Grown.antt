@@ -4,7 +4,7 @@ use Rattle.semantics.specs.Value.{Assignment}
 use Rattle.aig_core.specs.declared.gate.Gate.{Gate}
 use Rattle.aig_core.specs.Graph.{GraphValue, gate_at, IsLiteralOf, literal_value, IsConsistent}
 
--- no node changes
+-- nodes are added, and none changes
 pub record Grows (old new : GraphValue) : Type 0 where
   pub inputs : new.inputs ≡ old.inputs
   pub longer : length old.gates ≤ length new.gates
@@ -18,7 +18,8 @@ gate_of a b = record { left = min a b; right = max a b }
 abbrev pub opposite_of : ℕ → ℕ
 opposite_of l = if l % 2 == 1 then l - 1 else l + 1
 
--- Nothing is added, or this gate alone. What is added is new, reads two nodes and no constant, since no graph holds another gate.
+-- Either nothing is added, or this gate alone. A gate that is added is new, and reads two nodes and no
+-- constant, as each gate of a graph does.
 abbrev pub AddsAtMost : GraphValue → Gate → GraphValue → Type 0
 AddsAtMost old gate new = (new ≡ old) ⊎ (new ≡ record { inputs = old.inputs; gates = old.gates ++ gate ∷ [] })
 

@@ -7,7 +7,8 @@ use Rattle.aig_core.specs.Grown.{Grows, IsConjunctionOf}
 abbrev pub ValueLaw : Type 0
 ValueLaw = (g : GraphValue) (x : List Bool) → IsGraph g → HasOneValue g x
 
--- values stay while a graph grows, and a conjunction is one at every input vector
+-- the values of nodes stay while a graph grows, and the literal of a conjunction has the value of the
+-- conjunction at every input vector
 pub record GrowthLaw : Type 0 where
   pub nodes : (old new : GraphValue) (x : List Bool) (n : ℕ) → IsGraph old → IsGraph new → Grows old new → n < node_count old → value_of new x n ≡ value_of old x n
   pub literals : (old new : GraphValue) (x : List Bool) (l : ℕ) → IsGraph old → IsGraph new → Grows old new → IsLiteralOf old l → truth_of new x l ≡ truth_of old x l

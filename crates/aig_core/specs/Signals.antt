@@ -9,7 +9,7 @@ pub record IsLiteralFor (N : NetValue) (g : GraphValue) (s l : ℕ) : Type 0 whe
   pub within : IsLiteralOf g l
   pub is : (x : List Bool) → truth_of g x l ≡ value_of (input_count N) N.tables x s
 
--- the graph has the net's inputs, and each signal its literal
+-- the graph has the net's inputs, and each signal has its literal
 pub record IsGraphOf (N : NetValue) (g : GraphValue) (literals : List ℕ) : Type 0 where
   pub inputs : g.inputs ≡ input_count N
   pub count : length literals ≡ signal_count N

@@ -11,7 +11,7 @@ use Rattle.aig_core.specs.Grown.{HasValue}
 abbrev pub signal_values : List ℕ → Assignment → Assignment
 signal_values signals v = λ s. literal_value v (slice_index_or signals s 0)
 
--- r is all, and the pin is as the mark asks
+-- r is the conjunction of `all` with the statement that the pin is as the mark asks
 pub record IsMarked (g : GraphValue) (m : Mark) (pin all r : ℕ) : Type 0 where
   pub within : IsLiteralOf g r
   pub is : HasValue g r (λ x v. literal_value v all && mark_matches m (literal_value v pin))

@@ -5,8 +5,9 @@ ghost use Rattle.aig_core.specs.Grown.{IsConjunctionOf};
 
 use crate::literal::{Literal, node_of};
 
-/// The conjunction of two literals, the lesser one first, where it is a constant or one of them. Else they are of two nodes, the lesser
-/// one first, none of them the constant.
+/// The conjunction of two literals, the lesser one first, where it is a constant or one of the two. Where it
+/// is neither, the literals are of two different nodes, the lesser one first, and neither node is the
+/// constant.
 pub fn folded(low: Literal, high: Literal) -> Option<Literal>
     requires { low ≤ high }
     ensures { MatchOption result ((0 < low / 2) × (low / 2 < high / 2))

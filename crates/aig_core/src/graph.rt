@@ -10,10 +10,11 @@ use indexmap::IndexSet;
 use std::alloc::{AllocError, Global};
 use std::marker::Model;
 
-/// The most nodes that a graph may have, by which each literal fits its type.
+/// The most nodes of a graph; so each literal fits its type.
 const MOST_NODES: usize = 1 << 31;
 
-/// Nodes that only ever become more: the constant false, the inputs, and the gates, each after what it reads.
+/// Nodes that are added and never changed: the constant false, the inputs, and the gates, each behind the
+/// nodes that it reads.
 #[derive(Drop)]
 pub struct Aig {
     inputs: u32,
@@ -33,7 +34,7 @@ impl Model for Aig {
 }
 
 impl Aig {
-    /// The constant and so many inputs. It takes no memory.
+    /// The graph of the constant and `inputs` inputs. The call takes no memory.
     pub fn new(alloc: Global, inputs: u32) -> Aig
         requires { inputs < 2 ^ 31 }
         ensures { result ≡ record { inputs = inputs; gates = [] } }
@@ -44,7 +45,7 @@ impl Aig {
         }
     }
 
-    /// Shows what its type holds.
+    /// Shows that this is a graph, which its type holds.
     pub fn is_graph(&self)
         ensures graph { IsGraph self.now }
         ensures few { node_count self.now ≤ 2 ^ 31 }
@@ -106,8 +107,8 @@ impl Aig {
         2 * (1 + i)
     }
 
-    /// A literal whose value is the conjunction of two. A node is made only where none does already. One past the most
-    /// that a graph may have counts as out of memory.
+    /// A literal whose value is the conjunction of two literals. A node is made only where no node has this
+    /// value already. A node past the most that a graph may have counts as out of memory.
     pub fn and(&mut self, a: Literal, b: Literal) -> Result<Literal, AllocError>
         requires a { IsLiteralOf self.old a }
         requires b { IsLiteralOf self.old b }
@@ -123,7 +124,7 @@ impl Aig {
         }
     }
 
-    /// A literal whose value is the disjunction of two.
+    /// A literal whose value is the disjunction of two literals.
     pub fn or(&mut self, a: Literal, b: Literal) -> Result<Literal, AllocError>
         requires a { IsLiteralOf self.old a }
         requires b { IsLiteralOf self.old b }
@@ -136,7 +137,7 @@ impl Aig {
         Ok(opposite(none))
     }
 
-    /// The conjunction, where the lesser literal comes first.
+    /// The conjunction of two literals, of which the lesser comes first.
     fn and_sorted(&mut self, low: Literal, high: Literal) -> Result<Literal, AllocError>
         requires sorted { low ≤ high }
         requires high { IsLiteralOf self.old high }
@@ -155,7 +156,7 @@ impl Aig {
         }
     }
 
-    /// The literal of a gate, which is made where there is none of this pair.
+    /// The literal of a gate; the gate is made where no gate reads this pair.
     fn gate(&mut self, gate: Gate) -> Result<Literal, AllocError>
         requires varying { 0 < gate.left / 2 }
         requires apart { gate.left / 2 < gate.right / 2 }

@@ -1,4 +1,5 @@
-//! Hashed and-inverter graphs: nodes that are conjunctions of two literals, no two of them alike, and the graphs of nets.
+//! Hashed and-inverter graphs, whose nodes are conjunctions of two literals, no two of them of the same pair;
+//! and the graphs of nets.
 #![tactic(auto)]
 
 pub mod examples;

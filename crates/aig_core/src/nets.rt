@@ -18,7 +18,7 @@ pub struct NetGraph {
     pub literals: Vec<Literal>,
 }
 
-/// The literals of the inputs, and room for so many signals.
+/// The literals of the inputs, in a list with room for `room` signals.
 fn input_literals(alloc: Global, g: &Aig, room: usize) -> Result<Vec<Literal>, AllocError>
     requires { g.now.inputs ≤ room }
     ensures length { IfOk result (λ signals. length signals.items ≡ room) }

@@ -12,7 +12,7 @@ use net_core::row::Row;
 use net_core::table::Table;
 use std::alloc::AllocError;
 
-/// A literal and that a pin is as a mark asks.
+/// The conjunction of the literal `all` with the statement that a pin is as a mark asks.
 fn with_mark(g: &mut Aig, mark: Mark, pin: Literal, all: Literal) -> Result<Literal, AllocError>
     requires pin { IsLiteralOf g.old pin }
     requires all { IsLiteralOf g.old all }

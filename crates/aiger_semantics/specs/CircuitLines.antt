@@ -10,7 +10,7 @@ use Rattle.aiger_semantics.specs.declared.header.Header.{Header}
 use Rattle.aiger_semantics.specs.Circuit.{CircuitValue}
 use Rattle.aiger_semantics.specs.TextLines.{pieces, number_to, all_numbers, line_numbers}
 
--- lines are counted from 1; a variable is told where the circuit is refused, and a name where the net is
+-- lines are counted from 1; a refusal of the circuit tells a variable, and a refusal of the net tells a name
 pub data Refusal : Type 0 where
   text_long : Refusal
   no_header : Refusal
@@ -24,7 +24,7 @@ pub data Refusal : Type 0 where
   doubled : (name : Bytes) → Refusal
   limit : Which → Refusal
 
--- what the rest makes of it, unless it was refused
+-- the first refusal, or what the second reading makes of the result of the first
 abbrev pub and_then : {X Y : Type 0} → Result X Refusal → (X → Result Y Refusal) → Result Y Refusal
 and_then (Err refusal) rest = Err refusal
 and_then (Ok x) rest = rest x
@@ -85,7 +85,8 @@ abbrev pub put_before : {X : Type 0} → X → Result (List X) Refusal → Resul
 put_before x (Err refusal) = Err refusal
 put_before x (Ok xs) = Ok (x ∷ xs)
 
--- what so many lines say, of which the first has this number, or the first of them that is missing or lacks its form
+-- what the first `count` of the lines say, where the first of them has the number `number`; or the first of
+-- them that is missing or lacks its form
 abbrev pub all_read : {X : Type 0} → (Bytes → Option X) → (number count : ℕ) → List Bytes → Result (List X) Refusal
 all_read read number zero lines = Ok []
 all_read read number (suc count) [] = Err (wrong_line number)
@@ -100,11 +101,11 @@ pub record Symbol : Type 0 where
   pub place : ℕ
   pub text : Bytes
 
--- how many places there are for a letter
+-- the number of places for a letter
 abbrev pub places : Header → ℕ → ℕ
 places h letter = if letter == 105 then h.inputs else (if letter == 111 then h.outputs else 0)
 
--- the place below the limit that a decimal word is, and the text, if it has bytes
+-- the symbol of a place and a text: the word is a decimal number below the limit, and the text is not empty
 abbrev pub symbol_at : ℕ → ℕ → Bytes → Bytes → Option Symbol
 symbol_at letter count word text =
     if length text == 0 then None
@@ -128,7 +129,8 @@ symbol_text (s ∷ symbols) letter place = if s.letter == letter && s.place == p
 abbrev pub is_new : List Symbol → Symbol → Bool
 is_new symbols s = length (symbol_text symbols s.letter s.place) == 0
 
--- the symbols of lines, of which the first has this number, behind those so far; or the first line that is no symbol or has one a second time
+-- The symbols of lines, of which the first has this number, behind the symbols so far; or the first line that
+-- is no symbol, or that names a place a second time.
 abbrev pub symbols_after : Header → ℕ → List Symbol → List Bytes → Result (List Symbol) Refusal
 symbols_after h number so_far [] = Ok so_far
 symbols_after h number so_far (line ∷ lines) =

@@ -36,8 +36,9 @@ circuit inputs ands outputs input_names output_names = record {
   output_names = output_names;
 }
 
--- A row takes a line less than it has literals, and a table a line less than it has rows besides. Tables may stand before those that they read; an inverter and a
--- constant take no line.
+-- A row takes one AND line fewer than it has literals; a table takes, besides those of its rows, one line
+-- fewer than it has rows. Tables may stand before those that they read; an inverter and a constant take no
+-- line.
 pub record CircuitExamples : Type 0 where
   pub of_half_adder :
       ands_of half_adder

@@ -11,12 +11,13 @@ use Rattle.aiger_semantics.specs.ReadNet.{net_of}
 use Rattle.aiger_semantics.specs.Reading.{aiger_reading}
 use Rattle.aiger_semantics.specs.NetCircuit.{Literals, table_literal, first_variable, input_literal, signal_literal, ands_of}
 
--- literals that are those of the inputs' variables, and of each table's rows
+-- literals that give each input the literal of its variable, and each table the literal of its rows
 pub record AreLiterals (n : ℕ) (tables : List TableValue) (literals : Literals) : Type 0 where
   pub input : (s : ℕ) → s < n → literals s ≡ input_literal s
   pub table : (i : ℕ) → i < length tables → literals (n + i) ≡ table_literal literals (first_variable n tables i) (table_at tables i)
 
--- The signals of a sound net have one literal each; and at every input vector its circuit has the outputs of the net.
+-- The signals of a sound net have one literal each, and at every input vector the circuit of the net has the
+-- outputs of the net.
 pub record NetCircuitLaw : Type 0 where
   pub literals : (n : ℕ) (tables : List TableValue) → IsAcyclic n tables → AreLiterals n tables (signal_literal n tables)
   pub only : (n : ℕ) (tables : List TableValue) (literals : Literals) → IsAcyclic n tables → AreLiterals n tables literals
@@ -31,15 +32,17 @@ variable_count c = length c.inputs + length c.ands
 abbrev pub IsLiteralOf : CircuitValue → ℕ → Type 0
 IsLiteralOf c literal = literal < 2 * (variable_count c + 1)
 
--- The variables of the circuit of a net are counted from 1, the inputs before the AND lines, and its literals are of these.
+-- The variables of the circuit of a net are counted from 1, the inputs before the AND lines, and the
+-- circuit's literals are of these variables.
 pub record NumberedLaw : Type 0 where
   pub variables : (N : NetValue) → IsSound N
       → (ands_of N).inputs ++ map (λ a. a.variable) (ands_of N).ands ≡ range_with_len 1 (variable_count (ands_of N))
   pub lines : (N : NetValue) → IsSound N → AllByRecursion (λ a. IsLiteralOf (ands_of N) a.left × IsLiteralOf (ands_of N) a.right) (ands_of N).ands
   pub outputs : (N : NetValue) → IsSound N → AllByRecursion (IsLiteralOf (ands_of N)) (ands_of N).outputs
 
--- What is read is a small sound net: that of the circuit that the text's lines are, with the circuit's outputs at every input vector. The text
--- keeps the limit, and exactly the texts beyond it are refused for their length.
+-- What is read is a small sound net: the net of the circuit that the text's lines say, with the circuit's
+-- outputs at every input vector. The text keeps the limit on its length; the texts beyond that limit, and no
+-- others, are refused for their length.
 pub record ReadingLaw : Type 0 where
   pub short : (text : Bytes) (most : ℕ) (N : NetValue) → aiger_reading text most ≡ Ok N → length text ≤ most
   pub long : (text : Bytes) (most : ℕ) → (aiger_reading text most ≡ Err text_long) ↔ (most < length text)

@@ -22,7 +22,7 @@ abbrev pub joins : ℕ → List ℕ → List AndLine
 joins next [] = []
 joins next (literal ∷ literals) = joins_after next literal literals
 
--- the literal that they are joined to: one literal is itself, and none are 1
+-- the literal of the conjunction of the literals: a single literal is itself, and no literals give 1
 abbrev pub joined_after : ℕ → ℕ → List ℕ → ℕ
 joined_after next so_far [] = so_far
 joined_after next so_far (literal ∷ literals) = joined_after (next + 1) (literal_of_variable next) literals
@@ -43,7 +43,7 @@ row_inputs literals [] pins = []
 row_inputs literals (m ∷ marks) [] = []
 row_inputs literals (m ∷ marks) (s ∷ pins) = marked m (literals s) ++ row_inputs literals marks pins
 
--- how many lines a row, rows and a table have
+-- the number of AND lines of a row, of rows and of a table
 abbrev pub row_ands : List Mark → ℕ
 row_ands marks = row_literals marks - 1
 
@@ -62,7 +62,7 @@ abbrev pub rows_joined : Literals → ℕ → List ℕ → List (List Mark) → 
 rows_joined literals next pins [] = []
 rows_joined literals next pins (marks ∷ rows) = joined next (row_inputs literals marks pins) ∷ rows_joined literals (next + row_ands marks) pins rows
 
--- A table joins the opposites of its rows; the opposite of that is their disjunction.
+-- A table joins the opposites of its rows; the opposite of their conjunction is the disjunction of the rows.
 abbrev pub no_rows : Literals → ℕ → TableValue → List ℕ
 no_rows literals next t = map negated (rows_joined literals next t.pins t.rows)
 
@@ -83,8 +83,8 @@ first_variable n tables i = n + 1 + sum_by table_ands (take i tables)
 abbrev pub input_literal : ℕ → ℕ
 input_literal s = literal_of_variable (s + 1)
 
--- The literal of a signal from those of a table's pins. As many rounds as there are acyclic tables give each signal its literal: the law
--- of circuits of nets says what they are.
+-- The literal of a signal, from the literals of a table's pins. As many rounds as there are tables give each
+-- signal of acyclic tables its literal: the law of circuits of nets says what the literals are.
 unfoldable pub after_rounds : ℕ → List TableValue → ℕ → Literals
 after_rounds n tables zero = input_literal
 after_rounds n tables (suc rounds) = λ s.

@@ -39,7 +39,7 @@ half_adder_read a b s c = record {
   outputs = 6 ∷ 7 ∷ [];
 }
 
--- Lines end at LF or CR LF, and the last one may end nowhere; one CR is removed, and no second one.
+-- Lines end at LF or CR LF, and the last line may have no end; one CR is removed, and no second one.
 pub record TextLineExamples : Type 0 where
   pub empty : text_lines [] ≡ []
   pub one : text_lines (codes "a") ≡ codes "a" ∷ []
@@ -47,7 +47,8 @@ pub record TextLineExamples : Type 0 where
   pub empty_line : text_lines (codes "a" ++ 10 ∷ 10 ∷ codes "b") ≡ codes "a" ∷ [] ∷ codes "b" ∷ []
   pub returns : text_lines (codes "a" ++ 13 ∷ 10 ∷ codes "b" ++ 13 ∷ 13 ∷ 10 ∷ codes "c" ++ 13 ∷ []) ≡ codes "a" ∷ (codes "b" ++ 13 ∷ []) ∷ codes "c" ∷ []
 
--- What is written is read as the circuit that was written, and names without symbols are those of the places.
+-- What is written is read as the circuit that was written, and names without symbols are a letter and a
+-- place.
 pub record ReadExamples : Type 0 where
   pub circuit_back : circuit_reading (text_lines (aiger_text (ands_of half_adder))) ≡ Ok (ands_of half_adder)
   pub half_adder_back : aiger_reading (aiger_text (ands_of half_adder)) MOST_INPUT_BYTES ≡ Ok (half_adder_read (codes "a") (codes "b") (codes "s") (codes "c"))

@@ -1,5 +1,5 @@
--- The net that an AND circuit is read as: a table for each AND line and for each output that is no signal yet. Source: AIGER and BLIF; which
--- tables they are is this tool's own.
+-- The net that an AND circuit is read as: a table for each AND line, and a table for each output that is no
+-- signal yet. Source: AIGER and BLIF; which tables they are is this tool's own.
 use Rattle.std.specs.Prelude.{ℕ, ◌+◌, ◌/◌, ◌%◌, ◌==◌, Bool, true, false, not, ◌&&◌, List, [], ◌∷◌, ◌++◌, map, length, filter, codes, decimal, bytes_eq, position, Option, Some, None, if◌then◌else◌}
 use Rattle.std.specs.List.{list_any}
 use Rattle.semantics.specs.declared.mark.Mark.{Mark}
@@ -68,7 +68,7 @@ output_ports c = ports c.output_names c.outputs
 abbrev pub has_port : List Port → Port → Bool
 has_port earlier p = list_any (is_port p) earlier
 
--- those that do not stand before
+-- the ports that stand neither in the first list nor earlier in their own
 abbrev pub new_ports : List Port → List Port → List Port
 new_ports earlier [] = []
 new_ports earlier (p ∷ ps) = if has_port earlier p then new_ports earlier ps else p ∷ new_ports (earlier ++ p ∷ []) ps
@@ -80,7 +80,7 @@ own_outputs c = new_ports (input_ports c) (output_ports c)
 abbrev pub output_table : List ℕ → Port → TableValue
 output_table defined p = conjunction_table defined p.name (p.literal ∷ [])
 
--- an output is the input with its name and literal, or the first output that has them
+-- the signal of an output: the input with the output's name and literal, or the first output that has them
 abbrev pub port_signal : CircuitValue → Port → ℕ
 port_signal c p =
     elim (position (is_port p) (input_ports c)) [

@@ -29,11 +29,11 @@ operands a = a.left / 2 ∷ a.right / 2 ∷ []
 abbrev pub variables_used : CircuitValue → List ℕ
 variables_used c = flat_map operands c.ands ++ map (λ literal. literal / 2) c.outputs
 
--- the first of them that is neither the constant nor defined
+-- the first used variable that is neither the constant nor defined
 abbrev pub first_undefined : CircuitValue → Option ℕ
 first_undefined c = find (λ v. not (v == 0 || has_variable (variables c) v)) (variables_used c)
 
--- an AND line as a table that reads its operands but for the constant: it is grounded as such a table is
+-- an AND line as a table that reads its operands but for the constant; the line is grounded as this table is
 abbrev pub operand_table : List ℕ → AndLine → TableValue
 operand_table defined a = record {
   name = [];
@@ -73,6 +73,6 @@ defined c = unless_refused (first_undefined c) undefined (with_output c)
 abbrev pub net_reading : CircuitValue → Result NetValue Refusal
 net_reading c = unless_refused (first_repeated (variables c)) twice (defined c)
 
--- the net of a text of at most so many bytes, or its refusal
+-- the net of a text of at most `most` bytes, or the refusal of the text
 unfoldable pub aiger_reading : Bytes → ℕ → Result NetValue Refusal
 aiger_reading text most = if not (nat_le (length text) most) then Err text_long else and_then (circuit_reading (text_lines text)) net_reading

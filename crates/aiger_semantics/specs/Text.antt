@@ -6,7 +6,7 @@ use Rattle.semantics.specs.Net.{name_of}
 use Rattle.aiger_semantics.specs.declared.and_line.AndLine.{AndLine}
 use Rattle.aiger_semantics.specs.Circuit.{CircuitValue, literal_of_variable}
 
--- the greatest variable, and how many inputs, latches, outputs and AND lines there are
+-- the greatest variable, and the numbers of inputs, latches, outputs and AND lines
 abbrev pub header_line : CircuitValue → Line
 header_line c =
     codes "aag" ∷ decimal (length c.inputs + length c.ands) ∷ decimal (length c.inputs) ∷ codes "0" ∷ decimal (length c.outputs)

@@ -1,6 +1,6 @@
 //! The first line of a circuit's text. Source: the ASCII form of AIGER.
 
-/// The greatest variable, and how many inputs, latches, outputs and AND lines there are. Definitions and code share this one type.
+/// The greatest variable, and the numbers of inputs, latches, outputs and AND lines.
 #[derive(Clone, Copy, Debug, Drop, PartialEq, Eq)]
 pub struct Header {
     pub greatest: u32,

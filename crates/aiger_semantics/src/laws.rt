@@ -6,7 +6,7 @@ pub fn net_circuits()
     ensures { NetCircuitLaw }
 {}
 
-/// The variables of the circuit of a net, and what its literals are of.
+/// The variables of the circuit of a net, and the variables of which its literals are.
 pub fn numbered()
     ensures { NumberedLaw }
 {}

@@ -4,7 +4,7 @@ use Rattle.aiger_semantics.specs.CircuitLines as r
 use Rattle.aiger_text.specs.declared.refusal.AigerRefusal.{AigerRefusal}
 use Rattle.aiger_text.specs.declared.refusal.AigerRefusal.TheVariants as a
 
--- the refusal that the code tells, if it is not want of memory
+-- the refusal of the definitions that the code's refusal is; want of memory is none
 abbrev pub refusal_of : AigerRefusal → Option r.Refusal
 refusal_of a.TextLong = Some r.text_long
 refusal_of a.Header = Some r.no_header
@@ -19,7 +19,7 @@ refusal_of (a.Doubled name) = Some (r.doubled name)
 refusal_of (a.Limit which) = Some (r.limit which)
 refusal_of a.OutOfMemory = None
 
--- want of memory, or the refusal that this answer is
+-- the answer is this refusal, or the refusal is want of memory
 abbrev pub Tells : {X : Type 0} → AigerRefusal → Result X r.Refusal → Type 0
 Tells told answer = (refusal : r.Refusal) → refusal_of told ≡ Some refusal → answer ≡ Err refusal
 

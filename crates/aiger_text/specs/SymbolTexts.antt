@@ -5,12 +5,13 @@ use Rattle.blif_semantics.specs.Statements.{is_name}
 use Rattle.aiger_semantics.specs.declared.header.Header.{Header}
 use Rattle.aiger_semantics.specs.CircuitLines.{Symbol, symbol_text}
 
--- for each place of an input, and for each of an output, a text, of no bytes where there is none
+-- for each place of an input, and for each place of an output, a text, which is empty where no symbol gives
+-- one
 pub record SymbolTexts : Type 0 where
   pub inputs : List Bytes
   pub outputs : List Bytes
 
--- as many texts as places, each that of the symbols for its letter
+-- `count` texts, each of which is the text of the symbols for its letter and place
 pub record AreTextsOf (symbols : List Symbol) (letter count : ℕ) (texts : List Bytes) : Type 0 where
   pub size : length texts ≡ count
   pub each : (place : ℕ) → place < count → slice_index_or texts place [] ≡ symbol_text symbols letter place

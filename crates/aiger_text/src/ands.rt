@@ -42,7 +42,7 @@ impl Model for Ands {
     ghost invariant = { λ a. length a.inputs + length a.lines < 2 ^ 31 };
 }
 
-/// The variables of so many inputs.
+/// The variables of `inputs` inputs.
 fn input_variables(alloc: Global, inputs: u32) -> Result<Items<u32>, AllocError>
     requires { inputs < 2 ^ 31 }
     ensures { IfOk result (λ variables. variables ≡ range_with_len 1 inputs) }
@@ -113,7 +113,7 @@ fn output_names(alloc: Global, net: &Net) -> Result<NameList, AllocError>
 }
 
 impl Ands {
-    /// The circuit of these parts. It takes no memory.
+    /// The circuit of these parts. The call takes no memory.
     pub(crate) fn of_parts(
         inputs: Items<u32>,
         lines: Items<AndLine>,

@@ -18,7 +18,7 @@ use net_core::net::Net;
 use net_core::refusal::NetRefusal;
 use std::alloc::{AllocError, Global};
 
-/// The net of parts that are wired and have no loop, or the refusal of a doubled name or of a limit.
+/// The net of parts that are wired and have no loop, or the refusal of a doubled name or a limit.
 fn named_net(
     alloc: Global,
     model: Name,
@@ -80,7 +80,7 @@ fn wired_parts(
     Ok((tables, outputs))
 }
 
-/// The net of a circuit that is accepted but for its names and its size.
+/// The net of a circuit that has no fault but perhaps in its names and its size.
 fn net_of(alloc: Global, known: &Variables, circuit: &Ands) -> Result<Net, AigerRefusal>
     requires read { IsRead circuit.now }
     requires known { known.now ≡ variables circuit.now }

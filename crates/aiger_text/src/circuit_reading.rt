@@ -13,7 +13,7 @@ use crate::symbols::{before_comment, read_symbols};
 use aiger_semantics::header::Header;
 use std::alloc::Global;
 
-/// The lines behind so many.
+/// The lines behind the first `count`.
 fn behind<'a, 'b>(lines: &'b [&'a [u8]], count: u64) -> &'b [&'a [u8]]
     ensures { texts result.now ≡ drop count (texts lines.now) }
 {

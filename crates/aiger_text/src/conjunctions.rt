@@ -140,7 +140,7 @@ pub(crate) fn and_tables(
     Ok(tables)
 }
 
-/// Adds a table for each output that has one of its own.
+/// Adds a table for each output that has a table of its own.
 pub(crate) fn push_own_tables(
     alloc: Global,
     tables: &mut TableList,

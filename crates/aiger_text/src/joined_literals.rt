@@ -43,7 +43,7 @@ pub(crate) fn ask(
     Ok(())
 }
 
-/// The literal that these are joined to, where their lines have the variables from `next` on.
+/// The literal of the conjunction of these literals, whose lines have the variables from `next` on.
 pub(crate) fn joined(next: u32, literals: &[Literal]) -> Literal
     requires { next + (length literals.now - 1) ≤ 2 ^ 31 }
     ensures { result ≡ joined next literals.now }
@@ -58,7 +58,7 @@ pub(crate) fn joined(next: u32, literals: &[Literal]) -> Literal
     }
 }
 
-/// Adds the lines that join these literals, which have the variables from `next` on.
+/// Adds the lines of the conjunction of these literals, which have the variables from `next` on.
 pub(crate) fn push_joins(
     lines: &mut Items<AndLine>,
     next: u32,

@@ -11,7 +11,7 @@ use net_core::row::Row;
 use net_core::table::{Table, row_literals};
 use std::alloc::AllocError;
 
-/// How many lines join so many literals.
+/// The number of lines that join `count` literals.
 fn joins_of(count: usize) -> u32
     requires { count - 1 < 2 ^ 32 }
     ensures { result ≡ count - 1 }
@@ -19,7 +19,7 @@ fn joins_of(count: usize) -> u32
     count.saturating_sub(1) as u32
 }
 
-/// How many lines the rows have.
+/// The number of lines of the rows.
 fn rows_ands(rows: &[Row]) -> u32
     requires { rows_ands rows.now < 2 ^ 32 }
     ensures { result ≡ rows_ands rows.now }
@@ -31,7 +31,7 @@ fn rows_ands(rows: &[Row]) -> u32
     count
 }
 
-/// How many lines a table has.
+/// The number of lines of a table.
 pub(crate) fn table_ands(table: &Table) -> u32
     requires { table_ands table.now < 2 ^ 32 }
     ensures { result ≡ table_ands table.now }
@@ -39,7 +39,8 @@ pub(crate) fn table_ands(table: &Table) -> u32
     rows_ands(table.rows().as_slice()) + joins_of(table.rows().len())
 }
 
-/// Puts the opposite of each row's literal into `opposites`, and answers the variable behind those of the rows' lines.
+/// Puts the opposite of each row's literal into `opposites`, and returns the first variable behind those of
+/// the rows' lines.
 fn oppose_rows(
     rows: &[Row],
     pins: &[Signal],

@@ -2,7 +2,7 @@
 ghost use Rattle.std.specs.Prelude.{◌≡◌};
 ghost use Rattle.aiger_semantics.specs.Circuit.{negated};
 
-/// Twice a variable, or that and one for its opposite.
+/// Twice a variable; for its opposite, one more.
 pub type Literal = u32;
 
 /// The opposite literal.

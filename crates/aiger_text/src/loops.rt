@@ -17,7 +17,7 @@ use net_core::order::order_of;
 use net_core::table::Table;
 use std::alloc::{AllocError, Global};
 
-/// Adds the signal of a variable, unless it is the constant's.
+/// Adds the signal of a variable, unless the variable is that of the constant.
 fn push_operand(
     pins: &mut SignalList,
     variables: &Variables,
@@ -32,7 +32,7 @@ fn push_operand(
     Ok(())
 }
 
-/// A table that reads the operands of a line but for the constant. Nothing else of it is asked for.
+/// A table that reads the operands of a line but for the constant. Nothing else of the table is used.
 fn operand_table(alloc: Global, variables: &Variables, line: &AndLine) -> Result<Table, AllocError>
     ensures { IfOk result (λ table. table.pins ≡ (operand_table variables.now line.now).pins) }
 {
@@ -59,7 +59,8 @@ fn operand_tables(
     Ok(tables)
 }
 
-/// Tests that no line depends on itself, or gives the refusal of the first that does or that depends on one that does.
+/// Tests that no line depends on itself. Else returns the refusal of the first line that depends on itself or
+/// on one that does.
 pub(crate) fn find_no_loop(
     alloc: Global,
     known: &Variables,

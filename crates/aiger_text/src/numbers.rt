@@ -20,7 +20,7 @@ pub(crate) fn number_to(word: &[u8], most: u32) -> Option<u32>
     Some(number as u32)
 }
 
-/// Puts the numbers of a line into `numbers`, and answers whether it has no other words.
+/// Puts the numbers of a line into `numbers`, and returns whether the line has no other words.
 pub(crate) fn line_numbers(
     line: &[u8],
     most: u32,

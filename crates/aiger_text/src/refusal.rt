@@ -18,14 +18,14 @@ pub enum AigerRefusal {
     Latches,
     /// A line of an input, an output or an AND that is missing or lacks its form.
     Line(u64),
-    /// A further line that is no symbol, or one for what has one already.
+    /// A further line that is no symbol, or is a second symbol for the same place.
     Symbol(u64),
     /// A variable that is defined twice.
     Twice(u32),
     /// A variable that an AND or an output uses and nothing defines.
     Undefined(u32),
     NoOutput,
-    /// The variable of the first AND that depends on itself or on one that does.
+    /// The variable of the first AND that depends on itself or on an AND that does.
     Loop(u32),
     /// Two signals of the net would have this name.
     Doubled(Name),

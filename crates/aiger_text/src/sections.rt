@@ -11,7 +11,7 @@ use aiger_semantics::and_line::AndLine;
 use net_core::items::Items;
 use std::alloc::Global;
 
-/// The variables of so many inputs. The first line has this number.
+/// The variables of `count` inputs; the first line has the number `number`.
 pub(crate) fn read_inputs(
     alloc: Global,
     lines: &[&[u8]],
@@ -38,7 +38,7 @@ pub(crate) fn read_inputs(
     Ok(inputs)
 }
 
-/// The literals of so many outputs. The first line has this number.
+/// The literals of `count` outputs; the first line has the number `number`.
 pub(crate) fn read_outputs(
     alloc: Global,
     lines: &[&[u8]],
@@ -65,7 +65,7 @@ pub(crate) fn read_outputs(
     Ok(outputs)
 }
 
-/// The lines of so many ANDs. The first line has this number.
+/// The lines of `count` ANDs; the first line has the number `number`.
 pub(crate) fn read_ands(
     alloc: Global,
     lines: &[&[u8]],

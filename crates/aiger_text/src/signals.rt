@@ -24,7 +24,7 @@ pub(crate) fn first_variables(alloc: Global, net: &Net) -> Result<Vec<u32>, Allo
     Ok(firsts)
 }
 
-/// The literals of so many inputs, and room for as many signals.
+/// The literals of `inputs` inputs, in a list with room for `room` signals.
 fn input_literals(alloc: Global, inputs: u32, room: usize) -> Result<Vec<Literal>, AllocError>
     requires few { inputs < 2 ^ 31 }
     requires room { inputs ≤ room }

@@ -23,7 +23,7 @@ impl<'a> Model for Symbol<'a> {
     ghost view = { λ a. record { letter = a.letter; place = a.place; text = a.text.now } };
 }
 
-/// How many places there are for a letter.
+/// The number of places for a letter.
 fn places(header: &Header, letter: u8) -> u32
     ensures { result ≡ places header.now letter }
 {
@@ -34,7 +34,7 @@ fn places(header: &Header, letter: u8) -> u32
     }
 }
 
-/// The symbol of a place below `count`, if the word is one, and of a text, if it has bytes.
+/// The symbol of the text at a place, if the word is a place below `count` and the text is not empty.
 fn symbol_at<'a>(letter: u8, count: u32, word: &[u8], text: &'a [u8]) -> Option<Symbol<'a>>
     ensures { result ≡ symbol_at letter count word.now text.now }
 {
@@ -69,7 +69,7 @@ pub(crate) fn symbol_of<'a>(header: &Header, line: &'a [u8]) -> Option<Symbol<'a
     }
 }
 
-/// Whether a line ends the reading.
+/// Whether a line ends the reading, as the first line of a comment.
 pub(crate) fn begins_comment(line: &[u8]) -> bool
     ensures { result ≡ begins_comment line.now }
 {

@@ -12,7 +12,8 @@ use aiger_semantics::header::Header;
 use std::alloc::{AllocError, Global};
 use std::marker::Model;
 
-/// The texts that symbols give to the places of inputs and of outputs; a text without bytes stands where they give none.
+/// The texts that symbols give to the places of inputs and of outputs; a place to which no symbol gives a
+/// text has the empty text.
 #[derive(Drop)]
 pub(crate) struct SymbolTexts<'a> {
     pub(crate) inputs: Vec<&'a [u8]>,
@@ -28,7 +29,7 @@ impl<'a> Model for SymbolTexts<'a> {
     ghost view = { λ a. record { inputs = texts a.inputs.items; outputs = texts a.outputs.items } };
 }
 
-/// So many texts without bytes.
+/// `count` empty texts.
 fn no_texts<'a>(alloc: Global, count: u32) -> Result<Vec<&'a [u8]>, AllocError>
     ensures size { IfOk result (λ none. length none.items ≡ count) }
     ensures empty { IfOk result (λ none. (place : ℕ) → place < count → slice_index_or (texts none.items) place [] ≡ []) }
@@ -40,7 +41,7 @@ fn no_texts<'a>(alloc: Global, count: u32) -> Result<Vec<&'a [u8]>, AllocError>
     Ok(none)
 }
 
-/// Gives a place a text, if it has none.
+/// Gives a place a text, if it has none yet, and returns whether it did.
 fn put<'a>(given: &mut [&'a [u8]], place: usize, text: &'a [u8]) -> bool
     requires { place < length given.old }
     ensures new { result ≡ (length (slice_index_or (texts given.old) place []) == 0) }
@@ -64,7 +65,7 @@ impl<'a> SymbolTexts<'a> {
         })
     }
 
-    /// Adds a symbol, if none stands at its place.
+    /// Adds a symbol, if no symbol stands at its place, and returns whether it did.
     fn add(&mut self, header: &Header, symbol: &Symbol<'a>) -> bool
         requires place { symbol.now.place < places header.now symbol.now.letter }
         requires sizes { (length self.old.inputs ≡ header.now.inputs) × (length self.old.outputs ≡ header.now.outputs) }

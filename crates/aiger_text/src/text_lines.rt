@@ -46,7 +46,7 @@ fn without_returns<'a>(alloc: Global, lines: &[&'a [u8]]) -> Result<Vec<&'a [u8]
     Ok(cut)
 }
 
-/// The lines that LF ends, and the last one, which needs none, each without a CR at its end.
+/// The lines of a text, each without a CR at its end. LF ends each line; the last line needs no LF.
 pub(crate) fn text_lines<'a>(alloc: Global, text: &'a [u8]) -> Result<Vec<&'a [u8]>, AllocError>
     ensures { IfOk result (λ v. texts v.items ≡ text_lines text.now) }
 {

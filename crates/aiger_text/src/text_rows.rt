@@ -7,7 +7,7 @@ use std::alloc::Global;
 const HALF_ADDER: &[u8] =
     b"aag 6 2 0 2 4\n2\n4\n11\n12\n6 2 5\n8 3 4\n10 7 9\n12 2 4\ni0 a\ni1 b\no0 s\no1 c\n";
 
-/// How many tables the net of a text has, and 0; or 0, and the number of the refusal.
+/// The number of tables of the net of a text, and 0; or 0, and the number of the refusal.
 fn tables_or_refusal(alloc: Global, text: &[u8]) -> (u32, u8) {
     match read_aiger(alloc, text, MOST_INPUT_BYTES as u64) {
         Ok(net) => (net.tables(), 0),

@@ -1,4 +1,4 @@
-//! The variables that a circuit defines, numbered in order and found by themselves.
+//! The variables that a circuit defines, numbered in order, with a map from variables to numbers.
 ghost use Rattle.std.specs.Prelude.{◌≡◌, ◌<◌, ◌≤◌, ◌+◌, ◌/◌, ◌^◌, true, not, ◌||◌, ◌==◌, [], ◌∷◌, ◌++◌, Result, None, IfOk, OnOk, IfErr, length, map};
 ghost use Rattle.std.specs.List.{find, flat_map};
 ghost use Rattle.semantics.specs.Net.{NetValue};
@@ -78,7 +78,7 @@ impl Variables {
         }
     }
 
-    /// Whether a variable is that of the constant, or one of these.
+    /// Whether a variable is that of the constant, or one of these variables.
     fn knows(&self, variable: u32) -> bool
         ensures { result ≡ (variable == 0 || has_variable self.now variable) }
     {
@@ -112,7 +112,8 @@ impl Variables {
         None
     }
 
-    /// The first variable that the circuit uses and that is not known: its lines' operands come first, and then its outputs.
+    /// The first variable that the circuit uses and that is not known: first the operands of its lines, and
+    /// then its outputs.
     fn first_undefined(&self, circuit: &Ands) -> Option<u32>
         requires { self.now ≡ variables circuit.now }
         ensures { result ≡ first_undefined circuit.now }
@@ -124,7 +125,8 @@ impl Variables {
         self.first_unknown_literal(circuit.outputs())
     }
 
-    /// Tests that all that the circuit uses is known, or gives the refusal of the first variable that is not.
+    /// Tests that all variables that the circuit uses are known. Else returns the refusal of the first
+    /// variable that is not.
     pub(crate) fn know_all(&self, circuit: &Ands) -> Result<(), AigerRefusal>
         requires { self.now ≡ variables circuit.now }
         ensures ok { OnOk result (first_undefined circuit.now ≡ None) }

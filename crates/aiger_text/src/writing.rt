@@ -1,4 +1,4 @@
-//! A circuit is written as its AIGER text, gathered in a page, and nothing is allocated.
+//! A circuit is written as its AIGER text, gathered in a page; nothing is allocated.
 ghost use Rattle.std.specs.Prelude.{ℕ};
 ghost use Rattle.semantics.specs.Texts.{line_text};
 ghost use Rattle.file_core.specs.Page.{Gathers, Writes};
@@ -140,8 +140,8 @@ fn write_symbols<F: Files>(
     Ok(())
 }
 
-/// Appends the circuit's AIGER text to the file that is being written. It takes no memory. After a fault a first part of the text was
-/// appended.
+/// Appends the circuit's AIGER text to the file that is being written. The call takes no memory. After a
+/// fault a first part of the text was appended.
 pub fn write_aiger<F: Files>(circuit: &Ands, files: &mut F) -> Result<(), FileFault>
     ensures { Writes result (F.told files.old) (F.told files.new) (aiger_text circuit.now) }
 {

@@ -1,4 +1,5 @@
-//! Bits that look like chance, and are the same in each run. Nothing rests on which they are. Source: the multipliers of SplitMix64.
+//! Bits that look like chance, and are equal in each run. No statement depends on which they are. Source: the
+//! multipliers of SplitMix64.
 ghost use Rattle.std.specs.Prelude.{◌≡◌};
 ghost use Rattle.bdd_core.specs.Chance.{chance};
 

@@ -12,13 +12,14 @@ use Rattle.bdd_nets.specs.declared.ever_true.Decision.{Decision}
 use Rattle.bdd_nets.specs.declared.ever_true.Decision.TheVariants.{Never, At, Unknown}
 use Rattle.bdd_levels.specs.declared.level.Level.{Level}
 
--- the net reads two words of w bits, and its one output says whether the error of the second against the first exceeds k
+-- the net reads two words of w bits, and its one output says whether the error of the second word against the
+-- first exceeds k
 pub record TellsLevel (metric : Metric) (w k : ℕ) (N : NetValue) : Type 0 where
   pub inputs : input_count N ≡ w + w
   pub one : length N.outputs ≡ 1
   pub tells : TellsExcess metric w k N
 
--- a level of a net, with the network of words as wide as the net's outputs
+-- a level of a net, whose network is over words as wide as the net's outputs
 abbrev pub IsLevelOf : NetValue → Level → Type 0
 IsLevelOf N level = TellsLevel level.metric (length N.outputs) level.k level.network
 
@@ -27,7 +28,8 @@ pub record IsOverOf (nodes : List Node) (metric : Metric) (exact approx : NetVal
   pub within : f < length nodes
   pub is : (x v : Assignment) → IsValuation nodes x v → v f ≡ nat_lt k (net_error metric exact approx (map v inputs))
 
--- the diagrams of a net's inputs, each of a variable of its own, and of its outputs
+-- the diagrams of a net's inputs, each of which is that of a variable of its own, and the diagrams of the
+-- net's outputs
 pub record AreDrawn (N : NetValue) (variables : List ℕ) (nodes : List Node) (inputs outputs : List ℕ) : Type 0 where
   pub inputs_are : AreVariablesOf nodes variables inputs
   pub outputs_are : AreOutputsOf nodes N inputs outputs
@@ -42,7 +44,7 @@ pub record IsOverAt (metric : Metric) (exact approx : NetValue) (k : ℕ) (x : L
   pub width : length x ≡ input_count exact
   pub exceeds : k < net_error metric exact approx x
 
--- no error exceeds the level, or the one at the vector that is given does
+-- no error exceeds the level, or the error at the vector that is given does
 abbrev pub IsLevelDecided : Metric → NetValue → NetValue → ℕ → Decision → Type 0
 IsLevelDecided metric exact approx k Never = IsWithin metric exact k approx
 IsLevelDecided metric exact approx k (At bits) = IsOverAt metric exact approx k bits.items

@@ -1,4 +1,5 @@
-//! Whether the error of an approximate net exceeds a level, by diagrams that are kept over many questions.
+//! Whether the error of an approximate net exceeds a level, decided by diagrams that are kept over many
+//! questions.
 ghost use Rattle.std.specs.Prelude.{◌≡◌, ◌≤◌, length, IfOk, IfSome};
 ghost use Rattle.semantics.specs.Net.{NetValue};
 ghost use Rattle.semantics.specs.Error.{IsCandidate};
@@ -17,16 +18,17 @@ use semantics::metric::Metric;
 use std::alloc::{AllocError, Global};
 use std::marker::Model;
 
-/// An exact net, and its diagrams in the order of inputs that takes the fewest nodes, where one fits.
+/// An exact net, and its diagrams in the order of inputs that takes the fewest nodes, where they fit in some
+/// order.
 #[derive(Drop)]
 pub struct Decider<'a> {
     exact: &'a Net,
     drawn: Option<Drawn<'a>>,
-    /// The nodes of the exact net alone.
+    /// The number of nodes of the exact net alone.
     first: usize,
     /// The level that was asked about last.
     level: Option<Level>,
-    /// How many questions were left open, one after another.
+    /// The number of questions that were left open, one after another.
     open_questions: u32,
 }
 
@@ -42,7 +44,7 @@ impl<'a> Model for Decider<'a> {
     ghost invariant = { λ d. IfSome d.drawn (λ e. e ≡ d.exact.now) × IfSome d.level (IsLevelOf d.exact.now) };
 }
 
-/// The net's diagrams where its inputs have these variables, if they take fewer than so many nodes.
+/// The net's diagrams where its inputs have these variables, if the diagrams take fewer than `nodes` nodes.
 fn try_order<'a>(
     alloc: Global,
     exact: &'a Net,
@@ -61,7 +63,7 @@ fn try_order<'a>(
     }
 }
 
-/// The net's diagrams in this order, if they take fewer than so many nodes.
+/// The net's diagrams in the order of this heuristic, if they take fewer than `nodes` nodes.
 fn try_heuristic<'a>(
     alloc: Global,
     exact: &'a Net,
@@ -74,7 +76,8 @@ fn try_heuristic<'a>(
     try_order(alloc, exact, variables, nodes)
 }
 
-/// The diagrams that were found last, if any, and else those before; and how many nodes the next ones must be fewer than.
+/// The diagrams that were found last or, where none were, the best ones before; with the number of nodes
+/// below which the next ones must be.
 fn better<'a>(
     best: Option<Drawn<'a>>,
     least: u32,
@@ -91,7 +94,7 @@ fn better<'a>(
     }
 }
 
-/// The net's diagrams in the order that takes the fewest nodes, if they are fewer than so many.
+/// The net's diagrams in the order that takes the fewest nodes, if they take fewer than `nodes` nodes.
 fn best_order<'a>(
     alloc: Global,
     exact: &'a Net,
@@ -110,8 +113,8 @@ fn best_order<'a>(
     Ok(best)
 }
 
-/// Begins with the exact net anew, which takes so many nodes, and forgets the others; whether it was made within its budget. If not,
-/// all stays.
+/// Begins anew with the diagrams of the exact net, which take `nodes` nodes, and forgets all others. Returns
+/// whether the diagrams were made within their budget; if not, all diagrams stay.
 fn begin_anew(alloc: Global, drawn: &mut Drawn, nodes: usize) -> Result<bool, AllocError>
     ensures { drawn.new ≡ drawn.old }
 {
@@ -123,7 +126,7 @@ fn begin_anew(alloc: Global, drawn: &mut Drawn, nodes: usize) -> Result<bool, Al
 }
 
 impl<'a> Decider<'a> {
-    /// For nets that are decided in another way.
+    /// Without diagrams, for nets that are decided by other means.
     pub fn none(exact: &'a Net) -> Decider<'a>
         ensures { result ≡ exact.now }
     {
@@ -136,7 +139,7 @@ impl<'a> Decider<'a> {
         }
     }
 
-    /// With these diagrams, which are begun anew with more room.
+    /// With these diagrams, which are made anew with more room.
     fn with(alloc: Global, exact: &'a Net, mut drawn: Drawn<'a>) -> Result<Decider<'a>, AllocError>
         requires { drawn ≡ exact.now }
         ensures { IfOk result (λ d. d ≡ exact.now) }
@@ -152,7 +155,7 @@ impl<'a> Decider<'a> {
         })
     }
 
-    /// Looks for an order of the net's inputs in which its diagrams are few.
+    /// Looks for an order of the net's inputs in which its diagrams are small.
     pub fn new(alloc: Global, exact: &'a Net) -> Result<Decider<'a>, AllocError>
         ensures { IfOk result (λ d. d ≡ exact.now) }
     {
@@ -164,7 +167,7 @@ impl<'a> Decider<'a> {
         Ok(Decider::none(exact))
     }
 
-    /// The network of a level: that of the last question, if it is the same.
+    /// The network of a level: that of the last question, if the level is the same.
     fn take_level(&mut self, alloc: Global, metric: Metric, k: u128) -> Result<Level, AllocError>
         requires { length self.old.outputs ≤ MOST_OUTPUTS }
         ensures same { self.new ≡ self.old }
@@ -190,8 +193,9 @@ impl<'a> Decider<'a> {
         };
     }
 
-    /// Whether the error of an approximate net exceeds `k`, within so many steps. After some questions that were left open, one after
-    /// another, only one that may take more steps is tried.
+    /// Whether the error of an approximate net exceeds `k`, decided within `steps` steps. After
+    /// `MOST_OPEN_QUESTIONS` questions that were left open, one after another, only a question that may take
+    /// more than `QUESTION_STEPS` steps is tried.
     pub fn decide(
         &mut self,
         alloc: Global,
@@ -210,13 +214,14 @@ impl<'a> Decider<'a> {
         self.ask(alloc, approx, metric, k, steps)
     }
 
-    /// Whether a question of so many steps is not tried.
+    /// Whether a question of `steps` steps is not tried.
     fn is_hopeless(&self, steps: u64) -> bool {
         let hopeless = self.open_questions >= MOST_OPEN_QUESTIONS && steps <= QUESTION_STEPS;
         self.drawn.is_none() || hopeless
     }
 
-    /// The answer to a question that is tried.
+    /// Answers a question that is tried: makes the network of its level, unless it is that of the last
+    /// question.
     fn ask(
         &mut self,
         alloc: Global,
@@ -235,7 +240,8 @@ impl<'a> Decider<'a> {
         Ok(decision)
     }
 
-    /// The same where the level's network is made. Whether the question was left open is counted.
+    /// Answers a question with the network of its level, as [`Decider::decide_level`] does, and counts
+    /// whether the question was left open.
     fn decide_counted(
         &mut self,
         alloc: Global,
@@ -253,7 +259,7 @@ impl<'a> Decider<'a> {
         Ok(decision)
     }
 
-    /// The same where the level's network is made. Diagrams that have become many are begun anew before.
+    /// Answers a question with the network of its level. Diagrams that have become many are made anew before.
     fn decide_level(
         &mut self,
         alloc: Global,

@@ -1,8 +1,10 @@
-//! Whether two words are far apart, by one subtraction: the networks of the absolute and the signed error over diagrams.
+//! Whether two words are far apart, by one subtraction: the networks over diagrams for the absolute and the
+//! signed error.
 //!
-//! The network of a certificate adds the level to each word and compares twice, and so the diagrams of its signals have both words in
-//! them. Here each place where the words agree and nothing is borrowed is 0: of two nets that are nearly the same the diagrams are small.
-//! Source: the ripple-borrow subtractor.
+//! The network of a certificate adds the level to each word and compares twice, so the diagrams of its
+//! signals depend on both words everywhere. Here the bit of each place where the words agree and nothing is
+//! borrowed is 0, so for two nets that are nearly equal the diagrams are small. Source: the ripple-borrow
+//! subtractor.
 ghost use Rattle.std.specs.Prelude.{◌≡◌, ℕ, ◌+◌, ◌*◌, ◌^◌, ◌<◌, ◌≤◌, nat_lt, length, IfOk};
 ghost use Rattle.semantics.specs.declared.metric.Metric.{Metric};
 ghost use Rattle.semantics.specs.declared.metric.Metric.TheVariants.{Abs, Sabs};
@@ -22,13 +24,13 @@ use net_parts::mark::Mark;
 use semantics::limits::MOST_OUTPUTS;
 use std::alloc::{AllocError, Global};
 
-/// The second pin where the first is 1, and else the third.
+/// The value of the second pin where the first pin is 1, and of the third pin where it is 0.
 const CHOICE: [[Mark; 3]; 2] = [
     [Mark::One, Mark::One, Mark::Dash],
     [Mark::Zero, Mark::Dash, Mark::One],
 ];
 
-/// Appends one place of a subtraction, and gives its bit and what is borrowed from the next one.
+/// Appends one place of a subtraction. Returns its bit, and the borrow from the next place.
 fn subtract_place(
     net: &mut WordNet,
     a: Signal,
@@ -49,7 +51,8 @@ fn subtract_place(
     Ok((bit, borrow))
 }
 
-/// Appends the difference of two words of as many bits, and gives it with what is borrowed past its last place.
+/// Appends the difference of two words of equal width. Returns the difference, and the borrow past its last
+/// place.
 fn difference(
     alloc: Global,
     net: &mut WordNet,
@@ -74,7 +77,7 @@ fn difference(
     Ok((bits, borrow))
 }
 
-/// Appends whether 2 to so many bits, so many times, is more than both numbers together.
+/// Appends a signal that says whether `factor` times 2^`width` exceeds the sum of the numbers of `x` and `y`.
 fn is_short(
     net: &mut WordNet,
     width: u32,
@@ -96,7 +99,8 @@ fn is_short(
     net.greater(&whole, &sum)
 }
 
-/// Appends whether the distance of two words of so many bits, so many times, is more than the level's number.
+/// Appends a signal that says whether `factor` times the distance of two words of `width` bits exceeds the
+/// number of `level`.
 pub(crate) fn far_apart(
     alloc: Global,
     net: &mut WordNet,
@@ -125,7 +129,8 @@ pub(crate) fn far_apart(
     net.append_form([borrow, under, over], &CHOICE)
 }
 
-/// Appends what says whether two words of so many bits, the inputs of the network, are more than `k` apart.
+/// Appends a signal that says whether the two words of `width` bits that are the inputs of the network are
+/// more than `k` apart.
 fn absolute_excess(
     alloc: Global,
     net: &mut WordNet,
@@ -143,8 +148,8 @@ fn absolute_excess(
     far_apart(alloc, net, width, &exact, &approximate, 1, &level)
 }
 
-/// Appends what says whether two signed words of so many bits, the inputs of the network, are more than `k` apart. Turning over both
-/// signs makes signed order unsigned order.
+/// Appends a signal that says whether the two signed words of `width` bits that are the inputs of the network
+/// are more than `k` apart. Turning over both signs makes signed order unsigned order.
 fn signed_excess(
     alloc: Global,
     net: &mut WordNet,
@@ -173,7 +178,7 @@ fn signed_excess(
     )
 }
 
-/// The network with this output.
+/// The net of the network, with this output.
 pub(crate) fn finished(net: WordNet, output: Signal) -> Result<Net, AllocError>
     requires within { output < signals net }
     ensures { IfOk result (λ made. (metric : Metric) (w k : ℕ) → SaysExcess metric w k net output → TellsLevel metric w k made) }
@@ -183,7 +188,7 @@ pub(crate) fn finished(net: WordNet, output: Signal) -> Result<Net, AllocError>
     Ok(made)
 }
 
-/// The net whose output says whether two words of so many bits are more than `k` apart.
+/// The net whose output says whether two words of `width` bits are more than `k` apart.
 pub(crate) fn absolute_quality(alloc: Global, width: u32, k: u128) -> Result<Net, AllocError>
     requires { width ≤ MOST_OUTPUTS }
     ensures { IfOk result (TellsLevel Abs width k) }
@@ -193,7 +198,7 @@ pub(crate) fn absolute_quality(alloc: Global, width: u32, k: u128) -> Result<Net
     finished(net, output)
 }
 
-/// The net whose output says whether two signed words of so many bits are more than `k` apart.
+/// The net whose output says whether two signed words of `width` bits are more than `k` apart.
 #[tactic(auto, using(crate::proofs::Drawing::level_from))]
 pub(crate) fn signed_quality(alloc: Global, width: u32, k: u128) -> Result<Net, AllocError>
     requires { width ≤ MOST_OUTPUTS }

@@ -1,4 +1,5 @@
-//! The diagrams of an exact net's outputs, and over the same nodes those of approximate nets and of their errors.
+//! The diagrams of an exact net's outputs and, over the same nodes, the diagrams of approximate nets and of
+//! their errors.
 ghost use Rattle.std.specs.Prelude.{◌≡◌, ◌<◌, ◌++◌, length, All, IfOk};
 ghost use Rattle.semantics.specs.Net.{input_count};
 ghost use Rattle.semantics.specs.Error.{IsCandidate};
@@ -26,7 +27,7 @@ struct Drawing {
     outputs: Vec<Diagram>,
 }
 
-/// The diagrams of a net's inputs, which have these variables, and of its outputs.
+/// The diagrams of a net's inputs, which have these variables, and the diagrams of its outputs.
 fn draw(alloc: Global, net: &Net, variables: &[u32], allowed: Allowed) -> Result<Drawing, Stop>
     requires count { length variables.now ≡ input_count net.now }
     requires remembered { 0 < allowed.remembered }
@@ -74,7 +75,7 @@ fn over_diagram(
     Ok(over[0])
 }
 
-/// Whether the error of the approximate net exceeds the level, within so many steps.
+/// Whether the error of the approximate net exceeds the level, decided within `steps` steps.
 fn decide_drawn(
     alloc: Global,
     drawing: &mut Drawing,
@@ -132,7 +133,8 @@ impl<'a> Model for Drawn<'a> {
 }
 
 impl<'a> Drawn<'a> {
-    /// The net's diagrams, where its inputs have these variables; few results are remembered.
+    /// The net's diagrams, where its inputs have these variables; few results are remembered while they are
+    /// made.
     pub(crate) fn new(
         alloc: Global,
         exact: &'a Net,
@@ -161,7 +163,7 @@ impl<'a> Drawn<'a> {
         self.drawing.diagrams.len()
     }
 
-    /// Begins with the exact net anew, which takes so many nodes, and forgets the others.
+    /// Begins anew with the diagrams of the exact net, which take `nodes` nodes, and forgets all others.
     pub(crate) fn renew(&mut self, alloc: Global, nodes: usize) -> Result<(), Stop>
         ensures { self.new ≡ self.old }
     {
@@ -171,7 +173,7 @@ impl<'a> Drawn<'a> {
         Ok(())
     }
 
-    /// Whether the error of an approximate net exceeds the level, within so many steps.
+    /// Whether the error of an approximate net exceeds the level, decided within `steps` steps.
     pub(crate) fn decide(
         &mut self,
         alloc: Global,

@@ -1,4 +1,5 @@
-//! A level that the error of nets with so many outputs may not exceed, and the network that says whether it does.
+//! A level of the error of nets with the same number of outputs, and the network that says whether an error
+//! exceeds it.
 ghost use Rattle.std.specs.Prelude.{◌≡◌, ◌≤◌, length, IfOk};
 ghost use Rattle.bdd_levels.specs.Levels.{TellsLevel, IsLevelOf};
 
@@ -17,7 +18,7 @@ pub struct Level {
     pub network: Net,
 }
 
-/// The net whose output says whether the error of two words of so many bits exceeds `k`.
+/// The net whose output says whether the error of two words of `width` bits exceeds `k`.
 #[tactic(auto, using(crate::proofs::Drawing::level_from))]
 fn quality(alloc: Global, metric: Metric, width: u32, k: u128) -> Result<Net, AllocError>
     requires { width ≤ MOST_OUTPUTS }
@@ -32,7 +33,7 @@ fn quality(alloc: Global, metric: Metric, width: u32, k: u128) -> Result<Net, Al
 }
 
 impl Level {
-    /// The level `k` of the errors of approximate nets of this one.
+    /// The level `k` of the errors of approximate nets of `exact`.
     pub fn new(alloc: Global, exact: &Net, metric: Metric, k: u128) -> Result<Level, AllocError>
         requires { length exact.now.outputs ≤ MOST_OUTPUTS }
         ensures metric { IfOk result (λ level. level.metric ≡ metric) }

@@ -1,5 +1,6 @@
-//! Orders of a net's inputs, from its structure and its names alone. Nothing rests on them but how many nodes diagrams take.
-//! Source: Malik's and Fujita's walks from the outputs; words interleaved by bits, as for adders and comparators.
+//! Orders of a net's inputs, from its structure and its names alone. Only the number of nodes depends on
+//! them. Source: Malik's and Fujita's walks from the outputs; words interleaved by bits, as for adders and
+//! comparators.
 use net_core::items::Signal;
 use net_core::net::Net;
 use std::alloc::{AllocError, Global};
@@ -7,21 +8,22 @@ use std::alloc::{AllocError, Global};
 /// How inputs are put in order.
 #[derive(Clone, Copy)]
 pub(crate) enum Heuristic {
-    /// As a walk from the last output meets them, the pin nearest to the inputs first.
+    /// In the order in which a walk from the last output meets the inputs; of a table's pins the one nearest
+    /// to the inputs comes first.
     LastShallowFirst,
     /// The words' highest bits first, by the numbers at the ends of the names.
     HighestBitFirst,
-    /// As a walk from the last output meets them.
+    /// In the order in which a walk from the last output meets the inputs.
     LastOutputFirst,
-    /// As a walk from the first output meets them, turned round.
+    /// In the reverse of the order in which a walk from the first output meets the inputs.
     FirstOutputLast,
-    /// As a walk from the first output meets them.
+    /// In the order in which a walk from the first output meets the inputs.
     FirstOutputFirst,
     /// The words' lowest bits first.
     LowestBitFirst,
 }
 
-/// All of them, the best first.
+/// All heuristics, the best first.
 pub(crate) const HEURISTICS: [Heuristic; 6] = [
     Heuristic::LastShallowFirst,
     Heuristic::HighestBitFirst,
@@ -62,7 +64,7 @@ fn depths(alloc: Global, net: &Net) -> Result<Vec<u32>, AllocError> {
     Ok(depths)
 }
 
-/// These signals in the order of their keys, each beside its key.
+/// The places of these keys in the order of the keys, each place behind its key in one number.
 fn sorted(alloc: Global, keys: &[u32]) -> Result<Vec<u64>, AllocError> {
     let mut both = Vec::new(alloc);
     for (place, key) in keys.iter().enumerate() {
@@ -72,7 +74,7 @@ fn sorted(alloc: Global, keys: &[u32]) -> Result<Vec<u64>, AllocError> {
     Ok(both)
 }
 
-/// The depths of pins, or 0 for each where they do not matter.
+/// The depths of the pins, or 0 for each pin where the depths do not matter.
 fn pin_keys(
     alloc: Global,
     depths: &[u32],
@@ -91,7 +93,8 @@ fn pin_keys(
     Ok(keys)
 }
 
-/// The places of pins, each behind its key, so that the one with the least depth, or else the first, comes first.
+/// The places of pins, each behind its key in one number: the pin of the least depth comes first, or the
+/// first pin where the depths do not matter.
 fn pins_in_order(
     alloc: Global,
     depths: &[u32],
@@ -102,7 +105,7 @@ fn pins_in_order(
     sorted(alloc, &keys)
 }
 
-/// Puts pins on a stack from the last of these pairs of a key and a place on.
+/// Puts pins on a stack, by these pairs of a key and a place, from the last pair to the first.
 fn push_from_last(
     left: &mut Vec<Signal>,
     pairs: &[u64],
@@ -117,7 +120,8 @@ fn push_from_last(
     Ok(())
 }
 
-/// Puts pins on a stack, so that the one with the least depth, or else the first, is taken first.
+/// Puts pins on a stack, so that the pin of the least depth is taken first, or the first pin where the depths
+/// do not matter.
 fn push_pins(
     alloc: Global,
     left: &mut Vec<Signal>,
@@ -129,7 +133,7 @@ fn push_pins(
     push_from_last(left, &pairs, pins)
 }
 
-/// Whether a signal is seen for the first time.
+/// Marks a signal as seen, and returns whether it was not seen before.
 fn is_new(seen: &mut [bool], signal: Signal) -> bool {
     let at = signal as usize;
     if at >= seen.len() || seen[at] {
@@ -139,7 +143,8 @@ fn is_new(seen: &mut [bool], signal: Signal) -> bool {
     true
 }
 
-/// What a walk makes of a signal that it sees for the first time: an input is met, and the pins of a table are put on the stack.
+/// What a walk does at a signal that it sees for the first time: it meets an input, or puts the pins of a
+/// table on the stack.
 fn visit(
     alloc: Global,
     net: &Net,
@@ -179,7 +184,8 @@ fn met_inputs(
     Ok(met)
 }
 
-/// The inputs in the order in which a walk from these outputs meets them; the last one is gone from first.
+/// The inputs in the order in which a walk from these outputs meets them; the walk begins with the last
+/// output.
 fn walk(
     alloc: Global,
     net: &Net,
@@ -191,27 +197,27 @@ fn walk(
     met_inputs(alloc, net, &depths, by_depth, &mut outputs, &mut seen)
 }
 
-/// The inputs as a walk from the last output meets them.
+/// The inputs in the order in which a walk from the last output meets them.
 fn from_last(alloc: Global, net: &Net, by_depth: bool) -> Result<Vec<Signal>, AllocError> {
     let outputs = net.output_signals().to_vec(alloc)?;
     walk(alloc, net, outputs, by_depth)
 }
 
-/// The inputs as a walk from the first output meets them.
+/// The inputs in the order in which a walk from the first output meets them.
 fn from_first(alloc: Global, net: &Net) -> Result<Vec<Signal>, AllocError> {
     let mut outputs = net.output_signals().to_vec(alloc)?;
     outputs.reverse();
     walk(alloc, net, outputs, false)
 }
 
-/// The same, turned round.
+/// The inputs in the reverse of the order in which a walk from the first output meets them.
 fn from_first_turned(alloc: Global, net: &Net) -> Result<Vec<Signal>, AllocError> {
     let mut met = from_first(alloc, net)?;
     met.reverse();
     Ok(met)
 }
 
-/// The number at the end of a name, before a bracket that closes.
+/// The number at the end of a name, or the one before a closing bracket at its end.
 fn name_number(name: &[u8]) -> u32 {
     let mut number = 0u32;
     let mut unit = 1u32;
@@ -228,7 +234,8 @@ fn name_number(name: &[u8]) -> u32 {
     number
 }
 
-/// The number at the end of each input's name, or what is left of the greatest number above it.
+/// The key of each input: the number at the end of its name or, with the highest first, the greatest number
+/// less that number.
 fn name_keys(alloc: Global, net: &Net, highest_first: bool) -> Result<Vec<u32>, AllocError> {
     let mut keys = Vec::new(alloc);
     for name in net.input_names() {
@@ -242,7 +249,7 @@ fn name_keys(alloc: Global, net: &Net, highest_first: bool) -> Result<Vec<u32>, 
     Ok(keys)
 }
 
-/// The place in each of these pairs of a key and a place.
+/// The places in these pairs of a key and a place.
 fn places(alloc: Global, pairs: &[u64]) -> Result<Vec<Signal>, AllocError> {
     let mut places = Vec::new(alloc);
     for pair in pairs {
@@ -258,7 +265,7 @@ fn by_names(alloc: Global, net: &Net, highest_first: bool) -> Result<Vec<Signal>
     places(alloc, &pairs)
 }
 
-/// Ranks the inputs that were met in this order, and gives the next rank.
+/// Gives the inputs that were met their ranks in this order, and returns the next rank.
 fn rank_met(ranks: &mut [u32], inputs: u32, met: &[Signal]) -> u32 {
     let mut next = 0;
     for input in met {
@@ -271,7 +278,7 @@ fn rank_met(ranks: &mut [u32], inputs: u32, met: &[Signal]) -> u32 {
     next
 }
 
-/// Ranks the inputs that have no rank, from this one on.
+/// Gives ranks from `first` on to the inputs that have none.
 fn rank_others(ranks: &mut [u32], inputs: u32, first: u32) {
     let mut next = first;
     for rank in ranks.iter_mut() {
@@ -282,7 +289,7 @@ fn rank_others(ranks: &mut [u32], inputs: u32, first: u32) {
     }
 }
 
-/// The rank of each input, where some were met in this order; the others come behind them.
+/// The rank of each input: first the inputs that were met, in this order, and then the others.
 fn ranks(alloc: Global, inputs: u32, met: &[Signal]) -> Result<Vec<u32>, AllocError> {
     let mut ranks = vec![in alloc; u32::MAX; inputs as usize]?;
     let next = rank_met(&mut ranks, inputs, met);
@@ -290,7 +297,7 @@ fn ranks(alloc: Global, inputs: u32, met: &[Signal]) -> Result<Vec<u32>, AllocEr
     Ok(ranks)
 }
 
-/// Inputs one after another, the first of which is split on first; some may be missing.
+/// The inputs in the order of a heuristic, of which the first is split on first; some inputs may be missing.
 fn in_order(alloc: Global, net: &Net, heuristic: Heuristic) -> Result<Vec<Signal>, AllocError> {
     match heuristic {
         Heuristic::LastShallowFirst => from_last(alloc, net, true),
@@ -302,7 +309,7 @@ fn in_order(alloc: Global, net: &Net, heuristic: Heuristic) -> Result<Vec<Signal
     }
 }
 
-/// The variable of each input, the least of which is split on first.
+/// The variable of each input; the input with the least variable is split on first.
 pub(crate) fn input_variables(
     alloc: Global,
     net: &Net,

@@ -1,9 +1,10 @@
-//! The network of the relative error over diagrams, where the level is a fraction with small terms.
+//! The network over diagrams of the relative error, where the level is a fraction with small terms.
 //!
-//! `quality_rel` multiplies both words by a million, which costs diagrams of some twenty more bits for each. Over words of w bits a level
-//! of k millionths is the same as each fraction at most k millionths above which no other one up to there has a denominator below
-//! 2^w: a distance of so many parts of the exact word is more than both or than neither. Such a fraction is found by the mediants of
-//! Farey, and tested.
+//! `quality_rel` multiplies both words by a million, which costs diagrams of some twenty more bits for each
+//! word. Over words of w bits the level of k millionths may be replaced by a fraction r that is at most k
+//! millionths, where no fraction above r and up to k millionths has a denominator below 2^w: then a distance
+//! exceeds the part r of the exact word exactly where it exceeds k millionths of that word. Such a fraction
+//! is found by the mediants of Farey, and tested.
 ghost use Rattle.std.specs.Prelude.{◌≡◌, ℕ, ◌+◌, ◌*◌, ◌^◌, ◌≤◌, ◌<◌, true, IfOk};
 ghost use Rattle.semantics.specs.declared.metric.Metric.TheVariants.{Rel};
 ghost use Rattle.quality_semantics.specs.WordNets.{started, signals};
@@ -18,10 +19,10 @@ use net_parts::items::Signal;
 use semantics::limits::MOST_OUTPUTS;
 use std::alloc::{AllocError, Global};
 
-/// The parts of the unit.
+/// The number of parts into which the unit is divided: a level counts millionths.
 const MILLION: u128 = 1_000_000;
 
-/// So many mediants are tried: about a millisecond.
+/// The most mediants that are tried: about a millisecond.
 const MOST_MEDIANTS: u32 = 1 << 16;
 
 /// A fraction.
@@ -67,7 +68,8 @@ fn is_above(ratio: Ratio, k: u128) -> bool
     }
 }
 
-/// Whether no fraction between two has a smaller denominator than both together.
+/// Whether two fractions are neighbours: each fraction between them has at least the sum of their
+/// denominators as its denominator.
 fn are_neighbours(low: Ratio, high: Ratio) -> bool
     ensures { result ≡ true → AreNeighbours low high }
 {
@@ -79,7 +81,7 @@ fn are_neighbours(low: Ratio, high: Ratio) -> bool
     }
 }
 
-/// Whether both denominators together are no number of so many bits.
+/// Whether the sum of both denominators takes more than `width` bits.
 fn are_fine(low: Ratio, high: Ratio, width: u32) -> bool
     requires { width ≤ MOST_OUTPUTS }
     ensures { result ≡ true → 2 ^ width ≤ low.denominator + high.denominator }
@@ -95,7 +97,8 @@ fn mediant(low: Ratio, high: Ratio) -> Ratio {
     }
 }
 
-/// Two fractions, at most `k` millionths and above, mostly with none of so small a denominator between. Nothing is promised of them.
+/// Two fractions, the first at most `k` millionths and the second above, mostly with no fraction between them
+/// whose denominator has at most `width` bits. Nothing is promised of them.
 fn around(k: u128, width: u32) -> (Ratio, Ratio)
     requires { width ≤ MOST_OUTPUTS }
 {
@@ -122,7 +125,7 @@ fn around(k: u128, width: u32) -> (Ratio, Ratio)
     (low, high)
 }
 
-/// A fraction that does over words of so many bits for `k` millionths.
+/// A fraction that stands for `k` millionths over words of `width` bits.
 #[tactic(auto, using(crate::proofs::Farey::exactly, crate::proofs::Farey::millionths))]
 fn ratio_for(k: u128, width: u32) -> Ratio
     requires { width ≤ MOST_OUTPUTS }
@@ -145,8 +148,9 @@ fn ratio_for(k: u128, width: u32) -> Ratio
     }
 }
 
-/// Appends what says whether the relative error of two words of so many bits, the inputs of the network, exceeds the fraction: their
-/// distance times the denominator is more than the numerator times the exact word, which counts as 1 where it is 0.
+/// Appends a signal that says whether the relative error of the two words of `width` bits that are the inputs
+/// of the network exceeds the fraction: whether their distance times the denominator exceeds the numerator
+/// times the exact word, which counts as 1 where it is 0.
 fn excess(alloc: Global, net: &mut WordNet, width: u32, ratio: Ratio) -> Result<Signal, AllocError>
     requires start { net.old ≡ started (width + width) }
     requires some { 0 < width }
@@ -169,7 +173,7 @@ fn excess(alloc: Global, net: &mut WordNet, width: u32, ratio: Ratio) -> Result<
     )
 }
 
-/// The network of a level that some relative error of words of so many bits exceeds.
+/// The network of a level that some relative error of words of `width` bits exceeds.
 fn ratio_network(alloc: Global, width: u32, k: u128) -> Result<Net, AllocError>
     requires some { 0 < width }
     requires narrow { width ≤ MOST_OUTPUTS }
@@ -180,7 +184,7 @@ fn ratio_network(alloc: Global, width: u32, k: u128) -> Result<Net, AllocError>
     finished(net, output)
 }
 
-/// The net whose output says whether the relative error of two words of so many bits exceeds `k` millionths.
+/// The net whose output says whether the relative error of two words of `width` bits exceeds `k` millionths.
 #[tactic(auto, using(crate::proofs::Drawing::level_from))]
 pub(crate) fn quality(alloc: Global, width: u32, k: u128) -> Result<Net, AllocError>
     requires { width ≤ MOST_OUTPUTS }

@@ -1,7 +1,9 @@
-//! The diagram that some row of a table matches, by splits: pin by pin, the one whose diagram chooses by the least variable first. So
-//! fewer nodes are made that nobody needs than by conjunctions and disjunctions of rows.
+//! The diagram that says whether some row of a table matches, by splits: pin by pin, and first the pin whose
+//! diagram chooses by the least variable. So fewer nodes are made in vain than by conjunctions and
+//! disjunctions of rows.
 //!
-//! What is chosen of the pins stands as a row of marks, with a dash for each pin that is not chosen.
+//! The values that were chosen for the pins are held as a row of marks, with a dash for each pin without a
+//! chosen value.
 ghost use Rattle.std.specs.Prelude.{◌≡◌, ℕ, ◌<◌, true, false, Bool, List, replicate, length, slice_index_or, All, IfOk, IfSome, OnOk};
 ghost use Rattle.semantics.specs.declared.mark.Mark.TheVariants.{Zero, Dash};
 ghost use Rattle.semantics.specs.Value.{Assignment, mark_matches, row_matches};
@@ -17,7 +19,7 @@ use net_core::mark::Mark;
 use net_core::row::Row;
 use std::alloc::Global;
 
-/// Whether a mark asks for another value than a chosen one.
+/// Whether a mark asks for the opposite of the value that was chosen for its pin.
 #[inline]
 fn is_opposite(mark: Mark, chosen: Mark) -> bool
     ensures { result ≡ true → (bit : Bool) → mark_matches chosen bit ≡ true → mark_matches mark bit ≡ false }
@@ -28,7 +30,7 @@ fn is_opposite(mark: Mark, chosen: Mark) -> bool
     )
 }
 
-/// Whether a mark asks for nothing but a chosen value.
+/// Whether a mark is a dash or asks for the value that was chosen for its pin.
 #[inline]
 fn is_implied(mark: Mark, chosen: Mark) -> bool
     ensures { result ≡ true → (bit : Bool) → mark_matches chosen bit ≡ true → mark_matches mark bit ≡ true }
@@ -39,7 +41,7 @@ fn is_implied(mark: Mark, chosen: Mark) -> bool
     )
 }
 
-/// Whether a row asks for another value than a chosen one.
+/// Whether a row asks some pin for the opposite of the value that was chosen for it.
 fn clashes(marks: &[Mark], chosen: &[Mark]) -> bool
     requires { length marks.now ≡ length chosen.now }
     ensures { result ≡ true → (pins : List ℕ) (v : Assignment) → length pins ≡ length chosen.now
@@ -53,7 +55,7 @@ fn clashes(marks: &[Mark], chosen: &[Mark]) -> bool
     false
 }
 
-/// Whether a row asks for nothing but what is chosen.
+/// Whether a row asks only for values that were chosen.
 fn follows(marks: &[Mark], chosen: &[Mark]) -> bool
     requires { length marks.now ≡ length chosen.now }
     ensures { result ≡ true → (pins : List ℕ) (v : Assignment) → length pins ≡ length chosen.now
@@ -67,7 +69,7 @@ fn follows(marks: &[Mark], chosen: &[Mark]) -> bool
     true
 }
 
-/// Whether some row matches, where what is chosen decides it.
+/// Whether some row matches, where the chosen values decide this.
 fn settled(rows: &[Row], chosen: &[Mark]) -> Option<bool>
     requires { All (λ marks. length marks ≡ length chosen.now) rows.now }
     ensures { IfSome result (IsSettled rows.now chosen.now) }
@@ -83,7 +85,7 @@ fn settled(rows: &[Row], chosen: &[Mark]) -> Option<bool>
     if possible { None } else { Some(false) }
 }
 
-/// The pin that is not chosen whose diagram chooses by the least variable.
+/// The pin, among those without a chosen value, whose diagram chooses by the least variable.
 fn next_pin(d: &Diagrams, chosen: &[Mark], pins: &[Signal], signals: &[Diagram]) -> Option<usize>
     requires widths { length chosen.now ≡ length pins.now }
     requires pins { All (λ s. s < length signals.now) pins.now }
@@ -104,7 +106,8 @@ fn next_pin(d: &Diagrams, chosen: &[Mark], pins: &[Signal], signals: &[Diagram])
     next
 }
 
-/// The diagram that is true where some row matches and the pins are as they are chosen, by at most so many splits one below another.
+/// The diagram that is true where some row matches and the pins have the chosen values, by at most `splits`
+/// splits one below another.
 fn split(
     d: &mut Diagrams,
     splits: u32,

@@ -5,7 +5,7 @@ use Rattle.blif_semantics.specs.Lines.{Statement}
 use Rattle.blif_semantics.specs.Statements.{place_after, wrong, WrongLine, first_wrong}
 use Rattle.blif_semantics.specs.Reading.{NamedNet, names_of, names_read}
 
--- none of the lines before it is wrong, and this one is, after those
+-- none of the lines before the statement is wrong, and the statement is wrong behind those lines
 pub record IsFirstWrong (lines : List Statement) (w : WrongLine) : Type 0 where
   pub before : List Statement
   pub statement : Statement
@@ -15,7 +15,7 @@ pub record IsFirstWrong (lines : List Statement) (w : WrongLine) : Type 0 where
   pub line : statement.line ≡ w.line
   pub is_wrong : wrong (place_after (reverse (map (λ s. s.words) before))) statement.words ≡ Some w.wrong
 
--- the names that are read before it are those of an input or a table, and it is none of these
+-- the names that are read before `name` are names of inputs or tables, and `name` is none
 pub record IsFirstUndriven (d : NamedNet) (name : Bytes) : Type 0 where
   pub before : List Bytes
   pub after : List Bytes

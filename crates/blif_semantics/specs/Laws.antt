@@ -15,11 +15,12 @@ use Rattle.blif_semantics.specs.Tables.{last_word, is_one, named, with_rows, row
 use Rattle.blif_semantics.specs.Reading.{Refusal, text_long, doubled, no_output, undriven, cycle, limit, NamedNet, names_of, names_read, first_undriven_name, numbered, single, blif_reading}
 use Rattle.blif_semantics.specs.FirstRefusals.{IsFirstWrong, IsFirstUndriven}
 
--- with a CR before each LF
+-- the text with a CR before each LF
 abbrev pub with_carriage_returns : Bytes → Bytes
 with_carriage_returns text = flat_map (λ b. if b == 10 then 13 ∷ 10 ∷ [] else b ∷ []) text
 
--- a text means its statements: a comment of any bytes means nothing, the last line needs no LF, and a CR may stand before each
+-- A text means its statements: a comment of any bytes means nothing, the last line needs no LF, and a CR may
+-- stand before each LF.
 pub record TextLaw : Type 0 where
   pub comment : (before bytes after : Bytes) → All (λ b. b ≢ 10) bytes → logical_lines (before ++ 35 ∷ (bytes ++ 10 ∷ after)) ≡ logical_lines (before ++ 10 ∷ after)
   pub last_comment : (before bytes : Bytes) → All (λ b. b ≢ 10) bytes → logical_lines (before ++ 35 ∷ bytes) ≡ logical_lines before
@@ -28,15 +29,16 @@ pub record TextLaw : Type 0 where
   pub same : (text other : Bytes) (most : ℕ) → length text ≤ most → length other ≤ most → statements (logical_lines text) ≡ statements (logical_lines other)
       → blif_reading text most ≡ blif_reading other most
 
--- what is read is a small sound net, from a text that keeps the limit; exactly the texts beyond it are refused for their length
+-- what is read is a small sound net, from a text that keeps the limit on its length; the texts beyond that
+-- limit, and no others, are refused for their length
 pub record ReadingLaw : Type 0 where
   pub sound : (text : Bytes) (most : ℕ) (N : NetValue) → blif_reading text most ≡ Ok N → IsSound N
   pub small : (text : Bytes) (most : ℕ) (N : NetValue) → blif_reading text most ≡ Ok N → IsSmall N
   pub short : (text : Bytes) (most : ℕ) (N : NetValue) → blif_reading text most ≡ Ok N → length text ≤ most
   pub long : (text : Bytes) (most : ℕ) → (blif_reading text most ≡ Err text_long) ↔ (most < length text)
 
--- a small sound net is read back from the text that is written for it, which is the text of no other, and that text keeps the limit
--- of a bundle's netlist
+-- A small sound net is read back from the text that is written for it. That text is the text of no other net,
+-- and keeps the limit on the netlist of a bundle.
 pub record WrittenLaw : Type 0 where
   pub read : (N : NetValue) → IsSound N → IsSmall N → blif_reading (blif_text N) MOST_BUNDLE_BYTES ≡ Ok N
   pub read_within : (N : NetValue) (most : ℕ) → IsSound N → IsSmall N → length (blif_text N) ≤ most → blif_reading (blif_text N) most ≡ Ok N
@@ -61,7 +63,8 @@ pub record NamedNetLaw : Type 0 where
   pub undriven : (d : NamedNet) (name : Bytes) → first_doubled (names_of d) ≡ None → 0 < length d.outputs → first_undriven_name d ≡ Some name
       → single d ≡ Err (undriven name)
 
--- the refusals of lines and of names tell the first of their kind, and all names are driven exactly where none is told
+-- each refusal of lines and of names tells the first of its kind; all names that are read are driven exactly
+-- where no undriven name is told
 pub record FirstRefusalLaw : Type 0 where
   pub wrong_line : (lines : List Statement) (w : WrongLine) → (first_wrong lines ≡ Some w) ↔ IsFirstWrong lines w
   pub doubled : (names : List Bytes) (name : Bytes) → (first_doubled names ≡ Some name) ↔ IsFirstDoubled names name

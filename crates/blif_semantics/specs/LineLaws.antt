@@ -15,8 +15,9 @@ AreWholeLines text = (text ≡ []) ⊎ ((lines : Bytes) × (text ≡ lines ++ 10
 abbrev pub texts_of : List LogicalLine → List Bytes
 texts_of lines = map (λ l. l.bytes) lines
 
--- A backslash behind a line, with the blanks behind it and the LF, means nothing: what follows goes on where the line stood, in the midst of a word if
--- need be. So it is where the line has no comment and no backslash of its own at its end.
+-- A backslash behind a line, together with the blanks behind it and the LF, means nothing: what follows goes
+-- on where the line stood, in the middle of a word where the line ends in one. This holds of a line that has
+-- no comment and does not itself end in a backslash.
 abbrev pub JoinLaw : Type 0
 JoinLaw = (before line blanks after : Bytes) → AreWholeLines before → All (λ b. (b ≢ 10) × (b ≢ 35)) line → before_backslash line ≡ None
     → All (λ b. is_blank b ≡ true) blanks
@@ -35,8 +36,8 @@ pub record ListLaw : Type 0 where
 abbrev pub opened : NamedTable → OpenTable
 opened t = record { pins = length t.pins; plane = elim t.rows [ [] ↦ None | row ∷ rows ↦ Some t.plane ] }
 
--- The row stands behind a `.names` line with nothing but rows between. It is judged by that line's table as the rows between made it, and that table
--- has it as its next row.
+-- The row stands behind a `.names` line with nothing but rows between. The row is judged by that line's table
+-- as the rows between made it, and is that table's next row.
 pub record IsRowOfTable (before : List Line) (row : Line) (after : List Line) : Type 0 where
   pub front : List Line
   pub names : Line

@@ -30,7 +30,8 @@ pub record LogicalLine : Type 0 where
   pub number : ℕ
   pub bytes : Bytes
 
--- the line put before the first of the lines, which takes its number; where there is none, it stands alone
+-- the line joined to the first of the logical lines, which takes the number of `line`; where there is no
+-- logical line, it stands alone
 abbrev pub joined_before : LogicalLine → List LogicalLine → List LogicalLine
 joined_before line [] = line ∷ []
 joined_before line (next ∷ lines) = record line { bytes = line.bytes ++ next.bytes } ∷ lines
@@ -51,7 +52,7 @@ logical_from number (line ∷ lines) = line_before number (without_comment line)
 unfoldable pub logical_lines : Bytes → List LogicalLine
 logical_lines text = logical_from 1 (physical_lines text)
 
--- the words between blanks
+-- the words of a line, which blanks separate
 abbrev pub words_of : Bytes → Line
 words_of line = filter (λ w. not (length w == 0)) (slice_split is_blank line)
 

@@ -1,4 +1,5 @@
--- What nets of names are where no line is wrong, and what their nets are where nothing is doubled or missing.
+-- What holds of the words of a text where no line is wrong, and of the net where no name is doubled or
+-- missing.
 use Rattle.std.specs.Prelude.{◌≡◌, ◌≢◌, ◌<◌, true, List, [], map, length, All, AllPairs}
 use Rattle.semantics.specs.Texts.{Bytes}
 use Rattle.semantics.specs.Net.{TableValue, NetValue, signal_count, signal_names, IsName}

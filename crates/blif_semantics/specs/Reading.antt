@@ -96,7 +96,7 @@ single d = unless_refused (first_doubled (names_of d)) doubled (with_output d)
 abbrev pub lines_reading : List Line → Result NetValue Refusal
 lines_reading lines = single (named_net lines)
 
--- the net of a text of at most so many bytes, or its refusal
+-- the net of a text of at most `most` bytes, or the refusal of the text
 unfoldable pub blif_reading : Bytes → ℕ → Result NetValue Refusal
 blif_reading text most =
     let lines = statements (logical_lines text) in

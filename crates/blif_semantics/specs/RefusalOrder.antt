@@ -1,4 +1,5 @@
--- Which refusal a net of names has, and which net is read: each refusal is told exactly where its condition holds and those before it do not.
+-- Which refusal a net of names has, and which net is read: each refusal is told exactly where its condition
+-- holds and the conditions of the refusals before it do not.
 use Rattle.std.specs.Prelude.{◌≡◌, ◌≢◌, ◌↔◌, ℕ, ◌+◌, ◌<◌, ◌≤◌, [], length, Some, Ok, Err, All, AllPairs, Contains}
 use Rattle.semantics.specs.declared.which.Which.{Which}
 use Rattle.semantics.specs.Texts.{Bytes}
@@ -31,7 +32,8 @@ abbrev pub IsFirstOnCycle : NamedNet → Bytes → Type 0
 IsFirstOnCycle d name =
     (i : ℕ) × IsFirstUngrounded (input_count (numbered d)) (numbered d).tables i × (name_of (signal_names (numbered d)) (input_count (numbered d) + i) ≡ name)
 
--- in this order: a name driven twice, no output, a name that is not driven, a cycle, a limit; and what has none of them is read as its numbered parts
+-- in this order: a name driven twice, no output, a name that is not driven, a cycle, a limit; a net of names
+-- without any of these is read as its numbered parts
 pub record RefusalOrderLaw : Type 0 where
   pub of_doubled : (d : NamedNet) (name : Bytes) → (single d ≡ Err (doubled name)) ↔ IsFirstDoubled (names_of d) name
   pub of_no_output : (d : NamedNet) → (single d ≡ Err no_output) ↔ (NamesDiffer d × (d.outputs ≡ []))

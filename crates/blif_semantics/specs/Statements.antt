@@ -56,7 +56,7 @@ abbrev pub plane_of : Bytes → Option Bool
 plane_of (byte ∷ []) = if byte == 48 then Some false else (if byte == 49 then Some true else None)
 plane_of _ = None
 
--- the plane of a row of a table with so many pins, where the words have the form of one
+-- the plane of a row of a table with this number of pins, where the words have the form of such a row
 abbrev pub row_plane : ℕ → Line → Option Bool
 row_plane zero (plane ∷ []) = plane_of plane
 row_plane (suc n) (marks ∷ plane ∷ []) = if length marks == suc n && list_all is_mark marks then plane_of plane else None
@@ -78,7 +78,7 @@ had_model earlier = list_any (λ words. is_model (kind_of words)) earlier
 abbrev pub had_end : List Line → Bool
 had_end earlier = list_any (λ words. is_end (kind_of words)) earlier
 
--- a table whose rows may come next: how many pins it has, and its plane once it has a row
+-- a table whose rows may come next: the number of its pins, and its plane once it has a row
 pub record OpenTable : Type 0 where
   pub pins : ℕ
   pub plane : Option Bool

@@ -16,7 +16,7 @@ pub fn readings()
     ensures { ReadingExamples }
 {}
 
-/// Lists in several lines, words in two lines, and texts that several refusals hold of.
+/// Lists in several lines, words in two lines, and texts for which several refusals hold.
 pub fn several()
     ensures { SeveralExamples }
 {}

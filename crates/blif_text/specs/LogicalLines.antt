@@ -3,12 +3,12 @@ use Rattle.std.specs.Prelude.{ℕ, ◌==◌, Bool, not, List, ◌++◌, length, 
 use Rattle.semantics.specs.Texts.{Bytes}
 use Rattle.blif_semantics.specs.Lines.{LogicalLine, joined_before, words_of, Statement}
 
--- the line that was begun, with these bytes, or one that these bytes begin
+-- the line that was begun, with these bytes appended; or, where none was begun, a new line of these bytes
 abbrev pub gone_on : Option LogicalLine → ℕ → Bytes → LogicalLine
 gone_on None number bytes = record { number = number; bytes = bytes }
 gone_on (Some begun) number bytes = record begun { bytes = begun.bytes ++ bytes }
 
--- the lines of the rest, where a line was begun or not
+-- the logical lines of the rest, with the line that was begun, where one was
 abbrev pub after_begun : Option LogicalLine → List LogicalLine → List LogicalLine
 after_begun None lines = lines
 after_begun (Some begun) lines = joined_before begun lines

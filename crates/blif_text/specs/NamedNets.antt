@@ -16,7 +16,7 @@ pub record NetSoFar : Type 0 where
   pub tables : List NamedTable
   pub begun : Option NamedTable
 
--- the tables of the lines to come, where a table may get their first rows
+-- the tables of the lines to come; a table that was begun gets their first rows
 abbrev pub after_begun : Option NamedTable → List Line → List NamedTable
 after_begun None lines = tables_of lines
 after_begun (Some t) lines = with_rows t (rows_first lines) ∷ tables_of lines
@@ -38,11 +38,11 @@ nothing_read = record { model = None; inputs = []; outputs = []; tables = []; be
 abbrev pub ended : NetSoFar → NetSoFar
 ended d = record d { tables = d.tables ++ option_to_list d.begun; begun = None }
 
--- the row goes to the table that may get more, if there is one
+-- the row goes to the table that may get more rows, if there is one
 abbrev pub row_added : NetSoFar → Line → NetSoFar
 row_added d words = record d { begun = option_map (λ t. with_row t words) d.begun }
 
--- the words after the first of a line of this kind that is no row
+-- what a line of this kind, which is no row, adds by its words after the first
 abbrev pub added : Kind → NetSoFar → List Bytes → NetSoFar
 added kind.Model d words = record d { model = elim d.model [ None ↦ Some (first_word words) | Some model ↦ Some model ] }
 added kind.Inputs d words = record d { inputs = d.inputs ++ words }

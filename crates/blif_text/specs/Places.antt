@@ -9,7 +9,7 @@ use Rattle.blif_text.specs.declared.judging.Place.{Place}
 use Rattle.blif_text.specs.declared.judging.Wrong.{Wrong}
 use Rattle.blif_text.specs.declared.judging.Wrong.TheVariants.{BadByte, Command, StrayRow, BadRow, MixedPlane, SecondModel, AfterEnd, NamesEmpty, BadName}
 
--- the values of what the code holds
+-- the value, in the definitions, of what the code holds
 abbrev pub table_of : Option OpenTable → Option s.OpenTable
 table_of None = None
 table_of (Some table) = Some (record { pins = table.pins; plane = table.plane })

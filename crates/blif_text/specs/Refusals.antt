@@ -6,7 +6,7 @@ use Rattle.blif_semantics.specs.Reading as r
 use Rattle.blif_text.specs.declared.refusal.BlifRefusal.{BlifRefusal}
 use Rattle.blif_text.specs.declared.refusal.BlifRefusal.TheVariants as b
 
--- the refusal that the code tells, if it is not want of memory
+-- the refusal of the definitions that the code's refusal is; want of memory is none
 abbrev pub refusal_of : BlifRefusal → Option r.Refusal
 refusal_of b.TextLong = Some r.text_long
 refusal_of (b.BadByte line) = Some (r.wrong_line line bad_byte)
@@ -25,6 +25,6 @@ refusal_of (b.Cycle name) = Some (r.cycle name)
 refusal_of (b.Limit which) = Some (r.limit which)
 refusal_of b.OutOfMemory = None
 
--- want of memory, or the refusal that this answer is
+-- the answer is this refusal, or the refusal is want of memory
 abbrev pub Tells : BlifRefusal → Result NetValue r.Refusal → Type 0
 Tells told answer = (refusal : r.Refusal) → refusal_of told ≡ Some refusal → answer ≡ Err refusal

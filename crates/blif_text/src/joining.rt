@@ -7,7 +7,8 @@ use crate::lines::{before_backslash, has_words, without_comment};
 use std::alloc::{AllocError, Global};
 use std::marker::Model;
 
-/// The bytes of a line, a slice of the text unless physical lines were joined, and the number of the first of them.
+/// The bytes of a line, which are a slice of the text unless physical lines were joined, and the number of
+/// the first physical line.
 #[derive(Drop)]
 pub struct LogicalLine<'a> {
     number: u64,
@@ -27,7 +28,7 @@ impl<'a> Model for LogicalLine<'a> {
 }
 
 impl<'a> LogicalLine<'a> {
-    /// A line to which nothing is joined yet. It takes no memory.
+    /// A line to which nothing is joined yet. The call takes no memory.
     fn new(alloc: Global, number: u64, slice: &'a [u8]) -> LogicalLine<'a>
         ensures { result ≡ record { number = number; bytes = slice.now } }
     {
@@ -56,7 +57,7 @@ impl<'a> LogicalLine<'a> {
         }
     }
 
-    /// This line with the bytes at its end.
+    /// This line with the bytes appended.
     fn with(self, bytes: &'a [u8]) -> Result<LogicalLine<'a>, AllocError>
         ensures { IfOk result (λ l. l ≡ record self.entry { bytes = self.entry.bytes ++ bytes.now }) }
     {
@@ -75,7 +76,7 @@ impl<'a> LogicalLine<'a> {
     }
 }
 
-/// The line that was begun, with these bytes, or one that these bytes begin.
+/// The line that was begun, with these bytes appended; or, where none was begun, a new line of these bytes.
 fn gone_on<'a>(
     alloc: Global,
     begun: Option<LogicalLine<'a>>,
@@ -90,7 +91,7 @@ fn gone_on<'a>(
     }
 }
 
-/// Adds a line if it has words, and else drops it.
+/// Adds a line if it has words; else drops it.
 fn keep<'a>(lines: &mut Vec<LogicalLine<'a>>, line: LogicalLine<'a>) -> Result<(), AllocError>
     ensures { OnOk result ((rest : List LineValue)
         → lines.new.items ++ with_words rest ≡ lines.old.items ++ with_words (line.entry ∷ rest)) }
@@ -101,7 +102,7 @@ fn keep<'a>(lines: &mut Vec<LogicalLine<'a>>, line: LogicalLine<'a>) -> Result<(
     Ok(())
 }
 
-/// Adds a physical line to the lines so far, and gives the line that it leaves begun.
+/// Adds a physical line to the lines so far, and returns the line that stays begun, if one does.
 fn add_line<'a>(
     alloc: Global,
     lines: &mut Vec<LogicalLine<'a>>,
@@ -123,7 +124,7 @@ fn add_line<'a>(
     }
 }
 
-/// The lines, and the one that the last line leaves begun.
+/// The lines, and behind them the line that the last one leaves begun.
 fn with_begun<'a>(
     mut lines: Vec<LogicalLine<'a>>,
     begun: Option<LogicalLine<'a>>,

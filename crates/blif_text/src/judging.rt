@@ -30,7 +30,7 @@ pub enum Wrong {
     BadName,
 }
 
-/// A table whose rows may come next: how many pins it has, and its plane once it has a row.
+/// A table whose rows may come next: the number of its pins, and its plane once it has a row.
 #[derive(Clone, Copy, Debug, Drop, PartialEq, Eq)]
 pub struct OpenTable {
     pins: usize,
@@ -58,7 +58,7 @@ fn wrong_row(table: Option<OpenTable>, words: &[&[u8]]) -> Option<Wrong>
     }
 }
 
-/// What is wrong unless a test is passed.
+/// `wrong`, unless `good`.
 pub fn unless(good: bool, wrong: Wrong) -> Option<Wrong>
     ensures { result ≡ (if good then None else Some wrong) }
 {
@@ -106,7 +106,7 @@ impl Place {
         }
     }
 
-    /// Where a `.model` or `.end` line stood before or did not, and a table may get rows.
+    /// The place behind lines with or without `.model` and `.end`, where `table` may get rows.
     pub fn new(had_model: bool, had_end: bool, table: Option<OpenTable>) -> Place
         ensures { place_of result ≡ record { had_model = had_model; had_end = had_end; table = table_of table } }
     {
@@ -117,7 +117,7 @@ impl Place {
         }
     }
 
-    /// Behind one line more.
+    /// The place behind one more line.
     pub fn next(&self, words: &[&[u8]]) -> Place
         ensures { place_of result ≡ place_next (place_of self.now) (texts words.now) }
     {
@@ -129,7 +129,7 @@ impl Place {
         }
     }
 
-    /// What is wrong with a line of printable words that does not stand behind the end.
+    /// What is wrong with a line of printable words that does not stand behind `.end`.
     pub fn wrong_by(&self, kind: Kind, words: &[&[u8]]) -> Option<Wrong>
         ensures { wrong_if result (texts words.now) ≡ wrong_by kind (place_of self.now) (texts words.now) }
     {

@@ -64,7 +64,8 @@ fn line_list(alloc: Global, lines: &[LogicalLine]) -> Result<LineList, AllocErro
     Ok(list)
 }
 
-/// The lines with words of a text of at most `limit` bytes. It refuses by `TextLong` and by want of memory alone.
+/// The lines with words of a text of at most `limit` bytes. The call refuses by `TextLong` and for want of
+/// memory alone.
 pub fn split_lines(alloc: Global, text: &[u8], limit: u64) -> Result<LineList, BlifRefusal>
     ensures lines { IfOk result (λ list. list ≡ statements (logical_lines text.now)) }
     ensures short { OnOk result (length text.now ≤ limit) }

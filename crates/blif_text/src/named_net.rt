@@ -14,7 +14,7 @@ use std::alloc::{AllocError, Global};
 use std::marker::Model;
 use text_words::words::words_of;
 
-/// What the lines so far say, and the table to which the next row belongs.
+/// What the lines so far say, and the table to which a row that comes next belongs.
 #[derive(Drop)]
 struct NetSoFar<'a> {
     model: Option<&'a [u8]>,
@@ -97,7 +97,7 @@ impl<'a> NetSoFar<'a> {
         Ok(())
     }
 
-    /// Adds a line that is no row, after which no table gets more rows but one that it begins.
+    /// Adds a line that is no row. After that no table gets more rows, but for a table that this line begins.
     fn add_statement(&mut self, kind: Kind, words: &[&'a [u8]]) -> Result<(), AllocError>
         ensures { OnOk result (self.new ≡ added kind self.old (texts words.now)) }
     {

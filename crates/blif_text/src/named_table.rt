@@ -18,7 +18,7 @@ use net_core::table::Table;
 use std::alloc::{AllocError, Global};
 use std::marker::Model;
 
-/// A table whose rows are being read. The rows are all right: no line was wrong.
+/// A table whose rows are being read. No row is wrong, since no line was.
 #[derive(Drop)]
 pub struct NamedTable<'a> {
     name: &'a [u8],
@@ -94,7 +94,7 @@ fn front<'w, 'a>(words: &'w [&'a [u8]]) -> &'w [&'a [u8]]
 }
 
 impl<'a> NamedTable<'a> {
-    /// A table without rows, of its pins' names and its own.
+    /// A table without rows, with the names of its pins and its own name.
     pub fn new(alloc: Global, words: &[&'a [u8]]) -> Result<NamedTable<'a>, AllocError>
         ensures { IfOk result (λ t. t ≡ named (texts words.now)) }
     {
@@ -144,7 +144,8 @@ impl<'a> NamedTable<'a> {
         self.plane
     }
 
-    /// The table with signals in the place of names, or the refusal of its first pin that is no signal.
+    /// The table with signals in the place of names, or the refusal of its first pin whose name is no
+    /// signal's.
     pub fn numbered(self, names: &Names) -> Result<Table, BlifRefusal>
         requires { IsNamedTable self }
         ensures ok { IfOk result (λ t. t ≡ with_signals names.now self.entry) }

@@ -1,4 +1,4 @@
-//! The names of signals, numbered in order and found by themselves.
+//! The names of signals, numbered in order, with a map from names to numbers.
 ghost use Rattle.std.specs.Prelude.{◌≡◌, ◌<◌, ◌+◌, ◌^◌, true, not, [], ◌∷◌, ◌++◌, Result, None, Some, IfOk, OnOk, IfErr, IfSome, All, length, map, bytes_eq, position};
 ghost use Rattle.semantics.specs.Net.{IsName, NetValue};
 ghost use Rattle.semantics.specs.Refusals.{has_name, first_doubled};

@@ -36,7 +36,7 @@ fn driven_names<'a>(
     Ok(names)
 }
 
-/// The tables with signals in the place of names, or the refusal of the first pin that is no signal.
+/// The tables with signals in the place of names, or the refusal of the first pin whose name is no signal's.
 fn numbered_tables(
     alloc: Global,
     names: &Names,
@@ -81,7 +81,7 @@ fn ordered_net(
     Ok(Net::from_ordered(model, inputs, tables, outputs, order))
 }
 
-/// The net of a net of names in which these are driven, each once.
+/// The net of a net of names all of which are driven exactly once.
 fn driven_net(alloc: Global, names: &Names, named: NamedNet) -> Result<Net, BlifRefusal>
     requires named { IsNamedNet named }
     requires names { names.now ≡ names_of named }

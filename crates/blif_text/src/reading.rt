@@ -11,8 +11,8 @@ use crate::refusal::BlifRefusal;
 use net_core::net::Net;
 use std::alloc::Global;
 
-/// The net of a text of at most `limit` bytes. Time and memory are about in proportion to the text. Each refusal but want of memory
-/// is the one that the definition gives; want of memory may come at any point.
+/// The net of a text of at most `limit` bytes. Time and memory grow about in proportion to the text. Each
+/// refusal but want of memory is the one that the definition gives; want of memory may come at any point.
 pub fn read_blif(alloc: Global, text: &[u8], limit: u64) -> Result<Net, BlifRefusal>
     requires { limit < 2 ^ 31 }
     ensures ok { IfOk result (λ n. blif_reading text.now limit ≡ Ok n) }

@@ -112,7 +112,7 @@ fn plane_of(word: &[u8]) -> Option<bool>
     }
 }
 
-/// The plane of a row of a table with so many pins, if the words have the form of one.
+/// The plane of a row of a table with `pins` pins, if the words have the form of such a row.
 pub fn row_plane(pins: usize, words: &[&[u8]]) -> Option<bool>
     ensures { result ≡ row_plane pins (texts words.now) }
 {

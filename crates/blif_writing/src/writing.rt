@@ -1,4 +1,4 @@
-//! A net is written as its BLIF text, gathered in a page, and nothing is allocated.
+//! A net is written as its BLIF text, gathered in a page; nothing is allocated.
 ghost use Rattle.std.specs.Prelude.{◌≡◌, ◌<◌, [], ◌∷◌, ◌++◌, All};
 ghost use Rattle.semantics.specs.Texts.{line_text, bit_byte};
 ghost use Rattle.semantics.specs.Net.{signal_count, signal_names};
@@ -174,7 +174,8 @@ fn write_tables<F: Files>(net: &Net, files: &mut F, page: &mut Page) -> Result<(
     Ok(())
 }
 
-/// Appends the net's BLIF text to the file that is being written. After a fault a first part of it was appended.
+/// Appends the net's BLIF text to the file that is being written. After a fault a first part of this text was
+/// appended.
 pub fn write_blif<F: Files>(net: &Net, files: &mut F) -> Result<(), FileFault>
     ensures { Writes result (F.told files.old) (F.told files.new) (blif_text net.now) }
 {

@@ -35,7 +35,8 @@ abbrev pub verdict_of : Option Clause → Verdict
 verdict_of None = Verified
 verdict_of (Some c) = Refuted (clause_number c)
 
--- Calls changed no file. Where K holds of the texts and the files that the verdict needs are held, what was told is told still.
+-- Calls changed no file. Where K holds of the texts and the files that the verdict needs are held, what was
+-- told is still told.
 pub record FilesKept (exact : NetValue) (metric : Metric) (bound : ℕ) (stem : Bytes) (K : Texts → Type 0) (old new : FilesTold) : Type 0 where
   pub goes : Goes old new
   pub stays : WhereTold old new (λ a b. b ≡ a)
@@ -79,7 +80,7 @@ module _ {L : Type 0} (holds : L → List LogItem → Type 0) where
       FilesKept exact metric bound stem K old new × IsProved judged × OfBundle old new stem (λ texts. K texts → IsJudged exact metric bound texts judged)
   Answers exact metric bound stem K old new (Err reason) = FilesKept exact metric bound stem K old new × IsCause exact metric bound stem K old new reason
 
--- a file was read to its end, or as far as Q of its bytes asks
+-- a file was read to its end, or as far as Q of its bytes needs
 pub record TextRead (old new : FilesTold) (name : Bytes) (Q : Bytes → Type 0) : Type 0 where
   pub stay : FilesStay old new name
   pub content : WhereTold old new (λ a b. Q (bytes_of a name))

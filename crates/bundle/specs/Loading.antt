@@ -19,13 +19,13 @@ pub record IsCertificateOf (exact : NetValue) (metric : Metric) (bound : ℕ) (t
   pub certifies : Certifies exact metric bound texts
   pub parts : OfBoth exact metric bound texts (λ M r. (goal ≡ miter exact M metric r.maximum) × IsRefutation exact M metric r.maximum texts log)
 
--- a certificate whose log's items were all kept, or the number of the first clause that fails
+-- a certificate all items of whose log were kept, or the number of the first clause that fails
 abbrev pub loaded_of : Judged (List LogItem) → Loaded
 loaded_of (judged.Good goal log) = Good goal log
 loaded_of (judged.Failing c) = Refuted (clause_number c)
 
--- What was loaded, where the files are told: a certificate's formula and log, or the first clause that fails. Whatever is told, the
--- log refutes the formula.
+-- What was loaded, where the files are told: a certificate's formula and log, or the first clause that fails.
+-- Whether or not the files are told, the log refutes the formula.
 abbrev pub IsLoaded : NetValue → Metric → ℕ → Bytes → FilesTold → FilesTold → Loaded → Type 0
 IsLoaded exact metric bound stem old new (Good goal log) =
     Refutes goal.clauses log × OfBundle old new stem (λ texts. IsCertificateOf exact metric bound texts goal log)

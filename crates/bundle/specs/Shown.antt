@@ -67,13 +67,13 @@ pub record HasSeen (b : BrokenValue) (vectors : List (List Bool)) : Type 0 where
   pub vectors_are : vectors ≡ before ++ b.block
   pub marks : AreMarks b.asked before b.marks
 
--- what is asked, the text so far, and how many bytes more are wanted next
+-- what is asked, the text so far, and the number of bytes that are wanted next
 pub record VectorsText : Type 0 where
   pub asked : AskedValue
   pub text : Bytes
   pub room : ℕ
 
--- the text is right so far, with these vectors, or no text that begins with it is
+-- either the text is right so far, with these vectors, or no text that begins with it is right
 abbrev pub StandsAt : Bool → BrokenValue → LineValue → Bytes → Type 0
 StandsAt true b line text = (v : TakenValue) × (line_of v ≡ line) × AreVectorsSoFar b.asked.witness v text × HasSeen b v.vectors
 StandsAt false b line text = NeverVectors b.asked.witness text

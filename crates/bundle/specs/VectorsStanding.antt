@@ -1,4 +1,4 @@
--- How the fields of a check of vectors stand to what was taken.
+-- How the fields of a check of vectors stand to the bytes that were taken.
 use Rattle.bundle.specs.declared.vectors_check.VectorsCheck.TheInside.{Inside}
 use Rattle.bundle.specs.Shown.{VectorsText, StandsAt}
 use Rattle.bundle_texts.specs.TextCheck.{room_at}

@@ -15,8 +15,8 @@ use semantics::metric::Metric;
 use std::alloc::{AllocError, Global};
 use std::marker::Model;
 
-/// Two nets that are compared, the vector that comes first, and the version whose moves of the second net the vectors are to break;
-/// with none they need break no move.
+/// Two nets that are compared, the vector that comes first, and the version that says which moves of the
+/// second net the vectors are to break; without a version they need break no move.
 #[derive(Drop)]
 pub(crate) struct Asked<'a> {
     exact: &'a Net,
@@ -89,7 +89,7 @@ impl<'a> Asked<'a> {
         self.witness
     }
 
-    /// How many bits a vector has.
+    /// The number of bits of a vector.
     pub(crate) fn inputs(&self) -> u32
         ensures value { result ≡ input_count self.now.exact }
         ensures asked { IsAsked self.now }
@@ -97,7 +97,7 @@ impl<'a> Asked<'a> {
         self.witness.len() as u32
     }
 
-    /// The moves that are to be broken; none where there are none.
+    /// The moves that are to be broken; none where nothing is claimed of the moves.
     pub(crate) fn moves(&self, alloc: Global) -> Result<Option<Moves<'a>>, AllocError>
         ensures { IfOk result (λ given. MatchOption given (self.now.version ≡ None) (λ moves. moves ≡ asked_moves self.now)) }
     {

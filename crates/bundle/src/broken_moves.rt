@@ -1,4 +1,5 @@
-//! Which moves of a net the vectors break that came so far. Only a block of vectors is held, and then a mark for each move.
+//! Which moves of a net are broken by the vectors that were taken so far. Only a block of vectors is held,
+//! and a mark for each move.
 ghost use Rattle.std.specs.Prelude.{◌≡◌, ◌↔◌, ◌∷◌, ◌++◌, [], List, Bool, IsTrue, length, IfOk, OnOk, OnErr};
 ghost use Rattle.semantics.specs.Net.{input_count};
 ghost use Rattle.bundle.specs.Shown.{HasSeen, AreAllBroken};
@@ -9,11 +10,11 @@ use lane_bits::patterns::Patterns;
 use std::alloc::{AllocError, Global};
 use std::marker::Model;
 
-/// How many vectors are held at most.
+/// The most vectors that are held.
 const BLOCK: u64 = 512;
 
-/// What is asked of the vectors, which moves those before the block break, and the block. The memory goes with the nets and the moves,
-/// and not with the number of vectors.
+/// What is asked of the vectors, the marks of the moves that vectors before the block break, and the block.
+/// The memory grows with the nets and the moves, and not with the number of vectors.
 #[derive(Drop)]
 pub(crate) struct BrokenMoves<'a> {
     alloc: Global,

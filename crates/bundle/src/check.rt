@@ -14,8 +14,9 @@ use net_core::net::Net;
 use semantics::metric::Metric;
 use std::alloc::Global;
 
-/// Whether the files of the stem are a certificate that a simplified net is within the bound: the ten clauses in their order,
-/// on what the files hold and nothing else. A file that no clause up to the first failing one needs is not opened.
+/// Whether the files of the stem are a certificate that a simplified net is within the bound: the ten clauses
+/// are tested in their order, on what the files hold and nothing else. A file that neither the first failing
+/// clause nor a clause before it needs is not opened.
 pub fn check_bundle<F: Files>(
     alloc: Global,
     net: &Net,

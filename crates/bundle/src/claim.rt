@@ -10,7 +10,7 @@ use bundle_writing::stem::Stem;
 use net_errors::compared::Compared;
 use semantics::metric::Metric;
 
-/// What the files of a stem are to show of a net: its netlist's net is compared with it.
+/// What the files of a stem are to show of a net, with which the net of the bundle is compared.
 #[derive(Clone, Copy)]
 pub(crate) struct Claim<'a> {
     pub nets: &'a Compared<'a>,

@@ -48,8 +48,8 @@ pub(crate) fn read_netlist<F: Files>(
     }
 }
 
-/// The report of a file, if its text is one for the metric, the bound and nets of so many inputs. No longer text is one, so it is
-/// read no further than a byte past that limit.
+/// The report of a file, if its text is one for the metric, the bound and nets of `inputs` inputs. No text
+/// longer than `REPORT_LIMIT` is a report, so the file is read at most one byte past that limit.
 pub(crate) fn read_report_file<F: Files>(
     alloc: Global,
     files: &mut F,
@@ -69,8 +69,8 @@ pub(crate) fn read_report_file<F: Files>(
     Ok(read_report(alloc, front.bytes(), metric, bound, inputs)?)
 }
 
-/// Whether the vectors of a file show what is asked, if its text is lines of vectors of which the witness is the first. It is read
-/// no further than its first wrong byte's piece.
+/// Whether the vectors of a file show what is asked, if its text is lines of vectors of which the witness is
+/// the first. The file is read no further than the piece with its first wrong byte.
 pub(crate) fn read_vectors_file<F: Files>(
     alloc: Global,
     files: &mut F,

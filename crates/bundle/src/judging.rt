@@ -29,7 +29,8 @@ use net_errors::ports::same_ports;
 use semantics::metric::Metric;
 use std::alloc::Global;
 
-/// The first clause that fails of those on the counts and on the report's last line, which need no further file.
+/// The first failing clause among those on the counts and on the report's last line, which need no further
+/// file.
 fn check_counts(claim: &Claim, contents: &Contents) -> Option<Clause>
     requires exact { IsSmall claim.now.nets.now.exact }
     requires approx { IsSmall claim.now.nets.now.approx }

@@ -13,8 +13,8 @@ use net_core::net::Net;
 use semantics::metric::Metric;
 use std::alloc::Global;
 
-/// The formula and the log of the bundle of the stem, if its files are a certificate that a simplified net is within the bound.
-/// It reads and judges the files as `check_bundle` does, and keeps the log's items besides.
+/// The formula and the log of the bundle of the stem, if its files are a certificate that a simplified net is
+/// within the bound. Reads and judges the files as [`check_bundle`] does, and keeps the log's items besides.
 pub fn load_bundle<F: Files>(
     alloc: Global,
     net: &Net,

@@ -1,4 +1,5 @@
-//! Which moves of a net vectors break. The masks of the net at a block of vectors tell it move by move, and no moved net is made.
+//! Which moves of a net vectors break. The masks of the net at a block of vectors tell this move by move, and
+//! no moved net is made.
 ghost use Rattle.std.specs.Prelude.{◌≡◌, ◌↔◌, ◌⊎◌, ◌++◌, [], List, Bool, true, IfOk, OnOk, OnErr, Contains};
 ghost use Rattle.std.specs.List.{list_all};
 ghost use Rattle.semantics.specs.Net.{input_count};
@@ -35,7 +36,8 @@ pub(crate) fn first_marks(alloc: Global, asked: &Asked) -> Result<Vec<bool>, All
     Ok(marks)
 }
 
-/// Whether the move is broken by vectors before the masks', which its mark says, or by one of the masks'.
+/// Whether the move is broken by vectors before those of the masks, which its mark says, or by one of the
+/// vectors of the masks.
 fn mark_after(masks: &mut GrowingMasks, step: Move, mark: bool) -> Result<bool, AllocError>
     requires { Contains (moves_of masks.old.net) step }
     ensures mark { IfOk result (λ after. (after ≡ true) ↔ ((mark ≡ true)
@@ -48,7 +50,7 @@ fn mark_after(masks: &mut GrowingMasks, step: Move, mark: bool) -> Result<bool, 
     Ok(masks.breaks(step)?.is_some())
 }
 
-/// The marks once the vectors of a block have come too.
+/// The marks once the vectors of a block were taken too.
 fn marks_after(
     alloc: Global,
     asked: &Asked,

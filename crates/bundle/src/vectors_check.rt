@@ -1,5 +1,5 @@
-//! The vectors of a text are judged line by line as they are read: the first wrong byte refutes the text, and of the right ones only a
-//! block is held.
+//! The vectors of a text are judged line by line as they are read: the first wrong byte refutes the text, and
+//! only a block of the vectors before it is held.
 ghost use Rattle.std.specs.Prelude.{◌≡◌, ◌==◌, [], ◌∷◌, ◌++◌, List, Bool, true, length, if◌then◌else◌, IfOk, OnOk, OnErr};
 ghost use Rattle.semantics.specs.Net.{input_count};
 ghost use Rattle.semantics.specs.Texts.{Bytes};
@@ -14,10 +14,10 @@ use history::text::Text;
 use std::alloc::{AllocError, Global};
 use std::marker::Model;
 
-/// How many bytes are taken at once.
+/// The number of bytes that are taken at once.
 const PART: usize = 65_536;
 
-/// Takes the vector of the line, where only the line's end is missing.
+/// Takes the vector of the line, where the line has all its bits and lacks only its end.
 fn take_vector(broken: &mut BrokenMoves, line: &VectorLine) -> Result<(), AllocError>
     requires { line.now.inputs ≡ input_count broken.old.asked.exact }
     ensures asked { broken.new.asked ≡ broken.old.asked }
@@ -32,7 +32,7 @@ fn take_vector(broken: &mut BrokenMoves, line: &VectorLine) -> Result<(), AllocE
     Ok(())
 }
 
-/// Takes the byte where it may come next, and answers whether it may.
+/// Takes the byte where it may come next, and returns whether it may.
 fn takes(broken: &mut BrokenMoves, line: &mut VectorLine, byte: u8) -> Result<bool, AllocError>
     requires { length broken.old.asked.witness ≡ line.old.inputs }
     ensures asked { broken.new.asked ≡ broken.old.asked }
@@ -49,7 +49,7 @@ fn takes(broken: &mut BrokenMoves, line: &mut VectorLine, byte: u8) -> Result<bo
     Ok(true)
 }
 
-/// Callers see what is asked, the text so far, and how many bytes more are wanted next.
+/// Callers see what is asked, the text so far, and the number of bytes that are wanted next.
 #[derive(Drop)]
 pub(crate) struct VectorsCheck<'a> {
     broken: BrokenMoves<'a>,
@@ -84,7 +84,7 @@ impl<'a> VectorsCheck<'a> {
         })
     }
 
-    /// Takes the next byte. Behind the first wrong one nothing is looked at.
+    /// Takes the next byte. Bytes behind the first wrong one are not looked at.
     fn take_byte(&mut self, byte: u8) -> Result<(), AllocError>
         ensures asked { self.new.asked ≡ self.old.asked }
         ensures text { OnOk result (self.new.text ≡ self.old.text ++ byte ∷ []) }
@@ -96,8 +96,8 @@ impl<'a> VectorsCheck<'a> {
         Ok(())
     }
 
-    /// Whether the vectors of the text, once all of it that is wanted was taken, show what is asked; none where it is not lines of
-    /// vectors with the witness first.
+    /// Whether the vectors of the text, once all wanted bytes were taken, show what is asked; None where the
+    /// text is not lines of vectors with the witness first.
     pub(crate) fn finish(self) -> Result<Option<bool>, AllocError>
         ensures { IfOk result (λ shown. (content : Bytes) → IsAllWanted content self.entry.text self.entry.room
             → AreShownIn self.entry.asked shown content) }

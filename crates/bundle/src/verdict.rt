@@ -32,7 +32,7 @@ pub(crate) fn clause_number(clause: Clause) -> u8
 }
 
 impl Verdict {
-    /// The verdict where this clause is the first that fails, if one does.
+    /// The verdict where `failing` is the first failing clause, or where no clause fails.
     pub(crate) fn of(failing: Option<Clause>) -> Verdict
         ensures { result ≡ verdict_of failing }
     {

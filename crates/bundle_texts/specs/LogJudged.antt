@@ -1,4 +1,4 @@
--- What has come of a log's items.
+-- What the checker and the sink have made of a log's items.
 use Rattle.std.specs.Prelude.{◌≡◌, List, [], Option, None, Some, Ok}
 use Rattle.semantics.specs.Texts.{Bytes}
 use Rattle.proof_semantics.specs.Clauses.{Clause}
@@ -23,7 +23,8 @@ module _ {L : Type 0} (holds : L → List LogItem → Type 0) where
   abbrev pub IsOfRefutation : List Clause → L → Type 0
   IsOfRefutation clauses kept = (log : List LogItem) × Refutes clauses log × holds kept log
 
-  -- what is kept is of the text, which refutes the clauses, or the text does not
+  -- what is kept is of the text, which refutes the clauses; or nothing is kept, and the text does not refute
+  -- them
   abbrev pub IsLogIn : List Clause → Option L → Bytes → Type 0
   IsLogIn clauses None text = ¬ IsRefutingText clauses text
   IsLogIn clauses (Some kept) text = (log : List LogItem) × (lrat_items text ≡ Ok log) × Refutes clauses log × holds kept log

@@ -1,4 +1,4 @@
--- How the fields of a log's check stand to what was taken.
+-- How the fields of a log's check stand to the bytes that were taken.
 use Rattle.std.specs.Prelude.{ℕ, ◌+◌, ◌<◌, ◌^◌, List, length}
 use Rattle.proof_semantics.specs.Clauses.{Clause}
 use Rattle.proof_semantics.specs.Logs.{LogItem}

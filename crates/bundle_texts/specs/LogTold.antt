@@ -10,7 +10,7 @@ use Rattle.cnf_core.specs.LratReads.{LogRead, read_items}
 abbrev pub IsRefutingText : List Clause → Bytes → Type 0
 IsRefutingText clauses text = (log : List LogItem) × (lrat_items text ≡ Ok log) × Refutes clauses log
 
--- however the text goes on, it is none
+-- however the text goes on, it never refutes the clauses
 abbrev pub NeverRefutes : List Clause → Bytes → Type 0
 NeverRefutes clauses text = (more : Bytes) → ¬ IsRefutingText clauses (text ++ more)
 
@@ -18,7 +18,7 @@ NeverRefutes clauses text = (more : Bytes) → ¬ IsRefutingText clauses (text +
 abbrev pub IsNeverSound : List Clause → List LogItem → Type 0
 IsNeverSound clauses items = (later : List LogItem) → ¬ IsSoundLog clauses (items ++ later)
 
--- what judges a log's items, by what it says that they were all accepted
+-- what judges a log's items, by its statement that all of them were accepted
 module _ {K : Type 0} (Accepted : List Clause → List LogItem → K → Type 0) where
   -- the items were accepted, or one of them was refused
   abbrev pub AreJudged : Bool → List Clause → List LogItem → K → Type 0

@@ -19,7 +19,7 @@ pub record IsNumberBefore (most end : ℕ) (text : Bytes) (n : ℕ) (rest : Byte
   pub few : n ≤ most
   pub spelled : text ≡ decimal n ++ end ∷ rest
 
--- a vector of so many bits on a line, and then the rest
+-- a vector of `width` bits on a line, and then the rest
 pub record IsVectorBefore (width : ℕ) (text : Bytes) (x : List Bool) (rest : Bytes) : Type 0 where
   pub width_is : length x ≡ width
   pub spelled : text ≡ bits_word x ++ 10 ∷ rest

@@ -3,7 +3,7 @@ use Rattle.std.specs.Prelude.{ℕ, Bool, if◌then◌else◌}
 use Rattle.semantics.specs.Texts.{Bytes}
 use Rattle.proof_semantics.specs.Formula.{Formula}
 
--- the formula, the text so far, and how many bytes more are wanted next
+-- the formula, the text so far, and the number of bytes that are wanted next
 pub record TextCheck : Type 0 where
   pub formula : Formula
   pub text : Bytes

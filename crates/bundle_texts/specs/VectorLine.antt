@@ -4,13 +4,13 @@ use Rattle.semantics.specs.Texts.{bit_byte}
 use Rattle.bundle_texts.specs.Pieces.{is_bit_digit}
 use Rattle.bundle_texts.specs.VectorsTaken.{TakenValue}
 
--- the bits of the line that has not ended, and whether one has ended before it
+-- the bits of the line that has not ended, and whether a line has ended before it
 pub record LineValue : Type 0 where
   pub inputs : ℕ
   pub begun : List Bool
   pub has_ended : Bool
 
--- what is held of what was taken
+-- what the line at hand holds of all that was taken
 abbrev pub line_of : TakenValue → LineValue
 line_of v = record { inputs = v.inputs; begun = v.begun; has_ended = nat_lt 0 (length v.vectors) }
 

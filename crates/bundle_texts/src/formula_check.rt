@@ -11,10 +11,10 @@ use history::text::Text;
 use std::alloc::AllocError;
 use std::marker::Model;
 
-/// How many bytes are compared at once.
+/// The number of bytes that are compared at once.
 const PART: usize = 65_536;
 
-/// Whether the piece is what comes next in the formula's text, which goes on behind it.
+/// Whether the piece is what comes next in the formula's text; `rest` goes on behind the piece.
 fn is_next(rest: &mut DimacsText, piece: &[u8]) -> bool
     requires { length piece.now ≤ PART }
     ensures answer { IsTrue result ↔ (piece.now ≡ take (length piece.now) rest.old) }
@@ -26,11 +26,12 @@ fn is_next(rest: &mut DimacsText, piece: &[u8]) -> bool
     piece == &next[..count]
 }
 
-/// Callers see the formula, the text so far, and how many bytes more are wanted next. It takes no memory but its own.
+/// Callers see the formula, the text so far, and the number of bytes that are wanted next. The check
+/// allocates nothing.
 #[derive(Drop)]
 pub struct FormulaCheck<'a> {
     formula: &'a Cnf,
-    /// What is left of the formula's text, as long as the text that is taken does not differ.
+    /// What is left of the formula's text, as long as the text that was taken does not differ from it.
     rest: DimacsText<'a>,
     is_same: bool,
     text: Text,
@@ -61,7 +62,7 @@ impl<'a> FormulaCheck<'a> {
         }
     }
 
-    /// Whether the text, once all of it that is wanted was taken, is the formula's.
+    /// Whether the text, once all wanted bytes were taken, is the formula's.
     pub fn finish(self) -> bool
         ensures { (content : Bytes) → IsAllWanted content self.entry.text self.entry.room
             → IsTrue result ↔ (content ≡ dimacs_text self.entry.formula) }

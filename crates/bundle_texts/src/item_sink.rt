@@ -5,9 +5,9 @@ ghost use Rattle.proof_semantics.specs.Logs.{LogItem};
 use cnf_core::log::{Item, Log};
 use std::alloc::{AllocError, Global};
 
-/// Takes the items of a log, from its first one on.
+/// Takes the items of a log in order, from its first one on.
 pub trait ItemSink: Drop {
-    /// What has come of these items, once all of them were taken.
+    /// What the sink has made of these items, once all of them were taken.
     ghost holds: { Self → List LogItem → Type 0 };
 
     /// Before the first item.

@@ -12,7 +12,7 @@ use lrat_check::checker::Checker;
 use proof_semantics::step_refusal::StepRefusal;
 use std::alloc::AllocError;
 
-/// The checker of a log's items, and what is kept of those that it accepted.
+/// The checker of a log's items, and what the sink keeps of the items that the checker accepted.
 #[derive(Drop)]
 pub struct Judge<L> {
     pub checker: Checker,
@@ -40,7 +40,7 @@ fn is_accepted(checker: &mut Checker, item: &Item) -> Result<bool, AllocError>
 }
 
 impl<L: ItemSink> Judge<L> {
-    /// Takes the next item, and answers whether it was accepted.
+    /// Takes the next item, and returns whether the checker accepted it.
     pub fn accepts(&mut self, item: Item) -> Result<bool, AllocError>
         ensures { IfOk result (λ accepted. (clauses : List Clause) (log : List LogItem)
             → HasTaken L.holds clauses log self.old → AreJudged (HasTaken L.holds) accepted clauses (log ++ item ∷ []) self.new) }

@@ -17,10 +17,10 @@ use proof_semantics::lrat_refusal::LratRefusal;
 use std::alloc::{AllocError, Global};
 use std::marker::Model;
 
-/// What the length of a log's text stays below; no file is read so far.
+/// The length below which the text of a log stays; no file is read so far.
 const LONGEST: usize = 1 << 62;
 
-/// Whether the whole items that were not given yet are accepted.
+/// Whether the whole items that the reader has not given yet are accepted.
 fn accepts_all<L: ItemSink>(
     reader: &mut LratReader,
     judge: &mut Judge<L>,
@@ -41,7 +41,7 @@ fn accepts_all<L: ItemSink>(
     Ok(true)
 }
 
-/// Takes the next piece of the text, and answers whether it may still refute the formula.
+/// Takes the next piece of the text, and returns whether the text may still refute the formula.
 fn goes_on<L: ItemSink>(
     reader: &mut LratReader,
     judge: &mut Judge<L>,
@@ -65,7 +65,7 @@ fn goes_on<L: ItemSink>(
     }
 }
 
-/// Ends the text, and answers what is kept of it where it refutes the formula.
+/// Ends the text, and returns what is kept of it where it refutes the formula.
 fn refuting<L: ItemSink>(reader: &mut LratReader, judge: Judge<L>) -> Result<Option<L>, AllocError>
     requires going { reader.old.finished ≡ false }
     requires given { reader.old.given ≤ length (read_items reader.old) }
@@ -92,7 +92,7 @@ fn refuting<L: ItemSink>(reader: &mut LratReader, judge: Judge<L>) -> Result<Opt
 /// How the log stands so far.
 #[derive(Clone, Copy, Debug)]
 enum Standing {
-    /// All its items were accepted, and so many bytes may come.
+    /// All its items were accepted, and at most this number of bytes may come next.
     Accepted(usize),
     /// It refutes nothing, however it goes on.
     Refused,
@@ -100,8 +100,8 @@ enum Standing {
     Lost,
 }
 
-/// Callers see the formula, the text so far, and how many bytes more are wanted. The memory goes with what the checker
-/// holds, the items of one piece, and what the sink keeps.
+/// Callers see the formula, the text so far, and the number of bytes that are wanted next. The memory grows
+/// with what the checker holds, the items of one piece, and what the sink keeps.
 #[derive(Drop)]
 pub struct LogCheck<'a, L: ItemSink> {
     formula: &'a Cnf,
@@ -138,7 +138,8 @@ impl<'a, L: ItemSink> LogCheck<'a, L> {
         })
     }
 
-    /// What is kept of the text, once all of it that is wanted was taken, if it is a log that refutes the formula.
+    /// What is kept of the text, once all wanted bytes were taken, if the text is a log that refutes the
+    /// formula.
     pub fn finish(self) -> Result<Option<L>, AllocError>
         ensures { IfOk result (λ kept. (content : Bytes) → IsAllWanted content self.entry.text self.entry.room
             → IsLogIn L.holds self.entry.formula.clauses kept content) }

@@ -1,4 +1,4 @@
-//! Pieces at the front of a text: each reader answers what it found and what stands behind.
+//! Pieces at the front of a text: each reader returns what it found and what stands behind it.
 ghost use Rattle.std.specs.Prelude.{◌≡◌, ◌≢◌, ◌≤◌, ◌++◌, ◌∷◌, ℕ, Bool, List, false, MatchOption};
 ghost use Rattle.semantics.specs.Decimal.{is_digit};
 ghost use Rattle.bundle_texts.specs.Pieces.{Lacks, bits_in, IsNumberBefore, IsVectorBefore};

@@ -27,8 +27,8 @@ pub struct ReportRead {
     pub counts: Counts,
 }
 
-/// How large the netlists are that a report tells of, and whether the written one is said to be minimal. `old` is the
-/// netlist as it was read, and `new` as written.
+/// How large the two netlists of a report are, and whether the report says that the written one is minimal.
+/// `old` is the netlist as it was read, and `new` the netlist as written.
 #[derive(Clone, Copy, Debug)]
 pub struct Counts {
     pub old_tables: u32,
@@ -106,8 +106,8 @@ fn tail(text: &[u8]) -> Option<Counts>
     })
 }
 
-/// What the text says, if it is that of a report of this version for nets of so many inputs, the metric and the bound; none
-/// for any other text.
+/// What the text says, if it is the text of a report of this version, for the metric, the bound and nets of
+/// `inputs` inputs; None for any other text.
 fn read_version(
     alloc: Global,
     text: &[u8],
@@ -136,8 +136,8 @@ fn read_version(
     }))
 }
 
-/// What the text says, if it is that of a report of either version for nets of so many inputs, the metric and the bound; none
-/// for any other text.
+/// What the text says, if it is the text of a report of either version, for the metric, the bound and nets of
+/// `inputs` inputs; None for any other text.
 pub fn read_report(
     alloc: Global,
     text: &[u8],

@@ -7,7 +7,7 @@ use bundle_writing::bits::bit_byte;
 use semantics::limits::MOST_INPUTS;
 use std::marker::Model;
 
-/// The bits of the line that has not ended, and whether one has ended before it. It takes no memory but its own.
+/// The bits of the line that has not ended, and whether a line has ended before it. Allocates nothing.
 #[derive(Drop)]
 pub struct VectorLine {
     inputs: u32,
@@ -33,7 +33,7 @@ impl Model for VectorLine {
 }
 
 impl VectorLine {
-    /// No line yet, of vectors of so many bits.
+    /// Before the first byte, for vectors of `inputs` bits.
     pub fn new(inputs: u32) -> VectorLine
         requires { inputs ≤ MOST_INPUTS }
         ensures { result ≡ record { inputs = inputs; begun = []; has_ended = false } }
@@ -86,7 +86,7 @@ impl VectorLine {
         }
     }
 
-    /// Whether the last line has ended, and there is one.
+    /// Whether there is a last line, and it has ended.
     pub fn is_whole(&self) -> bool
         ensures { result ≡ is_whole self.now }
     {

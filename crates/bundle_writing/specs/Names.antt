@@ -1,4 +1,4 @@
--- The names that a stem is held as.
+-- The names as which a stem is held.
 use Rattle.std.specs.Prelude.{◌≡◌, ◌-◌, length, take}
 use Rattle.semantics.specs.Texts.{Bytes}
 use Rattle.job_semantics.specs.declared.ending.Ending.TheVariants.{Netlist, Formula, Log, Vectors, Report}

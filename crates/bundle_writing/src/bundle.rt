@@ -9,11 +9,12 @@ use net_core::net::Net;
 use semantics::metric::Metric;
 use std::marker::Model;
 
-/// A simplified net with all that shows what it is. `exact` is the net as it was read and `approx` the simplified one;
-/// `maximum` is the greatest error, which `witness` attains, and `bound` what was allowed. `pool` are further input vectors:
-/// where `minimal` says that no further move of the version is allowed, `witness` or one of them breaks each. `log` refutes
-/// `goal`, which says that some error exceeds `maximum`. The witness has at most 256 bits, and each net fewer than 2^63
-/// literals, so that the report and the vectors are written without taking memory.
+/// A simplified net with all that shows what it is. `exact` is the net as it was read and `approx` the
+/// simplified one; `maximum` is the greatest error, which `witness` attains, and `bound` the greatest error
+/// that was allowed. `pool` are further input vectors: where `minimal` says that no further move of the
+/// version is allowed, `witness` or a vector of `pool` breaks each of these moves. `log` refutes `goal`,
+/// which says that some error exceeds `maximum`. The witness has at most 256 bits, and each net fewer than
+/// 2^63 literals, so that the report and the vectors are written without allocation.
 #[derive(Drop)]
 pub struct Bundle {
     pub version: Version,

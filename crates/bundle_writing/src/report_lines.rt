@@ -1,4 +1,4 @@
-//! Lines of a report's text, made on the stack, as they are written and as they are looked for.
+//! Lines of a report's text, made on the stack, both for writing a report and for reading one back.
 ghost use Rattle.std.specs.Prelude.{◌≡◌, ◌+◌, ◌≤◌, [], ◌∷◌, ◌++◌, length, decimal};
 ghost use Rattle.semantics.specs.Texts.{line_text};
 ghost use Rattle.job_semantics.specs.Report.{metric_word, version_word};
@@ -9,7 +9,7 @@ use itoa::Buffer;
 use job_semantics::version::Version;
 use semantics::metric::Metric;
 
-/// No report of a net within the limits has more bytes.
+/// The most bytes of the report of a net within the limits.
 pub const REPORT_LIMIT: usize = 1024;
 
 /// Room for every report of nets with at most 256 inputs.

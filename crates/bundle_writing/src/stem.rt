@@ -6,7 +6,7 @@ use job_semantics::ending::Ending;
 use std::alloc::{AllocError, Global};
 use std::marker::Model;
 
-/// A stem, as the five names that begin with it.
+/// A stem, held as the five names that begin with it.
 #[derive(Drop)]
 pub struct Stem {
     netlist: Vec<u8>,

@@ -1,4 +1,4 @@
-//! The lines of input vectors, gathered in a page, and nothing is allocated.
+//! The lines of input vectors, gathered in a page; nothing is allocated.
 ghost use Rattle.std.specs.Prelude.{◌≡◌, ◌+◌, ◌≤◌, ◌++◌, length};
 ghost use Rattle.file_core.specs.Page.{Gathers, Writes};
 ghost use Rattle.job_semantics.specs.Report.{vectors_text};
@@ -44,8 +44,8 @@ fn write_pool<F: Files>(pool: &Patterns, files: &mut F, page: &mut Page) -> Resu
     Ok(())
 }
 
-/// Appends the line of the witness and those of the pool to the file that is being written. After a fault a first part of
-/// the text was appended.
+/// Appends the line of the witness and the lines of the pool to the file that is being written. After a fault
+/// a first part of this text was appended.
 pub fn write_vectors<F: Files>(
     witness: &[bool],
     pool: &Patterns,

@@ -1,4 +1,4 @@
-//! A bundle's files, one after another, and its report. Nothing here takes memory.
+//! A bundle's files, one after another, and its report. Nothing here allocates.
 ghost use Rattle.std.specs.Prelude.{[], ◌∷◌, OnOk, OnErr};
 ghost use Rattle.outside_semantics.specs.Outside.{Created, CreateFailed};
 ghost use Rattle.job_semantics.specs.Endings.{bundle_name};
@@ -62,7 +62,7 @@ fn write_report<F: Files>(b: &Bundle, stem: &Stem, files: &mut F) -> Result<(), 
     append_all(files, report(b).as_str().as_bytes())
 }
 
-/// Makes the files in their order.
+/// Creates and writes the files in their order.
 fn write_files<F: Files>(b: &Bundle, stem: &Stem, files: &mut F) -> Result<(), FileFault>
     ensures { WritesFiles result (F.told files.old) (F.told files.new) (files_of stem.now b.now) }
 {
@@ -73,8 +73,8 @@ fn write_files<F: Files>(b: &Bundle, stem: &Stem, files: &mut F) -> Result<(), F
     write_report(b, stem, files)
 }
 
-/// Makes the five files of the stem. After a fault the files before the one that failed are whole, and that one is
-/// untouched, empty or a first part.
+/// Writes the five files of the stem. After a fault the files before the one that failed are whole, and the
+/// one that failed is untouched, empty or a first part of its text.
 pub fn write_bundle<F: Files>(b: &Bundle, stem: &Stem, files: &mut F) -> Result<(), BundleFault>
     ensures { WritesFiles result (F.told files.old) (F.told files.new) (files_of stem.now b.now) }
 {
@@ -84,7 +84,7 @@ pub fn write_bundle<F: Files>(b: &Bundle, stem: &Stem, files: &mut F) -> Result<
     }
 }
 
-/// Puts the report. After a fault a first part of it was put.
+/// Puts the report to the sink. After a fault a first part of the report was put.
 pub fn put_report<K: Sink>(b: &Bundle, say: &mut K) -> Result<(), FileFault>
     ensures { Puts result (K.told say.old) (K.told say.new) (report_of_bundle b.now) }
 {

@@ -1,4 +1,5 @@
--- What every network under construction in memory is. Source: this tool's nets, whose signals are numbered by `u32`.
+-- What holds of every network under construction in memory. Source: this tool's nets, whose signals are
+-- numbered by `u32`.
 use Rattle.std.specs.Prelude.{◌≤◌, ◌^◌}
 use Rattle.quality_semantics.specs.WordNets.{WordNetValue, signals, IsWordNet}
 

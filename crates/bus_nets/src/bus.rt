@@ -7,7 +7,7 @@ use std::alloc::{AllocError, Global};
 /// A list of signals, bit 0 first.
 pub type Bus = SignalList;
 
-/// One bit, and then the others.
+/// A bus of one bit, and then the others.
 pub fn with_front(alloc: Global, first: Signal, rest: &[Signal]) -> Result<Bus, AllocError>
     ensures { IfOk result (λ b. b ≡ first ∷ rest.now) }
 {
@@ -17,7 +17,7 @@ pub fn with_front(alloc: Global, first: Signal, rest: &[Signal]) -> Result<Bus, 
     Ok(bus)
 }
 
-/// The signal so many times.
+/// The bus that has the signal `count` times.
 pub fn repeated(alloc: Global, signal: Signal, count: usize) -> Result<Bus, AllocError>
     ensures { IfOk result (λ b. b ≡ replicate count signal) }
 {

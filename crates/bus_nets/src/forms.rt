@@ -52,7 +52,7 @@ pub(crate) const GROW: [[Mark; 3]; 2] = [
     [Mark::Dash, Mark::One, Mark::One],
 ];
 
-/// One mark, and then another so many times.
+/// A row of one mark, and then another mark `count` times.
 fn row_with_front(alloc: Global, first: Mark, rest: Mark, count: usize) -> Result<Row, AllocError>
     ensures { IfOk result (λ r. r ≡ first ∷ replicate count rest) }
 {
@@ -64,7 +64,8 @@ fn row_with_front(alloc: Global, first: Mark, rest: Mark, count: usize) -> Resul
     Ok(row)
 }
 
-/// The rows of a table over so many pins, at least one, that says whether the first is 1 or all are 0.
+/// The rows of a table over `width` pins, at least one, whose value says whether the first pin is 1 or all
+/// pins are 0.
 pub(crate) fn low_rows(alloc: Global, width: usize) -> Result<RowList, AllocError>
     requires { 0 < width }
     ensures { IfOk result

@@ -21,7 +21,7 @@ use std::marker::Model;
 /// The most signals of a network, and of its outputs.
 const MOST: usize = 1 << 30;
 
-/// A network of so many inputs, with a table for the constant 0 and one for the constant 1 in front.
+/// A network of `inputs` inputs, with a table for the constant 0 and one for the constant 1 in front.
 #[derive(Drop)]
 pub struct WordNet {
     alloc: Global,
@@ -41,7 +41,7 @@ impl Model for WordNet {
 }
 
 impl WordNet {
-    /// A network of so many inputs.
+    /// The network of `inputs` inputs and the two constants.
     pub fn new(alloc: Global, inputs: u32) -> Result<WordNet, AllocError>
         ensures { IfOk result (λ w. w ≡ started inputs) }
     {
@@ -151,7 +151,7 @@ impl WordNet {
         Ok((sum, carry))
     }
 
-    /// The bit of a bus at a place, which past its width is 0.
+    /// The signal of a bus at a place; past the width of the bus it is that of 0.
     fn bit(&self, bus: &Bus, place: usize) -> Signal
         requires { AreSignalsOf self.now bus.now }
         ensures value { result ≡ slice_index_or bus.now place self.now.inputs }
@@ -164,7 +164,7 @@ impl WordNet {
         }
     }
 
-    /// So many inputs from one on.
+    /// The bus of `width` inputs from input `from` on.
     pub fn input_bus(&self, from: u32, width: u32) -> Result<Bus, AllocError>
         requires { from + width ≤ self.now.inputs }
         ensures value { IfOk result (λ bus. bus ≡ range_with_len from width) }
@@ -204,7 +204,7 @@ impl WordNet {
         Ok(sums)
     }
 
-    /// The number k, up to its highest bit that is 1. No table is appended.
+    /// The number k as a bus, up to its highest bit that is 1. No table is appended.
     pub fn constant(&self, k: u128) -> Result<Bus, AllocError>
         ensures value { IfOk result (λ bus. bus ≡ constant self.now k) }
         ensures within { IfOk result (λ bus. AreSignalsOf self.now bus) }
@@ -219,7 +219,7 @@ impl WordNet {
         Ok(bus)
     }
 
-    /// The number of x, k times: the double of half as many times, and x more where k is odd.
+    /// k times the number of x: twice the product of x and k / 2, plus x where k is odd.
     #[tactic(auto, using(crate::proofs::Times::times_none, crate::proofs::Times::times_one, crate::proofs::Times::times_even, crate::proofs::Times::times_odd, crate::proofs::Steps::begins_after))]
     pub fn times(&mut self, x: &Bus, k: u128) -> Result<Bus, AllocError>
         requires { AreSignalsOf self.old x.now }
@@ -245,7 +245,7 @@ impl WordNet {
         }
     }
 
-    /// Whether the number of x is greater than that of y.
+    /// Whether the number of x is greater than the number of y.
     #[tactic(auto, using(crate::proofs::Steps::places_more, crate::proofs::Steps::places_none, crate::proofs::Steps::begins_after))]
     pub fn greater(&mut self, x: &Bus, y: &Bus) -> Result<Signal, AllocError>
         requires x_in { AreSignalsOf self.old x.now }
@@ -265,7 +265,7 @@ impl WordNet {
         Ok(above)
     }
 
-    /// Whether the numbers of x and y are more than that of z apart.
+    /// Whether the numbers of x and y are further apart than the number of z.
     #[tactic(auto, using(crate::proofs::Steps::begins_after))]
     pub fn exceed(&mut self, x: &Bus, y: &Bus, z: &Bus) -> Result<Signal, AllocError>
         requires x_in { AreSignalsOf self.old x.now }
@@ -286,7 +286,7 @@ impl WordNet {
         self.append_form([over, under], &OR2)
     }
 
-    /// The number of x, or 1 where it is 0.
+    /// The number of x, or 1 where that number is 0.
     pub fn not_zero_low(&mut self, x: &Bus) -> Result<Bus, AllocError>
         requires some { 0 < length x.now }
         requires x_in { AreSignalsOf self.old x.now }
@@ -303,7 +303,8 @@ impl WordNet {
         with_front(self.alloc, low, &x.as_slice()[1..])
     }
 
-    /// The word x with its last bit, the sign, turned over: its number in two's complement, and half of the range more.
+    /// The word x with its last bit, the sign, turned over. Its number is that of x in two's complement plus
+    /// half of the range.
     pub fn flip_top(&mut self, x: &Bus) -> Result<Bus, AllocError>
         requires some { 0 < length x.now }
         requires x_in { AreSignalsOf self.old x.now }
@@ -319,7 +320,7 @@ impl WordNet {
         x.copy_with(top, sign)
     }
 
-    /// Bit by bit, whether x and y differ.
+    /// For each place, whether the bits of x and y differ.
     #[tactic(auto, using(crate::proofs::Steps::places_more, crate::proofs::Steps::places_none, crate::proofs::Steps::begins_after))]
     pub fn differ(&mut self, x: &Bus, y: &Bus) -> Result<Bus, AllocError>
         requires x_in { AreSignalsOf self.old x.now }
@@ -341,7 +342,7 @@ impl WordNet {
         Ok(bits)
     }
 
-    /// A row of a counter, where `bit` is one more bit.
+    /// The next row of a counter, which counts `bit` too.
     #[tactic(auto, using(crate::proofs::Steps::begins_after))]
     fn next_row(&mut self, bit: Signal, row: &Bus) -> Result<Bus, AllocError>
         requires bit_in { bit < signals self.old }

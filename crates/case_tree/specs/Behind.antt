@@ -4,7 +4,8 @@ use Rattle.semantics.specs.Net.{NetValue, input_count}
 use Rattle.semantics.specs.Error.{number_of}
 use Rattle.lane_nets.specs.Words.{HasValues}
 
--- a vector that begins with the front has its values at the pattern that is the number of the bits behind it
+-- a vector that begins with the front has its values at the pattern whose number is that of the bits behind
+-- the front
 abbrev pub AreValuesBehind : NetValue → List Bool → List ℕ → Type 0
 AreValuesBehind N front words =
     (x : List Bool) → length x ≡ input_count N → take (length front) x ≡ front → HasValues N words (number_of (drop (length front) x)) x

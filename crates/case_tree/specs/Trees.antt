@@ -1,4 +1,4 @@
--- What the steps of a net's vectors are made from.
+-- What the steps of the vectors of a net are made from.
 use Rattle.std.specs.Prelude.{◌≡◌, ◌^◌, ◌<◌, ◌≤◌, sum_by}
 use Rattle.semantics.specs.declared.limits.TheConstants.{TRIED_INPUTS}
 use Rattle.semantics.specs.Net.{input_count}

@@ -1,4 +1,5 @@
-//! The values of all signals at 64 input vectors at a time: those that begin with a front, with every way to go on behind it.
+//! The values of all signals at 64 input vectors at a time, which begin with the same bits, the front, and go
+//! on behind it in every way.
 ghost use Rattle.std.specs.Prelude.{◌≡◌, ℕ, ◌+◌, ◌*◌, ◌<◌, ◌≤◌, false, length, take, drop, slice_index, slice_index_or};
 ghost use Rattle.semantics.specs.Net.{input_count, signal_count};
 ghost use Rattle.semantics.specs.Error.{number_of};
@@ -11,14 +12,14 @@ use lane_bits::patterns::Patterns;
 use lane_nets::values::eval_words;
 use net_core::net::Net;
 
-/// The word whose bits all are this one.
+/// The word all of whose bits are this one.
 fn splat(bit: bool) -> u64
     ensures { (b : ℕ) → b < 64 → word_bit result b ≡ bit }
 {
     if bit { u64::MAX } else { 0 }
 }
 
-/// Sets the first words to those of inputs that have these bits at every pattern.
+/// Sets the first words to those of inputs that have the front's bits at every pattern.
 fn set_front(front: &[bool], words: &mut [u64])
     requires { length front.now ≤ length words.old }
     ensures { (b s : ℕ) → b < 64 → s < length front.now → values_at words.new b s ≡ slice_index_or front.now s false }
@@ -28,7 +29,7 @@ fn set_front(front: &[bool], words: &mut [u64])
     }
 }
 
-/// Sets the words from one on to those of inputs that have the bits of these patterns.
+/// Sets the words from word `from` on to those of inputs that have the bits of these patterns.
 fn set_rest(patterns: &Patterns, from: usize, words: &mut [u64])
     requires room { from + patterns.now.inputs ≤ length words.old }
     requires some { 0 < length patterns.now.vectors }
@@ -40,7 +41,8 @@ fn set_rest(patterns: &Patterns, from: usize, words: &mut [u64])
     }
 }
 
-/// Sets `words` to the values at the input vectors that begin with this front; behind it they have the bits of these patterns.
+/// Sets `words` to the values at the input vectors that begin with this front and go on with the bits of
+/// these patterns.
 pub(crate) fn set_values_behind(net: &Net, front: &[bool], rest: &Patterns, words: &mut [u64])
     requires width { length front.now + rest.now.inputs ≡ input_count net.now }
     requires all { rest.now.vectors ≡ all_vectors rest.now.inputs }
@@ -54,7 +56,7 @@ pub(crate) fn set_values_behind(net: &Net, front: &[bool], rest: &Patterns, word
     eval_words(net, words);
 }
 
-/// The number of a vector: the first bit is its lowest.
+/// The number of a vector, whose first bit is the lowest bit.
 pub(crate) fn lane_of(bits: &[bool]) -> u32
     requires { length bits.now ≤ 6 }
     ensures value { result ≡ number_of bits.now }

@@ -1,7 +1,9 @@
-//! The hints of an input vector: along them unit propagation gives each table on which the output rests its value at the vector.
+//! The hints of an input vector. Unit propagation along the hints gives each table on which the output
+//! depends at the vector its value there.
 //!
-//! They are found from the last one to the first: the output is needed, a table that is needed rests on the row that matches, or on one
-//! false literal of each row, and their signals are needed before it. A table that is not needed has no hint.
+//! The hints are found from the last to the first. The output is needed; a needed table depends on the row
+//! that matches, or on one false literal of each row; and the signals of those literals are needed before it.
+//! A table that is not needed has no hint.
 ghost use Rattle.std.specs.Prelude.{◌≡◌, ℕ, ◌+◌, ◌-◌, ◌<◌, ◌≤◌, ◌^◌, false, if◌then◌else◌, [], ◌∷◌, ◌++◌, length, reverse, slice_index, slice_index_or, slice_set, sum_by, All, IfOk, OnOk};
 ghost use Rattle.semantics.specs.Net.{input_count, table_count, signal_count, table_at, row_literals};
 ghost use Rattle.semantics.specs.Order.{IsOrderOf};
@@ -17,7 +19,7 @@ use net_core::table::{Table, is_literal, mark_matches, row_literals, row_matches
 use proof_parts::log::Ids;
 use std::alloc::{AllocError, Global};
 
-/// The clause that decides a row, of those from the id `next` on.
+/// The clause that decides a row, among the row's clauses, which have the ids from `next` on.
 fn row_hint(next: u64, marks: &[Mark], pins: &[Signal], values: &[bool]) -> u64
     requires widths { length marks.now ≡ length pins.now }
     requires pins_in { All (λ s. s < length values.now) pins.now }
@@ -36,7 +38,7 @@ fn row_hint(next: u64, marks: &[Mark], pins: &[Signal], values: &[bool]) -> u64
     hint
 }
 
-/// Asks for the signals of which a row asks a value.
+/// Marks as needed the signals of which a row asks a value.
 fn ask_row(marks: &[Mark], pins: &[Signal], needed: &mut [bool])
     requires widths { length marks.now ≡ length pins.now }
     requires pins_in { All (λ s. s < length needed.old) pins.now }
@@ -49,7 +51,7 @@ fn ask_row(marks: &[Mark], pins: &[Signal], needed: &mut [bool])
     }
 }
 
-/// Asks for the signal of a row's first literal that is false.
+/// Marks as needed the signal of a row's first literal that is false.
 fn ask_failing(marks: &[Mark], pins: &[Signal], values: &[bool], needed: &mut [bool])
     requires widths { length marks.now ≡ length pins.now }
     requires pins_in { All (λ s. s < length values.now) pins.now }
@@ -66,8 +68,9 @@ fn ask_failing(marks: &[Mark], pins: &[Signal], values: &[bool], needed: &mut [b
     }
 }
 
-/// Adds the hints of the first row that matches, the last one first, and asks for what they rest on. The rows have their clauses from
-/// the id `next` on, and the clauses that a row implies the plane stand from the id `first` on.
+/// Adds the hints of the first row that matches, the last hint first, and marks as needed the signals on
+/// which they depend. The clauses of the rows have the ids from `next` on, and the clauses that say that a
+/// row implies the plane have the ids from `first` on.
 fn push_match(
     hints: &mut Vec<u64>,
     needed: &mut [bool],
@@ -103,8 +106,8 @@ fn push_match(
     Ok(())
 }
 
-/// Adds the hints of a table of which no row matches, the last one first, and asks for what they rest on. The table's clauses end with
-/// the id `last`.
+/// Adds the hints of a table of which no row matches, the last hint first, and marks as needed the signals on
+/// which they depend. The last clause of the table has the id `last`.
 fn push_failing(
     hints: &mut Vec<u64>,
     needed: &mut [bool],
@@ -137,14 +140,15 @@ fn push_failing(
     Ok(())
 }
 
-/// Whether a table of this plane with this value has a row that matches.
+/// Whether a table of this plane and this value has a row that matches.
 fn has_match(plane: bool, value: bool) -> bool
     ensures { result ≡ has_match plane value }
 {
     if plane { value } else { !value }
 }
 
-/// Adds the hints of table `i`, the last one first, where it is needed. It is known then, and what its hints rest on is needed.
+/// Adds the hints of table `i`, the last hint first, where the table is needed. Then the table is no longer
+/// needed, and the signals on which its hints depend are.
 fn push_table(
     hints: &mut Vec<u64>,
     needed: &mut [bool],
@@ -201,7 +205,7 @@ fn table_clause_count(table: &Table) -> u64
     table.literals() + rows + rows + 1
 }
 
-/// The id of the first clause of each table, and then that of the clause behind those of all tables.
+/// The id of the first clause of each table, and then the id of the clause behind those of all tables.
 pub(crate) fn first_ids(alloc: Global, net: &Net) -> Result<Ids, AllocError>
     requires { sum_by table_clause_count net.now.tables < 2 ^ 62 }
     ensures { IfOk result (λ firsts. firsts ≡ first_ids 1 net.now.tables) }
@@ -216,7 +220,8 @@ pub(crate) fn first_ids(alloc: Global, net: &Net) -> Result<Ids, AllocError>
     Ok(firsts)
 }
 
-/// Adds the hints of the tables in this order that are needed, the last one first. Behind them is needed what is needed before.
+/// Adds the hints of the needed tables of this order, the last hint first. The marks become those of the
+/// signals that are needed before these tables.
 fn push_tables(
     hints: &mut Vec<u64>,
     needed: &mut [bool],
@@ -242,7 +247,8 @@ fn push_tables(
     Ok(())
 }
 
-/// Room for the hints of a vector: the values of the signals there, which of them are needed, and the hints, the last one first.
+/// Room for the hints of a vector: the values of the signals there, which of the signals are needed, and the
+/// hints, the last hint first.
 #[derive(Drop)]
 pub(crate) struct Room {
     pub(crate) values: Vec<bool>,
@@ -250,7 +256,7 @@ pub(crate) struct Room {
     hints: Vec<u64>,
 }
 
-/// Room for a net.
+/// Room for the vectors of a net.
 pub(crate) fn room_for(alloc: Global, net: &Net) -> Result<Room, AllocError>
     ensures { IfOk result (FitsRoom net.now) }
 {
@@ -262,7 +268,7 @@ pub(crate) fn room_for(alloc: Global, net: &Net) -> Result<Room, AllocError>
     })
 }
 
-/// The hints in the other order.
+/// The hints in reverse order.
 fn reversed(alloc: Global, hints: &[u64]) -> Result<Ids, AllocError>
     ensures { IfOk result (λ ids. ids ≡ reverse hints.now) }
 {
@@ -273,8 +279,8 @@ fn reversed(alloc: Global, hints: &[u64]) -> Result<Ids, AllocError>
     Ok(ids)
 }
 
-/// The hints of the input vector at which the signals have the values in the room: those of the tables on which the output rests there,
-/// one after another in this order.
+/// The hints of the input vector at which the signals have the values in the room: those of the tables on
+/// which the output depends there, in the order of the tables.
 pub(crate) fn vector_hints(
     alloc: Global,
     net: &Net,

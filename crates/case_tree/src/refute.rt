@@ -1,4 +1,5 @@
-//! A refutation by cases: each input vector's negation is derived, and then two clauses at a time are joined.
+//! A refutation by cases: the negation of each input vector is derived, and then the clauses are joined two
+//! at a time.
 ghost use Rattle.std.specs.Prelude.{◌≡◌, ℕ, ◌+◌, ◌-◌, ◌<◌, ◌≤◌, ◌^◌, Bool, false, List, [], ◌∷◌, ◌++◌, length, take, slice_index, sum_by, IfOk, OnOk};
 ghost use Rattle.semantics.specs.Net.{input_count, signal_count};
 ghost use Rattle.semantics.specs.Value.{outputs_of};
@@ -22,7 +23,7 @@ use proof_parts::log::{Item, Log, Step};
 use semantics::limits::TRIED_INPUTS;
 use std::alloc::{AllocError, Global};
 
-/// How many inputs have all their vectors side by side, in a word of 64 bits.
+/// The number of inputs all of whose vectors stand side by side in a word of 64 bits.
 const SIDE_BY_SIDE: u32 = 6;
 
 /// The clause that is false exactly where the first inputs have these bits.
@@ -37,8 +38,8 @@ fn negation(alloc: Global, front: &[bool]) -> Result<Lits, AllocError>
     Ok(clause)
 }
 
-/// A net, an order of its tables, the ids of their first clauses, and all vectors of its last inputs, of which so many bits are given
-/// side by side.
+/// A net, an order of its tables, the ids of the tables' first clauses, and all vectors of the net's last
+/// inputs, which are evaluated side by side.
 #[derive(Drop)]
 struct Tree<'a> {
     net: &'a Net,
@@ -47,7 +48,8 @@ struct Tree<'a> {
     rest: &'a Patterns,
 }
 
-/// The step that derives the negation of the input vector `x`, where `words` are the values behind its first bits.
+/// The step that derives the negation of the input vector `x`; `words` are the values behind the first bits
+/// of `x`.
 fn vector_step(
     alloc: Global,
     id: u64,
@@ -71,7 +73,7 @@ fn vector_step(
     Ok(Step::new(id, negation(alloc, x)?, hints))
 }
 
-/// Finds the values behind the first bits of `x` where the way has come to their end.
+/// Computes the values behind the first bits of `x`, once `depth` is the number of these bits.
 fn reach_values(tree: &Tree, x: &[bool], depth: usize, words: &mut [u64])
     requires tree { IsTree tree.now }
     requires width { length x.now ≡ input_count tree.now.net.now }
@@ -88,7 +90,7 @@ fn reach_values(tree: &Tree, x: &[bool], depth: usize, words: &mut [u64])
     }
 }
 
-/// The step that joins the clauses of two ids, which differ in the sign of the literal behind this front.
+/// The step that joins the clauses with two ids, which differ in the sign of the literal behind this front.
 fn join_step(
     alloc: Global,
     id: u64,
@@ -105,8 +107,8 @@ fn join_step(
     Ok(Step::new(id, negation(alloc, front)?, hints))
 }
 
-/// Adds the steps behind the id `last` that derive the negation of the first `depth` bits of `x`, and answers the last one's id;
-/// `x` holds bits on the way, and `words` the values behind its first bits.
+/// Adds the steps behind the id `last` that derive the negation of the first `depth` bits of `x`, and returns
+/// the id of the last one. `x` holds the bits on the way down, and `words` the values behind its first bits.
 fn push_cases(
     alloc: Global,
     tree: &Tree,
@@ -148,7 +150,8 @@ fn push_cases(
     Ok(id)
 }
 
-/// The steps behind the id `last` that derive the empty clause: those of every input vector.
+/// The steps behind the id `last` that derive the empty clause: the steps of every input vector, and their
+/// joins.
 fn all_cases(alloc: Global, tree: &Tree, last: u64) -> Result<Log, AllocError>
     requires tree { IsTree tree.now }
     requires ids { last + step_count (input_count tree.now.net.now) < 2 ^ 63 }

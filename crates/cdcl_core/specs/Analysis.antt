@@ -8,7 +8,7 @@ use Rattle.cdcl_core.specs.Explained.{IsMarked}
 abbrev pub mark_at : List Bool → ℕ → Bool
 mark_at marks p = slice_index_or marks p false
 
--- one entry from s on is marked
+-- exactly one entry from s on is marked
 pub record IsOneFrom (trail : List ℤ) (marks : List Bool) (s at : ℕ) : Type 0 where
   pub from : s ≤ at
   pub within : at < length trail
@@ -40,7 +40,7 @@ pub record IsShortened (old new : List Bool) (start : ℕ) : Type 0 where
   pub kept : (p : ℕ) → start ≤ p → mark_at old p ≡ true → mark_at new p ≡ true
   pub only : (p : ℕ) → start ≤ p → mark_at new p ≡ true → mark_at old p ≡ true
 
--- marks were added before bound by the entries that make the literals of C false, but for own
+-- marks were added, before bound, at the entries that make the literals of C other than own false
 pub record AreOthersMarked (trail : List ℤ) (old new : List Bool) (C : Clause) (own : ℤ) (bound : ℕ) : Type 0 where
   pub same_length : length new ≡ length old
   pub kept : (p : ℕ) → mark_at old p ≡ true → mark_at new p ≡ true

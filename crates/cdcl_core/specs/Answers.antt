@@ -14,14 +14,14 @@ pub record IsModel (f : Formula) (bits : List Bool) : Type 0 where
   pub width : length bits ≡ f.variables
   pub satisfies : Satisfies (by_place (λ place. slice_index_or bits place false)) f.clauses
 
--- the merged steps, and at most one step more than the limit that end in the empty clause
+-- the merged steps, and behind them at most limit + 1 steps that end in the empty clause
 pub record IsRefutation (f : Formula) (merged log : List LogItem) (limit : ℕ) : Type 0 where
   pub begins : Begins merged log
   pub short : length log ≤ length merged + limit + 1
   pub derivation : IsDerivation f log
   pub refutes : Refutes f.clauses log
 
--- the merged steps, and then exactly so many conflicts as the limit allows
+-- the merged steps, and behind them exactly `limit` conflicts
 pub record IsSpent (f : Formula) (merged log : List LogItem) (limit : ℕ) : Type 0 where
   pub begins : Begins merged log
   pub chain : IsConflictChain f (length merged) limit log

@@ -13,17 +13,18 @@ Holds trail l = IsTrueBelow trail (length trail) l
 abbrev pub IsIn : LiteralSet → ℤ → Type 0
 IsIn set l = literals.contains set l ≡ true
 
--- from each set of true literals that has those of T, the hints end in a conflict
+-- the hints end in a conflict from each set of true literals that contains those of T
 pub record Explains (clauses : List Clause) (trail : List ℤ) (T : ℤ → Type 0) (hints : List ℕ) : Type 0 where
   pub along : (set : LiteralSet) → ((l : ℤ) → IsIn set l → Holds trail l) → ((l : ℤ) → T l → IsIn set l) → EndsInConflict (get (held_of clauses)) set hints
 
--- l is true by an entry that is marked: it is to be explained yet, or its negation stays in the learned clause
+-- l is true by an entry that is marked: the entry is still to be explained, or its negation stays in the
+-- learned clause
 pub record IsMarked (trail : List ℤ) (marks : List Bool) (l : ℤ) : Type 0 where
   pub place : ℕ
   pub within : place < length trail
   pub marked : slice_index_or marks place false ≡ true
   pub is : literal_at trail place ≡ l
 
--- once the hints are replayed from the marked literals, there is a conflict
+-- the hints, replayed from the marked literals, end in a conflict
 abbrev pub IsExplained : List Clause → List ℤ → List Bool → List ℕ → Type 0
 IsExplained clauses trail marks hints = Explains clauses trail (IsMarked trail marks) hints

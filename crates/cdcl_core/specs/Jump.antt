@@ -5,13 +5,13 @@ use Rattle.proof_semantics.specs.Clauses.{Clause}
 use Rattle.cdcl_core.specs.Trail.{literal_at, IsTrueBelow, IsTrail, AreLevels, IsSettledBelow}
 use Rattle.cdcl_core.specs.Placed.{TrailValue}
 
--- what holds of the trail before each decision and after each step back
+-- what holds of the trail before each decision and after each jump back
 pub record IsRunning (clauses : List Clause) (t : TrailValue) : Type 0 where
   pub trail : IsTrail clauses t.literals t.reasons t.starts
   pub levels : AreLevels t.literals t.starts
   pub settled : IsSettledBelow clauses t.literals t.starts
 
--- a literal of C is false by an entry before s that is not before any of the first m starts
+-- a literal of C is false by an entry before s that stands at or behind each of the first m starts
 pub record HasLast (t : TrailValue) (s : ℕ) (C : Clause) (m : ℕ) : Type 0 where
   pub literal : ℤ
   pub inside : Contains C literal
@@ -20,7 +20,7 @@ pub record HasLast (t : TrailValue) (s : ℕ) (C : Clause) (m : ℕ) : Type 0 wh
   pub is : literal_at t.literals place ≡ neg_ℤ literal
   pub last : All (λ r. r ≤ place) (take m t.starts)
 
--- the same of a given literal
+-- `HasLast`, of a given literal
 pub record HasLastAs (t : TrailValue) (s : ℕ) (C : Clause) (m : ℕ) (literal : ℤ) : Type 0 where
   pub inside : Contains C literal
   pub place : ℕ
@@ -32,7 +32,7 @@ pub record HasLastAs (t : TrailValue) (s : ℕ) (C : Clause) (m : ℕ) (literal 
 abbrev pub IsJumpPair : TrailValue → ℕ → Clause → ℤ → ℕ → ℤ → Type 0
 IsJumpPair t s C u m other = ((m ≡ 0) × (other ≡ u)) ⊎ HasLastAs t s C m other
 
--- the levels that stay are those of the literals other than u
+-- the levels that stay are those of the clause's literals other than u
 pub record IsJump (t : TrailValue) (s : ℕ) (C : Clause) (u : ℤ) (m : ℕ) : Type 0 where
   pub within : m < length t.starts
   pub others : All (λ a. (a ≡ u) ⊎ IsTrueBelow t.literals (slice_index_or t.starts m 0) (neg_ℤ a)) C
@@ -58,7 +58,7 @@ abbrev pub later_of : Option ℕ → ℕ → ℕ
 later_of None p = p
 later_of (Some q) p = max q p
 
--- p is the place of a literal of C other than own, and the others of D stand no later
+-- p is the place of a literal of C other than own, and the literals of D other than own stand no later
 pub record IsOther (trail : List ℤ) (start : ℕ) (own : ℤ) (C D : Clause) (p : ℕ) : Type 0 where
   pub literal : ℤ
   pub inside : Contains C literal

@@ -11,8 +11,9 @@ use Rattle.cdcl_core.specs.Placed.{TrailValue}
 use Rattle.cdcl_core.specs.Propagation.{IsExtended}
 use Rattle.cdcl_core.specs.Jump.{IsRunning, IsJump, jumped}
 
--- A learned clause contains no clause that was settled below the conflict's level: such a clause has a true literal there, and
--- the learned one has none; or two open ones, and the learned one has one.
+-- A learned clause contains no clause that was settled below the conflict's level. Such a clause has a true
+-- literal there, and the learned clause has none; or it has two open literals there, and the learned clause
+-- has one.
 abbrev pub NewClauseLaw : Type 0
 NewClauseLaw = (clauses : List Clause) (trail : List ℤ) (s : ℕ) (C : Clause) (u : ℤ) (at : ℕ) → IsConsistent trail
     → IsSettled (IsTrueBelow trail s) clauses → IsLearned trail s C u at → IsNew clauses C
@@ -24,16 +25,18 @@ pub record BackLaw : Type 0 where
       → IsSettledBelow clauses trail starts → IsLearned trail s C u at
       → Contains C w → place < s → literal_at trail place ≡ neg_ℤ w → All (λ t. t ≤ place) starts
       → IsSettledBelow (clauses ++ C ∷ []) trail starts
-  -- what stands after the starts doesn't matter
+  -- what stands behind the last start does not matter
   pub cut : (clauses : List Clause) (before after : List ℤ) (starts : List ℕ) (q : ℕ) → All (λ t. t ≤ q) starts → q ≤ length before → q ≤ length after
       → take q before ≡ take q after → IsSettledBelow clauses before starts → IsSettledBelow clauses after starts
 
--- Analysis from the conflict back over the trail: marks are what is left to explain.
+-- Analysis from the conflict back over the trail: the marks are at the entries that are still to be
+-- explained.
 pub record DerivesLaw : Type 0 where
-  -- the conflict's clause is the last hint, and its literals' entries are marked
+  -- the conflict's clause is the last hint, and the entries of its literals are marked
   pub conflict : (clauses : List Clause) (trail : List ℤ) (marks : List Bool) (j : ℕ) → j < length clauses
       → All (λ a. IsMarked trail marks (neg_ℤ a)) (clause_at clauses j) → IsExplained clauses trail marks (suc j ∷ [])
-  -- an entry is replaced by those of the other literals of its reason, which goes before the hints
+  -- an entry is replaced by the entries of the other literals of its reason, and the reason goes before the
+  -- hints
   pub resolved : (clauses : List Clause) (trail : List ℤ) (marks after : List Bool) (hints : List ℕ) (i j : ℕ) → IsConsistent trail → i < length trail → IsReason clauses trail i j
       → ((p : ℕ) → p ≢ i → slice_index_or marks p false ≡ true → slice_index_or after p false ≡ true)
       → All (λ a. (a ≡ literal_at trail i) ⊎ IsMarked trail after (neg_ℤ a)) (clause_at clauses j)
@@ -48,8 +51,8 @@ pub record SearchLaw : Type 0 where
   -- the learned clause is added, the levels of its other literals stay, and its literal of the conflict's level follows
   pub jumped : (clauses : List Clause) (t : TrailValue) (s : ℕ) (C : Clause) (u : ℤ) (at m : ℕ) → IsConsistent t.literals → IsRunning clauses t
       → IsLearned t.literals s C u at → IsJump t s C u m → IsRunning (clauses ++ C ∷ []) (jumped clauses t u m)
-  -- a decision where everything is settled
+  -- a decision is made where everything is settled
   pub decided : (clauses : List Clause) (t : TrailValue) (l : ℤ) → IsRunning clauses t → IsSettled (Holds t.literals) clauses
       → IsRunning clauses (record t { literals = t.literals ++ l ∷ []; reasons = t.reasons ++ None ∷ []; starts = t.starts ++ length t.literals ∷ [] })
-  -- propagation
+  -- propagation adds entries
   pub extended : (clauses : List Clause) (old new : TrailValue) → IsRunning clauses old → IsExtended clauses old new → IsRunning clauses new

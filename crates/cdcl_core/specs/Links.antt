@@ -1,7 +1,8 @@
 -- The ring in which the variables stand that are decided.
 use Rattle.std.specs.Prelude.{◌≡◌, ℕ, ◌<◌, List, length, All}
 
--- each number has a next one, one before it, and a stamp; the search begins at one of the numbers
+-- each number has a number behind it, a number before it, and a stamp; the search begins at one of the
+-- numbers
 pub record AreLinks (after before stamps : List ℕ) (search : ℕ) : Type 0 where
   pub some : 0 < length after
   pub before_length : length before ≡ length after

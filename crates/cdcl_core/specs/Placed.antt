@@ -1,4 +1,4 @@
--- How the trail is held: each variable has the place where it stands in the trail, if it does.
+-- How the trail is held: each variable that stands in the trail has its place there.
 use Rattle.std.specs.Prelude.{ℤ, ◌≡◌, ℕ, ◌+◌, ◌-◌, ◌*◌, ◌<◌, ◌≤◌, Bool, true, false, Option, List, length, slice_index_or, nat_abs}
 use Rattle.cdcl_core.specs.Trail.{literal_at}
 use Rattle.cdcl_core.specs.Explained.{Holds}
@@ -10,11 +10,11 @@ pub record TrailValue : Type 0 where
   pub reasons : List (Option ℕ)
   pub starts : List ℕ
 
--- where the last level starts
+-- the start of the last level
 abbrev pub last_start : TrailValue → ℕ
 last_start t = slice_index_or t.starts (length t.starts - 1) 0
 
--- told is whether a literal is true
+-- `told` says of each literal whether it is true
 pub record AreTold (told : List Bool) (trail : List ℤ) : Type 0 where
   pub sound : (l : ℤ) → slice_index_or told (index_of l) false ≡ true → Holds trail l
   pub complete : (l : ℤ) → Holds trail l → slice_index_or told (index_of l) false ≡ true
@@ -25,13 +25,14 @@ pub record IsPlaced (places : List ℕ) (trail : List ℤ) : Type 0 where
   pub literal : (i : ℕ) → i < length trail → (0 < nat_abs (literal_at trail i)) × (nat_abs (literal_at trail i) < length places)
   pub at : (i : ℕ) → i < length trail → slice_index_or places (nat_abs (literal_at trail i)) 0 ≡ i
 
--- the trail with both
+-- the trail, with the places and with `told`
 pub record IsHeld (places : List ℕ) (told : List Bool) (trail : List ℤ) : Type 0 where
   pub placed : IsPlaced places trail
   pub told_values : AreTold told trail
   pub wide : length told ≡ length places * 2
 
--- the same, with a reason of each entry, and with room for more entries than there are variables
+-- the trail, with the places, with `told` and with a reason for each entry; and there is room for more
+-- entries than there are variables
 pub record HasPlaces (places : List ℕ) (told : List Bool) (trail : List ℤ) (reasons literal_room reason_room : ℕ) : Type 0 where
   pub held : IsHeld places told trail
   pub same_length : reasons ≡ length trail

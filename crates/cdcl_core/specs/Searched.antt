@@ -15,7 +15,7 @@ use Rattle.cdcl_core.specs.Jump.{IsRunning}
 use Rattle.cdcl_core.specs.Decided.{IsFull}
 use Rattle.cdcl_core.specs.declared.search.Search.{Search}
 
--- the clauses and the trail are over the same variables, which the order has
+-- the clauses and the trail are over the same variables, and the order has these variables
 pub record IsSearching (clauses : List Clause) (t : TrailValue) (order : ℕ) : Type 0 where
   pub running : IsRunning clauses t
   pub literals : AreClausesOf t.variables clauses
@@ -27,7 +27,7 @@ pub record IsModelTrail (clauses : List Clause) (t : TrailValue) : Type 0 where
   pub full : IsFull t
   pub settled : IsSettled (Holds t.literals) clauses
 
--- the trail went on or back, and nothing was learned
+-- the trail grew or went back, and nothing was learned
 pub record HasMoved (old new : Search) : Type 0 where
   pub searching : IsSearching new.clauses.list new.trail new.order
   pub variables : new.trail.variables ≡ old.trail.variables
@@ -43,7 +43,7 @@ IsSwept clauses t w (Some j) = IsWatchedBelow clauses t w × IsConflict clauses 
 abbrev pub Begins : List LogItem → List LogItem → Type 0
 Begins merged log = take (length merged) log ≡ merged
 
--- the search over a formula after so many conflicts
+-- the search over a formula after `conflicts` conflicts
 pub record IsSearch (f : Formula) (merged : List LogItem) (conflicts : ℕ) (s : Search) : Type 0 where
   pub searching : IsSearching s.clauses.list s.trail s.order
   pub variables : s.trail.variables ≡ f.variables
@@ -71,7 +71,7 @@ pub record HasLearned (old new : Search) : Type 0 where
   pub derives : Derives (held_of old.clauses.list) step
   pub is_new : IsNew old.clauses.list step.literals
 
--- nothing is different but for memory, what the analysis marked, and the order
+-- only memory, the marks of the analysis, and the order may differ
 pub record IsUnchanged (old new : Search) : Type 0 where
   pub clauses : new.clauses.list ≡ old.clauses.list
   pub trail : new.trail ≡ old.trail

@@ -21,7 +21,7 @@ pub record HasTwoOpen (T : ℤ → Type 0) (C : Clause) : Type 0 where
   pub other_open : IsOpen T other
   pub differ : one ≢ other
 
--- a true literal, or two different open ones
+-- a true literal, or two different open literals
 abbrev pub IsSettledAt : (ℤ → Type 0) → Clause → Type 0
 IsSettledAt T C = HasTrue T C ⊎ HasTwoOpen T C
 

@@ -9,7 +9,7 @@ pub record IsListed (touched : List ℕ) (first p : ℕ) : Type 0 where
   pub within : at < length touched
   pub is : slice_index touched at ≡ p
 
--- each listed place is one of the places, and each marked one is listed from number `first` on
+-- each listed place is one of the places, and each marked place is listed from number `first` on
 pub record AreTouchedFrom (on : List Bool) (touched : List ℕ) (first : ℕ) : Type 0 where
   pub within : All (λ p. p < length on) touched
   pub listed : (p : ℕ) → slice_index_or on p false ≡ true → IsListed touched first p

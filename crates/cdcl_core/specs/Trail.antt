@@ -24,13 +24,13 @@ pub record IsConsistent (trail : List ℤ) : Type 0 where
   pub distinct : (i j : ℕ) → i < length trail → j < length trail → literal_at trail i ≡ literal_at trail j → i ≡ j
   pub consistent : (i j : ℕ) → i < length trail → j < length trail → literal_at trail i ≢ neg_ℤ (literal_at trail j)
 
--- the clause that made the entry true: it has the entry's literal, and the others were false before
+-- clause j made entry i true: it has the entry's literal, and its other literals were false before
 pub record IsReason (clauses : List Clause) (trail : List ℤ) (i j : ℕ) : Type 0 where
   pub held : j < length clauses
   pub inside : Contains (clause_at clauses j) (literal_at trail i)
   pub others : All (λ a. (a ≡ literal_at trail i) ⊎ IsTrueBelow trail i (neg_ℤ a)) (clause_at clauses j)
 
--- an entry with a reason follows by it, and one without opens a level
+-- an entry with a reason follows by the reason, and an entry without one opens a level
 pub record IsTrail (clauses : List Clause) (trail : List ℤ) (reasons : List (Option ℕ)) (starts : List ℕ) : Type 0 where
   pub same_length : length reasons ≡ length trail
   pub reason : (i j : ℕ) → i < length trail → reason_at reasons i ≡ Some j → IsReason clauses trail i j
@@ -41,11 +41,11 @@ pub record AreLevels (trail : List ℤ) (starts : List ℕ) : Type 0 where
   pub rising : AllPairs (λ s t. s < t) starts
   pub within : All (λ s. s < length trail) starts
 
--- settled below each open level
+-- each clause is settled below each open level
 abbrev pub IsSettledBelow : List Clause → List ℤ → List ℕ → Type 0
 IsSettledBelow clauses trail starts = All (λ s. IsSettled (IsTrueBelow trail s) clauses) starts
 
--- C is false, by one literal u at or after the start s and otherwise by entries before s
+-- C is false, by the literal u at or behind the start s, and otherwise by entries before s
 pub record IsLearned (trail : List ℤ) (s : ℕ) (C : Clause) (u : ℤ) (at : ℕ) : Type 0 where
   pub inside : Contains C u
   pub after : s ≤ at

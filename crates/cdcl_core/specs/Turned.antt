@@ -15,13 +15,13 @@ IsReady s Further = IsSearching s.clauses.list s.trail s.order × IsWatching s.c
 IsReady s Refuted = Unit {0}
 IsReady s Full = Unit {0}
 
--- after k conflicts and a turn
+-- what holds after k conflicts and one more turn
 abbrev pub IsTurn : Formula → List LogItem → ℕ → Search → Turn → Type 0
 IsTurn f merged k s Further = IsSearch f merged (k + 1) s
 IsTurn f merged k s Refuted = (limit : ℕ) → k < limit → IsRefutation f merged s.log.items limit
 IsTurn f merged k s Full = IsSearch f merged k s × IsModelTrail s.clauses.list s.trail
 
--- after at most so many turns
+-- what holds after at most `limit` turns
 abbrev pub IsEnd : Formula → List LogItem → ℕ → Search → Turn → Type 0
 IsEnd f merged limit s Further = IsSearch f merged limit s
 IsEnd f merged limit s Refuted = IsRefutation f merged s.log.items limit

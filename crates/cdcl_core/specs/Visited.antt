@@ -12,17 +12,17 @@ use Rattle.cdcl_core.specs.declared.watches.Pair.{Pair}
 use Rattle.cdcl_core.specs.declared.visit.Visit.{Visit}
 use Rattle.cdcl_core.specs.declared.visit.Visit.TheVariants.{Next, Again, Conflict}
 
--- x is one of the two, and first the other
+-- x is one of the two literals, and first is the other
 abbrev pub IsPartner : Pair → ℤ → ℤ → Type 0
 IsPartner p x first = ((p.one ≡ x) × (p.other ≡ first)) ⊎ ((p.other ≡ x) × (p.one ≡ first))
 
--- another literal of C, which is not false
+-- l is a literal of C other than first, and is not false
 pub record IsOtherWatch (trail : List ℤ) (C : Clause) (first l : ℤ) : Type 0 where
   pub inside : Contains C l
   pub not_false : Holds trail (neg_ℤ l) → ⊥
   pub differ : l ≡ first → ⊥
 
--- the other literals are false
+-- the literals of the clause other than first are false
 abbrev pub AreOthersFalse : List ℤ → Clause → ℤ → Type 0
 AreOthersFalse trail C first = All (λ a. (a ≡ first) ⊎ Holds trail (neg_ℤ a)) C
 
@@ -32,7 +32,7 @@ IsFollowed old new j l Next = new ≡ record old { literals = old.literals ++ l 
 IsFollowed old new j l Again = ⊥
 IsFollowed old new j l (Conflict k) = (k ≡ j) × (new ≡ old) × Holds old.literals (neg_ℤ l)
 
--- the watcher stays, or was taken out, or its clause is false
+-- the watcher stays, or was taken out, or the watcher's clause is false
 abbrev pub IsVisited : List Clause → TrailValue → WatchesValue → WatchesValue → ℤ → ℕ → Visit → Type 0
 IsVisited clauses t old new x at Next = IsHandling clauses t new x (at + 1) × (length (list_at new.lists x) ≡ length (list_at old.lists x))
 IsVisited clauses t old new x at Again = IsHandling clauses t new x at × (length (list_at new.lists x) + 1 ≡ length (list_at old.lists x))

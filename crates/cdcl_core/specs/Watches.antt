@@ -25,11 +25,11 @@ watch_at list k = slice_index_or list k no_watch
 abbrev pub pair_at : List Pair → ℕ → Pair
 pair_at pairs j = slice_index_or pairs j no_pair
 
--- one watcher more
+-- the list of a literal has one more watcher
 abbrev pub lists_with : List (List Watch) → ℤ → Watch → List (List Watch)
 lists_with lists l w = slice_set lists (index_of l) (list_at lists l ++ w ∷ [])
 
--- the next clause watches these two, and perhaps has no others
+-- the next clause watches these two literals, and possibly has no others
 abbrev pub watches_with : WatchesValue → ℤ → ℤ → Bool → WatchesValue
 watches_with w one other binary = record w {
   lists = lists_with (lists_with w.lists one (record { clause = length w.pairs; blocker = other; binary = binary })) other (record { clause = length w.pairs; blocker = one; binary = binary });

@@ -23,27 +23,28 @@ pub record AreFree (F : ℤ → Type 0) (p : Pair) : Type 0 where
   pub one : F (neg_ℤ p.one) → ⊥
   pub other : F (neg_ℤ p.other) → ⊥
 
--- a true literal, or else the two that are watched are not false
+-- the clause has a true literal, or else neither of the two literals that it watches is false
 abbrev pub IsKept : (ℤ → Type 0) → (ℤ → Type 0) → Clause → Pair → Type 0
 IsKept T F C p = HasTrue T C ⊎ AreFree F p
 
 pub record AreKept (T F : ℤ → Type 0) (clauses : List Clause) (pairs : List Pair) : Type 0 where
   pub each : (j : ℕ) → j < length clauses → IsKept T F (clause_at clauses j) (pair_at pairs j)
 
--- a watcher of clause j from `at` on, or T
+-- a watcher of clause j stands in the list, from place `at` on unless T holds
 pub record HasWatcher (list : List Watch) (at j : ℕ) (T : Type 0) : Type 0 where
   pub place : ℕ
   pub within : place < length list
   pub is : (watch_at list place).clause ≡ j
   pub later : (at ≤ place) ⊎ T
 
--- a watcher of y is of a clause that has its blocker, and only y besides where it says so
+-- a watcher of y belongs to a clause that has the blocker and, where the watcher says so, no literals but y
+-- and the blocker
 pub record IsWatcher (clauses : List Clause) (y : ℤ) (w : Watch) : Type 0 where
   pub held : w.clause < length clauses
   pub inside : Contains (clause_at clauses w.clause) w.blocker
   pub only : w.binary ≡ true → IsBinary y w.blocker (clause_at clauses w.clause)
 
--- each clause has the literals that it watches, and a watcher at each of them
+-- each clause has the literals that it watches, and a watcher at each of these
 pub record AreWatched (clauses : List Clause) (variables : ℕ) (lists : List (List Watch)) (pairs : List Pair) : Type 0 where
   pub literals : AreClausesOf variables clauses
   pub lists_length : length lists ≡ variables * 2 + 2
@@ -52,24 +53,24 @@ pub record AreWatched (clauses : List Clause) (variables : ℕ) (lists : List (L
   pub inside : (j : ℕ) (l : ℤ) → j < length clauses → IsOneOf (pair_at pairs j) l → Contains (clause_at clauses j) l
   pub watched : (j : ℕ) (l : ℤ) → j < length clauses → IsOneOf (pair_at pairs j) l → HasWatcher (list_at lists l) 0 j ⊥
 
--- below the start s
+-- each clause is kept below the start s
 abbrev pub AreKeptAt : List Clause → List ℤ → List Pair → ℕ → Type 0
 AreKeptAt clauses trail pairs s = AreKept (IsTrueBelow trail s) (IsTrueBelow trail s) clauses pairs
 
--- kept below each open level, whatever comes after
+-- each clause is kept below each open level, whatever comes after
 pub record IsWatchedBelow (clauses : List Clause) (t : TrailValue) (w : WatchesValue) : Type 0 where
   pub formed : AreWatched clauses t.variables w.lists w.pairs
   pub low : All (λ s. s ≤ length t.literals) t.starts
   pub below : All (AreKeptAt clauses t.literals w.pairs) t.starts
 
--- and as far as the entries have been handled
+-- each clause is kept below each open level, and as far as the entries have been handled
 pub record IsWatching (clauses : List Clause) (t : TrailValue) (w : WatchesValue) : Type 0 where
   pub base : IsWatchedBelow clauses t w
   pub within : w.handled ≤ length t.literals
   pub kept : AreKept (Holds t.literals) (IsTrueBelow t.literals w.handled) clauses w.pairs
 
--- the same while the next entry is handled, by which x is false: the clauses that watch x have a true literal, or a watcher from
--- `at` on
+-- `IsWatching` while the next entry, by which x is false, is handled: each clause that watches x has a true
+-- literal, or a watcher from `at` on
 pub record IsHandling (clauses : List Clause) (t : TrailValue) (w : WatchesValue) (x : ℤ) (at : ℕ) : Type 0 where
   pub watching : IsWatching clauses t w
   pub low : w.handled < length t.literals

@@ -1,15 +1,17 @@
 //! The learned clause of a conflict.
 //!
-//! Analysis goes back over the trail from its end. It marks the entries that make the conflict's clause false, and replaces
-//! the last marked one by those that made its reason force it, until one entry of the conflict's level is left: the first
-//! unique implication point. The clause that says that the marked entries do not stand together is learned. Clauses of the
-//! first point are short and let the search go back far. Source: GRASP, and Chaff for the first point.
+//! Analysis goes back over the trail from its end. It marks the entries that make the conflict's clause
+//! false, and replaces the last marked entry by those that made its reason force it, until one entry of the
+//! conflict's level is left: the first unique implication point. The learned clause says that the marked
+//! entries do not stand together. Clauses of the first point are short and let the search go back far.
+//! Source: GRASP, and Chaff for the first point.
 //!
-//! Then marked entries of lower levels that the others imply are replaced too, as in MiniSat, which makes the clause shorter;
-//! and so are those that stand without a decision, so that no learned clause mentions them. Each replacement is a resolution
-//! and gives a hint; in the other order the hints are the reasons in the order of the trail, and then the conflict's clause.
-//! An entry is replaced once, after all those that stand behind it, so each reason is one hint. So it is known before how much room the
-//! clause and its hints can take, and the analysis itself takes no memory (`HasRoom`).
+//! Then marked entries of lower levels that the other marked entries imply are replaced too, as in MiniSat,
+//! which makes the clause shorter; and so are entries that stand without a decision, so that no learned
+//! clause mentions them. Each replacement is a resolution and gives a hint; in reverse, the hints are the
+//! reasons in the order of the trail, and then the conflict's clause. An entry is replaced once, after all
+//! entries behind it that are replaced, so each reason is one hint. So the room that the clause and its hints
+//! can take is known before, and the analysis itself takes no memory (`HasRoom`).
 ghost use Rattle.std.specs.Prelude.{◌≡◌, ◌⊎◌, ◌+◌, ◌<◌, ◌≤◌, ◌^◌, length, vec_len, vec_capacity, neg_ℤ, All, IfSome, OnOk, reverse};
 ghost use Rattle.proof_semantics.specs.Clauses.{AreClausesOf};
 ghost use Rattle.cdcl_core.specs.Trail.{IsReason, IsTrail, IsTrueBelow};
@@ -29,13 +31,14 @@ use crate::trail::Trail;
 use crate::trail_marks::Marks;
 use std::alloc::{AllocError, Global};
 
-/// A learned clause: its literals, its hints, the last one first, and the entry of its literal of the conflict's level.
+/// A learned clause: its literals; its hints, of which the last stands first; and the entry of its literal of
+/// the conflict's level.
 #[derive(Drop)]
 pub struct Learned {
     pub clause: Vec<Literal>,
     pub hints: Vec<u64>,
     pub place: usize,
-    /// Of how many levels the literals are.
+    /// The number of levels of the literals.
     pub levels: u64,
 }
 
@@ -51,8 +54,8 @@ impl Learned {
     }
 }
 
-/// Takes the memory for the analysis of a conflict where there are so many entries, and for the place of the learned clause among the
-/// clauses. No entry is marked then.
+/// Takes the memory for the analysis of a conflict where the trail has `entries` entries, and for the place
+/// of the learned clause among the clauses. After that no entry is marked.
 pub fn make_room(
     entries: usize,
     clauses: &mut ClauseList,
@@ -75,7 +78,7 @@ pub fn make_room(
     clauses.reserve(marks.len())
 }
 
-/// Resolves marked entries from the last on until one is left from `start` on, and answers its place.
+/// Resolves marked entries from the last on, until one from `start` on is left, and returns its place.
 fn reach_one(
     trail: &Trail,
     clauses: &ClauseList,
@@ -110,7 +113,8 @@ fn reach_one(
     top
 }
 
-/// The variables of the entries that were marked come first in the order, but for those that stand without a decision.
+/// The variables of the entries that were marked come first in the order, but for the variables of entries
+/// that stand without a decision.
 fn bring_marked(trail: &Trail, marks: &Marks, order: &mut Order)
     requires { 0 < length trail.now.starts }
     ensures { order.new ≡ order.old }
@@ -126,7 +130,7 @@ fn bring_marked(trail: &Trail, marks: &Marks, order: &mut Order)
     order.bump();
 }
 
-/// The variables of a clause come first in the order, that of its last literal before the others.
+/// The variables of a clause come first in the order, the variable of its last literal before the others.
 fn bring_clause(clause: &[Literal], order: &mut Order)
     ensures { order.new ≡ order.old }
 {
@@ -135,7 +139,8 @@ fn bring_clause(clause: &[Literal], order: &mut Order)
     }
 }
 
-/// The variables of the clauses that were resolved come first in the order, those of the last one before the others.
+/// The variables of the clauses that were resolved come first in the order, the variables of the last clause
+/// before the others.
 fn bring_resolved(clauses: &ClauseList, hints: &[u64], order: &mut Order)
     ensures { order.new ≡ order.old }
 {
@@ -147,8 +152,8 @@ fn bring_resolved(clauses: &ClauseList, hints: &[u64], order: &mut Order)
     }
 }
 
-/// The variables of a conflict come first in the order: where they keep their order those that were marked, else those of each clause
-/// that was resolved.
+/// The variables of a conflict come first in the order: where variables keep their order, those of the
+/// entries that were marked, and else those of each clause that was resolved.
 pub fn bring_forward(
     trail: &Trail,
     clauses: &ClauseList,
@@ -183,7 +188,8 @@ fn is_implied(trail: &Trail, marks: &Marks, clause: &[Literal], own: Literal, fi
     true
 }
 
-/// The reason of an entry, where the others that are marked and those before `first` imply the entry by it.
+/// The reason of an entry, where the other marked entries and those before `first` imply the entry by this
+/// reason.
 fn redundant(
     trail: &Trail,
     clauses: &ClauseList,
@@ -205,7 +211,7 @@ fn redundant(
     }
 }
 
-/// Resolves the entry at `place` if it is marked and the others imply it.
+/// Resolves the entry at `place`, if it is marked and the other marked entries imply it.
 fn shorten_at(
     trail: &Trail,
     clauses: &ClauseList,
@@ -232,7 +238,8 @@ fn shorten_at(
     }
 }
 
-/// Resolves marked entries from `first` to before `start` that the others imply, from the last on, and answers how many were sorted.
+/// Resolves the marked entries from `first` to before `start` that the other marked entries imply, from the
+/// last on. Returns the number of places that were sorted.
 fn shorten(
     trail: &Trail,
     clauses: &ClauseList,
@@ -288,7 +295,8 @@ fn resolve_base(
     }
 }
 
-/// The level of an entry, counted from 1, where it is none above `level`.
+/// The level of an entry, counted from 1, where it is at most `level`; 0 for an entry before the first
+/// decision.
 fn level_of(trail: &Trail, place: usize, level: usize) -> usize
     requires { level ≤ length trail.now.starts }
     ensures { result ≤ level }

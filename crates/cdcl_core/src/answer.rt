@@ -5,7 +5,7 @@ use proof_parts::log::Log;
 /// What a search comes to.
 #[derive(Drop)]
 pub enum Answer {
-    /// A value for each variable, with which the formula is satisfied.
+    /// A value for each variable; with these values the formula is satisfied.
     Model(Bits),
     /// A log that refutes the formula.
     Refuted(Log),

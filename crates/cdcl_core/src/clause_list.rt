@@ -9,7 +9,7 @@ use crate::literal::Literal;
 use std::alloc::{AllocError, Global};
 use std::marker::Model;
 
-/// How many literals the region can have, and how many clauses there can be, so that half a word holds each place.
+/// The most literals that the region can have, and the most clauses, so that half a word holds each place.
 const MOST: usize = 4294967295;
 
 /// Where the literals of a clause lie: from `start` to before `end`.
@@ -68,7 +68,8 @@ impl ClauseList {
         &self.region[start as usize..end as usize]
     }
 
-    /// Makes room for a clause of so many literals. It answers an error for want of memory, or of places that half a word can hold.
+    /// Makes room for a clause of `literals` literals. Returns an error where memory is wanting, or where
+    /// half a word holds no further place.
     pub fn reserve(&mut self, literals: usize) -> Result<(), AllocError>
         ensures list { self.new.list ≡ self.old.list }
         ensures room { OnOk result (HasPlace literals self.new) }
@@ -80,7 +81,7 @@ impl ClauseList {
         self.region.reserve(literals)
     }
 
-    /// Adds a clause at the end, where there is room for it. It takes no memory.
+    /// Adds a clause at the end, where there is room for it. The call takes no memory.
     pub fn push_reserved(&mut self, clause: &[Literal])
         requires { HasPlace (length clause.now) self.old }
         ensures { self.new.list ≡ self.old.list ++ clause.now ∷ [] }
@@ -96,7 +97,8 @@ impl ClauseList {
         });
     }
 
-    /// Adds a clause at the end. Where it answers an error, as `reserve` does, the list stays as it was.
+    /// Adds a clause at the end. Where the call returns an error, as [`ClauseList::reserve`] does, the list
+    /// stays as it was.
     pub fn push(&mut self, clause: &[Literal]) -> Result<(), AllocError>
         ensures ok { OnOk result (self.new.list ≡ self.old.list ++ clause.now ∷ []) }
         ensures err { OnErr result (self.new.list ≡ self.old.list) }
@@ -115,7 +117,7 @@ pub fn count(clauses: &ClauseList) -> u64
     clauses.spans.len() as u64
 }
 
-/// What a log calls the clause at a place.
+/// The id by which a log names the clause at a place.
 pub fn id_of(clauses: &ClauseList, place: usize) -> u64
     requires { place < length clauses.now.list }
     ensures { result ≡ suc place }

@@ -1,4 +1,4 @@
-//! The cone of a pair: the signals that the two depend on.
+//! The cone of a pair: the signals on which the two signals of the pair depend.
 ghost use Rattle.std.specs.Prelude.{◌≡◌, ◌<◌, ◌≤◌, ◌^◌, IfSome};
 ghost use Rattle.cdcl_core.specs.Decided.{IsDecision};
 
@@ -10,14 +10,14 @@ use crate::trail::Trail;
 use net_parts::items::Signal;
 use std::alloc::{AllocError, Global};
 
-/// The signals of the cone, and for each signal of the net whether it is one of them.
+/// The signals of the cone, and for each signal of the net whether it is in the cone.
 #[derive(Drop)]
 pub struct Cone {
     signals: Vec<Signal>,
     within: Vec<bool>,
 }
 
-/// Adds a signal, where it is none of the cone yet.
+/// Adds a signal, where it is not in the cone yet.
 fn reach(
     signals: &mut Vec<Signal>,
     within: &mut Vec<bool>,
@@ -45,7 +45,7 @@ fn reach_pins(
     Ok(())
 }
 
-/// Adds the signals that those of the cone depend on.
+/// Adds the signals on which those of the cone depend.
 fn reach_all(
     signals: &mut Vec<Signal>,
     within: &mut Vec<bool>,
@@ -62,7 +62,7 @@ fn reach_all(
     Ok(())
 }
 
-/// These signals are in the cone no more.
+/// Takes these signals out of the cone.
 fn leave(within: &mut Vec<bool>, signals: &[Signal]) {
     for signal in signals {
         let at = *signal as usize;
@@ -73,7 +73,7 @@ fn leave(within: &mut Vec<bool>, signals: &[Signal]) {
 }
 
 impl Cone {
-    /// None of so many signals.
+    /// The empty cone, in a net of `signals` signals.
     pub fn new(alloc: Global, signals: u32) -> Result<Cone, AllocError> {
         Ok(Cone {
             signals: Vec::new(alloc),
@@ -81,7 +81,7 @@ impl Cone {
         })
     }
 
-    /// The two signals, and those that they depend on.
+    /// The cone of two signals: the two, and the signals on which they depend.
     pub fn set(&mut self, guide: &Guide, one: Signal, other: Signal) -> Result<(), AllocError> {
         leave(&mut self.within, &self.signals);
         self.signals.clear();
@@ -109,7 +109,7 @@ impl Cone {
         latest
     }
 
-    /// That variable, with the value that it had last.
+    /// The variable of the open signal of the cone with the greatest stamp, with the value that it had last.
     pub fn decide(&self, trail: &Trail, order: &Order) -> Option<Literal>
         requires small { trail.now.variables < 2 ^ 31 }
         requires variables { order.now ≡ trail.now.variables }

@@ -1,7 +1,7 @@
 //! Decisions: which open variable is given a value next, and which value.
 //!
-//! The order of the variables proposes one; what it answers is tried, and where it has nothing the least open variable is taken,
-//! so that the search is complete whatever the order holds.
+//! The order of the variables proposes a variable, which is tried. Where the order proposes none, the least
+//! open variable is taken, so the search is complete whatever the order holds.
 ghost use Rattle.std.specs.Prelude.{◌≡◌, ◌<◌, ◌^◌, IfSome, IsNone};
 ghost use Rattle.proof_semantics.specs.Clauses.{IsLiteralOf};
 ghost use Rattle.cdcl_core.specs.Decided.{IsDecision, IsFull};
@@ -22,7 +22,8 @@ pub fn if_open(trail: &Trail, literal: Literal) -> Option<Literal>
     }
 }
 
-/// The first open variable of the order, with the value that it had last; perhaps None where one is open.
+/// The first open variable of the order, with the value that it had last. It may be None where some variable
+/// is open.
 fn preferred(trail: &Trail, order: &mut Order) -> Option<Literal>
     requires small { trail.now.variables < 2 ^ 31 }
     requires variables { order.old ≡ trail.now.variables }
@@ -60,7 +61,7 @@ fn lowest(trail: &Trail, order: &Order, inputs: u32) -> Option<Literal>
     None
 }
 
-/// The least open variable, to be false.
+/// The literal that makes the least open variable false.
 fn least(trail: &Trail) -> Option<Literal>
     requires { trail.now.variables < 2 ^ 31 }
     ensures some { IfSome result (IsDecision trail.now) }
@@ -75,7 +76,8 @@ fn least(trail: &Trail) -> Option<Literal>
     None
 }
 
-/// An open literal, of the least variable up to `inputs` first, or None where each variable has a value.
+/// An open literal, of the least open variable up to `inputs` where there is one; or None where each variable
+/// has a value.
 pub fn decide(trail: &Trail, order: &mut Order, inputs: u32) -> Option<Literal>
     requires small { trail.now.variables < 2 ^ 31 }
     requires variables { order.old ≡ trail.now.variables }

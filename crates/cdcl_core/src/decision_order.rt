@@ -1,16 +1,19 @@
-//! The order in which variables are decided, and the value each had last.
+//! The order in which variables are decided, and the value that each variable had last.
 //!
-//! A variable that took part in a conflict is likely to take part in the next one, so it moves to the front of a ring, from
-//! which the first open variable is decided: variable move to front, as in Siege and CaDiCaL. It costs a few writes for each
-//! variable of a conflict and needs no numbers that grow or decay. A variable is decided with the value that it had last, as in
-//! RSat and MiniSat, so that a jump back does not throw away what was found in other parts of the formula.
+//! A variable that took part in a conflict is likely to take part in the next one, so it moves to the front
+//! of a ring, from which the first open variable is decided: variable move to front, as in Siege and CaDiCaL.
+//! This costs a few writes for each variable of a conflict, and needs no numbers that grow or decay. A
+//! variable is decided with the value that it had last, as in RSat and MiniSat, so that a jump back does not
+//! throw away what was found in other parts of the formula.
 //!
-//! Where the signals of a net are known they alone are in the ring: the variables of rows follow from them, and those of one
-//! conflict keep their order. Where they are not known each literal of each clause that was resolved brings its variable to the front,
-//! from clause to clause, so that those farthest from the conflict, the inputs among them, are decided first: in a trial outside of
-//! this repository formulas of multipliers then took about half the conflicts.
+//! Where the signals of a net are known, only they are in the ring: the variables of rows follow from them,
+//! and the variables of one conflict keep their order. Where the signals are not known, each literal of each
+//! clause that was resolved brings its variable to the front, from clause to clause, so that the variables
+//! farthest from the conflict, the inputs among them, are decided first: in a trial outside of this
+//! repository formulas of multipliers then took about half the conflicts.
 //!
-//! Nothing rests on the order: any would do, and a decision looks for an open variable elsewhere where the ring shows none.
+//! No statement depends on the order: any order would do, and a decision looks for an open variable elsewhere
+//! where the ring shows none.
 ghost use Rattle.std.specs.Prelude.{◌≡◌, ◌<◌, ◌≤◌, ◌^◌, IfOk};
 ghost use Rattle.proof_semantics.specs.Clauses.{IsLiteralOf};
 
@@ -19,7 +22,7 @@ use crate::ring::Ring;
 use std::alloc::{AllocError, Global};
 use std::marker::Model;
 
-/// The bits of a noted variable, below those of its stamp.
+/// The number of bits of a noted variable, which stand below those of its stamp.
 const VARIABLE_BITS: u32 = 31;
 
 /// The ring of the variables that are decided, the last value of each, and the variables of a conflict.
@@ -42,7 +45,7 @@ impl Model for Order {
     ghost invariant = { λ o. (0 < length o.values.items) × (o.ring ≤ length o.values.items) };
 }
 
-/// The noted variables come first, that of the last key before the others.
+/// The noted variables come first, the variable with the last key before the others.
 fn move_noted(ring: &mut Ring, noted: &mut Vec<u64>)
     ensures { ring.new ≡ ring.old }
 {
@@ -55,7 +58,8 @@ fn move_noted(ring: &mut Ring, noted: &mut Vec<u64>)
 }
 
 impl Order {
-    /// The variables up to `signals`, or all where that is 0, the last one first, and every one to be true.
+    /// The variables up to `signals`, or all variables where `signals` is 0; the last one comes first, and
+    /// each has the last value true.
     pub fn new(alloc: Global, variables: u32, signals: u32) -> Result<Order, AllocError>
         requires { variables < 2 ^ 31 }
         ensures { IfOk result (λ order. order ≡ variables) }
@@ -100,7 +104,7 @@ impl Order {
         }
     }
 
-    /// The stamp of a variable, or 0 where it is none of those that are decided.
+    /// The stamp of a variable, or 0 where the variable is none of those that are decided.
     pub fn stamp(&self, variable: u32) -> u64 {
         if self.ring.has(variable as usize) {
             self.ring.stamp(variable)
@@ -116,7 +120,7 @@ impl Order {
         self.values[variable as usize]
     }
 
-    /// The literal is no longer true.
+    /// Notes that the literal is no longer true.
     pub fn open(&mut self, literal: Literal)
         requires { IsLiteralOf self.old literal }
         ensures { self.new ≡ self.old }
@@ -133,7 +137,7 @@ impl Order {
         self.keeps_order
     }
 
-    /// The literal's variable, which has a value, comes first.
+    /// Moves the literal's variable, which has a value, to the front.
     pub fn bring(&mut self, literal: Literal)
         ensures { self.new ≡ self.old }
     {
@@ -143,7 +147,7 @@ impl Order {
         }
     }
 
-    /// Takes the memory to note so many variables.
+    /// Takes the memory to note `variables` variables.
     pub fn make_room(&mut self, variables: usize) -> Result<(), AllocError>
         ensures { self.new ≡ self.old }
     {
@@ -161,7 +165,7 @@ impl Order {
         }
     }
 
-    /// The variables that were noted come first, in the order that they have.
+    /// Moves the variables that were noted to the front, where they keep their order.
     pub fn bump(&mut self)
         ensures { self.new ≡ self.old }
     {

@@ -1,7 +1,8 @@
 //! The watches of the clauses that a search begins with.
 //!
-//! Before an entry of the trail is handled, any two different literals of a clause may be watched, also false ones. A clause that
-//! has no other literal, or whose other literals are false, makes its first literal true here.
+//! Before an entry of the trail is handled, any two different literals of a clause may be watched, also false
+//! ones. Of a clause that has no other literal, or whose other literals are false, the first literal is made
+//! true here.
 ghost use Rattle.std.specs.Prelude.{◌≡◌, ◌<◌, [], length, MatchOption, IfOk, OnOk};
 ghost use Rattle.proof_semantics.specs.Clauses.{AreClausesOf};
 ghost use Rattle.cdcl_core.specs.Propagation.{IsExtended, IsConflict};
@@ -50,7 +51,7 @@ fn watch_clause(
     Ok(true)
 }
 
-/// Watches the clauses, and answers one that is false without a decision.
+/// Watches the clauses, and returns a clause that is false without a decision, if there is one.
 pub fn watch_all(
     trail: &mut Trail,
     watches: &mut Watches,

@@ -1,9 +1,11 @@
-//! What a caller knows of the net behind a formula: which variables are inputs and signals, what each table reads, and which signals
-//! may be equal. It guides a search, and nothing rests on it: numbers that fit no variable are left alone.
+//! What a caller knows of the net behind a formula: which variables are inputs and signals, what each table
+//! reads, and which signals may be equal. A guide guides a search, and no statement depends on it: numbers
+//! that fit no variable are ignored.
 use net_parts::items::{Items, Signal, SignalList};
 use std::alloc::Global;
 
-/// A signal, and an earlier one that had the same value at each pattern that was tried, or the opposite one.
+/// A signal, and an earlier one that had the same value at each pattern that was tried, or the opposite value
+/// at each.
 #[derive(Clone, Copy, Drop)]
 pub struct Candidate {
     pub signal: Signal,
@@ -16,11 +18,12 @@ pub struct Candidate {
 pub struct Guide {
     /// How many inputs the net has.
     pub inputs: u32,
-    /// How many signals it has, the inputs first and then the tables; 0 where that is not known, and then each variable is decided.
+    /// The number of signals of the net, the inputs first and then the tables; 0 where this is not known, and
+    /// then each variable is decided.
     pub signals: u32,
     /// The signals that each table reads.
     pub pins: Items<SignalList>,
-    /// The signals of the tables, each after those that it reads.
+    /// The signals of the tables, each behind the signals that its table reads.
     pub order: SignalList,
     /// The pairs that may be equal, or opposite, in the order in which they are tried.
     pub candidates: Items<Candidate>,

@@ -1,8 +1,8 @@
 //! Going back after a conflict.
 //!
-//! The search goes back to the greatest level among the other literals of the learned clause, where they are all false and its
-//! literal of the conflict's level follows. No level between is worth keeping: there the clause would force that literal
-//! already. Source: the jump of GRASP and Chaff.
+//! The search goes back to the greatest level among the other literals of the learned clause. There these are
+//! all false, and the clause's literal of the conflict's level follows. No level between is worth keeping:
+//! the clause would force that literal already there. Source: the jump of GRASP and Chaff.
 ghost use Rattle.std.specs.Prelude.{◌≡◌, ◌⊎◌, ◌<◌, [], ◌∷◌, ◌++◌, length, neg_ℤ, All, OnOk, OnErr};
 ghost use Rattle.proof_semantics.specs.Clauses.{IsLiteralOf};
 ghost use Rattle.cdcl_core.specs.Trail.{literal_at, IsTrueBelow, IsLearned, AreLevels};
@@ -45,14 +45,14 @@ fn last_other(trail: &Trail, clause: &[Literal], own: Literal, start: usize) -> 
     last
 }
 
-/// The number of levels that stay, and the literal that is watched besides the one that follows.
+/// The number of levels that stay, and the literal that is watched besides the literal that follows.
 #[derive(Drop)]
 struct Target {
     level: usize,
     other: Literal,
 }
 
-/// Where a learned clause leads, whose literal of the last level is `own`.
+/// Where a learned clause leads; `own` is its literal of the last level.
 fn jump_target(trail: &Trail, clause: &[Literal], own: Literal) -> Target
     requires levels { 0 < length trail.now.starts }
     requires rising { AreLevels trail.now.literals trail.now.starts }
@@ -73,7 +73,7 @@ fn jump_target(trail: &Trail, clause: &[Literal], own: Literal) -> Target
     }
 }
 
-/// The variables of the entries from a place on are to have no value any more.
+/// Notes that the variables of the entries from a place on are to have no value any more.
 fn open_from(order: &mut Order, trail: &Trail, from: usize)
     requires { order.old ≡ trail.now.variables }
     ensures { order.new ≡ order.old }
@@ -84,8 +84,9 @@ fn open_from(order: &mut Order, trail: &Trail, from: usize)
     }
 }
 
-/// Adds a learned clause, whose literal of the last level stands at `place` and for which there is room; closes the levels that none of its
-/// other literals has; and adds the literal that follows. Its watches alone take memory, before anything changes.
+/// Adds a learned clause, whose literal of the last level stands at `place` and for which there is room;
+/// closes the levels of which none of its other literals is; and adds the literal that follows. Only the
+/// watches take memory, before anything changes.
 pub fn jump(
     trail: &mut Trail,
     watches: &mut Watches,
@@ -124,7 +125,7 @@ pub fn jump(
     Ok(())
 }
 
-/// Closes every level, where that is due: the search goes back to its start.
+/// Closes every level, if `due`: the search goes back to its start.
 pub fn close_levels(search: &mut Search, due: bool)
     requires searching { IsSearching search.old.clauses.list search.old.trail search.old.order }
     requires watching { IsWatching search.old.clauses.list search.old.trail search.old.watches }

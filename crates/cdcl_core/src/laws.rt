@@ -11,7 +11,7 @@ pub fn back()
     ensures { BackLaw }
 {}
 
-/// What the resolved entries explain derives.
+/// The clause of the entries that are left derives, by what the resolved entries explain.
 pub fn derives()
     ensures { DerivesLaw }
 {}

@@ -1,7 +1,7 @@
 //! What the search learns of a conflict, and how its log shows it.
 //!
-//! Each step has the next id, and its hints are the clauses that were resolved, so a checker follows the log by unit propagation
-//! along hints and searches nothing. Source: LRAT.
+//! Each step has the next id, and its hints are the clauses that were resolved. So a checker follows the log
+//! by unit propagation along the hints and searches nothing. Source: LRAT.
 ghost use Rattle.std.specs.Prelude.{◌≡◌, ◌<◌, [], length, OnOk, OnErr};
 ghost use Rattle.cdcl_core.specs.Propagation.{IsConflict};
 ghost use Rattle.cdcl_core.specs.Searched.{IsSearching, HasEnded, HasLearned, IsUnchanged};
@@ -14,7 +14,7 @@ use crate::refutation::refute;
 use crate::search::Search;
 use std::alloc::{AllocError, Global};
 
-/// Where a clause is false without a decision, the log ends with the empty clause.
+/// Ends the log with the empty clause, where a clause is false without a decision.
 pub fn log_refutation(alloc: Global, search: &mut Search, conflict: usize) -> Result<(), AllocError>
     requires searching { IsSearching search.old.clauses.list search.old.trail search.old.order }
     requires conflict { IsConflict search.old.clauses.list search.old.trail conflict }
@@ -46,7 +46,8 @@ pub fn log_refutation(alloc: Global, search: &mut Search, conflict: usize) -> Re
     Ok(())
 }
 
-/// Learns a clause of a conflict, logs it, goes back to where it forces a literal, and answers of how many levels its literals are.
+/// Learns a clause from a conflict, logs it, and goes back to the level where the clause forces a literal.
+/// Returns the number of levels of the clause's literals.
 pub fn learn_from(alloc: Global, search: &mut Search, conflict: usize) -> Result<u64, AllocError>
     requires searching { IsSearching search.old.clauses.list search.old.trail search.old.order }
     requires conflict { IsConflict search.old.clauses.list search.old.trail conflict }

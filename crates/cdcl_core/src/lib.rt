@@ -1,4 +1,4 @@
-//! A solver by clause learning: it satisfies a formula, refutes it, or shows how many conflicts it had.
+//! A solver by clause learning: it satisfies a formula, refutes it, or shows the conflicts that it had.
 #![tactic(auto)]
 
 mod analysis;

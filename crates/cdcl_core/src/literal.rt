@@ -1,6 +1,7 @@
-//! A literal as the solver holds it: a variable from 1 with a sign, in contracts a whole number.
+//! A literal as the solver holds it: a variable from 1 with a sign; in contracts, an integer.
 //!
-//! It is held as the place of its watchers, so that a look at its value or at those costs no arithmetic. Source: MiniSat.
+//! A literal is held as the place of its watchers, so that a look at its value or its watchers costs no
+//! arithmetic. Source: MiniSat.
 ghost use Rattle.std.specs.Prelude.{◌≡◌, ◌<◌, ◌^◌, ◌↔◌, if◌then◌else◌, int_lt, IsTrue, pos, neg_ℤ, nat_abs};
 ghost use Rattle.proof_semantics.specs.Clauses.{IsLiteralOf};
 ghost use Rattle.proof_parts.specs.Literals.{IsLiteral};
@@ -28,7 +29,7 @@ impl Model for Literal {
 }
 
 impl Literal {
-    /// The literal of a formula's or a log's number.
+    /// The literal with this number in a formula or a log.
     pub fn new(code: i32) -> Self
         requires { IsLiteral code }
         ensures { result ≡ code }
@@ -39,7 +40,7 @@ impl Literal {
         }
     }
 
-    /// That the variable has this value.
+    /// The literal that is true where the variable has this value.
     pub fn of(variable: u32, value: bool) -> Self
         requires variable { 0 < variable }
         requires small { variable < 2 ^ 31 }
@@ -51,7 +52,7 @@ impl Literal {
         }
     }
 
-    /// The literal as formulas and logs have it.
+    /// The number of the literal in formulas and logs.
     pub fn code(self) -> i32
         ensures value { result ≡ self }
         ensures formed { IsLiteral result }
@@ -93,7 +94,7 @@ impl Literal {
         self.index == other.index
     }
 
-    /// Where the watchers of the literal are held.
+    /// The place at which the watchers of the literal are held.
     pub fn index(self) -> usize
         ensures { result ≡ index_of self }
     {

@@ -1,8 +1,9 @@
 //! When the search goes back to its start.
 //!
-//! A learned clause of few levels is likely to be used again. Where the last ones are of more levels than those of the whole search, on
-//! average, the decisions are not worth keeping: the search restarts. The averages weigh a clause the less the older it is, in fixed
-//! point with 32 bits behind it. Source: Glucose, with the averages of Biere and Froehlich, which CaDiCaL has.
+//! A learned clause of few levels is likely to be used again. Where the last clauses have more levels on
+//! average than those of the whole search, the decisions are not worth keeping: the search restarts. In the
+//! averages a clause weighs less the older it is; they are fixed-point numbers with 32 bits behind the point.
+//! Source: Glucose, with the averages of Biere and Froehlich, which CaDiCaL has.
 //!
 //! Where nothing is known of a net behind the formula the last clauses have to be of many more levels: in a trial outside of this
 //! repository formulas of multipliers then took hardly more conflicts than without any restart, and large formulas of adders far fewer.

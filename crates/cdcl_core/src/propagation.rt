@@ -1,5 +1,6 @@
-//! Propagation by watched literals: each entry of the trail is handled once, by a visit of the clauses that watch the literal that
-//! it makes false. When all are handled every clause is settled, or one is false. Source: Chaff and MiniSat.
+//! Propagation by watched literals: each entry of the trail is handled once, by a visit of the clauses that
+//! watch the literal that the entry makes false. When all entries are handled, every clause is settled, or
+//! one is false. Source: Chaff and MiniSat.
 ghost use Rattle.std.specs.Prelude.{◌≡◌, IfOk, OnOk};
 ghost use Rattle.proof_semantics.specs.Clauses.{IsLiteralOf};
 ghost use Rattle.cdcl_core.specs.Propagation.{IsExtended};
@@ -13,7 +14,8 @@ use crate::visit::{Visit, visit_watcher};
 use crate::watches::Watches;
 use std::alloc::AllocError;
 
-/// Visits the clauses that watch a literal that became false by the next entry, and answers one that is false.
+/// Visits the clauses that watch the literal that the next entry makes false, and returns a clause that is
+/// false, if there is one.
 fn handle(
     trail: &mut Trail,
     watches: &mut Watches,

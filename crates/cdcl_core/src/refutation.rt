@@ -1,5 +1,5 @@
-//! The empty clause. A conflict without a decision needs no learned clause: every entry follows from the clauses alone, so each
-//! marked one is resolved, and nothing is left.
+//! The empty clause. A conflict without a decision needs no learned clause: every entry follows from the
+//! clauses alone, so each marked entry is resolved, and none is left.
 ghost use Rattle.std.specs.Prelude.{◌≡◌, ℕ, ◌<◌, ◌≤◌, ◌+◌, false, [], length, vec_len, vec_capacity, reverse};
 ghost use Rattle.cdcl_core.specs.Trail.{IsTrail};
 ghost use Rattle.cdcl_core.specs.Explained.{IsExplained};
@@ -14,7 +14,7 @@ use crate::resolution::{mark_conflict, resolve};
 use crate::trail::Trail;
 use crate::trail_marks::Marks;
 
-/// Resolves every marked entry, where there is no decision. There is room for a hint of each entry.
+/// Resolves every marked entry, where there is no decision. There is room for one hint for each entry.
 fn resolve_all(trail: &Trail, clauses: &ClauseList, marks: &mut Marks, hints: &mut Vec<u64>)
     requires marks { length trail.now.literals ≤ length marks.old }
     requires room { vec_len hints.old + length trail.now.literals ≤ vec_capacity hints.old }

@@ -1,4 +1,5 @@
-//! Resolution over the marked entries: each step replaces an entry by those that forced it, and gives a hint.
+//! Resolution over the marked entries: each step replaces an entry by the entries that forced it, and gives a
+//! hint.
 ghost use Rattle.std.specs.Prelude.{◌≡◌, ◌≢◌, ◌⊎◌, ℕ, suc, ◌+◌, ◌<◌, ◌≤◌, true, [], ◌∷◌, length, vec_len, vec_capacity, neg_ℤ, All, reverse};
 ghost use Rattle.cdcl_core.specs.Settled.{IsSettled};
 ghost use Rattle.cdcl_core.specs.Trail.{IsTrueBelow, IsReason};
@@ -43,7 +44,8 @@ pub fn mark_conflict(trail: &Trail, clauses: &ClauseList, marks: &mut Marks, con
     mark_others(trail, marks, clause, true_one, trail.len());
 }
 
-/// Replaces a marked entry by those of the other literals of its reason, which becomes a hint, for which there is room.
+/// Replaces a marked entry by the entries of the other literals of its reason. The reason becomes a hint, for
+/// which there is room.
 pub fn resolve(
     trail: &Trail,
     clauses: &ClauseList,

@@ -1,7 +1,9 @@
-//! The ring in which the variables stand that are decided, the one that was moved to the front last before the others.
+//! The ring of the variables that are decided; the variable that was moved to the front last stands before
+//! the others.
 //!
-//! Each has a stamp, and the stamps fall from the front on. Where the search for an open variable begins is remembered: those before it
-//! have values. So a decision does not begin from the front each time. Source: the queue of CaDiCaL, after Siege.
+//! Each variable has a stamp, and the stamps fall from the front on. The ring remembers where the search for
+//! an open variable begins: the variables before that place have values. So a decision does not begin at the
+//! front each time. Source: the queue of CaDiCaL, after Siege.
 ghost use Rattle.std.specs.Prelude.{◌≡◌, ◌+◌, ◌<◌, ◌^◌, true, length, All, IfOk};
 ghost use Rattle.cdcl_core.specs.Links.{AreLinks};
 
@@ -29,7 +31,7 @@ impl Model for Ring {
     ghost invariant = { λ r. AreLinks r.after.items r.before.items r.stamps.items r.search };
 }
 
-/// The number `last`, and then each number before it.
+/// A list that gives each number the number before it, and 0 the number `last`.
 fn ring_after(alloc: Global, last: u32) -> Result<Vec<u32>, AllocError>
     requires { last < 2 ^ 31 }
     ensures length { IfOk result (λ after. length after.items ≡ last + 1) }
@@ -43,7 +45,7 @@ fn ring_after(alloc: Global, last: u32) -> Result<Vec<u32>, AllocError>
     Ok(after)
 }
 
-/// Each number's next greater one up to `last`, and then 0.
+/// A list that gives each number the next greater one, up to `last`, and then 0.
 fn ring_before(alloc: Global, last: u32) -> Result<Vec<u32>, AllocError>
     requires { last < 2 ^ 31 }
     ensures length { IfOk result (λ before. length before.items ≡ last + 1) }
@@ -57,7 +59,7 @@ fn ring_before(alloc: Global, last: u32) -> Result<Vec<u32>, AllocError>
     Ok(before)
 }
 
-/// Each number is its own stamp.
+/// A list that gives each number itself as its stamp.
 fn first_stamps(alloc: Global, last: u32) -> Result<Vec<u64>, AllocError>
     requires { last < 2 ^ 31 }
     ensures { IfOk result (λ stamps. length stamps.items ≡ last + 1) }
@@ -99,7 +101,7 @@ impl Ring {
         self.search
     }
 
-    /// Those before this number have values.
+    /// Lets the search begin at this number; the numbers before it have values.
     pub fn set_search(&mut self, number: u32)
         requires { number < self.old }
         ensures { self.new ≡ self.old }
@@ -115,14 +117,14 @@ impl Ring {
         self.after[number as usize]
     }
 
-    /// A greater stamp is that of a number nearer to the front.
+    /// The stamp of a number; numbers nearer to the front have greater stamps.
     pub fn stamp(&self, number: u32) -> u64
         requires { number < self.now }
     {
         self.stamps[number as usize]
     }
 
-    /// The number has no value any more.
+    /// Notes that the number has no value any more.
     pub fn open(&mut self, number: u32)
         requires { number < self.old }
         ensures { self.new ≡ self.old }
@@ -132,7 +134,7 @@ impl Ring {
         }
     }
 
-    /// Where the search begins at this number, it begins behind it.
+    /// Where the search begins at this number, lets it begin behind it.
     fn pass(&mut self, number: u32)
         requires { number < self.old }
         ensures { self.new ≡ self.old }
@@ -142,7 +144,7 @@ impl Ring {
         }
     }
 
-    /// The number, which has a value, comes first.
+    /// Moves the number, which has a value, to the front.
     pub fn move_to_front(&mut self, number: u32)
         requires { number < self.old }
         ensures { self.new ≡ self.old }

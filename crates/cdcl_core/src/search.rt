@@ -48,7 +48,8 @@ fn all_clauses(alloc: Global, cnf: &Cnf, log: &Log) -> Result<ClauseList, AllocE
     Ok(clauses)
 }
 
-/// No variable has a value, and the log is `merged`; of the variables those up to `signals` are decided, or all where that is 0.
+/// The search at its start: no variable has a value, and the log is `merged`. The variables up to `signals`
+/// are decided, or all variables where `signals` is 0.
 pub fn start(alloc: Global, cnf: &Cnf, merged: &Log, signals: u32) -> Result<Search, AllocError>
     requires { IsDerivation cnf.now merged.now }
     ensures search { IfOk result (IsSearch cnf.now merged.now 0) }

@@ -1,4 +1,5 @@
-//! The turns of the search: what gives the next conflict, and what follows it. The sweep goes on while it is on, and then the search.
+//! The turns of the search: what finds the next conflict, and what follows it. First the sweep finds
+//! conflicts, and when it is over, the search.
 ghost use Rattle.std.specs.Prelude.{◌≡◌, ℕ, List, MatchOption, IfOk, OnOk};
 ghost use Rattle.proof_semantics.specs.Formula.{Formula};
 ghost use Rattle.proof_semantics.specs.Logs.{LogItem};
@@ -31,7 +32,8 @@ pub enum Turn {
     Full,
 }
 
-/// Decides what the sweep asks for, each time after complete propagation, until a clause is false, or the step of the sweep is over.
+/// Decides what the sweep asks for, each time after complete propagation, until a clause is false or the step
+/// of the sweep is over.
 fn step_conflict(
     trail: &mut Trail,
     watches: &mut Watches,
@@ -119,7 +121,7 @@ fn find_conflict(
     Ok(found)
 }
 
-/// Notes a conflict and the levels of its clause, and answers whether every level is closed now.
+/// Notes a conflict and the number of levels of its clause, and returns whether every level is closed now.
 fn is_back_due(
     sweep: &mut Sweep,
     pace: &mut Pace,
@@ -134,7 +136,7 @@ fn is_back_due(
     Ok(waited || pace.restarts())
 }
 
-/// What follows a conflict, of which a clause of so many levels was learned.
+/// Does what follows a conflict of which a clause of `levels` levels was learned.
 fn follow(
     search: &mut Search,
     sweep: &mut Sweep,
@@ -152,7 +154,7 @@ fn follow(
     Ok(())
 }
 
-/// Searches for the next conflict, and learns a clause of it.
+/// Searches for the next conflict, and learns a clause from it.
 pub fn take_turn(
     alloc: Global,
     search: &mut Search,

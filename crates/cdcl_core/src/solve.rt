@@ -1,7 +1,8 @@
-//! The solver: a turn for each conflict that is allowed.
+//! The solver: one turn for each conflict that is allowed.
 //!
-//! A turn ends, since each decision and each implied literal gives one more variable a value; and the clause that it learns is
-//! new, so after as many turns as are allowed the log shows that so many conflicts were spent.
+//! A turn ends, since each decision and each implied literal gives one more variable a value. The clause that
+//! a turn learns is new, so after as many turns as conflicts are allowed the log shows that this number of
+//! conflicts was spent.
 ghost use Rattle.std.specs.Prelude.{◌≡◌, ℕ, ◌<◌, ◌≤◌, ◌^◌, [], List, IfOk, OnOk};
 ghost use Rattle.proof_semantics.specs.Formula.{Formula};
 ghost use Rattle.proof_semantics.specs.Logs.{IsDerivation, LogItem};
@@ -43,7 +44,7 @@ fn values(alloc: Global, trail: &Trail) -> Result<Bits, AllocError>
     Ok(bits)
 }
 
-/// Turns until the formula is decided, or until so many clauses were learned.
+/// Takes turns until the formula is decided, or until `limit` clauses were learned.
 fn take_turns<P: Progress>(
     alloc: Global,
     search: &mut Search,
@@ -108,7 +109,8 @@ fn answer(alloc: Global, search: Search, end: Turn) -> Result<Answer, AllocError
     }
 }
 
-/// The same as `solve`, with a guide, on which nothing rests, and with one who is told of each conflict.
+/// Solves a formula as [`solve`] does, with a guide, on which no statement depends, and tells `progress` each
+/// conflict.
 pub fn solve_guided<P: Progress>(
     alloc: Global,
     cnf: &Cnf,

@@ -1,7 +1,8 @@
 //! The log of a search, whose last step may still lie in the lists in which the analysis made it.
 //!
-//! Those lists have room to spare, and were there before the analysis. So a step that is logged takes no memory. It is packed into lists of
-//! exact size, for which memory is taken, before the next conflict is analysed, or at the end.
+//! These lists have room to spare, and were made before the analysis, so a step that is logged takes no
+//! memory. The step is packed into lists of exact size, for which memory is taken, before the next conflict
+//! is analysed, or at the end.
 ghost use Rattle.std.specs.Prelude.{◌≡◌, true, false, ◌∷◌, ◌++◌, [], reverse, IfOk, OnOk};
 ghost use Rattle.proof_semantics.specs.declared.item.Item.TheVariants.{Add};
 
@@ -13,7 +14,7 @@ use std::alloc::{AllocError, Global};
 use std::marker::Model;
 use std::mem;
 
-/// The packed steps, and the parts of one that is held.
+/// The packed steps, and the parts of a step that is held, if there is one.
 #[derive(Drop)]
 pub struct StepLog {
     packed: Log,
@@ -49,7 +50,7 @@ fn packed_step(
 }
 
 impl StepLog {
-    /// The steps of a log. It takes no memory.
+    /// The steps of a log. The call takes no memory.
     pub fn new(alloc: Global, packed: Log) -> StepLog
         ensures { result ≡ record { items = packed; is_packed = true } }
     {
@@ -62,7 +63,7 @@ impl StepLog {
         }
     }
 
-    /// The last step lies in lists of exact size then.
+    /// Packs the last step, so that it lies in lists of exact size.
     pub fn pack(&mut self, alloc: Global) -> Result<(), AllocError>
         ensures items { self.new.items ≡ self.old.items }
         ensures packed { OnOk result (self.new.is_packed ≡ true) }
@@ -75,7 +76,8 @@ impl StepLog {
         Ok(())
     }
 
-    /// Logs the step of what was learned, whose hints are given the last one first, and gives lists in exchange. It takes no memory.
+    /// Logs the step of what was learned, the last of whose hints stands first, and gives lists in exchange.
+    /// The call takes no memory.
     pub fn hold(&mut self, id: u64, learned: &mut Learned)
         requires { self.old.is_packed ≡ true }
         ensures { self.new ≡ record {

@@ -1,9 +1,11 @@
-//! The sweep: before the search, pairs of signals that may be equal are shown to be so, one after another.
+//! The sweep: before the search, signals that may be equal are shown to be equal, pair after pair.
 //!
-//! Two decisions say that a pair differs, and the ordinary search goes on from there, deciding signals alone that the two depend on. What is
-//! learned of its conflicts stays: where the pair is equal, in the end one decision rules the other out. The other order of the two is tried
-//! then, and both again with the values turned over. Where the two can differ as far as what they depend on is concerned, or where too many
-//! conflicts were spent, the pair is given up. Nothing is added but what was learned of a conflict. Source: SAT sweeping, as in fraigs.
+//! Two decisions say that the signals of a pair differ. The ordinary search goes on from there, and decides
+//! only signals on which the two depend. What is learned from its conflicts stays: where the signals are
+//! equal, in the end one decision rules the other out. Then the two decisions are tried in the other order,
+//! and both orders with the values turned over. Where the two can differ as far as the signals on which they
+//! depend are concerned, or where too many conflicts were spent, the pair is given up. Only clauses that were
+//! learned from a conflict are added. Source: SAT sweeping, as in fraigs.
 ghost use Rattle.std.specs.Prelude.{◌≡◌, ◌<◌, ◌^◌, IfSome};
 ghost use Rattle.proof_semantics.specs.Clauses.{IsLiteralOf};
 ghost use Rattle.cdcl_core.specs.Decided.{IsDecision};
@@ -17,7 +19,8 @@ use crate::trail::Trail;
 use net_parts::items::Signal;
 use std::alloc::{AllocError, Global};
 
-/// The conflicts that a pair may cost in each direction, and where its table reads a signal that is in doubt.
+/// The most conflicts of a pair in each direction; and the most where its table reads a signal that is in
+/// doubt.
 const CONFLICTS: u64 = 50;
 
 const DOUBTFUL_CONFLICTS: u64 = 5;
@@ -25,11 +28,12 @@ const DOUBTFUL_CONFLICTS: u64 = 5;
 /// The conflicts before the sweep, where the search goes first.
 const FIRST_CONFLICTS: u64 = 100;
 
-/// Each pair has so many steps: two directions in two orders.
+/// The number of steps for each pair: two directions in two orders.
 const STEPS: usize = 4;
 
-/// The step, the conflicts before the sweep, those of this direction, how many it may have, and how many all may, the place in the order of
-/// the tables, and the signals of which it is in doubt that they are equal to an earlier one.
+/// The step; the conflicts before the sweep; the conflicts of this direction, the most that it may have, and
+/// the most that all directions may have; the place in the order of the tables; and the signals that are in
+/// doubt, since it is not known whether they equal an earlier one.
 #[derive(Drop)]
 pub struct Sweep {
     step: usize,
@@ -54,7 +58,7 @@ fn of_signal(signal: Signal, value: bool, variables: u32) -> Option<Literal>
     }
 }
 
-/// An open literal of the first of the two that is not true.
+/// The first of the two literals that is not true, if it is open.
 fn first_open(trail: &Trail, one: Literal, other: Literal) -> Option<Literal>
     requires one { IsLiteralOf trail.now.variables one }
     requires other { IsLiteralOf trail.now.variables other }
@@ -77,7 +81,7 @@ fn reads_doubtful(doubtful: &[bool], pins: &[Signal]) -> bool {
     false
 }
 
-/// Sets whether a signal is in doubt.
+/// Notes whether a signal is in doubt.
 fn set_doubtful(doubtful: &mut Vec<bool>, signal: Signal, doubt: bool) {
     let at = signal as usize;
     if at < doubtful.len() {
@@ -85,7 +89,8 @@ fn set_doubtful(doubtful: &mut Vec<bool>, signal: Signal, doubt: bool) {
     }
 }
 
-/// From a place in the order of the tables to a signal: what reads a signal in doubt is in doubt. Answers the place behind.
+/// Goes through the order of the tables from a place to a signal: a table that reads a signal in doubt is in
+/// doubt. Returns the place behind.
 fn spread_doubt(doubtful: &mut Vec<bool>, guide: &Guide, from: usize, until: Signal) -> usize {
     for at in from..guide.order.len() {
         let signal = *guide.order.get(at);
@@ -99,7 +104,7 @@ fn spread_doubt(doubtful: &mut Vec<bool>, guide: &Guide, from: usize, until: Sig
 }
 
 impl Sweep {
-    /// A sweep over the guide's pairs, with a quarter of so many conflicts.
+    /// A sweep over the guide's pairs, with a quarter of `limit` conflicts.
     pub fn new(alloc: Global, guide: &Guide, limit: u64) -> Result<Sweep, AllocError> {
         let mut sweep = Sweep {
             step: 0,
@@ -134,12 +139,12 @@ impl Sweep {
         self.waits == 0 && self.left > 0 && self.step / STEPS < guide.candidates.len()
     }
 
-    /// How many steps there are.
+    /// The number of steps.
     pub fn steps(&self, guide: &Guide) -> usize {
         guide.candidates.len().saturating_mul(STEPS)
     }
 
-    /// The first step of a pair.
+    /// Begins the first step of a pair.
     fn begin(&mut self, guide: &Guide) -> Result<(), AllocError> {
         self.spent = 0;
         let Some(
@@ -158,7 +163,7 @@ impl Sweep {
         self.cone.set(guide, signal, earlier)
     }
 
-    /// The pair is done with; it may be in doubt.
+    /// Ends a pair, whose signal may be in doubt.
     fn end_pair(&mut self, guide: &Guide, doubt: bool) -> Result<(), AllocError> {
         if let Some(Candidate { signal, .. }) = self.candidate(guide) {
             set_doubtful(&mut self.doubtful, signal, doubt);
@@ -167,7 +172,7 @@ impl Sweep {
         self.begin(guide)
     }
 
-    /// The next step, where one decision of this step rules the other out; else the pair is given up.
+    /// Goes on to the next step where one decision of this step rules the other out; else gives the pair up.
     pub fn go_on(&mut self, guide: &Guide, ruled_out: bool) -> Result<(), AllocError> {
         if !ruled_out || self.step % STEPS == STEPS - 1 {
             return self.end_pair(guide, !ruled_out);
@@ -199,7 +204,8 @@ impl Sweep {
         }
     }
 
-    /// What is decided next, so that the pair differs; None where one of the two is false, or the cone has values.
+    /// What is decided next, so that the signals of the pair differ; None where one of the two literals is
+    /// false, or all signals of the cone have values.
     pub fn decide(&self, trail: &Trail, order: &Order, guide: &Guide) -> Option<Literal>
         requires small { trail.now.variables < 2 ^ 31 }
         requires variables { order.now ≡ trail.now.variables }
@@ -218,7 +224,7 @@ impl Sweep {
         }
     }
 
-    /// Whether the pair cannot differ as far as the entries go.
+    /// Whether the entries rule out that the signals of the pair differ.
     pub fn is_ruled_out(&self, trail: &Trail, guide: &Guide) -> bool
         requires { trail.now.variables < 2 ^ 31 }
     {
@@ -228,7 +234,7 @@ impl Sweep {
         }
     }
 
-    /// Counts a conflict, and answers whether what was decided is given up.
+    /// Counts a conflict, and returns whether the decisions are given up.
     pub fn count(&mut self, guide: &Guide) -> Result<bool, AllocError> {
         if self.waits > 0 {
             self.waits -= 1;

@@ -1,9 +1,9 @@
 //! The trail: the literals that are true, in the order in which they became so, with the reason of each.
 //!
-//! A table tells of each literal whether it is true, so that this costs one look; going back touches the literals that are true no more.
-//! A variable that has a value has the place where it stands in the trail. A level is its start, the place of its decision: no levels
-//! are stored, and a literal is of a level or below it by its place. Source: the trail and the implication graph of GRASP, as MiniSat
-//! holds them.
+//! A table says of each literal whether it is true, so that this costs one look; going back touches only the
+//! literals that are no longer true. A variable that has a value has its place in the trail. A level is its
+//! start, the place of its decision: no levels are stored, and the place of a literal says of which level it
+//! is. Source: the trail and the implication graph of GRASP, as MiniSat holds them.
 ghost use Rattle.std.specs.Prelude.{◌≡◌, ℕ, ◌+◌, ◌-◌, ◌<◌, ◌≤◌, ◌⊎◌, ◌↔◌, true, false, IsTrue, All, ◌^◌, neg_ℤ, take, slice_index_or, [], ◌∷◌, ◌++◌, IfOk, OnOk, OnErr, length};
 ghost use Rattle.proof_semantics.specs.Clauses.{IsLiteralOf};
 ghost use Rattle.cdcl_core.specs.Placed.{AreTold};
@@ -15,7 +15,8 @@ use crate::literal::Literal;
 use std::alloc::{AllocError, Global};
 use std::marker::Model;
 
-/// The literals that hold, in the order in which they came to hold, each with its reason, and where each level starts.
+/// The true literals, in the order in which they became true, each with its reason, and the start of each
+/// level.
 #[derive(Drop)]
 pub struct Trail {
     literals: Vec<Literal>,
@@ -41,7 +42,7 @@ impl Model for Trail {
     ghost invariant = { λ t. HasPlaces t.places.items t.told.items t.literals.items (length t.reasons.items) (vec_capacity t.literals) (vec_capacity t.reasons) };
 }
 
-/// The literals of the entries from `start` on are told to be true no more.
+/// Notes in the table that the literals of the entries from `start` on are true no more.
 fn untell(told: &mut Vec<bool>, literals: &[Literal], start: usize)
     requires told { AreTold told.old.items literals.now }
     requires consistent { IsConsistent literals.now }
@@ -56,7 +57,7 @@ fn untell(told: &mut Vec<bool>, literals: &[Literal], start: usize)
 }
 
 impl Trail {
-    /// No variable of so many has a value.
+    /// The trail without entries, over `variables` variables.
     pub fn new(alloc: Global, variables: u32) -> Result<Trail, AllocError>
         requires { variables < 2 ^ 31 }
         ensures { IfOk result
@@ -71,7 +72,7 @@ impl Trail {
         })
     }
 
-    /// Whether the literal holds.
+    /// Whether the literal is true.
     pub fn is_true(&self, literal: Literal) -> bool
         requires { IsLiteralOf self.now.variables literal }
         ensures { IsTrue result ↔ Holds self.now.literals literal }
@@ -79,7 +80,7 @@ impl Trail {
         self.told[literal.index()]
     }
 
-    /// Whether the literal's negation holds.
+    /// Whether the literal's negation is true.
     pub fn is_false(&self, literal: Literal) -> bool
         requires { IsLiteralOf self.now.variables literal }
         ensures { IsTrue result ↔ Holds self.now.literals (neg_ℤ literal) }
@@ -104,7 +105,8 @@ impl Trail {
         (self.places.len() - 1) as u32
     }
 
-    /// Shows what its type holds: no variable stands twice in the trail, each is one of the variables, so there are few entries.
+    /// Shows what the type holds: no variable stands twice in the trail, and each is below the number of
+    /// variables, so there are few entries.
     pub fn consistent(&self)
         ensures consistent { IsConsistent self.now.literals }
         ensures literals { All (IsLiteralOf self.now.variables) self.now.literals }
@@ -137,7 +139,7 @@ impl Trail {
         self.reasons[i]
     }
 
-    /// The entry by which a literal is false.
+    /// The place of the entry that makes a literal false.
     pub fn place(&self, literal: Literal) -> usize
         requires { Holds self.now.literals (neg_ℤ literal) }
         ensures within { result < length self.now.literals }
@@ -161,7 +163,7 @@ impl Trail {
         self.starts[level]
     }
 
-    /// How many levels open no later than an entry.
+    /// The number of levels that open no later than an entry.
     pub fn levels_until(&self, place: usize) -> usize
         requires { AreLevels self.now.literals self.now.starts }
         ensures within { result ≤ length self.now.starts }
@@ -175,7 +177,7 @@ impl Trail {
         level
     }
 
-    /// A literal that follows by a reason. It takes no memory.
+    /// Adds a literal that follows by a reason. The call takes no memory.
     pub fn push_implied(&mut self, literal: Literal, reason: usize)
         requires literal { IsLiteralOf self.old.variables literal }
         requires open { IsOpen (Holds self.old.literals) literal }
@@ -190,7 +192,7 @@ impl Trail {
         self.reasons.push_reserved(Some(reason));
     }
 
-    /// A literal that is decided, which opens a level.
+    /// Adds a literal that is decided, which opens a level.
     pub fn push_decision(&mut self, literal: Literal) -> Result<(), AllocError>
         requires literal { IsLiteralOf self.old.variables literal }
         requires open { IsOpen (Holds self.old.literals) literal }

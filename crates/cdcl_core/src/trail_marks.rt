@@ -1,7 +1,8 @@
-//! Marks on the entries of the trail: what analysis has not replaced yet.
+//! Marks on the entries of the trail, for what the analysis has not replaced yet.
 //!
-//! The places that were marked are listed, so that clearing the marks and gathering a clause touch these alone and not the whole
-//! trail. Each is listed once, so there is room for all from the start, and marking takes no memory.
+//! The places that were marked are listed, so that clearing the marks and gathering a clause touch only these
+//! and not the whole trail. Each place is listed once, so there is room for all from the start, and marking
+//! takes no memory.
 ghost use Rattle.std.specs.Prelude.{◌≡◌, ℕ, ◌+◌, ◌<◌, ◌≤◌, [], true, false, length, slice_set, max, All, vec_len, vec_capacity, IfSome, IsNone, OnOk};
 ghost use Rattle.cdcl_core.specs.Analysis.{mark_at, IsClauseOf, IsHighest};
 ghost use Rattle.cdcl_core.specs.Touched.{AreTouched, AreListed};
@@ -11,7 +12,8 @@ use crate::trail::Trail;
 use std::alloc::{AllocError, Global};
 use std::marker::Model;
 
-/// Marks by place, whether a place is listed, the places that were marked since the marks were cleared, and a sorted part of these.
+/// Marks by place; whether a place is listed; the places that were marked since the marks were cleared; and a
+/// sorted part of these places.
 #[derive(Drop)]
 pub struct Marks {
     on: Vec<bool>,
@@ -42,7 +44,8 @@ fn unset_places(places: &mut Vec<bool>, touched: &[usize])
     }
 }
 
-/// So many places at least in both, of which none is set where none was; or as many as before, where there is no memory.
+/// Grows both lists to at least `entries` places, none of which is set where none was. Where memory is
+/// wanting, each has as many places as before.
 fn grow_places(on: &mut Vec<bool>, listed: &mut Vec<bool>, entries: usize) -> Result<(), AllocError>
     requires same { length listed.old.items ≡ length on.old.items }
     requires none { (p : ℕ) → mark_at on.old.items p ≡ false }
@@ -79,7 +82,7 @@ fn gather_marked(on: &[bool], touched: &[usize], low: usize, high: usize, gather
 }
 
 impl Marks {
-    /// No place.
+    /// The marks of no place.
     pub fn new(alloc: Global) -> Marks
         ensures { result ≡ [] }
     {
@@ -91,7 +94,8 @@ impl Marks {
         }
     }
 
-    /// No mark is left, and so many entries have places; or as many as before, where there is no memory.
+    /// Takes all marks away, and makes `entries` entries have places. Where memory is wanting, as many
+    /// entries have places as before.
     pub fn make_room(&mut self, entries: usize) -> Result<(), AllocError>
         ensures none { (p : ℕ) → mark_at self.new p ≡ false }
         ensures room { OnOk result (entries ≤ length self.new) }
@@ -133,7 +137,7 @@ impl Marks {
         self.on[place] = false;
     }
 
-    /// The last marked place from `low` to below `high`, where `low` is marked.
+    /// The last marked place from `low` to below `high`; `low` is marked.
     pub fn highest(&self, low: usize, high: usize) -> usize
         requires order { low < high }
         requires within { high ≤ length self.now }
@@ -147,7 +151,7 @@ impl Marks {
         place
     }
 
-    /// Whether a place from `low` to below `high` is marked, and the last.
+    /// The last marked place from `low` to below `high`, if there is one.
     pub fn find_highest(&self, low: usize, high: usize) -> Option<usize>
         requires order { low ≤ high }
         requires within { high ≤ length self.now }
@@ -185,7 +189,7 @@ impl Marks {
         }
     }
 
-    /// Sorts the marked places from `low` to below `high`, and answers how many there are.
+    /// Sorts the marked places from `low` to below `high`, and returns their number.
     pub fn sort(&mut self, low: usize, high: usize) -> usize
         ensures { self.new ≡ self.old }
     {

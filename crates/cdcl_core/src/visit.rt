@@ -1,6 +1,8 @@
-//! A visit of a clause that watches a literal which became false: the clause is true, or another of its literals is watched, or
-//! the other one that it watches follows, or it is false. The blocker may show that it is true before it is looked at, and of a clause of
-//! two literals the watcher tells all. Source: Chaff; the blockers are MiniSat's, and the watchers of two literals those of Glucose.
+//! A visit of a clause that watches a literal which became false. It finds that the clause is true, or
+//! another of its literals is watched, or the other watched literal follows, or the clause is false. The
+//! blocker may show that the clause is true before the clause is looked at, and the watcher of a clause of
+//! two literals tells the whole clause. Source: Chaff; the blockers are MiniSat's, and the watchers of two
+//! literals those of Glucose.
 ghost use Rattle.std.specs.Prelude.{◌≡◌, ◌<◌, false, length, All, IfOk, OnOk, IfSome, IsNone};
 ghost use Rattle.proof_semantics.specs.Clauses.{IsLiteralOf};
 ghost use Rattle.cdcl_core.specs.Explained.{Holds};
@@ -18,15 +20,15 @@ use std::alloc::AllocError;
 /// What became of a watcher.
 #[derive(Drop)]
 pub enum Visit {
-    /// It stays.
+    /// The watcher stays.
     Next,
-    /// It was taken out, and another one stands in its place.
+    /// The watcher was taken out, and another one stands in its place.
     Again,
-    /// Its clause is false.
+    /// The watcher's clause is false.
     Conflict(usize),
 }
 
-/// A literal that may be watched, and its place, on which nothing rests.
+/// A literal that may be watched, and its place, on which no statement depends.
 #[derive(Clone, Copy, Drop)]
 struct Free {
     literal: Literal,
@@ -64,7 +66,8 @@ pub fn other_watch(trail: &Trail, clause: &[Literal], first: Literal) -> Option<
     }
 }
 
-/// The same from a place on, or else before it.
+/// The first literal, from place `from` on and then before it, that is not false and is not `first`, and its
+/// place in the clause.
 fn find_watch(trail: &Trail, clause: &[Literal], first: Literal, from: usize) -> Option<Free>
     requires { All (IsLiteralOf trail.now.variables) clause.now }
     ensures some { IfSome result (λ free. IsOtherWatch trail.now.literals clause.now first free.literal) }
@@ -81,7 +84,7 @@ fn find_watch(trail: &Trail, clause: &[Literal], first: Literal, from: usize) ->
     }
 }
 
-/// What the clause watches besides `literal`, if it watches that one.
+/// The other literal that the clause watches, if it watches `literal`.
 fn partner(pair: Pair, literal: Literal) -> Option<Literal>
     ensures some { IfSome result (IsPartner pair literal) }
     ensures none { IsNone result → IsOneOf pair literal → ⊥ }
@@ -95,7 +98,8 @@ fn partner(pair: Pair, literal: Literal) -> Option<Literal>
     }
 }
 
-/// Makes a literal true by a clause whose other literals are false, or tells that the clause is false.
+/// Makes the literal `first` true by a clause whose other literals are false, or finds that the clause is
+/// false.
 fn follow(trail: &mut Trail, clause: usize, first: Literal) -> Visit
     requires literal { IsLiteralOf trail.old.variables first }
     requires not_true { Holds trail.old.literals first → ⊥ }
@@ -108,7 +112,7 @@ fn follow(trail: &mut Trail, clause: usize, first: Literal) -> Visit
     Visit::Next
 }
 
-/// A watcher of a clause that is not known to have but two literals.
+/// The watcher of a clause that is not known to have only two literals.
 fn long_watch(clause: usize, blocker: Literal) -> Watch
     ensures { result ≡ record { clause = clause; blocker = blocker; binary = false } }
 {
@@ -119,8 +123,8 @@ fn long_watch(clause: usize, blocker: Literal) -> Watch
     }
 }
 
-/// A visit of a clause that watches `x` and `first`. Where `first` is true it becomes the blocker: it is likely to be true again when `x`
-/// is false.
+/// Visits a clause that watches `x` and `first`. Where `first` is true it becomes the blocker: it is likely
+/// to be true again when `x` is false.
 fn visit_clause(
     trail: &mut Trail,
     watches: &mut Watches,
@@ -163,7 +167,7 @@ fn visit_clause(
     }
 }
 
-/// A visit of the clause of the watcher at `at` of a literal that became false by the next entry.
+/// Visits the clause of watcher `at` of the literal that the next entry makes false.
 pub fn visit_watcher(
     trail: &mut Trail,
     watches: &mut Watches,

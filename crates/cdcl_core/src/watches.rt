@@ -1,8 +1,9 @@
-//! The watches: for each literal the clauses that watch it, for each clause the two literals that it watches, and how many entries
-//! of the trail have been handled.
+//! The watches: for each literal the clauses that watch it; for each clause the two literals that it watches;
+//! and the number of entries of the trail that have been handled.
 //!
-//! The literals of a clause keep their places, since the log speaks of them; so the two that are watched stand beside the clause.
-//! A watcher may be stale: its clause watches the literal no more. A visit takes it out. Source: Chaff; the blockers are MiniSat's.
+//! The literals of a clause keep their places, since the log names them in order; so the two that are watched
+//! stand beside the clause. A watcher may be stale, where its clause watches the literal no more; a visit
+//! takes such a watcher out. Source: Chaff; the blockers are MiniSat's.
 ghost use Rattle.std.specs.Prelude.{◌≡◌, ℕ, ◌<◌, ◌^◌, [], ◌∷◌, ◌++◌, length, map, replicate, slice_index_or, slice_set, IfOk, OnOk, OnErr};
 ghost use Rattle.std.specs.List.{swap_remove};
 ghost use Rattle.cdcl_core.specs.Watched.{index_of};
@@ -13,12 +14,13 @@ use crate::literal::Literal;
 use std::alloc::{AllocError, Global};
 use std::marker::Model;
 
-/// A clause that watches a literal, and one of its literals that may show that it is true.
+/// A clause that watches a literal, and one of the clause's literals, the blocker, which may show that the
+/// clause is true.
 #[derive(Clone, Copy, Drop)]
 pub struct Watch {
     pub clause: usize,
     pub blocker: Literal,
-    /// The clause is known to have no literals but the one that it watches here and the blocker.
+    /// The clause is known to have no literals but the watched one and the blocker.
     pub binary: bool,
 }
 
@@ -29,8 +31,8 @@ pub struct Pair {
     pub other: Literal,
 }
 
-/// The watchers of each literal, what each clause watches, the place in it where the last of these was found, and how many entries have
-/// been handled.
+/// The watchers of each literal; the pair of literals that each clause watches; the place in each clause
+/// where the last literal to watch was found; and the number of entries that have been handled.
 #[derive(Drop)]
 pub struct Watches {
     lists: Vec<Vec<Watch>>,
@@ -48,7 +50,7 @@ impl Model for Watches {
     ghost view = { λ w. record { lists = map (λ v. v.items) w.lists.items; pairs = w.pairs.items; handled = w.handled } };
 }
 
-/// So many empty lists.
+/// `lists` empty lists.
 fn no_watchers(alloc: Global, lists: usize) -> Result<Vec<Vec<Watch>>, AllocError>
     ensures { IfOk result (λ made. map (λ v. v.items) made.items ≡ replicate lists []) }
 {
@@ -59,7 +61,7 @@ fn no_watchers(alloc: Global, lists: usize) -> Result<Vec<Vec<Watch>>, AllocErro
     Ok(made)
 }
 
-/// Makes room for two watchers more in a list.
+/// Makes room for two more watchers in a list.
 fn make_room(lists: &mut Vec<Vec<Watch>>, at: usize) -> Result<(), AllocError>
     requires { at < length lists.old.items }
     ensures items { map (λ v. v.items) lists.new.items ≡ map (λ v. v.items) lists.old.items }
@@ -69,7 +71,7 @@ fn make_room(lists: &mut Vec<Vec<Watch>>, at: usize) -> Result<(), AllocError>
     lists[at].reserve(2)
 }
 
-/// One watcher more in a list that has room for it.
+/// Adds a watcher to a list that has room for it.
 fn push_reserved(lists: &mut Vec<Vec<Watch>>, at: usize, watch: Watch)
     requires within { at < length lists.old.items }
     requires room { HasRoomAt lists.old.items 1 at }
@@ -80,7 +82,7 @@ fn push_reserved(lists: &mut Vec<Vec<Watch>>, at: usize, watch: Watch)
     lists[at].push_reserved(watch);
 }
 
-/// For a clause that has no such place yet it is the first.
+/// Sets the found place of a clause that has none yet to its first place.
 fn add_found(found: &mut Vec<u32>, clause: usize) -> Result<(), AllocError> {
     if found.len() <= clause {
         found.push(0)?;
@@ -119,7 +121,7 @@ impl Watches {
         self.lists[literal.index()][at]
     }
 
-    /// One watcher more.
+    /// Adds a watcher.
     pub fn push(&mut self, literal: Literal, watch: Watch) -> Result<(), AllocError>
         requires { index_of literal < length self.old.lists }
         ensures { OnOk result (self.new ≡ record self.old { lists = lists_with self.old.lists literal watch }) }
@@ -140,7 +142,7 @@ impl Watches {
         self.lists[literal.index()].swap_remove(at);
     }
 
-    /// Another watcher in the place of one.
+    /// Puts another watcher in the place of one.
     pub fn set(&mut self, literal: Literal, at: usize, watch: Watch)
         requires literal { index_of literal < length self.old.lists }
         requires at { at < length (list_at self.old.lists literal) }
@@ -159,7 +161,7 @@ impl Watches {
         self.pairs[clause]
     }
 
-    /// The clause watches these two.
+    /// Sets the two literals that a clause watches.
     pub fn set_pair(&mut self, clause: usize, pair: Pair)
         requires { clause < length self.old.pairs }
         ensures { self.new ≡ record self.old { pairs = slice_set self.old.pairs clause pair } }
@@ -167,8 +169,8 @@ impl Watches {
         self.pairs[clause] = pair;
     }
 
-    /// The place in a clause where the last literal to watch was found. The next one is searched for from there on, so that those that are
-    /// often false are left behind. Nothing rests on it.
+    /// The place in a clause where the last literal to watch was found. The search for the next one begins
+    /// there, so that literals that are often false are left behind. No statement depends on this place.
     pub fn found(&self, clause: usize) -> usize {
         match self.found.get(clause) {
             Some(place) => *place as usize,
@@ -176,7 +178,7 @@ impl Watches {
         }
     }
 
-    /// A literal to watch was found at this place.
+    /// Notes the place at which a literal to watch was found.
     pub fn set_found(&mut self, clause: usize, place: usize)
         ensures { self.new ≡ self.old }
     {
@@ -185,7 +187,8 @@ impl Watches {
         }
     }
 
-    /// The next clause watches these two; `binary`: it has no others. The memory is taken before anything changes.
+    /// Lets the next clause watch these two literals; `binary` says that it has no others. The memory is
+    /// taken before anything changes.
     pub fn add(&mut self, one: Literal, other: Literal, binary: bool) -> Result<(), AllocError>
         requires one { index_of one < length self.old.lists }
         requires other { index_of other < length self.old.lists }
@@ -220,7 +223,7 @@ impl Watches {
         self.handled
     }
 
-    /// So many entries of the trail have been handled.
+    /// Notes that `handled` entries of the trail have been handled.
     pub fn set_handled(&mut self, handled: usize)
         ensures { self.new ≡ record self.old { handled = handled } }
     {

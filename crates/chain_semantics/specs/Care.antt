@@ -8,7 +8,8 @@ use Rattle.chain_semantics.specs.declared.moves.Move.{Move}
 use Rattle.chain_semantics.specs.Moves.{table_of, moved_table, moved}
 use Rattle.chain_semantics.specs.Flips.{flipped_outputs}
 
--- with the opposite of table t's value the error at x exceeds the bound; where it does not, x is an approximation don't-care of t
+-- where table t has the opposite of its value, the error at x exceeds the bound; where the error does not, x
+-- is an approximation don't-care of t
 abbrev pub IsCaredFor : Metric → NetValue → ℕ → NetValue → ℕ → List Bool → Type 0
 IsCaredFor metric exact bound N t x = bound < error_of metric (outputs_of exact x) (flipped_outputs N x t)
 

@@ -11,13 +11,13 @@ pub record IsFirstAllowed {M : Type 0} (Allowed : M → Type 0) (moves : List M)
   pub none_before : AllByRecursion (λ m. ¬ Allowed m) before
   pub allowed : Allowed move
 
--- the member after a state is what the step makes of its first allowed move
+-- the member after a state is what `Step` makes of the state and its first allowed move
 pub data IsInChain {S M : Type 0} (moves : S → List M) (Allowed : S → M → Type 0) (Step : S → M → S → Type 0) (start : S) : S → Type 0 where
   first : IsInChain moves Allowed Step start start
   next : (s t : S) (move : M) → IsInChain moves Allowed Step start s → IsFirstAllowed (Allowed s) (moves s) move → Step s move t
       → IsInChain moves Allowed Step start t
 
--- how many steps lead from the start to a member
+-- the number of steps from the start to a member
 abbrev pub step_count : {S M : Type 0} {moves : S → List M} {Allowed : S → M → Type 0} {Step : S → M → S → Type 0} {start : S} (s : S) → IsInChain moves Allowed Step start s → ℕ
 step_count start first = 0
 step_count end (next s t move h f step) = suc (step_count s h)

@@ -7,11 +7,11 @@ use Rattle.chain_semantics.specs.declared.moves.Move.{Move}
 use Rattle.chain_semantics.specs.Moves.{moves_of}
 use Rattle.chain_semantics.specs.Care.{IsBrokenAt}
 
--- at some of the vectors the moved net exceeds the bound
+-- at one or more of the vectors the moved net exceeds the bound
 abbrev pub IsBrokenBySome : Metric → NetValue → ℕ → NetValue → List (List Bool) → Move → Type 0
 IsBrokenBySome metric exact bound N vectors move = (x : List Bool) × Contains vectors x × IsBrokenAt metric exact bound N move x
 
--- some of the vectors breaks each of these moves of the net
+-- each of these moves of the net is broken by some of the vectors
 abbrev pub AreBrokenBySome : Metric → NetValue → ℕ → NetValue → List (List Bool) → List Move → Type 0
 AreBrokenBySome metric exact bound N vectors = AllByRecursion (IsBrokenBySome metric exact bound N vectors)
 

@@ -53,7 +53,8 @@ pub record MoveExamples : Type 0 where
   pub copied : moved half_adder (Signal 0 3 false) ≡ with_sum (3 ∷ []) ((One ∷ []) ∷ [])
   pub copied_flipped : moved half_adder (Signal 0 3 true) ≡ with_sum (3 ∷ []) ((Zero ∷ []) ∷ [])
 
--- the reader of a flipped table is evaluated again; where the sum is flipped the half adder errs by 1 everywhere, and where the carry is, by 2
+-- The reader of a flipped table is evaluated again. Where the sum is flipped, the half adder errs by 1 at
+-- every input, and where the carry is flipped, by 2.
 pub record FlipExamples : Type 0 where
   pub values : outputs_of out_of_order (false ∷ []) ≡ false ∷ true ∷ false ∷ []
   pub reader_flipped : flipped_outputs out_of_order (false ∷ []) 0 ≡ true ∷ true ∷ false ∷ []

@@ -25,7 +25,7 @@ pub record AreInOrder (signals : List ℕ) (s u : ℕ) : Type 0 where
   pub is_first : slice_index signals first ≡ s
   pub is_second : slice_index signals second ≡ u
 
--- when a net has a move
+-- the condition under which a net has the move
 abbrev pub IsMoveOf : NetValue → Move → Type 0
 IsMoveOf N (Const t value) = (t < table_count N) × (0 < table_literals (table_at N.tables t))
 IsMoveOf N (DropRow t row) = (t < table_count N) × (1 < length (table_at N.tables t).rows) × (row < length (table_at N.tables t).rows)
@@ -36,7 +36,8 @@ IsMoveOf N (Signal t s flip) =
 IsMoveOf N (Pair t s flip_s u flip_u flip) =
     (t < table_count N) × (2 < table_literals (table_at N.tables t)) × (1 < length (table_at N.tables t).pins) × AreInOrder (near_signals N (table_at N.tables t)) s u
 
--- where there are two rows or more, each has a literal; so it is in a tidy net, where a table is a canonical constant or each row has a literal
+-- Where there are two or more rows, each row has a literal. A tidy net's tables have this form, since each is
+-- a canonical constant or has a literal in each row.
 abbrev pub HasFullRows : TableValue → Type 0
 HasFullRows t = 1 < length t.rows → All (λ marks. 0 < row_literals marks) t.rows
 
@@ -47,7 +48,7 @@ pub record IsLoweredFrom (N M : NetValue) : Type 0 where
   pub rows : row_count M ≤ row_count N
   pub pins : pin_count M ≤ pin_count N
 
--- still sound, and small if it was; the model, the ports and the number of tables stay
+-- M is sound, and small if N is small; the model, the ports and the number of tables stay
 pub record IsMovedFrom (N M : NetValue) : Type 0 where
   pub sound : IsSound M
   pub small : IsSmall N → IsSmall M
@@ -57,16 +58,17 @@ pub record IsMovedFrom (N M : NetValue) : Type 0 where
   pub tables : table_count M ≡ table_count N
   pub ports : HasSamePorts N M
 
--- the computed dependence is that by paths; the list holds each move whose condition holds, and no other; a move keeps the net sound and
--- small and its ports; where no row is without a literal beside others it lowers the literals
+-- The computed dependence is that by paths. The list of moves holds each move whose condition holds, and no
+-- other. A move keeps the net sound and small, and keeps its ports. Where no row without a literal stands
+-- beside other rows, a move lowers the number of literals.
 pub record MoveLaw : Type 0 where
   pub dependence : (n : ℕ) (tables : List TableValue) (t s : ℕ) → IsAcyclic n tables → s < n + length tables → IsTrue (depends n tables t s) ↔ DependsOn n tables t s
   pub members : (N : NetValue) (move : Move) → IsAcyclic (input_count N) N.tables → Contains (moves_of N) move ↔ IsMoveOf N move
   pub keeps : (N : NetValue) (move : Move) → IsSound N → Contains (moves_of N) move → IsMovedFrom N (moved N move)
   pub lowers : (N : NetValue) (move : Move) → IsSound N → All HasFullRows N.tables → Contains (moves_of N) move → IsLoweredFrom N (moved N move)
 
--- the flipped values are the one assignment that is flipped; what does not depend on the table has its value; and where a new table has the
--- opposite value, all signals have the flipped values
+-- The flipped values are the one assignment that `IsFlipped` describes. A signal that does not depend on the
+-- table has its value. Where a new table has the opposite value, all signals have the flipped values.
 pub record FlipLaw : Type 0 where
   pub is : (n : ℕ) (tables : List TableValue) (x : List Bool) (t : ℕ) → IsAcyclic n tables → t < length tables
       → IsFlipped n tables x t (flipped_values n tables x t)
@@ -78,8 +80,9 @@ pub record FlipLaw : Type 0 where
       → t < length tables → table_value new (value_of n tables x) ≡ not (value_of n tables x (n + t))
       → (s : ℕ) → s < n + length tables → value_of n (replaced tables t new) x s ≡ flipped_values n tables x t s
 
--- where a move leaves its table's value every output stays, and where it changes it the outputs are the flipped ones; so a move is broken at
--- an input exactly where it changes its table's value and the input is cared for, or leaves it and the unmoved net exceeds the bound
+-- Where a move leaves its table's value every output stays, and where the move changes it the outputs are the
+-- flipped ones. So a move is broken at an input exactly where the move changes its table's value and the
+-- input is cared for, or leaves that value and the unmoved net exceeds the bound.
 pub record FlippedMoveLaw : Type 0 where
   pub left : (N : NetValue) (move : Move) (x : List Bool) → IsSound N → Contains (moves_of N) move → ¬ Changes N move x
       → outputs_of (moved N move) x ≡ outputs_of N x

@@ -1,5 +1,5 @@
--- The order of the moves of a net: by table, then by kind, then by row, pin or signal, and at last what is 0 or plain before what is 1 or
--- flipped; of two signals by their places among the near ones.
+-- The order of the moves of a net: by table, then by kind, then by row, pin or signal, and at last what is 0
+-- or plain before what is 1 or flipped. Two signals are ordered by their places among the near signals.
 use Rattle.std.specs.Prelude.{◌≡◌, ◌≢◌, ◌⊎◌, ◌↔◌, ℕ, ◌<◌, List, [], ◌∷◌, AllPairs, Contains}
 use Rattle.semantics.specs.Net.{NetValue, table_at, input_count, IsAcyclic}
 use Rattle.semantics.specs.Error.{bit_number}
@@ -37,8 +37,8 @@ IsBefore (x ∷ xs) (y ∷ ys) = (x < y) ⊎ ((x ≡ y) × IsBefore xs ys)
 abbrev pub ComesBefore : NetValue → Move → Move → Type 0
 ComesBefore N a b = IsBefore (table_of a ∷ kind_number a ∷ places_of N a) (table_of b ∷ kind_number b ∷ places_of N b)
 
--- each move comes before all later ones, so none stands twice; and in an acyclic net the list is the only one in this order whose members are
--- the moves whose condition holds
+-- Each move comes before all later ones, so no move stands twice. In an acyclic net the list is the only list
+-- in this order whose members are the moves whose condition holds.
 pub record MoveOrderLaw : Type 0 where
   pub in_order : (N : NetValue) → AllPairs (ComesBefore N) (moves_of N)
   pub once : (N : NetValue) → AllPairs ◌≢◌ (moves_of N)

@@ -33,12 +33,14 @@ HasPlane t move v = table_value (moved_table t move) v ≡ t.plane
 abbrev pub turned_over : Bool → Bool → Bool
 turned_over flip value = if flip then not value else value
 
--- The moved net has the moved table in its place, and every other table as it was. The moved table keeps its name.
--- What becomes a constant is the canonical one, and what becomes a copy has one pin, one row and plane 1, whatever the plane was; what becomes
--- a pair has two pins and one row, and plane 0 where its value is turned over. A constant has its value whatever the signals are; a copy has the
--- value of its signal, or the opposite, and a pair the conjunction of its signals, each of them plain or turned over, or its opposite; without a
--- row the others decide, and without a literal the row no longer asks for it. Rows and literals that are left out leave the order of the others,
--- the pins and the plane.
+-- The moved net has the moved table in the place of the old one, and every other table as it was. The moved
+-- table keeps its name. A table that becomes a constant is the canonical one. A table that becomes a copy has
+-- one pin, one row and plane 1, whatever its plane was. A table that becomes a pair has two pins and one row,
+-- and plane 0 where its value is turned over. A constant has its value whatever the signals are. A copy has
+-- the value of its signal, or the opposite. A pair has the conjunction of its signals, each of them plain or
+-- turned over, or the opposite of that. Without a row the other rows decide; without a literal the row no
+-- longer asks for that pin's value. Rows and literals that are left out leave the order of the others, the
+-- pins and the plane.
 pub record MovedValueLaw : Type 0 where
   pub itself : (N : NetValue) (move : Move) → table_of move < table_count N
       → table_at (moved N move).tables (table_of move) ≡ moved_table (table_at N.tables (table_of move)) move

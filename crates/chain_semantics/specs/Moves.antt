@@ -9,7 +9,7 @@ use Rattle.chain_semantics.specs.declared.moves.Move.{Move}
 use Rattle.chain_semantics.specs.declared.moves.Move.TheVariants.{Const, DropRow, DropLiteral, Signal, Pair}
 use Rattle.chain_semantics.specs.declared.moves.TheConstants.{MOST_NEAR_SIGNALS}
 
--- a path of so many pins or fewer leads from signal s to table t
+-- a path of at most `pins` pins leads from signal s to table t
 unfoldable pub depends_within : ℕ → List TableValue → ℕ → ℕ → ℕ → Bool
 depends_within n tables t zero s = s == n + t
 depends_within n tables t (suc pins) s = (s == n + t) || (nat_le n s && list_any (depends_within n tables t pins) (table_at tables (s - n)).pins)
@@ -52,7 +52,7 @@ signal_moves N t table = if nat_lt 1 (table_literals table) then flat_map (copie
 abbrev pub old_moves_of_table : NetValue → ℕ → TableValue → List Move
 old_moves_of_table N t table = constant_moves t table ++ row_moves t table ++ literal_moves t 0 table.rows ++ signal_moves N t table
 
--- each number where it first stands
+-- the list of the numbers, each at its first place
 abbrev pub each_once : List ℕ → List ℕ
 each_once [] = []
 each_once (s ∷ signals) = s ∷ filter (λ u. not (u == s)) (each_once signals)
@@ -61,11 +61,11 @@ each_once (s ∷ signals) = s ∷ filter (λ u. not (u == s)) (each_once signals
 abbrev pub pins_of : NetValue → ℕ → List ℕ
 pins_of N s = if nat_lt s (input_count N) then [] else (table_at N.tables (s - input_count N)).pins
 
--- the pins of a table, and then for each of them in order the pins that it has itself
+-- the pins of a table, and then, for each pin in order, the pins of the table that this pin is
 abbrev pub pins_and_theirs : NetValue → TableValue → List ℕ
 pins_and_theirs N table = table.pins ++ flat_map (pins_of N) table.pins
 
--- those signals, each where it first stands, and no more than the first few
+-- the signals of `pins_and_theirs`, each at its first place, and no more than the first `MOST_NEAR_SIGNALS`
 unfoldable pub near_signals : NetValue → TableValue → List ℕ
 near_signals N table = take MOST_NEAR_SIGNALS (each_once (pins_and_theirs N table))
 
@@ -77,7 +77,8 @@ pairs_of (s ∷ signals) = map (λ u. (s, u)) signals ++ pairs_of signals
 abbrev pub plain_and_flipped : List Bool
 plain_and_flipped = false ∷ true ∷ []
 
--- the eight moves to signals s and u: s plain and then flipped, for each the same of u, and for each of these the same of the value
+-- the eight moves to signals s and u: s plain before s flipped; for each of these, u plain before u flipped;
+-- and for each of these, the value plain before the value flipped
 abbrev pub flips_of : ℕ → ℕ → ℕ → List Move
 flips_of t s u = flat_map (λ flip_s. flat_map (λ flip_u. map (Pair t s flip_s u flip_u) plain_and_flipped) plain_and_flipped) plain_and_flipped
 

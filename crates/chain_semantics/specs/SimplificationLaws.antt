@@ -11,7 +11,7 @@ use Rattle.chain_semantics.specs.Tidy.{IsTidy}
 use Rattle.chain_semantics.specs.TidyLaws.{DoesNotGrow}
 use Rattle.chain_semantics.specs.Simplification.{IsAllowedMove, IsTidiedMove, IsInSimplification, IsSimplificationEnd}
 
--- a sound tidy net with the ports of the exact one, no larger, and within the bound
+-- a sound tidy net that has the ports of the exact one, no larger counts, and an error within the bound
 pub record IsSimplifiedNet (metric : Metric) (exact : NetValue) (bound : ℕ) (N : NetValue) : Type 0 where
   pub sound : IsSound N
   pub tidy : IsTidy N
@@ -27,8 +27,9 @@ pub record HasNext (metric : Metric) (exact : NetValue) (bound : ℕ) (N : NetVa
   pub after : NetValue
   pub tidied : IsTidiedMove N move after
 
--- On a tidy net each move lowers the literals. Of a sound net, each member of the chain is such a net, and small if the exact one is; each member
--- is an end or has a next one, with fewer literals, so there are at most as many steps as the exact net has literals; and the chain has one end.
+-- On a tidy net each move lowers the number of literals. Each member of the chain of a sound net is sound and
+-- tidy, and small if the exact net is small. Each member is an end or has a next member, with fewer literals,
+-- so the chain has at most as many moves as the exact net has literals. The chain has one end.
 pub record SimplificationLaw : Type 0 where
   pub lowers : (N : NetValue) (move : Move) → IsSound N → IsTidy N → Contains (moves_of N) move → IsLoweredFrom N (moved N move)
   pub members : (metric : Metric) (exact : NetValue) (bound : ℕ) (N : NetValue) → IsSound exact → IsInSimplification metric exact bound N

@@ -1,5 +1,5 @@
--- Tidying: a step is at the first table at which a rule applies, and by the first rule that applies there. So it is a function of the net.
--- Source: this tool's own.
+-- Tidying: a step is made at the first table at which a rule applies, by the first rule that applies there.
+-- So the step is a function of the net. Source: this tool's own.
 use Rattle.std.specs.Prelude.{◌≡◌, ℕ, zero, suc, ◌+◌, Bool, if◌then◌else◌, Option, Some, None, List, [], ◌∷◌}
 use Rattle.std.specs.Option.{option_map}
 use Rattle.semantics.specs.Net.{TableValue, NetValue, table_at, input_count, table_count}
@@ -45,7 +45,7 @@ step_at N i = first_some (
     ∷ by_removal N i
     ∷ [])
 
--- at the first of `count` tables from table `start` on at which a rule applies
+-- the step at the first of `count` tables from table `start` on at which a rule applies
 abbrev pub step_from : NetValue → ℕ → ℕ → Option NetValue
 step_from N start zero = None
 step_from N start (suc count) = first_some (step_at N start ∷ step_from N (start + 1) count ∷ [])

@@ -1,5 +1,6 @@
--- Where each of the six rules of tidying applies, in the subject's words, and which rule is chosen: at the first table at which one applies,
--- the rule with the least number, and of that rule the least pin. Source: this tool's own.
+-- Where each of the six rules of tidying applies, in the subject's words, and which rule is chosen: at the
+-- first table at which a rule applies, the rule with the least number, and of that rule's pins the least.
+-- Source: this tool's own.
 use Rattle.std.specs.Prelude.{◌≡◌, ◌≢◌, ◌⊎◌, ◌↔◌, ℕ, ◌+◌, ◌-◌, ◌<◌, ◌≤◌, Bool, true, [], ◌∷◌, length, Some, All, Any, AllPairs, Contains}
 use Rattle.semantics.specs.declared.mark.Mark.{Mark}
 use Rattle.semantics.specs.declared.mark.Mark.TheVariants.{Dash}
@@ -28,7 +29,7 @@ IsConstantSignal N s = (input_count N ≤ s) × ((table_at N.tables (s - input_c
 abbrev pub IsCanonical : TableValue → Type 0
 IsCanonical t = (value : Bool) × (t ≡ constant_table t.name value)
 
--- it has no row, or a row without literals, so its value is the same everywhere
+-- the table has no row, or has a row without literals, so its value is constant
 abbrev pub HasConstantValue : TableValue → Type 0
 HasConstantValue t = (t.rows ≡ []) ⊎ Any (λ marks. row_literals marks ≡ 0) t.rows
 
@@ -43,7 +44,7 @@ pub record HasOneLiteral (t : TableValue) : Type 0 where
 abbrev pub IsOutput : NetValue → ℕ → Type 0
 IsOutput N s = Contains N.outputs s
 
--- some table has it among its pins
+-- some table has the signal among its pins
 abbrev pub IsRead : NetValue → ℕ → Type 0
 IsRead N s = (i : ℕ) × (i < table_count N) × Contains (table_at N.tables i).pins s
 
@@ -77,25 +78,25 @@ pin_of (drop_pin q) = q
 pin_of (join_pins p q) = q
 pin_of _ = 0
 
--- the place of the pin that it is joined to
+-- the place of the pin to which the pin that goes is joined
 abbrev pub joined_pin_of : Rule → ℕ
 joined_pin_of (join_pins p q) = p
 joined_pin_of _ = 0
 
--- by number, then by the pin that goes, then by the pin that it is joined to
+-- by number, then by the pin that goes, then by the pin to which it is joined
 abbrev pub IsLesser : Rule → Rule → Type 0
 IsLesser a b =
     (rule_number a < rule_number b)
     ⊎ ((rule_number a ≡ rule_number b) × ((pin_of a < pin_of b) ⊎ ((pin_of a ≡ pin_of b) × (joined_pin_of a < joined_pin_of b))))
 
--- the rule applies at table i, no lesser one does, and none applies at a table before it
+-- the rule applies at table i, no lesser rule applies there, and no rule applies at a table before i
 pub record IsChosen (N : NetValue) (i : ℕ) (rule : Rule) : Type 0 where
   pub within : i < table_count N
   pub applies : Applies N i rule
   pub no_lesser : (other : Rule) → IsLesser other rule → ¬ Applies N i other
   pub none_earlier : (j : ℕ) (other : Rule) → j < i → ¬ Applies N j other
 
--- what the rule makes of the net at table i
+-- the net that the rule makes at table i
 abbrev pub made : NetValue → ℕ → Rule → NetValue
 made N i (fix_pin q) = with_table N i (with_pin_fixed q (constant_value (input_count N) N.tables (pin_at (table_at N.tables i) q)) (table_at N.tables i))
 made N i (drop_pin q) = with_table N i (without_pin q (table_at N.tables i))
@@ -110,8 +111,9 @@ IsChosenStep N M = (i : ℕ) × (rule : Rule) × IsChosen N i rule × (made N i 
 
 -- ---- what is left
 
--- table i: no pin is a table without pins and none stands twice, it is an output or read, it is no buffer or inverter within the net, and it is
--- a canonical constant or has literals everywhere
+-- table i: no pin is a table without pins, and no signal stands twice among the pins; the table is an output
+-- or is read, is no buffer or inverter within the net, and is a canonical constant or has a literal in each
+-- row and for each pin
 pub record HasNothingToTidy (N : NetValue) (i : ℕ) : Type 0 where
   pub no_constant_pin : All (λ s. ¬ IsConstantSignal N s) (table_at N.tables i).pins
   pub no_repeated_pin : AllPairs ◌≢◌ (table_at N.tables i).pins
@@ -119,7 +121,8 @@ pub record HasNothingToTidy (N : NetValue) (i : ℕ) : Type 0 where
   pub needed : IsOutput N (input_count N + i) ⊎ IsRead N (input_count N + i)
   pub literals : IsCanonical (table_at N.tables i) ⊎ HasLiterals (table_at N.tables i)
 
--- a step is the chosen one; a net is tidy exactly where no rule applies at any table; and in a sound net exactly where no table has anything to tidy
+-- A step is the chosen one. A net is tidy exactly where no rule applies at any table; a sound net is tidy
+-- exactly where no table has anything to tidy.
 pub record ChoiceLaw : Type 0 where
   pub step : (N M : NetValue) → (tidy_step N ≡ Some M) ↔ IsChosenStep N M
   pub tidy : (N : NetValue) → IsTidy N ↔ ((i : ℕ) (rule : Rule) → i < table_count N → ¬ Applies N i rule)

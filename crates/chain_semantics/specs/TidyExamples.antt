@@ -96,7 +96,7 @@ pub record BypassExamples : Type 0 where
   pub buffer_of_a_table : IsTidiedFrom
       (net a_b (conjunction w 0 1 ∷ table y (2 ∷ []) ((Zero ∷ []) ∷ []) false ∷ table z (3 ∷ 1 ∷ []) ((One ∷ Zero ∷ []) ∷ []) false ∷ []) (4 ∷ []))
       (net a_b (conjunction w 0 1 ∷ table z (2 ∷ 1 ∷ []) ((One ∷ Zero ∷ []) ∷ []) false ∷ []) (3 ∷ []))
-  -- of a reader that reads it twice both columns are turned; then the row asks for both values
+  -- of a reader that has the inverter at two pins both columns are turned; then the row asks for both values
   pub read_twice : IsTidiedFrom
       (net a_b (inverter y 0 ∷ table z (2 ∷ 1 ∷ 2 ∷ []) ((One ∷ One ∷ Dash ∷ []) ∷ (Zero ∷ Dash ∷ One ∷ []) ∷ []) true ∷ []) (3 ∷ []))
       (net a_b (table z (0 ∷ 1 ∷ []) ((Zero ∷ One ∷ []) ∷ []) true ∷ []) (2 ∷ []))

@@ -33,7 +33,7 @@ pub record HasLiterals (t : TableValue) : Type 0 where
   pub rows : All (λ marks. 0 < row_literals marks) t.rows
   pub pins : (q : ℕ) → q < length t.pins → Any (λ marks. is_literal (mark_at marks q) ≡ true) t.rows
 
--- what a step keeps and lowers, where it is made, and where none is left
+-- what a step keeps and lowers, where a step is made, and where no step is left
 pub record StepLaw : Type 0 where
   pub keeps : (N M : NetValue) → IsSound N → tidy_step N ≡ Some M → KeepsNet N M
   pub does_not_grow : (N M : NetValue) → IsSound N → tidy_step N ≡ Some M → DoesNotGrow N M
@@ -42,8 +42,9 @@ pub record StepLaw : Type 0 where
   pub first : (N M : NetValue) → tidy_step N ≡ Some M → IsFirstStep N M
   pub none : (N : NetValue) → IsTidy N ↔ ((i : ℕ) → i < table_count N → step_at N i ≡ None)
 
--- Each sound net is tidied to one net: itself where no rule applies, and else what the net after its first step is tidied to. What that net
--- keeps, and what its tables are: each is a canonical constant, or each of its rows and each of its pins has a literal.
+-- Each sound net is tidied to exactly one net: to itself where no rule applies, and else to what the net
+-- after its first step is tidied to. The law says what that net keeps, and what its tables are: each is a
+-- canonical constant, or each of its rows and each of its pins has a literal.
 pub record TidyLaw : Type 0 where
   pub exists : (N : NetValue) → IsSound N → (M : NetValue) × IsTidiedFrom N M
   pub unique : (N M K : NetValue) → IsTidiedFrom N M → IsTidiedFrom N K → M ≡ K

@@ -12,7 +12,8 @@ pub record AreLevels (n : ℕ) (tables : List TableValue) (level : ℕ → ℕ) 
   pub input : (s : ℕ) → s < n → level s ≡ 0
   pub table : (i : ℕ) → i < length tables → level (n + i) ≡ 1 + greatest level (table_at tables i).pins
 
--- By rounds, as the values. In acyclic tables after as many rounds as there are tables, and one, nothing changes any more.
+-- Levels by rounds, as the values are found. After one round more than there are tables, the levels of
+-- acyclic tables no longer change.
 abbrev pub level_round : ℕ → List TableValue → (ℕ → ℕ) → ℕ → ℕ
 level_round n tables level s = if nat_lt s n then 0 else 1 + greatest level (table_at tables (s - n)).pins
 

@@ -103,8 +103,9 @@ is_constant t = not (is_canonical t) && (is_empty t.rows || list_any (λ marks. 
 abbrev pub made_canonical : TableValue → TableValue
 made_canonical t = constant_table t.name (not (is_empty t.rows) && t.plane)
 
--- 5. Bypass: a table that is no output, has one pin and one row with a literal, and that some table reads. What reads it reads its pin,
--- and where it inverts, the marks of the reader's column become their opposites.
+-- 5. Bypass: a table that is no output, that has one pin and one row with a literal, and that some table
+-- reads. Each reader reads the table's pin in the place of the table; where the table inverts, the marks of
+-- the reader's column become their opposites.
 abbrev pub is_output : NetValue → ℕ → Bool
 is_output N s = has N.outputs s
 
@@ -135,7 +136,8 @@ with_marks_turned s [] marks = marks
 with_marks_turned s (p ∷ pins) [] = []
 with_marks_turned s (p ∷ pins) (m ∷ marks) = (if p == s then opposite m else m) ∷ with_marks_turned s pins marks
 
--- what reads signal s reads signal p, which has the same value, or the opposite one
+-- each table that reads signal s reads signal p in its place; the flag says that p has the opposite value of
+-- s
 abbrev pub reading_past : ℕ → ℕ → Bool → TableValue → TableValue
 reading_past s p inverted t = record t {
   pins = map (redirect s p) t.pins;

@@ -14,7 +14,8 @@ pub fn flips()
     ensures { FlipLaw }
 {}
 
-/// A move changes its table's value or leaves it: which outputs the moved net has, and where it is broken.
+/// A move changes the value of its table or leaves it: the outputs of the moved net in each case, and where
+/// the move is broken.
 pub fn flipped_moves()
     ensures { FlippedMoveLaw }
 {}
@@ -24,12 +25,12 @@ pub fn moved_values()
     ensures { MovedValueLaw }
 {}
 
-/// The order of the moves of a net, which with their conditions makes one list.
+/// The order of the moves of a net, which together with their conditions determines the list of moves.
 pub fn order()
     ensures { MoveOrderLaw }
 {}
 
-/// Each number of a list where it first stands.
+/// The list of the numbers of a list, each at its first place.
 pub fn each_once()
     ensures { EachOnceLaw }
 {}

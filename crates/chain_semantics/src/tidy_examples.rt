@@ -6,7 +6,7 @@ pub fn rules()
     ensures { RuleExamples }
 {}
 
-/// Nets at which the order of the rules tells, or how a rule is read.
+/// Nets at which the order of the rules matters, or how a rule is read.
 pub fn order()
     ensures { OrderExamples }
 {}

@@ -12,7 +12,7 @@ pub fn tidying()
     ensures { TidyLaw }
 {}
 
-/// Which rule a step applies, and where; and what a tidy net has not.
+/// Which rule a step applies, and where; and what a tidy net does not have.
 pub fn choices()
     ensures { ChoiceLaw }
 {}

@@ -56,11 +56,11 @@ abbrev pub TrimAnswer : Metric → ℕ → Bytes → Bytes → Bytes → FilesTo
 TrimAnswer metric bound input stem output old new said says status =
     (end : trimming.TrimEnd metric bound input stem output old new said says) × IsTrimAnswer end status
 
--- the reading is refused for the reason that is told, which is not want of memory
+-- the reading is refused for this reason, which is not want of memory
 abbrev pub Refuses : Result NetValue Refusal → BlifRefusal → Type 0
 Refuses reading reason = (refusal : Refusal) × (reading ≡ Err refusal) × (refusal_of reason ≡ Some refusal)
 
--- the answer that the reading of IN asks a check job for, unless memory is wanting
+-- the answer that the reading of IN requires of a check job, unless memory is wanting
 abbrev pub IsCheckAnswerTo : Result NetValue Refusal → Status → Type 0
 IsCheckAnswerTo reading Verified = (N : NetValue) × (reading ≡ Ok N)
 IsCheckAnswerTo reading (Refuted number) = (N : NetValue) × (reading ≡ Ok N)
@@ -69,7 +69,8 @@ IsCheckAnswerTo reading (Text reason) = Refuses reading reason
 IsCheckAnswerTo reading NoMemory = Unit {0}
 IsCheckAnswerTo reading _ = ⊥
 
--- and a trim job: as a check, with `Done` in the place of `Verified`
+-- the answer that the reading of IN requires of a trim job: that of a check, with `Done` in the place of
+-- `Verified`
 abbrev pub IsTrimAnswerTo : Result NetValue Refusal → Status → Type 0
 IsTrimAnswerTo reading Done = (N : NetValue) × (reading ≡ Ok N)
 IsTrimAnswerTo reading Verified = ⊥

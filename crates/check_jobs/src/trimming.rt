@@ -25,7 +25,7 @@ use lrat_trim::trim::trim;
 use semantics::metric::Metric;
 use std::alloc::Global;
 
-/// Makes the file with the text of a log. It takes no memory.
+/// Makes the file with the text of a log. The call takes no memory.
 fn write_log<F: Files>(log: &Log, output: &[u8], files: &mut F) -> Result<(), FileFault>
     ensures { WritesFiles result (F.told files.old) (F.told files.new) (output_file output.now (lrat_text log.now) ∷ []) }
 {

@@ -7,7 +7,7 @@ use crate::clause_name::ClauseAt;
 use std::alloc::{AllocError, Global};
 use std::marker::Model;
 
-/// Old names in rising order, each with its new one, and room for so many.
+/// Old names in rising order, each with its new name, and room for `room` names.
 #[derive(Drop)]
 pub struct Moved {
     olds: Vec<u32>,
@@ -31,7 +31,7 @@ impl Model for Moved {
 }
 
 impl Moved {
-    /// Room for so many names, or as many as the region can have.
+    /// Room for `clauses` names, or for as many as the region can have.
     pub fn reserve(alloc: Global, clauses: u64) -> Result<Moved, AllocError>
         ensures { IfOk result (λ moved. moved ≡ record { room = clauses; olds = []; news = [] }) }
     {
@@ -43,7 +43,7 @@ impl Moved {
         })
     }
 
-    /// How many names it has room for.
+    /// The number of names for which there is room.
     pub fn room(&self) -> u64
         ensures { result ≡ self.now.room }
     {
@@ -72,7 +72,7 @@ impl Moved {
         self.count += 1;
     }
 
-    /// The new name of an old one, or None where it has no such old name.
+    /// The new name of an old one, or None where `old` is no old name.
     pub fn find(&self, old: ClauseAt) -> Option<ClauseAt>
         ensures { result ≡ new_name self.now.olds self.now.news old }
     {

@@ -22,7 +22,7 @@ pub record ItemDraftValue : Type 0 where
 abbrev pub with_numbers : ItemDraftValue → List ℕ → ItemDraftValue
 with_numbers d numbers = record d { numbers = record d.numbers { at_hand = numbers } }
 
--- lists only grew at their ends
+-- the lists grew only at their ends
 pub record Grows (old new : ItemDraftValue) : Type 0 where
   pub literals : (more : List ℤ) × (whole new.literals ≡ whole old.literals ++ more)
   pub numbers : (more : List ℕ) × (whole new.numbers ≡ whole old.numbers ++ more)

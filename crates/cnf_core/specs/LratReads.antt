@@ -29,7 +29,8 @@ read_items v = whole_items (read_text v.text v.finished)
 abbrev pub fed : LogRead → Bytes → LogRead
 fed v piece = record v { text = v.text ++ piece; refused = lrat_refusal (v.text ++ piece) }
 
--- A reader that has refused a text answers so again. Else there was no memory and nothing changed, or the text was refused now.
+-- A reader that has refused a text returns the refusal again. Else memory was wanting and nothing changed, or
+-- the text is refused now.
 abbrev pub IsFeedRefusal : LogRead → Bytes → LratRefusal → LogRead → Type 0
 IsFeedRefusal old piece r new = elim old.refused [
   | Some refusal ↦ (r ≡ refusal) × (new ≡ old)

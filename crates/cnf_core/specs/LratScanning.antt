@@ -37,7 +37,8 @@ ended_word form.Letter = Some Letter
 ended_word (form.Number negative size) = Some (Number negative size)
 ended_word form.Malformed = Some Malformed
 
--- what is kept of a text: where its tokens stand, the token at hand, the place of its first byte, and that of the next byte
+-- what is kept of a text: the stage of its tokens, the token at hand, the place of its first byte, and the
+-- place of the next byte
 pub record ScannerValue : Type 0 where
   pub stage : Stage
   pub word : HeldWord

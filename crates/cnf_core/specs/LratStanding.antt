@@ -6,7 +6,7 @@ use Rattle.cnf_core.specs.LratParts.{stage_at, scanner_at}
 use Rattle.cnf_core.specs.LratScanning.{begin, scanned_all}
 use Rattle.cnf_core.specs.LratReads.{LogRead, read_text, read_items}
 
--- the items that do not wait any more were given
+-- the items that no longer wait were given
 abbrev pub read_view : Inside → LogRead
 read_view a = record {
   text = a.text.bytes;

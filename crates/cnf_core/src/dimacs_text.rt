@@ -13,7 +13,7 @@ use crate::token_text::TokenText;
 use crate::tokens::Tokens;
 use itoa::Buffer;
 
-/// A formula's text: `new` begins it, and `fill` gives what comes next.
+/// A formula's text: `new` begins the text, and `fill` gives what comes next.
 pub type DimacsText<'a> = TokenText<DimacsTokens<'a>>;
 
 /// The tokens behind the header: each literal, and each end of a clause.

@@ -5,8 +5,8 @@ ghost use Rattle.cnf_core.specs.Drafts.{whole};
 use std::alloc::{AllocError, Global};
 use std::marker::Model;
 
-/// A list at hand, behind the lists that were begun before it since the last `settle`: until then all of them are kept,
-/// so that what was at hand can be taken back.
+/// The list at hand, behind the lists that were begun before it since the last `settle`. Until the next
+/// `settle` all of these are kept, so that an earlier list at hand can be taken back.
 #[derive(Drop)]
 pub struct Draft<T> {
     items: Vec<T>,
@@ -26,7 +26,7 @@ impl<T> Model for Draft<T> {
 }
 
 impl<T> Draft<T> {
-    /// No lists. It takes no memory.
+    /// No lists. The call takes no memory.
     pub fn new(alloc: Global) -> Self
         ensures { result ≡ record { before = []; at_hand = [] } }
     {
@@ -73,7 +73,8 @@ impl<T: Drop> Draft<T> {
         Ok(())
     }
 
-    /// Forgets the lists before the one at hand, in time linear in all of them; where there are none, at once.
+    /// Forgets the lists before the list at hand, in time linear in all of them; where there are none, in
+    /// constant time.
     pub fn settle(&mut self)
         ensures { self.new ≡ record { before = []; at_hand = self.old.at_hand } }
     {
@@ -86,7 +87,7 @@ impl<T: Drop> Draft<T> {
         self.first = 0;
     }
 
-    /// The first `len` items of all are the list at hand again, and the others are gone.
+    /// Makes the first `len` items of all lists the list at hand again, and forgets the others.
     pub fn take_back(&mut self, len: usize)
         ensures { self.new ≡ record { before = []; at_hand = take len (whole self.old) } }
     {

@@ -5,7 +5,7 @@ ghost use Rattle.cnf_core.specs.FrontDigits.{DigitsLead};
 /// Below this size one more digit leaves a number below 2^63.
 const LARGE: u64 = 1 << 59;
 
-/// A number, and how many digits were taken into it.
+/// A number, and the number of digits that were taken into it.
 #[derive(Clone, Copy, Drop)]
 pub struct FrontDigits {
     pub size: u64,

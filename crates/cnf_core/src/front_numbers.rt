@@ -8,7 +8,8 @@ use crate::front_digits::take_digits;
 use crate::held_word::is_blank;
 use std::alloc::AllocError;
 
-/// Puts the positive numbers at the front of the bytes that a blank ends behind the list at hand, and answers how many bytes they are.
+/// Adds the positive numbers at the front of the bytes, each of which ends with a blank, to the list at hand.
+/// Returns how many bytes they are.
 #[inline(always)]
 pub fn take_numbers(numbers: &mut Draft<u64>, bytes: &[u8]) -> Result<usize, AllocError>
     ensures within { IfOk result (λ count. count ≤ length bytes.now) }

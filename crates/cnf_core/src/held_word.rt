@@ -96,7 +96,7 @@ impl HeldWord {
         }
     }
 
-    /// The number that a digit would go on with; none where the token is no number any more.
+    /// The number to which a digit would be added; None where the token is no number.
     #[inline(always)]
     pub fn number(self) -> Option<NumberSoFar>
         ensures { IfSome result (λ n. IsNumberSoFar self n.negative n.size) }

@@ -12,8 +12,8 @@ use crate::log::{Ids, Step};
 use std::alloc::{AllocError, Global};
 use std::marker::Model;
 
-/// The literals of an addition, and its hints or the ids of a deletion. Lists that were begun before are kept until
-/// `settle`, so that want of memory can take all back.
+/// The literals of an addition, and its hints or the ids of a deletion. Lists that were begun before are kept
+/// until `settle`, so that all can be taken back where memory is wanting.
 #[derive(Drop)]
 pub struct ItemDraft {
     literals: Draft<Literal>,
@@ -31,7 +31,7 @@ impl Model for ItemDraft {
     ghost invariant = { λ a. AreLiterals (whole a.literals) };
 }
 
-/// How long the two lists at hand are.
+/// The lengths of the two lists at hand.
 #[derive(Clone, Copy, Drop)]
 pub struct Lengths {
     pub literals: usize,
@@ -39,7 +39,7 @@ pub struct Lengths {
 }
 
 impl ItemDraft {
-    /// No lists. It takes no memory.
+    /// No lists. The call takes no memory.
     pub fn new(alloc: Global) -> ItemDraft
         ensures { result ≡ record { literals = record { before = []; at_hand = [] }; numbers = record { before = []; at_hand = [] } } }
     {
@@ -86,7 +86,8 @@ impl ItemDraft {
         self.numbers.push(number)
     }
 
-    /// Puts the positive numbers at the front of the bytes that a blank ends behind the hints or ids, and answers how many bytes they are.
+    /// Adds the positive numbers at the front of the bytes, each of which ends with a blank, to the hints or
+    /// ids. Returns how many bytes they are.
     #[inline(always)]
     pub fn push_numbers(&mut self, bytes: &[u8]) -> Result<usize, AllocError>
         ensures within { IfOk result (λ count. count ≤ length bytes.now) }
@@ -115,7 +116,7 @@ impl ItemDraft {
         Ids::from_slice(*self.numbers.allocator(), self.numbers.as_slice())
     }
 
-    /// How many literals and how many hints or ids are at hand.
+    /// The number of literals at hand, and the number of hints or ids.
     pub fn lengths(&self) -> Lengths
         ensures literals { result.literals ≡ length self.now.literals.at_hand }
         ensures numbers { result.numbers ≡ length self.now.numbers.at_hand }
@@ -126,7 +127,7 @@ impl ItemDraft {
         }
     }
 
-    /// Forgets what was begun before the lists at hand.
+    /// Forgets the lists that were begun before the lists at hand.
     pub fn settle(&mut self)
         ensures { self.new ≡ record {
           literals = record { before = []; at_hand = self.old.literals.at_hand };
@@ -137,7 +138,7 @@ impl ItemDraft {
         self.numbers.settle();
     }
 
-    /// The lists that had these lengths when nothing stood before them are at hand again.
+    /// Makes the lists that had these lengths, when nothing stood before them, the lists at hand again.
     pub fn take_back(&mut self, lengths: Lengths)
         ensures { self.new ≡ record {
           literals = record { before = []; at_hand = take lengths.literals (whole self.old.literals) };

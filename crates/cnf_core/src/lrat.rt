@@ -1,4 +1,4 @@
-//! A log is written as its LRAT text, and nothing is allocated.
+//! A log is written as its LRAT text; nothing is allocated.
 ghost use Rattle.file_core.specs.Page.{Writes};
 ghost use Rattle.proof_semantics.specs.Lrat.{lrat_text};
 
@@ -8,7 +8,8 @@ use crate::token_text::write_text;
 use file_core::fault::FileFault;
 use file_core::files::Files;
 
-/// Appends the log's LRAT text to the file that is being written. After a fault a first part of it was appended.
+/// Appends the log's LRAT text to the file that is being written. After a fault a first part of this text was
+/// appended.
 pub fn write_lrat<F: Files>(log: &Log, files: &mut F) -> Result<(), FileFault>
     ensures { Writes result (F.told files.old) (F.told files.new) (lrat_text log.now) }
 {

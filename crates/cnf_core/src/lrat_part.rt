@@ -148,7 +148,8 @@ fn after_deletion(
 }
 
 impl Part {
-    /// Behind one more token, which is at this place. The item that ends with the token is put behind the others.
+    /// The part behind one more token, which stands at this place. An item that ends with the token is added
+    /// behind the others.
     #[inline(always)]
     pub fn after(
         self,

@@ -13,8 +13,8 @@ use std::alloc::{AllocError, Global};
 use std::collections::VecDeque;
 use std::marker::Model;
 
-/// Callers see the text that was fed, how many of its items were given, whether it has ended, and its refusal. The
-/// text itself is not kept: the memory goes with the items that wait and the one at hand.
+/// Callers see the text that was fed, the number of its items that were given, whether it has ended, and its
+/// refusal. The text itself is not kept: the memory grows with the items that wait and the item at hand.
 #[derive(Drop)]
 pub struct LratReader {
     scanner: Scanner,
@@ -38,7 +38,7 @@ impl Model for LratReader {
 }
 
 impl LratReader {
-    /// At the start of a text. It takes no memory.
+    /// At the start of a text. The call takes no memory.
     pub fn new(alloc: Global) -> LratReader
         ensures { result ≡ nothing_read }
     {
@@ -83,8 +83,9 @@ impl LratReader {
         Ok(())
     }
 
-    /// Takes the next piece of the text, in time linear in it and, where an item ends in it, in that item. A refusal of
-    /// the text is answered from then on; without memory nothing changes.
+    /// Takes the next piece of the text, in time linear in the piece and, where an item ends in it, in that
+    /// item. Once the text is refused, each call returns the refusal. Where memory is wanting, nothing
+    /// changes.
     pub fn feed(&mut self, piece: &[u8]) -> Result<(), LratRefusal>
         requires going { self.old.finished ≡ false }
         requires size { length self.old.text + length piece.now < 2 ^ 63 }
@@ -111,7 +112,8 @@ impl LratReader {
         self.waiting.pop_front()
     }
 
-    /// Ends the text. A refusal of the text is answered from then on; without memory nothing changes.
+    /// Ends the text. Once the text is refused, each call returns the refusal. Where memory is wanting,
+    /// nothing changes.
     pub fn finish(&mut self) -> Result<(), LratRefusal>
         requires { length self.old.text < 2 ^ 63 }
         ensures ok { OnOk result ((self.old.refused ≡ None) × (lrat_items self.old.text ≡ Ok (read_items self.new))

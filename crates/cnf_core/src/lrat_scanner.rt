@@ -27,7 +27,7 @@ pub struct Scanner {
     pub at: u64,
 }
 
-/// A scanner, and how many bytes it went over.
+/// A scanner, and the number of bytes that it read.
 #[derive(Clone, Copy, Drop)]
 struct Advance {
     scanner: Scanner,
@@ -73,7 +73,7 @@ impl Scanner {
         })
     }
 
-    /// Behind one more byte. The item that ends with it is put behind the others.
+    /// The scanner behind one more byte. An item that ends with the byte is added behind the others.
     #[inline(always)]
     pub fn with_byte(
         self,
@@ -104,7 +104,7 @@ impl Scanner {
         })
     }
 
-    /// Behind the digits at the front of the bytes, where the token at hand is that number so far.
+    /// The scanner behind the digits at the front of the bytes, where the token at hand is `number` so far.
     #[inline(always)]
     fn with_digits(self, number: NumberSoFar, bytes: &[u8], draft: &ItemDraft) -> Advance
         requires calm { is_refused (stage_at self.part draft.now) ≡ false }
@@ -134,7 +134,7 @@ impl Scanner {
         }
     }
 
-    /// Behind the digits at the front of the bytes, where they belong to a number.
+    /// The scanner behind the digits at the front of the bytes, where they belong to a number.
     #[inline(always)]
     fn with_front(self, bytes: &[u8], draft: &ItemDraft) -> Advance
         requires { self.at + length bytes.now < 2 ^ 63 }
@@ -165,7 +165,7 @@ impl Scanner {
         }
     }
 
-    /// Behind the hints or ids at the front of the bytes that are whole.
+    /// The scanner behind the whole hints or ids at the front of the bytes.
     #[inline(always)]
     fn with_numbers(self, bytes: &[u8], draft: &mut ItemDraft) -> Result<Advance, AllocError>
         requires { self.at + length bytes.now < 2 ^ 63 }
@@ -199,7 +199,7 @@ impl Scanner {
         })
     }
 
-    /// Behind these bytes. The items that end within them are put behind the others.
+    /// The scanner behind these bytes. The items that end within them are added behind the others.
     pub fn with_bytes(
         self,
         bytes: &[u8],

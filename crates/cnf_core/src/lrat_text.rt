@@ -11,15 +11,15 @@ use crate::text_token::TextToken;
 use crate::token_text::TokenText;
 use crate::tokens::Tokens;
 
-/// A log's text: `new` begins it, and `fill` gives what comes next.
+/// A log's text: `new` begins the text, and `fill` gives what comes next.
 pub type LratText<'a> = TokenText<LratTokens<'a>>;
 
-/// The tokens of a log's text: what begins an item, and each number or end of its lists.
+/// The tokens of a log's text: the beginning of each item, and each number and each end of its lists.
 #[derive(Drop)]
 pub struct LratTokens<'a> {
     /// What is left of the literals of the addition at hand.
     literals: Option<&'a [Literal]>,
-    /// What is left of its hints, or of the ids of the removal at hand.
+    /// What is left of the addition's hints, or of the ids of the removal at hand.
     ids: Option<&'a [u64]>,
     /// The greatest id of the additions so far.
     greatest: u64,

@@ -5,7 +5,8 @@ ghost use Rattle.cnf_core.specs.NumberList.{list_rest};
 use crate::text_token::TextToken;
 use itoa::Integer;
 
-/// Puts the next token of a list, in which each number stands before a blank, and the end behind them.
+/// Puts the next token of a list into `token`. In the text of the list a blank stands behind each number, and
+/// the end behind all.
 pub fn next_of_list<I: Integer>(list: &mut Option<&[I]>, end: &[u8], token: &mut TextToken) -> bool
     requires some { 0 < length end.now }
     requires short { length end.now ≤ 8 }

@@ -14,7 +14,7 @@ use net_core::items::{Items, Signal};
 use net_core::net::Net;
 use std::alloc::{AllocError, Global};
 
-/// Pushes the clauses of a net, and answers how many variables they have.
+/// Adds the clauses of a net, and returns the number of their variables.
 #[tactic(auto, unfolding(proof_semantics::specs::NetClauses::net_clauses))]
 fn push_net_clauses(alloc: Global, clauses: &mut ClauseList, net: &Net) -> Result<u32, AllocError>
     requires { variable_count (input_count net.now) net.now.tables < 2 ^ 31 }
@@ -33,7 +33,7 @@ fn push_net_clauses(alloc: Global, clauses: &mut ClauseList, net: &Net) -> Resul
     Ok(first)
 }
 
-/// Pushes the clause that a signal is true.
+/// Adds the clause that a signal is true.
 fn push_unit_clause(
     alloc: Global,
     clauses: &mut ClauseList,

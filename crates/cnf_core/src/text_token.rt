@@ -5,7 +5,7 @@ ghost use Rattle.file_core.specs.Pieces.{joined};
 use itoa::{Buffer, Integer};
 use std::marker::Model;
 
-/// How many bytes a token has at most.
+/// The most bytes of a token.
 const TOKEN_BYTES: usize = 48;
 
 /// The bytes of a token that were not given yet.

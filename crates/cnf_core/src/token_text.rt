@@ -10,7 +10,7 @@ use file_core::files::Files;
 use file_core::page::PAGE_BYTES;
 use std::marker::Model;
 
-/// Callers see what is left of the text. It takes no memory but its own, and no token is made twice.
+/// Callers see what is left of the text. The text takes no memory but its own, and no token is made twice.
 #[derive(Drop)]
 pub struct TokenText<T: Tokens> {
     /// The token at hand.
@@ -27,14 +27,15 @@ impl<T: Tokens> Model for TokenText<T> {
 }
 
 impl<T: Tokens> TokenText<T> {
-    /// A token, and those behind it.
+    /// The text of a token and of the tokens behind it.
     pub fn from_tokens(token: TextToken, tokens: T) -> TokenText<T>
         ensures { result ≡ token ++ T.rest tokens }
     {
         TokenText { token, tokens }
     }
 
-    /// Puts the next bytes of the text at the front of `buf`, as many as fit or are left, and answers how many.
+    /// Puts the next bytes of the text at the front of `buf`, as many as fit or are left, and returns their
+    /// number.
     pub fn fill(&mut self, buf: &mut [u8]) -> usize
         ensures count { result ≡ min (length buf.old) (length self.old) }
         ensures given { take result buf.new ≡ take result self.old }
@@ -52,7 +53,8 @@ impl<T: Tokens> TokenText<T> {
     }
 }
 
-/// Appends what is left of the text, page by page, to the file that is being written. After a fault a first part of it was appended.
+/// Appends what is left of the text, page by page, to the file that is being written. After a fault a first
+/// part of this was appended.
 pub fn write_text<T: Tokens, F: Files>(
     text: &mut TokenText<T>,
     files: &mut F,

@@ -6,10 +6,10 @@ use crate::text_token::TextToken;
 
 /// The tokens of a text that are left.
 pub trait Tokens: Drop {
-    /// What they make, one behind another.
+    /// The text of these tokens, one behind another.
     ghost rest: { Self → Bytes };
 
-    /// Puts the next token, which has a byte at least, in the place of this one. None is left at the text's end.
+    /// Puts the next token, which has at least one byte, into `token`. At the end of the text there is none.
     fn next(&mut self, token: &mut TextToken) -> bool
         ensures { MatchBool result
             ((rest self.old ≡ token.new ++ rest self.new) × (0 < length token.new))

@@ -216,7 +216,7 @@ fn trim(words: &[Word]) -> Option<Command<'_>>
     })
 }
 
-/// The job that the words name, if they name one. It takes no memory.
+/// The job that the words name, if they name one. The call takes no memory.
 #[tactic(auto, unfolding(job_semantics::specs::Job::job_of))]
 pub fn command_named(words: &[Word]) -> Option<Command<'_>>
     ensures job { option_map job_meaning result ≡ job_of words.now }

@@ -8,8 +8,8 @@ use std::env::Args;
 use std::rt::Env;
 use std::{env, io};
 
-/// The words after the program's name. The library gives all arguments as text or none: where it gives none for
-/// another reason than memory, the words are one empty word, which no job has.
+/// The words behind the program's name. The library gives all arguments as text, or none. Where it gives none
+/// for another reason than memory, the words are one empty word, which no job has.
 pub fn words(rt: &(impl Env + AllocGlobal)) -> Result<Vec<Word>, AllocError> {
     match env::args(rt) {
         Ok(arguments) => after_first(rt.alloc(), arguments),

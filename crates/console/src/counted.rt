@@ -15,7 +15,7 @@ pub(crate) fn fault(faults: &mut u64) -> FileFault
     FileFault
 }
 
-/// Reads the next bytes to the front of the buffer, and answers their number. An error is a fault.
+/// Reads the next bytes to the front of the buffer, and returns their number. An error is a fault.
 pub(crate) fn read_some<S: Read>(
     from: &mut S,
     buffer: &mut [u8],
@@ -37,8 +37,8 @@ pub(crate) fn read_some<S: Read>(
     }
 }
 
-/// Writes the first bytes of the piece, and answers their number. An error is a fault, and so is a write that takes
-/// nothing of some bytes.
+/// Writes the first bytes of the piece, and returns their number. An error is a fault, and so is a write that
+/// takes none of one or more bytes.
 pub(crate) fn write_some<S: Write>(
     to: &mut S,
     piece: &[u8],

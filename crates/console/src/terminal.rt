@@ -17,7 +17,7 @@ const CLEAR: &str = "\r\x1b[K";
 /// What was told of the work last.
 #[derive(Drop)]
 enum Stage {
-    /// The moves of table `table` of so many are tried.
+    /// The moves of table `table`, one of `tables` tables, are tried.
     Chain { table: u32, tables: u32 },
     /// The greatest error lies between these.
     Maximum { low: u128, high: u128 },

@@ -25,7 +25,7 @@ abbrev pub ConversionAnswer : {R : Type 0} → (Bytes → Result Bytes R) → (R
 ConversionAnswer reading Tells input output old new said says answer =
     (end : ConversionEnd reading input output old new said says) × IsConversionAnswer Tells end answer
 
--- the answer that the reading of IN asks a conversion for
+-- the answer that the reading of IN requires of a conversion
 abbrev pub IsConvertedAs : {R : Type 0} → (R → Status → Type 0) → Result Bytes R → Status → Type 0
 IsConvertedAs Tells (Ok text) answer = (answer ≡ Done) ⊎ (answer ≡ NoMemory)
 IsConvertedAs Tells (Err refusal) answer = Tells refusal answer ⊎ (answer ≡ NoMemory)

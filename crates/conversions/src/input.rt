@@ -13,7 +13,8 @@ use net_core::net::Net;
 use semantics::limits::MOST_INPUT_BYTES;
 use std::alloc::Global;
 
-/// Reads a file no further than one byte past the limit, so that none is endless. Where it cannot be read, that is the answer.
+/// Reads a file no further than one byte past the limit, so that no file is endless. Where the file cannot be
+/// read, the error is the answer of the run.
 pub fn read_front<F: Files>(alloc: Global, files: &mut F, name: &[u8]) -> Result<Front, Status>
     ensures ok { IfOk result (λ front. FrontRead (F.told files.old) (F.told files.new) name.now front.bytes) }
     ensures err { IfErr result (FrontUnread (F.told files.old) (F.told files.new) name.now) }
@@ -29,7 +30,7 @@ pub fn read_front<F: Files>(alloc: Global, files: &mut F, name: &[u8]) -> Result
     }
 }
 
-/// Reads a file, and makes the net of its text. Where there is none, that is the answer.
+/// Reads a file, and makes the net of its text. Where there is no net, the error is the answer of the run.
 pub fn read_net<F: Files>(alloc: Global, files: &mut F, name: &[u8]) -> Result<Net, Status>
     ensures ok { IfOk result (NetRead (F.told files.old) (F.told files.new) name.now) }
     ensures err { IfErr result (NetUnread (F.told files.old) (F.told files.new) name.now) }

@@ -20,7 +20,7 @@ enum Damage<'a> {
     Emptied,
     /// The front of its text, which is the first of these, is the second.
     Front(&'a [u8], &'a [u8]),
-    /// The end of its text, likewise.
+    /// The end of its text, which is the first of these, is the second.
     End(&'a [u8], &'a [u8]),
     /// Each LF has a CR before it.
     CarriageReturns,
@@ -35,8 +35,8 @@ enum Answer {
     ReadFault,
 }
 
-/// A file, its damage, and the answer. The log's first item is clause 246, and its last one is the empty clause 252, which follows
-/// from 248 and 251.
+/// A file, its damage, and the answer. The log's first item is clause 246; its last item is the empty clause
+/// 252, which follows from 248 and 251.
 const DAMAGES: [(&[u8], Damage, Answer); 19] = [
     (b"out.lrat", Damage::Emptied, Answer::Refuted(8)),
     (
@@ -226,7 +226,7 @@ fn is_answer(status: &Status, answer: Answer) -> bool {
     }
 }
 
-/// What a check of the bundle, where the two files have their damages, comes to, if it puts nothing.
+/// What a check of the bundle comes to, where the two files have their damages, if the check puts nothing.
 fn checked(
     alloc: Global,
     whole: &MemFiles,

@@ -48,8 +48,8 @@ fn adder_outputs(alloc: Global, width: u32) -> Result<SignalList, AllocError>
     Ok(outputs)
 }
 
-/// The adder of two words of so many bits, 1 to 32: its output number is the sum of the numbers of its two input words. It
-/// fails for want of memory alone.
+/// The adder of two words of `width` bits, 1 to 32: its output number is the sum of the numbers of its two
+/// input words. The call fails for want of memory alone.
 pub fn demo_net(alloc: Global, width: u32) -> Result<Net, AllocError>
     requires some { 1 ≤ width }
     requires narrow { width ≤ 32 }

@@ -12,7 +12,8 @@ use std::test::Fail;
 /// More calls than a check makes, if each one takes a byte.
 const MOST_CALLS: u64 = 20_000;
 
-/// A check of the bundle, over files that work in chunks of this size. The call of this number alone fails.
+/// A check of the bundle, over files that work in chunks of `chunk` bytes; only the call with the number
+/// `call` fails.
 fn failing_at(alloc: Global, whole: &MemFiles, chunk: usize, call: u64) -> Result<Run, AllocError>
     requires { 0 < chunk }
 {
@@ -27,8 +28,8 @@ fn is_quiet(ended: &Run, whole: &MemFiles) -> bool {
         && ended.sink.bytes().is_empty()
 }
 
-/// The first call that is not made, so that the bundle is verified; none where a call before it does not answer a read fault, or leaves
-/// other files.
+/// The number of the first call that a check does not make, so that the bundle is verified; None where a call
+/// before it does not answer a read fault, or changes a file.
 fn first_done(alloc: Global, whole: &MemFiles, chunk: usize) -> Result<Option<u64>, AllocError>
     requires { 0 < chunk }
 {
@@ -45,7 +46,7 @@ fn first_done(alloc: Global, whole: &MemFiles, chunk: usize) -> Result<Option<u6
     Ok(None)
 }
 
-/// How many bytes a check reads.
+/// The number of bytes that a check reads.
 fn bytes_read(whole: &MemFiles) -> usize {
     let mut bytes = HALF_ADDER.len();
     for name in NAMES {
@@ -54,8 +55,8 @@ fn bytes_read(whole: &MemFiles) -> usize {
     bytes
 }
 
-/// Whether each call on files, in chunks of this size, fails in turn, until the bundle is verified. So many calls are made that they can
-/// read all.
+/// Whether each call on files, in chunks of `chunk` bytes, fails in turn, until the bundle is verified, and
+/// these calls are enough to read all bytes.
 fn files_fail_in_turn(alloc: Global, chunk: usize) -> Result<bool, AllocError>
     requires { 0 < chunk }
 {

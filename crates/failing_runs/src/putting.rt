@@ -12,7 +12,8 @@ use std::test::Fail;
 /// More calls than a report of single bytes needs.
 const MOST_CALLS: u64 = 1000;
 
-/// The job's run, whose sink works in chunks of this size. The sink's call of this number alone fails.
+/// The job's run, whose sink works in chunks of `chunk` bytes; only the sink's call with the number `call`
+/// fails.
 fn failing_at(alloc: Global, job: &Writing, chunk: usize, call: u64) -> Result<Run, AllocError>
     requires { 0 < chunk }
 {
@@ -27,8 +28,8 @@ fn is_left_by_the_sink(ended: &Run, report: &[u8]) -> bool {
         && ended.sink.bytes() != report
 }
 
-/// Whether a run that is done comes after those in which each call on the sink, in chunks of this size, fails alone. Each leaves the
-/// whole bundle, and the report is the bundle's last file.
+/// Whether a run that is done follows the runs in each of which one call on the sink, in chunks of `chunk`
+/// bytes, fails alone. Each of these leaves the whole bundle, and the report is the bundle's last file.
 fn sink_fails_in_turn(alloc: Global, job: &Writing, chunk: usize) -> Result<bool, AllocError>
     requires { 0 < chunk }
 {

@@ -38,7 +38,8 @@ pub(crate) const DEMONSTRATION: Writing = Writing {
 /// More calls than a run makes, if each one takes a byte.
 const MOST_CALLS: u64 = 20_000;
 
-/// The job's run beside the half adder, over files that work in chunks of this size. The call of this number alone fails.
+/// The job's run beside the half adder, over files that work in chunks of `chunk` bytes; only the call with
+/// the number `call` fails.
 fn failing_at(alloc: Global, job: &Writing, chunk: usize, call: u64) -> Result<Run, AllocError>
     requires { 0 < chunk }
 {
@@ -77,12 +78,13 @@ fn is_cut_short(files: &MemFiles, names: &[&[u8]; 5], whole: &MemFiles) -> bool 
     is_cut
 }
 
-/// Whether the call failed as one that writes: a write fault is answered, and the bundle is cut short.
+/// Whether the call failed as a call that writes: a write fault is answered, and the bundle is cut short.
 fn is_left_by_a_write(ended: &Run, job: &Writing, whole: &MemFiles) -> bool {
     ended.status.exit() == 6 && is_quiet(ended) && is_cut_short(&ended.files, &job.names, whole)
 }
 
-/// The number of the first call whose fault is no read fault: each run before it makes nothing.
+/// The number of the first call whose fault is no read fault; each run in which an earlier call fails makes
+/// nothing.
 fn first_write(alloc: Global, job: &Writing, chunk: usize) -> Result<u64, AllocError>
     requires { 0 < chunk }
 {
@@ -98,7 +100,8 @@ fn first_write(alloc: Global, job: &Writing, chunk: usize) -> Result<u64, AllocE
     Ok(MOST_CALLS)
 }
 
-/// Whether the netlist is not there where the first call that writes fails, and is there where one of the next two does.
+/// Whether the netlist is not there where the first call that writes fails, and is there where one of the
+/// next two calls fails.
 fn is_made_in_turn(
     alloc: Global,
     job: &Writing,
@@ -116,8 +119,8 @@ fn is_made_in_turn(
     Ok(true)
 }
 
-/// The first call from this one on that is not made, so that the run is done; none where a call before it failed in another way than
-/// one that writes.
+/// The number of the first call, from `from` on, that is not made, so that the run is done; None where a call
+/// before it failed in another way than a call that writes.
 fn first_done(
     alloc: Global,
     job: &Writing,
@@ -139,7 +142,8 @@ fn first_done(
     Ok(None)
 }
 
-/// Whether the run is done only where this call is not made: where the one before it fails, no more than the last chunk is missing.
+/// Whether the run is done exactly where this call is not made: where the call before it fails, no more than
+/// the last chunk is missing.
 fn is_done_at(
     alloc: Global,
     job: &Writing,
@@ -174,7 +178,8 @@ fn writes_fail_in_turn(
     }
 }
 
-/// Whether each call on the job's files, in chunks of this size, fails in turn: first those that read, and then those that write.
+/// Whether each call on the job's files, in chunks of `chunk` bytes, fails in turn: first the calls that
+/// read, and then those that write.
 fn files_fail_in_turn(alloc: Global, job: &Writing, chunk: usize) -> Result<bool, AllocError>
     requires { 0 < chunk }
 {

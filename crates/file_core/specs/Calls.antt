@@ -10,7 +10,7 @@ abbrev pub is_listed : List ℕ → ℕ → Bool
 is_listed [] call = false
 is_listed (n ∷ ns) call = (n == call) || is_listed ns call
 
--- no listed call comes after so many calls
+-- no listed call comes after the first `calls` calls
 abbrev pub none_left : List ℕ → ℕ → Bool
 none_left [] calls = true
 none_left (n ∷ ns) calls = nat_le n calls && none_left ns calls

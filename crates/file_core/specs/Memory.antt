@@ -91,7 +91,7 @@ left_of held (Some place) = length (bytes_of held place.name) - place.at
 abbrev pub moved : ℕ → Option Place → Option Place
 moved n reading = option_map (λ p. record { name = p.name; at = p.at + n }) reading
 
--- after `read` was asked for so many bytes and gave n
+-- after `read` was asked for `asked` bytes and gave n
 abbrev pub read_on : MemoryValue → ℕ → ℕ → MemoryValue
 read_on m asked n = record (counted m) { reading = moved n m.reading; turns = turns_after m.opened asked n m.turns }
 

@@ -16,12 +16,12 @@ pub record Gathers {T E : Type 0} (result : Result T E) (old new : FilesTold) (b
   pub err : OnErr result (WriteFailed old new (before ++ text))
   pub emptied : OnErr result (after ≡ [])
 
--- the text was appended; or a fault came, and a first part of it was
+-- the text was appended; or a fault came, and a first part of the text was appended
 pub record Writes {T E : Type 0} (result : Result T E) (old new : FilesTold) (text : Bytes) : Type 0 where
   pub ok : OnOk result (Wrote old new text)
   pub err : OnErr result (WriteFailed old new text)
 
--- the same of a sink
+-- the text was put to the sink; or a fault came, and a first part of the text was put
 pub record Puts {T E : Type 0} (result : Result T E) (old new : SinkTold) (text : Bytes) : Type 0 where
   pub ok : OnOk result (Took old new text)
   pub err : OnErr result (TakeFailed old new text)

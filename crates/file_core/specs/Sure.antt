@@ -56,7 +56,7 @@ found s name = record s { reading = Some (record { name = name; at = 0 }); opene
 abbrev pub not_found : SureValue → Bytes → SureValue
 not_found s name = record s { told = false; reading = None; opened = Some name }
 
--- after `read` was asked for so many bytes and gave n
+-- after `read` was asked for `asked` bytes and gave n
 abbrev pub went_on : SureValue → ℕ → ℕ → SureValue
 went_on s asked n = record s { reading = moved n s.reading; turns = turns_after s.opened asked n s.turns }
 

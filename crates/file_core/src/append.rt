@@ -5,7 +5,8 @@ use crate::fault::FileFault;
 use crate::files::Files;
 use crate::sink::Sink;
 
-/// Appends the whole text to the file that is being written. After a fault a first part of it was appended.
+/// Appends the whole text to the file that is being written. After a fault a first part of the text was
+/// appended.
 pub fn append_all<F: Files>(files: &mut F, text: &[u8]) -> Result<(), FileFault>
     ensures { Writes result (F.told files.old) (F.told files.new) text.now }
 {
@@ -17,7 +18,7 @@ pub fn append_all<F: Files>(files: &mut F, text: &[u8]) -> Result<(), FileFault>
     Ok(())
 }
 
-/// Puts the whole text. After a fault a first part of it was put.
+/// Puts the whole text to the sink. After a fault a first part of the text was put.
 pub fn put_all<K: Sink>(say: &mut K, text: &[u8]) -> Result<(), FileFault>
     ensures { Puts result (K.told say.old) (K.told say.new) text.now }
 {

@@ -1,4 +1,4 @@
-//! The count of the calls on files or a sink in memory, of which those of given numbers fail.
+//! The count of the calls on files or a sink in memory; the calls with given numbers fail.
 ghost use Rattle.std.specs.Prelude.{◌≡◌, ◌+◌, ◌-◌, ◌≤◌, ◌↔◌, min, IsTrue, is_err, OnOk, OnErr};
 ghost use Rattle.file_core.specs.Calls.{one_more, is_listed};
 ghost use Rattle.file_core.specs.Counting.{Rises};
@@ -6,7 +6,7 @@ ghost use Rattle.file_core.specs.Counting.{Rises};
 use crate::fault::FileFault;
 use crate::lists::CallList;
 
-/// How many calls and faults there were, and which calls fail.
+/// The number of calls and of faults, and which calls fail.
 #[derive(Debug, Drop)]
 pub(crate) struct Calls {
     pub(crate) calls: u64,

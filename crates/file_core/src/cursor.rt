@@ -8,7 +8,7 @@ pub(crate) struct Cursor {
     pub(crate) at: usize,
 }
 
-/// Puts the next bytes of the content, at most `limit`, at the front of the buffer, and answers their number.
+/// Puts the next bytes of the content, at most `limit`, at the front of the buffer, and returns their number.
 pub(crate) fn copy_next(content: &[u8], at: usize, limit: usize, buffer: &mut [u8]) -> usize
     ensures count { result ≡ min (min (length buffer.old) limit) (length content.now - at) }
     ensures bytes { take result buffer.new ≡ take result (drop at content.now) }

@@ -6,26 +6,27 @@ use crate::fault::FileFault;
 
 /// Files by name. One file can be open for reading, and one for writing.
 pub trait Files {
-    /// All the meanings: which files are held, what is open, the count of faults, and where none can come.
+    /// What the files tell: which files are held, what is open, the count of faults, and where no fault can
+    /// come.
     ghost told: { Self → FilesTold };
 
-    /// Reads this file from its first byte on.
+    /// Opens this file, to be read from its first byte on.
     fn open_file(&mut self, name: &[u8]) -> Result<(), FileFault>
         ensures ok { OnOk result (Opened (told self.old) (told self.new) name.now) }
         ensures err { OnErr result (OpenFailed (told self.old) (told self.new) name.now) };
 
-    /// Puts the next bytes of the open file at the front of the buffer, and answers their number.
+    /// Puts the next bytes of the open file at the front of the buffer, and returns their number.
     fn read(&mut self, buffer: &mut [u8]) -> Result<usize, FileFault>
         ensures within { IfOk result (λ n. n ≤ length buffer.new) }
         ensures ok { IfOk result (λ n. Gave (told self.old) (told self.new) n buffer.new) }
         ensures err { OnErr result (ReadFailed (told self.old) (told self.new)) };
 
-    /// Makes this file, empty, in the place of what it held, and writes to it from now on.
+    /// Makes this file, empty, in the place of what it held; from now on it is the file that is written.
     fn create(&mut self, name: &[u8]) -> Result<(), FileFault>
         ensures ok { OnOk result (Created (told self.old) (told self.new) name.now) }
         ensures err { OnErr result (CreateFailed (told self.old) (told self.new) name.now) };
 
-    /// Adds the first bytes of the piece to the file that is being written, and answers their number.
+    /// Adds the first bytes of the piece to the file that is being written, and returns their number.
     fn append(&mut self, piece: &[u8]) -> Result<usize, FileFault>
         ensures within { IfOk result (λ n. n ≤ length piece.now) }
         ensures progress { IfOk result (λ n. 0 < length piece.now → 0 < n) }

@@ -7,7 +7,7 @@ use crate::word::Word;
 use std::alloc::{AllocError, Global};
 use std::marker::Model;
 
-/// Files by name. Of two with the same name the first counts.
+/// Files by name. Of two files with the same name the first counts.
 #[derive(Debug, Drop)]
 pub struct FileList {
     items: Vec<(Word, Word)>,
@@ -20,7 +20,7 @@ impl Model for FileList {
 }
 
 impl FileList {
-    /// No files. It takes no memory.
+    /// No files. The call takes no memory.
     pub fn new(alloc: Global) -> Self
         ensures { result ≡ [] }
     {
@@ -53,7 +53,7 @@ impl FileList {
         self.items[place].1.bytes()
     }
 
-    /// Makes the file with this name empty, and answers its place.
+    /// Makes the file with this name empty, and returns its place.
     pub(crate) fn make_empty(&mut self, name: &[u8]) -> Result<usize, AllocError>
         ensures ok { IfOk result (SetsFile self.old self.new name.now []) }
         ensures refused { IsErr result → LacksName self.old name.now }
@@ -138,7 +138,7 @@ impl Model for CallList {
 }
 
 impl CallList {
-    /// No calls. It takes no memory.
+    /// No calls. The call takes no memory.
     pub fn new(alloc: Global) -> Self
         ensures { result ≡ [] }
     {
@@ -156,7 +156,7 @@ impl CallList {
         Ok(())
     }
 
-    /// Whether the call after so many calls is listed.
+    /// Whether the call with the number `calls` + 1 is listed.
     pub(crate) fn lists_next(&self, calls: u64) -> bool
         ensures { result ≡ is_listed self.now (calls + 1) }
     {

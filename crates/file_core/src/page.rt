@@ -8,7 +8,7 @@ use crate::fault::FileFault;
 use crate::files::Files;
 use std::marker::Model;
 
-/// How many bytes a page holds.
+/// The number of bytes that a page holds.
 pub const PAGE_BYTES: usize = 4096;
 
 /// The bytes that were gathered and not yet appended.

@@ -6,10 +6,10 @@ use crate::fault::FileFault;
 
 /// Takes bytes, one after another.
 pub trait Sink {
-    /// The meanings: the bytes that were put, and the count of faults.
+    /// What the sink tells: the bytes that were put, and the count of faults.
     ghost told: { Self → SinkTold };
 
-    /// Puts the first bytes of the piece, and answers their number.
+    /// Puts the first bytes of the piece, and returns their number.
     fn put(&mut self, piece: &[u8]) -> Result<usize, FileFault>
         ensures within { IfOk result (λ n. n ≤ length piece.now) }
         ensures progress { IfOk result (λ n. 0 < length piece.now → 0 < n) }

@@ -7,8 +7,8 @@ use history::reads::Reads;
 /// The most bytes that a read turn asks for.
 pub const TURN_BYTES: usize = 65536;
 
-/// Counts a read of the open file that asked for so many bytes and gave `count`. It is a turn where it asked for at
-/// most `TURN_BYTES` and gave one at least.
+/// Counts a read of the open file that asked for `asked` bytes and gave `count`. The read is a turn where it
+/// asked for at most `TURN_BYTES` bytes and gave at least one.
 pub fn count_read(reads: &mut Reads, asked: usize, count: usize)
     ensures opened { reads.new.opened ≡ reads.old.opened }
     ensures turns { reads.new.turns ≡ turns_after reads.old.opened asked count reads.old.turns }

@@ -9,7 +9,7 @@ pub record HasRead (told : FilesTold) (held : Held) (name text : Bytes) : Type 0
   pub place : told.reading ≡ Some (record { name = name; at = length text })
   pub front : text ≡ take (length text) (bytes_of held name)
 
--- so many turns of reading, from the moment at which the file was opened
+-- `turns` turns of reading, from the moment at which the file was opened
 pub record SoFar (opened now : FilesTold) (text : Bytes) (turns : ℕ) : Type 0 where
   pub keeps : KeepsAtRead opened now
   pub taken : turns ≤ length text
@@ -28,7 +28,7 @@ pub record TurnRead (old new : FilesTold) (before after : Bytes) (room : ℕ) (m
   pub turn : IsTrue more → (name : Bytes) → old.opened ≡ Some name → turns_on old name < turns_on new name
   pub stops : more ≡ false → (after ≡ before) × ((room ≡ 0) ⊎ HasEnded old before)
 
--- no file changed, and what was told of a held name is told still
+-- no file changed, and what was told of a held name is still told
 pub record FilesStay (old new : FilesTold) (name : Bytes) : Type 0 where
   pub goes : Goes old new
   pub stays : WhereTold old new (λ a b. b ≡ a)
@@ -50,7 +50,8 @@ pub record FileFailed (old new : FilesTold) (name : Bytes) : Type 0 where
   pub rose : Rose old.faults new.faults
   pub not_steady : old.steady_read name ≡ false
 
--- The budget of turns was spent on the file. Each gave a byte, so as many bytes were taken in, and so many the file has.
+-- The budget of turns was spent on the file. Each turn gave at least one byte, so at least as many bytes were
+-- taken in, and the file has at least as many.
 pub record FileEndless (old new : FilesTold) (name text : Bytes) : Type 0 where
   pub stay : FilesStay old new name
   pub read_out : IsReadOut old new name

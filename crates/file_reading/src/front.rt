@@ -5,7 +5,7 @@ use crate::intake::Intake;
 use std::alloc::{AllocError, Global};
 use std::marker::Model;
 
-/// The bytes so far; where they are more than the limit, the text is longer than that.
+/// The bytes so far; where they are more than the limit, the text is longer than the limit.
 #[derive(Drop)]
 pub struct Front {
     bytes: Vec<u8>,
@@ -25,7 +25,7 @@ impl Model for Front {
 }
 
 impl Front {
-    /// No bytes yet. It takes no memory.
+    /// No bytes yet. The call takes no memory.
     pub fn new(alloc: Global, limit: usize) -> Front
         requires { limit < 2 ^ 40 }
         ensures { result ≡ record { bytes = []; limit = limit } }

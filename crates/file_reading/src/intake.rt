@@ -8,13 +8,13 @@ pub trait Intake {
     /// What the text is taken for.
     type Aim;
 
-    /// This stays, whatever is taken.
+    /// The aim, which stays whatever is taken.
     ghost aim: { Self → Self.Aim };
 
     /// The bytes so far.
     ghost text: { Self → List ℕ };
 
-    /// How many bytes more it takes next at most; once it is 0 nothing more is wanted.
+    /// The most bytes that it takes next; once this is 0, nothing more is wanted.
     ghost room: { Self → ℕ };
 
     fn wanted(&self) -> usize

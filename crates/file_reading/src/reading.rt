@@ -11,7 +11,8 @@ use file_core::files::Files;
 use file_core::turns::TURN_BYTES;
 use std::alloc::AllocError;
 
-/// How often a file is asked for more, at most `TURN_BYTES` at a time; each time that goes on gives a byte at least.
+/// The number of turns in which a file is asked for more, for at most `TURN_BYTES` bytes each; each turn
+/// after which the reading goes on gives at least one byte.
 const TURNS: u64 = 1 << 40;
 
 /// Hands on the first bytes of the buffer.
@@ -24,8 +25,8 @@ fn take_front<I: Intake>(intake: &mut I, buffer: &[u8], count: usize) -> Result<
     intake.take(&buffer[..count])
 }
 
-/// Hands on the next bytes of the open file, and answers whether there were any; where none are wanted it asks for none. They come
-/// through the buffer.
+/// Hands on the next bytes of the open file, through the buffer, and returns whether there were any. Where
+/// none are wanted, the file is not asked.
 fn read_turn<F: Files, I: Intake>(
     files: &mut F,
     intake: &mut I,
@@ -50,8 +51,8 @@ fn read_turn<F: Files, I: Intake>(
     Ok(true)
 }
 
-/// Hands on the bytes of the file that was just opened, all of them or as many as are wanted. The clauses speak of any moment from
-/// which on it was opened.
+/// Hands on the bytes of the file that was just opened, all bytes or as many as are wanted. The clauses hold
+/// for any moment at which the file was opened.
 fn read_opened<F: Files, I: Intake>(files: &mut F, intake: &mut I) -> Result<(), Unread>
     requires { I.text intake.old ≡ [] }
     ensures ok { (before : FilesTold) (name : Bytes) → Opened before (F.told files.old) name → OnOk result
@@ -70,7 +71,7 @@ fn read_opened<F: Files, I: Intake>(files: &mut F, intake: &mut I) -> Result<(),
     Err(Unread::Endless)
 }
 
-/// Hands on the bytes of a file, all of them or as many as are wanted.
+/// Hands on the bytes of a file, all bytes or as many as are wanted.
 pub fn read_file<F: Files, I: Intake>(
     files: &mut F,
     name: &[u8],

@@ -8,7 +8,7 @@ use Rattle.blif_text.specs.declared.judging.OpenTable.{OpenTable}
 use Rattle.blif_text.specs.Places.{table_of}
 use Rattle.hierarchy_semantics.specs.ModelLines.{wrong_at}
 
--- where the line before was `.end` or was not, and a table may get rows
+-- `ended` says whether the line before was `.end`, and `table` may get rows
 abbrev pub place_with : Bool → Option s.OpenTable → Line → s.Place
 place_with ended table words = record { had_model = false; had_end = ended && not (is_model (kind_of words)); table = table }
 

@@ -5,7 +5,7 @@ use Rattle.hierarchy_semantics.specs.Refusals as r
 use Rattle.hier_blif.specs.declared.refusal.HierRefusal.{HierRefusal}
 use Rattle.hier_blif.specs.declared.refusal.HierRefusal.TheVariants as h
 
--- the refusal that the code tells, if it is not want of memory
+-- the refusal of the definitions that the code's refusal is; want of memory is none
 abbrev pub refusal_of : HierRefusal → Option r.HierRefusal
 refusal_of (h.Line refusal) = option_map r.line (b.refusal_of refusal)
 refusal_of (h.SameModel name) = Some (r.same_model name)
@@ -19,7 +19,7 @@ refusal_of (h.Taken name) = Some (r.taken name)
 refusal_of (h.Flat refusal) = option_map r.flat (b.refusal_of refusal)
 refusal_of h.OutOfMemory = None
 
--- want of memory, or the refusal that this answer is
+-- the answer is this refusal, or the refusal is want of memory
 abbrev pub Tells : {X : Type 0} → HierRefusal → Result X r.HierRefusal → Type 0
 Tells told answer = elim (refusal_of told) [ None ↦ told ≡ h.OutOfMemory | Some refusal ↦ answer ≡ Err refusal ]
 
@@ -37,6 +37,6 @@ number_of (h.Taken name) = 9
 number_of (h.Flat refusal) = 10
 number_of h.OutOfMemory = 11
 
--- want of memory, or the one refusal that is told
+-- the refusal is want of memory, or is the one that is told
 abbrev pub TellsOne : HierRefusal → Option r.HierRefusal → Type 0
 TellsOne told answer = elim (refusal_of told) [ None ↦ told ≡ h.OutOfMemory | Some refusal ↦ answer ≡ Some refusal ]

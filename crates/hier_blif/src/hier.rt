@@ -41,8 +41,9 @@ impl Hier {
         Hier { lines }
     }
 
-    /// The flat net: the main model with the flat tables of each model that is used in the place of its use. Whether it passes a limit is
-    /// decided by counting, before it is made. It refuses by `Flat` and by want of memory alone.
+    /// The flat net: the main model, with the flat tables of each model that is used in the place of its use.
+    /// Whether the net passes a limit is decided by counting, before it is made. The call refuses by `Flat`
+    /// and for want of memory alone.
     pub fn flatten(&self, alloc: Global) -> Result<Net, HierRefusal>
         ensures ok { IfOk result (λ n. flattened self.now ≡ Ok n) }
         ensures sound { IfOk result (λ n. IsSound n) }

@@ -15,7 +15,8 @@ use blif_text::statements::{are_printable, arguments, kind_of};
 use hier_parts::statements::{Statement, is_subckt, is_use};
 use std::alloc::Global;
 
-/// What is wrong with a line, where the line before it was `.end` or was not, and a table may get rows.
+/// What is wrong with a line, where `ended` says whether the line before it was `.end`, and `table` may get
+/// rows.
 fn wrong_at(ended: bool, table: Option<OpenTable>, words: &[&[u8]]) -> Option<Wrong>
     ensures { wrong_if result (texts words.now) ≡ wrong_at (place_for ended table (texts words.now)) (texts words.now) }
 {

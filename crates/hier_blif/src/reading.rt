@@ -14,7 +14,7 @@ use hier_parts::models::hierarchy_of;
 use hier_parts::statements::statements;
 use std::alloc::Global;
 
-/// Whether no line is wrong and the models are a hierarchy, or else the first refusal.
+/// Succeeds where no line is wrong and the models are a hierarchy; else returns the first refusal.
 fn test_lines(alloc: Global, lines: &[LogLine]) -> Result<(), HierRefusal>
     ensures ok { OnOk result (lines_refusal lines.now ≡ None) }
     ensures err { IfErr result (λ told. TellsOne told (lines_refusal lines.now)) }
@@ -25,8 +25,9 @@ fn test_lines(alloc: Global, lines: &[LogLine]) -> Result<(), HierRefusal>
     refuse(alloc, &models)
 }
 
-/// The hierarchy of a text of at most `limit` bytes, in time and memory about in proportion to the text. It refuses by any but `Flat`. Each
-/// refusal but want of memory is the one that the definition gives; want of memory may come at any point.
+/// The hierarchy of a text of at most `limit` bytes, in time and memory about in proportion to the text. The
+/// call refuses by any refusal but `Flat`. Each refusal but want of memory is the one that the definition
+/// gives; want of memory may come at any point.
 pub fn read_hier(alloc: Global, text: &[u8], limit: u64) -> Result<Hier, HierRefusal>
     requires { limit < 2 ^ 31 }
     ensures ok { IfOk result (λ h. hier_reading text.now limit ≡ Ok h) }

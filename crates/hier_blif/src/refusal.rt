@@ -26,7 +26,7 @@ pub enum HierRefusal {
     /// A `.subckt` names no model of the text.
     #[error("a model is used that is not there")]
     NoModel(Name),
-    /// A model uses itself or one that does.
+    /// A model uses itself or a model that does.
     #[error("a model uses itself or one that does")]
     Recursive(Name),
     /// A model that is used has a name twice among its inputs and outputs.

@@ -86,7 +86,8 @@ fn refusal_of(alloc: Global, fault: Fault) -> Result<HierRefusal, AllocError>
     }
 }
 
-/// Whether the models are a hierarchy, or else the first refusal. Each word in a name's place is a name.
+/// Succeeds where the models are a hierarchy; else returns the first refusal. Each word in a name's place is
+/// a name.
 pub fn refuse(alloc: Global, models: &[BlifModel]) -> Result<(), HierRefusal>
     requires { AreNamed models.now }
     ensures ok { OnOk result (hier_refusal models.now ≡ None) }

@@ -9,7 +9,7 @@ use Rattle.hierarchy_semantics.specs.Driven.{part_reads}
 use Rattle.hier_parts.specs.Driven.{driven_names}
 use Rattle.hier_parts.specs.Sets.{with_names}
 
--- the first name that is read by one of the parts, or else is an output, and is none of these
+-- the first name that one of the parts reads, or else the first output, that is not among the driven names
 abbrev pub undriven_in : Hierarchy → List Bytes → List Part → List Bytes → Option Bytes
 undriven_in h driven [] outputs = find (λ name. not (has_name driven name)) outputs
 undriven_in h driven (p ∷ parts) outputs =

@@ -69,7 +69,7 @@ pub fn used_names<'a>(alloc: Global, uses: &[&Subcircuit<'a>]) -> Result<Vec<&'a
     Ok(names)
 }
 
-/// The first model whose name is that of one before.
+/// The first model whose name is that of an earlier model.
 pub fn same_model<'a>(alloc: Global, names: &[&'a [u8]]) -> Result<Option<Fault<'a>>, AllocError>
     ensures { IfOk result (λ o. option_map fault_value o ≡ option_map same_model (first_doubled (texts names.now))) }
 {
@@ -79,7 +79,7 @@ pub fn same_model<'a>(alloc: Global, names: &[&'a [u8]]) -> Result<Option<Fault<
     }
 }
 
-/// The first use of a model that has none of the names.
+/// The first use of a model whose name is none of these.
 pub fn unknown<'a>(names: &Names, uses: &[&Subcircuit<'a>]) -> Option<Fault<'a>>
     ensures { option_map fault_value result
         ≡ option_map (λ c. no_model_named c.model) (find (λ c. not (has_name names.now c.model)) (uses_value uses.now)) }
@@ -124,7 +124,7 @@ pub fn doubled_ports<'a>(
     Ok(None)
 }
 
-/// The first port that is bound and is none of the model's, or is bound a second time.
+/// The first port in a use of a model that is bound and is no port of the model, or is bound a second time.
 fn wrong_formal<'a>(
     alloc: Global,
     model: &Interface,
@@ -184,7 +184,8 @@ fn unbound<'a>(
     }
 }
 
-/// The first port that is bound and is no port of its model, or is bound a second time.
+/// The first port, in these uses of models, that is bound and is no port of its model, or is bound a second
+/// time.
 pub fn wrong_formals<'a>(
     alloc: Global,
     models: &Interfaces,
@@ -212,7 +213,7 @@ fn unbound_input<'a>(
     unbound(alloc, models.of(c.model).model(), c)
 }
 
-/// The first input that a use of a model does not bind.
+/// The first input that one of these uses of a model does not bind.
 pub fn unbound_inputs<'a>(
     alloc: Global,
     models: &Interfaces<'_, 'a>,

@@ -135,7 +135,7 @@ fn form_fault<'a>(
     whole_fault(alloc, found, models)
 }
 
-/// The same of models whose names differ, and are known.
+/// The first fault of models whose names differ, and which are found by these names.
 fn known_fault<'a>(
     alloc: Global,
     known: Names<'a>,

@@ -18,7 +18,7 @@ use hier_parts::models::{BlifModel, Part, Subcircuit};
 use hier_parts::names::{Names, first_doubled, set_of};
 use std::alloc::{AllocError, Global};
 
-/// The first name that is bound to an input of the model and is none of these.
+/// The first name that is bound to an input of the model and is not among the driven names.
 fn missing_actual<'a>(driven: &Names, model: &Interface, c: &Subcircuit<'a>) -> Option<&'a [u8]>
     ensures { option_map (λ w. w.now) result
         ≡ find (λ name. not (has_name driven.now name)) (map (λ b. b.actual) (filter (λ b. has_name model.now.inputs b.formal) c.now.bindings)) }
@@ -31,7 +31,7 @@ fn missing_actual<'a>(driven: &Names, model: &Interface, c: &Subcircuit<'a>) -> 
     None
 }
 
-/// The first name that a part reads and that is none of these.
+/// The first name that a part reads and that is not among the driven names.
 fn undriven_part<'a>(driven: &Names, models: &Interfaces, part: &Part<'a>) -> Option<&'a [u8]>
     ensures { option_map (λ w. w.now) result
         ≡ find (λ name. not (has_name driven.now name)) (part_reads models.now (part_value part.now)) }
@@ -42,7 +42,7 @@ fn undriven_part<'a>(driven: &Names, models: &Interfaces, part: &Part<'a>) -> Op
     }
 }
 
-/// The first name that a model reads and that is none of these.
+/// The first name that a model reads and that is not among the driven names.
 fn undriven<'a>(driven: &Names, models: &Interfaces, m: &BlifModel<'a>) -> Option<&'a [u8]>
     ensures { option_map (λ w. w.now) result ≡ undriven_in models.now driven.now m.now.parts m.now.outputs }
 {

@@ -18,7 +18,7 @@ use Rattle.hier_parts.specs.Driven.{driven_names}
 abbrev pub by_tables : Weight
 by_tables = record { of_table = λ t. 1; of_buffer = 1 }
 
--- how many flat tables a model has, and a part of one
+-- the number of flat tables of a model, and of a part
 abbrev pub size_of : Hierarchy → BlifModel → ℕ
 size_of h m = model_weight h by_tables (length h) m
 
@@ -42,7 +42,7 @@ signal_in names signals name = elim (place_of names name) [ None ↦ 0 | Some i 
 abbrev pub model_signal : Hierarchy → List ℕ → ℕ → BlifModel → Bytes → ℕ
 model_signal h inputs first m = signal_in (driven_names h m) (inputs ++ part_signals h first m.parts)
 
--- those of the model that is used, where the names around it have these
+-- the signals of the names of the model that is used, where the names around its use have these signals
 abbrev pub used_signal : Hierarchy → (Bytes → ℕ) → ℕ → Subcircuit → Bytes → ℕ
 used_signal h signal first c =
     model_signal h (map (λ name. signal (actual_of c name)) (model_named h c.model).inputs) first (model_named h c.model)
@@ -66,7 +66,8 @@ with_buffers own inside [] tables = tables
 with_buffers own inside (b ∷ bindings) tables =
     with_buffers own inside bindings (tables ++ buffer_made own (inside b.formal) b.actual (length tables) ∷ [])
 
--- the tables before, and those of a part: of so many inputs, and with what the model inside adds
+-- the tables before, and the tables of a part; the main model has `inputs` inputs, and `inner` adds the
+-- tables of a model inside
 abbrev pub with_part :
     Hierarchy → ℕ → ((Bytes → ℕ) → BlifModel → List TableValue → List TableValue) → Bool → (Bytes → ℕ) → Part → List TableValue → List TableValue
 with_part h inputs inner own signal (names_part t) tables = tables ++ table_made own signal t (length tables) ∷ []
@@ -80,7 +81,7 @@ with_parts h inputs inner own signal [] tables = tables
 with_parts h inputs inner own signal (p ∷ parts) tables =
     with_parts h inputs inner own signal parts (with_part h inputs inner own signal p tables)
 
--- the tables before, and the flat tables of a model, over so many levels of models
+-- the tables before, and the flat tables of a model, over `levels` levels of models
 abbrev pub with_model : Hierarchy → ℕ → ℕ → Bool → (Bytes → ℕ) → BlifModel → List TableValue → List TableValue
 with_model h inputs zero own signal m tables = tables
 with_model h inputs (suc levels) own signal m tables = with_parts h inputs (with_model h inputs levels false) own signal m.parts tables

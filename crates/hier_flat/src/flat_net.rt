@@ -41,7 +41,7 @@ fn signal_names(
     Ok(names)
 }
 
-/// The refusal of a cycle that this signal depends on.
+/// The refusal of a cycle on which this signal depends.
 fn cycle_at(names: &NameList, signal: Signal) -> BlifRefusal
     ensures { TellsOne result (Some (flat (cycle (name_of names.now signal)))) }
 {
@@ -54,7 +54,7 @@ fn cycle_at(names: &NameList, signal: Signal) -> BlifRefusal
     }
 }
 
-/// The net of these parts, which pass no limit, or the refusal of a cycle: they have no other one.
+/// The net of these parts, which pass no limit, or the refusal of a cycle, the only one that they can have.
 fn acyclic_net(
     alloc: Global,
     model: Name,
@@ -80,7 +80,7 @@ fn acyclic_net(
     }
 }
 
-/// The signals from 0 on, so many.
+/// The signals from 0 up to before `count`.
 fn first_signals(alloc: Global, count: usize) -> Result<Vec<Signal>, AllocError>
     requires { count < 2 ^ 31 }
     ensures { IfOk result (λ v. v.items ≡ range_with_len 0 count) }

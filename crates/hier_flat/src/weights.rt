@@ -46,7 +46,7 @@ fn table_weight(measure: Measure, table: &NamedTable) -> u64
     }
 }
 
-/// What so many buffers count.
+/// What `count` buffers count.
 fn buffers_weight(measure: Measure, count: u64) -> u64
     ensures { result ≡ count * (weight_of measure).of_buffer }
 {

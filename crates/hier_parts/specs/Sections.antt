@@ -26,7 +26,7 @@ kinds_of Ports = is_port
 kinds_of Inputs = is_inputs
 kinds_of Outputs = is_outputs
 
--- how many lines stand before the first `.model`
+-- the number of lines before the first `.model`
 abbrev pub leading : List Statement → ℕ
 leading [] = 0
 leading (s ∷ rest) = if is_model (kind_of s.words) then 0 else suc (leading rest)

@@ -112,7 +112,7 @@ impl<'m, 'a> Model for Interfaces<'m, 'a> {
 }
 
 impl<'m, 'a> Interfaces<'m, 'a> {
-    /// Those of models that differ in their names.
+    /// The interfaces of models that differ in their names.
     pub fn new(
         alloc: Global,
         names: Names<'a>,
@@ -128,7 +128,7 @@ impl<'m, 'a> Interfaces<'m, 'a> {
         Ok(Interfaces { names, all, none })
     }
 
-    /// Where the model of a name stands.
+    /// The place of the model with a name.
     pub fn place(&self, name: &[u8]) -> Option<usize>
         ensures { result ≡ place_of (model_names self.now) name.now }
     {

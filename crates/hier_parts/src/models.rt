@@ -38,7 +38,7 @@ pub enum Part<'a> {
     Use(Subcircuit<'a>),
 }
 
-/// A model: its ports in the order of the text, of which some are inputs and some outputs, and its parts.
+/// A model: its ports in the order of the text, some of which are inputs and some outputs, and its parts.
 #[derive(Drop)]
 pub struct BlifModel<'a> {
     pub name: &'a [u8],
@@ -213,7 +213,7 @@ fn model_from<'a>(alloc: Global, lines: &[Statement<'a>]) -> Result<BlifModel<'a
     })
 }
 
-/// How many lines stand before the first `.model`.
+/// The number of lines before the first `.model`.
 fn leading(lines: &[Statement]) -> usize
     ensures is { result ≡ leading lines.now }
     ensures within { result ≤ length lines.now }
@@ -226,7 +226,7 @@ fn leading(lines: &[Statement]) -> usize
     lines.len()
 }
 
-/// The end of the model that begins here: where the next `.model` stands, or the end of the lines.
+/// The end of the model that begins here: the place of the next `.model`, or the end of the lines.
 fn section_end(lines: &[Statement], start: usize) -> usize
     requires { start < length lines.now }
     ensures is { result ≡ section_end lines.now start }
@@ -236,7 +236,7 @@ fn section_end(lines: &[Statement], start: usize) -> usize
     start + 1 + leading(&lines[start + 1..])
 }
 
-/// The models of lines: those before any `.model` are a model of their own.
+/// The models of lines. The lines before any `.model` are a model of their own.
 pub fn hierarchy_of<'a>(
     alloc: Global,
     lines: &[Statement<'a>],

@@ -1,4 +1,5 @@
--- How much the flat tables of a hierarchy are, by counting over the statements of its models: no flat table is made.
+-- How large the flat tables of a hierarchy are, by counting over the statements of its models: no flat table
+-- is made.
 use Rattle.std.specs.Prelude.{◌≡◌, ℕ, zero, suc, ◌+◌, ◌*◌, not, nat_le, length, sum_by, if◌then◌else◌}
 use Rattle.semantics.specs.declared.limits.TheConstants.{MOST_TABLE_PINS}
 use Rattle.semantics.specs.Net.{pin_count, row_count}
@@ -7,7 +8,7 @@ use Rattle.hierarchy_semantics.specs.Models.{Part, names_part, subckt_part, Blif
 use Rattle.hierarchy_semantics.specs.Driven.{bound_outputs}
 use Rattle.hierarchy_semantics.specs.Flat.{flat_net}
 
--- what a table counts, and a buffer
+-- what one table counts, and what one buffer counts
 pub record Weight : Type 0 where
   pub of_table : NamedTable → ℕ
   pub of_buffer : ℕ
@@ -16,7 +17,7 @@ abbrev pub part_weight : Hierarchy → Weight → (BlifModel → ℕ) → Part �
 part_weight h w inner (names_part t) = w.of_table t
 part_weight h w inner (subckt_part c) = inner (model_named h c.model) + length (bound_outputs h c) * w.of_buffer
 
--- what a model counts, over so many levels of models
+-- what a model counts, with the models that it uses down to `levels` levels
 abbrev pub model_weight : Hierarchy → Weight → ℕ → BlifModel → ℕ
 model_weight h w zero m = 0
 model_weight h w (suc levels) m = sum_by (part_weight h w (model_weight h w levels)) m.parts

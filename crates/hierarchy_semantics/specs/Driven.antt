@@ -6,7 +6,8 @@ use Rattle.semantics.specs.Refusals.{has_name}
 use Rattle.blif_semantics.specs.Tables.{NamedTable}
 use Rattle.hierarchy_semantics.specs.Models.{Binding, Subcircuit, Part, names_part, subckt_part, BlifModel, Hierarchy, model_named}
 
--- What drives a name: an input, by its number; a table; or an output of a model, named there, that part n of this model uses.
+-- What drives a name: an input, by its number; a table; or the output, with this formal name, of the model
+-- that part n uses.
 pub data Source : Type 0 where
   by_input : (i : ℕ) → Source
   by_table : NamedTable → Source
@@ -16,7 +17,7 @@ pub record Driven : Type 0 where
   pub name : Bytes
   pub source : Source
 
--- the bindings of outputs, and those of inputs
+-- the bindings to outputs, and the bindings to inputs, of the model that is used
 abbrev pub bound_outputs : Hierarchy → Subcircuit → List Binding
 bound_outputs h c = filter (λ b. has_name (model_named h c.model).outputs b.formal) c.bindings
 

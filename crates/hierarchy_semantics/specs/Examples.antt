@@ -21,7 +21,7 @@ abbrev pub half_adder_lines : List Bytes
 half_adder_lines =
     codes ".model ha" ∷ codes ".inputs a b" ∷ codes ".outputs s c" ∷ codes ".names a b s" ∷ codes "10 1" ∷ codes "01 1" ∷ codes ".names a b c" ∷ codes "11 1" ∷ codes ".end" ∷ []
 
--- a full adder of two half adders, with these lines in the place of its first use of one
+-- a full adder of two half adders, with these lines in the place of its first `.subckt` line
 abbrev pub full_adder_lines : List Bytes → List Bytes
 full_adder_lines first =
     codes ".model fa" ∷ codes ".inputs a b c" ∷ codes ".outputs s co"
@@ -30,7 +30,7 @@ full_adder_lines first =
 abbrev pub full_adder : Bytes
 full_adder = lf (full_adder_lines (codes ".subckt ha a=a b=b s=t c=u" ∷ []) ++ half_adder_lines)
 
--- the half adder uses itself, and the full adder, which stands first, uses it
+-- the half adder uses itself, and the full adder, which stands first, uses the half adder
 abbrev pub in_a_circle : Bytes
 in_a_circle =
     lf (full_adder_lines (codes ".subckt ha a=a b=b s=t c=u" ∷ []) ++ codes ".model ha" ∷ codes ".inputs a b" ∷ codes ".outputs s c" ∷ codes ".names a b s" ∷ codes "10 1" ∷ codes "01 1"
@@ -81,7 +81,7 @@ flat_full_adder = record {
   outputs = 9 ∷ 11 ∷ [];
 }
 
--- the values of the main model's names in so many steps, at each input vector in counting order
+-- the values of the main model's names after `steps` steps, at each input vector in counting order
 abbrev pub values_in : Result Hierarchy HierRefusal → ℕ → ℕ → List Bytes → List (List (Option Bool))
 values_in (Ok h) steps inputs names = map (λ x. map (place_value h x steps []) names) (all_vectors inputs)
 values_in (Err r) steps inputs names = []

@@ -11,7 +11,7 @@ use Rattle.hierarchy_semantics.specs.Driven.{Source, by_input, by_table, by_outp
 use Rattle.hierarchy_semantics.specs.Places.{Path, use_at, model_at, actual_of}
 use Rattle.hierarchy_semantics.specs.Refusals.{HierRefusal, flat}
 
--- what a flat table drives, and in the model at which path
+-- what a flat table drives, and the path of the model in which it drives it
 pub record FlatItem : Type 0 where
   pub path : Path
   pub driven : Driven
@@ -19,12 +19,12 @@ pub record FlatItem : Type 0 where
 abbrev pub items_at : Path → List Driven → List FlatItem
 items_at path driven = map (λ d. record { path = path; driven = d }) driven
 
--- Before what the use of a model drives stand the flat tables of that model.
+-- The flat tables of a model that is used stand before the tables of the names that this use drives.
 abbrev pub part_items : Hierarchy → (Path → BlifModel → List FlatItem) → Path → ℕ → Part → List FlatItem
 part_items h inner path n (names_part t) = items_at path (part_driven h n (names_part t))
 part_items h inner path n (subckt_part c) = inner (n ∷ path) (model_named h c.model) ++ items_at path (part_driven h n (subckt_part c))
 
--- the flat tables of a model, in the order of its statements; so many levels of models
+-- the flat tables of a model, in the order of its statements, over `levels` levels of models
 abbrev pub items_of : Hierarchy → ℕ → Path → BlifModel → List FlatItem
 items_of h zero path m = []
 items_of h (suc levels) path m = over_parts (part_items h (items_of h levels) path) 0 m.parts
@@ -43,22 +43,22 @@ abbrev pub source_or : Source → (ℕ → ℕ) → ℕ → ℕ
 source_or (by_input i) of_input otherwise = of_input i
 source_or _ of_input otherwise = otherwise
 
--- what is said of the input that drives a name, or else the other number
+-- what `of_input` says of the input that drives a name; where no input does, the number `otherwise`
 abbrev pub input_or : Option Driven → (ℕ → ℕ) → ℕ → ℕ
 input_or None of_input otherwise = otherwise
 input_or (Some d) of_input otherwise = source_or d.source of_input otherwise
 
--- the signal of a place: that of an input of a model inside is the signal that is bound to it
+-- the signal of a place: an input of a model inside has the signal that is bound to it
 abbrev pub place_signal : Hierarchy → Path → Bytes → ℕ
 place_signal h [] name = input_or (source_of h (main_of h) name) (λ i. i) (table_signal h [] name)
 place_signal h (n ∷ up) name =
     input_or (source_of h (model_at h (n ∷ up)) name) (λ i. place_signal h up (actual_of (use_at (model_at h up) n) name)) (table_signal h (n ∷ up) name)
 
--- the names of the main model's tables are their own; every other table has `$u` and its number
+-- the tables of the main model keep their names; every other table is named `$u` and its number
 abbrev pub flat_name : ℕ → FlatItem → Bytes
 flat_name number item = elim item.path [ [] ↦ item.driven.name | n ∷ up ↦ codes "$u" ++ decimal number ]
 
--- a table with the signals of its pins, or a buffer of the signal inside
+-- a table with the signals of its pins; or, for an output of a model inside, a buffer of its signal there
 abbrev pub flat_table : Hierarchy → Bytes → Path → Source → TableValue
 flat_table h name path (by_input i) = no_table
 flat_table h name path (by_table t) = record { name = name; pins = map (place_signal h path) t.pins; rows = t.rows; plane = t.plane }
@@ -76,7 +76,7 @@ flat_net h = record {
   outputs = map (place_signal h []) (main_of h).outputs;
 }
 
--- the flat net, unless it passes a limit or else has a cycle
+-- the flat net, unless it passes a limit or, where it passes none, has a cycle
 abbrev pub flat_checked : NetValue → Result NetValue HierRefusal
 flat_checked N =
     elim (first_limit N) [

@@ -9,13 +9,14 @@ use Rattle.hierarchy_semantics.specs.Places.{Path, IsPath, model_at, HasValue}
 use Rattle.hierarchy_semantics.specs.Flat.{place_signal, flat_net, flattened}
 use Rattle.hierarchy_semantics.specs.Reading.{hier_reading}
 
--- the text is read as this hierarchy, and its flat net is given
+-- the text is read as this hierarchy, and the flat net of the hierarchy is given
 pub record IsFlattened (text : Bytes) (most : ℕ) (h : Hierarchy) (N : NetValue) : Type 0 where
   pub read : hier_reading text most ≡ Ok h
   pub flat : flattened h ≡ Ok N
 
--- What is given is the flat net, sound and small. Each place of the hierarchy has a value, which is that of its signal in the flat net; so each
--- output of the main model has a value, which is the one that the flat net gives.
+-- The net that is given is the flat net, sound and small. Each place of the hierarchy has a value, the value
+-- of its signal in the flat net; so each output of the main model has a value, and the flat net's output has
+-- the same.
 pub record FlatLaw : Type 0 where
   pub is_flat : (text : Bytes) (most : ℕ) (h : Hierarchy) (N : NetValue) → IsFlattened text most h N → N ≡ flat_net h
   pub sound : (text : Bytes) (most : ℕ) (h : Hierarchy) (N : NetValue) → IsFlattened text most h N → IsSound N

@@ -13,7 +13,7 @@ pub record Binding : Type 0 where
   pub formal : Bytes
   pub actual : Bytes
 
--- the use of a model, in the line of this number
+-- a `.subckt` statement: the use of a model, in the line of this number
 pub record Subcircuit : Type 0 where
   pub line : ℕ
   pub model : Bytes
@@ -24,7 +24,7 @@ pub data Part : Type 0 where
   names_part : NamedTable → Part
   subckt_part : Subcircuit → Part
 
--- its ports stand in text order, inputs and outputs mixed
+-- the ports stand in text order, inputs and outputs mixed
 pub record BlifModel : Type 0 where
   pub name : Bytes
   pub ports : List Bytes
@@ -83,14 +83,14 @@ abbrev pub sections_of : List Statement → Sections
 sections_of [] = record { before = []; sections = [] }
 sections_of (s ∷ rest) = with_line s (sections_of rest)
 
--- lines before any `.model` are a first model of their own, named `top`; so is a text without lines
+-- lines before any `.model` line are a first model, named `top`; a text without lines is that model alone
 abbrev pub all_sections : Sections → List (List Statement)
 all_sections found = if length found.before == 0 && not (length found.sections == 0) then found.sections else found.before ∷ found.sections
 
 unfoldable pub hierarchy_of : List Statement → Hierarchy
 hierarchy_of lines = map model_from (all_sections (sections_of lines))
 
--- what is used where no model has the name
+-- the model that stands for a name that no model has
 abbrev pub no_model : BlifModel
 no_model = record { name = []; ports = []; inputs = []; outputs = []; parts = [] }
 

@@ -7,7 +7,8 @@ use Rattle.blif_semantics.specs.Tables.{NamedTable}
 use Rattle.hierarchy_semantics.specs.Models.{Subcircuit, Part, names_part, subckt_part, BlifModel, Hierarchy, main_of, model_named}
 use Rattle.hierarchy_semantics.specs.Driven.{Source, by_input, by_table, by_output, Driven, source_of}
 
--- A path of `.subckt` statements from the main model, as the numbers of the parts; the last stands first. A place is a path with a name there.
+-- A path of `.subckt` statements from the main model, as the numbers of the parts; the last stands first. A
+-- place is a path together with a name in the model at its end.
 abbrev pub Path : Type 0
 Path = List ℕ
 
@@ -54,7 +55,8 @@ abbrev pub value_at_bits : NamedTable → List Bool → Bool
 value_at_bits t bits =
     table_value (record { name = t.name; pins = range_with_len 0 (length t.pins); rows = t.rows; plane = t.plane }) (λ s. slice_index_or bits s false)
 
--- An input of the main model has its bit, and an input of another model the value of the name that is bound to it one path up.
+-- An input of the main model has its bit. An input of another model has the value of the name that is bound
+-- to it, one path up.
 abbrev pub input_value : Hierarchy → List Bool → (Path → Bytes → Option Bool) → Path → ℕ → Bytes → Option Bool
 input_value h x before [] i name = Some (slice_index_or x i false)
 input_value h x before (n ∷ up) i name = before up (actual_of (use_at (model_at h up) n) name)
@@ -69,12 +71,12 @@ abbrev pub driven_value : Hierarchy → List Bool → (Path → Bytes → Option
 driven_value h x before path None = None
 driven_value h x before path (Some d) = source_value h x before path d.name d.source
 
--- the value of a place at the input vector x in so many steps, where they give one
+-- the value of a place at the input vector x, where `steps` steps give one
 unfoldable pub place_value : Hierarchy → List Bool → ℕ → Path → Bytes → Option Bool
 place_value h x zero path name = None
 place_value h x (suc steps) path name = driven_value h x (place_value h x steps) path (source_of h (model_at h path) name)
 
--- some number of steps gives this value, and none gives another
+-- some number of steps gives this value, and no number of steps gives another
 pub record HasValue (h : Hierarchy) (x : List Bool) (path : Path) (name : Bytes) (bit : Bool) : Type 0 where
   pub steps : ℕ
   pub is : place_value h x steps path name ≡ Some bit

@@ -10,7 +10,7 @@ use Rattle.hierarchy_semantics.specs.Refusals.{HierRefusal, line, hier_refusal}
 abbrev pub hierarchy_checked : Hierarchy → Result Hierarchy HierRefusal
 hierarchy_checked h = elim (hier_refusal h) [ None ↦ Ok h | Some r ↦ Err r ]
 
--- the hierarchy of a text of at most so many bytes, or its refusal
+-- the hierarchy of a text of at most `most` bytes, or the refusal of the text
 unfoldable pub hier_reading : Bytes → ℕ → Result Hierarchy HierRefusal
 hier_reading text most =
     let lines = statements (logical_lines text) in

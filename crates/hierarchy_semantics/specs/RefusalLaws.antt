@@ -20,7 +20,7 @@ pub record IsBound (h : Hierarchy) (c : Subcircuit) : Type 0 where
   pub once : AllPairs ◌≢◌ (formals_of c)
   pub inputs : AllByRecursion (Contains (formals_of c)) (model_named h c.model).inputs
 
--- each name is driven once, there is an output, and what is read is driven
+-- each name is driven once, there is an output, and each name that is read is driven
 pub record IsWholeModel (h : Hierarchy) (m : BlifModel) : Type 0 where
   pub once : AllPairs ◌≢◌ (names_driven h m)
   pub output : 0 < length m.outputs

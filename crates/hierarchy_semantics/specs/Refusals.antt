@@ -40,7 +40,7 @@ abbrev pub is_model_grounded : Hierarchy → ℕ → BlifModel → Bool
 is_model_grounded h zero m = false
 is_model_grounded h (suc steps) m = list_all (λ c. is_model_grounded h steps (model_named h c.model)) (uses_of m)
 
--- a model that is not grounded in as many steps as there are models
+-- a model that is not grounded in `length h` steps
 abbrev pub first_recursive : Hierarchy → Option BlifModel
 first_recursive h = find (λ m. not (is_model_grounded h (length h) m)) h
 

@@ -3,7 +3,7 @@ ghost use Rattle.hierarchy_semantics.specs.Counts.{CountLaw};
 ghost use Rattle.hierarchy_semantics.specs.Laws.{FlatLaw};
 ghost use Rattle.hierarchy_semantics.specs.RefusalLaws.{AcceptedLaw};
 
-/// What has no refusal.
+/// Which models have no refusal.
 pub fn hierarchies()
     ensures { AcceptedLaw }
 {}

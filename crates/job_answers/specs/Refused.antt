@@ -15,7 +15,7 @@ use Rattle.aiger_text.specs.declared.refusal.AigerRefusal.TheVariants as a
 use Rattle.job_answers.specs.declared.status.Status.{Status}
 use Rattle.job_answers.specs.declared.status.Status.TheVariants.{Text, Hier, Aiger, NoMemory}
 
--- want of memory is told as such
+-- want of memory is told as `NoMemory`
 abbrev pub blif_answer : BlifRefusal → Status
 blif_answer b.OutOfMemory = NoMemory
 blif_answer reason = Text reason

@@ -12,8 +12,10 @@ use Rattle.job_semantics.specs.declared.ending.Ending.TheVariants as file
 use Rattle.job_semantics.specs.declared.version.Version.{Version}
 use Rattle.job_semantics.specs.Report.{Report, report_of, report_text, vectors_text}
 
--- The version; the net as it was read and the simplified one; the error, its bound and its maximum; an input that attains the maximum, and the vectors
--- that stand behind it; whether no further move of that version is allowed; the formula that says that some error exceeds the maximum, and its log.
+-- The version; the net as it was read and the simplified net; the metric, the bound and the maximum; an input
+-- that attains the maximum, and the vectors that stand behind that input in `.wit`; whether no further move
+-- of that version is allowed; the formula that says that some error exceeds the maximum, and the log that
+-- refutes the formula.
 pub record BundleValue : Type 0 where
   pub version : Version
   pub exact : NetValue

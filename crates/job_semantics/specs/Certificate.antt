@@ -42,7 +42,8 @@ OfBundle old new stem P = WhereTold old new (λ a b. P (texts_of b stem))
 abbrev pub IsNetlist : Texts → NetValue → Type 0
 IsNetlist texts M = blif_reading (texts file.Netlist) MOST_BUNDLE_BYTES ≡ Ok M
 
--- the text is that of the report, which is one for so many inputs, the metric and the bound, of either version
+-- the text is that of the report, which is of either version and is for the metric, the bound and a net of
+-- `inputs` inputs
 pub record IsReportText (inputs : ℕ) (metric : Metric) (bound : ℕ) (text : Bytes) (r : Report) : Type 0 where
   pub spelled : text ≡ report_text r
   pub same_metric : r.metric ≡ metric
@@ -51,12 +52,12 @@ pub record IsReportText (inputs : ℕ) (metric : Metric) (bound : ℕ) (text : B
   pub witness : length r.witness ≡ inputs
   pub counts : AllByRecursion (λ count. count < 2 ^ 32) (r.old_tables ∷ r.new_tables ∷ r.old_literals ∷ r.new_literals ∷ [])
 
--- the text is one or more vectors of so many bits, a line each, the witness first
+-- the text is one or more vectors of `inputs` bits, a line each, the witness first
 pub record IsVectorsText (inputs : ℕ) (text : Bytes) (witness : List Bool) (pool : List (List Bool)) : Type 0 where
   pub spelled : text ≡ vectors_text witness pool
   pub widths : AllByRecursion (λ x. length x ≡ inputs) (witness ∷ pool)
 
--- `.txt` is that report for the original net, and `.wit` those input vectors of it
+-- `.txt` is that report for the original net, and `.wit` is those input vectors of the original net
 abbrev pub IsReport : NetValue → Metric → ℕ → Texts → Report → Type 0
 IsReport exact metric bound texts r = IsReportText (input_count exact) metric bound (texts file.Report) r
 
@@ -82,14 +83,15 @@ abbrev pub moves_in : Version → NetValue → List Move
 moves_in One = old_moves_of
 moves_in Two = moves_of
 
--- where the report says that no further move is allowed, each move of the net that its version knows is broken by some vector of `.wit`
+-- where the report says that no further move is allowed, each move of the net that the report's version knows
+-- is broken by some vector of `.wit`
 abbrev pub IsShownMinimal : NetValue → Metric → ℕ → Texts → NetValue → Report → Type 0
 IsShownMinimal exact metric bound texts approx r =
     IsTrue r.minimal
     → (pool : List (List Bool)) × AreVectors exact texts r.witness pool
     × AreBrokenBySome metric exact bound approx (r.witness ∷ pool) (moves_in r.version approx)
 
--- P of the net of `.blif`, of the report of `.txt`, and of both
+-- P of the net of `.blif`; P of the report of `.txt`; and P of both
 abbrev pub OfNet : Texts → (NetValue → Type 0) → Type 0
 OfNet texts P = (M : NetValue) × IsNetlist texts M × P M
 
@@ -121,7 +123,7 @@ certificate_clauses =
 abbrev pub Certifies : NetValue → Metric → ℕ → Texts → Type 0
 Certifies exact metric bound texts = AllByRecursion (Holds exact metric bound texts) certificate_clauses
 
--- the clauses before this one hold, and this one does not
+-- the clauses before c hold, and c does not
 pub record IsFirstFailing (exact : NetValue) (metric : Metric) (bound : ℕ) (texts : Texts) (c : Clause) : Type 0 where
   pub before : List Clause
   pub after : List Clause

@@ -55,7 +55,7 @@ pub record HoldingExamples : Type 0 where
   pub counts : Holds half_adder Abs 3 both_constant_texts clause.Counts
   pub minimal : Holds half_adder Abs 3 both_constant_texts clause.Minimal
 
--- the first clause that fails of texts of which one is damaged, and clauses behind it that fail too
+-- the first clause that fails, for texts of which one is damaged; clauses behind it may fail too
 pub record FailingExamples : Type 0 where
   pub no_formula : IsFirstFailing half_adder Abs 3 both_constant_texts clause.Formula
   pub other_bound : IsFirstFailing half_adder Abs 2 both_constant_texts clause.ReportForm
@@ -79,7 +79,7 @@ pub record FailingExamples : Type 0 where
       clause.Counts
       → ⊥
 
--- the half adder with its sum constant and its carry a copy of b, of which no move keeps the bound 1
+-- the half adder with its sum constant and its carry a copy of b; no move of this net keeps the bound 1
 abbrev pub carry_copied_netlist : Bytes
 carry_copied_netlist =
     text (codes ".model ha" ∷ codes ".inputs a b" ∷ codes ".outputs s c" ∷ codes ".names s" ∷ codes ".names b c" ∷ codes "1 1" ∷ codes ".end" ∷ [])
@@ -94,7 +94,8 @@ carry_copied_report =
 abbrev pub carry_copied_texts : Bytes → Texts
 carry_copied_texts vectors = texts_of_three carry_copied_netlist vectors carry_copied_report
 
--- The clause on further moves: with all vectors each move is broken; with the witness alone one is not; a net without moves needs no vector.
+-- The clause on further moves: with all vectors each move is broken; with the witness alone some move is not;
+-- a net without moves needs no vector.
 pub record MinimalExamples : Type 0 where
   pub each_broken : Holds half_adder Abs 1 (carry_copied_texts (text (codes "10" ∷ codes "00" ∷ codes "10" ∷ codes "01" ∷ codes "11" ∷ []))) clause.Minimal
   pub witness_alone : Holds half_adder Abs 1 (carry_copied_texts (text (codes "10" ∷ []))) clause.Minimal → ⊥

@@ -18,8 +18,9 @@ use Rattle.job_semantics.specs.Report.{Report}
 use Rattle.job_semantics.specs.Bundle.{BundleValue, bundle_text}
 use Rattle.job_semantics.specs.Certificate.{Texts, OfBundle, moves_in, IsNetlist, IsReport, AreVectors, Certifies, IsFirstFailing}
 
--- On every input the error of the approximate net is at most the report's maximum, which is within the bound and attained at the
--- witness; there are no more tables and literals; and where the report says so, no move of the approximate net that its version knows is allowed.
+-- On every input the error of the approximate net is at most the report's maximum, which is within the bound
+-- and attained at the witness. The approximate net has no more tables and no more literals than the exact
+-- one. Where the report says so, no move of the approximate net that the report's version knows is allowed.
 pub record IsVerified (exact : NetValue) (metric : Metric) (bound : ℕ) (approx : NetValue) (r : Report) : Type 0 where
   pub ports : HasSamePorts exact approx
   pub safe : IsWithin metric exact r.maximum approx

@@ -1,5 +1,5 @@
--- What a check job comes to once IN was read as a net, by its answer; what is answered to IN itself is as in a synth job.
--- Source: this tool's own bundles.
+-- What a check job comes to once IN was read as a net, by its answer; the answers to IN itself are those of a
+-- synth job. Source: this tool's own bundles.
 use Rattle.std.specs.Prelude.{◌≡◌, ◌⊎◌, ℕ, ◌<◌, ◌≤◌, false, IsTrue, length, Some}
 use Rattle.std.specs.FinMap.{contains_key}
 use Rattle.semantics.specs.Texts.{Bytes}
@@ -16,21 +16,23 @@ use Rattle.job_semantics.specs.Input.{IsReadAs, IsRefusedFor}
 use Rattle.job_semantics.specs.Report.{Report}
 use Rattle.job_semantics.specs.Synthesis.{OfInput, InputRefused, IsQuiet}
 
--- each file that a check job needs is held: IN and, where IN is accepted, those that are needed for the verdict
+-- each file that a check job needs is held: IN and, where IN is accepted, the files that are needed for the
+-- verdict
 pub record AreCheckFilesHeld (metric : Metric) (bound : ℕ) (input stem : Bytes) (held : Held) : Type 0 where
   pub input_held : IsTrue (contains_key held input)
   pub bundle_held : (exact : NetValue) → IsReadAs (bytes_of held input) exact → AreNeededHeld exact metric bound stem held
 
--- no file changed, no count fell and no steady name was lost, and the sink tells what it told; where the files that are needed are held,
--- what was told is told still
+-- No file changed, no count of faults fell, no steady name was lost, and the sink tells what it told. Where
+-- the files that are needed are held, what was told is still told.
 pub record IsLeftAlone (metric : Metric) (bound : ℕ) (input stem : Bytes) (old new : FilesTold) (said says : SinkTold) : Type 0 where
   pub goes : Goes old new
   pub files : WhereTold old new (λ a b. b ≡ a)
   pub still_told : (a : Held) → old.held ≡ Some a → AreCheckFilesHeld metric bound input stem a → new.held ≡ Some a
   pub sink : says ≡ said
 
--- on every input the error of the bundle's net against the original is at most the report's maximum, which is within the bound and
--- attained at the report's witness, and neither tables nor literals are more
+-- on every input the error of the bundle's net against the original is at most the report's maximum, which is
+-- within the bound and attained at the report's witness, and the bundle's net has no more tables and no more
+-- literals than the original
 pub record ShowsItsBound (exact : NetValue) (metric : Metric) (bound : ℕ) (texts : Texts) : Type 0 where
   pub approx : NetValue
   pub report : Report
@@ -67,8 +69,9 @@ pub record CheckReadFault (metric : Metric) (bound : ℕ) (input stem : Bytes) (
       (old.steady_read input ≡ false)
       ⊎ ((ending : Ending) × IsNeeded metric bound input stem old new ending × (old.steady_read (bundle_name stem ending) ≡ false))
 
--- A needed file goes on past the budget of turns: in this call there were so many read turns on it, each of which asked for at most 65,536 bytes
--- and gave one at least; where it is told, the file has as many bytes.
+-- A needed file goes on past the budget of turns: in this call there were at least `turn_budget` read turns
+-- on the file, each of which asked for at most 65,536 bytes and gave at least one. So, where the files are
+-- told, the file has at least `turn_budget` bytes.
 pub record CheckEndless (metric : Metric) (bound : ℕ) (input stem : Bytes) (old new : FilesTold) (said says : SinkTold) : Type 0 where
   pub untouched : IsLeftAlone metric bound input stem old new said says
   pub exact : NetValue
@@ -127,8 +130,8 @@ IsVerifiedOrNoMemory (out_of_memory left) = Unit {0}
 IsVerifiedOrNoMemory (not_read fault) = ⊥
 IsVerifiedOrNoMemory (endless e) = ⊥
 
--- A bundle that verifies: each check of these files that is quiet is verified, unless memory is wanting, where each file of the bundle has
--- fewer than 2^40 bytes.
+-- A bundle that verifies: where each file of the bundle has fewer than 2^40 bytes, each quiet check of these
+-- files is verified, unless memory is wanting.
 abbrev pub Verifies : Metric → ℕ → Bytes → Bytes → Held → Type 0
 Verifies metric bound input stem held = (old new : FilesTold) (said says : SinkTold) → old.held ≡ Some held → AreShort stem held
     → IsQuietCheck metric bound input stem old new said says → (end : CheckEnd metric bound input stem old new said says) → IsVerifiedOrNoMemory end

@@ -11,8 +11,9 @@ use Rattle.job_semantics.specs.Certificate.{texts_of, Certifies}
 use Rattle.job_semantics.specs.Synthesis.{SynthDone}
 use Rattle.job_semantics.specs.Checking.{AreCheckFilesHeld, CheckEnd, IsQuietCheck, AreShort, IsVerifiedEnd, IsEndlessEnd, IsVerifiedOrNoMemory, Verifies}
 
--- Where words are a synth or a check job, IN and STEM are not empty, and IN is no file of the bundle. Where they are a conversion, IN and OUT
--- are not empty and differ. Where they are a trim job, both are so, and OUT is no file of the bundle.
+-- Where words are a synth or a check job, IN and STEM are not empty, and IN is no file of the bundle. Where
+-- they are a conversion, IN and OUT are not empty and differ. Where they are a trim job, IN, STEM and OUT are
+-- as in both of these, and OUT is no file of the bundle.
 pub record FileWordsLaw : Type 0 where
   pub synthesis : (words : List Bytes) (metric : Metric) (bound conflicts : ℕ) (input stem : Bytes)
       → job_of words ≡ Some (synth metric bound conflicts input stem) → IsTrue (are_file_words input stem)
@@ -27,9 +28,10 @@ pub record FileWordsLaw : Type 0 where
   pub trimming : (words : List Bytes) (metric : Metric) (bound : ℕ) (input stem output : Bytes)
       → job_of words ≡ Some (trim metric bound input stem output) → IsTrue (are_trim_words input stem output)
 
--- A check that is verified found a certificate. A quiet check of files that are told, whose texts are a certificate for the net of IN, is verified
--- unless memory is wanting or a file goes on without an end. Where the files that are needed are held, one goes on so only if some file of the
--- bundle has 2^40 bytes at least.
+-- A check that is verified found a certificate. A quiet check of files that are told, whose texts are a
+-- certificate for the net of IN, is verified unless memory is wanting or a file goes on without an end. Where
+-- the needed files are held, a file goes on without an end only if some file of the bundle has at least 2^40
+-- bytes.
 pub record CheckedFilesLaw : Type 0 where
   pub only_certificates : {metric : Metric} {bound : ℕ} {input stem : Bytes} {old new : FilesTold} {said says : SinkTold}
       (end : CheckEnd metric bound input stem old new said says) → IsVerifiedEnd end
@@ -42,7 +44,7 @@ pub record CheckedFilesLaw : Type 0 where
       (end : CheckEnd metric bound input stem old new said says) (a : Held) → old.held ≡ Some a → AreCheckFilesHeld metric bound input stem a
       → AreShort stem a → ¬ IsEndlessEnd end
 
--- Two runs joined: what a synthesis leaves that is done, over files that are told, is a bundle that verifies.
+-- Two runs joined: a synthesis that is done, over files that are told, leaves a bundle that verifies.
 abbrev pub JoinedRunsLaw : Type 0
 JoinedRunsLaw = (metric : Metric) (bound limit : ℕ) (input stem : Bytes) (spent : Option SpentValue) (old new : FilesTold) (said says : SinkTold)
     → IsTrue (are_file_words input stem) → SynthDone metric bound limit input stem spent old new said says

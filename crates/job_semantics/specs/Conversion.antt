@@ -1,5 +1,5 @@
--- What a job that turns the text IN into the text OUT comes to, by its answer. The reading gives the text that is stated for IN, or why IN is
--- refused. Source: this tool's own table of commands.
+-- What a job that turns the text IN into the text OUT comes to, by its answer. `reading` gives the text that
+-- OUT is to hold, or why IN is refused. Source: this tool's own table of commands.
 use Rattle.std.specs.Prelude.{◌≡◌, IsTrue, [], ◌∷◌, Result, Ok, Err}
 use Rattle.semantics.specs.Texts.{Bytes}
 use Rattle.outside_semantics.specs.Outside.{FilesTold, SinkTold}
@@ -45,7 +45,8 @@ pub data ConversionEnd {R : Type 0} (reading : Bytes → Result Bytes R) (input 
   not_read : InputReadFault input old new said says → ConversionEnd reading input output old new said says
   not_written : ConversionCutShort reading input output old new said says → ConversionEnd reading input output old new said says
 
--- a conversion needs IN for reading and, where IN is accepted, OUT for writing
+-- a quiet conversion: a count of faults rose in the call only where the files that are needed are steady; IN
+-- is needed for reading and, where IN is accepted, OUT for writing
 abbrev pub IsQuietConversion : {R : Type 0} → (Bytes → Result Bytes R) → Bytes → Bytes → FilesTold → FilesTold → SinkTold → SinkTold → Type 0
 IsQuietConversion reading input output old new said says =
     IsQuiet (AreFilesSteady (IsGiven reading) (IsTrue (old.steady_write output)) old new input) old new said says

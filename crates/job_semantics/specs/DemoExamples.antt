@@ -36,6 +36,7 @@ pub record DemoNetExamples : Type 0 where
   pub counts_of_sixteen : (table_count (demo_net 16) ≡ 32) × (literal_count (demo_net 16) ≡ 276)
   -- 3 + 2 is 5
   pub sum : outputs_of (demo_net 2) (true ∷ true ∷ false ∷ true ∷ []) ≡ true ∷ false ∷ true ∷ []
-  -- table 1 is the carry c1: where it is turned over at 0 + 0, the bit of the sum that reads it turns too, and the sum is 2
+  -- table 1 is the carry c1: where it is turned over at 0 + 0, the bit of the sum that reads c1 turns too,
+  -- and the sum is 2
   pub carry_flipped : flipped_outputs (demo_net 2) (false ∷ false ∷ false ∷ false ∷ []) 1 ≡ false ∷ true ∷ false ∷ []
   pub carry_cared_for : IsCaredFor Abs (demo_net 2) 0 (demo_net 2) 1 (false ∷ false ∷ false ∷ false ∷ [])

@@ -3,7 +3,8 @@ use Rattle.std.specs.Prelude.{◌≡◌, ℕ, ◌+◌, ◌-◌, ◌*◌, ◌≤�
 use Rattle.semantics.specs.Net.{input_count, table_count, literal_count, IsSound, IsSmall}
 use Rattle.job_semantics.specs.Demo.{demo_net, Adds}
 
--- the net of each width from 1 to 32 is sound and small; of every width it adds, and has two tables a stage
+-- the net of each width from 1 to 32 is sound and small; the net of every width adds, and has two tables for
+-- each stage
 pub record DemoLaw : Type 0 where
   pub sound : (w : ℕ) → 1 ≤ w → w ≤ 32 → IsSound (demo_net w)
   pub small : (w : ℕ) → w ≤ 32 → IsSmall (demo_net w)

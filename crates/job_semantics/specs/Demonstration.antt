@@ -1,5 +1,5 @@
--- What a demo job comes to: the net that is generated is simplified as a net that was read, and its bundle stands under the stem `demo`.
--- Source: this tool's own demonstration.
+-- What a demo job comes to: the generated net is simplified like a net that was read, and its bundle stands
+-- under the stem `demo`. Source: this tool's own demonstration.
 use Rattle.std.specs.Prelude.{IsTrue, codes}
 use Rattle.semantics.specs.Texts.{Bytes}
 use Rattle.outside_semantics.specs.Outside.{FilesTold, SinkTold}

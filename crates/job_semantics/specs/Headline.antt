@@ -46,21 +46,23 @@ pub record AdmitsNoMore (metric : Metric) (bound : ℕ) (input stem : Bytes) (ex
   pub the_same_ports : HasSamePorts exact approx
   pub end_of_the_chain : IsSimplificationEnd metric exact bound approx
 
--- the net is a member of the chain of simplifications, or comes of one by one move
+-- the net is a member of the chain of simplifications, or comes of a member by one move
 pub record IsOfTheChain (metric : Metric) (exact : NetValue) (bound : ℕ) (N : NetValue) : Type 0 where
   pub member : NetValue
   pub in_the_chain : IsInSimplification metric exact bound member
   pub at_most_a_move : (N ≡ member) ⊎ ((m : Move) × Contains (moves_of member) m × (N ≡ moved member m))
 
--- The stated conflicts were spent on the question whether the error of such a net exceeds a level within the bound: the log is a chain of
--- exactly so many conflicts over that question's miter, and so many are not enough for the inputs.
+-- The stated conflicts were spent on the question whether the error of such a net exceeds a level within the
+-- bound: the log is a chain of exactly `conflicts` conflicts over the miter of that question, and `conflicts`
+-- conflicts are not enough for the inputs.
 pub record AreSpentOn (metric : Metric) (exact : NetValue) (bound conflicts : ℕ) (q : SpentValue) : Type 0 where
   pub level : q.k ≤ bound
   pub net : IsOfTheChain metric exact bound q.net
   pub query : IsSpentQuery metric exact conflicts q
 
--- `Verified`, `Done` and `NoMemory` say that this was answered; `spent` and `level` are the queries that were spent. The files are told at entry and
--- at exit; memory was there, and no call on the files or the sink that the job needs failed.
+-- `Verified`, `Done` and `NoMemory` say that this was answered; `spent` and `level` are the queries that were
+-- spent, on a move and on a level of the maximum. The files are told at entry and at exit; memory was there,
+-- and no call on the files or the sink that the job needs failed.
 pub record Headline (words : List Bytes) (Verified Done NoMemory : Type 0) (spent level : Option SpentValue) (old new : FilesTold) (said says : SinkTold) : Type 0 where
   pub when_check_verifies : (metric : Metric) (bound : ℕ) (input stem : Bytes) → job_of words ≡ Some (check metric bound input stem) → Verified
       → WhereTold old new (λ a b. (exact : NetValue) × IsReadAs (bytes_of a input) exact × KeepsItsPromise metric bound exact (texts_of b stem))

@@ -20,6 +20,6 @@ pub record BundleFilesLaw : Type 0 where
   pub others : (held : Held) (stem : Bytes) (text : Ending → Bytes) (name : Bytes)
       → AllByRecursion (λ e. bundle_name stem e ≢ name) bundle_endings → get (with_files held (bundle_files stem text)) name ≡ get held name
 
--- a word names a metric exactly where it is the word that the report has for it
+-- a word names a metric exactly where it is the word by which a report names that metric
 abbrev pub MetricWordLaw : Type 0
 MetricWordLaw = (word : Bytes) (metric : Metric) → (metric_of word ≡ Some metric) ↔ (word ≡ metric_word metric)

@@ -22,7 +22,8 @@ pub record Shrinking : Type 0 where
 abbrev pub AreApart : List (List Bool) → Type 0
 AreApart vectors = (i j : ℕ) → i < j → j < length vectors → slice_index_or vectors i [] ≢ slice_index_or vectors j []
 
--- the query whether a move of the net keeps the bound was spent; each move before it is broken by a vector
+-- the query whether a move of the net keeps the bound was spent; each move before that move is broken by a
+-- vector
 pub record IsSpentMove (metric : Metric) (exact : NetValue) (bound limit : ℕ) (N : NetValue) (pool : List (List Bool)) (q : SpentValue) : Type 0 where
   pub query : IsSpentQuery metric exact limit q
   pub level : q.k ≡ bound
@@ -33,7 +34,7 @@ pub record IsSpentMove (metric : Metric) (exact : NetValue) (bound limit : ℕ) 
   pub net : q.net ≡ moved N move
   pub broken : AreBrokenBySome metric exact bound N pool before
 
--- the chain's end, each move of which is broken by a vector
+-- the end of the chain, each move of which is broken by a vector
 pub record IsShownEnd (metric : Metric) (exact : NetValue) (bound : ℕ) (N : NetValue) (pool : List (List Bool)) : Type 0 where
   pub end : IsSimplificationEnd metric exact bound N
   pub minimal : IsMinimalBy metric exact bound N pool

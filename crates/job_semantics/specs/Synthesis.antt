@@ -19,8 +19,9 @@ use Rattle.job_semantics.specs.Certificate.{OfBundle, OfReport, IsNetlist, Certi
 use Rattle.job_semantics.specs.Shrinking.{Shrinking, IsShrinking}
 use Rattle.job_semantics.specs.Input.{IsReadAs, IsAccepted}
 
--- What a net is simplified to within a limit of conflicts for each query: the member of the chain that was reached, the vectors that broke
--- moves, the query that was spent, where one was, the exact maximum error, and an input that attains it.
+-- What a net is simplified to within a limit of conflicts for each query: the member of the chain that was
+-- reached; the vectors that broke moves; the spent query, where a query was spent; the exact maximum error,
+-- and an input that attains the maximum.
 pub record Simplified : Type 0 where
   pub net : NetValue
   pub pool : List (List Bool)
@@ -31,8 +32,9 @@ pub record Simplified : Type 0 where
 abbrev pub shrinking_of : Simplified → Shrinking
 shrinking_of s = record { net = s.net; pool = s.pool; spent = s.spent }
 
--- The net is a member of the chain, and its end unless a query was spent; the maximum is the greatest error, attained at the witness, and
--- within the bound, and the log shows that no error exceeds it; nothing grew.
+-- The net is a member of the chain, and the end of the chain unless a query was spent. The maximum is the
+-- greatest error, is attained at the witness and is within the bound; the log shows that no error exceeds the
+-- maximum; no count of the net grew.
 pub record IsSimplifiedFrom (exact : NetValue) (metric : Metric) (bound limit : ℕ) (s : Simplified) (log : List LogItem) : Type 0 where
   pub search : IsShrinking metric exact bound limit (shrinking_of s)
   pub most : IsMaximum metric exact s.net s.maximum s.witness log
@@ -40,14 +42,15 @@ pub record IsSimplifiedFrom (exact : NetValue) (metric : Metric) (bound limit : 
   pub tables : table_count s.net ≤ table_count exact
   pub literals : literal_count s.net ≤ literal_count exact
 
--- The log refutes the formula, and is a derivation over it; so no assignment satisfies the formula.
+-- The log refutes the formula and is a derivation over the formula; so no assignment satisfies the formula.
 pub record IsRefutedBy (f : Formula) (log : List LogItem) : Type 0 where
   pub refutes : Refutes f.clauses log
   pub derivation : IsDerivation f log
   pub unsatisfiable : IsUnsatisfiable f.clauses
 
--- The bundle is of version 2. The formula says that some error exceeds the maximum; behind the witness stand the vectors that break moves;
--- that no further move is allowed is said exactly where no query was spent.
+-- The bundle is of version 2. The formula says that some error exceeds the maximum. Behind the witness stand
+-- the vectors that break moves. The report says that no further move is allowed exactly where no query was
+-- spent.
 abbrev pub synth_bundle : NetValue → Metric → ℕ → Simplified → List LogItem → BundleValue
 synth_bundle exact metric bound s log = record {
   version = Two;
@@ -74,21 +77,22 @@ synth_report exact metric bound s log = bundle_text (synth_bundle exact metric b
 abbrev pub WhereHeld : FilesTold → Bytes → (Held → Type 0) → Type 0
 WhereHeld old name P = (a : Held) → old.held ≡ Some a → IsTrue (contains_key a name) → P a
 
--- P of the bytes of IN, where the files are told at entry and at exit, and where they are told at entry and hold IN
+-- P of the bytes of IN: once where the files are told at entry and at exit, and once where they are told at
+-- entry and hold IN
 pub record OfInput (old new : FilesTold) (input : Bytes) (P : Bytes → Type 0) : Type 0 where
   pub told : WhereTold old new (λ a b. P (bytes_of a input))
   pub at_entry : WhereHeld old input (λ a. P (bytes_of a input))
 
--- no file changed, no count fell and no steady name was lost, what was told of a held IN is told still, and the sink tells
--- what it told
+-- no file changed, no count of faults fell, no steady name was lost, what was told of a held IN is still
+-- told, and the sink tells what it told
 pub record IsUntouched (input : Bytes) (old new : FilesTold) (said says : SinkTold) : Type 0 where
   pub goes : Goes old new
   pub files : WhereTold old new (λ a b. b ≡ a)
   pub still_told : WhereHeld old input (λ a. new.held ≡ Some a)
   pub sink : says ≡ said
 
--- The net was simplified, the files were written, and then the report was put; the texts of the files are a certificate,
--- and their report is of version 2.
+-- The net was simplified, the files were written, and then the report was put to the sink; the texts of the
+-- files are a certificate, and their report is of version 2.
 pub record BundleWritten (metric : Metric) (bound limit : ℕ) (exact : NetValue) (stem : Bytes) (spent : Option SpentValue) (old new : FilesTold) (said says : SinkTold) : Type 0 where
   pub result : Simplified
   pub log : List LogItem
@@ -101,7 +105,8 @@ pub record BundleWritten (metric : Metric) (bound limit : ℕ) (exact : NetValue
   pub certificate : OfBundle old new stem (Certifies exact metric bound)
   pub version : OfBundle old new stem (λ texts. OfReport exact metric bound texts (λ r. r.version ≡ Two))
 
--- The net was simplified; a file could not be written whole, and nothing was put; or all were, and a first part of the report was put.
+-- The net was simplified. Either a file could not be written whole, and nothing was put to the sink; or all
+-- files were written, and a first part of the report was put.
 pub record BundleCutShort (metric : Metric) (bound limit : ℕ) (exact : NetValue) (stem : Bytes) (old new : FilesTold) (said says : SinkTold) : Type 0 where
   pub result : Simplified
   pub log : List LogItem
@@ -112,19 +117,21 @@ pub record BundleCutShort (metric : Metric) (bound limit : ℕ) (exact : NetValu
       ⊎ (FilesWritten old new (synth_files exact metric bound stem result log) × TakeFailed said says (synth_report exact metric bound result log))
 
 -- A member of the chain was reached, and the search for its maximum was spent at a level within the bound.
+-- `spent` is the query on a move that was spent before, where one was.
 pub record MaximumSpent (metric : Metric) (bound limit : ℕ) (exact : NetValue) (spent : Option SpentValue) (level : SpentValue) : Type 0 where
   pub result : Shrinking
   pub search : IsShrinking metric exact bound limit result
   pub is_spent : spent ≡ result.spent
   pub query : IsSpentLevel metric exact result.net bound limit level
 
--- done: IN was read as the net whose bundle was written
+-- done: IN was read as the exact net, whose bundle was written
 pub record SynthDone (metric : Metric) (bound limit : ℕ) (input stem : Bytes) (spent : Option SpentValue) (old new : FilesTold) (said says : SinkTold) : Type 0 where
   pub exact : NetValue
   pub read : OfInput old new input (λ text. IsReadAs text exact)
   pub written : BundleWritten metric bound limit exact stem spent old new said says
 
--- conflicts spent: IN was read as the net whose maximum was sought, and nothing was touched
+-- conflicts spent: IN was read as the exact net, the search for the maximum was spent, and nothing was
+-- touched
 pub record SynthBudget (metric : Metric) (bound limit : ℕ) (input : Bytes) (spent : Option SpentValue) (level : SpentValue) (old new : FilesTold) (said says : SinkTold) : Type 0 where
   pub untouched : IsUntouched input old new said says
   pub exact : NetValue
@@ -149,17 +156,18 @@ pub record SynthWriteFault (metric : Metric) (bound limit : ℕ) (input stem : B
   pub read : OfInput old new input (λ text. IsReadAs text exact)
   pub left : BundleCutShort metric bound limit exact stem old new said says
 
--- IN is accepted; where the files are not told both at entry and at exit, it counts as accepted
+-- IN is accepted; where the files are not told both at entry and at exit, IN counts as accepted
 abbrev pub CountsAs : (Bytes → Type 0) → FilesTold → FilesTold → Bytes → Type 0
 CountsAs IsAcceptable old new input = WhereTold old new (λ a b. IsAcceptable (bytes_of a input))
 
--- The files that are needed by a job that turns IN into files are steady at entry: IN for reading and, where IN is accepted, those that are
--- written for writing.
+-- The files that are needed by a job that turns IN into files are steady at entry: IN for reading and, where
+-- IN is accepted, the files that the job writes for writing.
 pub record AreFilesSteady (IsAcceptable : Bytes → Type 0) (AreWrittenSteady : Type 0) (old new : FilesTold) (input : Bytes) : Type 0 where
   pub read : IsTrue (old.steady_read input)
   pub written : CountsAs IsAcceptable old new input → AreWrittenSteady
 
--- No count of faults rose in the call; or the files' count may have risen, but every file that is needed is steady.
+-- The sink's count of faults did not rise in the call, and the files' count rose only where every file that
+-- is needed is steady.
 pub record IsQuiet (NeededAreSteady : Type 0) (old new : FilesTold) (said says : SinkTold) : Type 0 where
   pub files : (¬ Rose old.faults new.faults) ⊎ NeededAreSteady
   pub sink : ¬ Rose said.faults says.faults

@@ -1,5 +1,5 @@
--- What a trim job comes to, by its answer: it is a check of the bundle and, where the certificate stands, the file OUT that holds the trimmed log.
--- Source: this tool's own bundles; proof trimming by backward checking.
+-- What a trim job comes to, by its answer: the job checks the bundle and, where the certificate stands,
+-- writes the trimmed log to OUT. Source: this tool's own bundles; proof trimming by backward checking.
 use Rattle.std.specs.Prelude.{◌≡◌, ℕ, IsTrue, List, Ok}
 use Rattle.semantics.specs.Texts.{Bytes}
 use Rattle.semantics.specs.Net.{NetValue}
@@ -15,7 +15,7 @@ use Rattle.job_semantics.specs.Synthesis.{OfInput, IsQuiet}
 use Rattle.job_semantics.specs.Checking.{CheckEnd, IsVerifiedEnd, AreCheckFilesSteady}
 use Rattle.job_semantics.specs.Conversion.{OutputWritten, OutputCutShort}
 
--- the text is that of the trimmed log of `.lrat`, and that log refutes the miter at the maximum too
+-- the text is that of the trimmed log of `.lrat`, and the trimmed log refutes the miter at the maximum too
 pub record IsTrimmedText (exact approx : NetValue) (metric : Metric) (maximum : ℕ) (texts : Texts) (text : Bytes) : Type 0 where
   pub log : List LogItem
   pub refuted : IsRefutation exact approx metric maximum texts log
@@ -45,18 +45,21 @@ pub record TrimCutShort (metric : Metric) (bound : ℕ) (input stem output : Byt
   pub bundle : OfBundle old new stem (IsTrimmedBundle exact metric bound text)
   pub left : OutputCutShort output text old new said says
 
--- The answers of a trim job, each with what it says. Where nothing was to be written, it ends as a check that is not verified.
+-- The answers of a trim job, each with what it says. Where nothing was to be written, the job ends as a check
+-- that is not verified.
 pub data TrimEnd (metric : Metric) (bound : ℕ) (input stem output : Bytes) (old new : FilesTold) (said says : SinkTold) : Type 0 where
   done : Trimmed metric bound input stem output old new said says → TrimEnd metric bound input stem output old new said says
   not_written : TrimCutShort metric bound input stem output old new said says → TrimEnd metric bound input stem output old new said says
   not_verified : (end : CheckEnd metric bound input stem old new said says) → ¬ IsVerifiedEnd end → TrimEnd metric bound input stem output old new said says
 
--- IN is accepted and no clause fails; where the files are not told both at entry and at exit, it counts so
+-- IN is accepted and no clause fails; where the files are not told both at entry and at exit, this counts as
+-- true
 abbrev pub CountsAsCertified : Metric → ℕ → Bytes → Bytes → FilesTold → FilesTold → Type 0
 CountsAsCertified metric bound input stem old new =
     WhereTold old new (λ a b. (exact : NetValue) × IsReadAs (bytes_of a input) exact × Certifies exact metric bound (texts_of b stem))
 
--- a trim job needs the files of the check for reading and, where no clause fails, OUT for writing
+-- a trim job needs the files of the check for reading and, where no clause fails, OUT for writing; each of
+-- these is steady
 pub record AreTrimFilesSteady (metric : Metric) (bound : ℕ) (input stem output : Bytes) (old new : FilesTold) : Type 0 where
   pub read : AreCheckFilesSteady metric bound input stem old new
   pub written : CountsAsCertified metric bound input stem old new → IsTrue (old.steady_write output)

@@ -9,7 +9,8 @@ use Rattle.job_semantics.specs.declared.ending.Ending.TheVariants as file
 use Rattle.job_semantics.specs.declared.certificate_clause.Clause.TheVariants as clause
 use Rattle.job_semantics.specs.Certificate.{Texts, Holds, Certifies, IsFirstFailing}
 
--- y is the exclusive or of w and q, which equals u and v: of all single moves only one to the two signals u and v keeps its values
+-- y is the exclusive or of w and q, and equals the conjunction of u and v: of all single moves only one to
+-- the two signals u and v keeps the values of y
 abbrev pub conjunction_by_parity : NetValue
 conjunction_by_parity = record {
   model = codes "p";
@@ -56,7 +57,8 @@ parity_texts first_line formula log file.Log = log
 parity_texts first_line formula log file.Vectors = parity_vectors
 parity_texts first_line formula log file.Report = parity_report first_line
 
--- With a formula and a log of which their clauses hold the bundle is a certificate in version 1. In version 2 its last clause fails, and no other.
+-- With a formula and a log of which the clauses hold, the bundle is a certificate in version 1. In version 2
+-- its last clause fails, and no other.
 pub record VersionExamples : Type 0 where
   pub first_version : (formula log : Bytes)
       → Holds conjunction_by_parity Abs 0 (parity_texts (codes "salsa 1") formula log) clause.Formula

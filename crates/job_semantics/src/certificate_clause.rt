@@ -21,6 +21,7 @@ pub enum Clause {
     Log,
     /// The counts are those of the two nets, and none grew.
     Counts,
-    /// Where the report says `minimal yes`, each move that its version knows, of the net as it was read, is broken by some line of the vectors.
+    /// Where the report says `minimal yes`: each move of the bundle's net, as it was read, that the report's
+    /// version knows is broken by some line of `.wit`.
     Minimal,
 }

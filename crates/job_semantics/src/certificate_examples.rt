@@ -6,17 +6,17 @@ pub fn clauses()
     ensures { CertificateClauseExamples }
 {}
 
-/// Clauses that hold of a bundle's texts.
+/// Clauses that hold of the texts of a bundle.
 pub fn holding()
     ensures { HoldingExamples }
 {}
 
-/// The first clause that fails, of texts that are damaged.
+/// The first clause that fails, for texts that are damaged.
 pub fn failing()
     ensures { FailingExamples }
 {}
 
-/// Vectors that break each move, and some that do not.
+/// Vectors that break each move, and vectors that do not.
 pub fn minimal()
     ensures { MinimalExamples }
 {}

@@ -11,7 +11,7 @@ pub fn written()
     ensures { WrittenCertificateLaw }
 {}
 
-/// What is held once such a bundle was written.
+/// What is held once a bundle that is right was written.
 pub fn held()
     ensures { HeldCertificateLaw }
 {}

@@ -1,12 +1,12 @@
 //! The laws about the words of jobs and about checks of told files: each function's contract is a law.
 ghost use Rattle.job_semantics.specs.CheckingLaws.{FileWordsLaw, CheckedFilesLaw, JoinedRunsLaw};
 
-/// What IN and STEM of a job are.
+/// What the words IN and STEM of a job are.
 pub fn file_words()
     ensures { FileWordsLaw }
 {}
 
-/// Which files are verified.
+/// Which files a check verifies.
 pub fn checked_files()
     ensures { CheckedFilesLaw }
 {}

@@ -49,7 +49,8 @@ abbrev pub SynthAnswer : Metric → ℕ → ℕ → Bytes → Bytes → FilesTol
 SynthAnswer metric bound limit input stem old new said says o =
     SynthAnswerAt metric bound limit input stem old new said says (told_query o.spent) (told_query o.level) o.status
 
--- what a job on a net that is at hand comes to: nothing was touched, or its bundle was written under the stem, whole or in part
+-- what a job on a net that was read or generated comes to: nothing was touched, or the net's bundle was
+-- written under the stem, whole or in part
 abbrev pub BundleAnswerAt : Metric → ℕ → ℕ → NetValue → Bytes → FilesTold → FilesTold → SinkTold → SinkTold → Option SpentValue → Option SpentValue → Status → Type 0
 BundleAnswerAt metric bound limit exact stem old new said says spent level Done = BundleWritten metric bound limit exact stem spent old new said says × (level ≡ None)
 BundleAnswerAt metric bound limit exact stem old new said says spent level Budget =
@@ -62,7 +63,7 @@ abbrev pub BundleAnswer : Metric → ℕ → ℕ → NetValue → Bytes → File
 BundleAnswer metric bound limit exact stem old new said says o =
     BundleAnswerAt metric bound limit exact stem old new said says (told_query o.spent) (told_query o.level) o.status
 
--- Where the conflicts are enough for so many inputs, a bundle is written and no query is spent.
+-- Where `limit` conflicts are enough for `inputs` inputs, a bundle is written and no query is spent.
 abbrev pub IsWorkOf : ℕ → ℕ → Option SpentValue → Status → Type 0
 IsWorkOf limit inputs spent Done = IsEnough limit inputs → spent ≡ None
 IsWorkOf limit inputs spent Budget = ¬ IsEnough limit inputs
@@ -101,9 +102,10 @@ IsOnFiles (synth metric bound conflicts input stem) = ⊥
 IsOnFiles (demo width bound conflicts) = ⊥
 IsOnFiles job = Unit {0}
 
--- What every run says, by its words, its answer, and what files and sink told at entry and at exit: words that are no job, and only those, are
--- `Usage`; a spent query is told with `Budget` and with `Done` alone, that of the search for the greatest error exactly with `Budget`; and the
--- answer to a job says what it comes to.
+-- What every run says, by its words, its answer, and what files and sink told at entry and at exit. Words
+-- that are no job, and no other words, are answered `Usage`. A spent query is told with `Budget` and with
+-- `Done` alone, and one of the search for the greatest error exactly with `Budget`. The answer to a job says
+-- what the job comes to.
 pub record RunSays (words : List Bytes) (old new : FilesTold) (said says : SinkTold) (o : Outcome) : Type 0 where
   pub usage : (o.status ≡ Usage) ↔ (job_of words ≡ None)
   pub spent : SpendsAsTold o

@@ -1,4 +1,4 @@
-//! The jobs by their words, and what each of their answers says.
+//! The jobs by their words, and what the answer to each job says.
 ghost use Rattle.std.specs.Prelude.{◌≡◌, List, Some, None};
 ghost use Rattle.semantics.specs.Texts.{Bytes};
 ghost use Rattle.outside_semantics.specs.Outside.{SinkTold};
@@ -20,7 +20,7 @@ use progress::progress::Progress;
 use std::alloc::Global;
 use synth_jobs::preparing::Constraint;
 
-/// Carries out a job that is done with files alone: a check, a conversion, or a trimmed log.
+/// Carries out a job that uses files alone: a check, a conversion, or the trimming of a log.
 fn on_files<F: Files>(alloc: Global, command: Command, files: &mut F) -> Status
     requires on_files { IsOnFiles (job_meaning command) }
     requires named { (words : List Bytes) × (job_of words ≡ Some (job_meaning command)) }
@@ -54,7 +54,7 @@ fn on_files<F: Files>(alloc: Global, command: Command, files: &mut F) -> Status
     }
 }
 
-/// Carries out the job that the words name. Who follows it is told how far a search is.
+/// Carries out the job that the words name, and tells `progress` how far a search is.
 pub fn carry_out<F: Files, K: Sink, P: Progress>(
     alloc: Global,
     words: &[Word],

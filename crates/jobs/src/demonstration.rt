@@ -1,4 +1,4 @@
-//! A demo job: what its answer tells.
+//! A demo job, and what its answer tells.
 ghost use Rattle.std.specs.Prelude.{◌≤◌};
 ghost use Rattle.semantics.specs.declared.metric.Metric.TheVariants.{Abs};
 ghost use Rattle.job_semantics.specs.Demo.{demo_net};

@@ -1,5 +1,5 @@
-//! The jobs of the command line: what the words ask for is carried out over files and a sink that are handed in. The top call is
-//! [`run::run`].
+//! The jobs of the command line: the job that the words name is carried out over the files and the sink that
+//! are handed in. The top call is [`run::run`].
 #![tactic(auto)]
 
 mod commands;

@@ -1,4 +1,4 @@
-//! What a run comes to.
+//! The answer of a run, with the spent queries.
 ghost use Rattle.std.specs.Prelude.{◌≡◌, None};
 ghost use Rattle.jobs.specs.Outcome.{outcome_of};
 
@@ -6,13 +6,14 @@ pub use job_answers::status::Status;
 use synth_jobs::work::Work;
 use worst_case::query::Spent;
 
-/// What a run answers.
+/// The status that a run answers, and the queries that were spent in it.
 #[derive(Drop)]
 pub struct Outcome {
     pub status: Status,
-    /// The query of the chain that was spent: with `Budget`, or with `Done` where the report says `minimal no`.
+    /// The spent query of the search along the chain: with `Budget`, or with `Done` where the report says
+    /// `minimal no`.
     pub spent: Option<Spent>,
-    /// The query of the search for the greatest error that was spent: with `Budget` alone.
+    /// The spent query of the search for the greatest error: with `Budget` alone.
     pub level: Option<Spent>,
 }
 

@@ -52,7 +52,8 @@ pub fn run<F: Files, K: Sink>(alloc: Global, words: &[Word], files: &mut F, say:
     run_followed(alloc, words, files, say, &mut Silent)
 }
 
-/// The same as `run`, with one who is told how far a search is: what is answered and written does not depend on that.
+/// Carries out the job that the words name, as [`run`] does, and tells `progress` how far a search is. What
+/// is answered and written does not depend on `progress`.
 pub fn run_followed<F: Files, K: Sink, P: Progress>(
     alloc: Global,
     words: &[Word],
@@ -85,7 +86,8 @@ pub fn run_followed<F: Files, K: Sink, P: Progress>(
     carry_out(alloc, words, files, say, progress)
 }
 
-/// A run over files and a sink that never fail: no fault is answered, and each job ends as its net and its conflicts ask.
+/// Carries out the job that the words name over files and a sink that never fail: no fault is answered, and
+/// each job ends as its net and its conflicts ask.
 pub fn run_surely(
     alloc: Global,
     words: &[Word],

@@ -8,7 +8,8 @@ use Rattle.semantics.specs.Error.{net_error}
 use Rattle.net_core.specs.Built.{IsWired}
 use Rattle.quality_semantics.specs.Joint.{numbered_name, copied, moved, approximate_signal, quality_signal}
 
--- where the signals of a net stand: its inputs at those of a list, and its tables one behind another from signal `first` on
+-- where the signals of a net stand: its inputs at the signals of a list, and its tables one behind another
+-- from signal `first` on
 abbrev pub placed : List ℕ → ℕ → ℕ → ℕ
 placed inputs first s = moved (λ i. slice_index_or inputs i 0) (length inputs) first s
 
@@ -30,7 +31,7 @@ joined exact approx quality = record {
   outputs = map (quality_signal exact approx) quality.outputs;
 }
 
--- what is asked of two nets and a quality network that are joined
+-- what is required of two nets and a quality network that are joined
 pub record IsJoinable (exact approx quality : NetValue) : Type 0 where
   pub outputs : length exact.outputs ≡ length approx.outputs
   pub room : signal_count exact + table_count approx < 2 ^ 31

@@ -18,14 +18,15 @@ pub fn model_name(alloc: Global) -> Result<Name, AllocError>
     Name::known(alloc, b"joint")
 }
 
-/// The numbers of so many signals, from 0.
+/// The numbers of `count` signals, from 0.
 pub fn first_signals(alloc: Global, count: u32) -> Result<Vec<Signal>, AllocError>
     ensures { IfOk result (λ signals. signals.items ≡ range_with_len 0 count) }
 {
     (0..count).collect(alloc)
 }
 
-/// Where a signal stands: an input at its place, and the tables one behind another from `first` on.
+/// Where a signal of a net stands: an input at its signal in `inputs`, and the tables one behind another from
+/// `first` on.
 fn placed(inputs: &[Signal], first: Signal, signal: Signal) -> Signal
     requires { first + signal < 2 ^ 32 }
     ensures { result ≡ placed inputs.now first signal }
@@ -38,7 +39,7 @@ fn placed(inputs: &[Signal], first: Signal, signal: Signal) -> Signal
     }
 }
 
-/// The signals, each where it stands.
+/// The places of the signals.
 fn placed_signals(
     alloc: Global,
     inputs: &[Signal],
@@ -55,7 +56,7 @@ fn placed_signals(
     Ok(list)
 }
 
-/// Adds the signals of the net's outputs at the end, each where it stands.
+/// Adds the signals of the net's outputs at the end, each by its place.
 pub fn push_outputs(
     list: &mut SignalList,
     inputs: &[Signal],

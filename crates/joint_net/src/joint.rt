@@ -15,10 +15,10 @@ use semantics::limits::MOST_OUTPUTS;
 use semantics::metric::Metric;
 use std::alloc::{AllocError, Global};
 
-/// What the signals and the rows of a joint net together are fewer than.
+/// The bound below which the number of signals and rows of a joint net stays.
 const ROOM: u32 = 1 << 31;
 
-/// The net whose output says whether the error of two words of so many bits exceeds `k`.
+/// The net whose output says whether the error of two words of `width` bits exceeds `k`.
 fn quality(alloc: Global, metric: Metric, width: u32, k: u128) -> Result<Net, AllocError>
     requires { width ≤ MOST_OUTPUTS }
     ensures { IfOk result (λ n. n ≡ quality_net metric width k) }
@@ -90,7 +90,7 @@ fn joint_outputs(
     Ok(outputs)
 }
 
-/// Whether the signals of the joint net are few, as those of two nets that are read are.
+/// Whether the joint net has fewer signals than `ROOM`, as that of two nets that are read has.
 fn has_few_signals(exact: &Net, approx: &Net, quality: &Net) -> bool
     ensures value { IsTrue result
         ↔ (signal_count exact.now + table_count approx.now + table_count quality.now < 2 ^ 31) }
@@ -105,7 +105,8 @@ fn has_few_signals(exact: &Net, approx: &Net, quality: &Net) -> bool
     signals < u64::from(ROOM)
 }
 
-/// The tables and the outputs of the joint net, where its inputs have these signals and the quality network reads those.
+/// The tables and the outputs of the joint net, where its inputs have the signals `inputs` and the quality
+/// network reads the signals `read`.
 fn parts_over(
     alloc: Global,
     inputs: &[Signal],
@@ -186,7 +187,8 @@ fn join(alloc: Global, exact: &Net, approx: &Net, quality: &Net) -> Result<Net, 
     Net::from_sound(alloc, model, inputs, tables, outputs)
 }
 
-/// Whether the signals and the rows together are few, as those of the joint net of two nets that are read are.
+/// Whether the signals and the rows together are fewer than `ROOM`, as those of the joint net of two nets
+/// that are read are.
 fn has_room(net: &Net) -> bool
     ensures value { IsTrue result ↔ (signal_count net.now + row_count net.now < 2 ^ 31) }
     ensures small { (exact approx : NetValue) (metric : Metric) (k : ℕ) → IsSmall exact → IsSmall approx
@@ -247,8 +249,9 @@ fn join_with_room(
     with_room(join_few(alloc, exact, approx, quality)?)
 }
 
-/// The joint net, whose output says whether the error of the approximate net's outputs against the exact one's exceeds `k`.
-/// It answers want of memory also where its signals and rows would be 2^31 or more, which those of two nets that are read never are.
+/// The joint net, whose output says whether the error of the approximate net's outputs against those of the
+/// exact net exceeds `k`. The call also counts it as want of memory where signals and rows would be 2^31 or
+/// more, which they never are for two nets that are read.
 pub fn joint(
     alloc: Global,
     exact: &Net,

@@ -3,7 +3,7 @@ use Rattle.std.specs.Prelude.{◌≡◌, ◌==◌, ℕ, ◌<◌, ◌≤◌, fals
 use Rattle.std.specs.Int.{bit_at}
 use Rattle.lane_bits.specs.Rows.{row_bit, word_count}
 
--- the row of an input at the first vectors of the counting order, with no bit past them
+-- the row of an input at the first `count` vectors of the counting order, with no bit past them
 pub record IsCountingRow (input count : ℕ) (row : List ℕ) : Type 0 where
   pub words : length row ≡ word_count count
   pub bits : (p : ℕ) → p < count → row_bit row p ≡ (bit_at p input == 1)

@@ -5,7 +5,7 @@ use Rattle.std.specs.List.{AllByRecursion, range_with_len}
 use Rattle.semantics.specs.declared.limits.TheConstants.{MOST_INPUTS}
 use Rattle.lane_bits.specs.Rows.{row_bit, word_count}
 
--- a list of vectors, each of as many bits as there are inputs
+-- a list of vectors, each of `inputs` bits
 pub record PatternSet : Type 0 where
   pub inputs : ℕ
   pub vectors : List (List Bool)
@@ -18,7 +18,7 @@ pub record IsPatternSet (s : PatternSet) : Type 0 where
 abbrev pub pattern_bit : List (List Bool) → ℕ → ℕ → Bool
 pattern_bit vectors input p = slice_index_or (slice_index_or vectors p []) input false
 
--- the input's bits in all vectors, in as few words as hold them
+-- the input's bits in all vectors, in the least number of words that hold them
 pub record IsRowOf (vectors : List (List Bool)) (input : ℕ) (row : List ℕ) : Type 0 where
   pub words : length row ≡ word_count (length vectors)
   pub bits : (p : ℕ) → row_bit row p ≡ pattern_bit vectors input p

@@ -12,7 +12,7 @@ abbrev pub turned : Bool → Bool → Bool
 turned false b = b
 turned true b = not b
 
--- how many words so many bits take
+-- the number of words that `count` bits take
 abbrev pub word_count : ℕ → ℕ
 word_count count = rounded_up count 64
 

@@ -3,7 +3,7 @@ use Rattle.std.specs.Prelude.{◌≡◌, ◌⊎◌, ℕ, ◌<◌, ◌≤◌, ◌
 use Rattle.semantics.specs.declared.limits.TheConstants.{MOST_INPUTS}
 use Rattle.lane_bits.specs.Rows.{row_bit, word_count}
 
--- a row has room for so many bits, and those past them are 0
+-- a row has room for `count` bits, and the bits past them are 0
 pub record IsRowFor (count : ℕ) (row : List ℕ) : Type 0 where
   pub room : word_count count ≤ length row
   pub clear : (p : ℕ) → count ≤ p → row_bit row p ≡ false
@@ -14,7 +14,7 @@ pub record AreRowsOf (inputs count : ℕ) (rows : List (List ℕ)) : Type 0 wher
   pub each : (length rows ≡ inputs) ⊎ ((count ≡ 0) × (rows ≡ []))
   pub formed : All (IsRowFor count) rows
 
--- the row has words behind those that it had, and no other bit is 1
+-- the row may have words behind those that it had, and the bits in those words are 0
 pub record IsGrownFrom (old new : List ℕ) : Type 0 where
   pub longer : length old ≤ length new
   pub bits : (p : ℕ) → row_bit new p ≡ row_bit old p

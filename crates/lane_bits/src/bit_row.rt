@@ -37,7 +37,7 @@ impl BitRow {
         BitRow { words }
     }
 
-    /// Adds a word without bits where there are fewer than `words`.
+    /// Appends a word without bits where there are fewer than `words` words.
     pub(crate) fn reach(&mut self, words: usize) -> Result<(), AllocError>
         requires { words ≤ length self.old + 1 }
         ensures grown { IsGrownFrom self.old self.new }

@@ -15,8 +15,8 @@ fn constant_word(bit: bool) -> u64
     if bit { u64::MAX } else { 0 }
 }
 
-/// Word k of an input's row: its bit b is that bit of the number 64 k + b. The words of the first six inputs are all the same, and
-/// those of the others have only zeros or only ones.
+/// Word k of an input's row: its bit b is bit `input` of the number 64 k + b. Each of the first six inputs
+/// has the same word everywhere; the words of the other inputs have only zeros or only ones.
 fn counting_word(input: u32, k: u64) -> u64
     requires { input < 64 }
     ensures { (b : ℕ) → b < 64 → (bit_at result b == 1) ≡ (bit_at (64 * k + b) input == 1) }
@@ -42,7 +42,7 @@ fn set_counting(row: &mut [u64], input: u32)
     }
 }
 
-/// The row of an input at so many vectors.
+/// The row of an input at the first `count` vectors.
 fn counting_row(alloc: Global, input: u32, count: u64) -> Result<BitRow, AllocError>
     requires { input < 64 }
     ensures { IfOk result (IsCountingRow input count) }
@@ -54,7 +54,7 @@ fn counting_row(alloc: Global, input: u32, count: u64) -> Result<BitRow, AllocEr
     Ok(BitRow::of(words))
 }
 
-/// The rows of so many inputs at so many vectors.
+/// The rows of the first `inputs` inputs at the first `count` vectors.
 pub(crate) fn counting_rows(
     alloc: Global,
     inputs: u32,

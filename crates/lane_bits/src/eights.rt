@@ -4,7 +4,8 @@ ghost use Rattle.lane_bits.specs.Changed.{AreChanged};
 
 use std::simd::u64x8;
 
-/// Sets the eight words of `dst` from this one on to the conjunctions of those of `a` and `b`, with these bits of each turned over.
+/// Sets the eight words of `dst` from word `at` on to the conjunctions of those of `a` and `b`, whose bits
+/// are turned over where those of `flips_a` and `flips_b` are 1.
 #[inline(always)]
 pub(crate) fn and_eight(
     dst: &mut [u64],
@@ -25,7 +26,8 @@ pub(crate) fn and_eight(
     (left & right).copy_to_slice(&mut dst[at..]);
 }
 
-/// Keeps in the eight words of `dst` from this one on the bits of those of `a`, with these bits turned over.
+/// Keeps in the eight words of `dst` from word `at` on only the bits that are 1 in those of `a`, whose bits
+/// are turned over where those of `flips_a` are 1.
 #[inline(always)]
 pub(crate) fn keep_eight(dst: &mut [u64], a: &[u64], flips_a: u64, at: usize)
     requires dst { at + 8 ≤ length dst.old }
@@ -37,7 +39,7 @@ pub(crate) fn keep_eight(dst: &mut [u64], a: &[u64], flips_a: u64, at: usize)
     words.copy_to_slice(&mut dst[at..]);
 }
 
-/// Sets the eight words of `dst` from this one on to their disjunctions with those of `a`.
+/// Sets the eight words of `dst` from word `at` on to their disjunctions with those of `a`.
 #[inline(always)]
 pub(crate) fn or_eight(dst: &mut [u64], a: &[u64], at: usize)
     requires dst { at + 8 ≤ length dst.old }
@@ -48,7 +50,7 @@ pub(crate) fn or_eight(dst: &mut [u64], a: &[u64], at: usize)
     words.copy_to_slice(&mut dst[at..]);
 }
 
-/// Turns over the bits of the eight words of `dst` from this one on where those of `a` are 1.
+/// Turns over the bits of the eight words of `dst` from word `at` on where those of `a` are 1.
 #[inline(always)]
 pub(crate) fn xor_eight(dst: &mut [u64], a: &[u64], at: usize)
     requires dst { at + 8 ≤ length dst.old }
@@ -59,7 +61,7 @@ pub(crate) fn xor_eight(dst: &mut [u64], a: &[u64], at: usize)
     words.copy_to_slice(&mut dst[at..]);
 }
 
-/// Whether no bit of the eight words from this one on is 1.
+/// Whether no bit of the eight words from word `at` on is 1.
 #[inline(always)]
 pub(crate) fn are_clear(row: &[u64], at: usize) -> bool
     requires { at + 8 ≤ length row.now }

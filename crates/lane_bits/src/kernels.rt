@@ -5,21 +5,22 @@ ghost use Rattle.lane_bits.specs.Changed.{AreChanged};
 
 use crate::eights::{and_eight, are_clear, keep_eight, or_eight, xor_eight};
 
-/// How many words so many bits take.
+/// The number of words that `count` bits take.
 pub fn word_count(count: u64) -> u64
     ensures { result ≡ word_count count }
 {
     count.div_ceil(64)
 }
 
-/// The word that turns over each bit, or none.
+/// The word with which an exclusive or turns over each bit, or none.
 fn flip_word(flip: bool) -> u64
     ensures { result ≡ (if flip then 2 ^ 64 - 1 else 0) }
 {
     if flip { u64::MAX } else { 0 }
 }
 
-/// Sets the words of `dst` from this one on to the conjunctions of those of `a` and `b`, with these bits of each turned over.
+/// Sets the words of `dst` from word `from` on to the conjunctions of those of `a` and `b`, whose bits are
+/// turned over where those of `flips_a` and `flips_b` are 1.
 fn and_rest(dst: &mut [u64], a: &[u64], flips_a: u64, b: &[u64], flips_b: u64, from: usize)
     requires from { from ≤ length dst.old }
     requires a_length { length a.now ≡ length dst.old }
@@ -47,7 +48,8 @@ pub fn and_rows(dst: &mut [u64], a: &[u64], flip_a: bool, b: &[u64], flip_b: boo
     and_rest(dst, a, flips_a, b, flips_b, 8 * eights);
 }
 
-/// Keeps in the words of `dst` from this one on the bits of those of `a`, with these bits turned over.
+/// Keeps in the words of `dst` from word `from` on only the bits that are 1 in those of `a`, whose bits are
+/// turned over where those of `flips_a` are 1.
 fn keep_rest(dst: &mut [u64], a: &[u64], flips_a: u64, from: usize)
     requires from { from ≤ length dst.old }
     requires a_length { length a.now ≡ length dst.old }
@@ -58,7 +60,7 @@ fn keep_rest(dst: &mut [u64], a: &[u64], flips_a: u64, from: usize)
     }
 }
 
-/// Each bit of `dst` stays 1 where the bit of `a`, turned over if `flip_a`, is 1 too.
+/// Each bit of `dst` stays 1 only where the bit of `a`, turned over if `flip_a`, is 1 too.
 pub fn keep_rows(dst: &mut [u64], a: &[u64], flip_a: bool)
     requires { length a.now ≡ length dst.old }
     ensures { (p : ℕ) → p < 64 * length dst.old → row_bit dst.new p ≡ (row_bit dst.old p && turned flip_a (row_bit a.now p)) }
@@ -71,7 +73,7 @@ pub fn keep_rows(dst: &mut [u64], a: &[u64], flip_a: bool)
     keep_rest(dst, a, flips_a, 8 * eights);
 }
 
-/// Sets the words of `dst` from this one on to their disjunctions with those of `a`.
+/// Sets the words of `dst` from word `from` on to their disjunctions with those of `a`.
 fn or_rest(dst: &mut [u64], a: &[u64], from: usize)
     requires from { from ≤ length dst.old }
     requires a_length { length a.now ≡ length dst.old }
@@ -82,7 +84,7 @@ fn or_rest(dst: &mut [u64], a: &[u64], from: usize)
     }
 }
 
-/// Each bit of `dst` becomes 1 where the bit of `a` is.
+/// Each bit of `dst` becomes 1 where the bit of `a` is 1.
 pub fn or_rows(dst: &mut [u64], a: &[u64])
     requires { length a.now ≡ length dst.old }
     ensures { (p : ℕ) → row_bit dst.new p ≡ (row_bit dst.old p || row_bit a.now p) }
@@ -94,7 +96,7 @@ pub fn or_rows(dst: &mut [u64], a: &[u64])
     or_rest(dst, a, 8 * eights);
 }
 
-/// Turns over the bits of the words of `dst` from this one on where those of `a` are 1.
+/// Turns over the bits of the words of `dst` from word `from` on where those of `a` are 1.
 fn xor_rest(dst: &mut [u64], a: &[u64], from: usize)
     requires from { from ≤ length dst.old }
     requires a_length { length a.now ≡ length dst.old }
@@ -130,7 +132,8 @@ pub fn clear_past(row: &mut [u64], count: u64)
     }
 }
 
-/// How many of the first `words` words can be passed over, eight at a time: all of them are 0.
+/// The number of words, of the first `words`, that can be passed over, eight at a time, since all of them are
+/// 0.
 fn clear_words(row: &[u64], words: usize) -> usize
     requires { words ≤ length row.now }
     ensures within { result ≤ words }

@@ -31,7 +31,7 @@ impl Model for Patterns {
     ghost invariant = { λ s. AreRowsOf s.inputs s.count s.rows.items };
 }
 
-/// As many rows without bits as there are inputs.
+/// `inputs` rows without bits.
 fn empty_rows(alloc: Global, inputs: u32) -> Result<Vec<BitRow>, AllocError>
     ensures { IfOk result (λ rows. rows.items ≡ replicate inputs []) }
 {
@@ -42,7 +42,7 @@ fn empty_rows(alloc: Global, inputs: u32) -> Result<Vec<BitRow>, AllocError>
     Ok(rows)
 }
 
-/// Makes room for so many words in each row.
+/// Makes room for `words` words in each row.
 fn reach_words(rows: &mut [BitRow], words: usize) -> Result<(), AllocError>
     requires { All (λ row. words ≤ length row + 1) rows.old }
     ensures grown { AreGrownFrom rows.old rows.new }
@@ -54,7 +54,7 @@ fn reach_words(rows: &mut [BitRow], words: usize) -> Result<(), AllocError>
     Ok(())
 }
 
-/// Makes a row for each input where there is none, and room for so many words in each.
+/// Makes a row for each input where there is none yet, and room for `words` words in each.
 fn ready_rows(rows: &mut Vec<BitRow>, inputs: u32, words: usize) -> Result<(), AllocError>
     requires count { (length rows.old.items ≡ inputs) ⊎ (rows.old.items ≡ []) }
     requires room { (i : ℕ) → i < inputs → words ≤ length (row_at rows.old.items i) + 1 }
@@ -68,7 +68,7 @@ fn ready_rows(rows: &mut Vec<BitRow>, inputs: u32, words: usize) -> Result<(), A
     reach_words(rows, words)
 }
 
-/// Makes bit p of each row 1 where the vector's bit is.
+/// Makes bit p of each row 1 where the vector's bit for that input is 1.
 fn set_bits(rows: &mut [BitRow], p: u64, x: &[bool])
     requires width { length x.now ≡ length rows.old }
     requires room { All (λ row. p / 64 < length row) rows.old }

@@ -11,7 +11,7 @@ pub record IsFirstOver (metric : Metric) (exact approx : NetValue) (level : ℕ)
   pub over : level < net_error metric exact approx (vector_at vectors p)
   pub first : (q : ℕ) → q < p → net_error metric exact approx (vector_at vectors q) ≤ level
 
--- the first pattern whose error exceeds the level, or none where that of no pattern does
+-- p is the first pattern whose error exceeds the level; there is no p where the error of no pattern does
 abbrev pub FindsFirstOver : Metric → NetValue → NetValue → ℕ → List (List Bool) → Option ℕ → Type 0
 FindsFirstOver metric exact approx level vectors found =
     MatchOption found ((p : ℕ) → p < length vectors → net_error metric exact approx (vector_at vectors p) ≤ level)
@@ -29,7 +29,7 @@ abbrev pub IsFirstGreatest : Metric → NetValue → NetValue → List (List Boo
 IsFirstGreatest metric exact approx vectors most p =
     IsFirstGreatestOf (λ q. net_error metric exact approx (vector_at vectors q)) (length vectors) most p
 
--- at is the first of the places below the bound that has the greatest value, most, or both are 0
+-- `at` is the first of the places below the bound that has the greatest value, `most`; or `most` is 0
 pub record IsGreatestSoFar (f : ℕ → ℕ) (bound at most : ℕ) : Type 0 where
   pub within : 0 < at → at < bound
   pub attained : 0 < most → f at ≡ most

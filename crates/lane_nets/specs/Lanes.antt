@@ -23,7 +23,8 @@ output_words N words = map (slice_index words) N.outputs
 abbrev pub HasReached : List ℕ → ℕ → ℕ → Type 0
 HasReached words b n = (j : ℕ) → j < length words → word_bit (slice_index words j) b ≡ nat_lt j n
 
--- the words in which the comparison of two numbers goes on: their lowest bits are taken off, with what is carried and how they compare
+-- how the comparison of two numbers goes on once their lowest bits are taken off, by the carry and by how
+-- these bits compare
 abbrev pub GoesOn : (low high one : ℕ) → (carry above new_carry new_above : ℕ) → Type 0
 GoesOn low high one carry above new_carry new_above =
     (x y : ℕ) → (low + 2 * x + one + carry < high + 2 * y + above) ↔ (x + new_carry < y + new_above)

@@ -10,14 +10,15 @@ use net_errors::error::error;
 use semantics::limits::MOST_OUTPUTS;
 use semantics::metric::Metric;
 
-/// How the bits so far compare: what their sum carries, and where the higher number is above it.
+/// How the bits so far compare: the carry of the sum of the lower number and the constant, and where the
+/// higher number is above that sum.
 #[derive(Clone, Copy)]
 struct Comparison {
     carry: u64,
     above: u64,
 }
 
-/// The comparison after one more bit of both numbers and of the constant that is added to the lower.
+/// The comparison after one more bit of both numbers and of the constant that is added to the lower number.
 fn compare_bit(low: u64, high: u64, one: bool, so_far: Comparison) -> Comparison
     ensures { (b : ℕ) → b < 64 → GoesOn (lane_number low b) (lane_number high b) (bit_number one)
         (lane_number so_far.carry b) (lane_number so_far.above b) (lane_number result.carry b) (lane_number result.above b) }
@@ -31,7 +32,7 @@ fn compare_bit(low: u64, high: u64, one: bool, so_far: Comparison) -> Comparison
     }
 }
 
-/// Where the lower number and `level` are together less than the higher.
+/// The lanes where the lower number plus `level` is less than the higher number.
 fn above_word(low: &[u64], high: &[u64], level: u128) -> u64
     requires { length low.now ≡ length high.now }
     ensures { (b : ℕ) → b < 64
@@ -50,7 +51,7 @@ fn above_word(low: &[u64], high: &[u64], level: u128) -> u64
     }
 }
 
-/// Where the numbers are further apart than the level.
+/// The lanes where the numbers are further apart than the level.
 fn apart_word(exact: &[u64], approx: &[u64], level: u128) -> u64
     requires { length exact.now ≡ length approx.now }
     ensures { (b : ℕ) → b < 64 → IsTrue (word_bit result b)
@@ -70,7 +71,7 @@ fn set_turned(words: &[u64], turned: &mut [u64])
     }
 }
 
-/// Where the signed numbers are further apart than the level.
+/// The lanes where the signed numbers are further apart than the level.
 fn signed_apart_word(exact: &[u64], approx: &[u64], level: u128) -> u64
     requires same { length exact.now ≡ length approx.now }
     requires few { length exact.now ≤ MOST_OUTPUTS }
@@ -86,7 +87,7 @@ fn signed_apart_word(exact: &[u64], approx: &[u64], level: u128) -> u64
     apart_word(right, outputs, level)
 }
 
-/// Where some outputs differ: elsewhere all are the same.
+/// The lanes where some outputs differ; in the other lanes all outputs agree.
 fn unequal_word(exact: &[u64], approx: &[u64]) -> u64
     requires { length exact.now ≡ length approx.now }
     ensures { (b : ℕ) → b < 64 → word_bit result b ≡ false → lane_at exact.now b ≡ lane_at approx.now b }
@@ -137,7 +138,7 @@ fn count_differing(reached: &mut [u64], differs: u64)
     }
 }
 
-/// Where more outputs differ than the level.
+/// The lanes where more outputs differ than the level.
 fn differing_word(level: u128, exact: &[u64], approx: &[u64]) -> u64
     requires same { length exact.now ≡ length approx.now }
     requires few { length exact.now ≤ MOST_OUTPUTS }
@@ -169,8 +170,8 @@ fn lane_value(words: &[u64], b: u32) -> u64
     number
 }
 
-/// Whether the relative error at pattern b exceeds the level: a quotient that is rounded up exceeds a number exactly where what is
-/// divided exceeds the number's multiple.
+/// Whether the relative error at pattern b exceeds the level, by the law that a quotient rounded up exceeds a
+/// number exactly where the dividend exceeds the product of the number and the divisor.
 fn is_over_relative(level: u64, exact: &[u64], approx: &[u64], b: u32) -> bool
     requires pattern { b < 64 }
     requires same { length exact.now ≡ length approx.now }
@@ -183,7 +184,7 @@ fn is_over_relative(level: u64, exact: &[u64], approx: &[u64], b: u32) -> bool
     most < apart
 }
 
-/// Where the relative error exceeds the level, found at one pattern after the other where outputs differ.
+/// The lanes where the relative error exceeds the level, found pattern by pattern where outputs differ.
 fn relative_word(level: u64, exact: &[u64], approx: &[u64]) -> u64
     requires same { length exact.now ≡ length approx.now }
     requires few { length exact.now ≤ MOST_OUTPUTS }
@@ -200,7 +201,7 @@ fn relative_word(level: u64, exact: &[u64], approx: &[u64]) -> u64
     over
 }
 
-/// Where the error exceeds the level, found at one pattern after the other where outputs differ.
+/// The lanes where the error exceeds the level, found pattern by pattern where outputs differ.
 fn single_errors(metric: Metric, level: u128, exact: &[u64], approx: &[u64]) -> u64
     requires same { length exact.now ≡ length approx.now }
     requires few { length exact.now ≤ MOST_OUTPUTS }
@@ -217,7 +218,7 @@ fn single_errors(metric: Metric, level: u128, exact: &[u64], approx: &[u64]) -> 
     over
 }
 
-/// Where the error exceeds the level.
+/// The lanes where the error exceeds the level.
 pub fn over_word(metric: Metric, level: u128, exact: &[u64], approx: &[u64]) -> u64
     requires same { length exact.now ≡ length approx.now }
     requires few { length exact.now ≤ MOST_OUTPUTS }

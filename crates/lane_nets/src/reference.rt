@@ -16,7 +16,7 @@ use std::alloc::{AllocError, Global};
 use std::marker::Model;
 use std::simd::u64x8;
 
-/// An exact net, a set of patterns, and the words of the net's outputs at them, in blocks of 64.
+/// An exact net, a set of patterns, and the words of the net's outputs at these patterns, in blocks of 64.
 #[derive(Drop)]
 pub struct Reference<'a> {
     exact: &'a Net,
@@ -61,7 +61,8 @@ impl<'a> Reference<'a> {
         &self.patterns
     }
 
-    /// The first pattern at which the error of a net exceeds the level. It takes memory for eight blocks of the net's values.
+    /// The first pattern at which the error of a net exceeds the level. The search takes memory for eight
+    /// blocks of the net's values.
     pub fn first_over(
         &self,
         alloc: Global,
@@ -83,8 +84,8 @@ impl<'a> Reference<'a> {
         ))
     }
 
-    /// The greatest error of a net at the patterns, and the first of them that has it. It takes memory for eight blocks of the net's
-    /// values.
+    /// The greatest error of a net at the patterns, and the first pattern that has it. The search takes
+    /// memory for eight blocks of the net's values.
     pub fn greatest_error(
         &self,
         alloc: Global,

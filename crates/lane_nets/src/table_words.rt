@@ -9,7 +9,7 @@ use net_core::mark::Mark;
 use net_core::row::Row;
 use net_core::table::Table;
 
-/// Where a pin's value is as the mark asks.
+/// The lanes where a pin's value is as the mark asks.
 fn mark_word(mark: Mark, word: u64) -> u64
     ensures { (b : ℕ) → b < 64 → word_bit result b ≡ mark_matches mark (word_bit word b) }
 {
@@ -20,7 +20,7 @@ fn mark_word(mark: Mark, word: u64) -> u64
     }
 }
 
-/// Where a row matches.
+/// The lanes where a row matches.
 pub fn row_word(marks: &[Mark], pins: &[Signal], words: &[u64]) -> u64
     requires widths { length marks.now ≡ length pins.now }
     requires pins_in { All (λ s. s < length words.now) pins.now }
@@ -33,7 +33,7 @@ pub fn row_word(marks: &[Mark], pins: &[Signal], words: &[u64]) -> u64
     all
 }
 
-/// Where some row matches.
+/// The lanes where some row matches.
 pub fn rows_word(rows: &[Row], pins: &[Signal], words: &[u64]) -> u64
     requires widths { All (λ marks. length marks ≡ length pins.now) rows.now }
     requires pins_in { All (λ s. s < length words.now) pins.now }

@@ -1,4 +1,4 @@
-//! Which of some input vectors is the first whose error exceeds a level, and which has the greatest error.
+//! The first of some input vectors whose error exceeds a level, and the one with the greatest error.
 ghost use Rattle.std.specs.Prelude.{◌≡◌, ◌↔◌, ◌+◌, ◌<◌, ◌≤◌, ◌^◌, ℕ, map, length, IsTrue};
 ghost use Rattle.semantics.specs.Net.{input_count, signal_count};
 ghost use Rattle.semantics.specs.Error.{error_of};
@@ -25,7 +25,7 @@ pub struct Greatest {
     pub at: u64,
 }
 
-/// Where the error exceeds the level, at the patterns of one of the eight blocks.
+/// The lanes where the error exceeds the level, at the patterns of one of the eight blocks.
 fn block_over(
     nets: &Compared,
     metric: Metric,
@@ -47,8 +47,8 @@ fn block_over(
     over_word(metric, level, exact, outputs)
 }
 
-/// The first pattern whose error exceeds the level, where `outputs` are those of the exact net. The values of the approximate net
-/// are found in `wides`, eight blocks at a time up to that pattern.
+/// The first pattern whose error exceeds the level, where `outputs` are those of the exact net. The values of
+/// the approximate net are computed into `wides`, eight blocks at a time, up to that pattern.
 pub(crate) fn first_over(
     nets: &Compared,
     metric: Metric,
@@ -74,7 +74,7 @@ pub(crate) fn first_over(
     None
 }
 
-/// The greater of an error and another one, further on.
+/// The greater one of the greatest error so far and the error of a later pattern.
 fn greater(so_far: Greatest, error: u128, at: u64) -> Greatest
     ensures { (f : ℕ → ℕ) → f at ≡ error → IsGreatestSoFar f at so_far.at so_far.error
         → IsGreatestSoFar f (at + 1) result.at result.error × (so_far.error ≤ result.error) }
@@ -121,7 +121,8 @@ fn greatest_in_block(
     greatest
 }
 
-/// The greatest error of the patterns, and the first of them that has it, where `outputs` are those of the exact net.
+/// The greatest error of the patterns, and the first pattern that has it, where `outputs` are those of the
+/// exact net.
 pub(crate) fn greatest_error(
     nets: &Compared,
     metric: Metric,

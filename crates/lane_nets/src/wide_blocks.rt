@@ -13,7 +13,7 @@ use lane_bits::patterns::Patterns;
 use net_core::net::Net;
 use std::simd::u64x8;
 
-/// The eight words of a row from this one on; there are zeros past its end.
+/// The eight words of a row from word `from` on, with zeros past the row's end.
 fn wide_at(row: &[u64], from: usize) -> u64x8
     requires { from ≤ length row.now }
     ensures { (j : ℕ) → j < 8 → slice_index result j ≡ slice_index row.now (from + j) }
@@ -51,7 +51,8 @@ fn set_wide_block(net: &Net, patterns: &Patterns, q: usize, wides: &mut [u64x8])
     eval_wides(net, wides);
 }
 
-/// Lets `wides` have the wide block that block k is in. It is made where that is the first of the eight, and is there else.
+/// Lets `wides` hold the wide block in which block k is. The wide block is computed where block k is its
+/// first; else it is there already.
 pub(crate) fn reach_block(net: &Net, patterns: &Patterns, k: usize, wides: &mut [u64x8])
     requires inputs { patterns.now.inputs ≡ input_count net.now }
     requires within { k < word_count (length patterns.now.vectors) }

@@ -37,7 +37,7 @@ fn equal_words(word: u64) -> u64x8
     u64x8::splat(word)
 }
 
-/// Where a pin's value is as the mark asks.
+/// The lanes where a pin's value is as the mark asks.
 fn mark_wide(mark: Mark, wide: u64x8) -> u64x8
     ensures { (j b : ℕ) → j < 8 → b < 64 → word_bit (slice_index result j) b ≡ mark_matches mark (word_bit (slice_index wide j) b) }
 {
@@ -48,7 +48,7 @@ fn mark_wide(mark: Mark, wide: u64x8) -> u64x8
     }
 }
 
-/// Where a row matches.
+/// The lanes where a row matches.
 fn row_wide(marks: &[Mark], pins: &[Signal], wides: &[u64x8]) -> u64x8
     requires widths { length marks.now ≡ length pins.now }
     requires pins_in { All (λ s. s < length wides.now) pins.now }
@@ -62,7 +62,7 @@ fn row_wide(marks: &[Mark], pins: &[Signal], wides: &[u64x8]) -> u64x8
     all
 }
 
-/// Where some row matches.
+/// The lanes where some row matches.
 fn rows_wide(rows: &[Row], pins: &[Signal], wides: &[u64x8]) -> u64x8
     requires widths { All (λ marks. length marks ≡ length pins.now) rows.now }
     requires pins_in { All (λ s. s < length wides.now) pins.now }

@@ -1,4 +1,5 @@
-//! Words in memory of their own: a block's, one for each signal, or a row's, one for each 64 patterns.
+//! Words in memory of their own: the words of a block, one for each signal, or those of a row, one for each
+//! 64 patterns.
 ghost use Rattle.std.specs.Prelude.{◌≡◌, [], ◌∷◌, ◌++◌, length, take, OnOk, OnErr};
 
 use std::alloc::{AllocError, Global};
@@ -58,7 +59,7 @@ impl WordList {
         Ok(())
     }
 
-    /// Keeps the first words alone.
+    /// Keeps only the first `count` words.
     pub fn truncate(&mut self, count: usize)
         ensures { self.new ≡ take count self.old }
     {

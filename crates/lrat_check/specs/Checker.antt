@@ -6,7 +6,8 @@ use Rattle.proof_semantics.specs.declared.item.Item.TheVariants.{Add, Remove}
 use Rattle.proof_semantics.specs.Clauses.{Clause}
 use Rattle.proof_semantics.specs.Logs.{Held, StepValue, LogItem, held_of, removed_from, IsSoundLog}
 
--- the clauses that are held by their ids, the greatest id so far, and whether the step accepted last is the empty clause
+-- the held clauses by their ids, the greatest id so far, and whether the step that was accepted last is the
+-- empty clause
 pub record CheckerValue : Type 0 where
   pub held : Held
   pub last : ℕ
@@ -38,7 +39,7 @@ after k [] = k
 after k (Add s ∷ log) = after (stepped k s) log
 after k (Remove ids ∷ log) = after (removed k ids) log
 
--- the log is sound over the formula, and the checker is what its items make of a new one
+-- the log is sound over the formula, and the checker is what the log's items make of a new checker
 pub record StandsAfter (formula : List Clause) (log : List LogItem) (k : CheckerValue) : Type 0 where
   pub sound : IsSoundLog formula log
   pub value : k ≡ after (start_of formula) log

@@ -8,7 +8,7 @@ index_of l = nat_abs l * 2 + (if int_lt (pos 0) l then 1 else 0)
 abbrev pub mark_at : List Bool → ℤ → Bool
 mark_at marks l = slice_index_or marks (index_of l) false
 
--- the literal's own mark, or for one that has none whether it stands apart
+-- the mark of the literal; for a literal that has no mark, whether it is in the set apart
 abbrev pub is_marked : List Bool → Bool → ℤ → Bool
 is_marked marks apart l = if nat_lt (index_of l) (length marks) then mark_at marks l else apart
 

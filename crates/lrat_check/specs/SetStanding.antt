@@ -6,7 +6,7 @@ use Rattle.std.specs.HashSet as hash
 use Rattle.lrat_check.specs.Marks.{is_marked}
 use Rattle.lrat_check.specs.declared.literal_set.LiteralSet.TheInside.{Inside}
 
--- the members are the literals that are marked, or that stand apart and have no mark
+-- the members are the literals that are marked, and those that have no mark and are in the set apart
 pub record AreMarked {S : Type 0} (members : List ℤ) (marks : List Bool) (apart : hash.HashSet ℤ S) : Type 0 where
   pub same : (l : ℤ) → is_marked marks (hash.contains int_eq apart l) l ≡ list_any (int_eq l) members
 

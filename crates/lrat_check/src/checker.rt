@@ -15,14 +15,14 @@ use proof_semantics::step_refusal::StepRefusal;
 use std::alloc::{AllocError, Global};
 use std::marker::Model;
 
-/// What was accepted so far. Its memory goes with the clauses that are held, however far apart their ids are, and with the
-/// formula's variables. A step uses one set of literals again and again, and finds each hint in time logarithmic in the number of held
-/// clauses.
+/// What was accepted so far. Its memory grows with the clauses that are held, however far apart their ids
+/// are, and with the formula's variables. Each step uses one set of literals anew, and finds each hint in
+/// time logarithmic in the number of held clauses.
 #[derive(Drop)]
 pub struct Checker {
     alloc: Global,
     held: HeldClauses,
-    /// What a step takes for true; each step empties it first.
+    /// The literals that a step takes for true; each step empties the set first.
     set: LiteralSet,
     done: bool,
 }
@@ -82,7 +82,7 @@ impl Checker {
         })
     }
 
-    /// Accepts a step that derives from what is held; then its clause is held.
+    /// Accepts a step that derives from what is held; after that the step's clause is held.
     pub fn step(&mut self, s: &Step) -> Result<(), StepRefusal>
         ensures answer { (result ≡ Err StepRefusal.OutOfMemory)
             ⊎ (result ≡ step_answer self.old.held self.old.last s.now) }
@@ -104,7 +104,8 @@ impl Checker {
         self.hold(s)
     }
 
-    /// These ids are no longer held; an id that is not held means nothing. It takes no memory.
+    /// Ends the holding of the clauses with these ids; an id that is not held is ignored. The call takes no
+    /// memory.
     pub fn remove(&mut self, ids: &Ids)
         ensures value { self.new ≡ removed self.old ids.now }
         ensures stands { (formula : List Clause) (log : List LogItem)

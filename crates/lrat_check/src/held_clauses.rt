@@ -16,7 +16,7 @@ pub struct Entry {
     clause: Option<Lits>,
 }
 
-/// Where the id stands, found by halves.
+/// The place of the id, found by binary search.
 fn search(entries: &[Entry], id: u64) -> Option<usize>
     requires { AllPairs IsBefore entries.now }
     ensures { IsPlaceOf entries.now id result }
@@ -38,8 +38,8 @@ fn search(entries: &[Entry], id: u64) -> Option<usize>
     None
 }
 
-/// Where the id stands. As long as ids follow one another and all are there, each stands at the number before it, so that place is
-/// looked at first.
+/// The place of the id. As long as ids follow one another without a gap, an id stands at the place of the
+/// number before it, so that place is looked at first.
 #[inline(always)]
 fn place_of(entries: &[Entry], id: u64) -> Option<usize>
     requires { AllPairs IsBefore entries.now }
@@ -68,7 +68,8 @@ fn drop_ended(entries: &mut Vec<Entry>)
     entries.retain(|entry| entry.clause.is_some());
 }
 
-/// Clauses by their ids, which rise from one to the next. Where a clause was removed its id is left, until as many are left as are held.
+/// Clauses by their ids, which rise. Where a clause was removed its id is left, until as many such ids are
+/// left as clauses are held.
 #[derive(Drop)]
 pub struct HeldClauses {
     entries: Vec<Entry>,
@@ -89,7 +90,7 @@ impl Model for HeldClauses {
 }
 
 impl HeldClauses {
-    /// No clause; it takes no memory.
+    /// No clause. The call takes no memory.
     pub fn new(alloc: Global) -> HeldClauses
         ensures { result ≡ nothing_held }
     {
@@ -118,7 +119,7 @@ impl HeldClauses {
         }
     }
 
-    /// Drops what is left of removed clauses where it is more than what is held.
+    /// Drops the ids that are left of removed clauses, where they are more than the held clauses.
     fn sweep(&mut self)
         ensures { self.new ≡ self.old }
     {
@@ -143,7 +144,7 @@ impl HeldClauses {
         Ok(())
     }
 
-    /// Takes no memory.
+    /// Ends the holding of the clause with an id. The call takes no memory.
     fn remove(&mut self, id: u64)
         ensures { self.new ≡ record self.old { held = map.remove self.old.held id } }
     {
@@ -156,7 +157,7 @@ impl HeldClauses {
         }
     }
 
-    /// Takes no memory.
+    /// Ends the holding of the clauses with these ids. The call takes no memory.
     pub fn remove_all(&mut self, ids: &[u64])
         ensures { self.new ≡ record self.old { held = removed_from self.old.held ids.now } }
     {

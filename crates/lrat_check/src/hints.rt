@@ -59,7 +59,7 @@ fn hint_gives(
     }
 }
 
-/// Takes the hints in order; the literal that each gives joins the set.
+/// Takes the hints in order; the literal that a hint gives joins the set.
 pub fn follow(held: &HeldClauses, set: &mut LiteralSet, hints: &[u64]) -> Result<(), StepRefusal>
     ensures { (result ≡ Err StepRefusal.OutOfMemory) ⊎ (result ≡ hints_answer (get held.now.held) set.old hints.now) }
 {

@@ -10,7 +10,7 @@ use std::alloc::{AllocError, Global};
 use std::collections::HashSet;
 use std::marker::Model;
 
-/// The opposite sign of the same variable.
+/// The literal of the same variable with the opposite sign.
 #[inline(always)]
 pub fn negation(literal: Literal) -> Literal
     requires { IsLiteral literal }
@@ -45,8 +45,9 @@ fn unmark_all(marks: &mut Vec<bool>, literals: &[Literal])
     }
 }
 
-/// A set of literals that is emptied and filled again for each step. A literal of the variables that it was made for is marked in place;
-/// another one is found by its hash, so that no literal of a hostile log asks for much memory.
+/// A set of literals that is emptied and filled again for each step. A literal of the variables for which the
+/// set was made is marked in place; any other literal is found by its hash, so that no literal of a hostile
+/// log costs much memory.
 #[derive(Drop)]
 pub struct LiteralSet {
     members: Vec<Literal>,
@@ -70,7 +71,7 @@ impl Model for LiteralSet {
 }
 
 impl LiteralSet {
-    /// The empty set, with marks for the literals of the variables up to this one.
+    /// The empty set, with marks for the literals of the variables up to `variables`.
     pub fn new(alloc: Global, variables: u32) -> Result<LiteralSet, AllocError>
         ensures { IfOk result (λ empty. empty ≡ set.empty) }
     {
@@ -83,7 +84,7 @@ impl LiteralSet {
         })
     }
 
-    /// Takes all literals out, in time linear in them.
+    /// Takes all literals out, in time linear in their number.
     pub fn clear(&mut self)
         ensures { self.new ≡ set.empty }
     {

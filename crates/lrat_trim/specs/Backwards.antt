@@ -20,12 +20,13 @@ is_in ids id = contains ◌==◌ ids id
 abbrev pub is_fresh : ℕ → (ℕ → Bool) → ℕ → Bool
 is_fresh clauses named id = nat_lt clauses id && not (named id)
 
--- the fresh ones among the hints, in rising order
+-- the fresh ids among the hints, in rising order
 pub record AreFresh (clauses : ℕ) (hints : List ℕ) (named : ℕ → Bool) (ids : List ℕ) : Type 0 where
   pub exactly : (id : ℕ) → Contains ids id ↔ (Contains hints id × (is_fresh clauses named id ≡ true))
   pub in_order : AllPairs (λ a b. a < b) ids
 
--- The step is kept: the removal of what it is the last to name and its addition join the kept items, which stand the other way round.
+-- The step is kept: the removal of what it is the last to name, and its addition, join the kept items, which
+-- are held in reverse.
 pub record KeptStep (clauses : ℕ) (s : StepValue) (old_named : ℕ → Bool) (old_kept : List LogItem) (new_named : ℕ → Bool) (new_kept : List LogItem) : Type 0 where
   pub ids : List ℕ
   pub fresh : AreFresh clauses s.hints old_named ids

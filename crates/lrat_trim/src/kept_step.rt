@@ -1,4 +1,5 @@
-//! What keeping a step puts in front of the trimmed log, which grows from its end: its items stand the other way round.
+//! What keeping a step adds to the front of the trimmed log. The log grows from its end, so its items are
+//! held in reverse.
 ghost use Rattle.std.specs.Prelude.{◌≡◌, ◌||◌, ◌++◌, ◌∷◌, [], ℕ, List, IfOk, OnOk};
 ghost use Rattle.proof_semantics.specs.declared.item.Item.TheVariants.{Add};
 ghost use Rattle.trim_semantics.specs.Trimmed.{removal_of};
@@ -19,7 +20,7 @@ fn copy_of(alloc: Global, s: &Step) -> Result<Step, AllocError>
     Ok(Step::new(s.id(), lits, hints))
 }
 
-/// Puts the step in front; what it names is named from then on.
+/// Adds the step to the front; the ids that it names are named from then on.
 pub(crate) fn keep(
     alloc: Global,
     s: &Step,
@@ -34,7 +35,7 @@ pub(crate) fn keep(
     Ok(())
 }
 
-/// Puts the removal in front of those additions that the step is the last to name, where there are any.
+/// Adds to the front the removal of the additions that the step is the last to name, where there are any.
 fn end_fresh(
     alloc: Global,
     clauses: u64,
@@ -52,7 +53,7 @@ fn end_fresh(
     Ok(())
 }
 
-/// Keeps an addition that is named, with the removal behind it of what it is the last to name.
+/// Keeps an addition that is named, and behind it the removal of what it is the last to name.
 pub(crate) fn visit(
     alloc: Global,
     clauses: u64,

@@ -1,4 +1,4 @@
-//! Trimmed logs: of a refutation only the steps that its empty clause is reached from.
+//! Trimmed logs: of a refutation, only the steps from which its empty clause follows.
 #![tactic(auto)]
 
 mod kept_step;

@@ -12,7 +12,7 @@ use proof_parts::log::{Item, Log};
 use std::alloc::{AllocError, Global};
 use std::collections::HashSet;
 
-/// The items of the trimmed log, the last one first.
+/// The items of the trimmed log, in reverse.
 fn kept_backwards(
     alloc: Global,
     goal: &Cnf,
@@ -37,7 +37,7 @@ fn kept_backwards(
     Ok(kept)
 }
 
-/// The same items, the last one first.
+/// The log of these items in reverse order.
 fn turned(alloc: Global, items: Vec<Item>) -> Result<Log, AllocError>
     ensures { IfOk result (λ log. log ≡ reverse items.items) }
 {

@@ -7,7 +7,7 @@ use Rattle.memory_runs.specs.declared.half_adder.TheConstants.{HALF_ADDER, NAMES
 abbrev pub bundle_names : List (List ℕ)
 bundle_names = map (λ name. name.now) NAMES
 
--- each name with its bytes, which are none where it is not held
+-- each name with its bytes; a name that is not held has none
 abbrev pub with_bytes : Held → List (List ℕ) → List (List ℕ × List ℕ)
 with_bytes held names = map (λ name. (name, bytes_of held name)) names
 

@@ -54,14 +54,14 @@ pub fn holding(alloc: Global, text: &[u8]) -> Result<FileList, AllocError>
     Ok(files)
 }
 
-/// The bytes of a file, none where it is not held.
+/// The bytes of a file; a file that is not held has none.
 pub fn bytes_of<'a>(files: &'a MemFiles, name: &[u8]) -> &'a [u8]
     ensures { result.now ≡ bytes_of files.now.held name.now }
 {
     files.bytes(name).unwrap_or(b"")
 }
 
-/// Whether the name is held with these bytes; with none, whether it is not held.
+/// Whether the name is held with these bytes; for None, whether the name is not held.
 pub fn holds(files: &MemFiles, name: &[u8], wanted: Option<&[u8]>) -> bool
     ensures { IsTrue result ↔ (get files.now.held name.now ≡ option_map (λ text. text.now) wanted.entry) }
 {

@@ -17,7 +17,7 @@ pub struct Run {
     pub sink: MemSink,
 }
 
-/// The list of the one call number, or of none for 0.
+/// The list of the one number `call`, or the empty list for 0.
 fn failing_at(alloc: Global, call: u64) -> Result<CallList, AllocError> {
     let mut calls = CallList::new(alloc);
     if call > 0 {
@@ -26,8 +26,8 @@ fn failing_at(alloc: Global, call: u64) -> Result<CallList, AllocError> {
     Ok(calls)
 }
 
-/// One run over files that hold these at first and work in chunks of this size, as the sink does. The call of each number fails; the
-/// number 0 is that of none.
+/// One run over files that hold these at first and work in chunks of `chunk` bytes, as the sink does. The
+/// call with each number fails; the number 0 belongs to no call.
 pub fn run_failing(
     alloc: Global,
     line: &[u8],
@@ -53,7 +53,7 @@ pub fn run_over(alloc: Global, line: &[u8], held: FileList) -> Result<Run, Alloc
     run_failing(alloc, line, held, 64, 0, 0)
 }
 
-/// The same over files that hold `ha.blif` alone, with this text.
+/// One run, as [`run_over`], over files that hold `ha.blif` alone, with this text.
 pub fn run_on(alloc: Global, line: &[u8], text: &[u8]) -> Result<Run, AllocError> {
     run_over(alloc, line, holding(alloc, text)?)
 }

@@ -1,10 +1,11 @@
--- The forms of tables: what is the same of tables that are to be made equal.
+-- The forms of tables: what two tables that are to be made equal have in common.
 use Rattle.std.specs.Prelude.{◌≡◌, ◌⊎◌, ℕ, ◌<◌, Bool, List, [], ◌∷◌, ◌++◌, map, flat_map, length, slice_get, Option, Some, Contains}
 use Rattle.semantics.specs.Net.{TableValue}
 use Rattle.merge_log.specs.declared.form.Form.{Form}
 use Rattle.merge_log.specs.Chains.{MergedValue, first_of, asked}
 
--- the plane, how many rows there are, what the marks of all rows ask, row by row, and the first signals that the pins were made equal to
+-- the plane, the number of rows, what the marks of all rows ask, row by row, and the first signals to which
+-- the pins were made equal
 pub record FormValue : Type 0 where
   pub plane : Bool
   pub rows : ℕ

@@ -1,4 +1,5 @@
--- Clauses and their ids: in a formula with a log behind it the first clause has the id 1, and each further one the next. Source: LRAT.
+-- Clauses and their ids: in a formula with a log behind it the first clause has the id 1, and each further
+-- clause the next id. Source: LRAT.
 use Rattle.std.specs.Prelude.{◌≡◌, ◌≢◌, ℕ, suc, ◌<◌, true, false, List, [], ◌∷◌, length}
 use Rattle.proof_semantics.specs.Clauses.{Clause}
 use Rattle.proof_semantics.specs.NetClauses.{literal_at}

@@ -1,4 +1,5 @@
--- The tables of each level in their order, told by the first of each level and the next one of each table.
+-- The tables of each level in their order, by the first table of each level and, for each table, the next
+-- table of its level.
 use Rattle.std.specs.Prelude.{◌≡◌, ◌≢◌, ℕ, ◌+◌, ◌<◌, ◌≤◌, List, length, slice_index_or}
 
 -- Of the tables from `from` on, behind n inputs, `first` is the first of this level; where none has it, `first` is their number.
@@ -8,7 +9,8 @@ pub record IsFirstFrom (n count : ℕ) (levels : List ℕ) (level from first : �
   pub level_is : first < count → slice_index_or levels (n + first) 0 ≡ level
   pub others : (t : ℕ) → from ≤ t → t < first → slice_index_or levels (n + t) 0 ≢ level
 
--- the first table of each level, and the next one of each table's level, of the tables from `from` on
+-- the first table of each level and, for each table, the next table of its level, among the tables from
+-- `from` on
 pub record AreLevelLists (n count : ℕ) (levels : List ℕ) (from : ℕ) (firsts nexts : List ℕ) : Type 0 where
   pub within : from ≤ count
   pub nexts_count : length nexts ≡ count

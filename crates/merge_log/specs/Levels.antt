@@ -15,6 +15,7 @@ abbrev pub highest : List ℕ → List ℕ → ℕ
 highest levels [] = 0
 highest levels (s ∷ signals) = max (slice_index_or levels s 0) (highest levels signals)
 
--- table s comes before the table at signal t: it has a lower level, or the same one and stands earlier
+-- table s is taken before the table at signal t: it has a lower level, or has the same level and stands
+-- earlier
 abbrev pub IsTaken : List ℕ → ℕ → ℕ → ℕ → Type 0
 IsTaken levels level t s = (slice_index_or levels s 0 < level) ⊎ ((slice_index_or levels s 0 ≡ level) × (s < t))

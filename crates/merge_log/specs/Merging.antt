@@ -44,7 +44,8 @@ module _ (N : NetValue) (levels : List ℕ) (level t : ℕ) where
     pub all : (i : ℕ) → i < table_count N → IsDone (input_count N + i) → first_of g.merged (input_count N + i) ≡ input_count N + i
         → (k : ℕ) × (k < length g.tables) × (slice_index_or g.tables k 0 ≡ i)
 
--- table t, which is next, has the form of the table at this place of those that are the first of their kind
+-- table t, which is next, has the form of the table at place `kind` among the tables that are the first of
+-- their kind
 pub record IsFound (N : NetValue) (levels : List ℕ) (level t : ℕ) (g : MergingValue) (kind : ℕ) : Type 0 where
   pub levels_are : AreLevels (input_count N) N.tables levels
   pub table : t < table_count N

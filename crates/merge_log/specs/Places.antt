@@ -10,7 +10,7 @@ place_of n tables i = record { row = first_row n tables i; clause = first_clause
 abbrev pub no_place : Place
 no_place = record { row = 0; clause = 0 }
 
--- the places of so many tables
+-- the places of the first `most` tables
 pub record IsPlaceList (n : ℕ) (tables : List TableValue) (most : ℕ) (places : List Place) : Type 0 where
   pub count : length places ≡ most
   pub are : (i : ℕ) → i < most → slice_index_or places i no_place ≡ place_of n tables i

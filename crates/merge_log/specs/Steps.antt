@@ -12,7 +12,8 @@ use Rattle.merge_log.specs.Chains.{MergedValue}
 use Rattle.merge_log.specs.Ids.{HaveIds, forth, back}
 use Rattle.merge_log.specs.declared.steps.Place.{Place}
 
--- A row of these marks over these pins stands in the formula: its place, its clauses with the ids from one on, and what was made of the pins.
+-- A row of these marks over these pins stands in the formula at this place: its variable, and its clauses by
+-- their ids; and its pins are signals of `m`.
 pub record IsRowAt (f : Formula) (m : MergedValue) (marks : List Mark) (pins : List ℕ) (at : Place) : Type 0 where
   pub width : length marks ≡ length pins
   pub pins_in : All (λ s. s < length m.firsts) pins
@@ -25,7 +26,7 @@ pub record Adds (f : Formula) (old new : List LogItem) (clauses : List Clause) :
   pub derivation : IsDerivation f new
   pub added : added_clauses new ≡ added_clauses old ++ clauses
 
--- the clauses that make so many rows equal, from two places on
+-- the clauses that make `count` rows equal, from the two places `row` and `other` on
 abbrev pub row_pairs : ℕ → ℕ → ℕ → List Clause
 row_pairs row other zero = []
 row_pairs row other (suc count) = forth row other ∷ back row other ∷ row_pairs (suc row) (suc other) count

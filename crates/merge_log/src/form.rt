@@ -13,8 +13,8 @@ use net_core::table::Table;
 use std::alloc::{AllocError, Global};
 use std::marker::Model;
 
-/// What is the same of tables that are to be made equal: the plane, how many rows there are, what the marks of all rows ask, row by row,
-/// and the first signals that the pins were made equal to.
+/// What two tables that are to be made equal have in common: the plane, the number of rows, what the marks of
+/// all rows ask, row by row, and the first signals to which the pins were made equal.
 #[derive(PartialEq, Eq, Hash, Drop)]
 pub(crate) struct Form {
     plane: bool,
@@ -23,7 +23,7 @@ pub(crate) struct Form {
     pins: Vec<Signal>,
 }
 
-/// Forms that differ, in order.
+/// Distinct forms, in order.
 #[derive(Drop)]
 pub(crate) struct FormSet {
     forms: IndexSet<Form>,
@@ -59,7 +59,7 @@ fn all_asked(alloc: Global, rows: &[Row]) -> Result<Vec<Option<bool>>, AllocErro
     Ok(marks)
 }
 
-/// The first signals that these were made equal to.
+/// The first signals to which these signals were made equal.
 fn firsts(alloc: Global, merged: &Merged, signals: &[Signal]) -> Result<Vec<Signal>, AllocError>
     requires { All (λ s. s < length merged.now.firsts) signals.now }
     ensures { IfOk result (λ firsts. firsts.items ≡ map (first_of merged.now) signals.now) }
@@ -93,7 +93,7 @@ impl FormSet {
         }
     }
 
-    /// The number of a form, from 0: a new one has the next.
+    /// The number of a form, from 0: a form that is new gets the next number.
     pub(crate) fn number(&mut self, form: Form) -> Result<usize, AllocError>
         ensures { IfOk result (IsNumbered self.old self.new (form_value form)) }
     {

@@ -12,7 +12,7 @@ use proof_parts::log::Ids;
 use std::alloc::{AllocError, Global};
 use std::marker::Model;
 
-/// The hints so far, the literals that are true behind them, and whether two of these are opposite.
+/// The hints so far, the literals that are true behind them, and whether two of these literals are opposite.
 #[derive(Drop)]
 pub(crate) struct Chain {
     hints: Ids,
@@ -28,7 +28,7 @@ impl Model for Chain {
     ghost view = { λ a. record { hints = a.hints; literals = a.literals; ended = a.ended } };
 }
 
-/// These two literals.
+/// The clause of these two literals.
 pub(crate) fn two_literals(alloc: Global, one: Literal, other: Literal) -> Result<Lits, AllocError>
     requires one { IsLiteral one }
     requires other { IsLiteral other }
@@ -37,7 +37,7 @@ pub(crate) fn two_literals(alloc: Global, one: Literal, other: Literal) -> Resul
     Lits::from_slice(alloc, &[one, other])
 }
 
-/// The literal that is true where this one is false.
+/// The opposite literal.
 fn opposite(literal: Literal) -> Literal
     requires { IsLiteral literal }
     ensures { result ≡ neg_ℤ literal }
@@ -46,7 +46,8 @@ fn opposite(literal: Literal) -> Literal
 }
 
 impl Chain {
-    /// No hint yet: the variable of place s has the value `sign`, and that of place u has not.
+    /// No hint yet: the variable of place s has the value `sign`, and the variable of place u the opposite
+    /// value.
     pub(crate) fn new(alloc: Global, s: u32, u: u32, sign: bool) -> Result<Chain, AllocError>
         requires s { s + 1 < 2 ^ 31 }
         requires u { u + 1 < 2 ^ 31 }
@@ -67,7 +68,8 @@ impl Chain {
         self.literals.as_slice().contains(&literal)
     }
 
-    /// The clause of this id gives the variable of a place this value, since its other literals are false.
+    /// Adds the hint `id`, whose clause gives the variable of a place this value, since its other literals
+    /// are false.
     pub(crate) fn imply(&mut self, id: u64, place: u32, sign: bool) -> Result<(), AllocError>
         requires { place + 1 < 2 ^ 31 }
         ensures { OnOk result (self.new ≡ implied self.old id (literal_at place sign)) }
@@ -75,7 +77,7 @@ impl Chain {
         self.imply_literal(id, literal_at(place, sign))
     }
 
-    /// The clause of this id makes the literal true.
+    /// Adds the hint `id`, whose clause makes the literal true.
     fn imply_literal(&mut self, id: u64, literal: Literal) -> Result<(), AllocError>
         requires { IsLiteral literal }
         ensures { OnOk result (self.new ≡ implied self.old id literal) }
@@ -90,7 +92,7 @@ impl Chain {
         Ok(())
     }
 
-    /// The hints, where the clause of this id is false, unless a conflict came before.
+    /// The hints, where the last one is `id`, whose clause is false, unless a conflict came before.
     pub(crate) fn finish(self, id: u64) -> Result<Ids, AllocError>
         ensures { IfOk result (λ hints. hints ≡ ended_with self id) }
     {

@@ -22,8 +22,9 @@ pub(crate) fn asked(mark: Mark) -> Option<bool>
     }
 }
 
-/// The hints that one row implies another, which has the same marks and pins that were made equal to its own. The clauses of the row
-/// have the ids from `id` on, and those of the other one from `behind` on.
+/// The hints that one row implies another, which has equal marks, and pins that were made equal to those of
+/// the first. The clauses of the first row have the ids from `id` on, and those of the other row from
+/// `behind` on.
 pub(crate) fn row_hints(
     mut chain: Chain,
     merged: &Merged,
@@ -52,9 +53,10 @@ pub(crate) fn row_hints(
     chain.finish(behind + row_literals(marks) as u64)
 }
 
-/// The hints that one table's plane implies another's, which has the same plane, and so many rows that were made equal to its own: the
-/// rows of the other one from the place `row` on are false by the clauses from the id `implication` on, those of the table from the
-/// place `own` on by each second clause from the id `equal` on, and then the clause of the id `last` is false.
+/// The hints that one table's plane implies another's, which has the same plane, and `rows` rows that were
+/// made equal to those of the first. The rows of the other table, from the place `row` on, are false by the
+/// clauses from the id `implication` on; the rows of the first table, from the place `own` on, are false by
+/// every second clause from the id `equal` on; and then the clause with the id `last` is false.
 pub(crate) fn table_hints(
     mut chain: Chain,
     rows: u32,

@@ -1,4 +1,5 @@
-//! The tables of each level, in their order, as chains: each level has its first table, and each table the next one of its level.
+//! The tables of each level, in their order, as chains: each level has its first table, and each table has
+//! the next table of its level.
 ghost use Rattle.std.specs.Prelude.{◌≡◌, ◌<◌, ℕ, length, slice_index_or, IfOk};
 ghost use Rattle.semantics.specs.Net.{input_count, table_count, signal_count};
 ghost use Rattle.merge_log.specs.LevelLists.{AreLevelLists};
@@ -7,7 +8,8 @@ use crate::levels::depth;
 use net_core::net::Net;
 use std::alloc::{AllocError, Global};
 
-/// The level of each signal, the first table of each level, and the next one of each table's level; the number of tables stands for none.
+/// The level of each signal, the first table of each level, and for each table the next table of its level;
+/// the number of tables stands for none.
 #[derive(Drop)]
 pub(crate) struct LevelLists {
     pub(crate) levels: Vec<u32>,
@@ -15,7 +17,7 @@ pub(crate) struct LevelLists {
     pub(crate) nexts: Vec<u32>,
 }
 
-/// So many numbers of no table.
+/// A list of `count` numbers, each of which stands for no table.
 fn no_tables(alloc: Global, none: u32, count: usize) -> Result<Vec<u32>, AllocError>
     ensures count { IfOk result (λ made. length made.items ≡ count) }
     ensures none { IfOk result (λ made. (i : ℕ) → i < count → slice_index_or made.items i 0 ≡ none) }
@@ -23,7 +25,8 @@ fn no_tables(alloc: Global, none: u32, count: usize) -> Result<Vec<u32>, AllocEr
     Ok(vec![in alloc; none; count]?)
 }
 
-/// The chains of the tables of a net whose signals have these levels. The last table is taken first, so each chain rises.
+/// The chains of the tables of a net whose signals have these levels. The tables are taken from the last to
+/// the first, so each chain rises.
 pub(crate) fn level_lists(
     alloc: Global,
     net: &Net,

@@ -20,7 +20,7 @@ pub(crate) fn highest(levels: &[u32], signals: &[Signal]) -> u32
     level
 }
 
-/// So many zeros.
+/// `count` zeros.
 fn zeros(alloc: Global, count: usize) -> Result<Vec<u32>, AllocError>
     ensures { IfOk result (λ zeros. zeros.items ≡ replicate count 0) }
 {

@@ -8,8 +8,8 @@ use net_core::items::Signal;
 use std::alloc::{AllocError, Global};
 use std::marker::Model;
 
-/// For each signal the first one that it was made equal to, itself where there is none, and the id of the first of the two clauses
-/// that say so.
+/// For each signal the first signal to which it was made equal, or itself where there is none, and the id of
+/// the first of the two clauses that make them equal.
 #[derive(Drop)]
 pub(crate) struct Merged {
     firsts: Vec<Signal>,
@@ -29,7 +29,7 @@ impl Model for Merged {
 }
 
 impl Merged {
-    /// Of so many signals each is alone.
+    /// Of `signals` signals, each is equal to itself alone.
     pub(crate) fn new(alloc: Global, signals: u32) -> Result<Merged, AllocError>
         requires { signals < 2 ^ 31 }
         ensures count { IfOk result (λ m. length m.firsts ≡ signals) }
@@ -43,7 +43,7 @@ impl Merged {
         Ok(Merged { firsts, ids })
     }
 
-    /// The first signal that this one was made equal to, or itself.
+    /// The first signal to which this signal was made equal, or this signal itself.
     pub(crate) fn first(&self, s: Signal) -> Signal
         requires { s < length self.now.firsts }
         ensures value { result ≡ first_of self.now s }
@@ -62,7 +62,7 @@ impl Merged {
         self.ids[s as usize]
     }
 
-    /// Signal s is made equal to signal u, by the clause of this id and the next one.
+    /// Notes that signal s was made equal to signal u, by the clause with this id and the next one.
     pub(crate) fn merge(&mut self, s: Signal, u: Signal, id: u64)
         requires s_within { s < length self.old.firsts }
         requires u_within { u < length self.old.firsts }
@@ -74,7 +74,7 @@ impl Merged {
         self.ids[s as usize] = id;
     }
 
-    /// The clause of this id gives signal p this value.
+    /// Adds the hint `id`, whose clause gives signal p this value.
     pub(crate) fn imply(
         &self,
         chain: &mut Chain,
@@ -89,7 +89,8 @@ impl Merged {
         chain.imply(id, p, sign)
     }
 
-    /// Signal p has this value, so the first one that it was made equal to has it.
+    /// Adds the hint by which the first signal to which signal p was made equal has this value, since p has
+    /// it.
     fn follow_to_first(&self, chain: &mut Chain, p: Signal, sign: bool) -> Result<(), AllocError>
         requires { p < length self.now.firsts }
         ensures { OnOk result (chain.new ≡ to_first chain.old self.now p sign) }
@@ -101,7 +102,8 @@ impl Merged {
         chain.imply(self.id(p) + u64::from(!sign), first, sign)
     }
 
-    /// The first one that signal q was made equal to has this value, so q has it.
+    /// Adds the hint by which signal q has this value, since the first signal to which q was made equal has
+    /// it.
     fn follow_from_first(&self, chain: &mut Chain, q: Signal, sign: bool) -> Result<(), AllocError>
         requires { q < length self.now.firsts }
         ensures { OnOk result (chain.new ≡ from_first chain.old self.now q sign) }
@@ -112,7 +114,8 @@ impl Merged {
         chain.imply(self.id(q) + u64::from(sign), q, sign)
     }
 
-    /// Signal p has this value, so signal q has it, which was made equal to the same first one.
+    /// Adds the hints by which signal q has this value, since signal p has it; both were made equal to one
+    /// first signal.
     pub(crate) fn carry(
         &self,
         chain: &mut Chain,
@@ -131,7 +134,8 @@ impl Merged {
         self.follow_from_first(chain, q, sign)
     }
 
-    /// The clause of this id gives signal p this value, so signal q has it, which was made equal to the same first one.
+    /// Adds the hint `id`, whose clause gives signal p this value, and the hints by which signal q has it;
+    /// both were made equal to one first signal.
     pub(crate) fn imply_both(
         &self,
         chain: &mut Chain,

@@ -1,8 +1,10 @@
-//! The merges of a net: each table that is alike to an earlier one is made equal to the first of these.
+//! The merges of a net: each table that is alike to an earlier table is made equal to the first table that it
+//! is alike to.
 //!
-//! The tables are taken by rising level, and in their order at each level. So the pins of a table are made equal to others before it is
-//! taken, and of alike tables, which have one level, the first one is taken first. A table is alike to one that was taken exactly where
-//! its form is the same, which a set of forms tells.
+//! The tables are taken by rising level, and in their order at each level. So the pins of a table are made
+//! equal to others before the table is taken, and of alike tables, which all have one level, the first is
+//! taken first. A table is alike to a table that was taken exactly where both have the same form, which a set
+//! of forms tells.
 ghost use Rattle.std.specs.Prelude.{◌≡◌, ◌+◌, ◌<◌, ◌≤◌, ◌^◌, ℕ, List, length, sum_by, slice_index_or, IfOk, OnOk};
 ghost use Rattle.semantics.specs.Net.{input_count, table_count};
 ghost use Rattle.net_core.specs.Built.{IsBuilt};
@@ -79,7 +81,7 @@ fn merge_found(
     Ok(())
 }
 
-/// Takes table t: it is made equal to the first one of its kind, or is itself the first.
+/// Takes table t: it is made equal to the first table of its kind, or is itself the first.
 fn take_table(
     alloc: Global,
     goal: &Cnf,
@@ -134,7 +136,7 @@ fn take_level(
     Ok(())
 }
 
-/// How many clauses a formula has.
+/// The number of clauses of a formula.
 fn clause_count(goal: &Cnf) -> usize
     ensures value { result ≡ length goal.now.clauses }
     ensures few { length goal.now.clauses < 2 ^ 58 }
@@ -142,7 +144,7 @@ fn clause_count(goal: &Cnf) -> usize
     goal.clauses().as_slice().len()
 }
 
-/// Shows that there are few variables and clauses, as many as there is memory for.
+/// Shows that there are few variables and clauses, since all of them are held in memory.
 fn see_few(net: &Net, goal: &Cnf)
     requires { goal.now ≡ goal_of net.now }
     ensures variables { variable_count (input_count net.now) net.now.tables < 2 ^ 31 }
@@ -154,7 +156,7 @@ fn see_few(net: &Net, goal: &Cnf)
     let _count = clause_count(goal);
 }
 
-/// Nothing is taken but the inputs.
+/// The state before any table is taken.
 fn start(alloc: Global, net: &Net) -> Result<Merging, AllocError>
     requires { length (goal_of net.now).clauses < 2 ^ 61 }
     ensures { IfOk result (λ merging. (levels : List ℕ) → AreLevels (input_count net.now) net.now.tables levels → IsMerging net.now levels 1 0 merging) }
@@ -202,8 +204,8 @@ fn merge_levels(
     Ok(merging.log)
 }
 
-/// The log that makes each table that is alike to an earlier one equal to the first of these: two steps for each of its rows, and then
-/// two.
+/// The log that makes each table that is alike to an earlier table equal to the first table that it is alike
+/// to: two steps for each of its rows, and then two.
 pub fn merges(alloc: Global, joint: &Net, goal: &Cnf) -> Result<Log, AllocError>
     requires its_goal { goal.now ≡ goal_of joint.now }
     ensures { IfOk result (IsMergeLog joint.now) }

@@ -9,7 +9,7 @@ use net_core::net::Net;
 use net_core::table::Table;
 use std::alloc::{AllocError, Global};
 
-/// How many clauses a table has.
+/// The number of clauses of a table.
 fn clause_count(table: &Table) -> u64
     requires { table_clause_count table.now < 2 ^ 61 }
     ensures { result ≡ table_clause_count table.now }

@@ -38,7 +38,8 @@ pub(crate) fn next_id(goal: &Cnf, log: &Log) -> u64
     clauses + log.as_slice().len() as u64 + 1
 }
 
-/// Adds the step that the variable of place s has the value `!sign`, or that of place u the value `sign`.
+/// Adds the step whose clause says that the variable of place s has the value `!sign`, or that of place u the
+/// value `sign`.
 pub(crate) fn push_pair(
     alloc: Global,
     goal: &Cnf,
@@ -59,7 +60,8 @@ pub(crate) fn push_pair(
     log.push(Item::Add(Step::new(id, literals, hints)))
 }
 
-/// Adds the step that one row implies another, which has the same marks and pins that were made equal to its own.
+/// Adds the step that says that a row implies another one, which has equal marks, and pins that were made
+/// equal to those of the first.
 fn push_row_forth(
     alloc: Global,
     goal: &Cnf,
@@ -84,7 +86,8 @@ fn push_row_forth(
     push_pair(alloc, goal, log, at.row, other.row, true, hints)
 }
 
-/// Adds the step that one row is implied by another, which has the same marks and pins that were made equal to its own.
+/// Adds the step that says that a row is implied by another one, which has equal marks, and pins that were
+/// made equal to those of the first.
 fn push_row_back(
     alloc: Global,
     goal: &Cnf,
@@ -109,7 +112,8 @@ fn push_row_back(
     push_pair(alloc, goal, log, at.row, other.row, false, hints)
 }
 
-/// Makes a row equal to another, which has the same marks and pins that were made equal to its own: two steps.
+/// Makes a row equal to another one, which has equal marks, and pins that were made equal to those of the
+/// first: two steps.
 fn merge_row(
     alloc: Global,
     goal: &Cnf,
@@ -132,7 +136,7 @@ fn merge_row(
     push_row_back(alloc, goal, log, merged, marks, at, pins, other, others)
 }
 
-/// Makes the rows of two tables equal, which have the same marks and pins that were made equal.
+/// Makes the rows of two tables equal. The tables have equal marks, and their pins were made equal.
 pub(crate) fn merge_rows(
     alloc: Global,
     goal: &Cnf,

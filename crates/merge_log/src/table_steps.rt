@@ -19,8 +19,9 @@ use proof_parts::cnf::Cnf;
 use proof_parts::log::Log;
 use std::alloc::{AllocError, Global};
 
-/// Adds the step that signal s has the value `!sign` or signal u the value `sign`. The places are those of the rows of both, and of the
-/// clauses that these imply the tables; the rows were made equal by the clauses from the id `equal` on.
+/// Adds the step whose clause says that signal s has the value `!sign` or signal u the value `sign`. `at` and
+/// `other` are the places of the rows of both tables, and of the clauses by which the rows imply the tables;
+/// the rows were made equal by the clauses from the id `equal` on.
 fn push_table(
     alloc: Global,
     goal: &Cnf,
@@ -76,7 +77,7 @@ fn push_table(
     push_pair(alloc, goal, log, s, u, sign, hints)
 }
 
-/// Where the clauses stand that the rows of a table imply it.
+/// The place of the clauses by which the rows of a table imply the table.
 fn implied(table: &Table, at: Place) -> Place
     requires { at.clause + table_clause_count table.now < 2 ^ 61 }
     ensures row { result.row ≡ at.row }
@@ -89,8 +90,8 @@ fn implied(table: &Table, at: Place) -> Place
     }
 }
 
-/// Makes table s equal to table u, which has the same plane and rows, and pins that were made equal: two steps for each row, and then
-/// two. It answers the id of the last but one, that s implies u.
+/// Makes table s equal to table u, which has the same plane, equal rows, and pins that were made equal: two
+/// steps for each row, and then two. Returns the id of the first of these two, which says that s implies u.
 pub(crate) fn merge_tables(
     alloc: Global,
     goal: &Cnf,

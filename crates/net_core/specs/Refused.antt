@@ -1,4 +1,4 @@
--- The refusals of parts in code, as the definitions tell them.
+-- The refusals of parts that code returns, and those that the definitions tell.
 use Rattle.std.specs.Prelude.{◌≡◌, Some}
 use Rattle.semantics.specs.Net.{NetValue}
 use Rattle.semantics.specs.Refusals.{net_refusal, doubled, no_output, undriven, cycle, limit}

@@ -1,9 +1,10 @@
--- Tables on their way into an order: each that has no place in it yet waits for a table that it reads.
+-- Tables on their way into an order: each table that has no place in it yet waits for a table that it reads.
 use Rattle.std.specs.Prelude.{◌≡◌, ◌⊎◌, ◌↔◌, ℕ, ◌+◌, ◌<◌, ◌≤◌, Bool, true, false, List, [], ◌∷◌, ◌++◌, length, take, slice_index, slice_index_or, slice_set, All, Contains}
 use Rattle.semantics.specs.Net.{TableValue, table_at}
 use Rattle.semantics.specs.Order.{IsKnown, IsOrderAfter}
 
--- the order so far, for each table those that wait for it, and how many of its pins are known to be ready
+-- the order so far; for each table the tables that wait for it; and for each table the number of its pins
+-- that are known to be ready
 pub record Sorting : Type 0 where
   pub order : List ℕ
   pub waiters : List (List ℕ)
@@ -20,14 +21,14 @@ waiters_of S t = slice_index_or S.waiters t []
 abbrev pub placed_at_end : Sorting → ℕ → Sorting
 placed_at_end S i = record S { order = S.order ++ i ∷ [] }
 
--- table i, of which so many pins are ready, waits for table t
+-- table i, whose first `ready` pins are ready, waits for table t
 abbrev pub waiting_for : Sorting → ℕ → ℕ → ℕ → Sorting
 waiting_for S t i ready = record S { waiters = slice_set S.waiters t (waiters_of S t ++ i ∷ []); checked = slice_set S.checked i ready }
 
 abbrev pub without_waiters : Sorting → ℕ → Sorting
 without_waiters S t = record S { waiters = slice_set S.waiters t [] }
 
--- the first pin that is no input and whose table does not stand before
+-- the first pin that is neither an input nor a table that stands before
 pub record IsFirstUnknown (n : ℕ) (before pins : List ℕ) (k : ℕ) : Type 0 where
   pub within : k < length pins
   pub unknown : ¬ IsKnown n before (slice_index pins k)
@@ -47,7 +48,8 @@ pub record Waits (n : ℕ) (tables : List TableValue) (S : Sorting) (i : ℕ) : 
   pub listed : Contains (waiters_of S on) i
   pub read : Contains (table_at tables i).pins (n + on)
 
--- each table without a place waits or is in hand, and nothing waits for the first so many of the order
+-- each table without a place waits or is in hand, and no table waits for one of the first `head` tables of
+-- the order
 pub record IsSettled (n : ℕ) (tables : List TableValue) (S : Sorting) (head : ℕ) (in_hand : List ℕ) : Type 0 where
   pub so_far : head ≤ length S.order
   pub settled : (i : ℕ) → i < length tables → (¬ Contains S.order i) → Waits n tables S i ⊎ Contains in_hand i

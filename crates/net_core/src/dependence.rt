@@ -1,5 +1,5 @@
-//! Which signals depend on a table. One pass along the order of the tables finds it for all of them: a table depends on what its
-//! pins depend on, and these have their marks before it.
+//! Which signals depend on a table. One pass along the order of the tables finds this for all signals: a
+//! table depends on what its pins depend on, and the pins are marked before it.
 ghost use Rattle.std.specs.Prelude.{◌≡◌, ◌==◌, ◌↔◌, ◌||◌, ◌<◌, ℕ, false, length, slice_index_or, IsTrue, IfOk, All};
 ghost use Rattle.std.specs.List.{list_any};
 ghost use Rattle.semantics.specs.Net.{input_count, table_count, signal_count};
@@ -36,7 +36,8 @@ fn is_dependent(i: u32, t: u32, pins: &[Signal], marks: &[bool]) -> bool
 }
 
 impl Net {
-    /// Sets `marks[s]` for each signal `s`: whether it is table `t` or reads it through any number of tables.
+    /// Sets `marks[s]` for each signal `s`: whether it is table `t` or reads table `t` through any number of
+    /// tables.
     pub fn mark_dependents(&self, t: u32, marks: &mut [bool])
         requires within { t < table_count self.now }
         requires room { length marks.old ≡ signal_count self.now }
@@ -52,7 +53,7 @@ impl Net {
         }
     }
 
-    /// Whether signal `s` is table `t` or reads it through any number of tables.
+    /// Whether signal `s` is table `t` or reads the table through any number of tables.
     pub fn depends(&self, s: Signal, t: u32) -> Result<bool, AllocError>
         requires signal { s < signal_count self.now }
         requires table { t < table_count self.now }

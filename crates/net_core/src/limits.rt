@@ -19,7 +19,7 @@ fn are_narrow(tables: &[Table]) -> bool
         .all(|table| table.pins().len() <= MOST_TABLE_PINS)
 }
 
-/// Whether the tables have at most so many pins in all.
+/// Whether the tables have at most `MOST_PINS` pins in all.
 fn have_few_pins(tables: &[Table]) -> bool
     ensures { result ≡ nat_le (sum_by (λ t. length t.pins) tables.now) MOST_PINS }
 {
@@ -33,7 +33,7 @@ fn have_few_pins(tables: &[Table]) -> bool
     true
 }
 
-/// Whether the tables have at most so many rows in all.
+/// Whether the tables have at most `MOST_ROWS` rows in all.
 fn have_few_rows(tables: &[Table]) -> bool
     ensures { result ≡ nat_le (sum_by (λ t. length t.rows) tables.now) MOST_ROWS }
 {
@@ -47,7 +47,7 @@ fn have_few_rows(tables: &[Table]) -> bool
     true
 }
 
-/// The first limit that these parts pass. It takes no memory, and stops counting where a limit is passed.
+/// The first limit that these parts pass. The count takes no memory, and stops where a limit is passed.
 pub fn first_limit(inputs: &NameList, tables: &TableList, outputs: &SignalList) -> Option<Which>
     ensures { (model : List ℕ) → result ≡ first_limit (record { model = model; inputs = inputs.now; tables = tables.now; outputs = outputs.now }) }
 {

@@ -44,7 +44,7 @@ impl Model for Net {
         × IsOrderOf (length a.inputs) a.tables a.order.items };
 }
 
-/// Shows that each of these is a name, which its type holds: one step a name.
+/// Shows that each of these is a name, which the type of each holds: one step for each name.
 fn see_names(names: &[Name])
     ensures { All IsName names.now }
 {
@@ -53,7 +53,7 @@ fn see_names(names: &[Name])
     }
 }
 
-/// Shows that the rows of each of these fit, which its type holds: one step a table.
+/// Shows that the rows of each of these tables fit it, which the type of each holds: one step for each table.
 fn see_tables(tables: &[Table])
     ensures { All IsTable tables.now }
 {
@@ -90,7 +90,8 @@ fn eval_tables(tables: &[Table], order: &[u32], x: &[bool], vals: &mut [bool])
 }
 
 impl Net {
-    /// A net of these parts, whose tables stand in this order. It takes no memory, and one step for each name.
+    /// The net of these parts, whose tables stand in this order. The call takes no memory, and one step for
+    /// each name.
     pub fn from_ordered(
         model: Name,
         inputs: NameList,
@@ -114,7 +115,8 @@ impl Net {
         }
     }
 
-    /// A net of these parts, which are known to make one, in time about in proportion to their size.
+    /// The net of these parts, which are known to make a net. The call takes time about in proportion to the
+    /// size of the parts.
     pub fn from_sound(
         alloc: Global,
         model: Name,
@@ -131,7 +133,8 @@ impl Net {
         Ok(Net::from_ordered(model, inputs, tables, outputs, order))
     }
 
-    /// A small sound net of these parts, or the first reason why they make none, in the order of the refusals.
+    /// The small sound net of these parts, or the first reason why they make none, in the order of the
+    /// refusals.
     pub fn from_parts(
         alloc: Global,
         model: Name,
@@ -183,7 +186,7 @@ impl Net {
         self.inputs.len() as u32
     }
 
-    /// Shows that the net is sound, which its type holds. It does nothing.
+    /// Shows that the net is sound, which its type holds. The call does nothing.
     pub fn see_sound(&self)
         ensures sound { IsSound self.now }
         ensures built { IsBuilt self.now }
@@ -267,7 +270,7 @@ impl Net {
         name_at(self.inputs.as_slice(), self.tables.as_slice(), s as usize)
     }
 
-    /// The numbers of the tables, each after those that it reads.
+    /// The numbers of the tables, each behind the tables that it reads.
     pub fn order(&self) -> &[u32]
         ensures { IsOrderOf (input_count self.now) self.now.tables result.now }
     {
@@ -297,7 +300,7 @@ impl Net {
         })
     }
 
-    /// A net with these tables in the place of this one's, in this order, on the same allocator.
+    /// The net with `tables` in the place of its tables, in the order `order`, on the same allocator.
     fn with_tables(&self, tables: TableList, order: Vec<u32>) -> Result<Net, AllocError>
         requires wired { IsWired (record self.now { tables = tables }) }
         requires order { IsOrderOf (input_count self.now) tables order.items }
@@ -309,8 +312,8 @@ impl Net {
         Ok(Net::from_ordered(model, inputs, tables, outputs, order))
     }
 
-    /// The net with another table in the place of table `t`, which is not copied, on the same allocator. The order stays where it
-    /// still serves.
+    /// The net with another table in the place of table `t`, on the same allocator. The new table is not
+    /// copied. The order of the net stays where it is an order of the new net too.
     pub fn with_table(&self, t: u32, table: Table) -> Result<Net, AllocError>
         requires within { t < table_count self.now }
         requires same_name { table.name ≡ (table_at self.now.tables t).name }
@@ -329,8 +332,9 @@ impl Net {
         self.with_tables(tables, order)
     }
 
-    /// Puts another table in the place of table `t`, and gives the one that stood there. No table is copied. The order stays where
-    /// it still serves, and then no memory is taken; where there is none for another order, the net stays.
+    /// Puts another table in the place of table `t`, and returns the table that stood there. No table is
+    /// copied. Where the order is still one, it stays, and no memory is taken; where there is no memory for
+    /// another order, the net stays as it was.
     pub fn exchange_table(&mut self, t: u32, table: Table) -> Result<Table, AllocError>
         requires within { t < table_count self.old }
         requires same_name { table.name ≡ (table_at self.old.tables t).name }

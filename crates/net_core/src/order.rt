@@ -1,6 +1,7 @@
-//! An order of tables, each after those that it reads, or the first table that has no place in any. Source: Kahn's
-//! topological sorting. A table waits for one table at a time, the first that it reads and that has no place yet, and goes
-//! on from there when that one has its place: so each pin is passed once, and no counts of pins are kept.
+//! An order of tables, each behind the tables that it reads, or the first table that has no place in any
+//! order. Source: Kahn's topological sorting. A table waits for one table at a time, the first that it reads
+//! and that has no place yet; once that table has its place, the search goes on from there. So each pin is
+//! passed once, and no counts of pins are kept.
 ghost use Rattle.std.specs.Prelude.{◌≡◌, ◌↔◌, ◌<◌, ◌+◌, ◌^◌, ℕ, List, [], ◌∷◌, take, replicate, length, slice_index, IsTrue, IfOk, OnOk, IfSome, MatchResult, MatchOption, All, Contains, Some};
 ghost use Rattle.semantics.specs.Net.{IsAcyclic};
 ghost use Rattle.semantics.specs.Order.{IsKnown, IsOrderOf};
@@ -14,8 +15,8 @@ use std::alloc::{AllocError, Global};
 use std::marker::Model;
 use std::mem;
 
-/// The order so far, which tables have a place in it, for each table those that wait for it, and how many of its pins are
-/// known to be ready.
+/// The order so far; which tables have a place in it; for each table, the tables that wait for it; and for
+/// each table, the number of its pins that are known to be ready.
 #[derive(Drop)]
 struct Sorting {
     order: Vec<u32>,
@@ -78,7 +79,7 @@ impl Sorting {
         Ok(())
     }
 
-    /// Lets table `i`, of which so many pins are ready, wait for table `t`.
+    /// Lets table `i`, whose first `ready` pins are ready, wait for table `t`.
     #[tactic(auto, using(crate::proofs::Views::of_view))]
     fn wait(&mut self, t: u32, i: u32, ready: usize) -> Result<(), AllocError>
         requires t_in { t < length self.old.waiters }
@@ -98,7 +99,7 @@ impl Sorting {
         self.checked[i as usize]
     }
 
-    /// Takes those that wait for a table.
+    /// Takes the tables that wait for a table, and leaves it none.
     #[tactic(auto, using(crate::proofs::Views::of_view))]
     fn take_waiters(&mut self, t: u32) -> Vec<u32>
         requires { t < length self.old.waiters }
@@ -109,7 +110,7 @@ impl Sorting {
         mem::replace(&mut self.waiters[t as usize], none)
     }
 
-    /// Whether a signal is an input or that of a table with a place.
+    /// Whether a signal is an input, or a table that has a place.
     fn is_known(&self, inputs: u32, signal: Signal) -> bool
         requires { signal < inputs + length self.now.waiters }
         ensures { IsTrue result ↔ IsKnown inputs self.now.order signal }
@@ -117,7 +118,7 @@ impl Sorting {
         signal < inputs || self.has_place(signal - inputs)
     }
 
-    /// The first pin whose table has no place, where so many pins are known to be ready.
+    /// The first pin whose table has no place, where the first `checked` pins are known to be ready.
     fn first_unknown(&self, inputs: u32, pins: &[Signal], checked: usize) -> Option<usize>
         requires pins_in { All (λ s. s < inputs + length self.now.waiters) pins.now }
         requires ready { All (IsKnown inputs self.now.order) (take checked pins.now) }
@@ -132,7 +133,7 @@ impl Sorting {
         None
     }
 
-    /// Gives a table a place if all that it reads has one, and else lets it wait.
+    /// Gives a table a place if all tables that it reads have one, and else lets it wait.
     fn visit(&mut self, inputs: u32, tables: &[Table], i: u32) -> Result<(), AllocError>
         requires sorting { IsSorting inputs tables.now self.old }
         requires within { i < length tables.now }
@@ -173,7 +174,7 @@ impl Sorting {
         self.order.len()
     }
 
-    /// A member of the order.
+    /// The table at place `head` of the order.
     fn member(&self, head: usize) -> u32
         requires { head < length self.now.order }
         ensures { result ≡ slice_index self.now.order head }
@@ -181,7 +182,7 @@ impl Sorting {
         self.order[head]
     }
 
-    /// Visits those that wait for the next member of the order.
+    /// Visits the tables that wait for the table at place `head` of the order.
     fn step(&mut self, inputs: u32, tables: &[Table], head: usize) -> Result<(), AllocError>
         requires sorting { IsSorting inputs tables.now self.old }
         requires settled { IsSettled inputs tables.now self.old head [] }
@@ -195,7 +196,7 @@ impl Sorting {
         self.visit_all(inputs, tables, &waiters)
     }
 
-    /// The first of so many tables that has no place.
+    /// The first of `count` tables that has no place.
     fn first_without_place(&self, count: u32) -> Option<u32>
         requires { count ≡ length self.now.waiters }
         ensures { MatchOption result ((j : ℕ) → j < count → Contains self.now.order j)
@@ -217,7 +218,7 @@ impl Sorting {
     }
 }
 
-/// The tables after a visit to each: those that wait for no table have a place.
+/// The sorting after a visit to each table: a table that waits for no table has a place.
 fn visited(alloc: Global, inputs: u32, tables: &[Table], count: u32) -> Result<Sorting, AllocError>
     requires count { count ≡ length tables.now }
     requires pins { All (λ t. All (λ s. s < inputs + length tables.now) t.pins) tables.now }
@@ -231,7 +232,7 @@ fn visited(alloc: Global, inputs: u32, tables: &[Table], count: u32) -> Result<S
     Ok(sorting)
 }
 
-/// The tables, each with a place in the order or waiting for one without.
+/// The sorting at its end: each table has a place in the order, or waits for a table without one.
 fn settle(alloc: Global, inputs: u32, tables: &[Table], count: u32) -> Result<Sorting, AllocError>
     requires count { count ≡ length tables.now }
     requires pins { All (λ t. All (λ s. s < inputs + length tables.now) t.pins) tables.now }
@@ -247,8 +248,8 @@ fn settle(alloc: Global, inputs: u32, tables: &[Table], count: u32) -> Result<So
     Ok(sorting)
 }
 
-/// An order of the tables, in which tables that are in order stay so; or else the first table that depends on itself or
-/// on a table that does.
+/// An order of the tables, in which tables that are in order keep their order; or else the first table that
+/// depends on itself or on a table that does.
 pub fn order_of(
     alloc: Global,
     inputs: u32,
@@ -267,7 +268,7 @@ pub fn order_of(
     }
 }
 
-/// An order of tables that have one.
+/// An order of tables that are known to have one.
 pub(crate) fn order_of_acyclic(
     alloc: Global,
     inputs: u32,
@@ -305,8 +306,8 @@ fn is_known_at(inputs: u32, order: &[u32], t: u32, signal: Signal) -> bool
     signal < inputs || stands_before(order, t, signal - inputs)
 }
 
-/// Whether each of these signals is an input, or a table that stands before table `t` in an order. Then the order serves as well
-/// where table `t` reads them.
+/// Whether each of these signals is an input, or a table that stands before table `t` in an order. Then the
+/// order is also one where table `t` reads these signals.
 pub(crate) fn are_known_at(inputs: u32, order: &[u32], t: u32, signals: &[Signal]) -> bool
     ensures { IsTrue result → All (IsKnownAt inputs order.now t) signals.now }
 {

@@ -16,7 +16,7 @@ pub enum NetRefusal {
     Doubled(Name),
     #[error("no output")]
     NoOutput,
-    /// The first pin, in table and pin order, and then output that is no signal.
+    /// The first pin, in table and pin order, or else the first output, that is no signal.
     #[error("signal {0} is not there")]
     Undriven(Signal),
     /// The signal of the first table that depends on itself or on a table that does.

@@ -5,7 +5,7 @@ ghost use Rattle.semantics.specs.Error.{IsCandidate};
 use net_core::net::Net;
 use std::marker::Model;
 
-/// A net, and one that may be judged against it: they have the same ports, and at most 64 outputs.
+/// A net and one that may be judged against it: both have the same ports, and at most 64 outputs.
 #[derive(Drop)]
 pub struct Compared<'a> {
     exact: &'a Net,

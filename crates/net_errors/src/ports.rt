@@ -36,7 +36,8 @@ fn same_outputs(n: &Net, m: &Net) -> bool
     true
 }
 
-/// Whether two nets have the same input names and the same output names, each in the same order. It takes no memory.
+/// Whether two nets have the same input names and the same output names, each in the same order. The
+/// comparison takes no memory.
 pub fn same_ports(n: &Net, m: &Net) -> bool
     ensures { IsTrue result ↔ HasSamePorts n.now m.now }
 {

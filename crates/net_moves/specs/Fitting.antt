@@ -5,7 +5,7 @@ use Rattle.chain_semantics.specs.declared.moves.Move.{Move}
 use Rattle.chain_semantics.specs.declared.moves.Move.TheVariants.{Const, DropRow, DropLiteral, Signal, Pair}
 use Rattle.chain_semantics.specs.Moves.{row_at}
 
--- the row that goes is one of several, and the mark that goes is one of a row
+-- a row that goes is one of several, and a mark that goes is one of its row
 abbrev pub Fits : TableValue → Move → Type 0
 Fits table (Const t value) = Unit {0}
 Fits table (DropRow t row) = (1 < length table.rows) × (row < length table.rows)

@@ -9,11 +9,11 @@ use Rattle.chain_semantics.specs.declared.moves.TheConstants.{MOST_NEAR_SIGNALS}
 use Rattle.chain_semantics.specs.TidyRules.{has}
 use Rattle.chain_semantics.specs.Moves.{literal_pins, literal_moves, copies_of, each_once, pairs_of, flips_of, old_moves_of_table, moves_of_table}
 
--- the first of a list is given, or none of the empty list
+-- the first of a list is given, with the rest, or None of the empty list
 abbrev pub GivesFirst : List Move → Option Move → List Move → Type 0
 GivesFirst old given new = MatchOption given ((old ≡ []) × (new ≡ [])) (λ move. old ≡ move ∷ new)
 
--- from the constant of this value on
+-- the constants from this value on, or none
 abbrev pub constants_left : ℕ → Option Bool → List Move
 constants_left t None = []
 constants_left t (Some false) = Const t false ∷ Const t true ∷ []
@@ -23,36 +23,36 @@ constants_left t (Some true) = Const t true ∷ []
 abbrev pub rows_left : ℕ → ℕ → ℕ → List Move
 rows_left t r end = map (DropRow t) (range_with_len r (end - r))
 
--- from pin p of the first of these rows on, which is row r
+-- the literals from pin p of the first of these rows on, which is row r
 abbrev pub literals_left : ℕ → ℕ → ℕ → List (List Mark) → List Move
 literals_left t r p [] = []
 literals_left t r p (marks ∷ rows) = map (DropLiteral t r) (literal_pins p (drop p marks)) ++ literal_moves t (r + 1) rows
 
--- rows and pins whose numbers fit
+-- rows and pins that are few enough for their numbers
 pub record AreCountable (rows : List (List Mark)) : Type 0 where
   pub few_rows : length rows < 2 ^ 32
   pub few_pins : All (λ marks. length marks < 2 ^ 32) rows
 
--- from signal s on, whose marks these are: a marked signal depends on the table
+-- the signals from s on, to which these marks belong: a marked signal depends on the table
 abbrev pub signals_from : ℕ → ℕ → List Bool → List Move
 signals_from t s [] = []
 signals_from t s (depends ∷ marks) = (if depends then [] else copies_of t s) ++ signals_from t (s + 1) marks
 
--- the opposite of signal s is still to come, or signal s
+-- the signals from s on; where the flag is set, of signal s only the opposite is left
 abbrev pub signals_left : ℕ → ℕ → Bool → List Bool → List Move
 signals_left t s false marks = signals_from t s (drop s marks)
 signals_left t s true marks = Signal t s true ∷ signals_from t (s + 1) (drop (s + 1) marks)
 
--- moves that are left of a table, with room for the marks of so many signals
+-- the moves of a table that are left, with room for the marks of `room` signals
 pub record RoomAndMoves : Type 0 where
   pub room : ℕ
   pub left : List Move
 
--- a list of signals, each where it first stands, cut where a table has no more near ones
+-- the signals of a list, each at its first place, and no more of them than a table has near signals at most
 abbrev pub first_once : List ℕ → List ℕ
 first_once signals = take MOST_NEAR_SIGNALS (each_once signals)
 
--- one signal more, unless it is there or there is no room
+-- the signals with one more, unless the signal is there already or there is no room
 abbrev pub with_signal : List ℕ → ℕ → List ℕ
 with_signal near s = if length near == MOST_NEAR_SIGNALS || has near s then near else near ++ s ∷ []
 
@@ -64,11 +64,11 @@ flips_of_pair t pair = flips_of t pair.0 pair.1
 abbrev pub pairs_from : List ℕ → ℕ → ℕ → List (ℕ × ℕ)
 pairs_from near i j = map (λ u. (slice_index near i, u)) (drop j near) ++ pairs_of (drop (i + 1) near)
 
--- from move k of the first of those pairs on
+-- the moves from move k of the first of those pairs on
 abbrev pub pairs_left : ℕ → List ℕ → ℕ → ℕ → ℕ → List Move
 pairs_left t near i j k = drop k (flat_map (flips_of_pair t) (pairs_from near i j))
 
--- places of a pair, or past the last pair
+-- the two places of a pair, or a place past the last pair
 pub record ArePlaces (count first second : ℕ) : Type 0 where
   pub order : first < second
   pub last : count ≤ second → count ≤ first + 1

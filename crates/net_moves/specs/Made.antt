@@ -4,7 +4,7 @@ use Rattle.semantics.specs.Net.{TableValue, NetValue, table_at, IsSound}
 use Rattle.chain_semantics.specs.declared.moves.Move.{Move}
 use Rattle.chain_semantics.specs.Moves.{moves_of, table_of, moved}
 
--- `now` is what the move made of the net before, in which this table stood where the move was made
+-- `now` is what the move made of the net `before`, in which `table` stood at the place of the move
 pub record IsMadeIn (before : NetValue) (step : Move) (table : TableValue) (now : NetValue) : Type 0 where
   pub sound : IsSound before
   pub offered : Contains (moves_of before) step

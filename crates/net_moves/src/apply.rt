@@ -1,4 +1,5 @@
-//! The net after a move: one table is made anew. The others are copied, or the move is made in the net and can be taken back.
+//! The net after a move: the moved table is made anew. The other tables are copied into a new net, or the
+//! move is made in the net itself and can be taken back.
 ghost use Rattle.std.specs.Prelude.{◌≡◌, ◌<◌, [], ◌∷◌, true, false, not, length, slice_index_or, remove, slice_set, IfOk, OnOk, OnErr, All, Contains};
 ghost use Rattle.semantics.specs.declared.mark.Mark.TheVariants.{Dash};
 ghost use Rattle.chain_semantics.specs.Moves.{moves_of, table_of, moved_table, moved, copy_mark, row_at};
@@ -54,7 +55,8 @@ fn copy_table(alloc: Global, name: Name, s: Signal, flip: bool) -> Result<Table,
     Ok(Table::new(name, pins, rows, true))
 }
 
-/// The table of two pins that is their conjunction, each of them plain or turned over, or the opposite of that.
+/// The table of two pins that is their conjunction, each pin plain or turned over, or the opposite of that
+/// conjunction.
 fn pair_table(
     alloc: Global,
     name: Name,
@@ -141,8 +143,8 @@ pub fn apply(alloc: Global, net: &Net, step: Move) -> Result<Net, AllocError>
     net.with_table(t, table)
 }
 
-/// Makes a move in one of its nets, and gives the table that stood there. No table is copied, and nothing is tidied. Where there is
-/// no memory, the net stays.
+/// Makes one of a net's moves in the net, and returns the table that stood there. No other table is touched,
+/// and nothing is tidied. Where memory is wanting, the net stays as it was.
 pub fn make(alloc: Global, net: &mut Net, step: Move) -> Result<Table, AllocError>
     requires { Contains (moves_of net.old) step }
     ensures ok { OnOk result (net.new ≡ moved net.old step) }
@@ -155,7 +157,8 @@ pub fn make(alloc: Global, net: &mut Net, step: Move) -> Result<Table, AllocErro
     net.exchange_table(t, table)
 }
 
-/// Takes back a move that was made in a net: the table that stood there comes again. Where there is no memory, the net stays.
+/// Takes back a move that was made in a net: puts back the table that stood there. Where memory is wanting,
+/// the net stays as it was.
 pub fn take_back(net: &mut Net, step: Move, table: Table) -> Result<(), AllocError>
     requires { (before : NetValue) × IsMadeIn before step table net.old }
     ensures ok { OnOk result ((before : NetValue) → IsMadeIn before step table net.old → net.new ≡ before) }

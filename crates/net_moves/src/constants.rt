@@ -5,7 +5,7 @@ ghost use Rattle.std.specs.Prelude.{◌≡◌, false, []};
 use chain_semantics::moves::Move;
 use std::marker::Model;
 
-/// The constants that are left, from the one of `value` on.
+/// The constants that are left, from the constant `value` on.
 #[derive(Drop)]
 pub(crate) struct ConstantMoves {
     t: u32,

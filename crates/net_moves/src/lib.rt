@@ -1,8 +1,9 @@
-//! The moves of a net: a list of them that is found one after another, and the net after a move.
+//! The moves of a net, as a list that is found move by move, and the net after a move.
 //!
-//! A net of 4,096 tables has tens of millions of moves, so they are never held: the list is a place in it. Each kind of move of a
-//! table is a short list of its own; which signals depend on the table is marked when its moves are reached, in one pass, in
-//! room that was made at the start, and the few signals near the table are found then too.
+//! A net of 4,096 tables has tens of millions of moves, so they are never held: the list is a place among
+//! them. Each kind of move of a table is a short list of its own. When the moves of a table are reached, the
+//! signals that depend on it are marked, in one pass and in room that was made at the start, and the few
+//! signals near the table are found.
 #![tactic(auto)]
 
 pub mod apply;

@@ -6,8 +6,8 @@ use chain_semantics::moves::Move;
 use net_core::net::Net;
 use std::marker::Model;
 
-/// The moves of a net that are left: those of the table at hand, and those of the tables from `table` on; with or without those
-/// to two signals.
+/// The moves of a net that are left: those of the table at hand, and those of the tables from `table` on;
+/// with or without moves to two signals.
 #[derive(Drop)]
 pub struct Moves<'a> {
     pub(crate) net: &'a Net,
@@ -31,7 +31,7 @@ impl<'a> Model for Moves<'a> {
 }
 
 impl<'a> Moves<'a> {
-    /// The next move, or none after the last. It takes no memory.
+    /// The next move, or None behind the last. The call takes no memory.
     pub fn next(&mut self) -> Option<Move>
         ensures { GivesFirst self.old result self.new }
     {

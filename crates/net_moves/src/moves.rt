@@ -1,4 +1,4 @@
-//! The moves of a net, all of them or the old ones.
+//! The moves of a net, all of them or the old ones, which are those but the moves to two signals.
 ghost use Rattle.std.specs.Prelude.{◌≡◌, IfOk};
 ghost use Rattle.semantics.specs.Net.{IsSmall};
 ghost use Rattle.chain_semantics.specs.Moves.{moves_from, moves_of, old_moves_of};

@@ -1,4 +1,4 @@
-//! The signals near a table: its pins, and the pins of the tables among them.
+//! The signals near a table: its pins, and the pins of the tables among these.
 ghost use Rattle.std.specs.Prelude.{◌≡◌, ◌<◌, List, ℕ, [], ◌++◌, length, slice_index};
 ghost use Rattle.semantics.specs.Net.{table_at, table_count, signal_count};
 ghost use Rattle.chain_semantics.specs.Moves.{pins_of, near_signals};
@@ -10,7 +10,7 @@ use net_core::items::Signal;
 use net_core::net::Net;
 use std::marker::Model;
 
-/// The first few of a list of signals, each once.
+/// The first distinct signals of a list, as many as a table has near signals at most.
 #[derive(Drop)]
 pub(crate) struct NearSignals {
     signals: ArrayVec<Signal, MOST_NEAR_SIGNALS>,
@@ -66,7 +66,7 @@ impl NearSignals {
         self.signals.as_slice()[place]
     }
 
-    /// Adds a signal at the end, unless it is there or there is no room.
+    /// Adds a signal at the end, unless the signal is there already or there is no room.
     fn add(&mut self, s: Signal)
         ensures { self.new ≡ with_signal self.old s }
     {

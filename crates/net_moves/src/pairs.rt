@@ -11,11 +11,11 @@ use net_core::items::Signal;
 use net_core::net::Net;
 use std::marker::Model;
 
-/// How many moves there are to two signals.
+/// The number of moves to two signals.
 const FLIPS: u32 = 8;
 
-/// The pairs of near signals that are left: from those at the places `first` and `second` on, and of these two from the move
-/// numbered `flips` on.
+/// The pairs of near signals that are left: the pairs from the places `first` and `second` on, and for that
+/// pair the moves from the one numbered `flips` on.
 #[derive(Drop)]
 pub(crate) struct PairMoves {
     t: u32,
@@ -37,7 +37,7 @@ impl Model for PairMoves {
     ghost invariant = { λ a. ArePlaces (length a.near) a.first a.second × a.flips < 8 };
 }
 
-/// The move of this number, from 0, to two signals.
+/// The move to two signals with this number, from 0 to 7.
 fn pair_move(t: u32, s: Signal, u: Signal, flips: u32) -> Move
     requires { flips < 8 }
     ensures { (rest : List Move) → drop flips (flips_of t s u ++ rest) ≡ result ∷ drop (flips + 1) (flips_of t s u ++ rest) }

@@ -24,7 +24,7 @@ impl Model for RowMoves {
 }
 
 impl RowMoves {
-    /// Each of so many rows.
+    /// Each of `rows` rows.
     pub(crate) fn new(t: u32, rows: u32) -> RowMoves
         ensures { result ≡ rows_left t 0 rows }
     {

@@ -11,8 +11,8 @@ use net_core::net::Net;
 use std::alloc::{AllocError, Global};
 use std::marker::Model;
 
-/// The signals that are left, from `signal` on, of which the opposite alone where `flip` is set. A marked signal depends on the
-/// table.
+/// The signals that are left, from `signal` on; where `flip` is set, of the first only the opposite is left.
+/// A marked signal depends on the table.
 #[derive(Drop)]
 pub(crate) struct SignalMoves {
     t: u32,

@@ -33,7 +33,7 @@ impl<'a> Model for TableMoves<'a> {
 }
 
 impl<'a> TableMoves<'a> {
-    /// No moves, with room for those of each table of a net.
+    /// No moves, with room for the moves of each table of a net.
     pub(crate) fn none(alloc: Global, net: &Net) -> Result<TableMoves<'a>, AllocError>
         ensures { IfOk result (λ moves. moves ≡ record { room = signal_count net.now; left = [] }) }
     {

@@ -1,4 +1,5 @@
-//! What parts are put together to. A network under construction is finished without knowing how a net is kept.
+//! What parts are put together into. So a network under construction is finished without knowing how a net is
+//! held.
 ghost use Rattle.std.specs.Prelude.{◌≡◌, ◌+◌, ◌<◌, ◌^◌, length, IfOk};
 ghost use Rattle.semantics.specs.Net.{NetValue, IsSound};
 
@@ -6,12 +7,12 @@ use crate::items::{NameList, SignalList, TableList};
 use crate::name::Name;
 use std::alloc::{AllocError, Global};
 
-/// What can be made of parts that are known to be those of a sound net.
+/// What can be made of parts that are known to be the parts of a sound net.
 pub trait Assemble: Drop {
     /// The net that was made.
     ghost net: { Self → NetValue };
 
-    /// The net of these parts. There are fewer than 2^31 signals, and as many outputs at most.
+    /// The net of these parts. There are fewer than 2^31 signals and at most as many outputs.
     fn assemble(
         alloc: Global,
         model: Name,

@@ -103,7 +103,8 @@ impl<T> Items<T> {
         self.items.as_slice()
     }
 
-    /// Puts an item in the place of item `i`, from 0, and gives the one that stood there. It takes no memory.
+    /// Puts an item in the place of item `i`, from 0, and returns the item that stood there. The call takes
+    /// no memory.
     pub fn replace(&mut self, i: usize, item: T) -> T
         requires { i < length self.old }
         ensures taken { result ≡ slice_index_or self.old i result }
@@ -114,7 +115,7 @@ impl<T> Items<T> {
 }
 
 impl<T: Drop> Items<T> {
-    /// Adds an item at the end, or drops it where there is no memory.
+    /// Adds an item at the end. Where memory is wanting, the item is dropped.
     pub fn push(&mut self, item: T) -> Result<(), AllocError>
         ensures ok { OnOk result (self.new ≡ self.old ++ item ∷ []) }
         ensures err { OnErr result (self.new ≡ self.old) }
@@ -134,7 +135,8 @@ impl<T: Duplicate> Items<T> {
         Ok(list)
     }
 
-    /// Adds copies of these items at the end; where there is no memory, of the first of them.
+    /// Adds copies of these items at the end. Where memory is wanting, copies of the first of them were
+    /// added.
     pub fn push_copies(&mut self, more: &[T]) -> Result<(), AllocError>
         ensures ok { OnOk result (self.new ≡ self.old ++ more.now) }
         ensures err { OnErr result ((n : ℕ) × (n ≤ length more.now) × (self.new ≡ self.old ++ take n more.now)) }
@@ -153,7 +155,7 @@ impl<T: Duplicate> Items<T> {
         Items::from_slice(*self.items.allocator(), &self.items)
     }
 
-    /// The list with another item in the place of item `i`, which is not copied.
+    /// The list with another item in the place of item `i`. The new item is not copied.
     pub fn copy_with(&self, i: usize, item: T) -> Result<Items<T>, AllocError>
         requires { i < length self.now }
         ensures { IfOk result (λ c. c ≡ slice_set self.now i item) }

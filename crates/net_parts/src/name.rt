@@ -81,7 +81,7 @@ impl Name {
         Ok(Name { bytes })
     }
 
-    /// The name of these bytes, which are known to be one.
+    /// The name of these bytes, which are known to be a name.
     pub fn known(alloc: Global, text: &[u8]) -> Result<Name, AllocError>
         requires { IsName text.now }
         ensures { IfOk result (λ n. n ≡ text.now) }
@@ -121,7 +121,7 @@ impl Name {
     }
 }
 
-/// The names of a letter and each number from 0, so many, in order.
+/// The `count` names that are the letter and each number from 0 on, in order.
 pub fn numbered_names(alloc: Global, letter: u8, count: u32) -> Result<NameList, AllocError>
     requires { IsNameByte letter }
     ensures { IfOk result (λ names. names ≡ map (λ i. letter ∷ decimal i) (range_with_len 0 count)) }

@@ -56,7 +56,7 @@ impl Row {
         self.marks.as_slice().len()
     }
 
-    /// Whether the row has no marks, as that of a constant.
+    /// Whether the row has no marks, like the row of a constant.
     pub fn is_empty(&self) -> bool
         ensures { result ≡ (length self.now == 0) }
     {
@@ -71,7 +71,7 @@ impl Row {
         &self.marks.as_slice()[i]
     }
 
-    /// The marks, one a pin.
+    /// The marks, one for each pin.
     pub fn as_slice(&self) -> &[Mark]
         ensures { result.now ≡ self.now }
     {

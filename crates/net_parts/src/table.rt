@@ -56,7 +56,8 @@ pub fn mark_matches(mark: Mark, bit: bool) -> bool
     }
 }
 
-/// Whether each pin's value is as its mark asks, up to the first that is not.
+/// Whether the value of each pin is as its mark asks; the pins are looked at up to the first whose value is
+/// not.
 pub fn row_matches(marks: &[Mark], pins: &[Signal], vals: &[bool]) -> bool
     requires widths { length marks.now ≡ length pins.now }
     requires pins_in { All (λ s. s < length vals.now) pins.now }
@@ -70,7 +71,7 @@ pub fn row_matches(marks: &[Mark], pins: &[Signal], vals: &[bool]) -> bool
     true
 }
 
-/// Whether some row matches, up to the first that does.
+/// Whether some row matches; the rows are looked at up to the first that does.
 fn some_row_matches(rows: &[Row], pins: &[Signal], vals: &[bool]) -> bool
     requires widths { All (λ marks. length marks ≡ length pins.now) rows.now }
     requires pins_in { All (λ s. s < length vals.now) pins.now }
@@ -86,7 +87,7 @@ fn some_row_matches(rows: &[Row], pins: &[Signal], vals: &[bool]) -> bool
 }
 
 impl Table {
-    /// The table of these parts. It takes no memory.
+    /// The table of these parts. The call takes no memory.
     pub fn new(name: Name, pins: SignalList, rows: RowList, plane: bool) -> Table
         requires widths { All (λ marks. length marks ≡ length pins) rows }
         requires full { rows ≡ [] → plane ≡ true }

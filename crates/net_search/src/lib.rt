@@ -1,4 +1,5 @@
-//! What a simplification asks of a search, so that what is done with its answers is proved beside the searching.
+//! What a simplification asks of a search. So what is done with the answers is proved apart from how they are
+//! found.
 #![tactic(auto)]
 
 pub mod search;

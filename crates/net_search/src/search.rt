@@ -1,4 +1,5 @@
-//! The two searches that make a simplification: that along the chain, and that for the greatest error.
+//! The two searches that make a simplification: the search along the chain, and the search for the greatest
+//! error.
 ghost use Rattle.std.specs.Prelude.{◌≡◌, ◌≤◌, length, option_map, IfOk};
 ghost use Rattle.semantics.specs.Net.{input_count, IsSmall};
 ghost use Rattle.semantics.specs.Error.{IsWithin};
@@ -15,7 +16,8 @@ use semantics::metric::Metric;
 use std::alloc::{AllocError, Global};
 use worst_case::query::{Maximum, Spent};
 
-/// The last member of the chain that was reached, the vectors that break moves, and the query that was spent, if one was.
+/// The last member of the chain that was reached, the vectors that break moves, and the spent query, where
+/// one was spent.
 #[derive(Drop)]
 pub struct Shrunk {
     pub net: Net,
@@ -23,9 +25,10 @@ pub struct Shrunk {
     pub spent: Option<Spent>,
 }
 
-/// Who searches. Each query may cost so many conflicts.
+/// The two searches. Each query may cost at most `limit` conflicts.
 pub trait Search {
-    /// Follows the chain of simplifications of a net within a bound. `progress` is told how far the search is.
+    /// Follows the chain of simplifications of a net within a bound, and tells `progress` how far the search
+    /// is.
     fn shrink<P: Progress>(
         alloc: Global,
         net: &Net,
@@ -41,7 +44,8 @@ pub trait Search {
             (record { net = s.net; pool = s.pool.vectors; spent = option_map spent_value s.spent })) }
         ensures pool { IfOk result (λ s. s.pool.inputs ≡ input_count net.now) };
 
-    /// The greatest error of an approximate net that is within the bound. `progress` is told how far the search is.
+    /// Finds the greatest error of an approximate net that is within the bound, and tells `progress` how far
+    /// the search is.
     fn maximum<P: Progress>(
         alloc: Global,
         nets: &Compared,

@@ -1,4 +1,4 @@
--- Tables whose flag is down have no rule.
+-- A table whose flag is down has no rule that applies.
 use Rattle.std.specs.Prelude.{◌≡◌, ◌≢◌, ℕ, ◌+◌, ◌<◌, Bool, true, false, None, Some, List, length, slice_index_or}
 use Rattle.semantics.specs.Net.{TableValue, NetValue, table_at, table_count}
 use Rattle.chain_semantics.specs.TidyRules.{is_empty, has}
@@ -13,7 +13,8 @@ pub record IsFlagged (N : NetValue) (flags : List Bool) : Type 0 where
   pub count : length flags ≡ table_count N
   pub rests : (i : ℕ) → i < table_count N → IsDown flags i → rule_at N i ≡ None
 
--- table j after table t was edited: its flag was down, and where table t has no pins, it does not read it
+-- table j, untouched by the edit of table t: its flag was down, and where table t has no pins, table j does
+-- not read table t
 pub record IsLeft (n : ℕ) (tables : List TableValue) (t : ℕ) (flags : List Bool) (j : ℕ) : Type 0 where
   pub down : IsDown flags j
   pub other : j ≢ t

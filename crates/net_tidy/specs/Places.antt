@@ -20,7 +20,7 @@ kept [] xs = xs
 kept (g ∷ gone) [] = []
 kept (g ∷ gone) (x ∷ xs) = if g then kept gone xs else x ∷ kept gone xs
 
--- how many of the places before place i stay: where it stands once the others have gone
+-- the number of places before place i that stay, which is where i stands once the others have gone
 abbrev pub rank : List Bool → ℕ → ℕ
 rank [] i = i
 rank (g ∷ gone) zero = 0
@@ -30,7 +30,7 @@ rank (g ∷ gone) (suc i) = if g then rank gone i else suc (rank gone i)
 abbrev pub signals_gone : ℕ → List Bool → List Bool
 signals_gone n gone = replicate n false ++ gone
 
--- the net once the others have gone
+-- the net once the tables that have gone are left out
 abbrev pub dense : DraftValue → NetValue
 dense D = record {
   model = D.net.model;
@@ -51,16 +51,16 @@ abbrev pub drafted : DraftValue → ℕ → Rule → DraftValue
 drafted D i Removal = record { net = with_table D.net i (emptied (table_at D.net.tables i)); gone = slice_set D.gone i true }
 drafted D i rule = record D { net = made_by D.net i rule }
 
--- one flag for each place, down only where the table has gone or has no rule
+-- one flag for each place, which is down only where the table has gone or no rule applies at it
 pub record IsFlaggedIn (D : DraftValue) (flags : List Bool) : Type 0 where
   pub count : length flags ≡ table_count D.net
   pub rests : (i : ℕ) → i < table_count D.net → Stays D.gone i → IsDown flags i → rule_at D.net i ≡ None
 
--- no table that stays has a rule
+-- at no table that stays does a rule apply
 abbrev pub IsAtRest : DraftValue → Type 0
 IsAtRest D = (i : ℕ) → i < table_count D.net → Stays D.gone i → rule_at D.net i ≡ None
 
--- the rule at the first table that stays and has one
+-- the first rule at the first table that stays and at which a rule applies
 pub record IsFirstRuleIn (D : DraftValue) (i : ℕ) (rule : Rule) : Type 0 where
   pub within : i < table_count D.net
   pub stays : Stays D.gone i

@@ -8,7 +8,7 @@ use Rattle.chain_semantics.specs.TidyRules.{is_empty, has, first_from, pin_at, m
 use Rattle.net_tidy.specs.declared.rule.Rule.{Rule}
 use Rattle.net_tidy.specs.declared.rule.Rule.TheVariants.{ConstantPin, DashedPin, RepeatedPin, Constant, Bypass, Removal}
 
--- the first of the six
+-- the first of the six rules that applies
 abbrev pub first_rule : Option ℕ → Option ℕ → Option ℕ → Bool → Bool → Bool → Option Rule
 first_rule (Some q) dashed repeated constant bypassed unread = Some (ConstantPin q)
 first_rule None (Some q) repeated constant bypassed unread = Some (DashedPin q)
@@ -36,7 +36,8 @@ abbrev pub is_alone : List Mark → Bool
 is_alone (m ∷ []) = is_literal m
 is_alone _ = false
 
--- the first rule by the first constant pin, by the pins, rows and plane of a table, and by whether it is an output and read
+-- the first rule, by the first constant pin, by the pins, rows and plane of a table, and by whether the table
+-- is an output and is read
 abbrev pub rule_by : {R : Type 0} → (R → List Mark) → Option ℕ → List ℕ → List R → Bool → Bool → Bool → Option Rule
 rule_by marks constant pins rows plane output read = first_rule constant
     (first_from (λ q. not (is_empty rows) && list_all (λ row. is_dash (mark_at (marks row) q)) rows) 0 (length pins))

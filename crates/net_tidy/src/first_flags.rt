@@ -1,4 +1,5 @@
-//! The flags to begin with: one pass over the pins marks what is read, and then each table is tried once.
+//! The flags at the beginning: one pass over the pins marks the signals that are read, and then each table is
+//! tried once.
 ghost use Rattle.std.specs.Prelude.{◌≡◌, ◌<◌, ◌||◌, ℕ, false, length, slice_index_or, All, IfOk};
 ghost use Rattle.semantics.specs.Net.{table_count, signal_count};
 ghost use Rattle.chain_semantics.specs.TidyRules.{has, is_read};
@@ -34,7 +35,7 @@ fn mark_read(net: &Net, marks: &mut [bool])
     }
 }
 
-/// The first rule that applies at a table, where it is marked what is read and what is an output.
+/// The first rule that applies at a table, by marks of what is read and of what is an output.
 fn marked_rule_at(net: &Net, t: u32, read: &[bool], output: &[bool]) -> Option<Rule>
     requires within { t < table_count net.now }
     requires read_room { length read.now ≡ signal_count net.now }
@@ -71,7 +72,7 @@ fn settle_at(net: &Net, t: u32, read: &[bool], output: &[bool], flags: &mut Flag
     flags.take_down(t);
 }
 
-/// A flag for each table, which is raised where a rule applies.
+/// A flag for each table, raised where a rule applies.
 pub(crate) fn first_flags(alloc: Global, net: &Net) -> Result<Flags, AllocError>
     ensures { IfOk result (IsFlagged net.now) }
 {

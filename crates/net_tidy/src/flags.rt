@@ -1,4 +1,4 @@
-//! A flag for each table, which is raised where a rule may apply.
+//! A flag for each table, raised where a rule may apply.
 ghost use Rattle.std.specs.Prelude.{◌≡◌, ◌≢◌, ◌<◌, ◌≤◌, ◌^◌, ◌+◌, ℕ, true, false, not, length, replicate, slice_index_or, slice_set, All, IfOk};
 ghost use Rattle.std.specs.List.{list_any};
 ghost use Rattle.semantics.specs.Net.{table_at};
@@ -10,7 +10,8 @@ use net_core::items::Signal;
 use std::alloc::{AllocError, Global};
 use std::marker::Model;
 
-/// The flags, in the order of the tables. None before `first` is raised, so that nothing before it is looked at again.
+/// The flags, in the order of the tables. No flag before `first` is raised, so nothing before it is looked at
+/// again.
 #[derive(Drop)]
 pub(crate) struct Flags {
     flags: Vec<bool>,
@@ -29,7 +30,7 @@ impl Model for Flags {
 }
 
 impl Flags {
-    /// So many flags, all raised.
+    /// `count` flags, all raised.
     pub(crate) fn raised(alloc: Global, count: usize) -> Result<Flags, AllocError>
         ensures { IfOk result (λ f. f ≡ replicate count true) }
     {
@@ -37,7 +38,7 @@ impl Flags {
         Ok(Flags { flags, first: 0 })
     }
 
-    /// The first place from one on whose flag is raised, or the end.
+    /// The first place, from `from` on, whose flag is raised, or the end.
     pub(crate) fn next(&self, from: usize) -> usize
         requires { from ≤ length self.now }
         ensures from { from ≤ result }
@@ -60,7 +61,7 @@ impl Flags {
         self.first
     }
 
-    /// Whether a flag is raised. Where neither it nor one before it is, the place before which none is raised goes past it.
+    /// Whether the flag of table `t` is raised. Where it is not and `first` is `t`, `first` moves past `t`.
     pub(crate) fn look(&mut self, t: u32) -> bool
         requires { t < length self.old }
         ensures raised { result ≡ slice_index_or self.old t true }
@@ -103,7 +104,7 @@ impl Flags {
         self.first = self.first.min(place);
     }
 
-    /// Raises the flag at a place where it is asked for.
+    /// Raises the flag at a place, if `asked`.
     pub(crate) fn raise_if(&mut self, place: usize, asked: bool)
         requires { place < length self.old }
         ensures count { length self.new ≡ length self.old }
@@ -146,7 +147,7 @@ impl Flags {
         }
     }
 
-    /// Raises the flag at a place, if it is one.
+    /// Raises the flag at a place, if there is such a place.
     fn raise_within(&mut self, place: usize)
         ensures count { length self.new ≡ length self.old }
         ensures others { (j : ℕ) → IsDown self.new j → IsDown self.old j × (j ≢ place) }
@@ -156,7 +157,8 @@ impl Flags {
         }
     }
 
-    /// Raises the flags of a table that was edited, and, where it has no pins, of those that read it.
+    /// Raises the flag of a table that was edited and, where the table has no pins, the flags of the tables
+    /// that read it.
     pub(crate) fn raise_edited(&mut self, inputs: u32, tables: &Tables, t: u32)
         requires within { t < length tables.now }
         requires count { length self.old ≡ length tables.now }

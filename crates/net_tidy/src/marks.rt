@@ -48,7 +48,7 @@ pub(crate) fn clash(a: Mark, b: Mark) -> bool
     }
 }
 
-/// The second mark in the place of a dash.
+/// The mark `a`, or `b` where `a` is a dash.
 fn joined(a: Mark, b: Mark) -> Mark
     ensures { result ≡ joined a b }
 {

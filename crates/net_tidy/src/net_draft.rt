@@ -1,5 +1,6 @@
-//! A net that is edited in place, table by table, each of which keeps its place, also where others have gone. A flag for each table
-//! says where a rule may apply: after a step only what it concerns is tried again.
+//! A net that is edited in place, table by table; each table keeps its place, also where others have gone. A
+//! flag for each table says where a rule may apply, so that after a step only the tables that it concerns are
+//! tried again.
 ghost use Rattle.std.specs.Prelude.{◌≡◌, ◌<◌, ◌≤◌, ◌^◌, ◌+◌, ◌++◌, ◌∷◌, [], if◌then◌else◌, ℕ, true, false, not, take, length, map, replicate, slice_set, All, IfOk, OnOk, None, Some, MatchOption};
 ghost use Rattle.std.specs.List.{filter};
 ghost use Rattle.semantics.specs.Net.{input_count, table_count, signal_count, table_at, constant_table, IsTable, IsSound};
@@ -22,8 +23,8 @@ use net_core::net::Net;
 use std::alloc::{AllocError, Global};
 use std::marker::Model;
 
-/// The parts of a net, each table at its place, which of them have gone, and a flag for each, which is down only where no rule
-/// applies.
+/// The parts of a net: each table at its place, which of the tables have gone, and a flag for each table,
+/// which is down only where no rule applies.
 #[derive(Drop)]
 pub(crate) struct NetDraft {
     model: Name,
@@ -51,7 +52,7 @@ impl Model for NetDraft {
     }) a.flags × (length a.gone.items ≡ length a.tables) × (length a.inputs + length a.tables < 2 ^ 31) };
 }
 
-/// The number that is free after one that was given to a table, if it stays.
+/// The next free number behind `number`, which a table takes where it stays.
 fn number_after(number: u32, goes: bool) -> u32
     requires { number < 2 ^ 31 }
     ensures { result ≡ (if goes then number else number + 1) }
@@ -59,7 +60,7 @@ fn number_after(number: u32, goes: bool) -> u32
     if goes { number } else { number + 1 }
 }
 
-/// The numbers of so many inputs, which keep their own.
+/// The numbers of `inputs` inputs, each of which keeps its number.
 fn input_numbers(alloc: Global, inputs: u32) -> Result<Vec<u32>, AllocError>
     ensures count { IfOk result (λ numbers. length numbers.items ≡ inputs) }
     ensures each { IfOk result (λ numbers. (s : ℕ) → s < inputs → number_at numbers.items s ≡ s) }
@@ -108,7 +109,7 @@ fn push_unless(list: &mut TableList, table: &TableDraft, goes: bool) -> Result<(
     list.push(table.to_table()?)
 }
 
-/// Those of these tables that stay, as a list.
+/// The tables among these that stay, as a list.
 fn table_list(alloc: Global, tables: &[TableDraft], gone: &[bool]) -> Result<TableList, AllocError>
     requires formed { All IsTable tables.now }
     requires count { length gone.now ≡ length tables.now }
@@ -197,7 +198,7 @@ impl NetDraft {
         self.tables.is_read(s)
     }
 
-    /// The first rule that applies at a table, where it is known whether some table reads it.
+    /// The first rule that applies at a table, where `read` says whether some table reads it.
     fn rule_where(&self, t: u32, read: bool) -> Option<Rule>
         requires sound { IsSound self.now.net }
         requires within { t < table_count self.now.net }
@@ -277,7 +278,7 @@ impl NetDraft {
         found
     }
 
-    /// A place before which no table that stays has a rule.
+    /// A place before which no table that stays has a rule that applies.
     fn first_place(&self) -> u32
         ensures within { result ≤ table_count self.now.net }
         ensures none { (j : ℕ) → j < result → Stays self.now.gone j → rule_at self.now.net j ≡ None }
@@ -285,7 +286,7 @@ impl NetDraft {
         self.flags.first() as u32
     }
 
-    /// A place from one on: no table between the two that stays has a rule.
+    /// A place from `from` on; no table between the two places that stays has a rule that applies.
     fn next_place(&self, from: u32) -> u32
         requires { from ≤ table_count self.now.net }
         ensures from { from ≤ result }
@@ -295,7 +296,7 @@ impl NetDraft {
         self.flags.next(from as usize) as u32
     }
 
-    /// The rule at the first table that stays and at which one applies.
+    /// The first table that stays and has a rule that applies, with its first such rule.
     pub(crate) fn first_rule(&mut self) -> Option<(u32, Rule)>
         requires sound { IsSound self.old.net }
         ensures found { MatchOption result (IsAtRest self.old) (λ f. IsFirstRuleIn self.old f.0 f.1) }
@@ -325,7 +326,8 @@ impl NetDraft {
         self.tables.keep_rows(t, q, value);
     }
 
-    /// Takes out the rows of a table that ask the pins at `p` and `q` for both values, and joins the marks of the others at `p`.
+    /// Takes out the rows of a table that ask the pins at `p` and `q` for both values, and joins the marks of
+    /// the other rows at `p`.
     fn join_rows(&mut self, t: u32, p: usize, q: usize)
         requires within { t < table_count self.old.net }
         requires pin { p < length (table_at self.old.net.tables t).pins }
@@ -340,7 +342,7 @@ impl NetDraft {
         self.tables.join_rows(t, p, q);
     }
 
-    /// Takes out the pin at `q` of a table with its column.
+    /// Takes out the pin at `q` of a table, with its column.
     fn remove_pin(&mut self, t: u32, q: usize)
         requires within { t < table_count self.old.net }
         requires pin { q < length (table_at self.old.net.tables t).pins }
@@ -355,7 +357,7 @@ impl NetDraft {
         self.flags.raise_edited(inputs, &self.tables, t);
     }
 
-    /// Makes a constant of a table.
+    /// Makes a table the constant of this value.
     fn make_constant(&mut self, t: u32, value: bool)
         requires within { t < table_count self.old.net }
         requires pins_in { All (λ s. s < signal_count self.old.net) (table_at self.old.net.tables t).pins }
@@ -368,7 +370,7 @@ impl NetDraft {
         self.flags.raise_edited(inputs, &self.tables, t);
     }
 
-    /// Makes of a table whose rows all go the constant that it is then, the opposite of its plane.
+    /// Makes a table all of whose rows go the constant that it then is, the opposite of its plane.
     fn make_opposite(&mut self, t: u32)
         requires sound { IsSound self.old.net }
         requires within { t < table_count self.old.net }
@@ -381,7 +383,7 @@ impl NetDraft {
         self.make_constant(t, !plane);
     }
 
-    /// Takes out a pin that reads a constant, after the rows that ask it for the other value.
+    /// Takes out a pin that reads a constant, after the rows that ask this pin for the other value.
     fn fix_pin(&mut self, t: u32, q: usize)
         requires sound { IsSound self.old.net }
         requires within { t < table_count self.old.net }
@@ -399,7 +401,8 @@ impl NetDraft {
         }
     }
 
-    /// Takes out a pin with the signal of an earlier one, after the rows that ask the two for both values.
+    /// Takes out a pin with the signal of an earlier pin, after the rows that ask the two pins for both
+    /// values.
     fn join_pin(&mut self, t: u32, q: usize)
         requires sound { IsSound self.old.net }
         requires within { t < table_count self.old.net }
@@ -418,7 +421,7 @@ impl NetDraft {
         }
     }
 
-    /// Makes the canonical constant of its value of a table that has one.
+    /// Makes a table whose value is constant the canonical constant of that value.
     fn make_canonical(&mut self, t: u32)
         requires sound { IsSound self.old.net }
         requires within { t < table_count self.old.net }
@@ -429,7 +432,7 @@ impl NetDraft {
         self.make_constant(t, value);
     }
 
-    /// Lets each table that reads a buffer or an inverter read its pin in its place.
+    /// Lets each table that reads a buffer or an inverter read that table's pin in its place.
     fn bypass(&mut self, t: u32) -> Result<(), AllocError>
         requires sound { IsSound self.old.net }
         requires within { t < table_count self.old.net }
@@ -463,7 +466,7 @@ impl NetDraft {
         self.gone[t as usize] = true;
     }
 
-    /// Does at a table what its first rule says.
+    /// Applies its first rule to a table.
     pub(crate) fn apply(&mut self, t: u32, rule: Rule) -> Result<(), AllocError>
         requires sound { IsSound self.old.net }
         requires first { IsFirstRuleIn self.old t rule }

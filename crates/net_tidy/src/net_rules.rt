@@ -1,5 +1,5 @@
-//! Which rules apply in a net that is not edited. It takes no memory, and goes over all pins for each table that it is
-//! asked about.
+//! Which rules apply in a net that is not edited. The tests take no memory, and pass over all pins for each
+//! table.
 ghost use Rattle.std.specs.Prelude.{◌≡◌, ◌<◌, ◌+◌, ◌↔◌, true, IsTrue, length, All};
 ghost use Rattle.semantics.specs.Net.{input_count, table_count, signal_count};
 ghost use Rattle.chain_semantics.specs.TidyRules.{has, is_read, is_constant_signal, constant_pin};

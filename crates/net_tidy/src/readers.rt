@@ -1,4 +1,5 @@
-//! Which places read each signal. A place may stay listed after it has ceased to read the signal.
+//! Which tables read each signal, by their places. A place may stay listed after its table has ceased to read
+//! the signal.
 ghost use Rattle.std.specs.Prelude.{◌≡◌, ◌≢◌, ◌<◌, ◌-◌, ◌++◌, ◌∷◌, [], ℕ, true, length, take, slice_set, All, MatchOption, IfOk, OnOk, OnErr};
 ghost use Rattle.std.specs.List.{filter};
 ghost use Rattle.semantics.specs.Net.{table_at};
@@ -89,7 +90,7 @@ impl Places {
     }
 }
 
-/// For each signal the places of the tables that read it, and maybe others.
+/// For each signal the places of the tables that read it, and possibly of others.
 #[derive(Drop)]
 pub(crate) struct Readers {
     lists: Vec<Places>,
@@ -104,7 +105,7 @@ impl Model for Readers {
 }
 
 impl Readers {
-    /// Empty lists, so many.
+    /// `count` empty lists.
     pub(crate) fn empty(alloc: Global, count: usize) -> Result<Readers, AllocError>
         ensures { IfOk result (λ r. length r ≡ count) }
     {
@@ -136,7 +137,7 @@ impl Readers {
         Some(places[places.len() - 1])
     }
 
-    /// Lists a place for a signal.
+    /// Adds a place to the list of a signal.
     fn add(&mut self, s: Signal, place: u32) -> Result<(), AllocError>
         requires { s < length self.old }
         ensures ok { OnOk result (self.new ≡ slice_set self.old s (list_at self.old s ++ place ∷ [])) }
@@ -144,7 +145,7 @@ impl Readers {
         self.lists[s as usize].push(place)
     }
 
-    /// Lists a place for each of these signals.
+    /// Adds a place to the list of each of these signals.
     pub(crate) fn add_each(&mut self, signals: &[Signal], place: u32) -> Result<(), AllocError>
         requires { All (λ s. s < length self.old) signals.now }
         ensures count { OnOk result (length self.new ≡ length self.old) }
@@ -157,7 +158,7 @@ impl Readers {
         Ok(())
     }
 
-    /// Lists for a signal also what is listed for another.
+    /// Adds the places in the list of one signal to the list of another.
     pub(crate) fn share(&mut self, from: Signal, to: Signal) -> Result<(), AllocError>
         requires from { from < length self.old }
         requires to { to < length self.old }

@@ -1,4 +1,4 @@
-//! The rules of tidying, as what is done at a table.
+//! The rules of tidying, each as the change that it makes at a table.
 
 /// A rule, with the place of the pin that it is about.
 #[derive(Clone, Copy, Debug)]
@@ -7,11 +7,11 @@ pub(crate) enum Rule {
     ConstantPin(usize),
     /// The pin has a dash in every row.
     DashedPin(usize),
-    /// The pin has the signal of an earlier one.
+    /// The pin has the signal of an earlier pin.
     RepeatedPin(usize),
     /// The table becomes a canonical constant.
     Constant,
-    /// What reads the table reads its pin.
+    /// Each table that reads the table reads its pin instead.
     Bypass,
     /// The table goes.
     Removal,

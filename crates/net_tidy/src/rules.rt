@@ -25,7 +25,7 @@ fn all_dashes<R: Marked>(rows: &[R], q: usize) -> bool
     rows.iter().all(|row| !is_literal(mark_at(row.marks(), q)))
 }
 
-/// Whether there is a row, and each has a dash at pin `q`.
+/// Whether there is a row, and each row has a dash at pin `q`.
 #[tactic(auto, using(crate::proofs::First::is_empty_length))]
 fn is_dashed<R: Marked>(rows: &[R], q: usize) -> bool
     ensures { result ≡ (not (is_empty rows.now) && list_all (λ row. is_dash (mark_at (R.marks row) q)) rows.now) }
@@ -33,7 +33,7 @@ fn is_dashed<R: Marked>(rows: &[R], q: usize) -> bool
     !rows.is_empty() && all_dashes(rows, q)
 }
 
-/// The first of so many pins that has a dash in every row, where there is a row.
+/// The first of `pins` pins that has a dash in every row, where there is a row.
 pub(crate) fn dashed_pin<R: Marked>(pins: usize, rows: &[R]) -> Option<usize>
     ensures { result
         ≡ first_from (λ q. not (is_empty rows.now) && list_all (λ row. is_dash (mark_at (R.marks row) q)) rows.now) 0 pins }
@@ -46,7 +46,7 @@ pub(crate) fn dashed_pin<R: Marked>(pins: usize, rows: &[R]) -> Option<usize>
     None
 }
 
-/// The first pin with the signal of an earlier one.
+/// The first pin that has the signal of an earlier pin.
 pub(crate) fn repeated_pin(pins: &[Signal]) -> Option<usize>
     ensures { result ≡ first_from (λ q. has (take q pins.now) (slice_index pins.now q)) 0 (length pins.now) }
 {
@@ -58,7 +58,7 @@ pub(crate) fn repeated_pin(pins: &[Signal]) -> Option<usize>
     None
 }
 
-/// The place of the first pin with a signal, and the number of pins where there is none.
+/// The place of the first pin that reads signal `s`; where there is none, the number of pins.
 pub(crate) fn first_place(pins: &[Signal], s: Signal) -> usize
     ensures { result ≡ first_place_of pins.now s }
 {
@@ -81,7 +81,7 @@ fn is_canonical_rows<R: Marked>(rows: &[R]) -> bool
     }
 }
 
-/// Whether some row asks for nothing.
+/// Whether some row has no literal.
 fn has_free_row<R: Marked>(rows: &[R]) -> bool
     ensures { result ≡ list_any (λ row. row_literals (R.marks row) == 0) rows.now }
 {
@@ -98,22 +98,22 @@ fn is_constant<R: Marked>(pins: &[Signal], rows: &[R], plane: bool) -> bool
         && (rows.is_empty() || has_free_row(rows))
 }
 
-/// Whether this is one mark, and it asks for a value.
+/// Whether the row has one mark, and this is a literal.
 fn is_alone(marks: &[Mark]) -> bool
     ensures { result ≡ is_alone marks.now }
 {
     marks.len() == 1 && is_literal(marks[0])
 }
 
-/// Whether there are one pin and one row, which asks for a value.
+/// Whether there are one pin and one row, whose mark is a literal.
 fn is_one_literal<R: Marked>(pins: &[Signal], rows: &[R]) -> bool
     ensures { result ≡ is_one_literal pins.now (map R.marks rows.now) }
 {
     pins.len() == 1 && rows.len() == 1 && is_alone(rows[0].marks())
 }
 
-/// The first rule that applies, by the first pin that reads a constant, the parts of the table, whether it is an output,
-/// and whether some table reads it.
+/// The first rule that applies, by the first pin that reads a constant, by the parts of the table, by whether
+/// the table is an output, and by whether some table reads it.
 pub(crate) fn rule_by<R: Marked>(
     constant: Option<usize>,
     pins: &[Signal],

@@ -16,7 +16,7 @@ use net_core::table::{Table, mark_matches};
 use std::alloc::{AllocError, Global};
 use std::marker::Model;
 
-/// A table: its parts, and nothing asked of them.
+/// The parts of a table, of which nothing is required.
 #[derive(Drop)]
 pub(crate) struct TableDraft {
     name: Name,
@@ -44,7 +44,7 @@ fn copied_rows(alloc: Global, rows: &[Row]) -> Result<Vec<Marks>, AllocError>
     Ok(copies)
 }
 
-/// The rows of a table with these marks.
+/// The rows with these marks, as a list.
 fn row_list(alloc: Global, rows: &[Marks]) -> Result<RowList, AllocError>
     ensures { IfOk result (λ list. list ≡ rows.now) }
 {
@@ -99,7 +99,7 @@ fn turn_rows(rows: &mut [Marks], s: Signal, pins: &[Signal])
     }
 }
 
-/// One signal in the place of another.
+/// The signal of a pin: `to` in the place of `from`, and any other signal as it is.
 fn redirected(pin: Signal, from: Signal, to: Signal) -> Signal
     ensures { result ≡ redirect from to pin }
 {
@@ -116,7 +116,7 @@ pub(crate) fn number_at(numbers: &[u32], s: Signal) -> u32
     }
 }
 
-/// Puts one signal in the place of another.
+/// Puts signal `to` in the place of signal `from` among the pins.
 fn redirect(pins: &mut [Signal], from: Signal, to: Signal)
     ensures { pins.new ≡ map (redirect from to) pins.old }
 {
@@ -125,7 +125,7 @@ fn redirect(pins: &mut [Signal], from: Signal, to: Signal)
     }
 }
 
-/// Puts for each signal the number that stands at it.
+/// Puts in the place of each signal its number in `numbers`.
 fn renumber(signals: &mut [Signal], numbers: &[u32])
     ensures { signals.new ≡ map (number_at numbers.now) signals.old }
 {
@@ -189,14 +189,15 @@ impl TableDraft {
         keep_rows(&mut self.rows, q, value);
     }
 
-    /// Whether some row does not ask the pins at `p` and `q` for both values.
+    /// Whether some row asks the pins at `p` and `q` for no two values that differ.
     pub(crate) fn agrees(&self, p: usize, q: usize) -> bool
         ensures { result ≡ list_any (λ marks. not (clash (mark_at marks p) (mark_at marks q))) self.now.rows }
     {
         self.rows.iter().any(|row| !clash(mark_at(row.marks(), p), mark_at(row.marks(), q)))
     }
 
-    /// Takes out the rows that ask the pins at `p` and `q` for both values, and joins the marks of the others at `p`.
+    /// Takes out the rows that ask the pins at `p` and `q` for both values, and joins the marks of the other
+    /// rows at `p`.
     pub(crate) fn join_rows(&mut self, p: usize, q: usize)
         requires within { p < length self.old.pins }
         requires widths { All (λ marks. length marks ≡ length self.old.pins) self.old.rows }
@@ -208,7 +209,7 @@ impl TableDraft {
         join_marks(&mut self.rows, p, q);
     }
 
-    /// Takes out the pin at `q` with its column.
+    /// Takes out the pin at `q`, with its column.
     pub(crate) fn remove_pin(&mut self, q: usize)
         requires within { q < length self.old.pins }
         requires widths { All (λ marks. length marks ≡ length self.old.pins) self.old.rows }
@@ -218,7 +219,8 @@ impl TableDraft {
         self.pins.remove(q);
     }
 
-    /// Makes a constant of the table. A row without marks is made of its first one.
+    /// Makes the table the constant of this value. For the constant 1 its first row becomes the row without
+    /// marks.
     pub(crate) fn make_constant(&mut self, value: bool)
         requires { value ≡ true → 0 < length self.old.rows }
         ensures { self.new ≡ constant_table self.old.name value }
@@ -243,8 +245,8 @@ impl TableDraft {
             .all(|row| !mark_matches(mark_at(row.marks(), 0), plane))
     }
 
-    /// Reads signal `to` in the place of `from`, which has its value, or the opposite one where the marks are inverted. It tells
-    /// whether the table read it.
+    /// Reads signal `to` in the place of `from`, where `to` has the value of `from`, or the opposite where
+    /// `inverted` is set; then the marks of those pins are turned. Returns whether the table read `from`.
     #[tactic(auto, using(crate::proofs::Passing::past_aside))]
     pub(crate) fn read_past(&mut self, from: Signal, to: Signal, inverted: bool) -> bool
         requires { All (λ marks. length marks ≡ length self.old.pins) self.old.rows }
@@ -273,7 +275,7 @@ impl TableDraft {
         Ok(Table::new(name, pins, rows, self.plane))
     }
 
-    /// Puts for each pin the number that stands at it.
+    /// Puts in the place of each pin its number in `numbers`.
     pub(crate) fn renumber(&mut self, numbers: &[u32])
         ensures { self.new ≡ renamed (number_at numbers.now) self.old }
     {

@@ -47,7 +47,7 @@ fn copied_tables(alloc: Global, net: &Net) -> Result<Vec<TableDraft>, AllocError
     Ok(tables)
 }
 
-/// For each signal of a net the tables that read it.
+/// For each signal of a net the places of the tables that read it.
 fn listed(alloc: Global, net: &Net) -> Result<Readers, AllocError>
     ensures { IfOk result (IsListed net.now.tables) }
 {
@@ -58,7 +58,8 @@ fn listed(alloc: Global, net: &Net) -> Result<Readers, AllocError>
     Ok(readers)
 }
 
-/// Lets the table at a place read another signal in the place of one, where it reads that, and raises its flag.
+/// Lets the table at a place read signal `to` in the place of signal `from`, where it reads `from`, and
+/// raises its flag.
 fn read_past_at(
     tables: &mut [TableDraft],
     flags: &mut Flags,
@@ -82,7 +83,8 @@ fn read_past_at(
     }
 }
 
-/// Lets each table that reads a signal read another in its place, with turned marks where the signal is inverted, and raises its flag.
+/// Lets each table that reads a signal read another one in its place, with turned marks where the signal is
+/// inverted, and raises the flags of these tables.
 fn read_past(
     tables: &mut [TableDraft],
     flags: &mut Flags,
@@ -105,7 +107,7 @@ fn read_past(
     }
 }
 
-/// Puts for each pin the number that stands at it.
+/// Puts in the place of each pin of each table its number in `numbers`.
 fn renumber_tables(tables: &mut [TableDraft], numbers: &[u32])
     ensures { tables.new ≡ map (renamed (number_at numbers.now)) tables.old }
 {
@@ -138,14 +140,15 @@ impl Tables {
         self.tables[t as usize].pins()
     }
 
-    /// Places at which each table that reads a signal is found.
+    /// Places among which is that of each table that reads a signal.
     pub(crate) fn readers(&self, s: Signal) -> &[u32]
         ensures { (j : ℕ) → has (table_at self.now j).pins s ≡ true → has result.now j ≡ true }
     {
         self.readers.of(s)
     }
 
-    /// Whether some table reads a signal. Where the last that is listed does not, it is taken off the list.
+    /// Whether some table reads a signal. The last places on its list whose tables do not read it are taken
+    /// off.
     pub(crate) fn is_read(&mut self, s: Signal) -> bool
         ensures value { result ≡ is_read self.old s }
         ensures same { self.new ≡ self.old }
@@ -169,7 +172,8 @@ impl Tables {
         self.tables[t as usize].keep_rows(q, value);
     }
 
-    /// Takes out the rows of a table that ask the pins at `p` and `q` for both values, and joins the marks of the others at `p`.
+    /// Takes out the rows of a table that ask the pins at `p` and `q` for both values, and joins the marks of
+    /// the other rows at `p`.
     pub(crate) fn join_rows(&mut self, t: u32, p: usize, q: usize)
         requires within { t < length self.old }
         requires pin { p < length (table_at self.old t).pins }
@@ -181,7 +185,7 @@ impl Tables {
         self.tables[t as usize].join_rows(p, q);
     }
 
-    /// Takes out the pin at `q` of a table with its column.
+    /// Takes out the pin at `q` of a table, with its column.
     pub(crate) fn remove_pin(&mut self, t: u32, q: usize)
         requires within { t < length self.old }
         requires pin { q < length (table_at self.old t).pins }
@@ -191,7 +195,7 @@ impl Tables {
         self.tables[t as usize].remove_pin(q);
     }
 
-    /// Makes a constant of a table.
+    /// Makes a table the constant of this value.
     pub(crate) fn make_constant(&mut self, t: u32, value: bool)
         requires within { t < length self.old }
         requires row { value ≡ true → 0 < length (table_at self.old t).rows }
@@ -200,8 +204,8 @@ impl Tables {
         self.tables[t as usize].make_constant(value);
     }
 
-    /// Lets each table that reads a signal read another in its place, with turned marks where the signal is inverted, and raises its
-    /// flag. Where there is no memory, nothing is changed.
+    /// Lets each table that reads a signal read another one in its place, with turned marks where the signal
+    /// is inverted, and raises the flags of these tables. Where memory is wanting, nothing is changed.
     pub(crate) fn bypass(
         &mut self,
         flags: &mut Flags,
@@ -235,7 +239,7 @@ impl Tables {
         Ok(())
     }
 
-    /// Puts for each pin the number that stands at it.
+    /// The tables, with the number of each pin in `numbers` in the place of the pin.
     pub(crate) fn into_numbered(self, numbers: &[u32]) -> Vec<TableDraft>
         ensures { result.items ≡ map (renamed (number_at numbers.now)) self }
     {

@@ -1,4 +1,4 @@
-//! Tidying, and whether it is needed.
+//! Tidying, and whether a net needs it.
 ghost use Rattle.std.specs.Prelude.{◌↔◌, IsTrue, IfOk};
 ghost use Rattle.chain_semantics.specs.Tidy.{IsTidy, IsTidiedFrom};
 ghost use Rattle.net_tidy.specs.Flags.{IsFlagged};
@@ -10,7 +10,7 @@ use crate::net_rules::rule_at;
 use net_core::net::Net;
 use std::alloc::{AllocError, Global};
 
-/// The net after all steps of tidying, where these tables have a rule at the start.
+/// The net after all steps of tidying, where the flags at the start are these.
 fn apply_rules(alloc: Global, net: &Net, flags: Flags) -> Result<Net, AllocError>
     requires { IsFlagged net.now flags }
     ensures { IfOk result (λ n. IsTidiedFrom net.now n) }
@@ -22,8 +22,8 @@ fn apply_rules(alloc: Global, net: &Net, flags: Flags) -> Result<Net, AllocError
     draft.into_net()
 }
 
-/// The net after all steps of tidying. What it keeps of the net follows from the laws about tidying. A net of which no table has a rule
-/// is not copied.
+/// The net after all steps of tidying. What the tidied net keeps follows from the laws about tidying. A net
+/// in which no rule applies is not copied.
 pub fn tidy(alloc: Global, net: Net) -> Result<Net, AllocError>
     ensures { IfOk result (λ n. IsTidiedFrom net n) }
 {
@@ -35,7 +35,7 @@ pub fn tidy(alloc: Global, net: Net) -> Result<Net, AllocError>
     }
 }
 
-/// Whether no rule applies to a net. It takes no memory.
+/// Whether no rule applies to a net. The test takes no memory.
 pub fn is_tidy(net: &Net) -> bool
     ensures { IsTrue result ↔ IsTidy net.now }
 {

@@ -7,7 +7,7 @@ use Rattle.semantics.specs.Texts.{Bytes}
 use Rattle.outside_semantics.specs.Outside.{Held, FilesTold, Rose, turns_on, turns_after, IsReadOut, appended}
 use Rattle.outside_semantics.specs.WrittenFiles.{File, with_files, IsCutShort}
 
--- one more fault is a rise and none is not, but at its end the count stands still
+-- one more fault is a rise, and no further fault is none; but a count at its end stands still
 pub record CountExamples : Type 0 where
   pub one_more : Rose 3 4
   pub none : Rose 3 3 → ⊥
@@ -68,7 +68,7 @@ pub record AppendExamples : Type 0 where
 abbrev pub after_four : Bytes → Option Bytes
 after_four name = get (with_files three (file (codes "b") (codes "x") ∷ file (codes "c") (codes "y") ∷ file (codes "b") (codes "z") ∷ [])) name
 
--- of two files with the same name the later counts, and a name that is not written stays
+-- of two files with the same name the later one counts, and a name that is not written keeps its bytes
 pub record WrittenExamples : Type 0 where
   pub twice : after_four (codes "b") ≡ Some (codes "z")
   pub between : after_four (codes "c") ≡ Some (codes "y")

@@ -6,8 +6,8 @@ use Rattle.semantics.specs.Texts.{Bytes}
 use Rattle.outside_semantics.specs.Outside.{Held}
 use Rattle.outside_semantics.specs.WrittenFiles.{File, with_files}
 
--- once files were written one after another, each is held with its text unless a later one has its name, and every other
--- name is held as before
+-- once files were written one after another, each file is held with its text unless a later file has its
+-- name, and every other name is held as before
 pub record WrittenFilesLaw : Type 0 where
   pub holds : (held : Held) (before after : List File) (file : File) → AllByRecursion (λ f. f.name ≢ file.name) after
       → get (with_files held (before ++ file ∷ after)) file.name ≡ Some file.text

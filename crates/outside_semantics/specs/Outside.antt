@@ -9,7 +9,7 @@ use Rattle.semantics.specs.Texts.{Bytes}
 abbrev pub Held : Type 0
 Held = FinMap (slice_cmp nat_cmp) Bytes
 
--- the bytes of a name, none where it is not held
+-- the bytes of a name; a name that is not held has no bytes
 abbrev pub bytes_of : Held → Bytes → Bytes
 bytes_of held name = unwrap_or (get held name) []
 
@@ -26,10 +26,11 @@ turn_bytes = 65536
 abbrev pub turn_budget : ℕ
 turn_budget = 2 ^ 40
 
--- Where `held` is `None` it is not told, and then `reading` and `writing` are not spoken of either. What is told always is the name that
--- is open for reading, the name of each read turn so far with the last first, and what is said of faults. A read turn is a read that
--- asked for at most 65,536 bytes and gave at least one. A calm meaning says that no fault can come, a steady name that it can be opened
--- calmly.
+-- Where `held` is `None`, the files do not tell what they hold, and then they do not tell `reading` and
+-- `writing` either. Files always tell the name that is open for reading, the name of each read turn so far
+-- with the last first, and what concerns faults. A read turn is a read that asked for at most 65,536 bytes
+-- and gave at least one. Files that are calm will have no fault; a steady name can be opened so that the
+-- files are calm.
 pub record FilesTold : Type 0 where
   pub held : Option Held
   pub reading : Option Place
@@ -50,11 +51,11 @@ pub record SinkTold : Type 0 where
 abbrev pub turns_on : FilesTold → Bytes → ℕ
 turns_on told name = count_by (bytes_eq name) told.turns
 
--- a read that asked for so many bytes and gave n is a read turn
+-- a read that asked for `asked` bytes and gave n is a read turn
 abbrev pub is_turn : ℕ → ℕ → Bool
 is_turn asked n = nat_le asked turn_bytes && nat_lt 0 n
 
--- the read turns once the open file was read so
+-- the read turns after one more read of the open file, which asked for `asked` bytes and gave n
 abbrev pub turns_after : Option Bytes → ℕ → ℕ → List Bytes → List Bytes
 turns_after None asked n turns = turns
 turns_after (Some name) asked n turns = if is_turn asked n then name ∷ turns else turns
@@ -71,7 +72,7 @@ Rose before now = min (before + 1) (2 ^ 64 - 1) ≤ now
 abbrev pub WhereTold : FilesTold → FilesTold → (Held → Held → Type 0) → Type 0
 WhereTold old new P = (a b : Held) → old.held ≡ Some a → new.held ≡ Some b → P a b
 
--- what every call keeps
+-- what every call on the files keeps
 pub record Goes (old new : FilesTold) : Type 0 where
   pub counts : old.faults ≤ new.faults
   pub turns : (name : Bytes) → turns_on old name ≤ turns_on new name
@@ -79,7 +80,7 @@ pub record Goes (old new : FilesTold) : Type 0 where
   pub steady_read : (name : Bytes) → IsTrue (old.steady_read name) → IsTrue (new.steady_read name)
   pub steady_write : (name : Bytes) → IsTrue (old.steady_write name) → IsTrue (new.steady_write name)
 
--- what `read` and `append` keep besides
+-- what `read` and `append` keep besides `Goes`
 pub record StaysCalm (old new : FilesTold) : Type 0 where
   pub read : IsTrue old.calm_read → IsTrue new.calm_read
   pub write : IsTrue old.calm_write → IsTrue new.calm_write
@@ -181,7 +182,7 @@ pub record WriteFailed (old new : FilesTold) (text : Bytes) : Type 0 where
   pub not_calm : old.calm_write ≡ false
   pub held : WhereTold old new (λ a b. (n : ℕ) × (n ≤ length text) × (b ≡ appended a old.writing (take n text)))
 
--- the same of a sink
+-- what every call on the sink keeps
 pub record SinkGoes (old new : SinkTold) : Type 0 where
   pub counts : old.faults ≤ new.faults
   pub untold : old.put_bytes ≡ None → new.put_bytes ≡ None

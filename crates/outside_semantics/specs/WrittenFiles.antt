@@ -23,7 +23,8 @@ pub record FilesWritten (old new : FilesTold) (files : List File) : Type 0 where
   pub goes : Goes old new
   pub held : WhereTold old new (λ a b. b ≡ with_files a files)
 
--- Where a file could not be created it is untouched; else it is empty or holds a first part of its text.
+-- A file that could not be created is untouched; one that was created is empty or holds a first part of its
+-- text.
 abbrev pub IsCutAt : Held → File → Held → Type 0
 IsCutAt before file now = (now ≡ before) ⊎ ((n : ℕ) × (n ≤ length file.text) × (now ≡ insert before file.name (take n file.text)))
 

@@ -6,7 +6,7 @@ pub fn counts()
     ensures { CountExamples }
 {}
 
-/// Read turns, and how many there were on a name.
+/// Read turns, and their number on a name.
 pub fn turns()
     ensures { TurnExamples }
 {}

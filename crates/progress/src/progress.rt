@@ -1,24 +1,28 @@
-//! Who is told how far a search is. No call answers, so nothing that is found out depends on who is told, or on what that one does with it.
+//! What a search tells of how far it is. No call returns anything, so no result depends on who is told, or on
+//! what is done with it.
 
-/// What is told of a search along the chain of simplifications, of a search for the greatest error, and of the solver.
+/// The calls by which a search along the chain of simplifications, a search for the greatest error, and the
+/// solver tell how far they are.
 pub trait Progress {
-    /// A member of the chain was reached, which has so many literals. The first one that is told is the tidied net.
+    /// A member of the chain was reached, which has `literals` literals. The first member that is told is the
+    /// tidied net.
     fn reached(&mut self, literals: u64);
 
-    /// Of the member's moves those of table `table` are tried now, of so many tables. The moves go by their tables.
+    /// The moves of the member's table `table`, one of `tables` tables, are tried now. The moves are ordered
+    /// by their tables.
     fn trying(&mut self, table: u32, tables: u32);
 
     /// A question goes to the solver.
     fn asked(&mut self);
 
-    /// The solver had so many conflicts since it was asked.
+    /// The solver has had `conflicts` conflicts since it was asked.
     fn conflicts(&mut self, conflicts: u64);
 
     /// The greatest error is at least `low` and at most `high`.
     fn narrowed(&mut self, low: u128, high: u128);
 }
 
-/// Nobody is told anything.
+/// Ignores what it is told.
 #[derive(Drop)]
 pub struct Silent;
 

@@ -1,4 +1,4 @@
--- What every formula in memory is.
+-- What holds of every formula in memory.
 use Rattle.std.specs.Prelude.{◌<◌, ◌^◌}
 use Rattle.proof_semantics.specs.Clauses.{AreClausesOf}
 use Rattle.proof_semantics.specs.Formula.{Formula}

@@ -39,7 +39,7 @@ impl Lits {
         }
     }
 
-    /// The empty clause, with room for so many literals.
+    /// The empty clause, with room for `room` literals.
     pub fn with_room(alloc: Global, room: usize) -> Result<Lits, AllocError>
         ensures { IfOk result (λ clause. clause ≡ []) }
     {

@@ -5,7 +5,7 @@ use crate::clause::Lits;
 use net_parts::items::Items;
 use std::marker::Model;
 
-/// Ids of clauses: hints of a step, or what a removal ends.
+/// Ids of clauses: the hints of a step, or the clauses whose holding a removal ends.
 pub type Ids = Items<u64>;
 
 /// An item of a log.
@@ -14,7 +14,7 @@ pub type Item = proof_semantics::item::Item<Step, Ids>;
 /// The items of a log, in their order.
 pub type Log = Items<Item>;
 
-/// A step: its id, the literals of its clause, and the ids of the clauses that it follows from.
+/// A step: its id, the literals of its clause, and the ids of the clauses from which it follows.
 #[derive(Drop)]
 pub struct Step {
     id: u64,
@@ -31,7 +31,7 @@ impl Model for Step {
 }
 
 impl Step {
-    /// The step of these parts. It takes no memory.
+    /// The step of these parts. The call takes no memory.
     pub fn new(id: u64, lits: Lits, hints: Ids) -> Step
         ensures { result ≡ record { id = id; literals = lits; hints = hints } }
     {

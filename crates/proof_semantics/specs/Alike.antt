@@ -4,8 +4,8 @@ use Rattle.std.specs.Prelude.{◌≡◌, ◌⊎◌, ℕ, zero, suc, ◌+◌, ◌
 use Rattle.std.specs.List.{AllZip}
 use Rattle.semantics.specs.Net.{TableValue, table_at}
 
--- both signals are tables, with the same plane, the same rows in order and equally many pins, and each pin of s stands in the relation to the
--- pin of u at its place
+-- both signals are tables, with the same plane, the same rows in order and equally many pins; each pin of s
+-- stands in the relation to the pin of u at the same place
 pub record HaveSameForm (n : ℕ) (tables : List TableValue) (relation : ℕ → ℕ → Type 0) (s u : ℕ) : Type 0 where
   pub s_table : (n ≤ s) × (s < n + length tables)
   pub u_table : (n ≤ u) × (u < n + length tables)
@@ -13,7 +13,7 @@ pub record HaveSameForm (n : ℕ) (tables : List TableValue) (relation : ℕ →
   pub rows : (table_at tables (s - n)).rows ≡ (table_at tables (u - n)).rows
   pub pins : AllZip relation (table_at tables (s - n)).pins (table_at tables (u - n)).pins
 
--- alike, as at most so many levels of tables show
+-- alike, as at most `levels` levels of tables show
 abbrev pub IsAlikeIn : ℕ → List TableValue → ℕ → ℕ → ℕ → Type 0
 IsAlikeIn n tables zero s u = s ≡ u
 IsAlikeIn n tables (suc levels) s u = (s ≡ u) ⊎ HaveSameForm n tables (IsAlikeIn n tables levels) s u
@@ -22,7 +22,7 @@ IsAlikeIn n tables (suc levels) s u = (s ≡ u) ⊎ HaveSameForm n tables (IsAli
 abbrev pub IsAlike : ℕ → List TableValue → ℕ → ℕ → Type 0
 IsAlike n tables s u = (levels : ℕ) × IsAlikeIn n tables levels s u
 
--- of the signals that s is alike to, u is the first, and stands before s; so both are tables
+-- u is the first of the signals that s is alike to, and stands before s; so both are tables
 pub record IsFirstAlike (n : ℕ) (tables : List TableValue) (s u : ℕ) : Type 0 where
   pub earlier : u < s
   pub alike : IsAlike n tables s u

@@ -9,7 +9,7 @@ use Rattle.semantics.specs.Value.{Assignment}
 abbrev pub Clause : Type 0
 Clause = List ℤ
 
--- the literal's variable is one of so many
+-- the literal's variable is one of the first `variables`
 pub record IsLiteralOf (variables : ℕ) (l : ℤ) : Type 0 where
   pub not_zero : 1 ≤ nat_abs l
   pub within : nat_abs l ≤ variables
@@ -41,7 +41,7 @@ IsUnsatisfiable clauses = (a : Assignment) → ¬ Satisfies a clauses
 abbrev pub has_literal : Clause → ℤ → Bool
 has_literal clause l = list_any (λ other. int_eq other l) clause
 
--- the literals behind the clause, without those that stand in it already
+-- the literals behind the clause, without those that the clause has already
 abbrev pub with_literals : Clause → List ℤ → Clause
 with_literals clause [] = clause
 with_literals clause (l ∷ literals) = with_literals (if has_literal clause l then clause else clause ++ l ∷ []) literals

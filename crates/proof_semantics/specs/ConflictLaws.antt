@@ -6,7 +6,8 @@ use Rattle.proof_semantics.specs.Formula.{Formula}
 use Rattle.proof_semantics.specs.Logs.{StepValue, LogItem, Derives, held_of, IsDerivation, Refutes}
 use Rattle.proof_semantics.specs.Conflicts.{IsPartOf, IsNew, clause_at, added_clauses, clauses_with, IsConflictChain, IsEnough}
 
--- the step has the next id, its literals are of the formula's variables, and its clause derives from all clauses so far
+-- the step has the next id, its literals are of the formula's variables, and its clause derives from all
+-- clauses before it
 pub record IsNextStep (f : Formula) (log : List LogItem) (s : StepValue) : Type 0 where
   pub id : s.id ≡ length f.clauses + length log + 1
   pub short : s.id < 2 ^ 63
@@ -18,7 +19,8 @@ pub record DerivationLaw : Type 0 where
   pub next : (f : Formula) (log : List LogItem) (s : StepValue) → IsDerivation f log → IsNextStep f log s → IsDerivation f (log ++ Add s ∷ [])
   pub refutes : (f : Formula) (log : List LogItem) (s : StepValue) → IsDerivation f log → IsNextStep f log s → s.literals ≡ [] → Refutes f.clauses (log ++ Add s ∷ [])
 
--- Chains begin with a derivation and go on by steps whose clause is new; no clause of a conflict contains an earlier one.
+-- A chain of conflicts begins with a derivation and goes on by steps whose clause is new; no clause of a
+-- conflict contains an earlier clause.
 pub record ConflictLaw : Type 0 where
   pub none : (f : Formula) (log : List LogItem) → IsDerivation f log → IsConflictChain f (length log) 0 log
   pub next : (f : Formula) (merged conflicts : ℕ) (log : List LogItem) (s : StepValue) → IsConflictChain f merged conflicts log → IsNextStep f log s
@@ -26,6 +28,6 @@ pub record ConflictLaw : Type 0 where
   pub differ : (f : Formula) (merged conflicts : ℕ) (log : List LogItem) → IsConflictChain f merged conflicts log → (j k : ℕ) → j < k → merged ≤ k → k < merged + conflicts
       → ¬ IsPartOf (clause_at (added_clauses log) j) (clause_at (added_clauses log) k)
 
--- a higher limit and fewer inputs stay enough
+-- conflicts that are enough stay enough with a higher limit and with fewer inputs
 abbrev pub EnoughLaw : Type 0
 EnoughLaw = (limit more inputs fewer : ℕ) → limit ≤ more → fewer ≤ inputs → IsEnough limit inputs → IsEnough more fewer

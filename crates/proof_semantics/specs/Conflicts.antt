@@ -1,6 +1,7 @@
--- Chains of conflicts: logs in which each clause says something that the clauses before it do not say already, and when so many
--- conflicts are enough. Source: clause learning by first unique implication points after complete propagation, whose clauses are
--- such; nothing here speaks of decisions, levels or watches.
+-- Chains of conflicts, that is logs in which each clause says something that the clauses before it do not say
+-- already; and which number of conflicts is enough for the inputs of a net. Source: clause learning by first
+-- unique implication points after complete propagation, whose clauses are such; nothing here speaks of
+-- decisions, levels or watches.
 use Rattle.std.specs.Prelude.{◌≡◌, ◌⊎◌, ℕ, ◌+◌, ◌^◌, ◌<◌, ◌≤◌, List, [], ◌∷◌, ◌++◌, take, length, slice_index_or, ℤ, neg_ℤ, All}
 use Rattle.std.specs.List.{Contains}
 use Rattle.semantics.specs.declared.limits.TheConstants.{FEW_INPUTS, TRIED_INPUTS}
@@ -32,13 +33,14 @@ added_clauses (Remove ids ∷ log) = added_clauses log
 abbrev pub clauses_with : List Clause → List LogItem → List Clause
 clauses_with formula log = formula ++ added_clauses log
 
--- After so many merged steps the log has so many conflicts: it is a derivation, and each clause behind the merged ones is new
--- beyond the formula and all that was added before.
+-- Behind its first `merged` steps the log has `conflicts` conflicts: it is a derivation, and each clause
+-- behind the merged ones is new beyond the formula and all clauses that were added before.
 pub record IsConflictChain (f : Formula) (merged conflicts : ℕ) (log : List LogItem) : Type 0 where
   pub derivation : IsDerivation f log
   pub count : length log ≡ merged + conflicts
   pub new : (k : ℕ) → merged ≤ k → k < merged + conflicts → IsNew (f.clauses ++ take k (added_clauses log)) (clause_at (added_clauses log) k)
 
--- so many conflicts are enough for so many inputs: the inputs are few, or each input vector can be answered for twice
+-- `limit` conflicts are enough for `inputs` inputs: the inputs are few, or there are two conflicts for each
+-- input vector
 abbrev pub IsEnough : ℕ → ℕ → Type 0
 IsEnough limit inputs = (inputs ≤ FEW_INPUTS) ⊎ ((inputs ≤ TRIED_INPUTS) × (2 ^ (inputs + 1) ≤ limit))

@@ -42,8 +42,8 @@ pub record ClauseCountLaw : Type 0 where
 abbrev pub AllHeldTrue : Assignment → Held → Type 0
 AllHeldTrue a held = (id : ℕ) (clause : Clause) → get held id ≡ Some clause → clause_value a clause ≡ true
 
--- What a step derives is true wherever the held clauses are, so a refuted formula has no satisfying assignment, and where a
--- signal's goal is refuted no input vector makes the signal true.
+-- What a step derives is true wherever the held clauses are true. So a refuted formula has no satisfying
+-- assignment; and where a signal's goal is refuted, no input vector makes the signal true.
 pub record RefutationLaw : Type 0 where
   pub accepted : (held : Held) (last : ℕ) (s : StepValue) → (step_answer held last s ≡ Ok tt) ↔ ((last < s.id) × Derives held s)
   pub step : (a : Assignment) (held : Held) (s : StepValue) → AllHeldTrue a held → Derives held s → clause_value a s.literals ≡ true
@@ -53,9 +53,10 @@ pub record RefutationLaw : Type 0 where
   pub goal : (n : ℕ) (tables : List TableValue) (signal : ℕ) (log : List LogItem) → IsAcyclic n tables → signal < n + length tables
       → Refutes (goal_clauses n tables signal) log → (x : List Bool) → length x ≡ n → value_of n tables x signal ≡ false
 
--- For two nets that can be compared, with every metric and level: at each input vector the joint net's clauses can be satisfied, and then each
--- signal of the two nets has its value, and the output says whether the error exceeds the level. So the miter can be satisfied exactly where
--- some input's error exceeds the level, and a refuted miter shows that none does.
+-- For two nets that can be compared, with every metric and level: at each input vector the joint net's
+-- clauses can be satisfied; an assignment that satisfies them gives each signal of the two nets its value,
+-- and gives the output the answer to whether the error exceeds the level. So the miter can be satisfied
+-- exactly where some input's error exceeds the level, and a refuted miter shows that no input's error does.
 pub record MiterLaw : Type 0 where
   pub some : (N M : NetValue) (metric : Metric) (k : ℕ) → AreComparable N M → (x : List Bool) → (a : Assignment) × IsJointModelAt N M metric k x a
   pub exact : (N M : NetValue) (metric : Metric) (k : ℕ) → AreComparable N M → (x : List Bool) (a : Assignment) → IsJointModelAt N M metric k x a

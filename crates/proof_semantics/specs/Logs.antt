@@ -52,7 +52,8 @@ EndsInConflict held set (hint ∷ next ∷ hints) =
 abbrev pub Derives : Held → StepValue → Type 0
 Derives held s = EndsInConflict (get held) (with_negations literals.empty s.literals) s.hints
 
--- What a hint with these open literals gives: nothing at the last hint, where a conflict ends the step; before it a literal.
+-- What a hint gives, by its open literals: the last hint gives the conflict, and ends the step; a hint before
+-- the last gives a literal.
 abbrev pub hint_answer : ℕ → Bool → List ℤ → Result (Option ℤ) StepRefusal
 hint_answer hint true [] = Ok None
 hint_answer hint true (l ∷ rest) = Err NoConflict
@@ -118,7 +119,7 @@ pub record Refutes (formula : List Clause) (log : List LogItem) : Type 0 where
   pub sound : IsSoundLog formula log
   pub ends : last_added log ≡ Some []
 
--- additions alone, with the ids after `last`, of literals of so many variables
+-- additions alone, with the ids after `last` in turn, each of literals of the first `variables` variables
 abbrev pub AddsInTurn : ℕ → ℕ → List LogItem → Type 0
 AddsInTurn variables last [] = Unit {0}
 AddsInTurn variables last (Add s ∷ log) = (s.id ≡ last + 1) × All (IsLiteralOf variables) s.literals × AddsInTurn variables s.id log

@@ -28,7 +28,7 @@ pub record LratReadingExamples : Type 0 where
   pub id_alone : lrat_items (codes "4") ≡ Err Cut
   pub large_literal : lrat_items (codes "7 2147483648 0 5 0") ≡ Err (BadNumber 2)
   pub large_number : lrat_items (codes "1 0 9223372036854775808 0") ≡ Err (BadNumber 4)
-  -- a negative hint is told only where its size is allowed
+  -- a negative hint is refused only where its size is allowed
   pub large_negative : lrat_items (codes "1 0 -9223372036854775808 0") ≡ Err (BadNumber 4)
   pub negative_id : lrat_items (codes "4 d -1 0") ≡ Err (BadNumber 4)
   pub negative_lead : lrat_items (codes "-4 d 1 0") ≡ Err (BadNumber 0)

@@ -13,7 +13,8 @@ use Rattle.proof_semantics.specs.LratTokens.{is_log_byte}
 use Rattle.proof_semantics.specs.LratReading.{whole_items, lrat_refusal, with_end, lrat_items}
 use Rattle.proof_semantics.specs.LratGrammar.{SpelledItem, item_words, spelled_item, AreSpelled, text_words}
 
--- how a text spells items: no bad byte stands in it, and the words of its tokens are theirs, one item behind another
+-- how a text spells items: no bad byte stands in the text, and the words of its tokens are the words of the
+-- items, one item behind another
 pub record Spells (text : Bytes) (items : List SpelledItem) : Type 0 where
   pub good : list_all is_log_byte text ≡ true
   pub formed : AreSpelled items
@@ -24,8 +25,9 @@ pub record GrammarLaw : Type 0 where
   pub accepted : (text : Bytes) (items : List SpelledItem) → Spells text items → lrat_items text ≡ Ok (map spelled_item items)
   pub only : (text : Bytes) (log : List LogItem) → lrat_items text ≡ Ok log → (items : List SpelledItem) × Spells text items × (log ≡ map spelled_item items)
 
--- However a text goes on, what is whole in it stays whole and in its place, and a refusal stays. So a text that is read to its end was nowhere
--- refused before, and each part that it begins with has the first of its items.
+-- However a text goes on, what is whole in it stays whole and in its place, and a refusal stays. So where a
+-- longer text is read to its end, no part with which it begins is refused, and each such part has the first
+-- of its items.
 pub record GrowthLaw : Type 0 where
   pub items : (text more : Bytes) → (later : List LogItem) × (whole_items (text ++ more) ≡ whole_items text ++ later)
   pub refused : (text more : Bytes) (refusal : LratRefusal) → lrat_refusal text ≡ Some refusal
@@ -41,7 +43,7 @@ IsWithinText (Negative id) = Unit {0}
 IsWithinText Cut = ⊥
 IsWithinText OutOfMemory = ⊥
 
--- `Cut` is told at the end alone, and want of memory by no definition
+-- `Cut` is told at the end alone, and `OutOfMemory` by no definition
 pub record LratRefusalLaw : Type 0 where
   pub within : (text : Bytes) (refusal : LratRefusal) → lrat_refusal text ≡ Some refusal → IsWithinText refusal
   pub at_end : (text : Bytes) (refusal : LratRefusal) → lrat_items text ≡ Err refusal → (refusal ≡ Cut) ⊎ IsWithinText refusal
@@ -58,6 +60,6 @@ IsWritable (Remove ids) = All IsId ids
 abbrev pub RoundTripLaw : Type 0
 RoundTripLaw = (log : List LogItem) → All IsWritable log → lrat_items (lrat_text log) ≡ Ok log
 
--- so is the text of a derivation over fewer than 2 ^ 31 variables
+-- the text of a derivation over fewer than 2 ^ 31 variables is read as that derivation
 abbrev pub DerivationTextLaw : Type 0
 DerivationTextLaw = (f : Formula) (log : List LogItem) → f.variables < 2 ^ 31 → IsDerivation f log → lrat_items (lrat_text log) ≡ Ok log

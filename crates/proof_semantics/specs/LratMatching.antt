@@ -10,8 +10,8 @@ use Rattle.proof_semantics.specs.Clauses.{Clause}
 use Rattle.proof_semantics.specs.Logs.{LogItem}
 use Rattle.proof_semantics.specs.LratTokens.{Token, token_word}
 
--- where a text stands between two tokens: outside of items, behind the number that begins an item, in the literals or the hints of an addition, in
--- the ids of a deletion, or behind a place where it was refused
+-- where a text stands between two tokens: outside of items, behind the number that begins an item, in the
+-- literals or the hints of an addition, in the ids of a deletion, or behind a refusal
 pub data Stage : Type 0 where
   Outside : Stage
   Begun : (id : ℕ) → Stage
@@ -39,7 +39,7 @@ after_literals id literals (Number negative size) place =
     else (if nat_lt size (2 ^ 31) then Literals id (literals ++ signed negative size ∷ []) else bad_number place)
 after_literals id literals _ place = bad_number place
 
--- behind 0 only the letter has a place, since the id of an addition is positive
+-- behind 0 only the letter d has a place, since the id of an addition is positive
 abbrev pub after_begun : ℕ → LratWord → ℕ → Stage
 after_begun id Letter place = Deletion []
 after_begun id word place = if id == 0 then bad_number place else after_literals id [] word place
@@ -56,7 +56,7 @@ after_deletion ids (Number negative size) place =
     else (if negative then bad_number place else Deletion (ids ++ size ∷ []))
 after_deletion ids _ place = bad_number place
 
--- behind one more token, which is at this place
+-- the stage behind one more token, which stands at this place
 abbrev pub stage_after : Stage → LratWord → ℕ → Stage
 stage_after Outside word place = after_outside word place
 stage_after (Begun id) word place = after_begun id word place
@@ -75,7 +75,7 @@ item_given (Hints id literals hints) word = if is_zero word then Add (record { i
 item_given (Deletion ids) word = if is_zero word then Remove ids ∷ [] else []
 item_given _ word = []
 
--- tokens one after another
+-- the stage behind tokens, one after another
 abbrev pub stage_after_all : Stage → List Token → Stage
 stage_after_all stage [] = stage
 stage_after_all stage (t ∷ tokens) = stage_after_all (stage_after stage (token_word t.bytes) t.place) tokens

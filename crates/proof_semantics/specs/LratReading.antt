@@ -21,11 +21,12 @@ abbrev pub is_refused : Stage → Bool
 is_refused (Refused refusal) = true
 is_refused _ = false
 
--- A token is decided where it ends, and a bad byte at its own place: a token before it may be refused first, but not the one that it stands in.
+-- A token is decided where it ends, and a bad byte at its own place: a token before a bad byte may be refused
+-- first, but not the token in which the bad byte stands.
 abbrev pub stage_with_byte : Stage → ℕ → ℕ → Stage
 stage_with_byte stage bad size = if is_refused stage then stage else (if nat_lt bad size then Refused (BadByte bad) else stage)
 
--- where the text has come to
+-- the stage at the end of the text
 unfoldable pub stage_of : Bytes → Stage
 stage_of text = stage_with_byte (stage_after_all Outside (ended_tokens (good_part text))) (length (good_part text)) (length text)
 
@@ -37,7 +38,7 @@ refusal_at _ = None
 abbrev pub lrat_refusal : Bytes → Option LratRefusal
 lrat_refusal text = refusal_at (stage_of text)
 
--- the last token of a text ends with it, as before a line end
+-- the text with a line end behind it, which ends its last token
 abbrev pub with_end : Bytes → Bytes
 with_end text = text ++ 10 ∷ []
 

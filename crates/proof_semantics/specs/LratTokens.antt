@@ -24,8 +24,8 @@ abbrev pub token_at : ℕ → Bytes → List Token
 token_at place [] = []
 token_at place (c ∷ cs) = record { place = place; bytes = c ∷ cs } ∷ []
 
--- the tokens of parts that a blank ends, the first part being at this place; behind the last part there is no blank, so what stands there has
--- not ended
+-- The tokens of parts each of which a blank ends; the first part stands at this place. Behind the last part
+-- there is no blank, so what stands there has not ended.
 abbrev pub ended : ℕ → List Bytes → List Token
 ended place [] = []
 ended place (part ∷ []) = []

@@ -17,13 +17,13 @@ pub record AreMadeEqual (clauses : List Clause) (s u : ℕ) : Type 0 where
   pub forth : Contains clauses (literal_at s false ∷ literal_at u true ∷ [])
   pub back : Contains clauses (literal_at s true ∷ literal_at u false ∷ [])
 
--- The log derives, from the clauses and the goal of the net, clauses of two variables, among them those that make each table that is alike to
--- an earlier one equal to the first of these.
+-- The log derives clauses of two variables from the clauses and the goal of the net. Among them are clauses
+-- that make each table that is alike to an earlier table equal to the first table that it is alike to.
 pub record IsMergeLog (N : NetValue) (log : List LogItem) : Type 0 where
   pub derivation : IsDerivation (goal_of N) log
   pub pairs : All IsPair (added_clauses log)
   pub merged : (s u : ℕ) → IsFirstAlike (input_count N) N.tables s u → AreMadeEqual (added_clauses log) s u
 
--- so many first items of the log are such a log
+-- the first `merged` items of the log are a merge log, for some number `merged`
 abbrev pub BeginsWithMerges : NetValue → List LogItem → Type 0
 BeginsWithMerges N log = (merged : ℕ) × IsMergeLog N (take merged log)

@@ -28,7 +28,8 @@ literals_of_row (m ∷ marks) (pin ∷ pins) = mark_literals m pin ++ literals_o
 abbrev pub implication : ℕ → ℤ → Clause
 implication place l = literal_at place false ∷ l ∷ []
 
--- the row at this place is the conjunction of the literals; of all clauses only its last can have a literal twice, where a pin stands twice
+-- The row at this place is the conjunction of the literals. Of all clauses only the last one of a row can
+-- have a literal twice, where a pin stands twice.
 abbrev pub row_clauses : ℕ → List ℤ → List Clause
 row_clauses place literals = map (implication place) literals ++ with_literals (literal_at place true ∷ []) (map neg_ℤ literals) ∷ []
 
@@ -37,12 +38,12 @@ abbrev pub rows_clauses : ℕ → List ℕ → List (List Mark) → List Clause
 rows_clauses first pins [] = []
 rows_clauses first pins (marks ∷ rows) = row_clauses first (literals_of_row marks pins) ++ rows_clauses (suc first) pins rows
 
--- each of so many rows implies the literal
+-- each of `count` rows, from the place `first` on, implies the literal
 abbrev pub implications : ℕ → ℕ → ℤ → List Clause
 implications first zero l = []
 implications first (suc count) l = implication first l ∷ implications (suc first) count l
 
--- the variables of so many rows
+-- the variables of `count` rows, from the place `first` on
 abbrev pub variables_from : ℕ → ℕ → List ℤ
 variables_from first zero = []
 variables_from first (suc count) = literal_at first true ∷ variables_from (suc first) count
@@ -62,6 +63,6 @@ tables_clauses place first (t ∷ tables) = table_clauses place first t ++ table
 unfoldable pub net_clauses : ℕ → List TableValue → List Clause
 net_clauses n tables = tables_clauses n (n + length tables) tables
 
--- and that this signal is true
+-- the clauses of the tables, and that this signal is true
 unfoldable pub goal_clauses : ℕ → List TableValue → ℕ → List Clause
 goal_clauses n tables signal = net_clauses n tables ++ (literal_at signal true ∷ []) ∷ []

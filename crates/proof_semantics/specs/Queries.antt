@@ -1,5 +1,6 @@
--- Queries whether some input's error exceeds a level, and what their three answers must be. Source: SALSA's queries on the quality
--- function circuit, here answered by a witness, by a refutation, or by the conflicts that were spent.
+-- Queries whether some input's error exceeds a level, and what holds of their three answers. Source: SALSA's
+-- queries on the quality function circuit, here answered by a witness, by a refutation, or by the conflicts
+-- that were spent.
 use Rattle.std.specs.Prelude.{◌≡◌, ℕ, ◌<◌, ◌≤◌, Bool, List, take, length}
 use Rattle.semantics.specs.Net.{NetValue, input_count}
 use Rattle.semantics.specs.declared.metric.Metric.{Metric}
@@ -18,30 +19,31 @@ pub record IsOver (metric : Metric) (exact approx : NetValue) (k : ℕ) (x : Lis
   pub exceeds : k < net_error metric exact approx x
   pub first : input_count exact ≤ FEW_INPUTS → (y : List Bool) → length y ≡ input_count exact → number_of y < number_of x → net_error metric exact approx y ≤ k
 
--- The log refutes the miter, so no input's error exceeds the level. Where the inputs are too many to be answered by all cases it begins with the
--- merges of the joint net.
+-- The log refutes the miter, so no input's error exceeds the level. Where the inputs are too many to be
+-- answered by all cases, the log begins with the merges of the joint net.
 pub record IsNever (metric : Metric) (exact approx : NetValue) (k : ℕ) (log : List LogItem) : Type 0 where
   pub refutes : Refutes (miter exact approx metric k).clauses log
   pub derivation : IsDerivation (miter exact approx metric k) log
   pub within : IsWithin metric exact k approx
   pub merged : TRIED_INPUTS < input_count exact → BeginsWithMerges (joint_net exact approx metric k) log
 
--- a query that ended without an answer: the approximate net, the level, how many steps were merged, and the log
+-- a query that ended without an answer: the approximate net, the level, the number of merged steps, and the
+-- log
 pub record SpentValue : Type 0 where
   pub net : NetValue
   pub k : ℕ
   pub merged : ℕ
   pub log : List LogItem
 
--- The limit is not enough for the inputs, and the log has spent it: it begins with the merges of the joint net, and behind these come exactly so
--- many conflicts over the miter.
+-- The limit is not enough for the inputs, and the log has spent it: the log begins with the merges of the
+-- joint net, and behind these come exactly `limit` conflicts over the miter.
 pub record IsSpentQuery (metric : Metric) (exact : NetValue) (limit : ℕ) (s : SpentValue) : Type 0 where
   pub not_enough : ¬ IsEnough limit (input_count exact)
   pub merged : IsMergeLog (joint_net exact s.net metric s.k) (take s.merged s.log)
   pub chain : IsConflictChain (miter exact s.net metric s.k) s.merged limit s.log
 
--- The greatest error over all inputs, an input that has it, and a log that refutes the miter at it; with few inputs the input is the first in
--- counting order.
+-- The greatest error over all inputs, an input that has this error, and a log that refutes the miter at this
+-- error; with few inputs the input is the first such input in counting order.
 pub record IsMaximum (metric : Metric) (exact approx : NetValue) (most : ℕ) (witness : List Bool) (log : List LogItem) : Type 0 where
   pub width : length witness ≡ input_count exact
   pub attained : net_error metric exact approx witness ≡ most

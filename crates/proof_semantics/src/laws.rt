@@ -6,7 +6,7 @@ pub fn net_clauses()
     ensures { NetClauseLaw }
 {}
 
-/// Where the goal can be satisfied.
+/// The goal of a net can be satisfied exactly where an input vector makes its signal true.
 pub fn goals()
     ensures { GoalLaw }
 {}

@@ -11,7 +11,7 @@ pub fn growth()
     ensures { GrowthLaw }
 {}
 
-/// Which refusals come where.
+/// Which refusals are told within a text, and which at its end alone.
 pub fn refusals()
     ensures { LratRefusalLaw }
 {}

@@ -10,7 +10,8 @@ use net_parts::items::Signal;
 use semantics::limits::MOST_OUTPUTS;
 use std::alloc::{AllocError, Global};
 
-/// Appends what says whether two signed words of so many bits, the inputs of the network, are more than `k` apart.
+/// Appends a signal that says whether the two signed words of `width` bits that are the inputs of the network
+/// are more than `k` apart.
 fn excess(net: &mut WordNet, width: u32, k: u128) -> Result<Signal, AllocError>
     requires start { net.old ≡ started (width + width) }
     requires some { 0 < width }
@@ -26,7 +27,8 @@ fn excess(net: &mut WordNet, width: u32, k: u128) -> Result<Signal, AllocError>
     net.exceed(&flipped_exact, &flipped_approximate, &bound)
 }
 
-/// The output of the network: the constant 0 where no two signed words of so many bits are more than `k` apart.
+/// The output of the network: the constant 0 where no two signed words of `width` bits are more than `k`
+/// apart.
 fn output(net: &mut WordNet, width: u32, k: u128) -> Result<Signal, AllocError>
     requires start { net.old ≡ started (width + width) }
     requires narrow { width ≤ MOST_OUTPUTS }
@@ -41,7 +43,7 @@ fn output(net: &mut WordNet, width: u32, k: u128) -> Result<Signal, AllocError>
     }
 }
 
-/// The net whose output says whether the absolute error of two signed words of so many bits exceeds `k`.
+/// The net whose output says whether the absolute error of two signed words of `width` bits exceeds `k`.
 pub fn quality_signed(alloc: Global, width: u32, k: u128) -> Result<Net, AllocError>
     requires { width ≤ MOST_OUTPUTS }
     ensures net { IfOk result (λ n. n ≡ quality_net Sabs width k) }

@@ -12,7 +12,8 @@ use net_parts::items::Signal;
 use semantics::limits::MOST_OUTPUTS;
 use std::alloc::{AllocError, Global};
 
-/// Appends what says whether two words of so many bits, the inputs of the network, differ in more than `k` of them.
+/// Appends a signal that says whether the two words of `width` bits that are the inputs of the network differ
+/// in more than `k` bits.
 fn excess(net: &mut WordNet, width: u32, k: u32) -> Result<Signal, AllocError>
     requires start { net.old ≡ started (width + width) }
     requires low { k < width }
@@ -26,7 +27,7 @@ fn excess(net: &mut WordNet, width: u32, k: u32) -> Result<Signal, AllocError>
     net.at_least(&differences, k + 1)
 }
 
-/// The output of the network: the constant 0 where no two words of so many bits differ in more than `k` of them.
+/// The output of the network: the constant 0 where no two words of `width` bits differ in more than `k` bits.
 fn output(net: &mut WordNet, width: u32, k: u128) -> Result<Signal, AllocError>
     requires start { net.old ≡ started (width + width) }
     requires narrow { width ≤ MOST_OUTPUTS }
@@ -41,7 +42,7 @@ fn output(net: &mut WordNet, width: u32, k: u128) -> Result<Signal, AllocError>
     }
 }
 
-/// The net whose output says whether two words of so many bits differ in more than `k` of them.
+/// The net whose output says whether two words of `width` bits differ in more than `k` bits.
 pub fn quality(alloc: Global, width: u32, k: u128) -> Result<Net, AllocError>
     requires { width ≤ MOST_OUTPUTS }
     ensures net { IfOk result (λ n. n ≡ quality_net Ham width k) }

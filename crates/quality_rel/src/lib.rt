@@ -12,11 +12,12 @@ use net_parts::items::Signal;
 use semantics::limits::MOST_OUTPUTS;
 use std::alloc::{AllocError, Global};
 
-/// The parts of the unit.
+/// The number of parts into which the unit is divided: a level counts millionths.
 const MILLION: u128 = 1_000_000;
 
-/// Appends what says whether the relative error of two words of so many bits, the inputs of the network, exceeds `k`: a million times their
-/// distance is more than `k` times the exact word, which counts as 1 where it is 0.
+/// Appends a signal that says whether the relative error of the two words of `width` bits that are the inputs
+/// of the network exceeds `k`: whether a million times their distance exceeds `k` times the exact word, which
+/// counts as 1 where it is 0.
 fn excess(net: &mut WordNet, width: u32, k: u128) -> Result<Signal, AllocError>
     requires start { net.old ≡ started (width + width) }
     requires some { 0 < width }
@@ -33,7 +34,7 @@ fn excess(net: &mut WordNet, width: u32, k: u128) -> Result<Signal, AllocError>
     net.exceed(&scaled_exact, &scaled_approximate, &level)
 }
 
-/// The output of the network: the constant 0 where no relative error of words of so many bits exceeds `k`.
+/// The output of the network: the constant 0 where no relative error of words of `width` bits exceeds `k`.
 fn output(net: &mut WordNet, width: u32, k: u128) -> Result<Signal, AllocError>
     requires start { net.old ≡ started (width + width) }
     requires narrow { width ≤ MOST_OUTPUTS }
@@ -48,7 +49,7 @@ fn output(net: &mut WordNet, width: u32, k: u128) -> Result<Signal, AllocError>
     }
 }
 
-/// The net whose output says whether the relative error of two words of so many bits exceeds `k`.
+/// The net whose output says whether the relative error of two words of `width` bits exceeds `k`.
 pub fn quality(alloc: Global, width: u32, k: u128) -> Result<Net, AllocError>
     requires { width ≤ MOST_OUTPUTS }
     ensures net { IfOk result (λ n. n ≡ quality_net Rel width k) }

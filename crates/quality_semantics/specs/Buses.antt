@@ -13,7 +13,7 @@ pub record WithSignal : Type 0 where
   pub net : WordNetValue
   pub signal : ℕ
 
--- the two bits of each place; past its width a bus has the signal z
+-- the two bits of each place of two buses; past its width a bus has the signal z
 abbrev pub places : ℕ → List ℕ → List ℕ → List (ℕ × ℕ)
 places z [] ys = map (λ y. (z, y)) ys
 places z (x ∷ xs) [] = (x, z) ∷ places z xs []
@@ -31,12 +31,12 @@ adders W c (p ∷ ps) =
 abbrev pub add : WordNetValue → List ℕ → List ℕ → WithBus
 add W x y = adders W W.inputs (places W.inputs x y)
 
--- a row of comparators, where g says of the places below that the first number is greater there
+-- a row of comparators; g says whether the first number is greater on the places below the row
 abbrev pub comparators : WordNetValue → ℕ → List (ℕ × ℕ) → WithSignal
 comparators W g [] = record { net = W; signal = g }
 comparators W g (p ∷ ps) = comparators (appended W (gt p.0 p.1 g)) (signals W) ps
 
--- whether the first is greater
+-- whether the number of the first bus is greater
 abbrev pub greater : WordNetValue → List ℕ → List ℕ → WithSignal
 greater W x y = comparators W W.inputs (places W.inputs x y)
 
@@ -49,7 +49,7 @@ exceed W x y z =
     let q = greater t.net y t.bus in
     record { net = appended q.net (or2 p.signal q.signal); signal = signals q.net }
 
--- the bits of k up to its highest 1, bit 0 first, where they are at most so many
+-- the bits of k up to its highest 1, bit 0 first, and no more than the first `most` of them
 abbrev pub bits_within : ℕ → ℕ → List Bool
 bits_within zero k = []
 bits_within (suc most) k = elim (k == 0) [ true ↦ [] | false ↦ (k % 2 == 1) ∷ bits_within most (k / 2) ]
@@ -62,12 +62,12 @@ binary k = bits_within k k
 abbrev pub constant : WordNetValue → ℕ → List ℕ
 constant W k = map (λ b. cond b (suc W.inputs) W.inputs) (binary k)
 
--- the double of a bus, and x more where the bit is 1
+-- the double of a bus, plus x where the bit is 1
 abbrev pub doubled_and : Bool → WithBus → List ℕ → WithBus
 doubled_and false half x = record { net = half.net; bus = half.net.inputs ∷ half.bus }
 doubled_and true half x = add half.net (half.net.inputs ∷ half.bus) x
 
--- from the highest bit down
+-- a number times the bits of a constant, by `doubled_and` from the highest bit down
 abbrev pub times_bits : WordNetValue → List ℕ → List Bool → WithBus
 times_bits W x [] = record { net = W; bus = [] }
 times_bits W x (b ∷ []) = record { net = W; bus = cond b x [] }
@@ -77,7 +77,7 @@ times_bits W x (b ∷ (d ∷ bits)) = doubled_and b (times_bits W x (d ∷ bits)
 abbrev pub times : WordNetValue → List ℕ → ℕ → WithBus
 times W x k = times_bits W x (binary k)
 
--- the number, or 1 where it is 0
+-- the number of the bus, or 1 where that number is 0
 abbrev pub not_zero_low : WordNetValue → List ℕ → WithBus
 not_zero_low W [] = record { net = W; bus = [] }
 not_zero_low W (x ∷ xs) = record { net = appended W (low x xs); bus = signals W ∷ xs }
@@ -88,25 +88,26 @@ flip_top W x =
     let top = length x - 1 in
     record { net = appended W (inv (slice_index_or x top W.inputs)); bus = slice_set x top (signals W) }
 
--- a row of exclusive disjunctions
+-- a row of exclusive disjunctions, one for each place
 abbrev pub differences : WordNetValue → List (ℕ × ℕ) → WithBus
 differences W [] = record { net = W; bus = [] }
 differences W (p ∷ ps) =
     let rest = differences (appended W (xor2 p.0 p.1)) ps in
     record { net = rest.net; bus = signals W ∷ rest.bus }
 
--- bit by bit, whether they differ
+-- for each place, whether the bits of the two buses differ there
 abbrev pub differ : WordNetValue → List ℕ → List ℕ → WithBus
 differ W x y = differences W (places W.inputs x y)
 
--- a row of a counter: place j of a row says whether at least j of the bits so far were 1. Here d is one more bit, and q the place before.
+-- A row of a counter: place j of a row says whether at least j of the bits so far were 1. Here d is the next
+-- bit, and q the signal of the place before, in the row before.
 abbrev pub growers : WordNetValue → ℕ → ℕ → List ℕ → WithBus
 growers W d q [] = record { net = W; bus = [] }
 growers W d q (p ∷ ps) =
     let rest = growers (appended W (grow p d q)) d p ps in
     record { net = rest.net; bus = signals W ∷ rest.bus }
 
--- one row for each bit; place 0 is the signal of 1 in every row, and stands in none
+-- One row for each bit. Place 0 of every row is the signal of 1, and no row's bus holds it.
 abbrev pub count_rows : WordNetValue → List ℕ → List ℕ → WithBus
 count_rows W row [] = record { net = W; bus = row }
 count_rows W row (d ∷ ds) =

@@ -1,4 +1,5 @@
--- Worked examples, computed from the definitions. Their counts and outputs are those of a program that was written apart from them.
+-- Worked examples, computed from the definitions. The counts and outputs that they state are those of a
+-- program that was written apart from the definitions.
 use Rattle.std.specs.Prelude.{◌≡◌, ℕ, ◌+◌, List, [], ◌∷◌, map, length, take, drop, codes}
 use Rattle.std.specs.List.{range_with_len}
 use Rattle.semantics.specs.declared.mark.Mark.TheVariants.{Zero, One, Dash}
@@ -43,7 +44,7 @@ pub record AbsoluteExamples : Type 0 where
       ≡ text (codes ".model word" ∷ codes ".inputs x0 x1" ∷ codes ".outputs t0" ∷ codes ".names t0" ∷ codes ".names t1" ∷ codes "1" ∷ codes ".end" ∷ [])
 
 pub record OtherExamples : Type 0 where
-  -- whether the bits 0 and 1 differ, and whether that was so at least once
+  -- whether the bits 0 and 1 differ, and whether at least one bit differed
   pub differing_bit : (quality Ham 1 0).net.tables ≡ numbered 0 (zero_form ∷ one_form ∷ xor2 0 1 ∷ grow 2 4 3 ∷ [])
   pub differing_output : (quality_net Ham 1 0).outputs ≡ 5 ∷ []
   pub differing_text :

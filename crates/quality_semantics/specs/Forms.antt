@@ -43,7 +43,8 @@ maj x y c = form (x ∷ y ∷ c ∷ []) ((One ∷ One ∷ Dash ∷ []) ∷ (One 
 abbrev pub gt : ℕ → ℕ → ℕ → Form
 gt x y g = form (x ∷ y ∷ g ∷ []) ((One ∷ Zero ∷ Dash ∷ []) ∷ (One ∷ Dash ∷ One ∷ []) ∷ (Dash ∷ Zero ∷ One ∷ []) ∷ [])
 
--- a counter's bit: p already, or d is one more than q
+-- a counter's bit: the count was reached already (p), or the next bit d is 1 and the count before was reached
+-- (q)
 abbrev pub grow : ℕ → ℕ → ℕ → Form
 grow p d q = form (p ∷ d ∷ q ∷ []) ((One ∷ Dash ∷ Dash ∷ []) ∷ (Dash ∷ One ∷ One ∷ []) ∷ [])
 

@@ -23,7 +23,7 @@ copied letter f tables = copied_from 0 letter f tables
 abbrev pub moved : (ℕ → ℕ) → ℕ → ℕ → ℕ → ℕ
 moved input n first s = if nat_lt s n then input s else first + (s - n)
 
--- the exact net's signals stay, and those of the approximate net's tables come behind them
+-- the exact net's signals stay, and the signals of the approximate net's tables stand behind them
 abbrev pub approximate_signal : NetValue → ℕ → ℕ
 approximate_signal exact s = moved (λ i. i) (input_count exact) (input_count exact + table_count exact) s
 
@@ -52,7 +52,7 @@ joint_net exact approx metric k =
       outputs = quality_signal exact approx q.signal ∷ [];
     }
 
--- sound nets with as many inputs and as many outputs
+-- sound nets with equally many inputs and equally many outputs
 pub record AreComparable (exact approx : NetValue) : Type 0 where
   pub exact_sound : IsSound exact
   pub approximate_sound : IsSound approx

@@ -11,7 +11,7 @@ use Rattle.quality_semantics.specs.Multiply.{multiply, multiplier_net, Multiplie
 use Rattle.quality_semantics.specs.Quality.{quality, quality_net, TellsExcess}
 use Rattle.quality_semantics.specs.Joint.{approximate_signal, quality_signal, joint_net, AreComparable}
 
--- the assignment v gives the two constants and each table of the network their values
+-- the assignment v gives the two constants their values, and each table of the network the value of its rows
 pub record Fits (v : Assignment) (W : WordNetValue) : Type 0 where
   pub zero : v W.inputs ≡ false
   pub one : v (suc W.inputs) ≡ true
@@ -21,7 +21,8 @@ pub record Fits (v : Assignment) (W : WordNetValue) : Type 0 where
 abbrev pub number : Assignment → List ℕ → ℕ
 number v bus = number_of (map v bus)
 
--- Each bus has its number at every assignment that fits the network after the call, and so at every one that fits a later network (`FitsLaw`).
+-- Each bus has its number at every assignment that fits the network after the call, and so at every
+-- assignment that fits a later network (`FitsLaw`).
 pub record BusLaw : Type 0 where
   pub input : (W : WordNetValue) (x : List Bool) (from width : ℕ) → IsWordNet W → length x ≡ W.inputs → from + width ≤ W.inputs
       → map (value_of W.inputs W.tables x) (range_with_len from width) ≡ take width (drop from x)
@@ -41,7 +42,7 @@ pub record BusLaw : Type 0 where
   pub at_least : (v : Assignment) (W : WordNetValue) (ds : List ℕ) (k : ℕ) → Fits v (at_least W ds k).net
       → v (at_least W ds k).signal ≡ nat_le k (count_by v ds)
 
--- the values of a network's signals fit it, and each network with which it began
+-- the values of a network's signals fit the network, and fit each network with which it began
 pub record FitsLaw : Type 0 where
   pub values : (W : WordNetValue) (x : List Bool) → IsWordNet W → BeginsWith W (started W.inputs) → Fits (value_of W.inputs W.tables x) W
   pub earlier : (v : Assignment) (W V : WordNetValue) → BeginsWith W V → Fits v W → Fits v V
@@ -72,9 +73,10 @@ pub record MultiplierLaw : Type 0 where
   pub multiply : (v : Assignment) (W : WordNetValue) (xs ys : List ℕ) → Fits v (multiply W xs ys).net → number v (multiply W xs ys).bus ≡ number v xs * number v ys
   pub multiplier : (w : ℕ) → Multiplies w (multiplier_net w)
 
--- The joint net of two nets that can be compared, with every metric and level: it is acyclic over the exact net's inputs, each signal of the two
--- nets and of the quality network keeps its value where it now stands, and the one output says whether the error of the outputs exceeds k.
--- It is sound where it has fewer than 2 ^ 31 signals.
+-- The joint net of two nets that can be compared, with every metric and level. It is acyclic over the exact
+-- net's inputs; each signal of the two nets and of the quality network keeps its value at the place where it
+-- now stands; and the one output says whether the error of the outputs exceeds k. The joint net is sound
+-- where it has fewer than 2 ^ 31 signals.
 pub record JointLaw : Type 0 where
   pub comparable : (N M : NetValue) → IsSound N → IsSound M → HasSamePorts N M → AreComparable N M
   pub inputs : (N M : NetValue) (metric : Metric) (k : ℕ) → input_count (joint_net N M metric k) ≡ input_count N

@@ -28,7 +28,8 @@ product_rows W xs (b ∷ bs) =
     let rest = product_rows row.net xs bs in
     record { net = rest.net; rows = row.bus ∷ rest.rows }
 
--- the bus p and the rows are added, the first row doubled j times, and each later one once more than the one before
+-- the bus p and the rows are added: the first row is doubled j times, and each later row once more than the
+-- row before it
 abbrev pub sum_rows : WordNetValue → List ℕ → ℕ → List (List ℕ) → WithBus
 sum_rows W p j [] = record { net = W; bus = p }
 sum_rows W p j (row ∷ rows) =

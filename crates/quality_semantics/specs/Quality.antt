@@ -23,7 +23,8 @@ absolute_excess w k =
     let start = started (w + w) in
     exceed start (exact_bus w) (approximate_bus w) (constant start k)
 
--- the numbers, each a million times, are further apart than k times the exact one, which counts as 1 where it is 0
+-- the two numbers, each times a million, are further apart than k times the exact number, which counts as 1
+-- where it is 0
 abbrev pub relative_excess : ℕ → ℕ → WithSignal
 relative_excess w k =
     let m = not_zero_low (started (w + w)) (exact_bus w) in

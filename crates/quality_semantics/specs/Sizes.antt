@@ -10,7 +10,8 @@ use Rattle.quality_semantics.specs.Joint.{joint_net}
 abbrev pub tables_and_rows : List TableValue → ℕ
 tables_and_rows tables = length tables + sum_by (λ t. length t.rows) tables
 
--- the quality networks of so few outputs as a net that is read has, and the joint nets of two such nets, at every metric and level
+-- at every metric and level: the quality network for two words of at most as many bits as a net that is read
+-- has outputs, and the joint net of two nets that are read
 pub record RoomLaw : Type 0 where
   pub quality : (metric : Metric) (w k : ℕ) → w ≤ MOST_OUTPUTS → tables_and_rows (quality metric w k).net.tables ≤ 150000
   pub joint : (N M : NetValue) (metric : Metric) (k : ℕ) → IsSmall N → IsSmall M

@@ -1,4 +1,4 @@
--- An arithmetic network under construction, and what it is at every moment.
+-- An arithmetic network under construction, and what holds of it after each table.
 use Rattle.std.specs.Prelude.{◌≡◌, ℕ, ◌+◌, ◌<◌, true, List, [], ◌∷◌, ◌++◌, map, length, take, All, decimal, codes}
 use Rattle.std.specs.List.{range_with_len}
 use Rattle.semantics.specs.Net.{TableValue, NetValue, table_at, IsInOrder}
@@ -42,13 +42,13 @@ pub record BeginsWith (W earlier : WordNetValue) : Type 0 where
 abbrev pub AreSignalsOf : WordNetValue → List ℕ → Type 0
 AreSignalsOf W bus = All (λ s. s < signals W) bus
 
--- what each table is at its place
+-- what is so of each table, by its place i
 pub record IsWordTable (i : ℕ) (t : TableValue) : Type 0 where
   pub name : t.name ≡ 116 ∷ decimal i
   pub widths : All (λ marks. length marks ≡ length t.pins) t.rows
   pub plane : t.plane ≡ true
 
--- the two constants are there, and each table reads signals before it
+-- the two constants are there, and each table reads only signals before its own
 pub record IsWordNet (W : WordNetValue) : Type 0 where
   pub room : 1 < length W.tables
   pub in_order : IsInOrder W.inputs W.tables

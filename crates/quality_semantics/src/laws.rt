@@ -7,7 +7,7 @@ pub fn buses()
     ensures { BusLaw }
 {}
 
-/// Which assignments fit a network.
+/// Which assignments fit a network, and the networks with which it began.
 pub fn fitting()
     ensures { FitsLaw }
 {}
@@ -22,7 +22,7 @@ pub fn rounding()
     ensures { RoundingLaw }
 {}
 
-/// What the array multiplier's number is.
+/// What number the bus of the array multiplier has.
 pub fn multiplier()
     ensures { MultiplierLaw }
 {}

@@ -50,14 +50,14 @@ error_of Rel e a = rounded_up (distance (number_of e) (number_of a) * 1000000) (
 error_of Ham e a = differing e a
 error_of Sabs e a = unsigned_abs (signed_number_of e -ℤ signed_number_of a)
 
--- the greatest error of so many outputs
+-- the greatest error of two words of `width` bits
 abbrev pub greatest_error : Metric → ℕ → ℕ
 greatest_error Abs width = 2 ^ width - 1
 greatest_error Rel width = (2 ^ width - 1) * 1000000
 greatest_error Ham width = width
 greatest_error Sabs width = 2 ^ width - 1
 
--- what every error of so few outputs is below
+-- a number that is above every error of words of at most `MOST_OUTPUTS` bits
 abbrev pub errors_below : Metric → ℕ
 errors_below Abs = 2 ^ MOST_OUTPUTS
 errors_below Rel = LARGEST_ERROR + 1
@@ -71,8 +71,8 @@ net_error metric exact approx x = error_of metric (outputs_of exact x) (outputs_
 abbrev pub IsWithin : Metric → NetValue → ℕ → NetValue → Type 0
 IsWithin metric exact level approx = (x : List Bool) → length x ≡ input_count exact → net_error metric exact approx x ≤ level
 
--- the approximate net may be judged against the exact one: it has the same ports, and there are so few outputs that every error is a number
--- of at most 84 bits
+-- the approximate net may be judged against the exact one: the ports agree, and the outputs are few enough
+-- that every error is a number of at most 84 bits
 pub record IsCandidate (exact approx : NetValue) : Type 0 where
   pub ports : HasSamePorts exact approx
   pub few_outputs : length exact.outputs ≤ MOST_OUTPUTS

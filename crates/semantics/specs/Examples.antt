@@ -173,7 +173,8 @@ pub record TextExamples : Type 0 where
 abbrev pub truth_table : ℕ → List TableValue → ℕ → Bytes
 truth_table n tables s = bits_word (map (λ x. value_of n tables x s) (all_vectors n))
 
--- the half adder of inputs 2 and 0, its tables in the other order and an inverter between them, and where its signals stand there
+-- the half adder of inputs 2 and 0, with its tables in the other order and an inverter between them; and
+-- where the half adder's signals stand there
 abbrev pub half_adder_within : List TableValue
 half_adder_within =
     record { name = codes "q"; pins = 2 ∷ 0 ∷ []; rows = (One ∷ One ∷ []) ∷ []; plane = true }
@@ -184,7 +185,8 @@ half_adder_within =
 abbrev pub place_within : ℕ → ℕ
 place_within s = slice_index_or (2 ∷ 0 ∷ 5 ∷ 3 ∷ []) s 0
 
--- the half adder again, of the first one's sum and input 2: behind the first one the sum of three bits
+-- the half adder again, of the sum of the first half adder and input 2: behind the first half adder it makes
+-- the sum of three bits
 abbrev pub name_behind : ℕ → ℕ
 name_behind s = slice_index_or (3 ∷ 2 ∷ 5 ∷ 6 ∷ []) s 0
 
@@ -240,7 +242,8 @@ faulty name outputs second third pins = record {
   outputs = outputs;
 }
 
--- so many inputs, outputs and tables, so many pins and rows of each table, and then more tables
+-- a net with `inputs` inputs, `outputs` outputs and `tables` tables, each of which has `pins` pins and `rows`
+-- rows, and then the tables `more`
 abbrev pub sized : (inputs outputs tables pins rows : ℕ) → List TableValue → NetValue
 sized inputs outputs tables pins rows more = record {
   model = codes "m";
@@ -267,7 +270,7 @@ pub record RefusalExamples : Type 0 where
   pub feeds_itself : first_ungrounded 1 (buffer (codes "y") 1 ∷ []) ≡ Some 0
   pub out_of_order_is_grounded : first_ungrounded 1 out_of_order.tables ≡ None
 
--- the largest of each number, and the next one, which is told before whatever comes later
+-- the largest allowed value of each number, and the next one, which is told before the limits that come later
 pub record LimitExamples : Type 0 where
   pub inputs : (first_limit (sized 256 1 1 1 1 []) ≡ None) × (first_limit (sized 257 65 1 257 1 []) ≡ Some which.Inputs)
   pub outputs : (first_limit (sized 1 64 1 1 1 []) ≡ None) × (first_limit (sized 1 65 1 257 1 []) ≡ Some which.Outputs)

@@ -39,8 +39,9 @@ zeros width = replicate width false
 abbrev pub ones : ℕ → List Bool
 ones width = replicate width true
 
--- of words of one width: the number is below 2 to its power, and no error is above the greatest one, which zeros and ones have, in two's
--- complement with their signs turned over; at most 64 bits have errors in 64, 84, 7 and 64 bits, and none is above the largest error
+-- Words of one width: the number of a word is below 2 to the width, and no error is above the greatest error,
+-- which zeros against ones attain (in two's complement, with their signs turned over). The errors of words of
+-- at most 64 bits are numbers of 64, 84, 7 and 64 bits, and none is above the largest error.
 pub record SizeLaw : Type 0 where
   pub number : (bits : List Bool) → number_of bits < 2 ^ length bits
   pub at_most : (metric : Metric) (width : ℕ) (e a : List Bool) → length e ≡ width → length a ≡ width → error_of metric e a ≤ greatest_error metric width
@@ -51,9 +52,10 @@ pub record SizeLaw : Type 0 where
   pub below : (metric : Metric) (e a : List Bool) → length e ≡ length a → length e ≤ MOST_OUTPUTS → error_of metric e a < errors_below metric
   pub largest : (metric : Metric) (exact approx : NetValue) → IsCandidate exact approx → (x : List Bool) → net_error metric exact approx x ≤ LARGEST_ERROR
 
--- In two's complement a word of some bits has a number from -2 ^ (width - 1) to 2 ^ (width - 1) - 1; to turn its sign over adds
--- 2 ^ (width - 1), so words whose signs are turned over are as far apart as their numbers in two's complement were. The signed error is
--- the distance of two natural numbers, each with what two's complement takes off the other word.
+-- In two's complement a word of one or more bits has a number from -2 ^ (width - 1) to 2 ^ (width - 1) - 1.
+-- Turning its sign over adds 2 ^ (width - 1), so words whose signs are turned over are as far apart as their
+-- numbers in two's complement were. The signed error is the distance of two natural numbers: the number of
+-- each word and, added to it, what two's complement takes off the other word.
 pub record SignedLaw : Type 0 where
   pub least : (bits : List Bool) → 0 < length bits → neg_ℤ (pos (2 ^ (length bits - 1))) ≤ℤ signed_number_of bits
   pub greatest : (bits : List Bool) → 0 < length bits → signed_number_of bits <ℤ pos (2 ^ (length bits - 1))
@@ -86,14 +88,16 @@ pub record ReplacedLaw : Type 0 where
   pub new : (n : ℕ) (tables : List TableValue) (t : ℕ) (new : TableValue) (x : List Bool) → IsAcyclic n tables → IsAcyclic n (replaced tables t new)
       → t < length tables → value_of n (replaced tables t new) x (n + t) ≡ table_value new (value_of n tables x)
 
--- no pin of a table depends on that table, and what depends on a table depends on whatever stands in its place
+-- no pin of a table depends on that table, and what depends on a table depends on any table that stands in
+-- its place
 pub record DependenceLaw : Type 0 where
   pub no_cycle : (n : ℕ) (tables : List TableValue) (t : ℕ) → IsAcyclic n tables → t < length tables
       → (p : ℕ) → Contains (table_at tables t).pins p → ¬ DependsOn n tables t p
   pub to_replaced : (n : ℕ) (tables : List TableValue) (t : ℕ) (new : TableValue) (s : ℕ) → DependsOn n tables t s → DependsOn n (replaced tables t new) t s
   pub from_replaced : (n : ℕ) (tables : List TableValue) (t : ℕ) (new : TableValue) (s : ℕ) → DependsOn n (replaced tables t new) t s → DependsOn n tables t s
 
--- tables have an order exactly where they are acyclic; it grows by any table that may stand next; as many stand in it as there are tables
+-- tables have an order exactly where they are acyclic; an order grows by any table that may stand next; an
+-- order has as many places as there are tables
 pub record OrderLaw : Type 0 where
   pub exists : (n : ℕ) (tables : List TableValue) → IsAcyclic n tables → (order : List ℕ) × IsOrderOf n tables order
   pub acyclic : (n : ℕ) (tables : List TableValue) (order : List ℕ) → IsOrderOf n tables order → IsAcyclic n tables
@@ -115,8 +119,9 @@ pub record CopyLaw : Type 0 where
       → IsCopiedBehind m before n tables copies f → (x y : List Bool) → ((i : ℕ) → i < n → slice_index_or y i false ≡ value_of m before x (f i))
       → (s : ℕ) → s < n + length tables → value_of m (before ++ copies) x (f s) ≡ value_of n tables y s
 
--- a table that reads signals of acyclic tables is appended, and the whole is acyclic; one table is replaced, and the whole is acyclic
--- exactly where the new table reads signals that do not depend on it, as where it reads no more than the old one
+-- A table that reads signals of acyclic tables is appended, and the whole is acyclic. One table is replaced,
+-- and the whole is acyclic exactly where the new table reads signals that do not depend on the old one; so it
+-- is where the new table reads no signals but those that the old one reads.
 pub record AcyclicLaw : Type 0 where
   pub appended : (n : ℕ) (tables : List TableValue) (new : TableValue) → IsAcyclic n tables → AllByRecursion (λ s. s < n + length tables) new.pins
       → IsAcyclic n (tables ++ new ∷ [])
@@ -150,8 +155,9 @@ pub record WithoutLaw : Type 0 where
       → ((i : ℕ) → i < length tables → ¬ Contains (table_at tables i).pins (n + t))
       → (x : List Bool) (s : ℕ) → s + 1 < n + length tables → value_of n tables x (raised (n + t) s) ≡ value_of n (without n tables t) x s
 
--- Each refusal is absent exactly where what it refuses is, and all of them exactly where well-formed parts are a small sound net. The one
--- that is told is the one that holds where none that stands before it does.
+-- Each refusal is absent exactly where no part has the fault that it names, and all of them are absent
+-- exactly where well-formed parts are a small sound net. The refusal that is told is the one that holds where
+-- no refusal before it holds.
 pub record RefusalLaw : Type 0 where
   pub undoubled : (names : List Bytes) → (first_doubled names ≡ None) ↔ AllPairs ◌≢◌ names
   pub driven : (N : NetValue)

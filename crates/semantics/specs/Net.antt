@@ -85,13 +85,14 @@ pub record IsTable (t : TableValue) : Type 0 where
   pub widths : All (λ marks. length marks ≡ length t.pins) t.rows
   pub plane : t.rows ≡ [] → t.plane ≡ true
 
--- Signal s needs at most so many steps from the inputs: an input needs none, and a table one more than its pins.
+-- Signal s needs at most `steps` steps from the inputs: an input needs none, and a table one more than its
+-- pins.
 abbrev pub IsGroundedIn : ℕ → List TableValue → ℕ → ℕ → Type 0
 IsGroundedIn n tables zero s = s < n
 IsGroundedIn n tables (suc steps) s =
     (s < n) ⊎ ((s < n + length tables) × AllByRecursion (IsGroundedIn n tables steps) (table_at tables (s - n)).pins)
 
--- every table is grounded in as many steps as there are tables
+-- every table is grounded in `length tables` steps
 abbrev pub IsAcyclic : ℕ → List TableValue → Type 0
 IsAcyclic n tables = (i : ℕ) → i < length tables → IsGroundedIn n tables (length tables) (n + i)
 
@@ -118,7 +119,7 @@ pub record IsSmall (N : NetValue) : Type 0 where
 abbrev pub IsInOrder : ℕ → List TableValue → Type 0
 IsInOrder n tables = (i : ℕ) → i < length tables → All (λ s. s < n + i) (table_at tables i).pins
 
--- the same input names and the same output names, in the same order
+-- N and M have the same input names and the same output names, in the same order
 pub record HasSamePorts (N M : NetValue) : Type 0 where
   pub inputs : N.inputs ≡ M.inputs
   pub outputs : map (name_of (signal_names N)) N.outputs ≡ map (name_of (signal_names M)) M.outputs

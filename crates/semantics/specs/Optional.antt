@@ -1,4 +1,4 @@
--- One value after another that may be missing, for `do`.
+-- The operator of `do` for values that may be missing: the first one that is missing ends the whole.
 use Rattle.std.specs.Prelude.{Option, option_and_then}
 
 infixl 10 ◌>>=◌

@@ -30,7 +30,7 @@ pub record IsFirstPassed (N : NetValue) (passed : Which) : Type 0 where
   pub over : ¬ IsKept N passed
   pub before : (other : Which) → limit_place other < limit_place passed → IsKept N other
 
--- the names before it differ, and it is one of them
+-- the names before `name` differ from each other, and `name` is one of them
 pub record IsFirstDoubled (names : List Bytes) (name : Bytes) : Type 0 where
   pub before : List Bytes
   pub after : List Bytes
@@ -38,7 +38,7 @@ pub record IsFirstDoubled (names : List Bytes) (name : Bytes) : Type 0 where
   pub differ : AllPairs ◌≢◌ before
   pub again : Contains before name
 
--- what is read before it are signals, and it is none
+-- what is read before s are signals, and s is none
 pub record IsFirstUndriven (N : NetValue) (s : ℕ) : Type 0 where
   pub before : List ℕ
   pub after : List ℕ
@@ -51,7 +51,7 @@ pub record IsDriven (N : NetValue) : Type 0 where
   pub pins : All (λ t. All (λ s. s < signal_count N) t.pins) N.tables
   pub outputs : All (λ s. s < signal_count N) N.outputs
 
--- the refusal holds, and none that stands before it
+-- the refusal holds, and no refusal before it in the order holds
 abbrev pub IsTold : NetValue → NetRefused → Type 0
 IsTold N (doubled name) = IsFirstDoubled (signal_names N) name
 IsTold N no_output = AllPairs ◌≢◌ (signal_names N) × (N.outputs ≡ [])

@@ -22,7 +22,7 @@ first_doubled names = first_doubled_after [] names
 abbrev pub signals_read : NetValue → List ℕ
 signals_read N = flat_map (λ t. t.pins) N.tables ++ N.outputs
 
--- the first of them that is no signal
+-- the first signal that is read and is no signal of the net
 abbrev pub first_undriven : NetValue → Option ℕ
 first_undriven N = find (λ s. not (nat_lt s (signal_count N))) (signals_read N)
 

@@ -14,7 +14,7 @@ mark_matches Zero bit = not bit
 mark_matches One bit = bit
 mark_matches Dash bit = true
 
--- each pin with mark 0 or 1 has that value
+-- each pin whose mark is 0 or 1 has the value of its mark
 abbrev pub row_matches : List Mark → List ℕ → Assignment → Bool
 row_matches [] pins v = true
 row_matches (m ∷ marks) [] v = true
@@ -29,7 +29,8 @@ pub record IsConsistent (n : ℕ) (tables : List TableValue) (x : List Bool) (v 
   pub input : (s : ℕ) → s < n → v s ≡ slice_index_or x s false
   pub table : (i : ℕ) → i < length tables → v (n + i) ≡ table_value (table_at tables i) v
 
--- All signals from the values before. As many rounds as there are acyclic tables, and one, give each signal its value (`ValueLaw`).
+-- All signals from the values before. After one round more than there are tables, each signal of acyclic
+-- tables has its value (`ValueLaw`).
 abbrev pub round : ℕ → List TableValue → List Bool → Assignment → Assignment
 round n tables x v s = if nat_lt s n then slice_index_or x s false else table_value (table_at tables (s - n)) v
 
@@ -40,7 +41,8 @@ after_rounds n tables x (suc rounds) = round n tables x (after_rounds n tables x
 unfoldable pub value_of : ℕ → List TableValue → List Bool → Assignment
 value_of n tables x = after_rounds n tables x (suc (length tables))
 
--- The two laws by which values are spoken of: they are consistent with every table, and a consistent assignment is the values.
+-- The two laws by which values are spoken of: the values are consistent with every table, and a consistent
+-- assignment is the values.
 pub record HasOneValue (n : ℕ) (tables : List TableValue) (x : List Bool) : Type 0 where
   pub consistent : IsConsistent n tables x (value_of n tables x)
   pub only : (v : Assignment) → IsConsistent n tables x v → (s : ℕ) → s < n + length tables → v s ≡ value_of n tables x s

@@ -11,7 +11,8 @@ bits_of (suc n) j = (j % 2 == 1) ∷ bits_of n (j / 2)
 unfoldable pub all_vectors : ℕ → List (List Bool)
 all_vectors n = map (bits_of n) (range_with_len 0 (2 ^ n))
 
--- x is the first vector of n bits, in counting order, at which f is greatest, and most is f there
+-- x is the first vector of n bits, in counting order, at which f is greatest, and `most` is the value of f at
+-- x
 pub record IsFirstGreatestAt (n : ℕ) (f : List Bool → ℕ) (most : ℕ) (x : List Bool) : Type 0 where
   pub width : length x ≡ n
   pub attained : f x ≡ most

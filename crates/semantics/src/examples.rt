@@ -26,7 +26,7 @@ pub fn changes()
     ensures { ChangeExamples }
 {}
 
-/// What parts are refused for, in its order.
+/// What parts of a net are refused for, in the order of the refusals.
 pub fn refusals()
     ensures { RefusalExamples }
 {}

@@ -31,7 +31,7 @@ pub fn acyclic_changes()
     ensures { AcyclicLaw }
 {}
 
-/// Any number of steps grounds as well as the number of tables.
+/// Where each table is grounded in some number of steps, it is grounded in as many steps as there are tables.
 pub fn grounded()
     ensures { GroundedLaw }
 {}

@@ -18,10 +18,10 @@ pub const MOST_PINS: usize = 131_072;
 /// The most rows of all tables of a net that is read.
 pub const MOST_ROWS: usize = 32_768;
 
-/// With at most so many inputs every input vector is a pattern.
+/// The most inputs with which every input vector is a pattern.
 pub const FEW_INPUTS: u32 = 8;
 
-/// With at most so many inputs a query is answered by all cases, where the conflicts allow it.
+/// The most inputs with which a query is answered by all cases, where the conflicts allow it.
 pub const TRIED_INPUTS: u32 = 15;
 
 /// The largest error, level and bound: with at most `MOST_OUTPUTS` outputs no error of any metric is larger.

@@ -15,7 +15,7 @@ row_at rows s = slice_index_or rows s []
 abbrev pub values_of : List (List ℕ) → ℕ → Assignment
 values_of rows p = λ s. row_bit (row_at rows s) p
 
--- each row has so many words
+-- each row has `words` words
 abbrev pub AreWide : ℕ → List (List ℕ) → Type 0
 AreWide words rows = (s : ℕ) → s < length rows → length (row_at rows s) ≡ words
 
@@ -23,7 +23,8 @@ AreWide words rows = (s : ℕ) → s < length rows → length (row_at rows s) �
 abbrev pub HaveRows : List (List Bool) → (List Bool → Assignment) → ℕ → List (List ℕ) → Type 0
 HaveRows vectors values m rows = (s : ℕ) → s < m → IsRowOfValues vectors (λ x. values x s) (row_at rows s)
 
--- the rows of a net's signals at so many patterns, its outputs, and rows where a table is turned over
+-- the rows of a net's signals at `count` patterns, the net's outputs, and the rows where a table is turned
+-- over
 pub record FlipValue : Type 0 where
   pub count : ℕ
   pub outputs : List ℕ

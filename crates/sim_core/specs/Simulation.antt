@@ -6,7 +6,7 @@ use Rattle.aig_core.specs.Graph.{GraphValue, node_count, value_of}
 abbrev pub vector_at : List (List Bool) → ℕ → List Bool
 vector_at vectors p = slice_index_or vectors p []
 
--- the rows of so many nodes at so many patterns: node n's is the words from n * word_count count on
+-- the rows of `nodes` nodes at `count` patterns: the row of node n is the words from n * word_count count on
 pub record SimValue : Type 0 where
   pub nodes : ℕ
   pub count : ℕ
@@ -17,7 +17,7 @@ pub record IsForGraph (g : GraphValue) (vectors : List (List Bool)) (s : SimValu
   pub nodes : s.nodes ≡ node_count g
   pub count : s.count ≡ length vectors
 
--- bit p of node n's row, where each row has so many words
+-- bit p of node n's row, where each row has `words` words
 abbrev pub node_bit : ℕ → List ℕ → ℕ → ℕ → Bool
 node_bit words rows n p = row_bit rows (64 * (n * words) + p)
 

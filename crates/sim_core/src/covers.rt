@@ -39,7 +39,8 @@ fn set_cube(cube: &mut SignalRow, marks: &[Mark], pins: &[Signal], rows: &[Signa
     }
 }
 
-/// Makes the bits of `cover` 1 where some row matches. Where each one does is found in `cube`.
+/// Makes the bits of `cover` 1 where some row matches. `cube` is used for the bits where each single row
+/// matches.
 pub(crate) fn set_cover(
     cover: &mut SignalRow,
     cube: &mut SignalRow,

@@ -12,7 +12,8 @@ use net_core::net::Net;
 use std::alloc::{AllocError, Global};
 use std::marker::Model;
 
-/// A row for each signal, one bit for each pattern, and one more where a table is turned over: it is marked where it may be another.
+/// A row for each signal, one bit for each pattern; and for each signal another row, where a table is turned
+/// over, with a mark where the two rows may differ.
 #[derive(Drop)]
 pub struct FlipSim {
     count: u64,
@@ -33,7 +34,7 @@ impl Model for FlipSim {
     ghost invariant = { λ s. AreKept s.count s.rows.items s.flipped.items s.marks.items × FitsRoom s.count s.room };
 }
 
-/// So many rows of so many words.
+/// `rows` rows of `words` words.
 fn empty_rows(alloc: Global, rows: usize, words: usize) -> Result<Vec<SignalRow>, AllocError>
     ensures count { IfOk result (λ list. length list.items ≡ rows) }
     ensures wide { IfOk result (λ list. AreWide words list.items) }
@@ -45,7 +46,7 @@ fn empty_rows(alloc: Global, rows: usize, words: usize) -> Result<Vec<SignalRow>
     Ok(list)
 }
 
-/// Room to find the row of a table.
+/// Room to compute the row of a table.
 fn room_for(alloc: Global, words: usize) -> Result<Room, AllocError>
     ensures cube { IfOk result (λ room. length room.cube ≡ words) }
     ensures cover { IfOk result (λ room. length room.cover ≡ words) }
@@ -79,7 +80,8 @@ impl FlipSim {
         })
     }
 
-    /// Finds the values of the signals at all patterns. What the last `run_flipped` left stays. It takes no memory.
+    /// Computes the values of the signals at all patterns. The rows that the last `run_flipped` left stay.
+    /// The call takes no memory.
     pub fn run(&mut self, net: &Net, patterns: &Patterns)
         requires inputs { patterns.now.inputs ≡ input_count net.now }
         requires room { IsForNet net.now patterns.now.vectors self.old }
@@ -93,7 +95,8 @@ impl FlipSim {
         eval_rows(net, self.count, &mut self.rows, &mut self.room);
     }
 
-    /// The row of a signal: after `run`, bit p is its value at pattern p, and the bits past the last pattern are 0.
+    /// The row of a signal: after `run`, bit p is the signal's value at pattern p, and the bits past the last
+    /// pattern are 0.
     pub fn signal(&self, s: Signal) -> &[u64]
         requires { s < length self.now.rows }
         ensures { result.now ≡ row_at self.now.rows s }
@@ -101,8 +104,8 @@ impl FlipSim {
         self.rows[s as usize].as_slice()
     }
 
-    /// Finds the values again where table `t` is turned over at every pattern: only tables that depend on it are evaluated. The rows
-    /// that `signal` gives stay. It takes no memory.
+    /// Computes the values again, with table `t` turned over at every pattern: only tables that depend on `t`
+    /// are evaluated. The rows that `signal` gives stay. The call takes no memory.
     pub fn run_flipped(&mut self, net: &Net, t: u32)
         requires table { t < table_count net.now }
         requires rows { length self.old.rows ≡ signal_count net.now }

@@ -1,4 +1,5 @@
-//! The rows of a net's signals at many patterns, and those where a table is turned over. Nothing here takes memory.
+//! The rows of a net's signals at many patterns, and the rows where a table is turned over. Nothing here
+//! takes memory.
 ghost use Rattle.std.specs.Prelude.{◌≡◌, ◌↔◌, ◌==◌, ◌&&◌, ◌<◌, ◌≤◌, not, ℕ, List, Bool, false, length, slice_index_or, slice_set, IsTrue, All};
 ghost use Rattle.semantics.specs.Net.{input_count, table_count, signal_count};
 ghost use Rattle.semantics.specs.Value.{value_of};
@@ -12,7 +13,7 @@ use lane_bits::patterns::Patterns;
 use net_core::net::Net;
 use net_core::table::Table;
 
-/// Room to find the row of a table: where one of its rows matches, and where some row does.
+/// Room to compute the row of a table: the bits where one row matches, and the bits where some row matches.
 #[derive(Drop)]
 pub(crate) struct Room {
     pub(crate) cube: SignalRow,
@@ -60,7 +61,7 @@ pub(crate) fn set_input_rows(rows: &mut [SignalRow], patterns: &Patterns)
     }
 }
 
-/// Finds the rows of the tables from those of the inputs, which stay.
+/// Computes the rows of the tables from those of the inputs, which stay.
 pub(crate) fn eval_rows(net: &Net, count: u64, rows: &mut [SignalRow], room: &mut Room)
     requires rows { length rows.old ≡ signal_count net.now }
     requires wide { AreWide (word_count count) rows.old }
@@ -77,7 +78,7 @@ pub(crate) fn eval_rows(net: &Net, count: u64, rows: &mut [SignalRow], room: &mu
     }
 }
 
-/// Makes the marked rows those of the signals again, as the others are.
+/// Makes the marked rows equal to the signals' rows again; the other rows are so already.
 pub(crate) fn restore_rows(flipped: &mut [SignalRow], marks: &[bool], rows: &[SignalRow])
     requires { (count : ℕ) × AreKept count rows.now flipped.old marks.now }
     ensures { flipped.new ≡ rows.now }
@@ -89,14 +90,16 @@ pub(crate) fn restore_rows(flipped: &mut [SignalRow], marks: &[bool], rows: &[Si
     }
 }
 
-/// Whether the row of table `i` is found again: not for table `t` itself, and where it is marked.
+/// Whether the row of table `i` is computed again: not for table `t` itself, and else where table `i` is
+/// marked.
 fn is_found_again(i: u32, t: u32, marked: bool) -> bool
     ensures { result ≡ (not (i == t) && marked) }
 {
     i != t && marked
 }
 
-/// Turns over the row of table `t`, and finds again those of the tables that depend on it, which are marked.
+/// Turns over the row of table `t`, and computes again the rows of the tables that depend on it, which are
+/// marked.
 pub(crate) fn flip_rows(
     net: &Net,
     t: u32,

@@ -84,7 +84,7 @@ fn half_adder(alloc: Global) -> Result<Net, AllocError>
     }
 }
 
-/// The first of so many patterns at which the graph's literal of a signal is true.
+/// The first of `count` patterns at which the graph's literal of signal `s` is true.
 fn first_in_graph(alloc: Global, count: u64, s: usize) -> Result<Option<u64>, AllocError>
     requires { s < 5 }
 {
@@ -96,7 +96,7 @@ fn first_in_graph(alloc: Global, count: u64, s: usize) -> Result<Option<u64>, Al
     first_true(alloc, &sim, made.literals[s], count)
 }
 
-/// The first of so many patterns at which a signal is true.
+/// The first of `count` patterns at which signal `s` is true.
 fn first_in_net(alloc: Global, count: u64, s: Signal) -> Result<Option<u64>, AllocError>
     requires { s < 5 }
 {
@@ -107,7 +107,7 @@ fn first_in_net(alloc: Global, count: u64, s: Signal) -> Result<Option<u64>, All
     Ok(first_set(sim.signal(s), count))
 }
 
-/// The first of so many patterns at which an output is true where the carry's table is turned over.
+/// The first of `count` patterns at which an output is true, where the carry's table is turned over.
 fn first_flipped(alloc: Global, count: u64, output: u32) -> Result<Option<u64>, AllocError>
     requires { output < 3 }
 {

@@ -13,7 +13,7 @@ pub(crate) struct Side {
     pub(crate) flip: bool,
 }
 
-/// The row of a literal's node among rows of so many words, and the literal's sign.
+/// The row of a literal's node among rows of `words` words, and the literal's sign.
 pub(crate) fn side_of(rows: &[u64], words: usize, literal: Literal) -> Side
     requires { literal / 2 * words + words ≤ length rows.now }
     ensures start { result.start ≡ literal / 2 * words }
@@ -28,7 +28,7 @@ pub(crate) fn side_of(rows: &[u64], words: usize, literal: Literal) -> Side
     }
 }
 
-/// Makes the row that starts at a word this one.
+/// Replaces the row that starts at word `start` by `row`.
 pub(crate) fn set_row(rows: &mut [u64], start: usize, row: &[u64])
     requires { start + length row.now ≤ length rows.old }
     ensures bits { (p : ℕ) → p < 64 * length row.now → bit_from rows.new start p ≡ row_bit row.now p }
@@ -38,7 +38,8 @@ pub(crate) fn set_row(rows: &mut [u64], start: usize, row: &[u64])
     rest[..row.len()].copy_from_slice(row);
 }
 
-/// Makes the row that starts at a word the conjunction of two rows before it, and its bits past the first `count` 0.
+/// Replaces the row that starts at a word by the conjunction of two rows before it, with the bits past the
+/// first `count` 0.
 pub(crate) fn set_conjunction(
     rows: &mut [u64],
     start: usize,

@@ -6,7 +6,7 @@ use lane_bits::kernels::{and_rows, clear_past, keep_rows, or_rows};
 use std::alloc::{AllocError, Global};
 use std::marker::Model;
 
-/// The words of a row, whose number stays.
+/// The words of a row, whose number does not change.
 #[derive(Drop)]
 pub(crate) struct SignalRow {
     words: Vec<u64>,
@@ -29,7 +29,7 @@ fn fill_words(words: &mut [u64], bit: bool)
 }
 
 impl SignalRow {
-    /// A row of so many words without bits.
+    /// A row of `words` words without bits.
     pub(crate) fn new(alloc: Global, words: usize) -> Result<SignalRow, AllocError>
         ensures { IfOk result (λ row. length row ≡ words) }
     {
@@ -71,7 +71,7 @@ impl SignalRow {
         or_rows(self.words.as_mut_slice(), other);
     }
 
-    /// Becomes the same row as another one.
+    /// Becomes equal to another row.
     pub(crate) fn copy(&mut self, other: &[u64])
         requires { length other.now ≡ length self.old }
         ensures { self.new ≡ other.now }

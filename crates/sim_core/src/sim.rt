@@ -13,7 +13,7 @@ use lane_bits::patterns::Patterns;
 use std::alloc::{AllocError, Global};
 use std::marker::Model;
 
-/// A row of bits for each node, one bit for each pattern, and one row behind another.
+/// A row of bits for each node, one bit for each pattern; the rows stand one behind another.
 #[derive(Drop)]
 pub struct Sim {
     nodes: u32,
@@ -48,7 +48,7 @@ impl Sim {
         })
     }
 
-    /// Finds the values of the nodes at all patterns. It takes no memory.
+    /// Computes the values of the nodes at all patterns. The call takes no memory.
     pub fn run(&mut self, aig: &Aig, patterns: &Patterns)
         requires inputs { patterns.now.inputs ≡ aig.now.inputs }
         requires room { IsForGraph aig.now patterns.now.vectors self.old }
@@ -60,7 +60,8 @@ impl Sim {
         set_gates(rows, self.count, aig);
     }
 
-    /// Makes `dst` the row of a literal: bit p is its value at pattern p, and the bits past the last pattern are 0.
+    /// Sets `dst` to the row of a literal: bit p is the literal's value at pattern p, and the bits past the
+    /// last pattern are 0.
     pub fn row(&self, literal: Literal, dst: &mut [u64])
         requires literal { literal < 2 * self.now.nodes }
         requires room { length dst.old ≡ word_count self.now.count }

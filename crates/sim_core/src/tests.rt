@@ -1,4 +1,5 @@
-//! The half adder's graph at many patterns, all `00` but the last, which is `11`: there alone the carry is true, and nowhere the sum.
+//! The half adder's graph at many patterns, all `00` but the last, which is `11`: only there the carry is
+//! true, and the sum is true nowhere.
 ghost use Rattle.std.specs.Prelude.{◌≡◌, ◌*◌, ◌<◌, length, IfOk};
 ghost use Rattle.aig_core.specs.Graph.{IsLiteralOf};
 
@@ -59,7 +60,7 @@ pub(crate) fn first_true(
     Ok(first_set(&row, count))
 }
 
-/// The first of so many patterns at which the sum is true, and the first at which the carry is.
+/// The first of `count` patterns at which the sum is true, and the first at which the carry is true.
 fn firsts(alloc: Global, count: u64) -> Result<(Option<u64>, Option<u64>), AllocError> {
     let adder = half_adder(alloc)?;
     let patterns = patterns(alloc, count)?;

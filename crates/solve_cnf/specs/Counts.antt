@@ -1,5 +1,6 @@
--- The two counts that a text is refused with where it has more or fewer clauses than its header says: what the header says, and how many
--- clauses were read behind it. A count of the header that is not below 2 ^ 64 - 1 is told as that.
+-- The two counts with which a text is refused where it has more or fewer clauses than its header says: the
+-- count of the header, and the number of clauses that were read behind it. A count of the header that is not
+-- below 2 ^ 64 - 1 is told as 2 ^ 64 - 1.
 use Rattle.std.specs.Prelude.{◌≡◌, ℕ, List, [], ◌∷◌, flat_map, length, Option, None, Some, Result, Ok, Err}
 use Rattle.semantics.specs.Texts.{Bytes}
 use Rattle.blif_semantics.specs.Lines.{words_of}
@@ -22,7 +23,7 @@ abbrev pub counts_of_lines : List Bytes → Option (ℕ × ℕ)
 counts_of_lines [] = None
 counts_of_lines (header ∷ lines) = counts_behind (header_of (words_of header)) (flat_map words_of lines)
 
--- none where the text has no header, or behind it not the numbers of clauses
+-- none where the text has no header, or where the lines behind the header are not clauses
 unfoldable pub clause_counts : Bytes → Option (ℕ × ℕ)
 clause_counts text = counts_of_lines (lines_of text)
 
@@ -36,6 +37,6 @@ counts_of e.Unended = None
 counts_of (e.WrongCount told found) = Some (told, found)
 counts_of e.OutOfMemory = None
 
--- if counts are told, they are those
+-- if the refusal tells counts, they are these
 abbrev pub Counts : ReadError → Option (ℕ × ℕ) → Type 0
 Counts told counts = (said found : ℕ) → counts_of told ≡ Some (said, found) → counts ≡ Some (said, found)

@@ -16,12 +16,12 @@ pub record IsDraft (d : DraftValue) : Type 0 where
   pub literals : AreClausesOf d.variables d.ended
   pub begun_literals : All (IsLiteralOf d.variables) d.begun
 
--- the first part goes on behind the clause
+-- the first part goes on behind the literals of the clause that is not ended
 abbrev pub gone_on : Clause → List Clause → List Clause
 gone_on clause [] = clause ∷ []
 gone_on clause (part ∷ parts) = (clause ++ part) ∷ parts
 
--- what the clauses are where these words come next, and no others
+-- what the clauses are where these words come next and are the last
 abbrev pub clauses_with : DraftValue → List Bytes → Result (List Clause) Refusal
 clauses_with d words =
     unless_refused (filter_map (wrong_word d.variables) words) (ended_parts (d.ended ++ gone_on d.begun (slice_split (λ n. int_eq n (pos 0)) (map number_of words))))

@@ -1,4 +1,4 @@
--- A header in memory, where a number of clauses above 2 ^ 64 - 1 is held as that.
+-- A header in memory, where a number of clauses above 2 ^ 64 - 1 is held as 2 ^ 64 - 1.
 use Rattle.std.specs.Prelude.{ℕ, ◌-◌, ◌^◌, min}
 use Rattle.solve_cnf.specs.Reading.{Header}
 

@@ -1,4 +1,5 @@
--- The line at which a text is refused. Lines are counted from 1, and one that is not below 2 ^ 64 - 1 is told as that.
+-- The line at which a text is refused. Lines are counted from 1, and a line whose number is not below 2 ^ 64
+-- - 1 is told as 2 ^ 64 - 1.
 use Rattle.std.specs.Prelude.{◌≡◌, ℕ, ◌+◌, ◌-◌, ◌^◌, ◌&&◌, min, not, Bool, if◌then◌else◌, List, [], ◌∷◌, map, filter, find, option_map, Option, None, Some}
 use Rattle.std.specs.Borrow.{Bor}
 use Rattle.std.specs.List.{list_all, list_any, enumerate_from}
@@ -9,15 +10,16 @@ use Rattle.solve_cnf.specs.Reading.{Header, is_comment, header_of, wrong_word}
 use Rattle.solve_cnf.specs.declared.formula_error.ReadError.{ReadError}
 use Rattle.solve_cnf.specs.declared.formula_error.ReadError.TheVariants as e
 
--- the lines that are no comments and have more than blanks, each behind how many lines of the text stand before it
+-- the lines that are no comments and have more than blanks, each behind the number of lines of the text
+-- before it
 abbrev pub numbered_lines : Bytes → List (ℕ × Bytes)
 numbered_lines text = filter (λ (l : ℕ × Bytes). not (is_comment l.1) && not (list_all is_blank l.1)) (enumerate_from 0 (physical_lines text))
 
--- the same of borrowed lines
+-- the lines of borrowed lines, each behind that number
 abbrev pub line_values : List (ℕ × Bor Bytes) → List (ℕ × Bytes)
 line_values lines = map (λ (l : ℕ × Bor Bytes). (l.0, l.1.now)) lines
 
--- the number of a line behind so many
+-- the number of the line behind the first `before` lines
 abbrev pub line_number : ℕ → ℕ
 line_number before = min (before + 1) (2 ^ 64 - 1)
 
@@ -36,7 +38,7 @@ place_if wrong line = if wrong then Some line else None
 abbrev pub wrong_line : ℕ → List (ℕ × Bytes) → Option ℕ
 wrong_line variables lines = option_map (λ (l : ℕ × Bytes). line_number l.0) (find (λ (l : ℕ × Bytes). has_wrong variables (words_of l.1)) lines)
 
--- the number of the first line, where it is no header, and else that of the first one with a wrong word
+-- the number of the first line, where this is no header, and else that of the first line with a wrong word
 abbrev pub place_behind : ℕ → Option Header → List (ℕ × Bytes) → Option ℕ
 place_behind line None lines = Some line
 place_behind line (Some header) lines = wrong_line header.variables lines
@@ -58,6 +60,6 @@ line_of e.Unended = None
 line_of (e.WrongCount told found) = None
 line_of e.OutOfMemory = None
 
--- if a line is named, it is that one
+-- if the refusal names a line, it is this line
 abbrev pub Names : ReadError → Option ℕ → Type 0
 Names told place = (line : ℕ) → line_of told ≡ Some line → place ≡ Some line

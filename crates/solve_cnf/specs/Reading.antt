@@ -31,7 +31,7 @@ lines_of text = filter (λ line. not (is_comment line) && not (list_all is_blank
 abbrev pub are_digits : Bytes → Bool
 are_digits digits = not (length digits == 0) && list_all is_digit digits
 
--- how many variables and clauses there are to be
+-- the number of variables, and the number of clauses
 pub record Header : Type 0 where
   pub variables : ℕ
   pub clauses : ℕ
@@ -54,14 +54,15 @@ digits_of word = if is_negative word then drop 1 word else word
 abbrev pub number_of : Bytes → ℤ
 number_of word = if is_negative word then neg_ℤ (pos (digits_number (digits_of word))) else pos (digits_number (digits_of word))
 
--- what is wrong with a word as a literal of so many variables, or as 0
+-- what is wrong with a word as a literal of the first `variables` variables, or as 0
 abbrev pub wrong_word : ℕ → Bytes → Option Refusal
 wrong_word variables word =
     if are_digits (digits_of word)
     then (if nat_lt variables (digits_number (digits_of word)) then Some no_variable else None)
     else Some no_number
 
--- The clauses of the parts before, between and behind the zeros: each but the last, which nothing ends, so it has to be empty.
+-- The clauses of the parts before, between and behind the zeros: each part but the last is a clause. Nothing
+-- ends the last part, so it has to be empty.
 abbrev pub ended_parts : List Clause → Result (List Clause) Refusal
 ended_parts parts =
     if length (slice_index_or parts (length parts - 1) []) == 0 then Ok (take (length parts - 1) parts) else Err unended
@@ -71,7 +72,8 @@ abbrev pub unless_refused : List Refusal → Result (List Clause) Refusal → Re
 unless_refused [] clauses = clauses
 unless_refused (refusal ∷ refusals) clauses = Err refusal
 
--- the clauses of so many variables that the words are, or the refusal of the first wrong word
+-- the clauses, over the first `variables` variables, that the words are, or the refusal of the first wrong
+-- word
 abbrev pub clauses_of : ℕ → List Bytes → Result (List Clause) Refusal
 clauses_of variables words =
     unless_refused (filter_map (wrong_word variables) words) (ended_parts (slice_split (λ n. int_eq n (pos 0)) (map number_of words)))

@@ -18,8 +18,8 @@ use Rattle.solve_cnf.specs.declared.run.RunError.TheVariants.{Refused, OutOfMemo
 abbrev pub limit_of : Bytes → Option ℕ
 limit_of word = if are_digits word && nat_lt 0 (digits_number word) then Some (min (digits_number word) (2 ^ 64 - 1)) else None
 
--- The text means a formula, and what was written is the text of an answer to it that is right: a model satisfies it, a log refutes it,
--- or a log has exactly as many conflicts as the limit.
+-- The text means a formula, and what was written is the text of a right answer to it: a model that satisfies
+-- it, a log that refutes it, or a log with exactly `limit` conflicts.
 pub record IsAnswered (text : Bytes) (limit : ℕ) (old new : Option Bytes) : Type 0 where
   pub formula : Formula
   pub means : formula_of_text text ≡ Ok formula
@@ -27,8 +27,9 @@ pub record IsAnswered (text : Bytes) (limit : ℕ) (old new : Option Bytes) : Ty
   pub right : IsAnswer formula [] limit answer
   pub written : Appends old new (answer_text answer)
 
--- The text means no formula, for the reason, at the line and with the counts of clauses that are told, or memory is wanted, and nothing was
--- written; or the text means a formula, and nothing is said of what went out before a write failed.
+-- Either nothing was written, and the text means no formula, for the reason, at the line and with the counts
+-- of clauses that are told, or memory is wanting. Or the text means a formula, and nothing is said of what
+-- was written before a write failed.
 abbrev pub HasFailed : Bytes → Option Bytes → Option Bytes → RunError → Type 0
 HasFailed text old new (Refused told) = Tells told (formula_of_text text) × Names told (refused_line text) × Counts told (clause_counts text) × Keeps old new
 HasFailed text old new OutOfMemory = Keeps old new

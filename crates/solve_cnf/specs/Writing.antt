@@ -9,7 +9,7 @@ use Rattle.cdcl_core.specs.declared.answer.Answer.TheVariants.{Model, Refuted, S
 abbrev pub status_line : Bytes → Line
 status_line word = codes "s" ∷ word ∷ []
 
--- the literals that are true where these are the values of the variables from this one on
+-- the true literals, where these are the values of the variables from this one on
 abbrev pub true_literals : ℕ → List Bool → List ℤ
 true_literals variable [] = []
 true_literals variable (bit ∷ bits) = (if bit then pos variable else neg_ℤ (pos variable)) ∷ true_literals (suc variable) bits

@@ -16,7 +16,7 @@ pub fn answers()
     ensures { AnswerExamples }
 {}
 
-/// Words that tell how many conflicts are allowed.
+/// Words that say how many conflicts are allowed.
 pub fn limits()
     ensures { LimitExamples }
 {}

@@ -21,7 +21,7 @@ use std::marker::Model;
 use std::mem;
 use text_words::words::words_of;
 
-/// The clauses that are ended, and the literals of the one that is not.
+/// The clauses that are ended, and the literals of the clause that is not.
 #[derive(Drop)]
 pub struct FormulaDraft {
     alloc: Global,
@@ -41,7 +41,7 @@ impl Model for FormulaDraft {
 }
 
 impl FormulaDraft {
-    /// No clauses yet, of so many variables. It takes no memory.
+    /// No clauses yet, over `vars` variables. The call takes no memory.
     pub fn new(alloc: Global, vars: u32) -> FormulaDraft
         requires { vars < 2 ^ 31 }
         ensures { result ≡ record { variables = vars; ended = []; begun = [] } }
@@ -67,7 +67,7 @@ impl FormulaDraft {
         self.ended.push(clause)
     }
 
-    /// Takes the next word, which stands on this line.
+    /// Takes the next word, which stands on line `line`.
     fn take_word(&mut self, word: &[u8], line: usize) -> Result<(), ReadError>
         ensures variables { self.new.variables ≡ self.old.variables }
         ensures right { OnOk result (is_wrong self.old.variables word.now ≡ false) }
@@ -102,7 +102,7 @@ impl FormulaDraft {
         Ok(())
     }
 
-    /// Takes the words of lines behind which nothing comes.
+    /// Takes the words of the last lines of a text.
     pub fn take_lines(&mut self, lines: &[Line]) -> Result<(), ReadError>
         ensures variables { self.new.variables ≡ self.old.variables }
         ensures place { IfErr result (λ told. Names told (wrong_line self.old.variables (line_values lines.now))) }
@@ -118,7 +118,7 @@ impl FormulaDraft {
         Ok(())
     }
 
-    /// The formula, where the last clause is ended and there are so many clauses.
+    /// The formula, where the last clause is ended and there are `count` clauses.
     pub fn finish(self, count: u64) -> Result<Cnf, ReadError>
         ensures no_place { IfErr result (λ told. line_of told ≡ None) }
         ensures ok { IfOk result (λ cnf. (clauses : ℕ) → count ≡ held_number clauses

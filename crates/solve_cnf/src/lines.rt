@@ -9,7 +9,7 @@ ghost use Rattle.solve_cnf.specs.Places.{line_number, line_values, numbered_line
 use std::alloc::{AllocError, Global};
 use text_words::words::is_blank;
 
-/// How many lines stand before a line, and its bytes.
+/// The number of lines before a line, and the line's bytes.
 pub type Line<'a> = (usize, &'a [u8]);
 
 /// The number of a line, from 1.

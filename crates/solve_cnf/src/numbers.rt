@@ -9,7 +9,7 @@ ghost use Rattle.solve_cnf.specs.Counts.{counts_of};
 
 use crate::formula_error::ReadError;
 
-/// The number of decimal digits, or `u64::MAX` where it is greater.
+/// The number that decimal digits say, or `u64::MAX` where the number is greater.
 pub fn digits_number(digits: &[u8]) -> Option<u64>
     ensures { result ≡ (if are_digits digits.now then Some (held_number (digits_number digits.now)) else None) }
 {

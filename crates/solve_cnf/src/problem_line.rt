@@ -7,7 +7,7 @@ ghost use Rattle.text_words.specs.Slices.{texts};
 use crate::numbers::digits_number;
 use std::marker::Model;
 
-/// How many variables and clauses there are to be; the clauses as far as `u64` holds their number.
+/// The number of variables, and the number of clauses as far as a `u64` holds it.
 #[derive(Drop)]
 pub struct Header {
     pub vars: u32,

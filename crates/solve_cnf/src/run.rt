@@ -58,7 +58,7 @@ pub fn limit_of(word: &[u8]) -> Option<u64>
     }
 }
 
-/// Reads the text, solves its formula within so many conflicts, and writes the answer.
+/// Reads the text, solves its formula within `limit` conflicts, and writes the answer.
 pub fn run<W: Write>(alloc: Global, text: &[u8], limit: u64, out: &mut W) -> Result<(), RunError>
     requires { 1 ≤ limit }
     ensures ok { OnOk result (IsAnswered text.now limit (W.contents out.old) (W.contents out.new)) }

@@ -12,7 +12,7 @@ use cnf_core::lrat_text::LratText;
 use itoa::Buffer;
 use std::io::{self, Write};
 
-/// How many bytes of a log are written at once.
+/// The number of bytes of a log that are written at once.
 const PAGE_BYTES: usize = 4096;
 
 /// Writes the number and a blank.
@@ -64,7 +64,7 @@ fn write_log<W: Write>(out: &mut W, items: &[Item]) -> io::Result<()>
     }
 }
 
-/// Writes the answer: a line that says which it is, and then its model or its log.
+/// Writes the answer: a line that says which answer it is, and then its model or its log.
 pub fn write_answer<W: Write>(out: &mut W, answer: &Answer) -> io::Result<()>
     ensures { OnOk result
         (Appends (W.contents out.old) (W.contents out.new) (answer_text answer.now)) }

@@ -1,7 +1,8 @@
 //! Classes of signals that agree at the patterns, or are opposite at all of them.
 //!
-//! Of the words of a signal a key is kept and its value at the first pattern. A signal that is 1 there counts by its opposite words, so
-//! opposite signals have one key. Two keys may be the same by chance where words differ: such a pair is tried, and given up.
+//! Of the words of a signal its value at the first pattern and a key are kept. A signal that is 1 at the
+//! first pattern counts by its opposite words, so opposite signals have one key. Two keys may agree by chance
+//! where words differ: such a pair is tried, and given up.
 use crate::patterns::{scrambled, set_patterns};
 use cdcl_core::guide::Candidate;
 use lane_nets::values::eval_words;
@@ -10,10 +11,10 @@ use net_core::net::Net;
 use std::alloc::{AllocError, Global};
 use std::collections::HashMap;
 
-/// How many blocks of 64 patterns are simulated.
+/// The number of blocks of 64 patterns that are simulated.
 const BLOCKS: u64 = 4;
 
-/// Where the sequence of the patterns begins.
+/// The number with which the sequence of the patterns begins.
 const SEED: u64 = 88_172_645_463_325_252;
 
 /// For each signal whether it is 1 at the first pattern, and a key of its words.
@@ -37,7 +38,7 @@ fn add_block(turned: &mut Vec<bool>, keys: &mut Vec<u64>, words: &[u64], first: 
 }
 
 impl Signatures {
-    /// Those of a net's signals.
+    /// The signatures of a net's signals.
     pub fn of(alloc: Global, net: &Net) -> Result<Signatures, AllocError> {
         let signals = net.signals() as usize;
         let mut words = vec![in alloc; 0; signals]?;
@@ -68,7 +69,7 @@ impl Signatures {
         at < self.turned.len() && self.turned[at]
     }
 
-    /// The pair of the signal and the first of its class, or None where it is the first itself.
+    /// The pair of the signal and the first signal of its class, or None where the signal is that first one.
     pub fn pair(
         &self,
         firsts: &mut HashMap<u64, Signal>,

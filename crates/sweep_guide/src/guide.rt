@@ -15,7 +15,7 @@ fn pins_of(alloc: Global, net: &Net) -> Result<Items<SignalList>, AllocError> {
     Ok(pins)
 }
 
-/// The signals of the tables, each after those that it reads.
+/// The signals of the tables, each behind the signals that its table reads.
 fn order_of(alloc: Global, net: &Net) -> Result<SignalList, AllocError> {
     let mut order = Items::new(alloc);
     for table in net.order() {
@@ -37,7 +37,8 @@ fn first_inputs(
     Ok(firsts)
 }
 
-/// The tables' signals that may be equal to an earlier one, in their order: the first of those that have the same key.
+/// The tables' signals that may be equal to an earlier signal, in their order, each with the first signal
+/// that has the same key.
 fn candidates_of(
     alloc: Global,
     net: &Net,
@@ -54,8 +55,9 @@ fn candidates_of(
     Ok(candidates)
 }
 
-/// A guide for the formula of a net: its inputs, its tables, and the pairs of signals that agree at 256 patterns, or are opposite at all of
-/// them. `search_first` says that the search goes first for a while, before the pairs are tried.
+/// A guide for the formula of a net: its inputs, its tables, and the pairs of signals that agree at 256
+/// patterns, or are opposite at all of them. `search_first` says that the search goes on for a while before
+/// the pairs are tried.
 pub fn guide_of(alloc: Global, net: &Net, search_first: bool) -> Result<Guide, AllocError> {
     let order = order_of(alloc, net)?;
     let candidates = candidates_of(alloc, net, order.as_slice())?;

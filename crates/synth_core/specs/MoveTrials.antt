@@ -12,7 +12,8 @@ use Rattle.worst_case.specs.declared.margin.Margin.TheVariants.{Over, Within, Sp
 use Rattle.worst_case.specs.Exceeds.{IsSpentOn}
 use Rattle.worst_case.specs.VectorsTried.{IsExceededAt}
 
--- the error of M exceeds the bound at this vector; with at most eight inputs nothing is asked
+-- the error of M exceeds the bound at this vector; this never happens with at most eight inputs, where
+-- nothing is asked
 pub record IsFoundOver (metric : Metric) (exact : NetValue) (bound : ℕ) (M : NetValue) (x : List Bool) : Type 0 where
   pub many : FEW_INPUTS < input_count exact
   pub exceeded : IsExceededAt metric exact M bound x

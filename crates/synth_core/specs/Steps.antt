@@ -1,4 +1,4 @@
--- One step of the chain of simplifications, with the vectors that broke moves so far.
+-- One move along the chain of simplifications, with the vectors that broke moves so far.
 use Rattle.std.specs.Prelude.{◌≡◌, ℕ, ◌≤◌, Bool, Option, MatchOption, List, ◌∷◌, ◌++◌, Contains, length}
 use Rattle.std.specs.List.{AllByRecursion}
 use Rattle.semantics.specs.declared.limits.TheConstants.{FEW_INPUTS}
@@ -19,7 +19,8 @@ use Rattle.synth_core.specs.MoveTrials.{IsAllowedTo}
 use Rattle.synth_core.specs.declared.step.Step.{Step}
 use Rattle.synth_core.specs.declared.step.Step.TheVariants.{End, Moved, Spent}
 
--- vectors for the exact net, no two alike; with at most eight inputs they are all vectors in counting order
+-- vectors for the exact net, which differ pairwise; with at most eight inputs they are all vectors in
+-- counting order
 pub record IsPool (exact : NetValue) (s : PatternSet) : Type 0 where
   pub inputs : s.inputs ≡ input_count exact
   pub widths : AllByRecursion (λ x. length x ≡ input_count exact) s.vectors
@@ -39,7 +40,7 @@ pub record IsMaskedPool (metric : Metric) (exact : NetValue) (bound : ℕ) (N : 
 abbrev pub AreAmong : List (List Bool) → List (List Bool) → Type 0
 AreAmong old new = (x : List Bool) → Contains old x → Contains new x
 
--- some vector breaks each move of N before those that are left
+-- each move of N before those in `left` is broken by some of the vectors
 pub record IsSearched (metric : Metric) (exact : NetValue) (bound : ℕ) (N : NetValue) (vectors : List (List Bool)) (left : List Move) : Type 0 where
   pub before : List Move
   pub stands : moves_of N ≡ before ++ left
@@ -50,7 +51,7 @@ pub record IsCandidateMove (metric : Metric) (exact : NetValue) (bound : ℕ) (N
   pub offered : Contains (moves_of N) move
   pub unbroken : (x : List Bool) → Contains vectors x → ¬ IsBrokenAt metric exact bound N move x
 
--- the first move of N that none of the vectors breaks, and those that are left behind it
+-- the first move of N that none of the vectors breaks, and the moves in `left` behind it
 pub record IsFirstUnbroken (metric : Metric) (exact : NetValue) (bound : ℕ) (N : NetValue) (vectors : List (List Bool)) (left : List Move) (move : Move) : Type 0 where
   pub searched : IsSearched metric exact bound N vectors (move ∷ left)
   pub candidate : IsCandidateMove metric exact bound N vectors move
@@ -65,7 +66,7 @@ pub record IsFirstMoved (metric : Metric) (exact : NetValue) (bound : ℕ) (N M 
   pub first : IsFirstAllowed (IsAllowedMove metric exact bound N) (moves_of N) move
   pub net : M ≡ moved N move
 
--- S is N after the move, where it is allowed, or a query was spent on it
+-- S is N after the move, where the move is allowed or a query about it was spent
 abbrev pub IsStepBy : Metric → NetValue → ℕ → ℕ → NetValue → Move → NetValue → Step → Type 0
 IsStepBy metric exact bound limit N move S End = ⊥
 IsStepBy metric exact bound limit N move S Moved = IsAllowedTo metric exact bound N move S
@@ -76,12 +77,12 @@ pub record IsRefused (metric : Metric) (exact : NetValue) (bound : ℕ) (N : Net
   pub broken : IsBrokenBySome metric exact bound N vectors move
   pub back : S ≡ N
 
--- some vector breaks the move, or it makes a step
+-- some vector breaks the move, or the move ends the search among the moves of N
 abbrev pub IsWeighed : Metric → NetValue → ℕ → ℕ → NetValue → List (List Bool) → Move → NetValue → Option Step → Type 0
 IsWeighed metric exact bound limit N vectors move S found =
     MatchOption found (IsRefused metric exact bound N vectors move S) (IsStepBy metric exact bound limit N move S)
 
--- the step from N, where S is the copy of N in which its moves were tried
+-- what the moves of N come to, where S is the copy of N in which they were tried
 abbrev pub IsStep : Metric → NetValue → ℕ → ℕ → NetValue → List (List Bool) → NetValue → Step → Type 0
 IsStep metric exact bound limit N vectors S End = IsMinimalBy metric exact bound N vectors
 IsStep metric exact bound limit N vectors S Moved = IsFirstMoved metric exact bound N S

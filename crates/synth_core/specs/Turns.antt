@@ -11,14 +11,14 @@ use Rattle.worst_case.specs.VectorsTried.{IsHeldFor}
 use Rattle.synth_core.specs.declared.turn.Turn.{Turn}
 use Rattle.synth_core.specs.declared.turn.Turn.TheVariants.{Next, End}
 
--- the exact net, and what was made of it before the search
+-- the exact net, and what was computed of it before the search
 pub record IsReadyFor (exact : NetValue) (vectors : ReferenceValue) (decided : NetValue) : Type 0 where
   pub small : IsSmall exact
   pub few_outputs : length exact.outputs ≤ MOST_OUTPUTS
   pub held : IsHeldFor exact vectors
   pub decider : decided ≡ exact
 
--- a member of the chain behind another
+-- M is the member of the chain behind N
 pub record IsNextMember (metric : Metric) (exact : NetValue) (bound : ℕ) (N M : NetValue) : Type 0 where
   pub member : IsInSimplification metric exact bound M
   pub fewer : literal_count M < literal_count N

@@ -9,7 +9,7 @@ use std::alloc::{AllocError, Global};
 use worst_case::maximum::maximum_followed;
 use worst_case::query::Maximum;
 
-/// Who searches along the chain, and by queries for the greatest error.
+/// The search along the chain, and for the greatest error by queries.
 pub struct Chain;
 
 impl Search for Chain {

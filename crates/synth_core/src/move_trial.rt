@@ -1,4 +1,5 @@
-//! Whether a move that no known vector breaks keeps the bound: by a trial of every vector, by diagrams or by a query.
+//! Whether a move that no known vector breaks keeps the bound: by trying every vector, by diagrams or by a
+//! query.
 ghost use Rattle.std.specs.Prelude.{◌≡◌, ◌≤◌, IfOk, Contains};
 ghost use Rattle.semantics.specs.Net.{input_count};
 ghost use Rattle.semantics.specs.Error.{IsCandidate, IsWithin};
@@ -19,7 +20,7 @@ use semantics::metric::Metric;
 use std::alloc::{AllocError, Global};
 use worst_case::margin::{Margin, within_level};
 
-/// How far a move may err, and how many conflicts it may cost to find out.
+/// The metric and the bound, and the most conflicts that a query about a move may cost.
 #[derive(Clone, Copy)]
 pub(crate) struct Terms {
     pub(crate) metric: Metric,
@@ -27,7 +28,8 @@ pub(crate) struct Terms {
     pub(crate) limit: u64,
 }
 
-/// Whether the net in which a move was made keeps the bound. With few inputs every vector is known, so nothing is asked.
+/// Whether a moved net keeps the bound. With few inputs every vector is known to break no move that is left,
+/// so nothing is asked.
 fn judge<P: Progress>(
     alloc: Global,
     nets: &Compared,
@@ -61,7 +63,8 @@ fn judge<P: Progress>(
     )
 }
 
-/// Tries a move of the approximate net that no known vector breaks, in a copy of it. A move that breaks the bound is taken back.
+/// Tries a move of the approximate net that no known vector breaks, in a copy of the net. A move that breaks
+/// the bound is taken back.
 pub(crate) fn try_move<P: Progress>(
     alloc: Global,
     nets: &Compared,

@@ -1,11 +1,12 @@
 //! The chain of simplifications, from the tidied net to the member of which no move is allowed.
 //!
-//! A move that some known input vector breaks is refused by the masks of the member, without making the moved net. With few inputs
-//! every vector is known, so the others are allowed. With more the known vectors are those that broke earlier moves, and each other
-//! move is made and asked about: by a trial of vectors, against right outputs that are made once, with at most sixteen inputs of every
-//! one; with more then by diagrams, which are kept over the whole chain, or by a query. An allowed move is made; then the moved net
-//! is tidied, and the moves begin again, since one that was refused before may be allowed now. The chain ends, since each step
-//! removes literals, or with the first query that is spent.
+//! A move that some known input vector breaks is refused by the masks of the member, without making the moved
+//! net. With few inputs every vector is known, so every other move is allowed. With more inputs the known
+//! vectors are those that broke earlier moves, and each other move is made and judged. With at most sixteen
+//! inputs every vector is tried, against right outputs that are computed once. With more inputs some vectors
+//! are tried; then diagrams, which are kept over the whole chain, or a query decide. An allowed move is made,
+//! the moved net is tidied, and the moves begin again, since a move that was refused before may be allowed
+//! now. The chain ends, since each move removes literals, or it stops at the first spent query.
 ghost use Rattle.std.specs.Prelude.{◌≡◌, ◌≤◌, length, option_map, IfOk};
 ghost use Rattle.semantics.specs.Net.{input_count, IsSmall};
 ghost use Rattle.chain_semantics.specs.Simplification.{IsInSimplification};
@@ -30,7 +31,7 @@ use worst_case::policy::decider_for;
 use worst_case::query::Spent;
 use worst_case::vectors_tried::hold_vectors;
 
-/// The vectors to begin with: all of them where there are few inputs, and else none.
+/// The vectors to begin with: all vectors where there are few inputs, and else none.
 fn first_pool(alloc: Global, net: &Net) -> Result<Patterns, AllocError>
     requires { IsSmall net.now }
     ensures { IfOk result (IsPool net.now) }
@@ -42,7 +43,7 @@ fn first_pool(alloc: Global, net: &Net) -> Result<Patterns, AllocError>
     Ok(Patterns::new(alloc, inputs))
 }
 
-/// Goes from member to member of the chain, up to the end or to a query that is spent, which is the answer.
+/// Goes from member to member of the chain, up to its end or to a spent query. Returns the spent query.
 fn follow<P: Progress>(
     alloc: Global,
     net: &Net,
@@ -101,7 +102,7 @@ fn search_from<P: Progress>(
     )
 }
 
-/// The same as `shrink`, with one who is told how far the search is.
+/// Follows the chain of simplifications as [`shrink`] does, and tells `progress` how far the search is.
 pub fn shrink_followed<P: Progress>(
     alloc: Global,
     net: &Net,
@@ -132,7 +133,8 @@ pub fn shrink_followed<P: Progress>(
     })
 }
 
-/// Follows the chain of simplifications of a net within a bound, where each query may cost so many conflicts.
+/// Follows the chain of simplifications of a net within a bound, where each query may cost at most `limit`
+/// conflicts.
 pub fn shrink(
     alloc: Global,
     net: &Net,

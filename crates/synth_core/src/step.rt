@@ -1,4 +1,4 @@
-//! One step of the chain of simplifications: the first allowed move of a member.
+//! One move along the chain of simplifications: the first allowed move of a member.
 ghost use Rattle.std.specs.Prelude.{◌≡◌, ◌<◌, ◌≤◌, ◌++◌, ◌∷◌, [], length, IfOk, OnOk};
 ghost use Rattle.semantics.specs.Net.{input_count, IsSmall};
 ghost use Rattle.worst_case.specs.VectorsTried.{IsHeldFor};
@@ -57,8 +57,8 @@ fn add_vector(pool: &mut Patterns, masks: &mut GrowingMasks, x: &[bool]) -> Resu
     masks.grow(pool)
 }
 
-/// Tries a move that no vector of the pool breaks, in a copy of the approximate net: the step that it makes, or None where a vector
-/// breaks it, which joins the pool.
+/// Tries a move that no vector of the pool breaks, in a copy of the approximate net. Returns what the move
+/// comes to, or None where a vector breaks the move; that vector joins the pool.
 fn weigh<P: Progress>(
     alloc: Global,
     nets: &Compared,

@@ -25,7 +25,8 @@ pub(crate) enum Turn {
     End(Option<Spent>),
 }
 
-/// Makes the first allowed move of a member in a copy of it, and tidies what it leaves. The member is told on.
+/// Makes the first allowed move of a member in a copy of it, and tidies the moved net. Tells `progress` the
+/// literals of the member, and then each table as its moves begin.
 pub(crate) fn take_turn<P: Progress>(
     alloc: Global,
     net: &Net,

@@ -1,4 +1,5 @@
-//! The moves that no vector of the pool breaks. Most moves are broken by one, so this is the search's inner loop: it makes no net.
+//! The moves that no vector of the pool breaks. Some vector breaks most moves, so this is the inner loop of
+//! the search, and it makes no net.
 ghost use Rattle.std.specs.Prelude.{◌≡◌, ◌<◌, length, IfOk, IfSome};
 ghost use Rattle.synth_core.specs.Steps.{IsSearched, IsNextUnbroken};
 
@@ -9,7 +10,8 @@ use net_moves::list::Moves;
 use progress::progress::Progress;
 use std::alloc::AllocError;
 
-/// Tells on that moves of another table are tried now, of so many tables.
+/// Tells `progress` that moves of `table`, one of `tables` tables, are tried now, where `told` is another
+/// table or none.
 fn tell_table<P: Progress>(told: &mut Option<u32>, table: u32, tables: u32, progress: &mut P) {
     if *told != Some(table) {
         *told = Some(table);
@@ -17,7 +19,7 @@ fn tell_table<P: Progress>(told: &mut Option<u32>, table: u32, tables: u32, prog
     }
 }
 
-/// The next of the moves that no vector of the masks breaks. Each table is told on as its moves begin.
+/// The next of the moves that no vector of the masks breaks. Tells `progress` each table as its moves begin.
 pub(crate) fn next_unbroken<P: Progress>(
     moves: &mut Moves,
     masks: &mut GrowingMasks,

@@ -19,8 +19,8 @@ use Rattle.synth_jobs.specs.declared.preparing.Prepared.{Prepared}
 use Rattle.synth_jobs.specs.declared.preparing.Prepared.TheVariants.{Ready, Budget}
 use Rattle.synth_jobs.specs.Spent.{told_query}
 
--- this is the bundle of a simplification of the exact net; the log refutes the formula, and the texts are a certificate, whose report is of
--- version 2
+-- b is the bundle of a simplification of the exact net; its log refutes its formula, and its texts are a
+-- certificate, whose report is of version 2
 pub record IsReady (exact : NetValue) (metric : Metric) (bound limit : ℕ) (b : BundleValue) (spent : Option spent.Spent) : Type 0 where
   pub result : Simplified
   pub right : IsSimplifiedFrom exact metric bound limit result b.log
@@ -50,7 +50,7 @@ bundle_of exact aim found goal = record {
 abbrev pub shrinking_found : Findings → Shrinking
 shrinking_found found = record { net = found.shrunk.net; pool = found.shrunk.pool.vectors; spent = told_query found.shrunk.spent }
 
--- the search came to this member of the chain, and this is its greatest error
+-- the search came to this member of the chain, whose greatest error this is
 pub record AreFound (exact : NetValue) (metric : Metric) (bound limit : ℕ) (found : Findings) : Type 0 where
   pub search : IsShrinking metric exact bound limit (shrinking_found found)
   pub most : IsMaximum metric exact found.shrunk.net found.maximum found.witness found.log

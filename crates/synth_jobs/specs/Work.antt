@@ -1,4 +1,4 @@
--- What the work on a net that is at hand comes to.
+-- What the work on a net that was read or generated comes to.
 use Rattle.std.specs.Prelude.{◌≡◌, ℕ}
 use Rattle.semantics.specs.Texts.{Bytes}
 use Rattle.semantics.specs.Net.{NetValue}
@@ -10,7 +10,7 @@ use Rattle.synth_jobs.specs.declared.work.Work.{Work}
 use Rattle.synth_jobs.specs.declared.work.Work.TheVariants.{Done, Budget, NoMemory, WriteFault}
 use Rattle.synth_jobs.specs.Spent.{told_query}
 
--- its bundle was written under the stem, whole or in part, or nothing was touched
+-- the net's bundle was written under the stem, whole or in part, or nothing was touched
 abbrev pub WorkSays : Metric → ℕ → ℕ → NetValue → Bytes → FilesTold → FilesTold → SinkTold → SinkTold → Work → Type 0
 WorkSays metric bound limit exact stem old new said says (Done spent) = BundleWritten metric bound limit exact stem (told_query spent) old new said says
 WorkSays metric bound limit exact stem old new said says (Budget level spent) =

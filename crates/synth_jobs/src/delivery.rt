@@ -1,4 +1,5 @@
-//! A net is simplified, and then its bundle is written and its report put: what a synth and a demo job have in common.
+//! A net is simplified, its bundle is written, and its report is put to the sink: what a synth and a demo job
+//! have in common.
 ghost use Rattle.std.specs.Prelude.{◌≤◌, ℕ, OnOk, OnErr};
 ghost use Rattle.semantics.specs.Net.{NetValue, IsSmall};
 ghost use Rattle.semantics.specs.declared.metric.Metric.{Metric};
@@ -21,7 +22,7 @@ use semantics::limits::LARGEST_ERROR;
 use std::alloc::Global;
 use worst_case::query::Spent;
 
-/// Writes the files of a bundle, and then puts its report.
+/// Writes the files of a bundle, and then puts its report to the sink.
 fn deliver<F: Files, K: Sink>(
     bundle: &Bundle,
     names: &Stem,
@@ -37,7 +38,8 @@ fn deliver<F: Files, K: Sink>(
     put_report(bundle, say)
 }
 
-/// What the work comes to behind the delivery of a bundle that is ready.
+/// What the work on a net comes to once its bundle is ready and the files and the report are delivered, or
+/// could not be.
 fn delivered<F: Files, K: Sink>(
     bundle: &Bundle,
     spent: Option<Spent>,
@@ -54,7 +56,8 @@ fn delivered<F: Files, K: Sink>(
     }
 }
 
-/// Simplifies a net, writes its bundle under the names, and puts the report. Everything is computed before a file is touched.
+/// Simplifies a net, writes its bundle under the stem's names, and puts the report. Everything is computed
+/// before a file is touched.
 pub fn finish<S: Search, F: Files, K: Sink, P: Progress>(
     alloc: Global,
     exact: Net,

@@ -1,4 +1,5 @@
-//! What is done with a net that is at hand: it is simplified, and its bundle is written. A demonstration is that, with an adder.
+//! What is done with a net that was read or generated: it is simplified, and its bundle is written. A
+//! demonstration does this with an adder.
 #![tactic(auto)]
 
 pub mod delivery;

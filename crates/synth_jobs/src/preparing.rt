@@ -1,4 +1,5 @@
-//! All that is computed of a net before a file is touched: the search along the chain, the greatest error, and the formula.
+//! All that is computed of a net before a file is touched: the search along the chain, the search for the
+//! greatest error, and the formula.
 ghost use Rattle.std.specs.Prelude.{◌≡◌, ◌≤◌, ◌<◌, ◌^◌, ℕ, IfOk};
 ghost use Rattle.semantics.specs.Net.{NetValue, IsSmall, IsSound};
 ghost use Rattle.semantics.specs.declared.metric.Metric.{Metric};
@@ -24,7 +25,7 @@ use semantics::metric::Metric;
 use std::alloc::{AllocError, Global};
 use worst_case::query::{Maximum, Spent};
 
-/// The error's measure, the most that it may be, and the most conflicts of each query.
+/// The metric of the error, the bound on it, and the most conflicts of each query.
 #[derive(Clone, Copy)]
 pub struct Constraint {
     pub metric: Metric,
@@ -35,20 +36,21 @@ pub struct Constraint {
 /// What is ready before the first file is touched.
 #[derive(Drop)]
 pub enum Prepared {
-    /// The bundle, and the query of the chain that was spent, if one was.
+    /// The bundle, and the spent query of the search along the chain, where one was spent.
     Ready {
         bundle: Bundle,
         spent: Option<Spent>,
     },
-    /// The query of the search for the greatest error that was spent, and that of the chain, if one was.
+    /// The spent query of the search for the greatest error, and the spent query of the search along the
+    /// chain, where one was spent.
     Budget {
         level: Spent,
         spent: Option<Spent>,
     },
 }
 
-/// What was found of a net: its simplification, the greatest error of that, an input that attains it, and the log that refutes
-/// the formula.
+/// What was found of a net: its simplification, the greatest error of the simplified net, an input that
+/// attains this error, and the log that refutes the formula.
 #[derive(Drop)]
 struct Findings {
     shrunk: Shrunk,
@@ -82,16 +84,17 @@ fn gathered(exact: Net, aim: Constraint, found: Findings, goal: Cnf) -> Prepared
     }
 }
 
-/// What the search along the chain and that for the greatest error come to.
+/// What the search along the chain and the search for the greatest error come to.
 #[derive(Drop)]
 enum Searched {
     /// The greatest error was found.
     Found(Findings),
-    /// The query of the search for it that was spent, and that of the chain, if one was.
+    /// The spent query of the search for the greatest error, and the spent query of the search along the
+    /// chain, where one was spent.
     Budget { level: Spent, spent: Option<Spent> },
 }
 
-/// What the search for the greatest error came to, behind that along the chain.
+/// The findings of both searches, or the spent query of the search for the greatest error.
 fn together(shrunk: Shrunk, maximum: Maximum) -> Searched
     ensures { (exact : NetValue) (metric : Metric) (bound limit : ℕ) → IsShrinking metric exact bound limit (record { net = shrunk.net; pool = shrunk.pool.vectors; spent = told_query shrunk.spent })
         → IsMaximumAnswer metric exact shrunk.net bound limit maximum → IsSearched exact metric bound limit result }
@@ -153,7 +156,7 @@ fn goal_for(
     miter_of(alloc, &nets, aim.metric, found.maximum)
 }
 
-/// The bundle of the simplification of a net, or the query that stood in its way.
+/// The bundle of the simplification of a net, or the spent query for which there is none.
 pub fn prepare<S: Search, P: Progress>(
     alloc: Global,
     exact: Net,

@@ -1,4 +1,4 @@
-//! What the work on a net comes to.
+//! The answer of the work on a net.
 ghost use Rattle.std.specs.Prelude.{◌≡◌};
 ghost use Rattle.synth_jobs.specs.Work.{work_exit};
 
@@ -7,12 +7,13 @@ use worst_case::query::Spent;
 /// What the work on a net comes to.
 #[derive(Drop)]
 pub enum Work {
-    /// The bundle was written and its report put. The query of the chain that was spent, if one was: then the report says
-    /// `minimal no`.
+    /// The bundle was written and its report put to the sink. Holds the spent query of the search along the
+    /// chain, where one was spent: then the report says `minimal no`.
     Done(Option<Spent>),
-    /// The query of the search for the greatest error that was spent, and that of the chain, if one was. Nothing was touched.
+    /// The spent query of the search for the greatest error, and the spent query of the search along the
+    /// chain, where one was spent. Nothing was touched.
     Budget { level: Spent, spent: Option<Spent> },
-    /// Want of memory. Nothing was touched.
+    /// Memory was wanting. Nothing was touched.
     NoMemory,
     /// A file of the bundle or its report could not be written.
     WriteFault,

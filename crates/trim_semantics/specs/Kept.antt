@@ -16,7 +16,8 @@ root_of [] = None
 root_of (Add s ∷ log) = if is_empty_clause s.literals then Some s else root_of log
 root_of (Remove ids ∷ log) = root_of log
 
--- the least set of additions that holds the root and, with an addition, each addition whose id is among its hints
+-- the least set of additions that holds the root and, with each addition in it, every addition whose id is
+-- among the hints of that one
 pub data IsKept (log : List LogItem) : StepValue → Type 0 where
   root : (s : StepValue) → root_of log ≡ Some s → IsKept log s
   named : (s t : StepValue) → Contains log (Add s) → IsKept log t → Contains t.hints s.id → IsKept log s

@@ -10,7 +10,7 @@ use Rattle.trim_semantics.specs.Trimmed.{IsTrimmed}
 abbrev pub by_way_of_2 : List LogItem
 by_way_of_2 = Add (step 4 (pos 2 ∷ []) (1 ∷ 2 ∷ [])) ∷ Add (step 6 [] (4 ∷ 3 ∷ [])) ∷ []
 
--- the same, with the clause -1, which nothing names
+-- `by_way_of_2` with one more step, the clause -1, which nothing names
 abbrev pub with_an_idle_step : List LogItem
 with_an_idle_step = Add (step 4 (pos 2 ∷ []) (1 ∷ 2 ∷ [])) ∷ Add (step 5 (minus 1 ∷ []) (2 ∷ 3 ∷ [])) ∷ Add (step 6 [] (4 ∷ 3 ∷ [])) ∷ []
 

@@ -1,7 +1,7 @@
--- Trimmed logs: of a log that refutes a formula only the additions from which its empty clause follows, each removed as soon as
--- no further one names it, but for those that the empty clause is the last to name. Its order is that of the ids, which rise along such
--- a log.
--- Source: proof trimming by backward checking, with the removals of LRAT.
+-- Trimmed logs. Of a log that refutes a formula, the trimmed log has only the additions from which the empty
+-- clause follows. It removes each of these as soon as no further addition names it, but for those that the
+-- empty clause is the last to name. Its order is that of the ids, which rise along such a log. Source: proof
+-- trimming by backward checking, with the removals of LRAT.
 use Rattle.std.specs.Prelude.{◌≡◌, ◌↔◌, ℕ, ◌<◌, ◌≤◌, List, [], ◌∷◌, ◌++◌, Some}
 use Rattle.std.specs.List.{Contains, AllPairs}
 use Rattle.proof_semantics.specs.declared.item.Item.TheVariants.{Add, Remove}
@@ -19,7 +19,8 @@ pub record IsLastToName (log : List LogItem) (s t : StepValue) : Type 0 where
   pub named : Contains s.hints t.id
   pub last : (u : StepValue) → IsKept log u → Contains u.hints t.id → u.id ≤ s.id
 
--- the ids that end after a kept addition, in rising order: those that it is the last to name, and none after the root
+-- the ids that end after a kept addition s, in rising order: the ids that s is the last to name; after the
+-- root no id ends
 pub record AreEndedAfter (log : List LogItem) (s : StepValue) (ids : List ℕ) : Type 0 where
   pub exactly : (id : ℕ) → Contains ids id ↔ ((¬ (root_of log ≡ Some s)) × ((t : StepValue) × (t.id ≡ id) × IsLastToName log s t))
   pub in_order : AllPairs (λ a b. a < b) ids

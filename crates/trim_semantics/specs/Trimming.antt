@@ -1,4 +1,5 @@
--- How a trimmed log is found: an addition is kept where a kept one behind it names it, so the kept ones come from the end.
+-- How a trimmed log is found: an addition is kept where a kept addition behind it names it, so the kept
+-- additions are found from the end.
 use Rattle.std.specs.Prelude.{ℕ, Bool, not, ◌&&◌, if◌then◌else◌, List, [], ◌∷◌, ◌++◌, map, filter, ◌==◌}
 use Rattle.std.specs.List.{list_any}
 use Rattle.proof_semantics.specs.declared.item.Item.TheVariants.{Add, Remove}
@@ -19,7 +20,7 @@ kept_steps [] = []
 kept_steps (Add s ∷ log) = if is_empty_clause s.literals then s ∷ [] else if is_named (kept_steps log) s.id then s ∷ kept_steps log else kept_steps log
 kept_steps (Remove ids ∷ log) = kept_steps log
 
--- of these ids those that the step names, and none of the later steps; none after the last step
+-- the ids among these that the step names and no later step names; after the last step there is none
 abbrev pub ended_after : List ℕ → StepValue → List StepValue → List ℕ
 ended_after ids s [] = []
 ended_after ids s (t ∷ later) = filter (λ id. has_id s.hints id && not (is_named (t ∷ later) id)) ids

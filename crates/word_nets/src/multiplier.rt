@@ -13,7 +13,7 @@ use net_core::net::Net;
 use net_parts::items::{Items, Signal};
 use std::alloc::{AllocError, Global};
 
-/// The bus, doubled so many times: that many times the signal of 0 in front.
+/// The number of the bus times 2^`times`: the signal of 0 stands `times` times in front of the bus.
 fn doubled(alloc: Global, zero: Signal, times: usize, bus: &Bus) -> Result<Bus, AllocError>
     ensures { IfOk result (λ b. b ≡ replicate times zero ++ bus.now) }
 {
@@ -22,7 +22,7 @@ fn doubled(alloc: Global, zero: Signal, times: usize, bus: &Bus) -> Result<Bus, 
     Ok(doubled)
 }
 
-/// Each bit of a bus, and one more bit.
+/// The conjunction of each bit of a bus with `bit`.
 #[tactic(auto, using(crate::proofs::Multiplying::begins_after))]
 fn products(alloc: Global, net: &mut WordNet, bit: Signal, x: &Bus) -> Result<Bus, AllocError>
     requires bit_in { bit < signals net.old }
@@ -66,7 +66,7 @@ fn product_rows(
     Ok(rows)
 }
 
-/// The sum of the rows, at least one, each doubled once more than the one before.
+/// The sum of the rows, of which there is at least one; each row is doubled once more than the row before it.
 #[tactic(auto, using(crate::proofs::Multiplying::begins_after))]
 fn sum_of_rows(alloc: Global, net: &mut WordNet, rows: &Items<Bus>) -> Result<Bus, AllocError>
     requires some { 0 < length rows.now }
@@ -85,7 +85,7 @@ fn sum_of_rows(alloc: Global, net: &mut WordNet, rows: &Items<Bus>) -> Result<Bu
     Ok(sum)
 }
 
-/// The net whose output number is the product of its two words of so many bits.
+/// The net whose output number is the product of its two words of `width` bits.
 pub fn mul_net(alloc: Global, width: u32) -> Result<Net, AllocError>
     requires some { 1 ≤ width }
     requires narrow { width ≤ 8 }

@@ -40,7 +40,7 @@ fn read_bytes(reader: &mut LratReader, text: &[u8]) -> Result<(), LratRefusal>
     reader.finish()
 }
 
-/// Reads the text in two pieces, or byte by byte where it is not cut.
+/// Reads the text in two pieces, cut at `cut`, or byte by byte where `cut` is None.
 fn read(reader: &mut LratReader, text: &[u8], cut: Option<usize>) -> Result<(), LratRefusal>
     requires going { reader.old.finished ≡ false }
     requires size { length reader.old.text + length text.now < 2 ^ 63 }
@@ -93,7 +93,7 @@ fn judged(alloc: Global, text: &[u8], cut: Option<usize>) -> Result<Verdict, All
     Ok(check(&mut reader, &mut checker))
 }
 
-/// Whether the text is judged so byte by byte, and in two pieces wherever it is cut.
+/// Whether the text is judged as wanted byte by byte, and in two pieces wherever it is cut.
 fn is_judged(alloc: Global, text: &[u8], wanted: Verdict) -> Result<bool, AllocError>
     requires { length text.now < 2 ^ 63 }
 {

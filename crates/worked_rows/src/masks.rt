@@ -17,7 +17,7 @@ use std::test::Fail;
 const READS_CARRY: &[u8] =
     b".model ha\n.inputs a b\n.outputs s c\n.names c s\n0 1\n.names a b c\n11 1\n.end\n";
 
-/// So many vectors of two zeros, and then one of two ones.
+/// `zeros` vectors of two zeros and then, if `ones`, one vector of two ones.
 fn patterns(alloc: Global, zeros: u32, ones: bool) -> Result<Patterns, AllocError>
     ensures { IfOk result (λ p. p.inputs ≡ 2) }
 {
@@ -35,7 +35,8 @@ fn last_word(row: &[u64]) -> Option<u64> {
     row.last().copied()
 }
 
-/// The last words of the carry's care and of where the move differs from it, and where the move breaks the bound.
+/// The last word of the carry's care row, the last word of the row where the move changes the carry, and the
+/// first pattern at which the move breaks the bound.
 type Told = (Option<u64>, Option<u64>, Option<u64>);
 
 fn told(adc: &mut Adc, step: Move) -> Told
@@ -70,7 +71,7 @@ fn carry_as_zero(
     Ok(told(&mut adc, step))
 }
 
-/// The same of the net of a text, at these patterns.
+/// What [`carry_as_zero`] tells of the net of a text, at these patterns.
 fn read_and_told(alloc: Global, text: &[u8], zeros: u32, ones: bool) -> Result<Told, Fail> {
     let exact = net(alloc, HALF_ADDER)?;
     let approx = net(alloc, text)?;
@@ -78,8 +79,8 @@ fn read_and_told(alloc: Global, text: &[u8], zeros: u32, ones: bool) -> Result<T
     carry_as_zero(alloc, &exact, &approx, &patterns)
 }
 
-/// The flipped carry of the half adder errs by 2 everywhere; where the sum reads it, by 2 at zeros and by 1 at ones, since the sum
-/// turns too. The constant differs at ones alone.
+/// The half adder with its carry turned over errs by 2 everywhere; where the sum reads the carry, by 2 at
+/// zeros and by 1 at ones, since the sum turns too. The constant differs from the carry at ones alone.
 #[test]
 fn constant_carry(rt: HostRuntime) -> Result<(), Fail> {
     let cases: [(&[u8], u32, bool, Told); 5] = [

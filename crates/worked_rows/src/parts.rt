@@ -18,7 +18,8 @@ fn buffer(alloc: Global, name: &[u8], pin: u32) -> Result<Table, NameRefusal> {
     Ok(Table::new(name, pins, rows, true))
 }
 
-/// The net of these tables, each with its name and its pin, and of so many outputs, each the first table.
+/// The net of these tables, each with its name and its pin, and of `outputs` outputs, each of which is the
+/// first table.
 fn net_of_parts(
     alloc: Global,
     buffers: &[(&[u8], u32)],

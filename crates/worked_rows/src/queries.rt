@@ -23,7 +23,7 @@ const CONJUNCTION: &[u8] =
     b".model conj\n.inputs x0 x1 x2 x3 x4 x5 x6 x7 x8 x9 x10 x11 x12 x13 x14 x15\n.outputs y\n\
     .names x0 x1 x2 x3 x4 x5 x6 x7 x8 x9 x10 x11 x12 x13 x14 x15 y\n1111111111111111 1\n.end\n";
 
-/// The same conjunction over two halves.
+/// The conjunction of 16 inputs, over two halves.
 const TREE: &[u8] =
     b".model tree\n.inputs x0 x1 x2 x3 x4 x5 x6 x7 x8 x9 x10 x11 x12 x13 x14 x15\n.outputs y\n\
     .names x0 x1 x2 x3 x4 x5 x6 x7 p\n11111111 1\n.names x8 x9 x10 x11 x12 x13 x14 x15 q\n11111111 1\n\
@@ -73,8 +73,8 @@ fn fits(bits: &[bool], pattern: &[u8]) -> bool {
             || *bit == (*wanted == b'1'))
 }
 
-/// Whether the query at level 0 is answered as wanted: by an input that fits the pattern, or never where it is empty, or spent where
-/// that may be.
+/// Whether the query at level 0 is answered as wanted: by an input that fits the pattern, by `Never` where
+/// the pattern is empty, or as spent where that may be.
 fn is_answered(
     alloc: Global,
     nets: (&Net, &Net),

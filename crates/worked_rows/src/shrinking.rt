@@ -18,7 +18,8 @@ fn are_constant(net: &Net) -> bool {
     true
 }
 
-/// How many tables are left of the multiplier, whether all of them are constant, and whether a query was spent.
+/// The number of tables that are left of the multiplier, whether all of them are constant, and whether a
+/// query was spent.
 fn left_of_product(alloc: Global, bound: u128, limit: u64) -> Result<(u32, bool, bool), AllocError>
     requires { 1 ≤ limit }
 {

@@ -5,12 +5,12 @@ use memory_runs::bundles::with_file;
 use memory_runs::runs::run_over;
 use std::alloc::{AllocError, Global};
 
-/// A text without so many bytes at its end.
+/// A text without the last `bytes` bytes.
 pub(crate) fn shorter(text: &[u8], bytes: usize) -> &[u8] {
     &text[..text.len().saturating_sub(bytes)]
 }
 
-/// The number of the clause that is refuted, 0 for `Verified`; none for another answer.
+/// The number of the clause that is refuted, 0 for `Verified`; None for any other answer.
 fn refuted_clause(status: &Status) -> Option<u8> {
     match status {
         Status::Verified => Some(0),
@@ -19,7 +19,8 @@ fn refuted_clause(status: &Status) -> Option<u8> {
     }
 }
 
-/// Whether a run on the words over the bundle, where one file has another text, ends with the clause, 0 for none, and puts nothing.
+/// Whether a run on the words over the bundle, where one file has another text, is refuted by clause
+/// `clause`, or verified for 0, and puts nothing.
 pub(crate) fn ends_with_clause(
     alloc: Global,
     whole: &MemFiles,

@@ -1,4 +1,4 @@
-//! Netlists with more inputs than vectors can be tried: an adder of 32, and a conjunction of 16.
+//! Netlists with more inputs than vectors can be tried: an adder of 32 inputs, and a conjunction of 16.
 use memory_runs::held::{begins, holds, joined};
 use memory_runs::runs::{run_after, run_on};
 use std::alloc::{AllocError, Global};

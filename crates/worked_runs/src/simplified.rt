@@ -5,7 +5,8 @@ use memory_runs::held::{begins, holds};
 use memory_runs::runs::run_on;
 use std::test::Fail;
 
-/// A run that is done: its words, the text of IN, and the files that it leaves, of the formula the first line.
+/// A run that is done: its words, the text of IN, and the files that the run leaves; of the formula only the
+/// first line.
 #[derive(Clone, Copy)]
 struct Simplified<'a> {
     line: &'a [u8],

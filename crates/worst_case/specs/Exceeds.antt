@@ -30,20 +30,22 @@ IsAnswer metric exact approx k limit (Over x) = IsOver metric exact approx k x
 IsAnswer metric exact approx k limit (Never log) = IsNever metric exact approx k log
 IsAnswer metric exact approx k limit (Spent s) = IsSpentOn metric exact approx k limit s
 
--- the merges of the joint net of these two nets at this level, and behind them so many conflicts over the miter
+-- the merges of the joint net of these two nets at this level, and behind them `conflicts` conflicts over the
+-- miter
 pub record IsChainOn (metric : Metric) (exact approx : NetValue) (k conflicts : ℕ) (s : spent.Spent) : Type 0 where
   pub net : s.net ≡ approx
   pub level : s.k ≡ k
   pub merged : IsMergeLog (joint_net exact s.net metric s.k) (take s.merged s.log)
   pub chain : IsConflictChain (miter exact s.net metric s.k) s.merged conflicts s.log
 
--- what an answer of the solver behind so many merged steps says of two nets: the first bits of a model are an input
+-- what an answer of the solver behind `merged` merged steps says of two nets: the first bits of a model are
+-- an input vector
 abbrev pub told : NetValue → NetValue → ℕ → ℕ → Answer → Exceed
 told exact approx k merged (answer.Model bits) = Over (take (input_count exact) bits)
 told exact approx k merged (answer.Refuted log) = Never log
 told exact approx k merged (answer.Spent log) = Spent (record { net = approx; k = k; merged = merged; log = log })
 
--- this is told of an answer of the solver to a formula behind these merged steps
+-- `exceed` is what an answer of the solver, to the formula behind these merged steps, says of the two nets
 pub record IsToldBehind (exact approx : NetValue) (f : Formula) (k limit : ℕ) (merged : List LogItem) (exceed : Exceed) : Type 0 where
   pub found : Answer
   pub solved : IsSolved f merged limit found

@@ -1,9 +1,9 @@
-//! That nets can be compared, as their types say.
+//! That two nets can be compared, from the type that holds them.
 ghost use Rattle.quality_semantics.specs.Joint.{AreComparable};
 
 use net_errors::compared::Compared;
 
-/// Shows that both nets are sound, and have as many inputs and as many outputs.
+/// Shows that both nets are sound, and have equally many inputs and equally many outputs.
 pub(crate) fn see_comparable(nets: &Compared)
     ensures { AreComparable nets.now.exact nets.now.approx }
 {

@@ -1,5 +1,5 @@
-//! Whether some error exceeds a level. With at most sixteen inputs every vector is tried, and the log is made where the error of none
-//! exceeds it; with more the solver is asked.
+//! Whether some error exceeds a level. With at most sixteen inputs every vector is tried, and the log is made
+//! where no vector's error exceeds the level; with more inputs the solver is asked.
 ghost use Rattle.std.specs.Prelude.{◌≤◌, length, IfOk};
 ghost use Rattle.semantics.specs.Net.{HasSamePorts, input_count};
 ghost use Rattle.worst_case.specs.Exceeds.{IsAnswer};

@@ -21,15 +21,15 @@ use std::alloc::{AllocError, Global};
 /// Whether the error exceeds a level.
 #[derive(Drop)]
 pub enum Margin {
-    /// At this input vector.
+    /// The error exceeds the level at this input vector.
     Over(Bits),
-    /// At none.
+    /// The error exceeds the level at no input vector.
     Within,
-    /// The conflicts that were allowed are spent.
+    /// The allowed conflicts were spent without an answer.
     Spent(Spent),
 }
 
-/// What diagrams answer within so many steps, if they do.
+/// The answer of the diagrams, where they find one within `steps` steps.
 #[tactic(auto, using(crate::proofs::Decided::answer_over, crate::proofs::Decided::answer_within))]
 pub(crate) fn by_diagrams(
     alloc: Global,

@@ -1,8 +1,8 @@
 //! The greatest error of an approximate net, found by queries.
 //!
-//! An error that some input has lies below it, and a level that no input exceeds above. Diagrams are asked first whether the error that
-//! is known is the greatest; then each query halves what lies between. The log that is given refutes that any error exceeds the
-//! greatest.
+//! The greatest error lies between an error that some input has and a level that no input's error exceeds.
+//! Diagrams are asked first whether the known error is the greatest; then each query halves the range between
+//! the two levels. The log that is returned refutes that any error exceeds the greatest.
 ghost use Rattle.std.specs.Prelude.{◌≡◌, ◌≤◌, ℕ, length, IfOk};
 ghost use Rattle.semantics.specs.Net.{HasSamePorts, IsSmall};
 ghost use Rattle.semantics.specs.Error.{IsWithin};
@@ -20,7 +20,8 @@ use semantics::limits::MOST_OUTPUTS;
 use semantics::metric::Metric;
 use std::alloc::{AllocError, Global};
 
-/// The answer where the levels meet, which is told: a log for this level is asked for where none is held.
+/// Tells `progress` the level at which the range is closed, and answers this level as the greatest error.
+/// Where the range has no log for the level, a log is asked for.
 fn settle<P: Progress>(
     alloc: Global,
     nets: &Compared,
@@ -52,7 +53,8 @@ fn settle<P: Progress>(
     }
 }
 
-/// Narrows the range by queries until its levels meet, and tells each range before its query. It answers what was spent.
+/// Narrows the range by queries until its levels meet, and tells `progress` each range before its query.
+/// Returns the query that was spent, if one was.
 fn close<P: Progress>(
     alloc: Global,
     nets: &Compared,
@@ -78,7 +80,8 @@ fn close<P: Progress>(
     Ok(None)
 }
 
-/// The same, where diagrams are first asked whether the error that is known is the greatest.
+/// Asks diagrams first whether the known error is the greatest, and then narrows the range until its levels
+/// meet, as [`close`] does.
 fn close_known<P: Progress>(
     alloc: Global,
     nets: &Compared,
@@ -98,7 +101,7 @@ fn close_known<P: Progress>(
     close(alloc, nets, decider, metric, limit, range, progress)
 }
 
-/// The same with diagrams of the exact net.
+/// Makes the diagrams' decider for the exact net, and closes the range with it, as [`close_known`] does.
 fn close_by_diagrams<P: Progress>(
     alloc: Global,
     nets: &Compared,
@@ -116,7 +119,7 @@ fn close_by_diagrams<P: Progress>(
     close_known(alloc, nets, &mut decider, metric, limit, range, progress)
 }
 
-/// The greatest error, which lies in the range.
+/// The greatest error, which lies in the range, or the query that was spent.
 fn search<P: Progress>(
     alloc: Global,
     nets: &Compared,
@@ -136,8 +139,9 @@ fn search<P: Progress>(
     }
 }
 
-/// The same as `maximum`, with one who is told how far the search is: the bound at its beginning, and each range up to the one whose
-/// levels meet, before the log is asked for.
+/// Finds the greatest error as [`maximum`] does, of nets that can be compared, and tells `progress` how far
+/// the search is: the bound at its beginning, and each range up to the one whose levels meet, before the log
+/// is asked for.
 pub fn maximum_followed<P: Progress>(
     alloc: Global,
     nets: &Compared,
@@ -156,8 +160,9 @@ pub fn maximum_followed<P: Progress>(
     search(alloc, nets, metric, limit, range, progress)
 }
 
-/// The greatest error of a net whose error is at most `bound`; with at most eight inputs the witness is the first vector in counting
-/// order that has it. Each query may cost so many conflicts, and there are at most 85.
+/// The greatest error of a net whose error is at most `bound`; with at most eight inputs the witness is the
+/// first vector in counting order that has this error. Each query may cost at most `limit` conflicts, and
+/// there are at most 85 queries.
 pub fn maximum(
     alloc: Global,
     exact: &Net,

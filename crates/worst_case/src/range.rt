@@ -1,4 +1,4 @@
-//! The levels between which the greatest error lies, and one query that narrows them.
+//! The two levels between which the greatest error lies, and the query that narrows the range.
 ghost use Rattle.std.specs.Prelude.{◌≡◌, ◌≤◌, ◌<◌, ℕ, length, IfOk, OnOk};
 ghost use Rattle.semantics.specs.Net.{IsSmall, input_count};
 ghost use Rattle.semantics.specs.Error.{IsWithin, net_error};
@@ -19,7 +19,8 @@ use semantics::limits::LARGEST_ERROR;
 use semantics::metric::Metric;
 use std::alloc::{AllocError, Global};
 
-/// An error that the witness has, and a level that no error exceeds, which the log shows where it is held.
+/// An error that the witness has, and a level that no error exceeds; the log, where one is held, shows the
+/// latter.
 #[derive(Drop)]
 pub struct Range {
     pub low: u128,
@@ -28,7 +29,7 @@ pub struct Range {
     pub log: Option<Log>,
 }
 
-/// The greatest error of the vectors that are tried, and the first of them that has it.
+/// The greatest error of the vectors that are tried, and the first of these vectors that has it.
 fn greatest_tried(alloc: Global, nets: &Compared, metric: Metric) -> Result<Attained, AllocError>
     requires { IsSmall nets.now.exact }
     ensures { IfOk result (IsGreatestTried metric nets.now.exact nets.now.approx) }
@@ -78,7 +79,7 @@ fn raise(
     Ok(())
 }
 
-/// Lowers the upper level to one that no error exceeds, which the log shows where it is given.
+/// Lowers the upper level to `high`, which no error exceeds; the log, where one is given, shows this.
 fn lower(range: &mut Range, high: u128, log: Option<Log>)
     ensures { range.new ≡ record range.old { high = high; log = log } }
 {
@@ -86,8 +87,8 @@ fn lower(range: &mut Range, high: u128, log: Option<Log>)
     range.log = log;
 }
 
-/// Asks diagrams whether some error exceeds the one that is known: often none does, since many vectors were tried, and then the
-/// levels meet at once.
+/// Asks diagrams whether some error exceeds the known error. Often none does, since many vectors were tried,
+/// and then the levels of the range meet at once.
 pub fn try_known(
     alloc: Global,
     nets: &Compared,
@@ -137,8 +138,8 @@ fn narrow_by_solver<P: Progress>(
     Ok(None)
 }
 
-/// Asks whether some error exceeds the middle of the range, and narrows it by the answer: the solver where diagrams do not tell. It
-/// answers what was spent.
+/// Asks whether some error exceeds the middle of the range, first the diagrams and, where they do not answer,
+/// the solver; and narrows the range by the answer. Returns the query that was spent, if one was.
 pub fn narrow<P: Progress>(
     alloc: Global,
     nets: &Compared,

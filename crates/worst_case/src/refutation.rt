@@ -1,6 +1,7 @@
-//! The log that no error exceeds a level, where that is known. With at most eight inputs it goes by cases; with more the solver is asked.
-//! Where the conflicts are enough for the inputs it gets few of them, and then the log goes by cases after all: two steps for each vector,
-//! of many hints, so with more inputs more conflicts are worth a try.
+//! The log that no error exceeds a level, where this is known. With at most eight inputs the log goes by
+//! cases. With more inputs the solver is asked. Where the conflicts are enough for the inputs, the solver
+//! gets few of them, and if these do not do, the log goes by cases after all: two steps for each vector, with
+//! many hints each, so that with more inputs more conflicts are worth a try.
 ghost use Rattle.std.specs.Prelude.{◌↔◌, ◌≤◌, ◌<◌, IfOk, IsTrue};
 ghost use Rattle.semantics.specs.Net.{input_count};
 ghost use Rattle.semantics.specs.Error.{IsWithin};
@@ -20,7 +21,8 @@ use semantics::limits::{FEW_INPUTS, TRIED_INPUTS};
 use semantics::metric::Metric;
 use std::alloc::{AllocError, Global};
 
-/// The conflicts that the solver may have besides half as many as there are vectors, where the log can go by cases instead.
+/// Where the log can go by cases instead, the solver may have half as many conflicts as there are vectors,
+/// and these besides.
 const FEW_CONFLICTS: u64 = 3000;
 
 /// The most conflicts of the solver where the log can go by cases instead.
@@ -31,7 +33,7 @@ fn few_conflicts(inputs: u32) -> u64
     FEW_CONFLICTS + 2u64.pow(inputs) / 2
 }
 
-/// Whether so many conflicts are enough for so many inputs.
+/// Whether `limit` conflicts are enough for `inputs` inputs.
 fn is_enough(limit: u64, inputs: u32) -> bool
     ensures { IsTrue result ↔ IsEnough limit inputs }
 {
@@ -54,7 +56,7 @@ fn refute_by_cases(
     refute(alloc, &miter.net, &miter.formula)
 }
 
-/// The log of the solver, if few conflicts do, or else the log by cases.
+/// The log of the solver, where few conflicts do, and else the log by cases.
 fn refute_by_few_conflicts<P: Progress>(
     alloc: Global,
     nets: &Compared,
@@ -75,7 +77,7 @@ fn refute_by_few_conflicts<P: Progress>(
     }
 }
 
-/// A log that refutes that some error exceeds `k`, or a log of `limit` conflicts.
+/// A log that refutes that some error exceeds `k`, or the spent query with a log of `limit` conflicts.
 pub(crate) fn refute_level<P: Progress>(
     alloc: Global,
     nets: &Compared,

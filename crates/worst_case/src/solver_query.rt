@@ -32,7 +32,7 @@ fn input_bits(alloc: Global, net: &Net, values: &Bits) -> Result<Bits, AllocErro
     Bits::from_slice(alloc, &values.as_slice()[..net.inputs() as usize])
 }
 
-/// What the solver answers to a miter, behind the merges of its joint net. What it does is told on.
+/// The solver's answer to a miter, behind the merges of its joint net. Tells `progress` what the solver does.
 fn solver_answer<P: Progress>(
     alloc: Global,
     joint: &Miter,
@@ -49,7 +49,7 @@ fn solver_answer<P: Progress>(
     solve_guided(alloc, &joint.formula, merged, &guide, limit, progress)
 }
 
-/// What an answer of the solver, behind so many merged steps, says of the two nets.
+/// What an answer of the solver, behind `merged` merged steps, says of the two nets.
 fn told_of_nets(
     alloc: Global,
     nets: &Compared,
@@ -92,7 +92,7 @@ fn ask_behind<P: Progress>(
     told_of_nets(alloc, nets, k, count, answer)
 }
 
-/// The same behind the merges of the joint net.
+/// Asks the solver, as [`ask_behind`] does, behind the merges of the joint net, which are made first.
 fn ask_merged<P: Progress>(
     alloc: Global,
     nets: &Compared,
@@ -111,8 +111,8 @@ fn ask_merged<P: Progress>(
     ask_behind(alloc, nets, joint, &merged, k, limit, progress)
 }
 
-/// An input whose error exceeds `k`, a log that refutes that there is one, or a log of `limit` conflicts behind the merges. What the
-/// solver does is told on.
+/// An input whose error exceeds `k`, a log that refutes that there is such an input, or a log of `limit`
+/// conflicts behind the merges. Tells `progress` what the solver does.
 pub(crate) fn ask_solver<P: Progress>(
     alloc: Global,
     nets: &Compared,

@@ -1,4 +1,5 @@
-//! Input vectors that are tried at once: the greatest of their errors, and the first whose error exceeds a level.
+//! Input vectors that are tried at once: the greatest of their errors, and the first vector whose error
+//! exceeds a level.
 ghost use Rattle.std.specs.Prelude.{◌≡◌, ◌≤◌, ◌<◌, [], length, slice_index_or, IfOk, OnOk};
 ghost use Rattle.semantics.specs.Net.{input_count, IsSmall};
 ghost use Rattle.semantics.specs.Error.{net_error};
@@ -14,12 +15,12 @@ use semantics::limits::MOST_INPUTS;
 use semantics::metric::Metric;
 use std::alloc::{AllocError, Global};
 
-/// With at most so many inputs every vector is tried.
+/// The most inputs with which every vector is tried.
 pub const LANE_INPUTS: u32 = 16;
 
-/// How many vectors of a net with more inputs are tried: sixteen blocks of 512, which together take less time than one question to
-/// diagrams. With an eighth of them, four times as many questions of a Sobel filter found a vector, and each of these cost as much as
-/// four others.
+/// The number of vectors that are tried of a net with more inputs: sixteen blocks of 512, which together take
+/// less time than one question to diagrams. With an eighth of these vectors, four times as many questions of
+/// a Sobel filter found a vector, and each of these questions cost as much as four others.
 const TRIALS: u32 = 8192;
 
 /// An error, and an input vector that has it.
