@@ -10,3 +10,8 @@ pub mod ReadLines
 pub mod ReadSound
 pub mod ReadOutputs
 pub mod TextLong
+pub mod WrittenNumbers
+pub mod WrittenSymbols
+pub mod FewLines
+pub mod WrittenCircuit
+pub mod WrittenNets

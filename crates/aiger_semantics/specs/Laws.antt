@@ -5,10 +5,11 @@ use Rattle.semantics.specs.Texts.{Bytes}
 use Rattle.semantics.specs.Net.{TableValue, NetValue, table_at, IsAcyclic, IsSound, IsSmall}
 use Rattle.semantics.specs.Value.{outputs_of}
 use Rattle.aiger_semantics.specs.Circuit.{CircuitValue, HasOutputs}
+use Rattle.aiger_semantics.specs.Text.{aiger_text}
 use Rattle.aiger_semantics.specs.TextLines.{text_lines}
 use Rattle.aiger_semantics.specs.CircuitLines.{text_long, circuit_reading}
 use Rattle.aiger_semantics.specs.ReadNet.{net_of}
-use Rattle.aiger_semantics.specs.Reading.{aiger_reading}
+use Rattle.aiger_semantics.specs.Reading.{net_reading, aiger_reading}
 use Rattle.aiger_semantics.specs.NetCircuit.{Literals, table_literal, first_variable, input_literal, signal_literal, ands_of}
 
 -- literals that give each input the literal of its variable, and each table the literal of its rows
@@ -50,3 +51,12 @@ pub record ReadingLaw : Type 0 where
   pub small : (text : Bytes) (most : ℕ) (N : NetValue) → aiger_reading text most ≡ Ok N → IsSmall N
   pub circuit : (text : Bytes) (most : ℕ) (N : NetValue) → aiger_reading text most ≡ Ok N
       → (c : CircuitValue) × (circuit_reading (text_lines text) ≡ Ok c) × (net_of c ≡ N) × ((x : List Bool) → HasOutputs c x (outputs_of N x))
+
+-- The text of the circuit of a small sound net is read back as that circuit, so it is the text of no other; and within the limit it is read as
+-- the net of that circuit, or refused as it is.
+pub record WrittenLaw : Type 0 where
+  pub read : (N : NetValue) → IsSound N → IsSmall N → circuit_reading (text_lines (aiger_text (ands_of N))) ≡ Ok (ands_of N)
+  pub only : (N M : NetValue) → IsSound N → IsSmall N → IsSound M → IsSmall M → aiger_text (ands_of N) ≡ aiger_text (ands_of M)
+      → ands_of N ≡ ands_of M
+  pub net : (N : NetValue) (most : ℕ) → IsSound N → IsSmall N → length (aiger_text (ands_of N)) ≤ most
+      → aiger_reading (aiger_text (ands_of N)) most ≡ net_reading (ands_of N)

@@ -1,5 +1,5 @@
 //! The laws about circuits: each function's contract is a law.
-ghost use Rattle.aiger_semantics.specs.Laws.{NetCircuitLaw, NumberedLaw, ReadingLaw};
+ghost use Rattle.aiger_semantics.specs.Laws.{NetCircuitLaw, NumberedLaw, ReadingLaw, WrittenLaw};
 
 /// The circuit of a net has the net's outputs.
 pub fn net_circuits()
@@ -14,4 +14,9 @@ pub fn numbered()
 /// What is read is a small sound net, with the outputs of the circuit of the text's lines.
 pub fn readings()
     ensures { ReadingLaw }
+{}
+
+/// The text of the circuit of a net is read back as that circuit.
+pub fn written()
+    ensures { WrittenLaw }
 {}

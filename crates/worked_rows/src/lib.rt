@@ -6,6 +6,8 @@ mod clauses;
 #[cfg(test)]
 mod errors;
 #[cfg(test)]
+mod flipped_carry;
+#[cfg(test)]
 mod half_adder_moves;
 #[cfg(test)]
 mod logs;

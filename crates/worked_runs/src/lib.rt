@@ -8,6 +8,8 @@ mod checked;
 #[cfg(test)]
 mod converted;
 #[cfg(test)]
+mod flattened;
+#[cfg(test)]
 mod larger;
 #[cfg(test)]
 mod refused;

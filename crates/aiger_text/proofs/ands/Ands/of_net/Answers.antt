@@ -2,7 +2,7 @@ use Rattle.std.proofs.Common.{◌+◌, List, ℕ, map, get_or, ap, ◌∙◌}
 use Rattle.std.specs.List.{range_with_len}
 use Rattle.semantics.specs.Net.{input_count}
 use Rattle.aiger_semantics.specs.NetCircuit.{tables_joins}
-use Rattle.aiger_text.proofs.NetLiterals.{small_fits}
+use Rattle.aiger_semantics.proofs.FewLines.{small_fits}
 use Rattle.aiger_text.proofs.NetAnds.{circuit_of, circuit_few}
 use Rattle.aiger_text.proofs.ands.Ands.of_net.Goals as goal
 
