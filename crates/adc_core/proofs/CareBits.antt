@@ -55,7 +55,7 @@ over_of_used metric N level words exact approx over used approx_is bits b low =
       λ h. and_bit over used b ∙ and_from (word_bit over b) (word_bit used b) (iff.1 (omega (arith, same, h.1))) h.0,
     )
 
--- among the patterns of a set those that are used are the first so many
+-- of a set of patterns, the used ones are the first `count`
 pub tells_over : (metric : Metric) (N : NetValue) (level count k : ℕ) (outputs : List (List ℕ)) (words exact : List ℕ) (word used : ℕ) → exact ≡ row_at outputs k
     → TellsOverUsed metric N level words exact used word → ((b : ℕ) → b < 64 → word_bit used b ≡ ltb (64 * k + b) count) → TellsOver metric N level count outputs k words word
 tells_over metric N level count k outputs words exact word used exact_is bits use_is b low =
@@ -73,7 +73,7 @@ unfolding flipped_outputs
 outputs_from_flipped N t words b x sound values =
     map-same (values_at words b) (flipped_values (input_count N) N.tables x t) N.outputs (λ k d low. values _ (sound.outputs_are_signals k d low))
 
--- the same bits, where P is told by the errors of these outputs
+-- the bits of the same word, where P is told by the errors of these outputs
 word_where : (metric : Metric) (E N : NetValue) (level count k : ℕ) (vectors : List (List Bool)) (outputs : List (List ℕ)) (words : List ℕ) (word : ℕ) (P : List Bool → Type 0)
     → length vectors ≡ count → AreOutputWordsOf E vectors outputs → k < length outputs → TellsOver metric N level count outputs k words word
     → ((b : ℕ) → b < 64 → (level < error_of metric (outputs_of E (vector_at vectors (64 * k + b))) (map (values_at words b) N.outputs)) ↔ P (vector_at vectors (64 * k + b)))
@@ -105,7 +105,7 @@ exceeds_at metric E N bound b x words sound values =
 
 -- ---- a row that is found word by word
 
--- the first k words of the row tell where P holds, whatever the patterns are and the exact net whose outputs these are
+-- the first k words of the row tell where P holds, whatever the patterns and the exact net are
 abbrev pub HoldWordsWhere : NetValue → ℕ → List (List ℕ) → List (List ℕ) → (NetValue → List Bool → Type 0) → List ℕ → ℕ → Type 0
 HoldWordsWhere N count outputs blocks P row k =
     (exact : NetValue) (vectors : List (List Bool)) → length vectors ≡ count → AreOutputWordsOf exact vectors outputs → AreBlocksOf N vectors blocks

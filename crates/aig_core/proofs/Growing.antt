@@ -1,4 +1,4 @@
--- Nodes do not change when gates are added, and what was said of literals stays true.
+-- Nodes do not change when gates are added, and what is proved of literals stays true.
 use Rattle.std.proofs.Common.{◌≡◌, ◌≢◌, ℕ, ◌+◌, ◌*◌, ◌/◌, ◌==◌, ◌<◌, ◌≤◌, ◌⊎◌, inl, inr, Bool, true, false, cond, ◌&&◌, List, [], ◌∷◌, ◌++◌, length, get_or, refl, sym, ap, subst, ◌∙◌, arith, length-append, true≢false}
 use Rattle.std.specs.Prelude.{slice_get, Some, AllPairs}
 use Rattle.std.proofs.Math.Seq.{get_or-append_seam}

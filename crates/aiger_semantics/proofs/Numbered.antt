@@ -286,7 +286,7 @@ module _ (n : ℕ) (tables : List TableValue) (acyclic : IsAcyclic n tables) (fo
       ap (λ l. range_with_len 1 n ++ l) (counts-range (n + 1) (tables_joins (signal_literal n tables) (n + 1) tables) (tables-counts (signal_literal n tables) (n + 1) tables tables_wide))
       ∙ range-append 1 n (length (tables_joins (signal_literal n tables) (n + 1) tables)) (n + 1) (n + length (tables_joins (signal_literal n tables) (n + 1) tables)) (omega arith) refl
 
--- the circuit of a net has so many variables
+-- the circuit of a net has as many variables as the net has inputs and its tables AND lines
 pub count_of : (N : NetValue) → IsSound N → variable_count (ands_of N) ≡ input_count N + sum_by table_ands N.tables
 unfolding ands_of
 count_of N sound =

@@ -46,7 +46,7 @@ body_text-parts c inputs outputs ands i o a =
     ∙ ap (λ t. line_text (header_line c) ++ (inputs_text c.inputs ++ (outputs_text t ++ ands_text ands))) o
     ∙ ap (λ t. line_text (header_line c) ++ (inputs_text c.inputs ++ (outputs_text c.outputs ++ ands_text t))) a
 
--- the same of names that are the circuit's
+-- the circuit's text, where these names are the circuit's
 pub aiger_text-of : (c : CircuitValue) (inputs outputs : List Bytes) → inputs ≡ c.input_names → outputs ≡ c.output_names
     → body_text c ++ (symbols_text 105 inputs ++ symbols_text 111 outputs) ≡ aiger_text c
 aiger_text-of c inputs outputs i o =

@@ -49,7 +49,7 @@ pub first_read : (n : ℕ) (tables : List TableValue) (i d first : ℕ) (firsts 
 first_read n tables i d first firsts low same read =
     read ∙ ap (λ l. get_or l i d) same ∙ get_or-map-range_with_len (first_variable n tables) 0 (length tables) i i d low (omega arith)
 
--- its lines fit with those of the other tables
+-- the lines of a table fit with the lines of the other tables
 pub first_fits : (n : ℕ) (tables : List TableValue) (i d first : ℕ) (firsts : List ℕ) (t : TableValue) (bound : ℕ) → i < length tables → firsts ≡ map (first_variable n tables) (range_with_len 0 (length tables))
     → first ≡ get_or firsts i d → t ≡ table_at tables i → n + 1 + sum_by table_ands tables ≤ bound → first + table_ands t ≤ bound
 first_fits n tables i d first firsts t bound low same read is fits =

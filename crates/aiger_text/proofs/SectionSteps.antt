@@ -12,7 +12,7 @@ put_all xs (Err refusal) = Err refusal
 put_all xs (Ok more) = Ok (xs ++ more)
 
 module _ {X : Type 0} (read : Bytes → Option X) (first count : ℕ) (lines : List Bytes) where
-  -- the lines behind so many
+  -- what the lines behind the first k are read as
   abbrev pub rest_read : ℕ → Result (List X) Refusal
   rest_read k = all_read read (first + k) (count - k) (drop k lines)
 

@@ -68,7 +68,7 @@ text-given symbols letter count old s same within h = record {
         ∙ sym (ap (λ t. cond (t && (s.place == place)) s.text (symbol_text symbols letter place)) (eq-eqb s.letter letter same)
         ∙ ap (λ t. cond t s.text (symbol_text symbols letter place)) (ne_eqb s.place place (λ e. other (sym e))))
 
--- and those of the other letter stay
+-- and the texts for the other letter stay
 pub text-kept : (symbols : List Symbol) (letter count : ℕ) (old : List Bytes) (s : Symbol) → (s.letter ≡ letter → ⊥) → AreTextsOf symbols letter count old → AreTextsOf (s ∷ symbols) letter count old
 text-kept symbols letter count old s other h = record {
   size = h.size;
@@ -78,7 +78,7 @@ text-kept symbols letter count old s other h = record {
 -- ---- one line further
 
 module _ (h : Header) (first : ℕ) (lines : List Bytes) where
-  -- what the lines behind so many make of the symbols so far
+  -- what the lines behind the first k make of the symbols so far
   abbrev pub rest_symbols : ℕ → List Symbol → Result (List Symbol) Refusal
   rest_symbols k so_far = symbols_after h (first + k) so_far (drop k lines)
 

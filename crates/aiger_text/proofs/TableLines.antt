@@ -135,7 +135,7 @@ joined-length : (literals : Literals) (next : ℕ) (pins : List ℕ) (rows : Lis
 joined-length literals next pins [] = refl
 joined-length literals next pins (marks ∷ rows) = ap suc (joined-length literals (next + row_ands marks) pins rows)
 
--- the lines that join the opposites of the rows fit with the others of the table
+-- the lines that join the opposites of the rows fit with the other lines of the table
 pub opposites_fit : (literals : Literals) (first next bound : ℕ) (t : TableValue) (rows : List (List Mark)) (pins opposites : List ℕ) → rows ≡ t.rows → next ≡ first + rows_ands rows
     → opposites ≡ map negated (rows_joined literals first pins rows) → first + table_ands t ≤ bound → next + (length opposites - 1) ≤ bound
 opposites_fit literals first next bound t rows pins opposites er en eo fits =

@@ -32,7 +32,7 @@ slice_split-push {X = X} test (y ∷ xs) x cut =
 abbrev empty_line : ℕ → LogicalLine
 empty_line number = record { number = number; bytes = [] }
 
--- the same lines, or an empty one more
+-- the longer list has the same lines, or one more line, which is empty
 IsLonger : List LogicalLine → List LogicalLine → Type 0
 IsLonger lines longer = (longer ≡ lines) ⊎ ((number : ℕ) × (longer ≡ lines ++ empty_line number ∷ []))
 
@@ -139,7 +139,7 @@ unfolding IsReturned
 before_backslash-returned line returned (inl e) = ap before_backslash e
 before_backslash-returned line returned (inr e) = ap before_backslash e ∙ ap before_mark (trimmed-push line)
 
--- the same number, and the same bytes but for a CR at their end
+-- the returned line has the number of the line, and its bytes but for a CR at their end
 record IsReturnedLine (line returned : LogicalLine) : Type 0 where
   number : returned.number ≡ line.number
   bytes : IsReturned line.bytes returned.bytes

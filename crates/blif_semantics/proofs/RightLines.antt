@@ -7,7 +7,7 @@ use Rattle.semantics.proofs.FirstFound.{none_if}
 use Rattle.blif_semantics.specs.Lines.{Statement}
 use Rattle.blif_semantics.specs.Statements.{is_printable, bad_byte, after_end, unless, OpenTable, kind_of, wrong_by, Place, place_after, Wrong, WrongLine, wrong, first_wrong_after, first_wrong}
 
--- a table with so many pins whose rows may come, and its plane
+-- a table with n pins whose rows may come, and its plane
 abbrev pub open_table : ℕ → Option Bool → Option OpenTable
 open_table n plane = Some (record { pins = n; plane = plane })
 
@@ -16,7 +16,7 @@ abbrev pub AllRight : List Line → List Line → Type 0
 AllRight earlier [] = Unit {0}
 AllRight earlier (words ∷ lines) = (wrong (place_after earlier) words ≡ None) × AllRight (words ∷ earlier) lines
 
--- the first line's answer, and else that of the others
+-- the answer of the first line, or else the answer of the others
 abbrev pub line_answer : Option Wrong → ℕ → Option WrongLine → Option WrongLine
 line_answer w line rest = elim w [ None ↦ rest | Some w ↦ Some (record { line = line; wrong = w }) ]
 

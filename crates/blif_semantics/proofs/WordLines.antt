@@ -11,7 +11,7 @@ use Rattle.semantics.specs.Texts.{Bytes, Line, text_of}
 use Rattle.semantics.specs.Net.{IsNameByte}
 use Rattle.blif_semantics.specs.Lines.{is_blank, physical_lines, without_comment, trimmed, before_backslash, LogicalLine, line_before, logical_from, logical_lines, words_of, statements}
 
--- some bytes, the last of which may end a line: it is printable and no backslash
+-- some bytes, the last of which may end a line, since it is printable and no backslash
 record IsEnded (bytes : Bytes) : Type 0 where
   some : 0 < length bytes
   last : IsNameByte (get_or bytes (length bytes - 1) 0)

@@ -35,7 +35,7 @@ too_long : (text : Bytes) (most : ℕ) → most < length text → blif_reading t
 unfolding blif_reading
 too_long text most long = if_false (nat_le (length text) most) _ _ (grind (arith, nat_tests))
 
--- the reading of a netlist is that of its front up to one byte past the limit
+-- the reading of a netlist is the reading of its front, up to one byte past the limit
 pub reading_front : (content text : Bytes) (limit : ℕ) → limit ≡ MOST_BUNDLE_BYTES → IsAllWanted content text (limit + 1 - length text) → blif_reading text MOST_BUNDLE_BYTES ≡ blif_reading content MOST_BUNDLE_BYTES
 reading_front content text limit is wanted =
     elim (cases_lt MOST_BUNDLE_BYTES (length text)) [

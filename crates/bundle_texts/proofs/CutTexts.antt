@@ -103,7 +103,7 @@ bits_are_digits [] = refl
 bits_are_digits (true ∷ x) = bits_are_digits x
 bits_are_digits (false ∷ x) = bits_are_digits x
 
--- a vector stands at the front exactly where a line end comes behind so many digits of bits
+-- a vector stands at the front exactly where a line end comes behind `width` digits of bits
 pub vector_here : (width : ℕ) (text rest : Bytes) → width < length text → get_or text width 0 ≡ 10 → list_all is_bit_digit (take width text) ≡ true
     → rest ≡ drop (width + 1) text → IsVectorBefore width text (bits_in (take width text)) rest
 vector_here width text rest within end digits is = record {

@@ -76,7 +76,7 @@ nothing_whole : whole_items [] ≡ []
 unfolding whole_items good_part ended_tokens
 nothing_whole = refl
 
--- no text that begins with items of which one is refused, or with a text that is refused, refutes
+-- a text that begins with items one of which is refused, or with a text that is refused, never refutes
 items_never : (clauses : List Clause) (text : Bytes) → IsNeverSound clauses (whole_items text) → NeverRefutes clauses text
 items_never clauses text never more (log, read, refutes) =
     let later = (growth_law.read text more log read).1 in

@@ -90,7 +90,7 @@ impl WordNet {
         if bit { self.inputs + 1 } else { self.inputs }
     }
 
-    /// Appends a table of plane 1, and gives its signal.
+    /// Appends a table of plane 1, and returns its signal.
     fn append(&mut self, pins: SignalList, rows: RowList) -> Result<Signal, AllocError>
         requires pins_in { AreSignalsOf self.old pins }
         requires widths { All (λ marks. length marks ≡ length pins) rows }
@@ -110,7 +110,7 @@ impl WordNet {
         Ok(signal as u32)
     }
 
-    /// Appends a table of one of the forms, and gives its signal.
+    /// Appends a table of one of the forms, and returns its signal.
     pub fn append_form<const N: usize>(
         &mut self,
         pins: [Signal; N],
@@ -129,7 +129,7 @@ impl WordNet {
         self.append(pins, rows)
     }
 
-    /// Appends a full adder, and gives its sum and its carry.
+    /// Appends a full adder, and returns its sum and its carry.
     #[tactic(auto, using(crate::proofs::Steps::begins_after))]
     fn full_adder(
         &mut self,

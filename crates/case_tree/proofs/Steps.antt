@@ -96,7 +96,7 @@ pub rows_within : (rows : List (List Mark)) (i : ℕ) → sum_by (λ marks. row_
 rows_within rows i =
     omega (arith, sum_by-take-drop (λ (marks : List Mark). row_literals marks + 1) rows i)
 
--- the same by the number of the rows that are left
+-- the hints of the last of the `left` rows, by the terms of the code
 pub failing_last : (next id implied : ℕ) (pins : List ℕ) (rows : List (List Mark)) (v : Assignment) (left : ℕ) (row : List Mark) (hints one old : List ℕ) → 0 < left → left ≤ length rows
     → row ≡ get_or rows (left - 1) row → next + row_literals row + 1 ≡ id → one ≡ hints ++ row_hint next row pins v ∷ [] → hints ≡ old ++ reverse (failing_hints id (implied + left) pins (drop left rows) v)
     → one ≡ old ++ reverse (failing_hints next (implied + (left - 1)) pins (drop (left - 1) rows) v)
@@ -217,7 +217,7 @@ table_pushed n tables v needed order k i flags one hints two within read are pus
       rw (rest, ← are) second',
     )
 
--- the same by the number of the tables that are left
+-- the hints of the last of the `left` tables, by the terms of the code
 pub table_last : (n : ℕ) (tables : List TableValue) (v : Assignment) (needed : List Bool) (order : List ℕ) (left i : ℕ) (flags one : List Bool) (hints two : List ℕ) → 0 < left → left ≤ length order
     → get_or order (left - 1) 0 ≡ i
     → flags ≡ needed_before n tables v needed (drop left order) → hints ≡ reverse (hints_before n tables v needed (drop left order))

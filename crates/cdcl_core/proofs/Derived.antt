@@ -115,7 +115,7 @@ explains-derives clauses trail T s are_false kept h =
     let inside = kept l t in
     subst (IsIn (with_negations literals.empty s.literals)) (neg_ℤ-neg_ℤ l) (negations-each s.literals literals.empty (neg_ℤ l) inside.0 inside.1 inside.2))
 
--- the same over marks
+-- the conflict's clause over marks: its entries are explained by its hint
 pub marks-conflict : (clauses : List Clause) (trail : List ℤ) (marks : List Bool) (j : ℕ) → j < length clauses
     → All (λ a. IsMarked trail marks (neg_ℤ a)) (clause_at clauses j) → IsExplained clauses trail marks (suc j ∷ [])
 marks-conflict clauses trail marks j within covered =

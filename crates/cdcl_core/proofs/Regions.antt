@@ -7,7 +7,7 @@ use Rattle.proof_semantics.specs.Clauses.{Clause}
 use Rattle.cdcl_core.specs.Region.{literals_in, clauses_in, IsSpan, IsRegion}
 use Rattle.cdcl_core.specs.declared.clause_list.Span.{Span}
 
--- a span reads the same of a longer region
+-- a span has the same literals in a longer region
 pub literals_longer : (region more : List ℤ) (s : Span) → IsSpan (length region) s → literals_in (region ++ more) s ≡ literals_in region s
 literals_longer region more s h =
     let order = h.order in
@@ -58,7 +58,7 @@ region_pushed spans region C s h small few start end =
 pub clause_at_place : (spans : List Span) (region : List ℤ) (i : ℕ) (s : Span) (C : Clause) → i < length spans → s ≡ get_or spans i s → C ≡ literals_in region s → C ≡ get_or (clauses_in spans region) i C
 clause_at_place spans region i s C low is read = read ∙ ap (literals_in region) is ∙ sym (get_or-map (literals_in region) spans i s C low)
 
--- the same of the values that the code has
+-- a clause is pushed, by the terms of the code
 pub pushed_view : (spans spans1 spans2 : List Span) (region region1 : List ℤ) (C : Clause) (s : Span) (value : List Clause) → IsRegion spans region → clauses_in spans region ≡ value → spans1 ≡ spans → spans2 ≡ spans1 ++ s ∷ []
     → region1 ≡ region ++ C → s.start ≡ length region → s.end ≡ length region + length C → clauses_in spans2 region1 ≡ value ++ C ∷ []
 pushed_view spans spans1 spans2 region region1 C s value h v e1 e2 e start end =

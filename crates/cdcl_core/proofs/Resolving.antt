@@ -11,7 +11,7 @@ use Rattle.cdcl_core.specs.Analysis.{mark_at, AreOthersMarked, IsShortened}
 use Rattle.cdcl_core.proofs.Derived.{marks-resolved}
 use Rattle.cdcl_core.proofs.Propagating.{clause_read}
 
--- the others of a reason, at the clause as it was read
+-- the other literals of a reason, in the clause as it was read
 pub reason_others : (clauses : List Clause) (trail : List ℤ) (i j : ℕ) (C D : Clause) (own : ℤ) → IsReason clauses trail i j → C ≡ get_or clauses j C → D ≡ C → own ≡ literal_at trail i
     → All (λ a. (a ≡ own) ⊎ IsTrueBelow trail i (neg_ℤ a)) D
 reason_others clauses trail i j C D own r is same e =

@@ -1,4 +1,4 @@
--- What holds of a search between its steps, and what it answers.
+-- What holds of a search between its steps, and what the search answers.
 use Rattle.std.proofs.Math.IntN.{neg_ℤ-neg_ℤ}
 use Rattle.std.proofs.Common.{◌≡◌, ℕ, zero, suc, ◌+◌, ◌-◌, ◌^◌, ◌<◌, ◌≤◌, Bool, true, false, not, IsTrue, ◌↔◌, List, [], ◌∷◌, ◌++◌, take, reverse, length, get_or, refl, ap, subst, sym, ◌∙◌, inl, inr, length-append, arith, ℤ, pos, negsuc, neg_ℤ, None}
 use Rattle.std.specs.Prelude.{◌⊎◌, All}
@@ -55,7 +55,7 @@ searching_decided clauses t new order l h settled e = rw e (record {
   small = h.small;
 })
 
--- each turn makes an entry more, of which there are few
+-- each turn adds an entry, and there are few entries
 pub searching_smaller : (clauses : List Clause) (old t new : TrailValue) (l : ℤ) → length old.literals ≤ old.variables + 1 → IsExtended clauses old t
     → new ≡ record t { literals = t.literals ++ l ∷ []; reasons = t.reasons ++ None ∷ []; starts = t.starts ++ length t.literals ∷ [] }
     → (new.variables + 2) - length new.literals < (old.variables + 2) - length old.literals

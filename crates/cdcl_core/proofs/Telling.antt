@@ -156,7 +156,7 @@ places_next places told trail after l v n k reasons more literal_room literal_ro
 pub held_cut : (places : List ℕ) (told after : List Bool) (trail : List ℤ) (start : ℕ) → IsHeld places told trail → AreTold after (take start trail) → length after ≡ length told → IsHeld places after (take start trail)
 held_cut places told after trail start h cut same = record { placed = placed-take places trail start h.placed; told_values = cut; wide = same ∙ h.wide }
 
--- the same of the values that the code has
+-- the table's last entry, by the terms of the code
 pub entry_at : (told : List Bool) (trail : List ℤ) (n k : ℕ) (x : ℤ) → 0 < n → n ≤ length trail → AreTold told (take n trail) → x ≡ get_or trail (n - 1) x → k ≡ index_of x → k < length told
 entry_at told trail n k x some within h read e =
     let next : n ≡ n - 1 + 1 = omega arith in

@@ -231,7 +231,7 @@ followed_extended clauses t new j l held inside others Next n = implied_extended
 followed_extended clauses t new j l held inside others Again none = absurd none
 followed_extended clauses t new j l held inside others (Conflict k) f = rw f.1 (extended_same clauses t)
 
--- in a binary clause that watches x the others than the blocker are false
+-- in a binary clause that watches x the literals other than the blocker are false
 pub binary_false : (clauses : List Clause) (t : TrailValue) (w : WatchesValue) (x : ℤ) (at : ℕ) (v : Watch) → IsHandling clauses t w x at → at < length (list_at w.lists x) → v ≡ watch_at (list_at w.lists x) at → v.binary ≡ true
     → AreOthersFalse t.literals (clause_at clauses v.clause) v.blocker
 binary_false clauses t w x at v h low e binary =

@@ -84,7 +84,7 @@ watching_jumped clauses t w s C u at m other binary c running h learned m_low pa
           (kept_same (IsTrueBelow after q) (IsTrueBelow after q) (Holds after) (IsTrueBelow after q) clauses w.pairs (λ l. below_holds after q l) (λ l f. f) at_q) (inl u_holds);
     }
 
--- the same of the values that the code has
+-- the watches after a jump, by the terms of the code
 pub jump_watching : (clauses more : List Clause) (t u : TrailValue) (w added new : WatchesValue) (s : ℕ) (C : Clause) (x own : ℤ) (at m n q : ℕ) (other : ℤ) (binary : Bool) → IsConsistent t.literals → IsRunning clauses t → IsWatchedBelow clauses t w
     → IsLearned t.literals s C x at → own ≡ x → m < length t.starts → IsJumpPair t s C own m other → All (IsLiteralOf t.variables) C → (binary ≡ true → IsBinary own other C) → more ≡ clauses ++ C ∷ [] → n ≡ length clauses
     → added ≡ watches_with w own other binary → q ≡ get_or t.starts m 0 → new ≡ record added { handled = q } → u ≡ record t {
@@ -121,7 +121,7 @@ watching_closed clauses t w m running h m_low =
       kept = kept_same (IsTrueBelow after q) (IsTrueBelow after q) (Holds after) (IsTrueBelow after q) clauses w.pairs (λ l. below_holds after q l) (λ l f. f) at_q;
     }
 
--- the same of the values that the code has
+-- the watches after a restart, by the terms of the code
 pub restart_watching : (clauses : List Clause) (t u : TrailValue) (w new : WatchesValue) (m q : ℕ) → IsRunning clauses t → IsWatchedBelow clauses t w → m < length t.starts
     → q ≡ get_or t.starts m 0 → new ≡ record w { handled = q } → u ≡ closed t m → IsWatching clauses u new
 restart_watching clauses t u w new m q running h m_low q_is new_is e = rw (e, new_is, q_is) (watching_closed clauses t w m running h m_low)

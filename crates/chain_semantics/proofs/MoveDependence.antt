@@ -39,7 +39,7 @@ depends_at_end n tables t zero s e = eq-eqb s (n + t) e
 depends_at_end n tables t (suc pins) s e =
     or_left (eqb s (n + t)) (leb n s && list_any (depends_within n tables t pins) (table_at tables (s - n)).pins) (eq-eqb s (n + t) e)
 
--- a signal that is grounded in so many steps has no longer path
+-- a signal that is grounded in `pins` steps has no path to table t of more pins
 depends_from_path : (n : ℕ) (tables : List TableValue) (t s pins : ℕ) → DependsOn n tables t s → IsGroundedIn n tables pins s → depends_within n tables t pins s ≡ true
 unfolding depends_within
 depends_from_path n tables t s pins (itself e) grounded = depends_at_end n tables t pins s e

@@ -16,7 +16,7 @@ abbrev pub count_below : (ℕ → Bool) → ℕ → ℕ
 count_below test zero = 0
 count_below test (suc bound) = one_if (test bound) + count_below test bound
 
--- the pins of a table, and one more unless it is a canonical constant
+-- the number of pins of a table, and one more unless the table is a canonical constant
 abbrev pub table_cost : TableValue → ℕ
 table_cost t = length t.pins + unless (is_canonical t)
 

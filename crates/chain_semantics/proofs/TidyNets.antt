@@ -127,7 +127,7 @@ none_passes test start (suc count) e q low high =
       | inr not_after ↦ let at : start ≡ q = omega arith in subst (λ j. test j ≡ false) at both.0
     ]
 
--- rows of which none is without literals
+-- rows each of which has a literal
 all_literals : (rows : List (List Mark)) → list_any (λ marks. eqb (row_literals marks) 0) rows ≡ false → AllByRecursion (λ marks. 0 < row_literals marks) rows
 all_literals [] e = tt
 all_literals (marks ∷ rows) e =

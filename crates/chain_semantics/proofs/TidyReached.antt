@@ -63,7 +63,7 @@ tidied_within (suc most) N sound h = tidied_at most N sound h (tidied_within mos
 pub tidied-exists : (N : NetValue) → IsSound N → (M : NetValue) × IsTidiedFrom N M
 tidied-exists N sound = tidied_within (suc (tidy_measure N)) N sound (omega arith)
 
--- M comes after exactly so many steps
+-- M comes of N by exactly k steps
 IsRun : ℕ → NetValue → NetValue → Type 0
 IsRun zero N M = N ≡ M
 IsRun (suc k) N M = (K : NetValue) × (tidy_step N ≡ Some K) × IsRun k K M

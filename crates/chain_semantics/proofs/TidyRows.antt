@@ -16,7 +16,7 @@ and_swap true b c = refl
 and_swap false true c = refl
 and_swap false false c = refl
 
--- a row matches where the mark at q does and the others do
+-- a row matches where its mark at q matches and its other marks do
 pub row_matches-split : (marks : List Mark) (pins : List ℕ) (q : ℕ) (v : Assignment) → q < length pins
     → row_matches marks pins v ≡ (mark_matches (mark_at marks q) (v (get_or pins q 0)) && row_matches (remove marks q) (remove pins q) v)
 row_matches-split marks [] q v h = absurd (omega arith)

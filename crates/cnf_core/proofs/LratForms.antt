@@ -1,4 +1,4 @@
--- A token byte by byte comes to the same as its bytes as a whole.
+-- A token that is read byte by byte comes to the same as its bytes as a whole.
 use Rattle.std.proofs.Common.{◌≡◌, ℕ, ◌+◌, ◌-◌, ◌*◌, ◌^◌, ◌==◌, ◌<◌, ◌≤◌, [], ◌∷◌, true, false, Bool, refl, ap, sym, ◌∙◌, Some, arith}
 use Rattle.std.specs.Prelude.{if◌then◌else◌, nat_lt, fold}
 use Rattle.std.specs.List.{list_all}

@@ -1,4 +1,4 @@
--- A conversion reads no more of IN than one byte past the limit, and what it answers where IN is refused.
+-- A conversion reads no more of IN than one byte past the limit; and what it answers where IN is refused.
 use Rattle.std.proofs.Common.{◌≡◌, ◌<◌, length, nat_le, Option, Some, None, Result, Err, ap, subst, ◌∙◌, arith}
 use Rattle.std.proofs.lemmas.Bool.Decides.{nat_tests}
 use Rattle.semantics.specs.declared.limits.TheConstants.{MOST_INPUT_BYTES}

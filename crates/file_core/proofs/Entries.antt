@@ -107,7 +107,7 @@ SetsFile-push es new name bytes i lacks at_end e =
       keeps = λ other k was. first-push es (name, bytes) other k was;
     }))
 
--- the same, through a slice of the whole list
+-- a file is set through a slice of the whole list
 SetsFile-within : (es new others : List Entry) (name bytes : Bytes) (i n : ℕ) → IsFirstAt es name i → length es ≡ n → new ≡ set es i (name_at es i, bytes) → SetsFile es (take n (new ++ others)) name bytes i
 SetsFile-within es new others name bytes i n at whole e =
     SetsFile-set es (take n (new ++ others)) name bytes i at

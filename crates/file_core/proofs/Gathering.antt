@@ -10,7 +10,7 @@ use Rattle.file_core.proofs.Told.{Wrote-nil, Wrote-Wrote, WriteFailed-after, Wri
 pub Gathered-nil : (a : FilesTold) (p : Bytes) → Gathered a a p p []
 Gathered-nil a p = record { sent = []; wrote = Wrote-nil a; rest = append-nil p }
 
--- what the page held first and two texts, of which parts were sent in two turns
+-- what the page held first and two texts, parts of which were sent in two turns
 two_turns : (p q r s t one two : Bytes) → p ++ s ≡ one ++ q → q ++ t ≡ two ++ r → p ++ (s ++ t) ≡ (one ++ two) ++ r
 two_turns p q r s t one two first second =
     sym (append_assoc p s t) ∙ ap (λ x. x ++ t) first ∙ append_assoc one q t ∙ ap (λ x. one ++ x) second ∙ sym (append_assoc one two r)
@@ -35,7 +35,7 @@ WriteFailed-gathered {a} {b} {c} {p} {q} {s} t g failed =
 pub WriteFailed-longer : {a b : FilesTold} (p s t : Bytes) → WriteFailed a b (p ++ s) → WriteFailed a b (p ++ (s ++ t))
 WriteFailed-longer {a} {b} p s t failed = subst (λ x. WriteFailed a b x) (append_assoc p s t) (WriteFailed-more t failed)
 
--- the same within a longer text
+-- the write of a longer text failed
 pub WriteFailed-gathered_longer : {a b c : FilesTold} {p q s : Bytes} (t u : Bytes) → Gathered a b p q s → WriteFailed b c (q ++ t) → WriteFailed a c (p ++ (s ++ (t ++ u)))
 WriteFailed-gathered_longer {q = q} t u g failed = WriteFailed-gathered (t ++ u) g (WriteFailed-longer q t u failed)
 

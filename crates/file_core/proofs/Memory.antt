@@ -225,7 +225,7 @@ WriteFailed-memory m n later is = record {
       (0, omega arith, sym (same_Some n.held b y) ∙ ap (λ v. v.held) is ∙ same_Some m.held a x ∙ sym (appended-nil a m.writing));
 }
 
--- the same from the value before, under another name
+-- a later value, from the value before under another name
 pub Later-from : {first m : MemoryValue} (n : MemoryValue) → first ≡ m → first.faults ≤ n.faults → first.calls ≤ n.calls → n.failing ≡ first.failing → Later m n
 Later-from {first} {m} n is faults calls same = record {
   faults = subst (λ x. x.faults ≤ n.faults) is faults;

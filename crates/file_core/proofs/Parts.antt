@@ -62,6 +62,6 @@ WriteFailed-fourth {t = t} {u = u} v w whole is first second third failed =
 pub WriteFailed-from_empty : {a b : FilesTold} (p s : Bytes) → p ≡ [] → WriteFailed a b (p ++ s) → WriteFailed a b s
 WriteFailed-from_empty {a} {b} p s none failed = subst (λ x. WriteFailed a b (x ++ s)) none failed
 
--- the same of a text that was written
+-- a text was written, where nothing stood before it
 pub Wrote-from_empty : {a b : FilesTold} (p s : Bytes) → p ≡ [] → Wrote a b (p ++ s) → Wrote a b s
 Wrote-from_empty {a} {b} p s none wrote = subst (λ x. Wrote a b (x ++ s)) none wrote

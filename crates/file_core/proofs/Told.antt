@@ -13,11 +13,11 @@ use Rattle.outside_semantics.proofs.HeldFiles.{get-insert_same, insert-insert, i
 rose_later : (a b c : ℕ) → a ≤ b → Rose b c → Rose a c
 rose_later a b c le rose = omega arith
 
--- without a call all goes on
+-- without a call everything is kept
 pub Goes-same : (a : FilesTold) → Goes a a
 Goes-same a = record { counts = omega arith; turns = λ name. omega arith; untold = λ e. e; steady_read = λ name e. e; steady_write = λ name e. e }
 
--- what goes on over two turns goes on over both
+-- what every call keeps is kept over two calls
 pub Goes-Goes : {a b c : FilesTold} → Goes a b → Goes b c → Goes a c
 Goes-Goes {a} {b} {c} p q =
     let first : a.faults ≤ b.faults = p.counts in
@@ -141,11 +141,11 @@ pub WriteFailed-part : {a b c : FilesTold} (text rest : Bytes) → (s : Bytes) �
 WriteFailed-part {a} {b} {c} text rest before failed =
     subst (λ x. WriteFailed a c x) before.1 (WriteFailed-after before.2 (WriteFailed-more rest failed))
 
--- without a call a sink goes on
+-- without a call on a sink everything is kept
 pub SinkGoes-same : (a : SinkTold) → SinkGoes a a
 SinkGoes-same a = record { counts = omega arith; untold = λ e. e }
 
--- what goes on over two turns of a sink goes on over both
+-- what every call on a sink keeps is kept over two calls
 pub SinkGoes-SinkGoes : {a b c : SinkTold} → SinkGoes a b → SinkGoes b c → SinkGoes a c
 SinkGoes-SinkGoes {a} {b} {c} p q =
     let first : a.faults ≤ b.faults = p.counts in

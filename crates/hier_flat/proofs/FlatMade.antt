@@ -164,7 +164,7 @@ buffers_are h path n inside (b ∷ bindings) tables same =
 
 -- ---- models
 
--- the model stands there in the list, behind so many items, and its names have the signals of its places
+-- the model stands in the list behind `number` items, and its names have the signals of its places
 record Reaches (h : Hierarchy) (l number : ℕ) (path : Path) (m : BlifModel) (signal : Bytes → ℕ) : Type 0 where
   model : m ≡ model_at h path
   grounded : is_model_grounded h l m ≡ true

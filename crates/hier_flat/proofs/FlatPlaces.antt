@@ -221,7 +221,8 @@ parts_found h l path n k (p ∷ parts) rest distinct sizes =
 
 -- ---- the signals of what a model drives
 
--- the items of a model in the flat list: so many before, none of them of this path or one that ends in it
+-- the items of a model in the flat list, behind `number` items, none of which is of this path or of one that
+-- ends in it
 pub record Stands (h : Hierarchy) (l number : ℕ) (path : Path) (m : BlifModel) : Type 0 where
   pub before : List FlatItem
   pub after : List FlatItem

@@ -14,7 +14,7 @@ use Rattle.hierarchy_semantics.specs.Flat.{FlatItem, items_at, part_items, items
 use Rattle.hierarchy_semantics.proofs.Members.{IsIn, in_left, in_right}
 use Rattle.hierarchy_semantics.proofs.Distinct.{Distinct, Apart, distinct_append, distinct_left, distinct_right, distinct_apart}
 
--- ---- the names of the main model among those of the items
+-- ---- the names of the main model among the names of the items
 
 abbrev own_first : Path → Bytes → List Bytes → List Bytes
 own_first [] name rest = name ∷ rest

@@ -198,7 +198,7 @@ refuted_by : (exact : NetValue) (metric : Metric) (bound : ℕ) (texts : Texts) 
 refuted_by exact metric bound texts c f all =
     f.fails (in_middle (Holds exact metric bound texts) f.before f.after c (subst (AllByRecursion (Holds exact metric bound texts)) f.order all))
 
--- of two places in one list, the clauses before each of which hold and which fail themselves, neither is before the other
+-- two places in one list, each of which fails while the clauses before it hold, are one place
 one_place : (P : Clause → Type 0) (before after before' after' : List Clause) (c d : Clause) → before ++ c ∷ after ≡ before' ++ d ∷ after'
     → AllByRecursion P before → AllByRecursion P before' → ¬ P c → ¬ P d → c ≡ d
 one_place P [] after [] after' c d same all all' fails fails' = cc

@@ -12,7 +12,7 @@ use Rattle.chain_semantics.specs.Minimality.{AreBrokenBySome, IsMinimalBy}
 use Rattle.chain_semantics.specs.Simplification.{IsInSimplification, IsSimplificationEnd}
 use Rattle.proof_semantics.specs.Queries.{SpentValue, IsSpentQuery}
 
--- a member of the chain, the vectors that broke moves, and the query that was spent, where one was
+-- a member of the chain, the vectors that broke moves, and the spent query, where one was spent
 pub record Shrinking : Type 0 where
   pub net : NetValue
   pub pool : List (List Bool)

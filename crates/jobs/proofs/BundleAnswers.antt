@@ -1,4 +1,5 @@
--- What a job on a net that is at hand comes to, by the work on it; and that a quiet call has no fault.
+-- What a job on a net that was read or generated comes to, by the work on the net; and that a quiet call has
+-- no fault.
 use Rattle.std.proofs.Common.{◌≡◌, ◌⊎◌, ℕ, false, Bool, List, Option, Some, None, MatchOption, inl, inr, refl, sym, subst, ◌∙◌}
 use Rattle.std.specs.Prelude.{IsTrue}
 use Rattle.semantics.specs.Texts.{Bytes}

@@ -119,7 +119,7 @@ SynthAnswer-of metric bound limit input stem {names} {old} {mid} new said says {
     SynthAnswer-from metric bound limit input stem old mid new said says N (told_query o.spent) (told_query o.level) o.status read
     (subst (λ s. BundleAnswer metric bound limit N s mid new said says o) same answer)
 
--- the same from the work on the net
+-- the answer of a synth job, from what the work on the net says
 pub SynthAnswer-told : (metric : Metric) (bound limit : ℕ) (input stem : Bytes) {names : Bytes} {old mid : FilesTold} (new : FilesTold) (said says : SinkTold) {N : NetValue} (o : Outcome) (w : Work)
     → names ≡ stem → NetRead old mid input N → o ≡ outcome_of w → WorkSays metric bound limit N names mid new said says w → SynthAnswer metric bound limit input stem old new said says o
 SynthAnswer-told metric bound limit input stem {names} {old} {mid} new said says {N} o w same read is work_says =

@@ -6,7 +6,7 @@ pub use job_answers::status::Status;
 use synth_jobs::work::Work;
 use worst_case::query::Spent;
 
-/// The status that a run answers, and the queries that were spent in it.
+/// The status that a run answers, and the spent queries.
 #[derive(Drop)]
 pub struct Outcome {
     pub status: Status,

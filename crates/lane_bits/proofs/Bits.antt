@@ -196,7 +196,7 @@ row_bit-take row n clear p =
       | inr high ↦ row_bit_past (take n row) p (omega (arith, length-take n row)) ∙ sym (clear p (omega arith))
     ]
 
--- ---- the same of words that are known by other terms
+-- ---- words that are known by other terms
 
 read_word : (words : List ℕ) (k w : ℕ) → k < length words → w ≡ get_or words k w → w ≡ get_or words k 0
 read_word words k w within is = is ∙ get_or_default_zero words k w within

@@ -15,7 +15,7 @@ and_false : (b : Bool) → (b && false) ≡ false
 and_false true = refl
 and_false false = refl
 
--- a row of so many bits without unused ones
+-- a row of `count` bits that fill its words has no unused bits
 pub whole_clear : (row : List ℕ) (count : ℕ) → length row ≡ word_count count → count % 64 ≡ 0 → (p : ℕ) → count ≤ p → row_bit row p ≡ false
 whole_clear row count long whole p past = row_bit_past row p (omega (arith, long, whole, past))
 

@@ -130,7 +130,7 @@ module _ (inputs count : ℕ) (old new : List (List ℕ)) (h : AreRowsOf inputs 
   pub readied_set : ◌≡◌ {A = PatternSet} (record { inputs = inputs; vectors = vectors_in new count }) (record { inputs = inputs; vectors = vectors_in old count })
   readied_set = λ i. record { inputs = inputs; vectors = same_rows i }
 
--- so many words of a row of a set reach one bit further
+-- a row with words for `count` bits lacks at most one word for one bit more
 pub room_before : (inputs count : ℕ) (rows : List (List ℕ)) → AreRowsOf inputs count rows → (i : ℕ) → i < inputs → word_count (count + 1) ≤ length (row_at rows i) + 1
 room_before inputs count rows h i low = omega (arith, (formed_at inputs count rows h i low).room)
 

@@ -89,7 +89,7 @@ differing_none : (bits : List Bool) → differing bits bits ≡ 0
 differing_none [] = refl
 differing_none (b ∷ bits) = omega (arith, differing_none bits)
 
--- the same outputs have the error 0
+-- equal outputs have the error 0
 pub no_error : (metric : Metric) (bits : List Bool) → error_of metric bits bits ≡ 0
 no_error Abs bits = omega arith
 no_error Rel bits =

@@ -121,7 +121,7 @@ lane_block N vectors k wides are =
     let at : 8 * (k / 8) + k % 8 ≡ k = omega arith in
     subst (λ n. IsBlock N vectors n (lane_words wides (k % 8))) at (are (k % 8) (omega arith))
 
--- the same wide block, or none is asked for
+-- the next block stands in the same wide block, where it does not begin another
 pub there_more : (N : NetValue) (vectors : List (List Bool)) (k : ℕ) (wides : List (List ℕ)) → IsWideBlock N vectors (k / 8) wides
     → 0 < (k + 1) % 8 → IsWideBlock N vectors ((k + 1) / 8) wides
 there_more N vectors k wides are some =

@@ -25,7 +25,7 @@ contains_added (x ∷ formula) added (suc id) clause past (zero, is, within, her
 contains_added (x ∷ formula) added (suc id) clause past (suc place, is, within, here) =
     contains_added formula added id clause (omega (arith, past)) (place, omega (arith, is), omega (arith, within), here)
 
--- the same signals are taken
+-- where the same signals are taken, the same holds of the merging
 pub merging_same : (N : NetValue) (levels : List ℕ) (level t next u : ℕ) (g : MergingValue) → ((s : ℕ) → IsDone N levels level t s → IsDone N levels next u s)
     → ((s : ℕ) → IsDone N levels next u s → IsDone N levels level t s) → IsMerging N levels level t g → IsMerging N levels next u g
 merging_same N levels level t next u g to from h = record {

@@ -16,7 +16,7 @@ use Rattle.merge_log.proofs.Carried.{negated, implies-second}
 abbrev pub SaysSo : List Clause → ℕ → ℕ → ℕ → Type 0
 SaysSo clauses id row other = HasId clauses id (forth other row) ⊎ HasId clauses id (back row other)
 
--- so say each second clause from the id on, of so many rows
+-- each second clause from the id `id` on says so, of `count` rows
 abbrev pub SaySo : List Clause → ℕ → ℕ → ℕ → ℕ → Type 0
 SaySo clauses id row other zero = Unit {0}
 SaySo clauses id row other (suc count) = SaysSo clauses id row other × SaySo clauses (suc (suc id)) (suc row) (suc other) count

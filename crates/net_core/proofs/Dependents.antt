@@ -48,7 +48,7 @@ module _ (n : ℕ) (tables : List TableValue) (t : ℕ) (marks : List Bool) (bef
             by_pin (omega arith) (omega arith) (own_pin n tables i found.1 pin) ((marked found.1 pin).0 found.4)
       ]
 
-  -- the mark of the table that stands next, from those of what it reads
+  -- the mark of the next table, by the marks of what it reads
   pub IsMarkOf-next : (read : List ℕ) (mark : Bool) → read ≡ (table_at tables i).pins → mark ≡ (eqb i t || list_any (λ p. get_or marks p false) read) → IsNext n tables before i
       → ((s : ℕ) → IsKnown n before s → IsMarkOf n tables t s (get_or marks s false)) → IsMarkOf n tables t (n + i) mark
   unfolding pins mark_at

@@ -63,7 +63,7 @@ IsBuilt-with_table N t made built within formed same acyclic =
     IsBuilt-wired (with_table N t made) built.sound.model_named built.sound.inputs_named (All-set IsTable N.tables t made formed built.sound.tables_formed)
     (IsWired-with_table N (with_table N t made) t made within built same refl) acyclic
 
--- the same in code: N is seen as M
+-- the exchanged net in code, where N is seen as M
 pub exchanged : (N M : NetValue) (t : ℕ) (made : TableValue) (tables : List TableValue) → N ≡ M → IsBuilt N → t < table_count M → IsTable made → made.name ≡ (table_at M.tables t).name
     → IsAcyclic (input_count M) (replaced M.tables t made) → tables ≡ set N.tables t made → IsBuilt (record N { tables = tables })
 exchanged N M t made tables same built within formed named acyclic is =

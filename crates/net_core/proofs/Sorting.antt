@@ -112,7 +112,7 @@ IsSettled-placed n tables S i head rest h = record {
       rw (get_or_append_left S.order (i ∷ []) 0 k short) (h.emptied k low);
 }
 
--- what waits goes on waiting where one more waits
+-- a table that waits goes on waiting when another table waits too
 waiters-kept : (S : Sorting) (t i ready on j : ℕ) → Contains (waiters_of S on) j → Contains (waiters_of (waiting_for S t i ready) on) j
 waiters-kept S t i ready on j h =
     elim (cases_eq on t) [
@@ -148,7 +148,7 @@ IsSettled-waiting n tables S t i ready head rest h within unplaced read s =
           get_or-set_other S.waiters t (get_or S.order k 0) (waiters_of S t ++ i ∷ []) [] other ∙ s.emptied k low;
     }
 
--- a table waits for that of its first pin that is not known
+-- a table waits for the table of its first pin that is not known
 pub IsSettled-unknown : (n : ℕ) (tables : List TableValue) (S : Sorting) (i k : ℕ) (pins : List ℕ) → All (λ t. All (λ s. s < n + length tables) t.pins) tables → i < length tables → pins ≡ (table_at tables i).pins
     → IsSorting n tables S → IsFirstUnknown n S.order pins k → (head : ℕ) (rest : List ℕ) → IsSettled n tables S head (i ∷ rest) → IsSettled n tables (waiting_for S (get_or pins k 0 - n) i k) head rest
 IsSettled-unknown n tables S i k pins all within e h f head rest s =

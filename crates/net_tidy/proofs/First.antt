@@ -1,4 +1,4 @@
--- The first number that passes, once one more did not.
+-- The first number that passes, once one more number did not.
 use Rattle.std.proofs.Common.{◌≡◌, ℕ, suc, ◌+◌, ◌-◌, ◌<◌, Bool, false, cond, eqb, Some, List, [], ◌∷◌, length, refl, ap, sym, ◌∙◌, arith}
 use Rattle.std.proofs.lemmas.Bool.{ne_eqb}
 use Rattle.chain_semantics.specs.TidyRules.{is_empty, first_from}

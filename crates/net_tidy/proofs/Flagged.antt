@@ -37,8 +37,8 @@ flagged-gone N gone flags t h room = record {
   ];
 }
 
--- What an edit of table t leaves to another table whose flag is down: its flag was down before, it is read by table t as it was, and it does not see
--- whether table t has pins.
+-- What an edit of table t leaves to another table whose flag is down. The flag was down before; table t, as
+-- it was, reads the other table; and the other table does not see whether table t has pins.
 pub record IsApart (N : NetValue) (t : ℕ) (new : TableValue) (flags : List Bool) (j : ℕ) : Type 0 where
   pub down : IsDown flags j
   pub other : j ≡ t → ⊥
@@ -166,7 +166,7 @@ none_until D E F t next same still before here after j low stays =
       | inr far ↦ subst (λ (G : DraftValue). Stays G.gone j → rule_at G.net j ≡ None) still (after j far low) stays
     ]
 
--- the same in a net that is not edited
+-- the flags in a net that is not edited
 pub flagged-net : (N : NetValue) (flags : List Bool) (t : ℕ) → IsFlagged N flags → rule_at N t ≡ None → IsFlagged N (set flags t false)
 flagged-net N flags t h none = record {
   count = length-set flags t false ∙ h.count;

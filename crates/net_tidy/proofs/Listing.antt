@@ -55,7 +55,7 @@ put_back lists f t ne h k =
     ap (λ l. set l f (get_or lists f [])) (set_own (set lists f []) t [] (omega (arith, length-set lists f [])))
     ∙ restored lists f [] [] h
 
--- the same in code
+-- the lists after `share`, by the terms of the code
 pub share_done : (first lists : List (List ℕ)) (f t : ℕ) (dest m k taken places new : List ℕ) → (f ≡ t → ⊥) → f < length first → t < length first → lists ≡ first → dest ≡ []
     → m ≡ get_or lists f m → taken ≡ m → k ≡ get_or (set lists f dest) t k → places ≡ taken → new ≡ k ++ places
     → set (set (set lists f dest) t new) f taken ≡ set first t (list_at first t ++ list_at first f)

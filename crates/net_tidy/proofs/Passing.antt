@@ -127,7 +127,7 @@ module _ (N : NetValue) (t : ℕ) (sound : IsSound N) (within : t < table_count 
             like-rule (λ s. s) N j (with_bypass N t) j (bypass-like j below differs before.1) ∙ h.rests j below stays before.0;
       }
 
--- the same in code
+-- the flags after a bypass, by the terms of the code
 pub flagged-bypassed : (N : NetValue) (t from to : ℕ) (inverted : Bool) (table : TableValue) (pins : List ℕ) (seen tables : List TableValue) (gone old mid flags : List Bool)
     → IsSound N → t < table_count N → is_bypassed N t ≡ true → from ≡ input_count N + t → table ≡ table_at N.tables t → pins ≡ table.pins → to ≡ get_or pins 0 0
     → inverted ≡ is_inverter table → seen ≡ N.tables → tables ≡ map (reading_past from to inverted) N.tables → IsFlaggedIn (record { net = N; gone = gone }) old → length mid ≡ length old

@@ -296,7 +296,7 @@ last_room lists s some =
       | inr high ↦ absurd (omega (arith, some, ap length (get_or_past lists s [] high)))
     ]
 
--- ---- the same in code
+-- ---- the readers, by the terms of the code
 
 pub read_room : (tables value : List TableValue) (lists : List (List ℕ)) (s : ℕ) → IsListed tables lists → tables ≡ value → is_read value s ≡ true → s < length lists
 read_room tables value lists s h same r = listed_room tables lists s h (ap (λ ts. is_read ts s) same ∙ r)

@@ -4,11 +4,11 @@ use Rattle.semantics.specs.declared.mark.Mark.{Mark}
 use Rattle.semantics.specs.declared.mark.Mark.TheVariants.{Zero}
 use Rattle.chain_semantics.specs.TidyRules.{opposite, with_marks_turned}
 
--- the first so many marks are turned, and the others are as they were
+-- the first i marks are turned, and the marks behind them are as they were
 abbrev pub turned_to : ℕ → ℕ → List ℕ → List Mark → List Mark
 turned_to i s pins marks = take i (with_marks_turned s pins marks) ++ drop i marks
 
--- one more
+-- one more mark is turned
 pub turned_more : (i s : ℕ) (pins : List ℕ) (marks now : List Mark) (m : Mark) → i < length pins → length marks ≡ length pins → now ≡ turned_to i s pins marks
     → m ≡ get_or now i Zero → set now i (cond (eqb (get_or pins i 0) s) (opposite m) m) ≡ turned_to (suc i) s pins marks
 turned_more i s [] marks now m h w e at = absurd (omega arith)

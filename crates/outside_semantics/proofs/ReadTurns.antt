@@ -38,7 +38,7 @@ one_on name ts =
     subst (λ k. count_by (bytes_eq name) ts < k) (sym (next_counts name name ts))
     (more_of (bytes_eq name name) (count_by (bytes_eq name) ts) ((bytes_eq-Decides name name).1 refl))
 
--- a read that is a turn is one more on the file that is open
+-- a read that is a turn adds one turn of the file that is open
 pub turn_counts : (old new : FilesTold) (name : Bytes) (asked n : ℕ) → new.turns ≡ turns_after old.opened asked n old.turns → old.opened ≡ Some name → asked ≤ turn_bytes → 0 < n
     → turns_on old name < turns_on new name
 turn_counts old new name asked n is reads within some =

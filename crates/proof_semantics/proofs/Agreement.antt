@@ -34,7 +34,7 @@ AgreesFrom-from a (b ∷ bs) first h =
     subst (λ m. a (suc m) ≡ get_or bs j false) place at in
     (subst (λ m. a (suc m) ≡ b) start (h zero (omega arith)), AgreesFrom-from a bs (suc first) next)
 
--- the values of so many variables
+-- the values of the `count` variables behind the first `first`
 pub values_from : Assignment → ℕ → ℕ → List Bool
 values_from a first zero = []
 values_from a first (suc count) = a (suc first) ∷ values_from a (suc first) count

@@ -20,7 +20,7 @@ pub ended_more : (place : ℕ) (part : Bytes) (parts : List Bytes) → 0 < lengt
 ended_more place part [] h = absurd (omega arith)
 ended_more place part (next ∷ parts) h = refl
 
--- the tokens of a text, of which the bytes that are held have no blank among them, and then those of more
+-- the tokens of a text, in whose held bytes there is no blank, and then the tokens of more bytes
 abbrev EndedFirst : ℕ → Bytes → Bytes → Bytes → Type 0
 EndedFirst place held text more =
     (later : List Token) × (ended place (slice_split is_blank (held ++ (text ++ more))) ≡ ended place (slice_split is_blank (held ++ text)) ++ later)
@@ -115,7 +115,7 @@ record GoesOn (text more : Bytes) : Type 0 where
   items : whole_items (text ++ more) ≡ whole_items text ++ later
   refused : (refusal : LratRefusal) → lrat_refusal text ≡ Some refusal → (lrat_refusal (text ++ more) ≡ Some refusal) × (whole_items (text ++ more) ≡ whole_items text)
 
--- a token was refused, and whatever follows says nothing
+-- a token was refused, and what follows changes nothing
 refused_first : (stage : Stage) (refusal : LratRefusal) (later : List Token) (bad size : ℕ) → stage ≡ Refused refusal
     → (stage_with_byte (stage_after_all stage later) bad size ≡ Refused refusal) × (items_given stage later ≡ [])
 refused_first stage refusal later bad size e =

@@ -50,7 +50,7 @@ pub number_of-binary : (k : ℕ) → number_of (binary k) ≡ k
 unfolding binary
 number_of-binary k = number_of-bits_within k k (omega arith)
 
--- the last of a list with one more in front
+-- the last item of a list with one more item in front
 last_later : (b : Bool) (bits : List Bool) → 0 < length bits → get_or (b ∷ bits) (length (b ∷ bits) - 1) false ≡ get_or bits (length bits - 1) false
 last_later b [] some = absurd (omega arith)
 last_later b (c ∷ bits) some =

@@ -86,7 +86,7 @@ size-exceed W x y z m hx hy hz =
       size-appended q.net (or2 p.signal q.signal),
     )
 
--- the places of the adders that multiply a bus of w bits by a number of so many bits
+-- the number of places of the adders that multiply a bus of w bits by a number of n bits
 abbrev adder_places : ℕ → ℕ → ℕ
 adder_places w zero = 0
 adder_places w (suc n) = adder_places w n + (w + 2 * n + 1)

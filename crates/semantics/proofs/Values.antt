@@ -36,7 +36,7 @@ round-same n tables x v w s h = ap (λ b. cond (ltb s n) (get_or x s false) b) (
 IsRoundOf : (n : ℕ) (tables : List TableValue) (x : List Bool) (v w : Assignment) → Type 0
 IsRoundOf n tables x v w = (s : ℕ) → s < n + length tables → v s ≡ round n tables x w s
 
--- v is the end of so many rounds
+-- v is what k rounds come to
 IsRun : (n : ℕ) (tables : List TableValue) (x : List Bool) → ℕ → Assignment → Type 0
 IsRun n tables x zero v = Unit {0}
 IsRun n tables x (suc k) v = (w : Assignment) × IsRoundOf n tables x v w × IsRun n tables x k w

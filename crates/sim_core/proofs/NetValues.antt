@@ -162,7 +162,8 @@ table_values vectors count t values rows row f same is value = record {
   clear = λ p past. is.clear p (omega (arith, past, same));
 }
 
--- the rows of the inputs and of the first k tables of the order are found again, and that of table t; the others are as they were
+-- the rows of the inputs, of the first k tables of the order and of table t are computed again; the other
+-- rows are as they were
 pub record IsFlipping (N : NetValue) (vectors : List (List Bool)) (order : List ℕ) (t : ℕ) (start : List (List ℕ)) (k : ℕ) (rows : List (List ℕ)) : Type 0 where
   pub known : HoldsBefore (IsSignalRow vectors (λ x. flipped_values (input_count N) N.tables x t)) [] (input_count N) order k rows
   pub turned_over : IsRowOfValues vectors (λ x. flipped_values (input_count N) N.tables x t (input_count N + t)) (row_at rows (input_count N + t))
@@ -187,7 +188,7 @@ module _ (N : NetValue) (vectors : List (List Bool)) (count : ℕ) (same : lengt
       (λ p within. next-value n N.tables (vector_at vectors p) (take k order) i (values_of rows p) acyclic next (λ s known. (before s known).bits p within)))
       before
 
-  -- the same, by the terms of the code
+  -- one more row, by the terms of the code
   pub rows_step : (rows new : List (List ℕ)) (k i place : ℕ) (table : TableValue) → k < length order → i ≡ get_or order k 0 → place ≡ n + i → signal_count N ≤ length rows → table ≡ table_at N.tables i
       → new ≡ set rows place (row_at new place) → IsTableRow table count rows (row_at new place)
       → HoldsBefore (IsSignalRow vectors (value_of n N.tables)) [] n order k rows → HoldsBefore (IsSignalRow vectors (value_of n N.tables)) [] n order (k + 1) new

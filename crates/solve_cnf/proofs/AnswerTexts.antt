@@ -19,7 +19,7 @@ model_line-parts bits =
     ap (λ t. (118 ∷ 32 ∷ []) ++ t) (list_text-line signed_decimal (true_literals 1 bits))
     ∙ sym (line_text-word (codes "v") (map signed_decimal (true_literals 1 bits)) (codes "0") [])
 
--- the text behind the literals of so many variables
+-- the text of the literals behind the first i
 abbrev pub literals_left : List Bool → ℕ → Bytes
 literals_left bits i = literals_text (true_literals (i + 1) (drop i bits))
 

@@ -1,4 +1,4 @@
--- What is told of a query that was spent.
+-- What is told of a spent query.
 use Rattle.std.specs.Prelude.{Option, option_map}
 use Rattle.proof_semantics.specs.Queries.{SpentValue}
 use Rattle.worst_case.specs.declared.query.Spent as spent

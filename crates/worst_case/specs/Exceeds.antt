@@ -1,4 +1,4 @@
--- What a query answers whether some input's error exceeds a level.
+-- What the answers are to the query whether some input's error exceeds a level.
 use Rattle.std.specs.Prelude.{◌≡◌, ℕ, List, length, take}
 use Rattle.semantics.specs.Net.{NetValue, input_count}
 use Rattle.semantics.specs.declared.metric.Metric.{Metric}

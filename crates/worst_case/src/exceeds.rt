@@ -17,7 +17,7 @@ use semantics::limits::MOST_OUTPUTS;
 use semantics::metric::Metric;
 use std::alloc::{AllocError, Global};
 
-/// The same question of nets that can be compared, where every vector is held.
+/// Whether some error exceeds `k`, as [`exceeds_level`] answers, where every vector is held.
 #[tactic(auto, using(crate::proofs::Tried::over_first))]
 fn exceeds_held<P: Progress>(
     alloc: Global,
@@ -39,7 +39,8 @@ fn exceeds_held<P: Progress>(
     }
 }
 
-/// The same question of nets that can be compared.
+/// An input whose error exceeds `k`, a log that refutes that there is such an input, or the spent query, as
+/// [`exceeds`] answers; of nets that can be compared, and with calls on `progress`.
 pub(crate) fn exceeds_level<P: Progress>(
     alloc: Global,
     nets: &Compared,

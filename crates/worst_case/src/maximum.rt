@@ -54,7 +54,7 @@ fn settle<P: Progress>(
 }
 
 /// Narrows the range by queries until its levels meet, and tells `progress` each range before its query.
-/// Returns the query that was spent, if one was.
+/// Returns the spent query, if one was spent.
 fn close<P: Progress>(
     alloc: Global,
     nets: &Compared,
@@ -119,7 +119,7 @@ fn close_by_diagrams<P: Progress>(
     close_known(alloc, nets, &mut decider, metric, limit, range, progress)
 }
 
-/// The greatest error, which lies in the range, or the query that was spent.
+/// The greatest error, which lies in the range, or the spent query.
 fn search<P: Progress>(
     alloc: Global,
     nets: &Compared,

@@ -139,7 +139,7 @@ fn narrow_by_solver<P: Progress>(
 }
 
 /// Asks whether some error exceeds the middle of the range, first the diagrams and, where they do not answer,
-/// the solver; and narrows the range by the answer. Returns the query that was spent, if one was.
+/// the solver; and narrows the range by the answer. Returns the spent query, if one was spent.
 pub fn narrow<P: Progress>(
     alloc: Global,
     nets: &Compared,

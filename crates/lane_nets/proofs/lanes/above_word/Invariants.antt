@@ -3,7 +3,8 @@ use Rattle.semantics.specs.Error.{number_of}
 use Rattle.lane_nets.specs.Lanes.{lane_at, lane_number}
 use Rattle.lane_nets.proofs.lanes.above_word.Given as goal
 
--- the comparison of what is left, with what is carried and how the bits so far compare, is that of the whole
+-- the comparison of the bits that are left, with the carry and with how the bits so far compare, is that of
+-- the whole numbers
 abbrev pub invariant-loop-i : goal.invariant-loop-i
 invariant-loop-i l =
     (b : ℕ) → b < 64

@@ -4,7 +4,7 @@ use Rattle.lane_bits.specs.Rows.{row_bit, turned}
 use Rattle.sim_core.proofs.Joined.{joined-row, joined-before, part_before, row_bit-front}
 use Rattle.sim_core.proofs.row_blocks.set_conjunction.Goals as goal
 
--- the part that is written has so many words
+-- the part that is written has `words` words
 part_long : (rest row dst : List ℕ) (words start all : ℕ) → length rest + start ≡ all → start + words ≤ all → length dst ≡ length (take words rest) → length row ≡ length dst → length row ≡ words
 part_long rest row dst words start all back ends long same = let wide : length (take words rest) ≡ words = length-take-le words rest (omega (arith, back, ends)) in same ∙ long ∙ wide
 
