@@ -7,16 +7,16 @@ ghost use Rattle.aiger_text.specs.ReadCircuit.{IsRead};
 
 use crate::ands::Ands;
 use crate::literal::Literal;
-use indexmap::IndexSet;
 use net_core::items::{Items, Signal, SignalList};
 use net_core::name::Name;
+use numbered_keys::keys::NumberedKeys;
 use std::alloc::{AllocError, Global};
 use std::marker::Model;
 
-/// Names with literals that differ, in order. Each is found in about constant time.
+/// Names with literals that differ, in order. Each is found by comparisons with a few of them.
 #[derive(Drop)]
 pub(crate) struct Ports<'a> {
-    ports: IndexSet<(&'a [u8], Literal)>,
+    ports: NumberedKeys<(&'a [u8], Literal)>,
 }
 
 impl<'a> Model for Ports<'a> {
@@ -25,7 +25,7 @@ impl<'a> Model for Ports<'a> {
 
     ghost Value = { List Port };
 
-    ghost view = { λ a. map (λ key. record { name = key.0.now; literal = key.1 }) a.ports.keys };
+    ghost view = { λ a. map (λ key. record { name = key.0.now; literal = key.1 }) a.ports };
 }
 
 /// The literals of the inputs' variables.
@@ -45,7 +45,7 @@ impl<'a> Ports<'a> {
         ensures { result ≡ [] }
     {
         Ports {
-            ports: IndexSet::new(alloc),
+            ports: NumberedKeys::new(alloc),
         }
     }
 
@@ -54,7 +54,7 @@ impl<'a> Ports<'a> {
         ensures { OnOk result (self.new ≡ (if has_port self.old (record { name = name.now; literal = literal })
             then self.old else self.old ++ record { name = name.now; literal = literal } ∷ [])) }
     {
-        self.ports.insert((name.bytes(), literal))?;
+        self.ports.add((name.bytes(), literal))?;
         Ok(())
     }
 
@@ -97,17 +97,17 @@ impl<'a> Ports<'a> {
     }
 
     /// The place of a name with a literal.
-    fn place(&self, name: &Name, literal: Literal) -> usize
+    fn place(&self, name: &'a Name, literal: Literal) -> usize
         ensures { result ≡ place_or_end (position (is_port (record { name = name.now; literal = literal })) self.now) }
     {
-        match self.ports.get_index_of(&(name.bytes(), literal)) {
+        match self.ports.place(&(name.bytes(), literal)) {
             Some(place) => place,
             None => 0,
         }
     }
 
     /// The signal of an output.
-    fn output_signal(&self, circuit: &Ands, i: usize) -> Signal
+    fn output_signal(&self, circuit: &'a Ands, i: usize) -> Signal
         requires read { IsRead circuit.now }
         requires ports { self.now ≡ input_ports circuit.now ++ own_outputs circuit.now }
         requires output { i < length circuit.now.outputs }
@@ -125,7 +125,7 @@ impl<'a> Ports<'a> {
     pub(crate) fn output_signals(
         &self,
         alloc: Global,
-        circuit: &Ands,
+        circuit: &'a Ands,
     ) -> Result<SignalList, AllocError>
         requires read { IsRead circuit.now }
         requires ports { self.now ≡ input_ports circuit.now ++ own_outputs circuit.now }

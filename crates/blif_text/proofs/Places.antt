@@ -29,6 +29,13 @@ place_of-texts word keys =
     let size : length (texts keys) ≡ length keys = length-map keys (λ k. k.now) in
     rw (place, size) refl
 
+-- what a list has at a place stands before its end
+pub within_list : {X : Type 0} (test : X → Bool) (xs : List X) (s : ℕ) → Some s ≡ position test xs → s < length xs
+within_list test xs s e =
+    let p : ℕ = position_or_len test xs in
+    let at = cond_some (ltb p (length xs)) p s (sym e) in
+    omega (arith, ltb-true p (length xs) at.0, at.1)
+
 -- ---- names that are there or not
 
 none_if : {X : Type 0} (b : Bool) (x : X) → None ≡ cond b (Some x) None → b ≡ false

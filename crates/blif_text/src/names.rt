@@ -8,16 +8,16 @@ ghost use Rattle.blif_text.specs.Names.{place_of, first_unknown};
 ghost use Rattle.text_words.specs.Slices.{texts};
 
 use crate::refusal::BlifRefusal;
-use indexmap::IndexSet;
 use net_core::items::{Items, Signal, SignalList};
 use net_core::name::Name;
+use numbered_keys::keys::NumberedKeys;
 use std::alloc::{AllocError, Global};
 use std::marker::Model;
 
-/// Names that differ, in order. A name is found in about constant time.
+/// Names that differ, in order. A name is found by comparisons with a few of them.
 #[derive(Drop)]
 pub struct Names<'a> {
-    names: IndexSet<&'a [u8]>,
+    names: NumberedKeys<&'a [u8]>,
 }
 
 impl<'a> Model for Names<'a> {
@@ -27,9 +27,9 @@ impl<'a> Model for Names<'a> {
 
     ghost Value = { List Bytes };
 
-    ghost view = { λ a. texts a.names.keys };
+    ghost view = { λ a. texts a.names };
 
-    ghost invariant = { λ a. length a.names.keys < 2 ^ 31 };
+    ghost invariant = { λ a. length a.names < 2 ^ 31 };
 }
 
 impl<'a> Names<'a> {
@@ -37,7 +37,7 @@ impl<'a> Names<'a> {
         ensures { result ≡ [] }
     {
         Names {
-            names: IndexSet::new(alloc),
+            names: NumberedKeys::new(alloc),
         }
     }
 
@@ -47,7 +47,7 @@ impl<'a> Names<'a> {
         ensures new { IfOk result (λ b. b ≡ not (has_name self.old name.now)) }
         ensures added { IfOk result (λ b. b ≡ true → self.new ≡ self.old ++ name.now ∷ []) }
     {
-        let is_new = self.names.insert(name)?;
+        let is_new = self.names.add(name)?;
         Ok(is_new)
     }
 
@@ -74,8 +74,8 @@ impl<'a> Names<'a> {
     fn number(&self, name: &[u8]) -> Option<Signal>
         ensures { result ≡ place_of self.now name.now }
     {
-        let at = self.names.get_index_of(name)?;
-        Some(at as u32)
+        let at = self.names.places().get(name)?;
+        Some(*at as u32)
     }
 
     /// The numbers of these names, or the refusal of the first that is none of these.

@@ -7,14 +7,14 @@ ghost use Rattle.blif_text.specs.Names.{place_of};
 ghost use Rattle.text_words.specs.Slices.{texts};
 ghost use Rattle.hier_parts.specs.Sets.{with_name, with_names};
 
-use indexmap::IndexSet;
+use numbered_keys::keys::NumberedKeys;
 use std::alloc::{AllocError, Global};
 use std::marker::Model;
 
-/// Names that differ, in the order in which they were added. A name is found in about constant time.
+/// Names that differ, in the order in which they were added. A name is found by comparisons with a few of them.
 #[derive(Drop)]
 pub struct Names<'a> {
-    names: IndexSet<&'a [u8]>,
+    names: NumberedKeys<&'a [u8]>,
 }
 
 impl<'a> Model for Names<'a> {
@@ -24,7 +24,7 @@ impl<'a> Model for Names<'a> {
 
     ghost Value = { List Bytes };
 
-    ghost view = { λ a. texts a.names.keys };
+    ghost view = { λ a. texts a.names };
 }
 
 impl<'a> Names<'a> {
@@ -33,7 +33,7 @@ impl<'a> Names<'a> {
         ensures { result ≡ [] }
     {
         Names {
-            names: IndexSet::new(alloc),
+            names: NumberedKeys::new(alloc),
         }
     }
 
@@ -41,14 +41,14 @@ impl<'a> Names<'a> {
     pub fn place(&self, name: &[u8]) -> Option<usize>
         ensures { result ≡ place_of self.now name.now }
     {
-        self.names.get_index_of(name)
+        self.names.places().get(name).copied()
     }
 
     /// Whether the name was added.
     pub fn contains(&self, name: &[u8]) -> bool
         ensures { result ≡ has_name self.now name.now }
     {
-        self.names.contains(name)
+        self.names.places().contains_key(name)
     }
 
     /// Adds a name, if it is new.
@@ -56,7 +56,7 @@ impl<'a> Names<'a> {
         ensures new { IfOk result (λ b. b ≡ not (has_name self.old name.now)) }
         ensures added { OnOk result (self.new ≡ with_name self.old name.now) }
     {
-        let is_new = self.names.insert(name)?;
+        let is_new = self.names.add(name)?;
         Ok(is_new)
     }
 }

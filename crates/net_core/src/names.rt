@@ -1,18 +1,18 @@
-//! The names of signals, and the first that stands a second time. A name is found in about constant time.
+//! The names of signals, and the first that stands a second time.
 ghost use Rattle.std.specs.Prelude.{◌≡◌, ◌<◌, ◌+◌, ◌^◌, true, not, [], ◌∷◌, ◌++◌, map, length, slice_index_or, None, Some, IfOk, MatchOption};
 ghost use Rattle.semantics.specs.Refusals.{has_name, first_doubled};
 
-use indexmap::IndexSet;
 use net_parts::items::{NameList, TableList};
 use net_parts::name::Name;
 use net_parts::table::Table;
+use numbered_keys::keys::NumberedKeys;
 use std::alloc::{AllocError, Global};
 use std::marker::Model;
 
 /// Names that differ, in order.
 #[derive(Drop)]
 struct NameSet<'a> {
-    names: IndexSet<&'a [u8]>,
+    names: NumberedKeys<&'a [u8]>,
 }
 
 impl<'a> Model for NameSet<'a> {
@@ -21,7 +21,7 @@ impl<'a> Model for NameSet<'a> {
 
     ghost Value = { List Bytes };
 
-    ghost view = { λ a. map (λ key. key.now) a.names.keys };
+    ghost view = { λ a. map (λ key. key.now) a.names };
 }
 
 impl<'a> NameSet<'a> {
@@ -29,7 +29,7 @@ impl<'a> NameSet<'a> {
         ensures { result ≡ [] }
     {
         NameSet {
-            names: IndexSet::new(alloc),
+            names: NumberedKeys::new(alloc),
         }
     }
 
@@ -38,7 +38,7 @@ impl<'a> NameSet<'a> {
         ensures new { IfOk result (λ b. b ≡ not (has_name self.old name.now)) }
         ensures added { IfOk result (λ b. b ≡ true → self.new ≡ self.old ++ name.now ∷ []) }
     {
-        let is_new = self.names.insert(name.bytes())?;
+        let is_new = self.names.add(name.bytes())?;
         Ok(is_new)
     }
 }

@@ -8,12 +8,12 @@ pub returns-in-Some : goal.returns-in-Some
 returns-in-Some c =
     let p = port c.bytes.result.now c.args.literal in
     ap place_or_end
-    (sym c.in-Some.is ∙ c.get_index_of.ensures.index ∙ position-keys p c.self.inside.ports.keys ∙ ap (λ ps. position (is_port p) ps) c.self.view_is
+    (sym c.in-Some.is ∙ c.place.ensures ∙ position-keys p c.self.inside.ports ∙ ap (λ ps. position (is_port p) ps) c.self.view_is
     ∙ ap (λ n. position (is_port (port n c.args.literal)) c.args.self.now) c.bytes.ensures.value)
 
 pub returns-in-None : goal.returns-in-None
 returns-in-None c =
     let p = port c.bytes.result.now c.args.literal in
     ap place_or_end
-    (sym c.in-None.is ∙ c.get_index_of.ensures.index ∙ position-keys p c.self.inside.ports.keys ∙ ap (λ ps. position (is_port p) ps) c.self.view_is
+    (sym c.in-None.is ∙ c.place.ensures ∙ position-keys p c.self.inside.ports ∙ ap (λ ps. position (is_port p) ps) c.self.view_is
     ∙ ap (λ n. position (is_port (port n c.args.literal)) c.args.self.now) c.bytes.ensures.value)

@@ -7,4 +7,4 @@ use Rattle.blif_text.proofs.names.Names.add.Goals as goal
 pub returns-clause-new : goal.returns-clause-new
 returns-clause-new c =
     let name = c.args.name.now in
-    c.in_ok-is_new.ensures.added ∙ ap not (has_name-texts name _) ∙ ap (λ (v : List Bytes). not (has_name v name)) c.self.view_is
+    c.in_ok-is_new.ensures.new ∙ ap not (has_name-texts name _) ∙ ap (λ (v : List Bytes). not (has_name v name)) c.self.view_is

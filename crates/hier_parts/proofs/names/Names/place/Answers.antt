@@ -6,4 +6,4 @@ use Rattle.hier_parts.proofs.names.Names.place.Goals as goal
 pub returns : goal.returns
 returns c =
     let name = c.args.name.now in
-    c.get_index_of.ensures.index ∙ place_of-texts name _ ∙ ap (λ v. place_of v name) c.self.view_is
+    c.copied.ensures ∙ c.get.ensures.value ∙ c.places.ensures c.args.name ∙ place_of-texts name _ ∙ ap (λ v. place_of v name) c.self.view_is

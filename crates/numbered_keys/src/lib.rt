@@ -1,0 +1,4 @@
+//! Keys numbered in the order in which they were added, and found by comparisons.
+#![tactic(auto)]
+
+pub mod keys;
