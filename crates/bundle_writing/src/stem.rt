@@ -25,7 +25,8 @@ impl Model for Stem {
     ghost view = { λ s. stem_of s.netlist.items };
 
     ghost invariant = { λ s.
-        AreNames (stem_of s.netlist.items) s.netlist.items s.formula.items s.log.items s.vectors.items s.report.items };
+        AreNames (stem_of s.netlist.items)
+            s.netlist.items s.formula.items s.log.items s.vectors.items s.report.items };
 }
 
 /// The stem with an ending.

@@ -20,7 +20,10 @@ impl<T> Model for Draft<T> {
 
     ghost Value = { DraftValue T };
 
-    ghost view = { λ a. record { before = take a.first a.items.items; at_hand = drop a.first a.items.items } };
+    ghost view = { λ a. record {
+      before = take a.first a.items.items;
+      at_hand = drop a.first a.items.items;
+    } };
 
     ghost invariant = { λ a. a.first ≤ length a.items.items };
 }

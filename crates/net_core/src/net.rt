@@ -38,7 +38,12 @@ impl Model for Net {
 
     ghost Value = { NetValue };
 
-    ghost view = { λ a. record { model = a.model; inputs = a.inputs; tables = a.tables; outputs = a.outputs } };
+    ghost view = { λ a. record {
+      model = a.model;
+      inputs = a.inputs;
+      tables = a.tables;
+      outputs = a.outputs;
+    } };
 
     ghost invariant = { λ a. IsBuilt (record { model = a.model; inputs = a.inputs; tables = a.tables; outputs = a.outputs })
         × IsOrderOf (length a.inputs) a.tables a.order.items };

@@ -136,7 +136,8 @@ good_goes_on text more h =
       later = items_given stage tokens.0;
       items = items;
       refused = λ refusal r.
-          let first = refused_first stage refusal tokens.0 (length (good_part (text ++ more))) (length (text ++ more)) (refused_from stage refusal (ap refusal_at (sym (stage_of-good text h)) ∙ r)) in (
+          let told = refused_from stage refusal (ap refusal_at (sym (stage_of-good text h)) ∙ r) in
+          let first = refused_first stage refusal tokens.0 (length (good_part (text ++ more))) (length (text ++ more)) told in (
             ap (λ ts. refusal_at (stage_with_byte (stage_after_all Outside ts) (length (good_part (text ++ more))) (length (text ++ more)))) all
                 ∙ ap (λ s. refusal_at (stage_with_byte s (length (good_part (text ++ more))) (length (text ++ more)))) (stage_after_all-append Outside (ended_tokens text) tokens.0)
                 ∙ ap refusal_at first.0,
