@@ -45,8 +45,7 @@ pub data ConversionEnd {R : Type 0} (reading : Bytes → Result Bytes R) (input 
   not_read : InputReadFault input old new said says → ConversionEnd reading input output old new said says
   not_written : ConversionCutShort reading input output old new said says → ConversionEnd reading input output old new said says
 
--- a quiet conversion: a count of faults rose in the call only where the files that are needed are steady; IN
--- is needed for reading and, where IN is accepted, OUT for writing
+-- a quiet conversion (`IsQuiet`): it needs IN for reading and, where IN is accepted, OUT for writing
 abbrev pub IsQuietConversion : {R : Type 0} → (Bytes → Result Bytes R) → Bytes → Bytes → FilesTold → FilesTold → SinkTold → SinkTold → Type 0
 IsQuietConversion reading input output old new said says =
     IsQuiet (AreFilesSteady (IsGiven reading) (IsTrue (old.steady_write output)) old new input) old new said says
