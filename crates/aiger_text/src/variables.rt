@@ -11,15 +11,15 @@ use crate::ands::Ands;
 use crate::literal::Literal;
 use crate::refusal::AigerRefusal;
 use aiger_semantics::and_line::AndLine;
-use indexmap::IndexSet;
 use net_core::items::Signal;
+use numbered_keys::keys::NumberedKeys;
 use std::alloc::{AllocError, Global};
 use std::marker::Model;
 
-/// Variables that differ, in order. A variable is found in about constant time.
+/// Variables that differ, in order. A variable is found by comparisons with a few of them.
 #[derive(Drop)]
 pub(crate) struct Variables {
-    variables: IndexSet<u32>,
+    variables: NumberedKeys<u32>,
 }
 
 impl Model for Variables {
@@ -27,9 +27,9 @@ impl Model for Variables {
 
     ghost Value = { List ℕ };
 
-    ghost view = { λ a. a.variables.keys };
+    ghost view = { λ a. a.variables };
 
-    ghost invariant = { λ a. length a.variables.keys < 2 ^ 31 };
+    ghost invariant = { λ a. length a.variables < 2 ^ 31 };
 }
 
 impl Variables {
@@ -37,7 +37,7 @@ impl Variables {
         ensures { result ≡ [] }
     {
         Variables {
-            variables: IndexSet::new(alloc),
+            variables: NumberedKeys::new(alloc),
         }
     }
 
@@ -47,7 +47,7 @@ impl Variables {
         ensures new { IfOk result (λ b. b ≡ not (has_variable self.old variable)) }
         ensures added { IfOk result (λ b. b ≡ true → self.new ≡ self.old ++ variable ∷ []) }
     {
-        let is_new = self.variables.insert(variable)?;
+        let is_new = self.variables.add(variable)?;
         Ok(is_new)
     }
 
@@ -72,7 +72,7 @@ impl Variables {
     pub(crate) fn signal(&self, variable: u32) -> Signal
         ensures { result ≡ signal_of_variable self.now variable }
     {
-        match self.variables.get_index_of(&variable) {
+        match self.variables.place(&variable) {
             Some(place) => place as u32,
             None => 0,
         }
