@@ -52,11 +52,16 @@ pub record ReadingLaw : Type 0 where
   pub circuit : (text : Bytes) (most : ℕ) (N : NetValue) → aiger_reading text most ≡ Ok N
       → (c : CircuitValue) × (circuit_reading (text_lines text) ≡ Ok c) × (net_of c ≡ N) × ((x : List Bool) → HasOutputs c x (outputs_of N x))
 
--- The text of the circuit of a small sound net is read back as that circuit, so it is the text of no other; and within the limit it is read as
--- the net of that circuit, or refused as it is.
+-- the text of the circuit of a net
+abbrev pub circuit_text : NetValue → Bytes
+circuit_text N = aiger_text (ands_of N)
+
+-- The text of the circuit of a small sound net is read back as that circuit, so it is the text of no other.
+-- Within the limit it is read as the net of that circuit, or refused as that is.
 pub record WrittenLaw : Type 0 where
-  pub read : (N : NetValue) → IsSound N → IsSmall N → circuit_reading (text_lines (aiger_text (ands_of N))) ≡ Ok (ands_of N)
-  pub only : (N M : NetValue) → IsSound N → IsSmall N → IsSound M → IsSmall M → aiger_text (ands_of N) ≡ aiger_text (ands_of M)
-      → ands_of N ≡ ands_of M
-  pub net : (N : NetValue) (most : ℕ) → IsSound N → IsSmall N → length (aiger_text (ands_of N)) ≤ most
-      → aiger_reading (aiger_text (ands_of N)) most ≡ net_reading (ands_of N)
+  pub read : (N : NetValue) → IsSound N → IsSmall N
+      → circuit_reading (text_lines (circuit_text N)) ≡ Ok (ands_of N)
+  pub only : (N M : NetValue) → IsSound N → IsSmall N → IsSound M → IsSmall M
+      → circuit_text N ≡ circuit_text M → ands_of N ≡ ands_of M
+  pub net : (N : NetValue) (most : ℕ) → IsSound N → IsSmall N → length (circuit_text N) ≤ most
+      → aiger_reading (circuit_text N) most ≡ net_reading (ands_of N)
