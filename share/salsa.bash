@@ -2,7 +2,7 @@
 _salsa() {
     local word=${COMP_WORDS[COMP_CWORD]} job=${COMP_WORDS[1]} files=
     case $COMP_CWORD,$job in
-    1,*) mapfile -t COMPREPLY < <(compgen -W 'synth check flat aag blif trim demo --help --version' -- "$word") ;;
+    1,*) mapfile -t COMPREPLY < <(compgen -W 'synth check flat aag blif trim demo explain --hints --help --version' -- "$word") ;;
     2,synth | 2,check | 2,trim) mapfile -t COMPREPLY < <(compgen -W 'abs sabs rel ham' -- "$word") ;;
     5,synth | 4,check | 4,trim | 2,flat | 2,aag) files='!*.blif' ;;
     2,blif) files='!*.aag' ;;
