@@ -23,7 +23,7 @@ use Rattle.adc_core.specs.Masks.{IsFirstBroken}
 use Rattle.lane_nets.proofs.WordBits.{not_bit, ones_bit, zero_bit}
 use Rattle.lane_nets.proofs.RowBits.{row_bit-word, row_where}
 
-turned-differs : (m v : Bool) → (turned v m ≡ true) ↔ (m ≢ v)
+pub turned-differs : (m v : Bool) → (turned v m ≡ true) ↔ (m ≢ v)
 turned-differs true true = (λ e. absurd (let f : false ≡ true = e in cc), λ d. absurd (d refl))
 turned-differs false true = (λ e same. cc, λ d. refl)
 turned-differs true false = (λ e same. cc, λ d. refl)

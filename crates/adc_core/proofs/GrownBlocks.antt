@@ -18,6 +18,7 @@ use Rattle.lane_nets.specs.Blocks.{vector_at, row_at, IsBlock, AreBlocksOf, IsWo
 use Rattle.lane_nets.specs.Lanes.{lane_at, IsOutputBlock}
 use Rattle.lane_nets.proofs.WordBits.{zero_bit}
 use Rattle.adc_core.specs.Flips.{HasFlippedValues}
+use Rattle.adc_core.specs.Overlaps.{AreOverlapsOf}
 use Rattle.adc_core.specs.Growing.{GrowingValue, IsFrontOf, IsBlockOf, AreBlocksFor, AreCareWords, FitsRoom, AreGrowing, vectors_in_blocks}
 use Rattle.adc_core.specs.declared.judged_nets.Judged.{Judged}
 use Rattle.adc_core.specs.declared.growing_blocks.Block.{Block}
@@ -91,6 +92,11 @@ module _ (metric : Metric) (E N : NetValue) (bound : ℕ) (m : Move) (sound : Is
         ],
       )
 
+-- where the rows overlap, read from a block
+pub overlaps_read : (N : NetValue) (held words held_overlaps overlaps : List ℕ) → words ≡ held → overlaps ≡ held_overlaps → AreOverlapsOf N held held_overlaps → AreOverlapsOf N words overlaps
+overlaps_read N held words held_overlaps overlaps words_are overlaps_are h =
+    subst (λ w. AreOverlapsOf N w overlaps) (sym words_are) (subst (AreOverlapsOf N held) (sym overlaps_are) h)
+
 -- ---- one more block, and one more word
 
 pub blocks_more : (j : Judged) (vectors : List (List Bool)) (blocks : List Block) (k : ℕ) (new : Block) → length blocks ≡ k → IsBlockOf j vectors k new → AreBlocksFor j vectors blocks
@@ -138,6 +144,7 @@ block_kept j old new k block agree h = record {
     lanes = λ b low. h.outputs.lanes b low ∙ ap (outputs_of j.nets.exact) (sym (agree.same b low));
   };
   exceeds = word_kept old new (Exceeds j.metric j.nets.exact j.bound j.nets.approx) k block.exceeds agree h.exceeds;
+  overlaps = h.overlaps;
 }
 
 front_agrees : (old new : List (List Bool)) (k : ℕ) → IsFrontOf old new → 64 * k + 64 ≤ length old → AgreeAt old new k
@@ -166,7 +173,7 @@ care_kept j old new t row full front is h k low =
 -- ---- the vectors, read back
 
 no_block : Block
-no_block = record { words = []; outputs = []; exceeds = 0 }
+no_block = record { words = []; outputs = []; exceeds = 0; overlaps = [] }
 
 pub blocks_of_words : (j : Judged) (vectors : List (List Bool)) (blocks : List Block) → length blocks ≡ word_count (length vectors) → AreBlocksFor j vectors blocks
     → AreBlocksOf j.nets.approx vectors (map (λ (b : Block). b.words) blocks)
@@ -219,7 +226,7 @@ growing_grown j count full old new held rows spare sound is few fit known widths
     let row : (t : ℕ) → t < table_count j.nets.approx → row_at (map (take full) rows) t ≡ take full (row_at rows t) =
     λ t low. get_or-map (take full) rows t [] [] (omega (arith, low, tables)) in
     record {
-      fit = record { few = few; as_many = as_many; words = λ k d low. (known k d low).values.width; outputs = λ k d low. (known k d low).outputs.width };
+      fit = record { few = few; as_many = as_many; words = λ k d low. (known k d low).values.width; outputs = λ k d low. (known k d low).outputs.width; overlaps = λ k d low. (known k d low).overlaps.as_many };
       blocks = subst (λ vs. AreBlocksFor j vs held) (sym back) known;
       tables = length-map rows (take full) ∙ tables;
       few = λ t low. omega (arith, ap length (row t low), length-take full (row_at rows t), full_is, front.shorter, fit);
@@ -240,7 +247,7 @@ pub growing_none : (j : Judged) (held : List Block) (rows : List (List ℕ)) (sp
 growing_none j held rows spare none tables room =
     let empty : length held ≡ 0 = ap length none in
     record {
-      fit = record { few = omega arith; as_many = empty; words = λ k d low. absurd (omega (arith, low, empty)); outputs = λ k d low. absurd (omega (arith, low, empty)) };
+      fit = record { few = omega arith; as_many = empty; words = λ k d low. absurd (omega (arith, low, empty)); outputs = λ k d low. absurd (omega (arith, low, empty)); overlaps = λ k d low. absurd (omega (arith, low, empty)) };
       blocks = λ k d low. absurd (omega (arith, low, empty));
       tables = length-map rows (take 0) ∙ tables;
       few = λ t low. omega (arith, no_words rows t);

@@ -7,6 +7,7 @@ use Rattle.lane_bits.specs.Rows.{word_count}
 use Rattle.lane_nets.specs.Blocks.{vector_at, row_at, IsBlock, IsWordWhere}
 use Rattle.lane_nets.specs.Lanes.{IsOutputBlock}
 use Rattle.adc_core.specs.Filled.{vectors_in}
+use Rattle.adc_core.specs.Overlaps.{AreOverlapsOf}
 use Rattle.adc_core.specs.declared.judged_nets.Judged.{Judged}
 use Rattle.adc_core.specs.declared.growing_blocks.Block.{Block}
 use Rattle.adc_core.specs.declared.growing_blocks.Room.{Room}
@@ -24,21 +25,24 @@ pub record IsFrontOf (front whole : List (List Bool)) : Type 0 where
   pub shorter : length front ≤ length whole
   pub same : (p : ℕ) → p < length front → vector_at whole p ≡ vector_at front p
 
--- block k of the patterns: the values of the second net, the exact outputs, and where the second net itself exceeds the bound
+-- block k of the patterns: the values of the second net, the exact outputs, where the second net itself exceeds the bound, and where
+-- the rows of each of its tables overlap
 pub record IsBlockOf (j : Judged) (vectors : List (List Bool)) (k : ℕ) (block : Block) : Type 0 where
   pub values : IsBlock j.nets.approx vectors k block.words
   pub outputs : IsOutputBlock j.nets.exact vectors k block.outputs
   pub exceeds : IsWordWhere vectors (Exceeds j.metric j.nets.exact j.bound j.nets.approx) k block.exceeds
+  pub overlaps : AreOverlapsOf j.nets.approx block.words block.overlaps
 
 abbrev pub AreBlocksFor : Judged → List (List Bool) → List Block → Type 0
 AreBlocksFor j vectors blocks = (k : ℕ) (d : Block) → k < length blocks → IsBlockOf j vectors k (slice_index_or blocks k d)
 
--- as many blocks as so many patterns take, with a word for each signal and for each output
+-- as many blocks as so many patterns take, with a word for each signal, for each output and for each table
 pub record FitBlocks (j : Judged) (count : ℕ) (blocks : List Block) : Type 0 where
   pub few : count < 2 ^ 64
   pub as_many : length blocks ≡ word_count count
   pub words : (k : ℕ) (d : Block) → k < length blocks → length (slice_index_or blocks k d).words ≡ signal_count j.nets.approx
   pub outputs : (k : ℕ) (d : Block) → k < length blocks → length (slice_index_or blocks k d).outputs ≡ length j.nets.exact.outputs
+  pub overlaps : (k : ℕ) (d : Block) → k < length blocks → length (slice_index_or blocks k d).overlaps ≡ table_count j.nets.approx
 
 -- the first words of the row of the patterns that are cared for at table t
 abbrev pub AreCareWords : Judged → List (List Bool) → ℕ → List ℕ → Type 0

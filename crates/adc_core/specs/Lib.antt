@@ -2,4 +2,5 @@ pub mod Flips
 pub mod Masks
 pub mod Filled
 pub mod Lending
+pub mod Overlaps
 pub mod Growing

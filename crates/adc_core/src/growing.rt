@@ -8,7 +8,8 @@ ghost use Rattle.lane_nets.specs.Blocks.{vector_at};
 ghost use Rattle.adc_core.specs.Masks.{FindsFirstBroken};
 ghost use Rattle.adc_core.specs.Growing.{IsFrontOf, AreBlocksFor, FitBlocks, AreCareWords, FitsRoom};
 
-use crate::differences::{broken_word, difference_word};
+use crate::differences::broken_word;
+use crate::dropped::block_difference;
 use crate::growing_blocks::{Block, Room, add_blocks, reach_care_words};
 use crate::judged_nets::Judged;
 use chain_semantics::moves::Move;
@@ -75,8 +76,11 @@ fn reach_broken_word(
     ensures few { length row.new ≤ length blocks.now }
     ensures room { FitsRoom judged.now room.new }
 {
-    let differs = difference_word(judged.nets.approx(), step, blocks[k].words.as_slice());
-    let exceeds = blocks[k].exceeds;
+    let block = &blocks[k];
+    let words = block.words.as_slice();
+    let overlaps = block.overlaps.as_slice();
+    let differs = block_difference(judged.nets.approx(), step, words, overlaps);
+    let exceeds = block.exceeds;
     if differs == 0 {
         return Ok(exceeds);
     }

@@ -8,6 +8,7 @@ ghost use Rattle.adc_core.specs.Growing.{IsBlockOf, AreBlocksFor, FitBlocks, Are
 use crate::differences::used_word;
 use crate::flips::{flip_words, list_later};
 use crate::judged_nets::{Judged, over_bound};
+use crate::overlaps::overlap_words;
 use lane_bits::kernels::word_count;
 use lane_bits::patterns::Patterns;
 use lane_nets::blocks::block;
@@ -15,12 +16,14 @@ use lane_nets::outputs::output_block;
 use lane_nets::word_list::WordList;
 use std::alloc::{AllocError, Global};
 
-/// The words of the second net's signals and of the exact outputs, and where the second net itself exceeds the bound.
+/// The words of the second net's signals and of the exact outputs, where the second net itself exceeds the bound, and for each of its
+/// tables where the rows overlap.
 #[derive(Drop)]
 pub(crate) struct Block {
     pub(crate) words: WordList,
     pub(crate) outputs: WordList,
     pub(crate) exceeds: u64,
+    pub(crate) overlaps: WordList,
 }
 
 /// Room to turn a table over: a mark and a word for each signal.
@@ -54,10 +57,12 @@ fn block_of(
         outputs.as_slice(),
         used,
     );
+    let overlaps = overlap_words(alloc, net, words.as_slice())?;
     Ok(Block {
         words,
         outputs,
         exceeds,
+        overlaps,
     })
 }
 

@@ -11,8 +11,10 @@
 pub mod adc;
 mod care;
 mod differences;
+mod dropped;
 mod flips;
 pub mod growing;
 mod growing_blocks;
 mod judged_nets;
 mod moved_values;
+mod overlaps;

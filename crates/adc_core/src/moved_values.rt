@@ -49,7 +49,7 @@ fn without_row(table: &Table, row: usize, words: &[u64]) -> u64
 }
 
 /// Where a row without one of its literals matches.
-fn row_without(marks: &[Mark], pins: &[Signal], pin: usize, words: &[u64]) -> u64
+pub(crate) fn row_without(marks: &[Mark], pins: &[Signal], pin: usize, words: &[u64]) -> u64
     requires widths { length marks.now ≡ length pins.now }
     requires within { pin < length marks.now }
     requires pins_in { All (λ s. s < length words.now) pins.now }

@@ -1,5 +1,5 @@
 -- What the front of a file's text says of the whole.
-use Rattle.std.proofs.Common.{◌≡◌, ℕ, ◌+◌, ◌-◌, ◌<◌, Bool, true, false, not, if◌then◌else◌, List, ◌∷◌, length, nat_le, Option, Some, None, Err, inl, inr, refl, sym, ap, subst, ◌∙◌, arith}
+use Rattle.std.proofs.Common.{◌≡◌, ℕ, ◌+◌, ◌-◌, ◌<◌, Bool, true, false, not, ◌&&◌, if◌then◌else◌, List, ◌∷◌, length, nat_le, Option, Some, None, Err, inl, inr, refl, sym, ap, subst, ◌∙◌, arith}
 use Rattle.std.specs.Prelude.{◌↔◌, IsTrue, IfSome, MatchOption}
 use Rattle.std.proofs.lemmas.Bool.{cases_lt}
 use Rattle.std.proofs.lemmas.Bool.Decides.{nat_tests}
@@ -15,7 +15,7 @@ use Rattle.file_core.proofs.Told.{Goes-same}
 use Rattle.outside_semantics.specs.Outside.{FilesTold}
 use Rattle.semantics.specs.declared.metric.Metric.{Metric}
 use Rattle.job_semantics.specs.Report.{Report}
-use Rattle.job_semantics.specs.Certificate.{IsReportText, IsVectorsText, moves_in}
+use Rattle.job_semantics.specs.Certificate.{IsReportText, IsVectorsText, moves_in, AreCounts}
 use Rattle.job_semantics.specs.declared.version.Version.{Version}
 use Rattle.chain_semantics.specs.Minimality.{AreBrokenBySome}
 use Rattle.bundle_texts.specs.declared.report_reading.ReportRead.{ReportRead}
@@ -92,20 +92,24 @@ claim_decided : (metric : Metric) (exact : NetValue) (bound : ℕ) (M : NetValue
 claim_decided metric exact bound M vectors shown true version h = (λ is _. h.0 is, λ broken. h.1 (broken refl))
 claim_decided metric exact bound M vectors shown false version h = (λ is e. absurd (cc (e)), λ broken. h.1 tt)
 
-module _ (exact M : NetValue) (metric : Metric) (bound : ℕ) (r : Report) (held : List Bool) (same : held ≡ r.witness) (width : length r.witness ≡ input_count exact) where
+module _ (exact M : NetValue) (metric : Metric) (bound : ℕ) (r : Report) (held : List Bool) (same : held ≡ r.witness) (width : length r.witness ≡ input_count exact) (by_moves : Bool) where
   abbrev pub asked_for : AskedValue
-  asked_for = record { exact = exact; approx = M; metric = metric; bound = bound; witness = held; version = claimed_version r.minimal r.version }
+  asked_for = record { exact = exact; approx = M; metric = metric; bound = bound; witness = held; version = claimed_version (by_moves && r.minimal) r.version }
 
   wide : length held ≡ input_count exact
   wide = ap length same ∙ width
 
-  pub vectors_judged : (text : Bytes) (shown : Bool) → AreShown asked_for shown text → AreVectorsJudged exact metric bound M r shown text
-  vectors_judged text shown h = record {
+  pub vectors_told : (text : Bytes) (shown : Bool) (h : AreShown asked_for shown text) → IsVectorsText (input_count exact) text r.witness h.pool
+  vectors_told text shown h = subst (λ w. IsVectorsText (input_count exact) text w h.pool) same (subst (λ n. IsVectorsText n text held h.pool) wide h.read)
+
+  pub vectors_judged : (text : Bytes) (shown : Bool) → (AreCounts exact M r → by_moves ≡ true) → AreShown asked_for shown text → AreVectorsJudged exact metric bound M r shown text
+  vectors_judged text shown decides h = record {
     pool = h.pool;
-    read = subst (λ w. IsVectorsText (input_count exact) text w h.pool) same (subst (λ n. IsVectorsText n text held h.pool) wide h.read);
-    decided =
+    read = vectors_told text shown h;
+    decided = λ counts.
         claim_decided metric exact bound M (r.witness ∷ h.pool) shown r.minimal r.version
-        (subst (λ (w : List Bool). IsTrue shown ↔ AreBrokenBySome metric exact bound M (w ∷ h.pool) (claimed_moves (claimed_version r.minimal r.version) M)) same h.decided);
+        (subst (λ t. IsTrue shown ↔ AreBrokenBySome metric exact bound M (r.witness ∷ h.pool) (claimed_moves (claimed_version (t && r.minimal) r.version) M)) (decides counts)
+        (subst (λ (w : List Bool). IsTrue shown ↔ AreBrokenBySome metric exact bound M (w ∷ h.pool) (claimed_moves (claimed_version (by_moves && r.minimal) r.version) M)) same h.decided));
   }
 
   pub vectors_read : (text : Bytes) (pool : List (List Bool)) → IsVectorsText (input_count exact) text r.witness pool → IsVectorsText (length held) text held pool

@@ -1,5 +1,5 @@
 -- Which clause fails first, and which files are needed, by what is known of the texts.
-use Rattle.std.proofs.Common.{◌≡◌, ◌≢◌, ℕ, ◌≤◌, Bool, IsTrue, List, [], ◌∷◌, Some, refl, sym, ap, subst, ◌∙◌, arith}
+use Rattle.std.proofs.Common.{◌≡◌, ◌≢◌, ℕ, ◌≤◌, Bool, IsTrue, List, [], ◌∷◌, Some, refl, ap, subst, arith}
 use Rattle.semantics.specs.Net.{NetValue, HasSamePorts}
 use Rattle.semantics.specs.Error.{net_error}
 use Rattle.semantics.specs.declared.metric.Metric.{Metric}
@@ -12,6 +12,8 @@ use Rattle.job_semantics.specs.declared.certificate_clause.Clause.TheVariants as
 use Rattle.job_semantics.specs.Report.{Report}
 use Rattle.job_semantics.specs.Certificate.{IsNeededFor, Texts, moves_in, IsNetlist, IsReport, AreVectors, IsRefutation, AreCounts, OfNet, OfReport, IsShownMinimal, OfBoth, Holds, Certifies, IsFirstFailing}
 use Rattle.job_semantics.proofs.Certificates.{verified_law}
+use Rattle.bundle_texts.specs.declared.report_reading.ReportRead.{ReportRead}
+use Rattle.bundle_texts.specs.Reading.{report_read}
 use Rattle.bundle_texts.specs.LogTold.{IsRefutingText}
 use Rattle.bundle_texts.specs.LogJudged.{IsLogIn}
 use Rattle.bundle.specs.declared.judged.Judged.TheVariants.{Good}
@@ -20,6 +22,17 @@ use Rattle.bundle.specs.Judging.{IsJudged, NetKnown, ReportKnown, WitnessKnown, 
 -- the vectors break each move of the net that the report's version knows
 abbrev pub BreaksAll : NetValue → Metric → ℕ → NetValue → Report → List (List Bool) → Type 0
 BreaksAll exact metric bound M r vectors = AreBrokenBySome metric exact bound M vectors (moves_in r.version M)
+
+-- the counts do not depend on the metric and the bound
+pub counts_at : (N M : NetValue) (read : ReportRead) (m k : Metric) (a b : ℕ) → AreCounts N M (report_read m a read) → AreCounts N M (report_read k b read)
+counts_at N M read m k a b h = record {
+  old_tables = h.old_tables;
+  new_tables = h.new_tables;
+  old_literals = h.old_literals;
+  new_literals = h.new_literals;
+  tables = h.tables;
+  literals = h.literals;
+}
 
 module _ (exact : NetValue) (metric : Metric) (bound : ℕ) (texts : Texts) where
   of_net : (P : NetValue → Type 0) (M : NetValue) → IsNetlist texts M → OfNet texts P → P M
@@ -189,8 +202,8 @@ module _ (exact : NetValue) (metric : Metric) (bound : ℕ) (texts : Texts) wher
               subst (BreaksAll exact metric bound M r)
               (ap (λ others. r.witness ∷ others) (verified_law.one_pool exact texts r.witness pool w.vectors.pool vectors w.vectors.read)) minimal
 
-          shown_minimal : IsTrue shown → IsShownMinimal exact metric bound texts M r
-          shown_minimal is minimal = (w.vectors.pool, w.vectors.read, w.vectors.decided.0 is minimal)
+          shown_minimal : AreCounts exact M r → IsTrue shown → IsShownMinimal exact metric bound texts M r
+          shown_minimal counts is minimal = (w.vectors.pool, w.vectors.read, (w.vectors.decided counts).0 is minimal)
 
           pub not_shown : AreCounts exact M r → ¬ IsTrue shown → IsFirstFailing exact metric bound texts clause.Minimal
           not_shown counts other = record {
@@ -211,7 +224,7 @@ module _ (exact : NetValue) (metric : Metric) (bound : ℕ) (texts : Texts) wher
                 ),
               ),
             );
-            fails = λ some. other (w.vectors.decided.1 (λ minimal. held_minimal (of_both (IsShownMinimal exact metric bound texts) M r n k.report some minimal)));
+            fails = λ some. other ((w.vectors.decided counts).1 (λ minimal. held_minimal (of_both (IsShownMinimal exact metric bound texts) M r n k.report some minimal)));
           }
 
           pub all_hold : AreCounts exact M r → IsTrue shown → Certifies exact metric bound texts
@@ -225,7 +238,7 @@ module _ (exact : NetValue) (metric : Metric) (bound : ℕ) (texts : Texts) wher
                   (r, k.report, k.within),
                   (
                     (r, k.report, (w.vectors.pool, w.vectors.read)),
-                    (attained_holds, (formula_holds, (log_holds, ((M, n, (r, k.report, counts)), ((M, n, (r, k.report, shown_minimal is)), tt))))),
+                    (attained_holds, (formula_holds, (log_holds, ((M, n, (r, k.report, counts)), ((M, n, (r, k.report, shown_minimal counts is)), tt))))),
                   ),
                 ),
               ),

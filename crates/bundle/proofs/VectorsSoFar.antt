@@ -1,15 +1,15 @@
 -- The text of vectors that is taken, with what is known of its vectors.
-use Rattle.std.proofs.Common.{◌≡◌, ◌≢◌, ℕ, ◌<◌, ◌==◌, Bool, true, false, if◌then◌else◌, Option, Some, None, List, [], ◌∷◌, ◌++◌, length, refl, ap, sym, subst, ◌∙◌, append_assoc, arith}
+use Rattle.std.proofs.Common.{◌≡◌, ◌≢◌, ℕ, ◌<◌, ◌==◌, Bool, true, false, if◌then◌else◌, Some, None, List, [], ◌∷◌, ◌++◌, length, refl, ap, sym, subst, ◌∙◌, arith}
 use Rattle.std.specs.Prelude.{◌↔◌, IsTrue}
 use Rattle.std.proofs.lemmas.Bool.{eqb-true, eqb-false, eq-eqb, ne_eqb}
 use Rattle.semantics.specs.Texts.{Bytes}
 use Rattle.file_reading.specs.Reading.{IsAllWanted}
 use Rattle.bundle_texts.specs.TextCheck.{room_at}
-use Rattle.bundle_texts.specs.VectorLine.{LineValue, line_of, is_next, line_after, is_whole}
-use Rattle.bundle_texts.specs.VectorsTaken.{TakenValue, with_byte, AreVectorsSoFar, NeverVectors}
+use Rattle.bundle_texts.specs.VectorLine.{LineValue, is_next, line_after, is_whole}
+use Rattle.bundle_texts.specs.VectorsTaken.{with_byte, AreVectorsSoFar}
 use Rattle.bundle_texts.proofs.JudgedVectors.{starts_right, next_right, next_wrong, next_is, after_is, vectors_ended, vectors_still, ends_right, ends_wrong, whole_text, never_vectors, never_more}
 use Rattle.bundle.specs.declared.vectors_check.VectorsCheck.TheInside.{Inside}
-use Rattle.bundle.specs.Shown.{AskedValue, AreAllBroken, BrokenValue, HasSeen, VectorsText, StandsAt, AreShown, AreShownIn}
+use Rattle.bundle.specs.Shown.{AskedValue, AreAllBroken, BrokenValue, HasSeen, VectorsText, StandsAt, AreShownIn}
 use Rattle.bundle.specs.VectorsStanding.{check_view, Stands}
 
 -- the vector of the line is taken, or the line goes on

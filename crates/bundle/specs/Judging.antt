@@ -16,7 +16,7 @@ use Rattle.job_semantics.specs.declared.ending.Ending.TheVariants as file
 use Rattle.job_semantics.specs.declared.certificate_clause.Clause.{Clause}
 use Rattle.job_semantics.specs.Endings.{bundle_name}
 use Rattle.job_semantics.specs.Report.{Report}
-use Rattle.job_semantics.specs.Certificate.{Texts, texts_of, IsVectorsText, moves_in, OfBundle, AreNeededHeld, IsNetlist, IsReport, Certifies, IsFirstFailing, IsNeededFor, clause_number}
+use Rattle.job_semantics.specs.Certificate.{Texts, texts_of, IsVectorsText, moves_in, AreCounts, OfBundle, AreNeededHeld, IsNetlist, IsReport, Certifies, IsFirstFailing, IsNeededFor, clause_number}
 use Rattle.chain_semantics.specs.Minimality.{AreBrokenBySome}
 use Rattle.bundle_texts.specs.LogTold.{IsRefutingText}
 use Rattle.bundle_texts.specs.LogJudged.{IsOfRefutation}
@@ -105,11 +105,12 @@ pub record ReportKnown (exact : NetValue) (metric : Metric) (bound : ℕ) (M : N
   pub report : IsReport exact metric bound texts r
   pub within : r.maximum ≤ bound
 
--- the text is that of vectors with the witness first, and `shown` says whether they show what the report says of the moves
+-- the text is that of vectors with the witness first, and `shown` says whether they show what the report says of the moves, where its
+-- counts are right
 pub record AreVectorsJudged (exact : NetValue) (metric : Metric) (bound : ℕ) (M : NetValue) (r : Report) (shown : Bool) (text : Bytes) : Type 0 where
   pub pool : List (List Bool)
   pub read : IsVectorsText (input_count exact) text r.witness pool
-  pub decided : IsTrue shown ↔ (IsTrue r.minimal → AreBrokenBySome metric exact bound M (r.witness ∷ pool) (moves_in r.version M))
+  pub decided : AreCounts exact M r → IsTrue shown ↔ (IsTrue r.minimal → AreBrokenBySome metric exact bound M (r.witness ∷ pool) (moves_in r.version M))
 
 pub record WitnessKnown (exact : NetValue) (metric : Metric) (bound : ℕ) (M : NetValue) (r : Report) (shown : Bool) (texts : Texts) : Type 0 where
   pub report : ReportKnown exact metric bound M r texts

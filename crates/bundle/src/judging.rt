@@ -1,9 +1,10 @@
 //! The walk over the clauses of a certificate, in their order. Each file is opened when a clause first needs it, and the walk ends at the
 //! first clause that fails.
-ghost use Rattle.std.specs.Prelude.{◌≡◌, length};
+ghost use Rattle.std.specs.Prelude.{◌≡◌, ◌↔◌, ◌&&◌, length, IsTrue};
 ghost use Rattle.semantics.specs.Net.{IsSmall, input_count};
 ghost use Rattle.proof_semantics.specs.Miter.{miter};
-ghost use Rattle.job_semantics.specs.Certificate.{Texts};
+ghost use Rattle.semantics.specs.declared.metric.Metric.TheVariants.{Abs};
+ghost use Rattle.job_semantics.specs.Certificate.{Texts, AreCounts};
 ghost use Rattle.bundle_texts.specs.Reading.{report_read};
 ghost use Rattle.bundle.specs.Shown.{claimed_version};
 ghost use Rattle.bundle.specs.Judging.{Answers, IsFirstFault, NothingKnown, NetKnown, ReportKnown, WitnessKnown, FormulaKnown, LogKnown};
@@ -96,18 +97,29 @@ fn check_formula<F: Files, L: ItemSink>(
     check_log(alloc, claim, contents, formula, files)
 }
 
-/// The version whose moves the report says are broken; none where it does not say so.
-fn claimed_version(report: &ReportRead) -> Option<Version>
-    ensures { result ≡ claimed_version report.now.counts.minimal report.now.version }
+/// Whether what the vectors show of the moves can decide: the witness attains the maximum, and the report's counts are right.
+fn decides_by_moves(claim: &Claim, report: &ReportRead, is_attained: bool) -> bool
+    requires exact { IsSmall claim.now.nets.now.exact }
+    requires approx { IsSmall claim.now.nets.now.approx }
+    ensures { IsTrue result ↔ (IsTrue is_attained
+        × AreCounts claim.now.nets.now.exact claim.now.nets.now.approx (report_read Abs 0 report.now)) }
 {
-    if report.counts.minimal {
+    is_attained && are_counts(claim.nets, report)
+}
+
+/// The version whose moves are to be broken; none where the report does not say that they are, or no move can decide.
+fn asked_version(report: &ReportRead, by_moves: bool) -> Option<Version>
+    ensures { result ≡ claimed_version (by_moves && report.now.counts.minimal) report.now.version }
+{
+    if by_moves && report.counts.minimal {
         Some(report.version)
     } else {
         None
     }
 }
 
-/// What the clauses from the witness's on come to.
+/// What the clauses from the witness's on come to. Where a clause before the last fails whatever the vectors show of the moves, no move
+/// is tried.
 fn check_witness<F: Files, L: ItemSink>(
     alloc: Global,
     claim: &Claim,
@@ -123,13 +135,16 @@ fn check_witness<F: Files, L: ItemSink>(
         (F.told files.old) (F.told files.new) result }
 {
     let witness = report.witness.as_slice();
-    let version = claimed_version(report);
+    let error = error_at(alloc, claim.nets, claim.metric, witness)?;
+    let is_attained = error == report.maximum;
+    let by_moves = decides_by_moves(claim, report, is_attained);
+    let version = asked_version(report, by_moves);
     let asked = Asked::new(claim.nets, claim.metric, claim.bound, witness, version);
     let name = claim.stem.name(Ending::Vectors);
     let Some(is_shown) = read_vectors_file(alloc, files, name, asked)? else {
         return Ok(Judged::Failing(Clause::Witness));
     };
-    if error_at(alloc, claim.nets, claim.metric, witness)? != report.maximum {
+    if !is_attained {
         return Ok(Judged::Failing(Clause::Attained));
     }
     let contents = Contents { report, is_shown };

@@ -1,23 +1,8 @@
-use Rattle.std.proofs.Common.{◌≡◌, ℕ, true}
-use Rattle.semantics.specs.Net.{NetValue}
-use Rattle.semantics.specs.declared.metric.Metric.{Metric}
+use Rattle.std.proofs.Common.{◌≡◌, true}
 use Rattle.semantics.specs.declared.metric.Metric.TheVariants.{Abs}
-use Rattle.job_semantics.specs.Certificate.{AreCounts}
-use Rattle.bundle_texts.specs.declared.report_reading.ReportRead.{ReportRead}
 use Rattle.bundle_texts.specs.Reading.{report_read}
-use Rattle.bundle.proofs.JudgedTexts.{other_counts, not_shown, all_hold}
+use Rattle.bundle.proofs.JudgedTexts.{counts_at, other_counts, not_shown, all_hold}
 use Rattle.bundle.proofs.judging.check_counts.Goals as goal
-
--- the counts do not depend on the metric and the bound
-counts_at : (N M : NetValue) (read : ReportRead) (m k : Metric) (a b : ℕ) → AreCounts N M (report_read m a read) → AreCounts N M (report_read k b read)
-counts_at N M read m k a b h = record {
-  old_tables = h.old_tables;
-  new_tables = h.new_tables;
-  old_literals = h.old_literals;
-  new_literals = h.new_literals;
-  tables = h.tables;
-  literals = h.literals;
-}
 
 pub returns-then-not-are_counts : goal.returns-then-not-are_counts
 returns-then-not-are_counts c texts known =

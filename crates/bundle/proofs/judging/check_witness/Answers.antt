@@ -8,9 +8,11 @@ use Rattle.job_semantics.specs.declared.version.Version.{Version}
 use Rattle.bundle.specs.Shown.{AskedValue, AreShown, AreShownIn}
 use Rattle.bundle.specs.Judging.{TextRead, TextUnread, Answers, ReportKnown, WitnessKnown}
 use Rattle.semantics.specs.Error.{net_error}
-use Rattle.bundle.proofs.FileTexts.{asked_for, vectors_judged, vectors_read}
-use Rattle.bundle.proofs.JudgedTexts.{other_vectors, not_attained, vectors_needed}
-use Rattle.bundle.proofs.ToldAnswers.{answers_then_memory, answers_unread, answers_failing, answers_later}
+use Rattle.bundle.proofs.FileTexts.{asked_for, vectors_told, vectors_judged, vectors_read}
+use Rattle.semantics.specs.declared.metric.Metric.TheVariants.{Abs}
+use Rattle.std.proofs.lemmas.Bool.{eq-eqb}
+use Rattle.bundle.proofs.JudgedTexts.{counts_at, other_vectors, not_attained, vectors_needed}
+use Rattle.bundle.proofs.ToldAnswers.{answers_memory, answers_unread, answers_failing, answers_later}
 use Rattle.bundle.proofs.judging.check_witness.Goals as goal
 
 pub returns-in_err-is_shown : goal.returns-in_err-is_shown
@@ -24,7 +26,7 @@ returns-in_err-is_shown g c =
     let witness = c.as_slice-witness.result.now in
     let old = g.F.Files.told c.args.files.now in
     let new = g.F.Files.told c.read_vectors_file.new.files in
-    let p = err_from_is_err_and c.from_residual.result c.from_residual.ensures.1 in
+    let p = err_from_is_err_and c.from_residual-in_err-is_shown.result c.from_residual-in_err-is_shown.ensures.1 in
     rw p.1
     (answers_unread g.L.ItemSink.holds N metric claim.bound claim.stem.now old new file.Vectors K p.0
     (subst (λ n. TextUnread old new n p.0) c.name-name.ensures (subst (TextUnread old new c.name-name.result.now) (sym p.2) c.in_err-is_shown.ensures.err))
@@ -42,7 +44,8 @@ returns-in_default g c =
     let old = g.F.Files.told c.args.files.now in
     let new = g.F.Files.told c.read_vectors_file.new.files in
     let asked = c.new-asked.result in
-    let is : asked ≡ asked_for N M metric claim.bound r witness c.as_slice-witness.ensures c.requires.width = c.new-asked.ensures ∙ ap (λ (v : Option Version). record { exact = N; approx = M; metric = metric; bound = claim.bound; witness = witness; version = v }) c.claimed_version-version.ensures in
+    let by_moves = c.decides_by_moves-by_moves.result in
+    let is : asked ≡ asked_for N M metric claim.bound r witness c.as_slice-witness.ensures c.requires.width by_moves = c.new-asked.ensures ∙ ap (λ (v : Option Version). record { exact = N; approx = M; metric = metric; bound = claim.bound; witness = witness; version = v }) c.asked_version-version.ensures in
     let Q = λ (content : Bytes). AreShownIn asked None content in
     let was =
     subst (λ n. TextRead old new n Q) c.name-name.ensures
@@ -52,33 +55,22 @@ returns-in_default g c =
     (λ texts known none.
     other_vectors N metric claim.bound texts M r known
     (λ pool vectors.
-    subst (λ (a : AskedValue). AreShownIn a None (texts file.Vectors)) is none pool (vectors_read N M metric claim.bound r witness c.as_slice-witness.ensures c.requires.width (texts file.Vectors) pool vectors)))
+    subst (λ (a : AskedValue). AreShownIn a None (texts file.Vectors)) is none pool (vectors_read N M metric claim.bound r witness c.as_slice-witness.ensures c.requires.width by_moves (texts file.Vectors) pool vectors)))
 
-pub returns-in_err-error_at : goal.returns-in_err-error_at
-returns-in_err-error_at g c =
+pub returns-in_err-error : goal.returns-in_err-error
+returns-in_err-error g c =
     let claim = c.args.claim.now in
     let N = claim.nets.now.exact in
-    let M = claim.nets.now.approx in
     let metric = claim.metric in
-    let r = report_read metric claim.bound c.args.report.now in
-    let K = ReportKnown N metric claim.bound M r in
-    let witness = c.as_slice-witness.result.now in
+    let K = ReportKnown N metric claim.bound claim.nets.now.approx (report_read metric claim.bound c.args.report.now) in
     let old = g.F.Files.told c.args.files.now in
-    let new = g.F.Files.told c.read_vectors_file.new.files in
-    let shown = c.in-Some.is_shown in
-    let asked = c.new-asked.result in
-    let is : asked ≡ asked_for N M metric claim.bound r witness c.as_slice-witness.ensures c.requires.width = c.new-asked.ensures ∙ ap (λ (v : Option Version). record { exact = N; approx = M; metric = metric; bound = claim.bound; witness = witness; version = v }) c.claimed_version-version.ensures in
-    let Q = λ (content : Bytes). AreShownIn asked (Some shown) content in
-    let was =
-    subst (λ n. TextRead old new n Q) c.name-name.ensures
-    (subst (λ o. TextRead old new c.name-name.result.now (AreShownIn asked o)) c.in-Some.is c.in_ok-is_shown.ensures.ok) in
-    let p = err_from_is_err_and c.from_residual-in_err-error_at.result c.from_residual-in_err-error_at.ensures.1 in
+    let p = err_from_is_err_and c.from_residual.result c.from_residual.ensures.1 in
     rw p.1
-    (subst (λ e. Answers g.L.ItemSink.holds N metric claim.bound claim.stem.now K old new (Err e)) (sym p.2)
-    (answers_then_memory g.L.ItemSink.holds N metric claim.bound claim.stem.now old new file.Vectors Q K was (λ texts known. vectors_needed N metric claim.bound texts M r known)))
+    (subst (λ e. Answers g.L.ItemSink.holds N metric claim.bound claim.stem.now K old old (Err e)) (sym p.2)
+    (answers_memory g.L.ItemSink.holds N metric claim.bound claim.stem.now old K))
 
-pub returns-then-branch-report : goal.returns-then-branch-report
-returns-then-branch-report g c =
+pub returns-then-not-is_attained : goal.returns-then-not-is_attained
+returns-then-not-is_attained g c =
     let claim = c.args.claim.now in
     let N = claim.nets.now.exact in
     let M = claim.nets.now.approx in
@@ -90,7 +82,8 @@ returns-then-branch-report g c =
     let new = g.F.Files.told c.read_vectors_file.new.files in
     let shown = c.in-Some.is_shown in
     let asked = c.new-asked.result in
-    let is : asked ≡ asked_for N M metric claim.bound r witness c.as_slice-witness.ensures c.requires.width = c.new-asked.ensures ∙ ap (λ (v : Option Version). record { exact = N; approx = M; metric = metric; bound = claim.bound; witness = witness; version = v }) c.claimed_version-version.ensures in
+    let by_moves = c.decides_by_moves-by_moves.result in
+    let is : asked ≡ asked_for N M metric claim.bound r witness c.as_slice-witness.ensures c.requires.width by_moves = c.new-asked.ensures ∙ ap (λ (v : Option Version). record { exact = N; approx = M; metric = metric; bound = claim.bound; witness = witness; version = v }) c.asked_version-version.ensures in
     let Q = λ (content : Bytes). AreShownIn asked (Some shown) content in
     let was =
     subst (λ n. TextRead old new n Q) c.name-name.ensures
@@ -98,10 +91,10 @@ returns-then-branch-report g c =
     answers_failing g.L.ItemSink.holds N metric claim.bound claim.stem.now old new file.Vectors Q K clause.Attained was
     (λ texts known. vectors_needed N metric claim.bound texts M r known)
     (λ texts known holds.
-    let vectors =
-    vectors_judged N M metric claim.bound r witness c.as_slice-witness.ensures c.requires.width (texts file.Vectors) shown (subst (λ (a : AskedValue). AreShown a shown (texts file.Vectors)) is holds) in
-    not_attained N metric claim.bound texts M r known vectors.pool vectors.read
-    (λ same. c.if-branch-report.true (c.in_ok-error_at.ensures ∙ ap (net_error metric N M) c.as_slice-witness.ensures ∙ same)))
+    let told = subst (λ (a : AskedValue). AreShown a shown (texts file.Vectors)) is holds in
+    not_attained N metric claim.bound texts M r known told.pool
+    (vectors_told N M metric claim.bound r witness c.as_slice-witness.ensures c.requires.width by_moves (texts file.Vectors) shown told)
+    (λ same. c.if-not-is_attained.true (c.in_ok-error.ensures ∙ ap (net_error metric N M) c.as_slice-witness.ensures ∙ same)))
 
 pub returns : goal.returns
 returns g c =
@@ -117,7 +110,8 @@ returns g c =
     let new = g.F.Files.told c.check_formula.new.files in
     let shown = c.in-Some.is_shown in
     let asked = c.new-asked.result in
-    let is : asked ≡ asked_for N M metric claim.bound r witness c.as_slice-witness.ensures c.requires.width = c.new-asked.ensures ∙ ap (λ (v : Option Version). record { exact = N; approx = M; metric = metric; bound = claim.bound; witness = witness; version = v }) c.claimed_version-version.ensures in
+    let by_moves = c.decides_by_moves-by_moves.result in
+    let is : asked ≡ asked_for N M metric claim.bound r witness c.as_slice-witness.ensures c.requires.width by_moves = c.new-asked.ensures ∙ ap (λ (v : Option Version). record { exact = N; approx = M; metric = metric; bound = claim.bound; witness = witness; version = v }) c.asked_version-version.ensures in
     let Q = λ (content : Bytes). AreShownIn asked (Some shown) content in
     let was =
     subst (λ n. TextRead old mid n Q) c.name-name.ensures
@@ -127,8 +121,13 @@ returns g c =
     (λ texts known holds.
     record {
       report = known;
-      vectors = vectors_judged N M metric claim.bound r witness c.as_slice-witness.ensures c.requires.width (texts file.Vectors) shown (subst (λ (a : AskedValue). AreShown a shown (texts file.Vectors)) is holds);
-      attained = sym (ap (net_error metric N M) c.as_slice-witness.ensures) ∙ sym c.in_ok-error_at.ensures ∙ c.if-branch-report.false;
+      vectors =
+          vectors_judged N M metric claim.bound r witness c.as_slice-witness.ensures c.requires.width by_moves (texts file.Vectors) shown
+          (λ counts. c.decides_by_moves-by_moves.ensures.1 (eq-eqb c.in_ok-error.error r.maximum c.if-not-is_attained.false, counts_at N M c.args.report.now metric Abs claim.bound 0 counts))
+          (subst (λ (a : AskedValue). AreShown a shown (texts file.Vectors)) is holds);
+      attained =
+          sym (ap (net_error metric N M) c.as_slice-witness.ensures) ∙ sym c.in_ok-error.ensures
+          ∙ c.if-not-is_attained.false;
     })
     c.check_formula.result c.check_formula.ensures
 
