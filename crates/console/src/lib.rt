@@ -3,9 +3,11 @@
 
 pub mod arguments;
 mod counted;
+pub mod paths;
 pub mod program;
 pub mod real_files;
 pub mod real_sink;
+pub mod streams;
 pub mod terminal;
 #[cfg(test)]
 mod tests;

@@ -1,38 +1,40 @@
-//! The files of the operating system. They tell the count of their faults, the name that is open and the read turns, and nothing
-//! else.
-ghost use Rattle.std.specs.Prelude.{◌≡◌, ◌<◌, ◌≤◌, true, [], None, length, take, IsErr, IsSome, IfOk, OnOk, OnErr};
-ghost use Rattle.std.specs.Fs.{new_options, with_write, with_create, with_truncate};
+//! Files by their paths, as those of the operating system. They tell the count of their faults, the name that
+//! is open and the read turns, and nothing else.
+ghost use Rattle.std.specs.Prelude.{◌≡◌, ◌<◌, ◌≤◌, [], None, length, take};
+ghost use Rattle.std.specs.Prelude.{IsErr, IsSomeAnd, IfOk, OnOk, OnErr};
 ghost use Rattle.std.specs.Io.KnownBytes.{Appends, Consumes, IsAtEnd};
 ghost use Rattle.outside_semantics.specs.Outside.{Gave, ReadFailed, Wrote, WriteFailed, Opened, OpenFailed, Created, CreateFailed};
 ghost use Rattle.console.specs.Untold.{untold, WhereOpen};
+ghost use Rattle.console.specs.Options.{to_read, to_create};
 
 use crate::counted::{fault, read_some, write_some};
+use crate::paths::Paths;
 use file_core::fault::FileFault;
 use file_core::files::Files;
 use file_core::turns::count_read;
 use history::reads::Reads;
 use std::fs::OpenOptions;
-use std::{fs, rt};
 
 /// Real files by path. Nothing is kept in a buffer.
 #[derive(Drop)]
-pub struct RealFiles<'a, R: rt::Files> {
-    runtime: &'a R,
+pub struct RealFiles<R: Paths + Drop> {
+    paths: R,
     reading: Option<R::File>,
     writing: Option<R::File>,
     faults: u64,
     reads: Reads,
 }
 
-impl<'a, R: rt::Files> RealFiles<'a, R> {
-    /// The files of a runtime. None is open, and no call has failed.
-    pub fn new(runtime: &'a R) -> Self
+impl<R: Paths + Drop> RealFiles<R> {
+    /// The files at these paths. None is open, and no call has failed.
+    pub fn new(paths: R) -> Self
+        ensures paths { result.paths ≡ paths }
         ensures faults { result.faults ≡ 0 }
         ensures closed { (result.reading ≡ None) × (result.writing ≡ None) }
         ensures no_turn { (result.reads.opened ≡ None) × (result.reads.turns ≡ []) }
     {
         RealFiles {
-            runtime,
+            paths,
             reading: None,
             writing: None,
             faults: 0,
@@ -41,16 +43,25 @@ impl<'a, R: rt::Files> RealFiles<'a, R> {
     }
 }
 
+/// How a file is opened to be read.
+fn options_of_open() -> OpenOptions
+    ensures { result ≡ to_read }
+{
+    let mut options = OpenOptions::new();
+    options.read(true);
+    options
+}
+
 /// How a file is opened to be written from its start: it is made, or emptied where it is there.
 fn options_of_create() -> OpenOptions
-    ensures { result ≡ with_truncate (with_create (with_write new_options true) true) true }
+    ensures { result ≡ to_create }
 {
     let mut options = OpenOptions::new();
     options.write(true).create(true).truncate(true);
     options
 }
 
-impl<R: rt::Files> Files for RealFiles<'_, R> {
+impl<R: Paths + Drop> Files for RealFiles<R> {
     ghost told = { λ s. untold s.faults s.reads };
 
     fn open_file(&mut self, name: &[u8]) -> Result<(), FileFault>
@@ -58,16 +69,17 @@ impl<R: rt::Files> Files for RealFiles<'_, R> {
             (Opened (untold self.old.faults self.old.reads) (untold self.new.faults self.new.reads) name.now) }
         ensures err { OnErr result
             (OpenFailed (untold self.old.faults self.old.reads) (untold self.new.faults self.new.reads) name.now) }
-        ensures opens { OnOk result (IsSome self.new.reading) }
+        ensures opens { OnOk result
+            (IsSomeAnd self.new.reading (R.opened self.old.paths to_read name.now)) }
         ensures closes { OnErr result (self.new.reading ≡ None) }
-        ensures apart { self.new.writing ≡ self.old.writing }
+        ensures apart { (self.new.writing ≡ self.old.writing) × (self.new.paths ≡ self.old.paths) }
     {
         self.reading = None;
         self.reads = self.reads.close();
         let Ok(path) = str::from_utf8(name) else {
             return Err(fault(&mut self.faults));
         };
-        match fs::open(self.runtime, path) {
+        match self.paths.open_at(&options_of_open(), path) {
             Ok(file) => {
                 self.reading = Some(file);
                 self.reads = self.reads.open(name);
@@ -84,7 +96,7 @@ impl<R: rt::Files> Files for RealFiles<'_, R> {
         ensures err { OnErr result
             (ReadFailed (untold self.old.faults self.old.reads) (untold self.new.faults self.new.reads)) }
         ensures closed { self.old.reading ≡ None → IsErr result }
-        ensures apart { self.new.writing ≡ self.old.writing }
+        ensures apart { (self.new.writing ≡ self.old.writing) × (self.new.paths ≡ self.old.paths) }
         ensures bytes { IfOk result (λ n. WhereOpen self.old.reading self.new.reading
             (λ a b. Consumes (R.File.remaining a) (R.File.remaining b) (take n buffer.new))) }
         ensures end { IfOk result (λ n. n ≡ 0 → 0 < length buffer.new
@@ -105,15 +117,16 @@ impl<R: rt::Files> Files for RealFiles<'_, R> {
             (Created (untold self.old.faults self.old.reads) (untold self.new.faults self.new.reads) name.now) }
         ensures err { OnErr result
             (CreateFailed (untold self.old.faults self.old.reads) (untold self.new.faults self.new.reads) name.now) }
-        ensures opens { OnOk result (IsSome self.new.writing) }
+        ensures opens { OnOk result
+            (IsSomeAnd self.new.writing (R.opened self.old.paths to_create name.now)) }
         ensures closes { OnErr result (self.new.writing ≡ None) }
-        ensures apart { self.new.reading ≡ self.old.reading }
+        ensures apart { (self.new.reading ≡ self.old.reading) × (self.new.paths ≡ self.old.paths) }
     {
         self.writing = None;
         let Ok(path) = str::from_utf8(name) else {
             return Err(fault(&mut self.faults));
         };
-        match options_of_create().open(self.runtime, path) {
+        match self.paths.open_at(&options_of_create(), path) {
             Ok(file) => {
                 self.writing = Some(file);
                 Ok(())
@@ -130,7 +143,7 @@ impl<R: rt::Files> Files for RealFiles<'_, R> {
         ensures err { OnErr result
             (WriteFailed (untold self.old.faults self.old.reads) (untold self.new.faults self.new.reads) []) }
         ensures closed { self.old.writing ≡ None → IsErr result }
-        ensures apart { self.new.reading ≡ self.old.reading }
+        ensures apart { (self.new.reading ≡ self.old.reading) × (self.new.paths ≡ self.old.paths) }
         ensures bytes { IfOk result (λ n. WhereOpen self.old.writing self.new.writing
             (λ a b. Appends (R.File.contents a) (R.File.contents b) (take n piece.now))) }
     {

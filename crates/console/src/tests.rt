@@ -1,12 +1,13 @@
 //! The adapters on real files and on standard output.
 use crate::arguments;
+use crate::paths::SystemPaths;
 use crate::real_files::RealFiles;
 use crate::real_sink::RealSink;
 use file_core::fault::FileFault;
 use file_core::files::Files;
 use file_core::sink::Sink;
-use std::fs;
 use std::test::Fail;
+use std::{fs, io};
 
 /// Whether calls with nothing open, and on files that cannot be there, fail.
 fn fail_with_nothing_open<F: Files>(files: &mut F) -> bool {
@@ -30,10 +31,10 @@ fn are_read_back<F: Files>(files: &mut F) -> Result<bool, FileFault> {
 
 #[test]
 fn real_files_and_standard_output(rt: HostRuntime) -> Result<(), Fail> {
-    let mut files = RealFiles::new(&rt);
+    let mut files = RealFiles::new(SystemPaths::new(&rt));
     assert!(rt; fail_with_nothing_open(&mut files));
     assert!(rt; are_read_back(&mut files)?);
-    let mut say = RealSink::new(&rt);
+    let mut say = RealSink::new(io::writer(&rt));
     assert_eq!(rt; say.put(b"put\n")?, 4);
     arguments::words(&rt)?;
     fs::remove_file(&rt, "text")?;
