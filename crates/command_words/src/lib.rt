@@ -2,4 +2,5 @@
 #![tactic(auto)]
 
 mod bundle_names;
+pub mod usage;
 pub mod words;

@@ -13,7 +13,8 @@ IsUntouched told = (told.held ≡ None) × (told.opened ≡ None) × (told.turns
 
 -- the answer is that of a run on these words over files and a sink that were untouched before it
 abbrev pub IsRunOn : {A : Type 0} → RunRelation A → List (List ℕ) → A → Type 0
-IsRunOn says words answer = (old new : FilesTold) × (after : SinkTold) × IsUntouched old × says words old new (untold_sink 0) after answer
+IsRunOn says words answer = (old new : FilesTold) × (after : SinkTold)
+    × IsUntouched old × says words old new (untold_sink 0) after answer
 
 -- the exit number where there is no memory for the words, and that where the standard streams can't be held
 abbrev pub no_memory : ℕ
@@ -22,7 +23,12 @@ no_memory = 3
 abbrev pub not_held : ℕ
 not_held = 6
 
+-- the number is that of the answer of a run on some words
+abbrev pub IsExitOfRun : {A : Type 0} → RunRelation A → (A → ℕ) → ℕ → Type 0
+IsExitOfRun {A} says exit_number number = (words : List (List ℕ)) × (answer : A)
+    × IsRunOn says words answer × (number ≡ exit_number answer)
+
 -- a process ended with this number: that of a run's answer, or one of those where no run was made
 abbrev pub IsEnd : {A : Type 0} → RunRelation A → (A → ℕ) → ℕ → Type 0
-IsEnd {A} says exit_number number =
-    ((words : List (List ℕ)) × (answer : A) × IsRunOn says words answer × (number ≡ exit_number answer)) ⊎ ((number ≡ no_memory) ⊎ (number ≡ not_held))
+IsEnd says exit_number number =
+    IsExitOfRun says exit_number number ⊎ ((number ≡ no_memory) ⊎ (number ≡ not_held))

@@ -1,5 +1,5 @@
-//! Where files are opened by their paths: what a file may be that a call opens. So the adapter's own calls can be told apart, while the
-//! system's say nothing.
+//! Where files are opened by their paths: what a file may be that a call opens. So the adapter's own calls
+//! can be told apart, while the system's say nothing.
 ghost use Rattle.std.specs.Prelude.{ℕ, List, ⊤, IfOk};
 ghost use Rattle.std.specs.declared.fs.options.OpenOptions.{OpenOptions};
 

@@ -1,9 +1,10 @@
-//! A program that works on the files and the standard output of the system, as the words of its command line say. What it does over
-//! any files and any sink, and what that says, is a [`Program`]; so all that is met here is proved once, for each program.
-ghost use Rattle.std.specs.Prelude.{◌≡◌, ◌⊎◌, ℕ, List, Bool, IfOk, IfErr};
+//! A program that works on the files and the standard output of the system, as the words of its command line
+//! say. What it does over any files and any sink, and what that says, is a [`Program`]; so all that is met
+//! here is proved once, for each program.
+ghost use Rattle.std.specs.Prelude.{◌≡◌, ℕ, List, Bool};
 ghost use Rattle.std.specs.Process.{exit_status};
 ghost use Rattle.outside_semantics.specs.Outside.{FilesTold, SinkTold};
-ghost use Rattle.console.specs.Program.{RunRelation, IsRunOn, IsEnd, no_memory, not_held};
+ghost use Rattle.console.specs.Program.{IsRunOn, IsEnd};
 
 use crate::arguments;
 use crate::paths::SystemPaths;
@@ -50,7 +51,13 @@ pub trait Program {
         say: &mut K,
         progress: &mut P,
     ) -> Self::Answer
-        ensures { says words.now (F.told files.old) (F.told files.new) (K.told say.old) (K.told say.new) result };
+        ensures { says
+            words.now
+            (F.told files.old)
+            (F.told files.new)
+            (K.told say.old)
+            (K.told say.new)
+            result };
 
     /// The exit number of the process.
     fn exit(answer: &Self::Answer) -> u8
@@ -61,8 +68,8 @@ pub trait Program {
         ensures { result ≡ is_told answer.now };
 }
 
-/// Carries out a program over these files and this sink. Who follows it on standard error, which `is_terminal` or not, is told how far
-/// it is.
+/// Carries out a program over these files and this sink. Who follows it on standard error, which
+/// `is_terminal` or not, is told how far it is.
 fn carry_out_followed<G: Program, F: Files, K: Sink, R: Clock + Eprint + Env + AllocGlobal>(
     rt: &R,
     words: &[Word],
@@ -70,7 +77,13 @@ fn carry_out_followed<G: Program, F: Files, K: Sink, R: Clock + Eprint + Env + A
     say: &mut K,
     is_terminal: bool,
 ) -> G::Answer
-    ensures { G.says words.now (F.told files.old) (F.told files.new) (K.told say.old) (K.told say.new) result }
+    ensures { G.says
+        words.now
+        (F.told files.old)
+        (F.told files.new)
+        (K.told say.old)
+        (K.told say.new)
+        result }
 {
     let mut terminal = Terminal::of_user(rt, is_terminal);
     let answer = G::carry_out(rt.alloc(), words, files, say, &mut terminal);
@@ -92,8 +105,8 @@ fn carry_out_over_system<G: Program, R: rt::Files + Print + Eprint + Clock + Env
     carry_out_followed::<G, _, _, R>(rt, words, &mut files, &mut say, is_terminal)
 }
 
-/// Carries out a program over the words of the command line, and tells the line of its answer. Where there is no memory for the words,
-/// nothing is touched.
+/// Carries out a program over the words of the command line, and tells the line of its answer. Where there is
+/// no memory for the words, nothing is touched.
 fn exit_of<G: Program, R: rt::Files + Print + Eprint + Clock + Env + AllocGlobal>(
     rt: &R,
     is_terminal: bool,
@@ -111,9 +124,9 @@ fn exit_of<G: Program, R: rt::Files + Print + Eprint + Clock + Env + AllocGlobal
     G::exit(&answer)
 }
 
-/// Carries out a program over the words of the command line, the files and the standard output of the system, and tells the line of its
-/// answer on standard error, which `is_terminal` or not. It is all that a program does. Before that, the numbers of the standard streams
-/// are held; where they cannot be, nothing is touched.
+/// Carries out a program over the words of the command line, the files and the standard output of the system,
+/// and tells the line of its answer on standard error, which `is_terminal` or not. It is all that a program
+/// does. Before that, the numbers of the standard streams are held; where they cannot be, nothing is touched.
 pub fn run<G: Program, R: rt::Files + Print + Eprint + Clock + Env + AllocGlobal>(
     rt: &R,
     is_terminal: bool,

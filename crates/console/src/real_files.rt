@@ -1,6 +1,7 @@
-//! Files by their paths, as those of the operating system. They tell the count of their faults, the name that is open and the read
-//! turns, and nothing else.
-ghost use Rattle.std.specs.Prelude.{◌≡◌, ◌<◌, ◌≤◌, [], None, length, take, IsErr, IsSomeAnd, IfOk, OnOk, OnErr};
+//! Files by their paths, as those of the operating system. They tell the count of their faults, the name that
+//! is open and the read turns, and nothing else.
+ghost use Rattle.std.specs.Prelude.{◌≡◌, ◌<◌, ◌≤◌, [], None, length, take};
+ghost use Rattle.std.specs.Prelude.{IsErr, IsSomeAnd, IfOk, OnOk, OnErr};
 ghost use Rattle.std.specs.Io.KnownBytes.{Appends, Consumes, IsAtEnd};
 ghost use Rattle.outside_semantics.specs.Outside.{Gave, ReadFailed, Wrote, WriteFailed, Opened, OpenFailed, Created, CreateFailed};
 ghost use Rattle.console.specs.Untold.{untold, WhereOpen};
@@ -68,7 +69,8 @@ impl<R: Paths + Drop> Files for RealFiles<R> {
             (Opened (untold self.old.faults self.old.reads) (untold self.new.faults self.new.reads) name.now) }
         ensures err { OnErr result
             (OpenFailed (untold self.old.faults self.old.reads) (untold self.new.faults self.new.reads) name.now) }
-        ensures opens { OnOk result (IsSomeAnd self.new.reading (R.opened self.old.paths to_read name.now)) }
+        ensures opens { OnOk result
+            (IsSomeAnd self.new.reading (R.opened self.old.paths to_read name.now)) }
         ensures closes { OnErr result (self.new.reading ≡ None) }
         ensures apart { (self.new.writing ≡ self.old.writing) × (self.new.paths ≡ self.old.paths) }
     {
@@ -115,7 +117,8 @@ impl<R: Paths + Drop> Files for RealFiles<R> {
             (Created (untold self.old.faults self.old.reads) (untold self.new.faults self.new.reads) name.now) }
         ensures err { OnErr result
             (CreateFailed (untold self.old.faults self.old.reads) (untold self.new.faults self.new.reads) name.now) }
-        ensures opens { OnOk result (IsSomeAnd self.new.writing (R.opened self.old.paths to_create name.now)) }
+        ensures opens { OnOk result
+            (IsSomeAnd self.new.writing (R.opened self.old.paths to_create name.now)) }
         ensures closes { OnErr result (self.new.writing ≡ None) }
         ensures apart { (self.new.reading ≡ self.old.reading) × (self.new.paths ≡ self.old.paths) }
     {

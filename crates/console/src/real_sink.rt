@@ -32,9 +32,12 @@ impl<W: Write + Drop> Sink for RealSink<W> {
     fn put(&mut self, piece: &[u8]) -> Result<usize, FileFault>
         ensures within { IfOk result (λ n. n ≤ length piece.now) }
         ensures progress { IfOk result (λ n. 0 < length piece.now → 0 < n) }
-        ensures ok { IfOk result (λ n. Took (untold_sink self.old.faults) (untold_sink self.new.faults) (take n piece.now)) }
-        ensures err { OnErr result (TakeFailed (untold_sink self.old.faults) (untold_sink self.new.faults) []) }
-        ensures bytes { IfOk result (λ n. Appends (W.contents self.old.to) (W.contents self.new.to) (take n piece.now)) }
+        ensures ok { IfOk result
+            (λ n. Took (untold_sink self.old.faults) (untold_sink self.new.faults) (take n piece.now)) }
+        ensures err { OnErr result
+            (TakeFailed (untold_sink self.old.faults) (untold_sink self.new.faults) []) }
+        ensures bytes { IfOk result
+            (λ n. Appends (W.contents self.old.to) (W.contents self.new.to) (take n piece.now)) }
         ensures none_written { OnErr result (Keeps (W.contents self.old.to) (W.contents self.new.to)) }
     {
         write_some(&mut self.to, piece, &mut self.faults)

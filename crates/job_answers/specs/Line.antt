@@ -5,6 +5,7 @@ use Rattle.semantics.specs.Texts.{Bytes}
 use Rattle.blif_text.specs.Messages.{refusal_text}
 use Rattle.hier_blif.specs.Refusals.{number_of}
 use Rattle.aiger_text.specs.Refusals.{refusal_number}
+use Rattle.command_words.specs.Usage.{usage_line}
 use Rattle.job_answers.specs.declared.status.Status.{Status}
 use Rattle.job_answers.specs.declared.status.Status.TheVariants.{Done, Verified, Refuted, Usage, Text, NoMemory, Budget, ReadFault, WriteFault, Endless, Hier, Aiger}
 
@@ -12,7 +13,7 @@ abbrev pub status_text : Status → Bytes
 status_text Done = codes "done"
 status_text Verified = codes "verified"
 status_text (Refuted number) = codes "refuted by clause " ++ decimal number
-status_text Usage = codes "usage: synth METRIC BOUND CONFLICTS IN STEM, check METRIC BOUND IN STEM, flat IN OUT, aag IN OUT, blif IN OUT, trim METRIC BOUND IN STEM OUT, or demo WIDTH BOUND CONFLICTS"
+status_text Usage = usage_line
 status_text (Text reason) = refusal_text reason
 status_text NoMemory = codes "out of memory"
 status_text Budget = codes "conflicts spent"

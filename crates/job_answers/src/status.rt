@@ -4,6 +4,7 @@ ghost use Rattle.job_answers.specs.Exit.{exit_number};
 
 use aiger_text::refusal::AigerRefusal;
 use blif_text::refusal::BlifRefusal;
+use command_words::usage::usage_line;
 use hier_blif::refusal::HierRefusal;
 use std::fmt;
 
@@ -70,9 +71,7 @@ impl fmt::Display for Status {
             Status::Verified => f.write_str("verified"),
             Status::Refuted(number) => write!(f, "refuted by clause {number}"),
             Status::Endless => f.write_str("input without end"),
-            Status::Usage => f.write_str(
-                "usage: synth METRIC BOUND CONFLICTS IN STEM, check METRIC BOUND IN STEM, flat IN OUT, aag IN OUT, blif IN OUT, trim METRIC BOUND IN STEM OUT, or demo WIDTH BOUND CONFLICTS",
-            ),
+            Status::Usage => f.write_str(usage_line()),
             Status::Text(reason) => reason.fmt(f),
             Status::Hier(reason) => write!(f, "hierarchy refusal {}", reason.number()),
             Status::Aiger(reason) => write!(f, "aiger refusal {}", reason.number()),

@@ -1,0 +1,20 @@
+-- What the program says of a run.
+use Rattle.std.specs.Prelude.{◌≡◌, Bool, true, false, List}
+use Rattle.semantics.specs.Texts.{Bytes}
+use Rattle.outside_semantics.specs.Outside.{FilesTold, SinkTold}
+use Rattle.job_answers.specs.declared.status.Status.{Status}
+use Rattle.job_answers.specs.declared.status.Status.TheVariants.{Done, Usage}
+use Rattle.jobs.specs.Run.{RunSays}
+use Rattle.jobs.specs.declared.outcome.Outcome.{Outcome}
+
+-- The status is that of a run on these words, over files and a sink that told this at entry and at exit;
+-- words that are no job touch nothing.
+pub record SalsaSays (words : List Bytes) (old new : FilesTold) (said says : SinkTold)
+    (status : Status) : Type 0 where
+  pub run : (o : Outcome) × (status ≡ o.status) × RunSays words old new said says o
+  pub untouched : status ≡ Usage → (new ≡ old) × (says ≡ said)
+
+-- each answer but `Done` has a line on standard error
+abbrev pub has_line : Status → Bool
+has_line Done = false
+has_line _ = true

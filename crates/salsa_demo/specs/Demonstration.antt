@@ -1,0 +1,57 @@
+-- What the program of a demonstration says.
+use Rattle.std.specs.Prelude.{◌≡◌, ℕ, Bool, true, false, List, Some, None, codes}
+use Rattle.semantics.specs.Texts.{Bytes}
+use Rattle.semantics.specs.declared.metric.Metric.TheVariants.{Abs}
+use Rattle.outside_semantics.specs.Outside.{FilesTold, SinkTold}
+use Rattle.job_semantics.specs.Job.{Job, demo, job_of}
+use Rattle.job_semantics.specs.Demo.{demo_net}
+use Rattle.job_semantics.specs.Demonstration.{demo_stem}
+use Rattle.command_words.specs.Usage.{usage_line}
+use Rattle.synth_jobs.specs.Work.{WorkSays, work_exit}
+use Rattle.synth_jobs.specs.declared.work.Work.{Work}
+use Rattle.synth_jobs.specs.declared.work.Work.TheVariants.{Done, Budget, NoMemory, WriteFault}
+use Rattle.salsa_demo.specs.declared.demonstration.Answer.{Answer}
+use Rattle.salsa_demo.specs.declared.demonstration.Answer.TheVariants.{Usage, Worked}
+
+-- what words are answered that are no demo job
+abbrev pub IsUsage : FilesTold → FilesTold → SinkTold → SinkTold → Answer → Type 0
+IsUsage old new said says answer = (answer ≡ Usage) × (new ≡ old) × (says ≡ said)
+
+-- the answer tells what the work on the generated adder came to
+abbrev pub IsWorked : ℕ → ℕ → ℕ → FilesTold → FilesTold → SinkTold → SinkTold → Answer → Type 0
+IsWorked width bound limit old new said says answer = (work : Work) × (answer ≡ Worked work)
+    × WorkSays Abs bound limit (demo_net width) demo_stem old new said says work
+
+-- what the answer to a job says
+abbrev pub JobAnswer : Job → FilesTold → FilesTold → SinkTold → SinkTold → Answer → Type 0
+JobAnswer (demo width bound conflicts) old new said says answer =
+    IsWorked width bound conflicts old new said says answer
+JobAnswer job old new said says answer = IsUsage old new said says answer
+
+-- What a run says, by its words, its answer, and what files and sink told at entry and at exit: words that
+-- are no demo job are `Usage`, and touch nothing; and the answer to a demo job is what the work on the
+-- generated adder comes to.
+pub record DemonstrationSays (words : List Bytes) (old new : FilesTold) (said says : SinkTold)
+    (answer : Answer) : Type 0 where
+  pub no_job : job_of words ≡ None → IsUsage old new said says answer
+  pub job : (job : Job) → job_of words ≡ Some job → JobAnswer job old new said says answer
+
+-- the exit number of the process
+abbrev pub answer_exit : Answer → ℕ
+answer_exit Usage = 1
+answer_exit (Worked work) = work_exit work
+
+-- each answer but `Done` has a line on standard error
+abbrev pub has_line : Answer → Bool
+has_line Usage = true
+has_line (Worked (Done spent)) = false
+has_line (Worked NoMemory) = true
+has_line (Worked (Budget level spent)) = true
+has_line (Worked WriteFault) = true
+
+abbrev pub answer_line : Answer → Bytes
+answer_line Usage = usage_line
+answer_line (Worked (Done spent)) = codes "done"
+answer_line (Worked NoMemory) = codes "out of memory"
+answer_line (Worked (Budget level spent)) = codes "conflicts spent"
+answer_line (Worked WriteFault) = codes "write fault"

@@ -1,0 +1,91 @@
+//! The program of the job `demo` alone, and what each of its answers says.
+ghost use Rattle.std.specs.Prelude.{◌≡◌};
+ghost use Rattle.salsa_demo.specs.Demonstration.{DemonstrationSays, answer_exit, has_line};
+
+use command_words::usage::usage_line;
+use command_words::words::{Command, command_named};
+use console::program::Program;
+use file_core::files::Files;
+use file_core::sink::Sink;
+use file_core::word::Word;
+use progress::progress::Progress;
+use std::alloc::Global;
+use std::fmt;
+use synth_core::chain::Chain;
+use synth_jobs::demonstration::demonstrate;
+use synth_jobs::work::Work;
+
+/// What a demonstration answers.
+#[derive(Drop)]
+pub enum Answer {
+    /// The words are no demo job.
+    Usage,
+    /// What the work on the generated adder came to.
+    Worked(Work),
+}
+
+/// The line on standard error, without the program's name.
+impl fmt::Display for Answer {
+    ghost use Rattle.std.specs.Prelude.{Some};
+    ghost use Rattle.salsa_demo.specs.Demonstration.{answer_line};
+
+    ghost output = { λ s. Some (answer_line s) };
+
+    fn fmt<W: fmt::Write>(&self, f: &mut fmt::Formatter<W>) -> fmt::Result {
+        match self {
+            Answer::Usage => f.write_str(usage_line()),
+            Answer::Worked(Work::Done(_)) => f.write_str("done"),
+            Answer::Worked(Work::NoMemory) => f.write_str("out of memory"),
+            Answer::Worked(Work::Budget { .. }) => f.write_str("conflicts spent"),
+            Answer::Worked(Work::WriteFault) => f.write_str("write fault"),
+        }
+    }
+}
+
+/// The program of a demonstration.
+pub struct Demonstration;
+
+impl Program for Demonstration {
+    type Answer = Answer;
+
+    ghost says = { DemonstrationSays };
+
+    ghost exit_number = { answer_exit };
+
+    ghost is_told = { has_line };
+
+    fn carry_out<F: Files, K: Sink, P: Progress>(
+        alloc: Global,
+        words: &[Word],
+        files: &mut F,
+        say: &mut K,
+        progress: &mut P,
+    ) -> Answer {
+        match command_named(words) {
+            Some(
+                Command::Demo {
+                    width,
+                    bound,
+                    conflicts,
+                },
+            ) => {
+                let limit = u64::from(conflicts);
+                Answer::Worked(demonstrate::<Chain, F, K, P>(
+                    alloc, width, bound, limit, files, say, progress,
+                ))
+            }
+            _ => Answer::Usage,
+        }
+    }
+
+    fn exit(answer: &Answer) -> u8 {
+        match answer {
+            Answer::Usage => 1,
+            Answer::Worked(work) => work.exit(),
+        }
+    }
+
+    fn has_line(answer: &Answer) -> bool {
+        !matches!(answer, Answer::Worked(Work::Done(_)))
+    }
+}
