@@ -15,7 +15,7 @@ use std::alloc::{AllocError, Global};
 use std::marker::Model;
 
 /// The number of bytes that are taken at once.
-const PART: usize = 65_536;
+const PART: usize = 4096;
 
 /// Takes the vector of the line, where the line has all its bits and lacks only its end.
 fn take_vector(broken: &mut BrokenMoves, line: &VectorLine) -> Result<(), AllocError>

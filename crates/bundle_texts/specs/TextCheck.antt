@@ -11,4 +11,4 @@ pub record TextCheck : Type 0 where
 
 -- nothing more is wanted of a text that is wrong
 abbrev pub room_at : Bool → ℕ
-room_at is_right = if is_right then 65536 else 0
+room_at is_right = if is_right then 4096 else 0

@@ -11,8 +11,8 @@ use history::text::Text;
 use std::alloc::AllocError;
 use std::marker::Model;
 
-/// The number of bytes that are compared at once.
-const PART: usize = 65_536;
+/// The most bytes that are compared at once. They lie on the stack, which cannot grow once memory is short.
+const PART: usize = 4096;
 
 /// Whether the piece is what comes next in the formula's text; `rest` goes on behind the piece.
 fn is_next(rest: &mut DimacsText, piece: &[u8]) -> bool

@@ -8,12 +8,15 @@ ghost use Rattle.file_reading.specs.Refused.{TurnRefused, FileUnread};
 use crate::intake::Intake;
 use crate::unread::Unread;
 use file_core::files::Files;
-use file_core::turns::TURN_BYTES;
 use std::alloc::AllocError;
 
-/// The number of turns in which a file is asked for more, for at most `TURN_BYTES` bytes each; each turn
-/// after which the reading goes on gives at least one byte.
+/// The number of turns in which a file is asked for more; each turn after which the reading goes on gives at
+/// least one byte.
 const TURNS: u64 = 1 << 40;
+
+/// The most bytes that a turn asks for here, fewer than a read turn may ask for: they lie on the stack, which
+/// cannot grow once memory is short.
+const PAGE_BYTES: usize = 4096;
 
 /// Hands on the first bytes of the buffer.
 fn take_front<I: Intake>(intake: &mut I, buffer: &[u8], count: usize) -> Result<(), AllocError>
@@ -32,7 +35,7 @@ fn read_turn<F: Files, I: Intake>(
     intake: &mut I,
     buffer: &mut [u8],
 ) -> Result<bool, Unread>
-    requires { length buffer.old ≡ TURN_BYTES }
+    requires { length buffer.old ≡ PAGE_BYTES }
     ensures ok { IfOk result
         (λ more. TurnRead (F.told files.old) (F.told files.new) (I.text intake.old) (I.text intake.new) (I.room intake.new) more) }
     ensures aim { OnOk result (I.aim intake.new ≡ I.aim intake.old) }
@@ -62,7 +65,7 @@ fn read_opened<F: Files, I: Intake>(files: &mut F, intake: &mut I) -> Result<(),
         (FileUnread before (F.told files.new) name (I.text intake.new)) }
     ensures endless { result ≡ Err Unread.Endless → I.aim intake.new ≡ I.aim intake.old }
 {
-    let mut buffer = [0u8; TURN_BYTES];
+    let mut buffer = [0u8; PAGE_BYTES];
     for turn in 0..TURNS {
         if !read_turn(files, intake, &mut buffer)? {
             return Ok(());
