@@ -5,3 +5,6 @@ pub mod Places
 pub mod Numbered
 pub mod Readings
 pub mod Sizes
+pub mod KeptSteps
+pub mod ManyRows
+pub mod RowCounts

@@ -1,3 +1,4 @@
+pub mod KeptLines
 pub mod LogicalLines
 pub mod Messages
 pub mod NamedNets

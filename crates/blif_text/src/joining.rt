@@ -77,7 +77,7 @@ impl<'a> LogicalLine<'a> {
 }
 
 /// The line that was begun, with these bytes appended; or, where none was begun, a new line of these bytes.
-fn gone_on<'a>(
+pub fn gone_on<'a>(
     alloc: Global,
     begun: Option<LogicalLine<'a>>,
     number: u64,

@@ -1,20 +1,16 @@
 //! What is wrong with a line, by the lines before it.
-ghost use Rattle.std.specs.Prelude.{◌≡◌, Result, None, Some, Err, IfErr, OnOk, map, if◌then◌else◌};
-ghost use Rattle.semantics.specs.Net.{NetValue};
+ghost use Rattle.std.specs.Prelude.{◌≡◌, None, Some, Err, if◌then◌else◌};
 ghost use Rattle.blif_semantics.specs.Statements.{with_plane, table_by, wrong_row, wrong_by, wrong};
-ghost use Rattle.blif_semantics.specs.Reading.{Refusal, wrong_line, unless_refused};
-ghost use Rattle.blif_text.specs.LogicalLines.{statement_of};
+ghost use Rattle.blif_semantics.specs.Reading.{wrong_line};
 ghost use Rattle.blif_text.specs.Refusals.{Tells};
 ghost use Rattle.text_words.specs.Slices.{texts};
-ghost use Rattle.blif_text.specs.Places.{table_of, place_of, start, place_next, first_wrong_in, wrong_of, wrong_if};
+ghost use Rattle.blif_text.specs.Places.{table_of, place_of, start, place_next, wrong_of, wrong_if};
 
-use crate::joining::LogicalLine;
 use crate::refusal::BlifRefusal;
 use crate::statements::{are_names, are_printable, arguments, first_word, kind_of, row_plane};
 use blif_semantics::kind::Kind;
 use file_core::word::Word;
 use std::alloc::Global;
-use text_words::words::words_of;
 
 /// What is wrong with a line, but for its words.
 #[derive(Clone, Copy, Debug, Drop, PartialEq, Eq)]
@@ -179,21 +175,4 @@ pub fn refusal(alloc: Global, line: u64, wrong: Wrong, words: &[&[u8]]) -> BlifR
         Wrong::NamesEmpty => BlifRefusal::NamesEmpty { line },
         Wrong::BadName => BlifRefusal::BadName { line },
     }
-}
-
-/// Whether no line is wrong, or else the refusal of the first that is.
-pub fn judge(alloc: Global, lines: &[LogicalLine]) -> Result<(), BlifRefusal>
-    ensures ok { OnOk result (first_wrong_in start (map statement_of lines.now) ≡ None) }
-    ensures err { IfErr result (λ told. (rest : Result NetValue Refusal)
-        → Tells told (unless_refused (first_wrong_in start (map statement_of lines.now)) (λ w. wrong_line w.line w.wrong) rest)) }
-{
-    let mut place = Place::start();
-    for line in lines {
-        let words = words_of(alloc, line.bytes())?;
-        if let Some(wrong) = place.wrong(&words) {
-            return Err(refusal(alloc, line.number(), wrong, &words));
-        }
-        place = place.next(&words);
-    }
-    Ok(())
 }

@@ -3,6 +3,7 @@
 
 mod joining;
 pub mod judging;
+mod kept_lines;
 pub mod line_list;
 mod lines;
 mod message;

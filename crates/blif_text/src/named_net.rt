@@ -4,6 +4,7 @@ ghost use Rattle.semantics.specs.Texts.{Line};
 ghost use Rattle.blif_semantics.specs.Lines.{words_of};
 ghost use Rattle.blif_semantics.specs.Reading.{named_net};
 ghost use Rattle.blif_text.specs.NamedNets.{nothing_read, ended, row_added, added, with_rest};
+ghost use Rattle.blif_text.specs.KeptLines.{table_without_rows, without_rows};
 ghost use Rattle.text_words.specs.Slices.{texts};
 
 use crate::joining::LogicalLine;
@@ -147,6 +148,38 @@ impl<'a> NetSoFar<'a> {
             tables,
         })
     }
+}
+
+/// The tables without their rows.
+fn tables_without_rows<'a>(
+    alloc: Global,
+    tables: Vec<NamedTable<'a>>,
+) -> Result<Vec<NamedTable<'a>>, AllocError>
+    ensures { IfOk result (λ v. v.items ≡ map table_without_rows tables.entry.items) }
+{
+    let mut bare = Vec::new(alloc);
+    for table in tables {
+        bare.push(table.without_rows())?;
+    }
+    Ok(bare)
+}
+
+/// The net without its rows.
+pub fn without_rows<'a>(alloc: Global, net: NamedNet<'a>) -> Result<NamedNet<'a>, AllocError>
+    ensures { IfOk result (λ d. d ≡ without_rows net.entry) }
+{
+    let NamedNet {
+        model,
+        inputs,
+        outputs,
+        tables,
+    } = net;
+    Ok(NamedNet {
+        model,
+        inputs,
+        outputs,
+        tables: tables_without_rows(alloc, tables)?,
+    })
 }
 
 /// The net that these lines say.

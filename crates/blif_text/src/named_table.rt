@@ -6,6 +6,7 @@ ghost use Rattle.blif_semantics.specs.Reading.{Refusal, undriven, unless_refused
 ghost use Rattle.blif_semantics.specs.Named.{IsNamedTable, with_signals};
 ghost use Rattle.blif_text.specs.Refusals.{Tells};
 ghost use Rattle.blif_text.specs.Names.{first_unknown};
+ghost use Rattle.blif_text.specs.KeptLines.{table_without_rows};
 ghost use Rattle.text_words.specs.Slices.{texts};
 
 use crate::names::Names;
@@ -114,6 +115,19 @@ impl<'a> NamedTable<'a> {
         self.rows.push(marks_of(*self.pins.allocator(), words)?)?;
         self.plane = is_one(last_word(words));
         Ok(())
+    }
+
+    /// The table without its rows.
+    pub fn without_rows(self) -> NamedTable<'a>
+        ensures { result ≡ table_without_rows self.entry }
+    {
+        let alloc = *self.pins.allocator();
+        NamedTable {
+            name: self.name,
+            pins: self.pins,
+            rows: Items::new(alloc),
+            plane: true,
+        }
     }
 
     /// The name of the signal that the table drives.
