@@ -2,4 +2,3 @@ pub mod Faults
 pub mod Whole
 pub mod Tests
 pub mod Named
-pub mod Users

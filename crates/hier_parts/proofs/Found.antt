@@ -28,7 +28,7 @@ sym_eq a b = at_test (bytes_eq a b) refl (bytes_eq b a) refl
     at_test true is false other = sym ((bytes_eq-Decides b a).1 (sym ((bytes_eq-Decides a b).0 is))) ∙ other
     at_test false is true other = sym is ∙ (bytes_eq-Decides a b).1 (sym ((bytes_eq-Decides b a).0 other))
 
-found_at : {X : Type 0} (p : X → Bool) (xs : List X) (d : X) → position_or_len p xs < length xs → find p xs ≡ Some (get_or xs (position_or_len p xs) d)
+pub found_at : {X : Type 0} (p : X → Bool) (xs : List X) (d : X) → position_or_len p xs < length xs → find p xs ≡ Some (get_or xs (position_or_len p xs) d)
 found_at p [] d within = absurd (omega (arith, within))
 found_at {X} p (x ∷ xs) d within = at_test (p x) (position_or_len p xs) within (found_at p xs d)
   where

@@ -1,3 +1,4 @@
 pub mod Sections
 pub mod Sets
 pub mod Driven
+pub mod Users

@@ -6,3 +6,4 @@ pub mod interfaces;
 pub mod models;
 pub mod names;
 pub mod statements;
+pub mod users;

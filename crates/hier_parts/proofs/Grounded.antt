@@ -16,12 +16,12 @@ use Rattle.blif_text.specs.Names.{place_of}
 use Rattle.blif_text.proofs.Places.{has_name-unplaced}
 use Rattle.hierarchy_semantics.specs.Models.{Subcircuit, BlifModel, Hierarchy, no_model, model_named, uses_of, all_uses}
 use Rattle.hierarchy_semantics.specs.Refusals.{model_names, first_unknown, is_model_grounded, first_recursive}
-use Rattle.hier_faults.specs.Users.{user_table}
+use Rattle.hier_parts.specs.Users.{user_table, users}
 use Rattle.hier_parts.proofs.Found.{model-at, placed}
 
 -- ---- uses of models that are there
 
-abbrev IsThere : Hierarchy → Subcircuit → Type 0
+abbrev pub IsThere : Hierarchy → Subcircuit → Type 0
 IsThere h c = has_name (model_names h) c.model ≡ true
 
 each_there : (h : Hierarchy) (cs : List Subcircuit) → find (λ c. not (has_name (model_names h) c.model)) cs ≡ None → All (IsThere h) cs
@@ -45,11 +45,11 @@ each_list P f (x ∷ xs) all = All-cons (λ x. All P (f x)) x xs (all_left P (f 
 
 -- ---- the model at the place of its name
 
-record IsPlaced (h : Hierarchy) (name : Bytes) : Type 0 where
-  within : signal_named (model_names h) name < length h
-  is : get_or h (signal_named (model_names h) name) no_model ≡ model_named h name
+pub record IsPlaced (h : Hierarchy) (name : Bytes) : Type 0 where
+  pub within : signal_named (model_names h) name < length h
+  pub is : get_or h (signal_named (model_names h) name) no_model ≡ model_named h name
 
-placed_model : (h : Hierarchy) (name : Bytes) → has_name (model_names h) name ≡ true → IsPlaced h name
+pub placed_model : (h : Hierarchy) (name : Bytes) → has_name (model_names h) name ≡ true → IsPlaced h name
 placed_model h name there = at_place (place_of (model_names h) name) refl
   where
     number : Option ℕ → ℕ
@@ -68,10 +68,7 @@ placed_model h name there = at_place (place_of (model_names h) name) refl
 
 -- ---- grounded
 
-abbrev pub users : Hierarchy → List TableValue
-users h = map (user_table (model_names h)) h
-
-user_at : (h : Hierarchy) (i : ℕ) → i < length h → table_at (users h) i ≡ user_table (model_names h) (get_or h i no_model)
+pub user_at : (h : Hierarchy) (i : ℕ) → i < length h → table_at (users h) i ≡ user_table (model_names h) (get_or h i no_model)
 user_at h i within = get_or-map (user_table (model_names h)) h i no_model no_table within
 
 same_tests : (p : ℕ → Bool) (q : Subcircuit → Bool) (f : Subcircuit → ℕ) (P : Subcircuit → Type 0) (cs : List Subcircuit) → ((c : Subcircuit) → P c → p (f c) ≡ q c) → All P cs → list_all p (map f cs) ≡ list_all q cs
@@ -111,7 +108,7 @@ some_at p (x ∷ xs) d (suc i) within is before =
     let here : p x ≡ false = before 0 (omega arith) in
     ap (λ b. cond b (Some x) (find p xs)) here ∙ some_at p xs d i (omega (arith, within)) is (λ j low. before (suc j) (omega (arith, low)))
 
-uses_there : (h : Hierarchy) → first_unknown h ≡ None → All (λ m. All (IsThere h) (uses_of m)) h
+pub uses_there : (h : Hierarchy) → first_unknown h ≡ None → All (λ m. All (IsThere h) (uses_of m)) h
 uses_there h none = each_list (IsThere h) uses_of h (each_there h (all_uses h) none)
 
 abbrev is_free : Hierarchy → ℕ → Bool

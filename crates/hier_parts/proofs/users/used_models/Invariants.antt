@@ -2,7 +2,7 @@ use Rattle.std.proofs.Common.{◌≡◌, ◌++◌, map, flat_map, drop}
 use Rattle.blif_semantics.specs.Reading.{signal_named}
 use Rattle.hierarchy_semantics.specs.Models.{part_uses}
 use Rattle.hier_parts.specs.Sections.{part_value}
-use Rattle.hier_faults.proofs.users.used_models.Given as goal
+use Rattle.hier_parts.proofs.users.used_models.Given as goal
 
 abbrev pub invariant-loop-part : goal.invariant-loop-part
 invariant-loop-part l =
