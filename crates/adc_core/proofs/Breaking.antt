@@ -1,5 +1,6 @@
 -- Where a move changes its table's value, and where it breaks the bound, bit by bit.
-use Rattle.std.proofs.Common.{◌≡◌, ◌≢◌, ◌↔◌, ◌⊎◌, ℕ, ◌+◌, ◌-◌, ◌*◌, ◌^◌, ◌<◌, ◌≤◌, Bool, true, false, not, ◌&&◌, ◌||◌, if◌then◌else◌, ltb, List, [], ◌∷◌, length, get_or, set, IsTrue, All, w64, refl, ap, sym, subst, ◌∙◌, inl, inr, arith, get_or-set_same, get_or-set_other}
+use Rattle.std.proofs.Common.{◌≡◌, ◌≢◌, ◌↔◌, ◌⊎◌, ℕ, ◌+◌, ◌-◌, ◌*◌, ◌^◌, ◌<◌, ◌≤◌, Bool, true, false, not, ◌&&◌, ◌||◌, if◌then◌else◌, ltb, List, [], ◌∷◌, length, get_or, set, IsTrue, All, w64, refl}
+use Rattle.std.proofs.Common.{ap, sym, subst, ◌∙◌, inl, inr, arith, get_or-set_same, get_or-set_other}
 use Rattle.std.specs.Prelude.{bit_and, bit_or, bit_xor, ◌==◌}
 use Rattle.std.specs.Int.{bit_not}
 use Rattle.std.proofs.lemmas.Bool.{cases_eq, cases_lt, and_parts, and_from, lt-ltb, le-ltb, ltb-true}
@@ -40,7 +41,8 @@ difference_bit N m words moved_word value sound is value_is moved b x low values
     let pins : All (λ s. values_at words b s ≡ value_of (input_count N) N.tables x s) new.pins =
     All-weaker (λ s. s < signal_count N) (λ s. values_at words b s ≡ value_of (input_count N) N.tables x s) (λ s within. values s within) new.pins (moved-pins N m sound is) in
     let left : word_bit moved_word b ≡ moved_value N m x =
-    moved b low ∙ table_value-same new (values_at words b) (value_of (input_count N) N.tables x) (recursion_from_All (λ s. values_at words b s ≡ value_of (input_count N) N.tables x s) new.pins pins) in
+    moved b low ∙ table_value-same new (values_at words b) (value_of (input_count N) N.tables x) (recursion_from_All (λ s. values_at words b s ≡ value_of (input_count N) N.tables x s) new.pins pins)
+    in
     let right : word_bit value b ≡ value_of (input_count N) N.tables x (input_count N + t) =
     ap (λ w. word_bit w b) value_is ∙ values (input_count N + t) (omega (arith, move-within N m is)) in
     let bit : word_bit (bit_xor moved_word value) b ≡ turned (value_of (input_count N) N.tables x (input_count N + t)) (moved_value N m x) =

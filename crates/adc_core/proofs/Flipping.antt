@@ -1,5 +1,6 @@
 -- The tables that depend on a table, and their words, which are found again where it is turned over.
-use Rattle.std.proofs.Common.{◌≡◌, ◌≢◌, ◌⊎◌, ℕ, ◌+◌, ◌-◌, ◌<◌, ◌≤◌, Bool, true, false, not, ◌&&◌, eqb, List, [], ◌∷◌, ◌++◌, length, get_or, set, take, IsTrue, ◌↔◌, Contains, ap, sym, subst, ◌∙◌, inl, inr, arith, get_or-set_same, get_or-set_other}
+use Rattle.std.proofs.Common.{◌≡◌, ◌≢◌, ◌⊎◌, ℕ, ◌+◌, ◌-◌, ◌<◌, ◌≤◌, Bool, true, false, not, ◌&&◌, eqb, List, [], ◌∷◌, ◌++◌, length, get_or, set, take, IsTrue, ◌↔◌, Contains, ap, sym, subst, ◌∙◌, inl}
+use Rattle.std.proofs.Common.{inr, arith, get_or-set_same, get_or-set_other}
 use Rattle.std.specs.List.{AllByRecursion}
 use Rattle.std.proofs.lemmas.Bool.{cases_eq, cases_lt, and_parts, and_cases, not-true, not-false, eq-eqb, eqb-true}
 use Rattle.std.proofs.Math.Seq.{take-append_seam}
@@ -190,7 +191,8 @@ module _ (N : NetValue) (t : ℕ) (start : List ℕ) (acyclic : IsAcyclic (input
       ]
 
   -- the next of the tables that depend on t is found again
-  pub flipped_more : (later words : List ℕ) (k i word : ℕ) (read : TableValue) → AreInTurn N t later → k < length later → i ≡ get_or later k 0 → signal_count N ≤ length words → read ≡ table_at N.tables i
+  pub flipped_more : (later words : List ℕ) (k i word : ℕ) (read : TableValue) → AreInTurn N t later → k < length later → i ≡ get_or later k 0 → signal_count N ≤ length words
+      → read ≡ table_at N.tables i
       → ((b : ℕ) → b < 64 → word_bit word b ≡ table_value read (values_at words b))
       → ((s : ℕ) → s < signal_count N → IsSettled N t (take k later) s → IsFlippedFrom N t start s (get_or words s 0))
       → (s : ℕ) → s < signal_count N → IsSettled N t (take (k + 1) later) s → IsFlippedFrom N t start s (get_or (set words (input_count N + i) word) s 0)

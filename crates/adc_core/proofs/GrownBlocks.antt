@@ -1,5 +1,6 @@
 -- Blocks of patterns that are made one after another, and the words of what is cared for, as far as they are asked for.
-use Rattle.std.proofs.Common.{◌≡◌, ◌↔◌, ℕ, ◌+◌, ◌*◌, ◌/◌, ◌^◌, ◌<◌, ◌≤◌, Bool, true, false, zero, suc, ltb, List, [], ◌∷◌, ◌++◌, map, length, get_or, set, take, IsTrue, refl, ap, sym, subst, ◌∙◌, inl, inr, arith, get_or-set_same, get_or-set_other}
+use Rattle.std.proofs.Common.{◌≡◌, ◌↔◌, ℕ, ◌+◌, ◌*◌, ◌/◌, ◌^◌, ◌<◌, ◌≤◌, Bool, true, false, zero, suc, ltb, List, [], ◌∷◌, ◌++◌, map, length, get_or, set, take, IsTrue, refl, ap, sym, subst, ◌∙◌}
+use Rattle.std.proofs.Common.{inl, inr, arith, get_or-set_same, get_or-set_other}
 use Rattle.std.specs.List.{AllByRecursion}
 use Rattle.std.proofs.lemmas.Bool.{cases_eq, lt-ltb, ltb-true}
 use Rattle.std.proofs.lemmas.List.{get_or_push, get_or_append_left, length_push, get_or-take, length-take, length-map, length-set, get_or-map}
@@ -226,7 +227,13 @@ growing_grown j count full old new held rows spare sound is few fit known widths
     let row : (t : ℕ) → t < table_count j.nets.approx → row_at (map (take full) rows) t ≡ take full (row_at rows t) =
     λ t low. get_or-map (take full) rows t [] [] (omega (arith, low, tables)) in
     record {
-      fit = record { few = few; as_many = as_many; words = λ k d low. (known k d low).values.width; outputs = λ k d low. (known k d low).outputs.width; overlaps = λ k d low. (known k d low).overlaps.as_many };
+      fit = record {
+        few = few;
+        as_many = as_many;
+        words = λ k d low. (known k d low).values.width;
+        outputs = λ k d low. (known k d low).outputs.width;
+        overlaps = λ k d low. (known k d low).overlaps.as_many;
+      };
       blocks = subst (λ vs. AreBlocksFor j vs held) (sym back) known;
       tables = length-map rows (take full) ∙ tables;
       few = λ t low. omega (arith, ap length (row t low), length-take full (row_at rows t), full_is, front.shorter, fit);
@@ -247,7 +254,13 @@ pub growing_none : (j : Judged) (held : List Block) (rows : List (List ℕ)) (sp
 growing_none j held rows spare none tables room =
     let empty : length held ≡ 0 = ap length none in
     record {
-      fit = record { few = omega arith; as_many = empty; words = λ k d low. absurd (omega (arith, low, empty)); outputs = λ k d low. absurd (omega (arith, low, empty)); overlaps = λ k d low. absurd (omega (arith, low, empty)) };
+      fit = record {
+        few = omega arith;
+        as_many = empty;
+        words = λ k d low. absurd (omega (arith, low, empty));
+        outputs = λ k d low. absurd (omega (arith, low, empty));
+        overlaps = λ k d low. absurd (omega (arith, low, empty));
+      };
       blocks = λ k d low. absurd (omega (arith, low, empty));
       tables = length-map rows (take 0) ∙ tables;
       few = λ t low. omega (arith, no_words rows t);

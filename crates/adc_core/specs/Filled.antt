@@ -8,7 +8,9 @@ use Rattle.lane_nets.specs.Blocks.{row_at, AreBlocksOf}
 
 -- `count` vectors, read from the inputs of the blocks
 abbrev pub vectors_in : ℕ → ℕ → List (List ℕ) → List (List Bool)
-vectors_in inputs count blocks = map (λ p. map (values_at (row_at blocks (p / 64)) (p % 64)) (range_with_len 0 inputs)) (range_with_len 0 count)
+vectors_in inputs count blocks
+    = map (λ p. map (values_at (row_at blocks (p / 64)) (p % 64)) (range_with_len 0 inputs))
+    (range_with_len 0 count)
 
 -- a row with the words that `count` patterns need, and with no bit past them
 pub record IsRowFor (count : ℕ) (row : List ℕ) : Type 0 where
@@ -16,7 +18,8 @@ pub record IsRowFor (count : ℕ) (row : List ℕ) : Type 0 where
   pub clear : (p : ℕ) → count ≤ p → row_bit row p ≡ false
 
 -- what the fields of the masks of a net hold, whatever nets they were made for
-pub record AreFilled (N : NetValue) (count : ℕ) (held rows : List (List ℕ)) (last room : List ℕ) : Type 0 where
+pub record AreFilled (N : NetValue) (count : ℕ) (held rows : List (List ℕ))
+    (last room : List ℕ) : Type 0 where
   pub blocks : AreBlocksOf N (vectors_in (input_count N) count held) held
   pub sound : IsSound N
   pub few : count < 2 ^ 64

@@ -16,11 +16,13 @@ pub record Masks : Type 0 where
 -- each table's row tells the patterns that are cared for, and the last row the patterns at which the net
 -- itself exceeds the bound
 pub record AreMasksOf (metric : Metric) (exact : NetValue) (bound : ℕ) (m : Masks) : Type 0 where
-  pub care : (t : ℕ) → t < table_count m.net → IsRowWhere m.vectors (IsCaredFor metric exact bound m.net t) (row_at m.care t)
+  pub care : (t : ℕ) → t < table_count m.net
+      → IsRowWhere m.vectors (IsCaredFor metric exact bound m.net t) (row_at m.care t)
   pub exceeds : IsRowWhere m.vectors (Exceeds metric exact bound m.net) m.exceeds
 
 -- p is the first pattern at which the moved net exceeds the bound
-pub record IsFirstBroken (metric : Metric) (exact : NetValue) (bound : ℕ) (N : NetValue) (vectors : List (List Bool)) (move : Move) (p : ℕ) : Type 0 where
+pub record IsFirstBroken (metric : Metric) (exact : NetValue) (bound : ℕ) (N : NetValue)
+    (vectors : List (List Bool)) (move : Move) (p : ℕ) : Type 0 where
   pub within : p < length vectors
   pub broken : IsBrokenAt metric exact bound N move (vector_at vectors p)
   pub first : (q : ℕ) → q < p → ¬ IsBrokenAt metric exact bound N move (vector_at vectors q)
@@ -28,5 +30,6 @@ pub record IsFirstBroken (metric : Metric) (exact : NetValue) (bound : ℕ) (N :
 -- the first pattern that breaks the move is found, or none where none does
 abbrev pub FindsFirstBroken : Metric → NetValue → ℕ → NetValue → List (List Bool) → Move → Option ℕ → Type 0
 FindsFirstBroken metric exact bound N vectors move found =
-    MatchOption found ((p : ℕ) → p < length vectors → ¬ IsBrokenAt metric exact bound N move (vector_at vectors p))
+    MatchOption found ((p : ℕ) → p < length vectors
+    → ¬ IsBrokenAt metric exact bound N move (vector_at vectors p))
     (IsFirstBroken metric exact bound N vectors move)

@@ -1,4 +1,5 @@
--- Where rows of a table overlap. Source: covers in two-level logic, where a row can be left out only if the others match wherever it does.
+-- Where rows of a table overlap. Source: covers in two-level logic, where a row can be left out only if the
+-- others match wherever it does.
 use Rattle.std.specs.Prelude.{◌≡◌, ℕ, ◌<◌, Bool, false, ◌&&◌, ◌||◌, List, [], ◌∷◌, length, slice_index}
 use Rattle.std.specs.List.{list_any}
 use Rattle.semantics.specs.declared.mark.Mark.{Mark}

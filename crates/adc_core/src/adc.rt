@@ -65,7 +65,12 @@ impl Adc {
         differs: Vec<u64>,
     ) -> Adc
         requires { AreFilled net count blocks care exceeds differs.items }
-        ensures { result ≡ record { net = net; vectors = vectors_in (input_count net) count blocks; care = care; exceeds = exceeds } }
+        ensures { result ≡ record {
+          net = net;
+          vectors = vectors_in (input_count net) count blocks;
+          care = care;
+          exceeds = exceeds;
+        } }
     {
         Adc {
             net,

@@ -1,4 +1,5 @@
-//! Rows of bits that tell where the error exceeds the bound: with the net as it is, and with a table turned over.
+//! Rows of bits that tell where the error exceeds the bound: with the net as it is, and with a table turned
+//! over.
 ghost use Rattle.std.specs.Prelude.{◌≡◌, ◌<◌, ◌≤◌, ℕ, Bool, List, length, IfOk};
 ghost use Rattle.semantics.specs.Net.{NetValue, signal_count, table_count};
 ghost use Rattle.chain_semantics.specs.Care.{IsCaredFor, Exceeds};
@@ -36,7 +37,8 @@ fn set_exceeding_row(net: &Net, blocks: &[WordList], limit: &Limit, row: &mut [u
     requires blocks { (k : ℕ) → k < length blocks.now → length (row_at blocks.now k) ≡ signal_count net.now }
     requires row { length row.old ≡ length blocks.now }
     ensures { (exact : NetValue) (vectors : List (List Bool))
-        → length vectors ≡ limit.now.count → AreOutputWordsOf exact vectors limit.now.outputs → AreBlocksOf net.now vectors blocks.now
+        → length vectors ≡ limit.now.count → AreOutputWordsOf exact vectors limit.now.outputs
+        → AreBlocksOf net.now vectors blocks.now
         → IsRowWhere vectors (Exceeds limit.now.metric exact limit.now.level net.now) row.new }
 {
     net.see_sound();
@@ -60,7 +62,8 @@ pub(crate) fn exceeding_row(
     requires same { length blocks.now ≡ length limit.now.outputs }
     requires blocks { (k : ℕ) → k < length blocks.now → length (row_at blocks.now k) ≡ signal_count net.now }
     ensures { IfOk result (λ row. (exact : NetValue) (vectors : List (List Bool))
-        → length vectors ≡ limit.now.count → AreOutputWordsOf exact vectors limit.now.outputs → AreBlocksOf net.now vectors blocks.now
+        → length vectors ≡ limit.now.count → AreOutputWordsOf exact vectors limit.now.outputs
+        → AreBlocksOf net.now vectors blocks.now
         → IsRowWhere vectors (Exceeds limit.now.metric exact limit.now.level net.now) row) }
 {
     let mut row = vec![in alloc; 0; blocks.len()]?;
@@ -88,7 +91,8 @@ fn set_care_row(
     requires words { length words.old ≡ signal_count net.now }
     requires row { length row.old ≡ length blocks.now }
     ensures { (exact : NetValue) (vectors : List (List Bool))
-        → length vectors ≡ limit.now.count → AreOutputWordsOf exact vectors limit.now.outputs → AreBlocksOf net.now vectors blocks.now
+        → length vectors ≡ limit.now.count → AreOutputWordsOf exact vectors limit.now.outputs
+        → AreBlocksOf net.now vectors blocks.now
         → IsRowWhere vectors (IsCaredFor limit.now.metric exact limit.now.level net.now t) row.new }
 {
     net.see_sound();
@@ -114,7 +118,8 @@ pub(crate) fn care_rows(
     requires blocks { (k : ℕ) → k < length blocks.now → length (row_at blocks.now k) ≡ signal_count net.now }
     ensures count { IfOk result (λ rows. length rows ≡ table_count net.now) }
     ensures rows { IfOk result (λ rows. (exact : NetValue) (vectors : List (List Bool))
-        → length vectors ≡ limit.now.count → AreOutputWordsOf exact vectors limit.now.outputs → AreBlocksOf net.now vectors blocks.now
+        → length vectors ≡ limit.now.count → AreOutputWordsOf exact vectors limit.now.outputs
+        → AreBlocksOf net.now vectors blocks.now
         → (t : ℕ) → t < table_count net.now
         → IsRowWhere vectors (IsCaredFor limit.now.metric exact limit.now.level net.now t) (row_at rows t)) }
     ensures built { IsBuilt net.now }

@@ -1,5 +1,6 @@
 //! The patterns at which a move changes its table's value, and those at which this breaks the bound.
-ghost use Rattle.std.specs.Prelude.{◌≡◌, ◌↔◌, ◌⊎◌, ◌+◌, ◌*◌, ◌<◌, ◌≤◌, ◌^◌, ℕ, Bool, List, length, nat_lt, IsTrue, if◌then◌else◌, Contains};
+ghost use Rattle.std.specs.Prelude.{◌≡◌, ◌↔◌, ◌⊎◌, ◌+◌, ◌*◌, ◌<◌, ◌≤◌, ◌^◌, ℕ, Bool, List, length, nat_lt};
+ghost use Rattle.std.specs.Prelude.{IsTrue, if◌then◌else◌, Contains};
 ghost use Rattle.semantics.specs.Net.{NetValue, signal_count};
 ghost use Rattle.semantics.specs.declared.metric.Metric.{Metric};
 ghost use Rattle.chain_semantics.specs.Moves.{moves_of, table_of};
@@ -61,7 +62,8 @@ pub(crate) fn set_differences(
 /// The lanes where a move breaks the bound, in one block: where it changes its table's value and the pattern
 /// is cared for, or where it leaves the value and the net itself exceeds the bound.
 pub(crate) fn broken_word(differs: u64, care: u64, exceeds: u64) -> u64
-    ensures { (b : ℕ) → b < 64 → word_bit result b ≡ (if word_bit differs b then word_bit care b else word_bit exceeds b) }
+    ensures { (b : ℕ) → b < 64
+        → word_bit result b ≡ (if word_bit differs b then word_bit care b else word_bit exceeds b) }
 {
     (differs & care) | (exceeds & !differs)
 }
@@ -71,7 +73,8 @@ fn known_broken_word(net: &Net, step: Move, words: &[u64], care: u64, exceeds: u
     requires step { Contains (moves_of net.now) step }
     requires room { length words.now ≡ signal_count net.now }
     ensures { (b : ℕ) (x : List Bool) → b < 64 → HasValues net.now words.now b x → IsTrue (word_bit result b)
-        ↔ ((Changes net.now step x × IsTrue (word_bit care b)) ⊎ ((¬ Changes net.now step x) × IsTrue (word_bit exceeds b))) }
+        ↔ ((Changes net.now step x × IsTrue (word_bit care b))
+        ⊎ ((¬ Changes net.now step x) × IsTrue (word_bit exceeds b))) }
 {
     // Then the block breaks no move.
     if care == 0 && exceeds == 0 {
@@ -93,7 +96,8 @@ pub(crate) fn first_broken(
     requires few { length blocks.now ≤ 2 ^ 58 }
     requires care { length care.now ≡ length blocks.now }
     requires exceeds { length exceeds.now ≡ length blocks.now }
-    ensures { (metric : Metric) (exact : NetValue) (bound : ℕ) (vectors : List (List Bool)) → AreBlocksOf net.now vectors blocks.now
+    ensures { (metric : Metric) (exact : NetValue) (bound : ℕ) (vectors : List (List Bool))
+        → AreBlocksOf net.now vectors blocks.now
         → IsRowWhere vectors (IsCaredFor metric exact bound net.now (table_of step)) care.now
         → IsRowWhere vectors (Exceeds metric exact bound net.now) exceeds.now
         → FindsFirstBroken metric exact bound net.now vectors step result }

@@ -1,6 +1,7 @@
-//! Where a move changes its table's value, in a block of which it is known where the rows of each table overlap. A move that drops a
-//! row or a literal then costs that row alone, and not its table.
-ghost use Rattle.std.specs.Prelude.{◌≡◌, ◌↔◌, ◌<◌, ℕ, Bool, List, length, remove, slice_set, IsTrue, All, Contains};
+//! Where a move changes its table's value, in a block of which it is known where the rows of each table
+//! overlap. A move that drops a row or a literal then costs that row alone, and not its table.
+ghost use Rattle.std.specs.Prelude.{◌≡◌, ◌↔◌, ◌<◌, ℕ, Bool, List, length, remove, slice_set, IsTrue, All};
+ghost use Rattle.std.specs.Prelude.{Contains};
 ghost use Rattle.semantics.specs.declared.mark.Mark.TheVariants.{Dash};
 ghost use Rattle.semantics.specs.Net.{signal_count, table_count};
 ghost use Rattle.semantics.specs.Value.{table_value};
@@ -18,7 +19,8 @@ use lane_nets::table_words::{plane_word, row_word};
 use net_core::net::Net;
 use net_core::table::Table;
 
-/// Where a table's value changes without one of its rows: where that row matches, and the table's rows do not overlap.
+/// Where a table's value changes without one of its rows: where that row matches, and the table's rows do not
+/// overlap.
 fn lone_row_word(table: &Table, row: usize, words: &[u64], overlap: u64) -> u64
     requires within { row < length table.now.rows }
     requires pins_in { All (λ s. s < length words.now) table.now.pins }
@@ -32,15 +34,16 @@ fn lone_row_word(table: &Table, row: usize, words: &[u64], overlap: u64) -> u64
     row_word(marks, pins, words) & !overlap
 }
 
-/// Where a table's value changes without one of its literals: where no row matches, and the literal's row would without it. The
-/// table's own value is `value`.
+/// Where a table's value changes without one of its literals: where no row matches, and the literal's row
+/// would without it. The table's own value is `value`.
 fn missed_literal_word(table: &Table, row: usize, pin: usize, words: &[u64], value: u64) -> u64
     requires row { row < length table.now.rows }
     requires pin { pin < length (row_at table.now.rows row) }
     requires pins_in { All (λ s. s < length words.now) table.now.pins }
     ensures { (b : ℕ) → b < 64 → word_bit value b ≡ table_value table.now (values_at words.now b)
         → word_bit result b ≡ turned (table_value table.now (values_at words.now b))
-        (table_value (record table.now { rows = slice_set table.now.rows row (slice_set (row_at table.now.rows row) pin Dash) })
+        (table_value (record table.now
+        { rows = slice_set table.now.rows row (slice_set (row_at table.now.rows row) pin Dash) })
         (values_at words.now b)) }
 {
     let rows = table.rows().as_slice();

@@ -1,5 +1,6 @@
 //! The values of all signals at 64 patterns at a time where a table is turned over.
-ghost use Rattle.std.specs.Prelude.{◌≡◌, ◌==◌, ◌&&◌, ◌↔◌, ◌<◌, ◌≤◌, not, ℕ, List, Bool, false, length, take, slice_index_or, IsTrue};
+ghost use Rattle.std.specs.Prelude.{◌≡◌, ◌==◌, ◌&&◌, ◌↔◌, ◌<◌, ◌≤◌, not, ℕ, List, Bool, false, length, take};
+ghost use Rattle.std.specs.Prelude.{slice_index_or, IsTrue};
 ghost use Rattle.semantics.specs.Net.{input_count, table_count, signal_count};
 ghost use Rattle.semantics.specs.Dependence.{DependsOn};
 ghost use Rattle.semantics.specs.Order.{IsOrderOf};
@@ -44,7 +45,8 @@ pub fn flip_words(net: &Net, t: u32, later: &[u32], words: &mut [u64])
     requires table { t < table_count net.now }
     requires room { length words.old ≡ signal_count net.now }
     requires later { AreLater net.now t later.now }
-    ensures { (b : ℕ) (x : List Bool) → b < 64 → HasValues net.now words.old b x → HasFlippedValues net.now t words.new b x }
+    ensures { (b : ℕ) (x : List Bool) → b < 64 → HasValues net.now words.old b x
+        → HasFlippedValues net.now t words.new b x }
 {
     let inputs = net.inputs() as usize;
     words[inputs + t as usize] = !words[inputs + t as usize];

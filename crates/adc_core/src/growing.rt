@@ -1,5 +1,6 @@
 //! The masks of an approximate net over a list of patterns that grows.
-ghost use Rattle.std.specs.Prelude.{◌≡◌, ◌↔◌, ◌+◌, ◌*◌, ◌<◌, ◌≤◌, ℕ, List, Bool, true, [], map, take, length, replicate, IfOk, OnOk, OnErr, Contains};
+ghost use Rattle.std.specs.Prelude.{◌≡◌, ◌↔◌, ◌+◌, ◌*◌, ◌<◌, ◌≤◌, ℕ, List, Bool, true, [], map, take, length};
+ghost use Rattle.std.specs.Prelude.{replicate, IfOk, OnOk, OnErr, Contains};
 ghost use Rattle.semantics.specs.Net.{input_count};
 ghost use Rattle.chain_semantics.specs.Moves.{moves_of, table_of};
 ghost use Rattle.chain_semantics.specs.Care.{IsBrokenAt};
@@ -67,12 +68,17 @@ fn reach_broken_word(
     requires within { k < length blocks.now }
     requires few { length row.old ≤ length blocks.now }
     requires room { FitsRoom judged.now room.old }
-    ensures broken { IfOk result (λ word. (vectors : List (List Bool)) → length vectors ≡ count → AreBlocksFor judged.now vectors blocks.now
+    ensures broken { IfOk result
+        (λ word. (vectors : List (List Bool)) → length vectors ≡ count
+        → AreBlocksFor judged.now vectors blocks.now
         → AreCareWords judged.now vectors (table_of step) row.old → (b : ℕ) → b < 64
         → (word_bit word b ≡ true) ↔ ((64 * k + b < length vectors)
-        × IsBrokenAt judged.now.metric judged.now.nets.exact judged.now.bound judged.now.nets.approx step (vector_at vectors (64 * k + b)))) }
-    ensures cared { (vectors : List (List Bool)) → length vectors ≡ count → AreBlocksFor judged.now vectors blocks.now
-        → AreCareWords judged.now vectors (table_of step) row.old → AreCareWords judged.now vectors (table_of step) row.new }
+        × IsBrokenAt judged.now.metric judged.now.nets.exact judged.now.bound judged.now.nets.approx step
+        (vector_at vectors (64 * k + b)))) }
+    ensures cared { (vectors : List (List Bool)) → length vectors ≡ count
+        → AreBlocksFor judged.now vectors blocks.now
+        → AreCareWords judged.now vectors (table_of step) row.old
+        → AreCareWords judged.now vectors (table_of step) row.new }
     ensures few { length row.new ≤ length blocks.now }
     ensures room { FitsRoom judged.now room.new }
 {
@@ -101,11 +107,16 @@ fn first_broken(
     requires fit { FitBlocks judged.now count blocks.now }
     requires few { length row.old ≤ length blocks.now }
     requires room { FitsRoom judged.now room.old }
-    ensures broken { IfOk result (λ found. (vectors : List (List Bool)) → length vectors ≡ count → AreBlocksFor judged.now vectors blocks.now
+    ensures broken { IfOk result
+        (λ found. (vectors : List (List Bool)) → length vectors ≡ count
+        → AreBlocksFor judged.now vectors blocks.now
         → AreCareWords judged.now vectors (table_of step) row.old
-        → FindsFirstBroken judged.now.metric judged.now.nets.exact judged.now.bound judged.now.nets.approx vectors step found) }
-    ensures cared { (vectors : List (List Bool)) → length vectors ≡ count → AreBlocksFor judged.now vectors blocks.now
-        → AreCareWords judged.now vectors (table_of step) row.old → AreCareWords judged.now vectors (table_of step) row.new }
+        → FindsFirstBroken judged.now.metric judged.now.nets.exact judged.now.bound judged.now.nets.approx
+        vectors step found) }
+    ensures cared { (vectors : List (List Bool)) → length vectors ≡ count
+        → AreBlocksFor judged.now vectors blocks.now
+        → AreCareWords judged.now vectors (table_of step) row.old
+        → AreCareWords judged.now vectors (table_of step) row.new }
     ensures few { length row.new ≤ length blocks.now }
     ensures room { FitsRoom judged.now room.new }
 {
@@ -159,7 +170,13 @@ impl<'a> GrowingMasks<'a> {
         bound: u128,
     ) -> Result<GrowingMasks<'a>, AllocError>
         ensures { IfOk result (λ m. m
-            ≡ record { exact = nets.now.exact; net = nets.now.approx; metric = metric; bound = bound; vectors = [] }) }
+            ≡ record {
+              exact = nets.now.exact;
+              net = nets.now.approx;
+              metric = metric;
+              bound = bound;
+              vectors = [];
+            }) }
     {
         let judged = Judged {
             nets: Compared::new(nets.exact(), nets.approx()),
@@ -208,7 +225,8 @@ impl<'a> GrowingMasks<'a> {
     pub fn breaks(&mut self, step: Move) -> Result<Option<u64>, AllocError>
         requires { Contains (moves_of self.old.net) step }
         ensures broken { IfOk result
-            (FindsFirstBroken self.old.metric self.old.exact self.old.bound self.old.net self.old.vectors step) }
+            (FindsFirstBroken self.old.metric self.old.exact self.old.bound self.old.net self.old.vectors
+            step) }
         ensures same { self.new ≡ self.old }
     {
         self.judged.nets.approx().see_sound();

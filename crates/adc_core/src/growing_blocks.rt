@@ -1,4 +1,5 @@
-//! Blocks of 64 patterns with what is known there of two nets, and the words of the patterns that are cared for at a table.
+//! Blocks of 64 patterns with what is known there of two nets, and the words of the patterns that are cared
+//! for at a table.
 ghost use Rattle.std.specs.Prelude.{◌≡◌, ◌<◌, ◌≤◌, ℕ, List, Bool, length, IfOk, OnOk};
 ghost use Rattle.semantics.specs.Net.{input_count, table_count, signal_count};
 ghost use Rattle.lane_bits.specs.Rows.{word_count};
@@ -16,8 +17,8 @@ use lane_nets::outputs::output_block;
 use lane_nets::word_list::WordList;
 use std::alloc::{AllocError, Global};
 
-/// The words of the second net's signals and of the exact outputs, where the second net itself exceeds the bound, and for each of its
-/// tables where the rows overlap.
+/// The words of the second net's signals and of the exact outputs, where the second net itself exceeds the
+/// bound, and for each of its tables where the rows overlap.
 #[derive(Drop)]
 pub(crate) struct Block {
     pub(crate) words: WordList,
@@ -104,7 +105,8 @@ fn add_care_words(
     requires within { to ≤ length blocks.now }
     requires row { length row.old ≤ to }
     requires words { length words.old ≡ signal_count judged.now.nets.approx }
-    ensures cared { (vectors : List (List Bool)) → length vectors ≡ count → AreBlocksFor judged.now vectors blocks.now
+    ensures cared { (vectors : List (List Bool)) → length vectors ≡ count
+        → AreBlocksFor judged.now vectors blocks.now
         → AreCareWords judged.now vectors t row.old → AreCareWords judged.now vectors t row.new }
     ensures few { length row.new ≤ to }
     ensures ok { OnOk result (to ≤ length row.new) }
@@ -137,7 +139,8 @@ pub(crate) fn reach_care_words(
     requires within { to ≤ length blocks.now }
     requires few { length row.old ≤ length blocks.now }
     requires room { FitsRoom judged.now room.old }
-    ensures cared { (vectors : List (List Bool)) → length vectors ≡ count → AreBlocksFor judged.now vectors blocks.now
+    ensures cared { (vectors : List (List Bool)) → length vectors ≡ count
+        → AreBlocksFor judged.now vectors blocks.now
         → AreCareWords judged.now vectors t row.old → AreCareWords judged.now vectors t row.new }
     ensures few { length row.new ≤ length blocks.now }
     ensures ok { OnOk result (to ≤ length row.new) }

@@ -1,4 +1,5 @@
-//! Approximation don't-cares: at which patterns turning a table's value over makes the error exceed the bound.
+//! Approximation don't-cares: at which patterns turning a table's value over makes the error exceed the
+//! bound.
 //!
 //! A move changes one table. Where it leaves the table's value, every output stays; where it changes that
 //! value, the outputs are those of the net with the value turned over. So the patterns at which the turned

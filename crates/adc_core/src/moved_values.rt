@@ -66,7 +66,8 @@ fn without_literal(table: &Table, row: usize, pin: usize, words: &[u64]) -> u64
     requires pin { pin < length (row_at table.now.rows row) }
     requires pins_in { All (λ s. s < length words.now) table.now.pins }
     ensures { (b : ℕ) → b < 64 → word_bit result b
-        ≡ table_value (record table.now { rows = slice_set table.now.rows row (slice_set (row_at table.now.rows row) pin Dash) })
+        ≡ table_value (record table.now
+        { rows = slice_set table.now.rows row (slice_set (row_at table.now.rows row) pin Dash) })
         (values_at words.now b) }
 {
     let rows = table.rows().as_slice();

@@ -1,5 +1,5 @@
-//! Where rows of a table overlap, at 64 patterns at a time. It is found once for a block, and then tells of each row in one step
-//! whether another row matches too.
+//! Where rows of a table overlap, at 64 patterns at a time. It is found once for a block, and then tells of
+//! each row in one step whether another row matches too.
 ghost use Rattle.std.specs.Prelude.{◌≡◌, ◌<◌, ℕ, length, All, IfOk};
 ghost use Rattle.semantics.specs.Net.{table_count, signal_count};
 ghost use Rattle.semantics.specs.Value.{row_matches};
@@ -18,7 +18,8 @@ fn overlap_word(rows: &[Row], pins: &[Signal], words: &[u64]) -> u64
     requires widths { All (λ marks. length marks ≡ length pins.now) rows.now }
     requires pins_in { All (λ s. s < length words.now) pins.now }
     ensures { (b : ℕ) → b < 64
-        → word_bit result b ≡ two_pass (λ marks. row_matches marks pins.now (values_at words.now b)) rows.now }
+        → word_bit result b ≡ two_pass (λ marks. row_matches marks pins.now (values_at words.now b))
+        rows.now }
 {
     if rows.len() < 2 {
         return 0;

@@ -86,7 +86,8 @@ module _ (start b c : GraphValue) (marks : List Mark) (pins signals : List ℕ) 
       and_shifted (literal_value v all) (mark_matches mark (literal_value v pin)) (row_matches (drop (k + 1) marks) (drop (k + 1) pins) (signal_values signals v))
       ∙ (rw (em, ep, same) refl)
 
-  pub row_more : IsRowSoFar start b marks pins signals k all → Grows b c → IsMarked c mark pin all r → pin ≡ get_or signals signal 0 → drop k marks ≡ mark ∷ drop (k + 1) marks → drop k pins ≡ signal ∷ drop (k + 1) pins
+  pub row_more : IsRowSoFar start b marks pins signals k all → Grows b c → IsMarked c mark pin all r → pin ≡ get_or signals signal 0 → drop k marks ≡ mark ∷ drop (k + 1) marks
+      → drop k pins ≡ signal ∷ drop (k + 1) pins
       → IsRowSoFar start c marks pins signals (k + 1) r
   row_more so grows marked same em ep = record {
     grows = grows_trans start b c so.grows grows;
@@ -130,12 +131,14 @@ module _ (start b c d : GraphValue) (rows : List (List Mark)) (pins signals : Li
         ∙ so.is x v (consistent_before b c x v bc before);
   }
 
-pub rows_done : (start g : GraphValue) (rows : List (List Mark)) (pins signals : List ℕ) (k some : ℕ) → AreRowsSoFar start g rows pins signals k some → length rows ≤ k → IsSomeRowOf g rows pins signals some
+pub rows_done : (start g : GraphValue) (rows : List (List Mark)) (pins signals : List ℕ) (k some : ℕ) → AreRowsSoFar start g rows pins signals k some → length rows ≤ k
+    → IsSomeRowOf g rows pins signals some
 rows_done start g rows pins signals k some so past = record {
   within = so.within;
   is = λ x v val.
       sym (or_false (literal_value v some)) ∙ (let none : drop k rows ≡ [] = drop_all k rows past in
-      subst (λ (rest : List (List Mark)). (literal_value v some || list_any (λ marks. row_matches marks pins (signal_values signals v)) rest) ≡ list_any (λ marks. row_matches marks pins (signal_values signals v)) rows) none (so.is x v val));
+      subst (λ (rest : List (List Mark)). (literal_value v some || list_any (λ marks. row_matches marks pins (signal_values signals v)) rest)
+      ≡ list_any (λ marks. row_matches marks pins (signal_values signals v)) rows) none (so.is x v val));
 }
 
 -- the plane of a table
@@ -143,7 +146,8 @@ pub table_true : (g : GraphValue) (t : TableValue) (signals : List ℕ) (r : ℕ
 table_true g t signals r some plane = record {
   within = some.within;
   is = λ x v val.
-      some.is x v val ∙ sym (ap (λ p. cond (list_any (λ marks. row_matches marks t.pins (signal_values signals v)) t.rows) p (not p)) plane ∙ cond_constants (list_any (λ marks. row_matches marks t.pins (signal_values signals v)) t.rows));
+      some.is x v val ∙ sym (ap (λ p. cond (list_any (λ marks. row_matches marks t.pins (signal_values signals v)) t.rows) p (not p)) plane ∙ cond_constants
+      (list_any (λ marks. row_matches marks t.pins (signal_values signals v)) t.rows));
 }
 
 pub table_false : (g : GraphValue) (t : TableValue) (signals : List ℕ) (some r : ℕ) → IsSomeRowOf g t.rows t.pins signals some → IsOppositeOf some r → t.plane ≡ false → IsTableOf g t signals r
@@ -158,7 +162,8 @@ table_false g t signals some r is_some opposite plane = record {
 pub row_front : {X : Type 0} (xs : List X) (k : ℕ) (x : X) → k < length xs → x ≡ get_or xs k x → drop k xs ≡ x ∷ drop (k + 1) xs
 row_front xs k x low read = rw add-one (drop-cons xs k x low ∙ ap (λ y. y ∷ drop (suc k) xs) (sym read))
 
-pub same_rows : (g : GraphValue) (rows rows' : List (List Mark)) (pins pins' signals : List ℕ) (r : ℕ) → IsSomeRowOf g rows pins signals r → rows ≡ rows' → pins ≡ pins' → IsSomeRowOf g rows' pins' signals r
+pub same_rows : (g : GraphValue) (rows rows' : List (List Mark)) (pins pins' signals : List ℕ) (r : ℕ) → IsSomeRowOf g rows pins signals r → rows ≡ rows' → pins ≡ pins'
+    → IsSomeRowOf g rows' pins' signals r
 same_rows g rows rows' pins pins' signals r is er ep =
     subst (λ (ps : List ℕ). IsSomeRowOf g rows' ps signals r) ep (subst (λ (rs : List (List Mark)). IsSomeRowOf g rs pins signals r) er is)
 

@@ -85,7 +85,8 @@ module _ (n : ℕ) (tables : List TableValue) (order : List ℕ) (is : IsOrderOf
         ∙ next-value n tables x (take k order) i (signal_values signals v) acyclic next (λ s is_known. (known s is_known).is x v val);
   }
 
-  pub signals_more : (b c : GraphValue) (signals : List ℕ) (k i : ℕ) (t : TableValue) (r : ℕ) → k < length order → i ≡ get_or order k 0 → t ≡ table_at tables i → AreSignalsSoFar n tables order b signals k
+  pub signals_more : (b c : GraphValue) (signals : List ℕ) (k i : ℕ) (t : TableValue) (r : ℕ) → k < length order → i ≡ get_or order k 0 → t ≡ table_at tables i
+      → AreSignalsSoFar n tables order b signals k
       → Grows b c → IsTableOf c t signals r → AreSignalsSoFar n tables order c (slice_set signals (n + i) r) (k + 1)
   signals_more b c signals k i t r low at read so grows table =
       let next : IsNext n tables (take k order) i = next_at n tables order is k i low at in
@@ -97,7 +98,8 @@ module _ (n : ℕ) (tables : List TableValue) (order : List ℕ) (is : IsOrderOf
         known = holds_more n tables order is (IsSignalOf tables n c) 0 signals k i r low at (omega (arith, so.size)) (table_signal c signals k i t r next read known table) known;
       }
 
-  pub signals_all : (g : GraphValue) (signals : List ℕ) (k : ℕ) → length order ≤ k → AreSignalsSoFar n tables order g signals k → (s : ℕ) → s < n + length tables → IsSignalOf tables n g s (get_or signals s 0)
+  pub signals_all : (g : GraphValue) (signals : List ℕ) (k : ℕ) → length order ≤ k → AreSignalsSoFar n tables order g signals k → (s : ℕ) → s < n + length tables
+      → IsSignalOf tables n g s (get_or signals s 0)
   signals_all g signals k past so = holds_all n tables order is (IsSignalOf tables n g) 0 signals k past so.known
 
 -- the whole graph

@@ -1,4 +1,5 @@
--- Worked examples, computed from the definitions: the graph of a half adder, whose sum is (a or b) and not (a and b).
+-- Worked examples, computed from the definitions: the graph of a half adder, whose sum is (a or b) and not (a
+-- and b).
 use Rattle.std.specs.Prelude.{◌≡◌, Bool, true, false, List, [], ◌∷◌, map}
 use Rattle.aig_core.specs.declared.gate.Node.TheVariants.{False, Input, And}
 use Rattle.aig_core.specs.Graph.{GraphValue, node_count, node_at, truth_of}
@@ -7,7 +8,8 @@ use Rattle.aig_core.specs.Graph.{GraphValue, node_count, node_at, truth_of}
 abbrev pub half_adder : GraphValue
 half_adder = record {
   inputs = 2;
-  gates = record { left = 2; right = 4 } ∷ record { left = 3; right = 5 } ∷ record { left = 7; right = 9 } ∷ [];
+  gates = record { left = 2; right = 4 } ∷ record { left = 3; right = 5 } ∷ record { left = 7; right = 9 }
+      ∷ [];
 }
 
 abbrev pub outputs_at : List Bool → List Bool

@@ -1,7 +1,8 @@
--- And-inverter graphs: nodes in an arena, each gate the conjunction of two literals. Source: AIGER's and-inverter graphs and literals.
--- Node 0 is false, nodes 1 to n are the n inputs, and node 1 + n + i is gate i. A literal is twice a node, and one more where the
--- node's value is turned over.
-use Rattle.std.specs.Prelude.{◌≡◌, ◌≢◌, ℕ, zero, suc, ◌+◌, ◌-◌, ◌*◌, ◌/◌, ◌%◌, ◌<◌, ◌==◌, Bool, false, not, ◌&&◌, if◌then◌else◌, List, length, slice_index_or, nat_lt, AllPairs}
+-- And-inverter graphs: nodes in an arena, each gate the conjunction of two literals. Source: AIGER's
+-- and-inverter graphs and literals. Node 0 is false, nodes 1 to n are the n inputs, and node 1 + n + i is
+-- gate i. A literal is twice a node, and one more where the node's value is turned over.
+use Rattle.std.specs.Prelude.{◌≡◌, ◌≢◌, ℕ, zero, suc, ◌+◌, ◌-◌, ◌*◌, ◌/◌, ◌%◌, ◌<◌, ◌==◌, Bool, false, not}
+use Rattle.std.specs.Prelude.{◌&&◌, if◌then◌else◌, List, length, slice_index_or, nat_lt, AllPairs}
 use Rattle.semantics.specs.Value.{Assignment}
 use Rattle.aig_core.specs.declared.gate.Gate.{Gate}
 use Rattle.aig_core.specs.declared.gate.Node.{Node}

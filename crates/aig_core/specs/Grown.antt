@@ -1,5 +1,6 @@
 -- Graphs that grow, and what a literal of a graph is. Source: hashed and-inverter graphs.
-use Rattle.std.specs.Prelude.{◌≡◌, ℕ, ◌+◌, ◌-◌, ◌%◌, ◌==◌, ◌<◌, ◌≤◌, ◌⊎◌, min, max, Bool, false, not, ◌&&◌, ◌||◌, if◌then◌else◌, List, [], ◌∷◌, ◌++◌, length, slice_index_or}
+use Rattle.std.specs.Prelude.{◌≡◌, ℕ, ◌+◌, ◌-◌, ◌%◌, ◌==◌, ◌<◌, ◌≤◌, ◌⊎◌, min, max, Bool, false, not, ◌&&◌}
+use Rattle.std.specs.Prelude.{◌||◌, if◌then◌else◌, List, [], ◌∷◌, ◌++◌, length, slice_index_or}
 use Rattle.semantics.specs.Value.{Assignment}
 use Rattle.aig_core.specs.declared.gate.Gate.{Gate}
 use Rattle.aig_core.specs.Graph.{GraphValue, gate_at, IsLiteralOf, literal_value, IsConsistent}

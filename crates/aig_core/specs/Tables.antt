@@ -22,7 +22,8 @@ pub record IsRowOf (g : GraphValue) (marks : List Mark) (pins signals : List ℕ
   pub is : HasValue g r (λ x v. row_matches marks pins (signal_values signals v))
 
 -- r is true where some row matches
-pub record IsSomeRowOf (g : GraphValue) (rows : List (List Mark)) (pins signals : List ℕ) (r : ℕ) : Type 0 where
+pub record IsSomeRowOf (g : GraphValue) (rows : List (List Mark)) (pins signals : List ℕ)
+    (r : ℕ) : Type 0 where
   pub within : IsLiteralOf g r
   pub is : HasValue g r (λ x v. list_any (λ marks. row_matches marks pins (signal_values signals v)) rows)
 

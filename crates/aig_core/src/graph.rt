@@ -1,7 +1,9 @@
 //! The graph: an arena of nodes, in which no pair of literals stands twice.
-ghost use Rattle.std.specs.Prelude.{◌≡◌, ℕ, ◌+◌, ◌*◌, ◌/◌, ◌^◌, ◌<◌, ◌≤◌, [], length, List, Bool, IfOk, OnErr};
+ghost use Rattle.std.specs.Prelude.{◌≡◌, ℕ, ◌+◌, ◌*◌, ◌/◌, ◌^◌, ◌<◌, ◌≤◌, [], length, List, Bool, IfOk};
+ghost use Rattle.std.specs.Prelude.{OnErr};
 ghost use Rattle.aig_core.specs.Graph.{GraphValue, HasOneValue, IsGraph, IsLiteralOf, node_at, node_count};
-ghost use Rattle.aig_core.specs.Grown.{AddsAtMost, Grows, IsConjunctionOf, IsDisjunctionOf, IsInputOf, gate_of, opposite_of};
+ghost use Rattle.aig_core.specs.Grown.{AddsAtMost, Grows, IsConjunctionOf, IsDisjunctionOf, IsInputOf};
+ghost use Rattle.aig_core.specs.Grown.{gate_of, opposite_of};
 
 use crate::folding::folded;
 use crate::gate::{Gate, Node};

@@ -111,7 +111,8 @@ rows_bits-length w pins (marks ∷ rows) wide =
 
 pub table_bits-length : (w : Assignment) (t : TableValue) → AreWide t.pins t.rows → length (table_bits w t) ≡ table_ands t
 table_bits-length w t wide =
-    let last : length (join_bits (opposite_bits w t.pins t.rows)) ≡ length t.rows - 1 = join_bits-length (opposite_bits w t.pins t.rows) ∙ ap (λ k. k - 1) (length-map t.rows (λ marks. not (row_matches marks t.pins w))) in
+    let last : length (join_bits (opposite_bits w t.pins t.rows)) ≡ length t.rows - 1
+    = join_bits-length (opposite_bits w t.pins t.rows) ∙ ap (λ k. k - 1) (length-map t.rows (λ marks. not (row_matches marks t.pins w))) in
     length-append (rows_bits w t.pins t.rows) (join_bits (opposite_bits w t.pins t.rows))
     ∙ ap (λ k. k + length (join_bits (opposite_bits w t.pins t.rows))) (rows_bits-length w t.pins t.rows wide)
     ∙ ap (λ k. rows_ands t.rows + k) last

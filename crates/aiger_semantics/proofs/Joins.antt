@@ -9,7 +9,8 @@ use Rattle.semantics.specs.Net.{TableValue}
 use Rattle.semantics.specs.Value.{Assignment, mark_matches, row_matches, table_value}
 use Rattle.aiger_semantics.specs.declared.and_line.AndLine.{AndLine}
 use Rattle.aiger_semantics.specs.Circuit.{literal_of_variable, negated, literal_value, and_value}
-use Rattle.aiger_semantics.specs.NetCircuit.{Literals, joins_after, joins, joined_after, joined, marked, row_inputs, row_ands, rows_ands, rows_joins, rows_joined, no_rows, table_joins, disjunction, table_literal}
+use Rattle.aiger_semantics.specs.NetCircuit.{Literals, joins_after, joins, joined_after, joined, marked, row_inputs, row_ands, rows_ands, rows_joins, rows_joined, no_rows, table_joins, disjunction}
+use Rattle.aiger_semantics.specs.NetCircuit.{table_literal}
 use Rattle.aiger_semantics.proofs.Each.{each-left, each-right}
 use Rattle.aiger_semantics.proofs.Literals.{not_not, value-variable, value-negated}
 

@@ -109,7 +109,8 @@ module _ (n : ℕ) (tables : List TableValue) (x : List Bool) (acyclic : IsAcycl
       (All-weaker IsTable (λ (t : TableValue). AreWide t.pins t.rows) (λ t f. recursion_from_All (λ (marks : List Mark). length marks ≡ length t.pins) t.rows f.widths) tables formed)
 
   wide_at : (i : ℕ) → i < length tables → AreWide (table_at tables i).pins (table_at tables i).rows
-  wide_at i low = let f : IsTable (table_at tables i) = formed i no_table low in recursion_from_All (λ (marks : List Mark). length marks ≡ length (table_at tables i).pins) (table_at tables i).rows f.widths
+  wide_at i low = let f : IsTable (table_at tables i)
+      = formed i no_table low in recursion_from_All (λ (marks : List Mark). length marks ≡ length (table_at tables i).pins) (table_at tables i).rows f.widths
 
   Agree : ℕ → Type 0
   Agree s = literal_value assigned (literals s) ≡ values s

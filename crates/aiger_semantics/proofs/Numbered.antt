@@ -15,7 +15,8 @@ use Rattle.semantics.proofs.Depends.{pin_is_signal}
 use Rattle.semantics.proofs.Values.{IsGroundedIn-signal}
 use Rattle.aiger_semantics.specs.declared.and_line.AndLine.{AndLine}
 use Rattle.aiger_semantics.specs.Circuit.{literal_of_variable, negated}
-use Rattle.aiger_semantics.specs.NetCircuit.{Literals, joins_after, joins, joined_after, joined, marked, row_inputs, row_ands, rows_ands, table_ands, rows_joins, rows_joined, no_rows, table_joins, disjunction, table_literal, first_variable, signal_literal, tables_joins, ands_of}
+use Rattle.aiger_semantics.specs.NetCircuit.{Literals, joins_after, joins, joined_after, joined, marked, row_inputs, row_ands, rows_ands, table_ands, rows_joins, rows_joined, no_rows, table_joins}
+use Rattle.aiger_semantics.specs.NetCircuit.{disjunction, table_literal, first_variable, signal_literal, tables_joins, ands_of}
 use Rattle.aiger_semantics.specs.Laws.{AreLiterals, variable_count, IsLiteralOf}
 use Rattle.aiger_semantics.proofs.Each.{each-append}
 use Rattle.aiger_semantics.proofs.Bits.{AreWide}
@@ -91,7 +92,8 @@ no_rows-length literals next t = length-map (rows_joined literals next t.pins t.
 pub table-length : (literals : Literals) (next : ℕ) (t : TableValue) → AreWide t.pins t.rows → length (table_joins literals next t) ≡ table_ands t
 table-length literals next t wide =
     let first = rows-length literals next t.pins t.rows wide in
-    let last : length (joins (next + rows_ands t.rows) (no_rows literals next t)) ≡ length t.rows - 1 = joins-length (next + rows_ands t.rows) (no_rows literals next t) ∙ ap (λ k. k - 1) (no_rows-length literals next t) in
+    let last : length (joins (next + rows_ands t.rows) (no_rows literals next t)) ≡ length t.rows - 1
+    = joins-length (next + rows_ands t.rows) (no_rows literals next t) ∙ ap (λ k. k - 1) (no_rows-length literals next t) in
     length-append (rows_joins literals next t.pins t.rows) (joins (next + rows_ands t.rows) (no_rows literals next t))
     ∙ ap (λ k. k + length (joins (next + rows_ands t.rows) (no_rows literals next t))) first ∙ ap (λ k. rows_ands t.rows + k) last
 
@@ -235,7 +237,8 @@ module _ (n : ℕ) (tables : List TableValue) (acyclic : IsAcyclic n tables) (fo
   is = are_literals n tables acyclic
 
   wide_at : (i : ℕ) → i < length tables → AreWide (table_at tables i).pins (table_at tables i).rows
-  wide_at i low = let f : IsTable (table_at tables i) = formed i no_table low in recursion_from_All (λ (marks : List Mark). length marks ≡ length (table_at tables i).pins) (table_at tables i).rows f.widths
+  wide_at i low = let f : IsTable (table_at tables i)
+      = formed i no_table low in recursion_from_All (λ (marks : List Mark). length marks ≡ length (table_at tables i).pins) (table_at tables i).rows f.widths
 
   input_below : (s : ℕ) → s < n → Below top (literals s)
   unfolding top
@@ -258,7 +261,8 @@ module _ (n : ℕ) (tables : List TableValue) (acyclic : IsAcyclic n tables) (fo
         | inr high ↦
             let place : s ≡ n + (s - n) = omega arith in
             let within : s - n < length tables = omega (arith, h.0) in
-            let pins : AllByRecursion (λ p. Below top (literals p)) (table_at tables (s - n)).pins = each_weaker (IsGroundedIn n tables k) (λ p. Below top (literals p)) (table_at tables (s - n)).pins (literal_below k) h.1 in
+            let pins : AllByRecursion (λ p. Below top (literals p)) (table_at tables (s - n)).pins
+            = each_weaker (IsGroundedIn n tables k) (λ p. Below top (literals p)) (table_at tables (s - n)).pins (literal_below k) h.1 in
             subst (Below top) (sym (ap literals place ∙ is.table (s - n) within))
             (table_literal-below top literals (first_variable n tables (s - n)) (table_at tables (s - n)) top_some pins (wide_at (s - n) within) (top_fits (s - n) within))
       ]
@@ -281,7 +285,8 @@ module _ (n : ℕ) (tables : List TableValue) (acyclic : IsAcyclic n tables) (fo
       recursion_from_All (λ (t : TableValue). AreWide t.pins t.rows) tables
       (All-weaker IsTable (λ (t : TableValue). AreWide t.pins t.rows) (λ t f. recursion_from_All (λ (marks : List Mark). length marks ≡ length t.pins) t.rows f.widths) tables formed)
 
-  pub variables : range_with_len 1 n ++ map (λ (a : AndLine). a.variable) (tables_joins (signal_literal n tables) (n + 1) tables) ≡ range_with_len 1 (n + length (tables_joins (signal_literal n tables) (n + 1) tables))
+  pub variables : range_with_len 1 n ++ map (λ (a : AndLine). a.variable) (tables_joins (signal_literal n tables) (n + 1) tables)
+      ≡ range_with_len 1 (n + length (tables_joins (signal_literal n tables) (n + 1) tables))
   variables =
       ap (λ l. range_with_len 1 n ++ l) (counts-range (n + 1) (tables_joins (signal_literal n tables) (n + 1) tables) (tables-counts (signal_literal n tables) (n + 1) tables tables_wide))
       ∙ range-append 1 n (length (tables_joins (signal_literal n tables) (n + 1) tables)) (n + 1) (n + length (tables_joins (signal_literal n tables) (n + 1) tables)) (omega arith) refl

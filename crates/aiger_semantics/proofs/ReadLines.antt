@@ -1,5 +1,6 @@
 -- What is known of a circuit that lines are read as: as many names as inputs and outputs, each of them a name; and no variable is 0.
-use Rattle.std.proofs.Common.{◌≡◌, ℕ, zero, suc, ◌+◌, ◌/◌, ◌%◌, ◌^◌, ◌<◌, ◌≤◌, Bool, true, false, cond, ◌&&◌, ◌==◌, leb, List, [], ◌∷◌, length, drop, decimal, All, codes, bytes_eq, true≢false, Option, Some, None, Result, Ok, Err, refl, ap, sym, subst, arith}
+use Rattle.std.proofs.Common.{◌≡◌, ℕ, zero, suc, ◌+◌, ◌/◌, ◌%◌, ◌^◌, ◌<◌, ◌≤◌, Bool, true, false, cond, ◌&&◌, ◌==◌, leb, List, [], ◌∷◌, length, drop, decimal, All, codes, bytes_eq, true≢false}
+use Rattle.std.proofs.Common.{Option, Some, None, Result, Ok, Err, refl, ap, sym, subst, arith}
 use Rattle.std.specs.List.{AllByRecursion}
 use Rattle.std.specs.Option.{option_map}
 use Rattle.std.proofs.lemmas.Bool.{and_parts, leb-true}
@@ -15,7 +16,9 @@ use Rattle.aiger_semantics.specs.declared.and_line.AndLine.{AndLine}
 use Rattle.aiger_semantics.specs.declared.header.Header.{Header}
 use Rattle.aiger_semantics.specs.Circuit.{CircuitValue}
 use Rattle.aiger_semantics.specs.TextLines.{number_to, all_numbers, line_numbers, pieces}
-use Rattle.aiger_semantics.specs.CircuitLines.{Refusal, no_header, has_latches, wrong_line, and_then, most_in_header, header_numbers, header_words, header_of, greatest_literal, is_definable, input_numbers, input_of, output_of, and_numbers, and_of, put_before, all_read, Symbol, symbol_text, symbols_after, before_comment, name_at, names_at, symbols_line, body_reading, with_header, circuit_reading}
+use Rattle.aiger_semantics.specs.CircuitLines.{Refusal, no_header, has_latches, wrong_line, and_then, most_in_header, header_numbers, header_words, header_of, greatest_literal, is_definable}
+use Rattle.aiger_semantics.specs.CircuitLines.{input_numbers, input_of, output_of, and_numbers, and_of, put_before, all_read, Symbol, symbol_text, symbols_after, before_comment, name_at, names_at}
+use Rattle.aiger_semantics.specs.CircuitLines.{symbols_line, body_reading, with_header, circuit_reading}
 
 is_read : {X : Type 0} → Result X Refusal → Bool
 is_read (Ok x) = true
@@ -190,7 +193,8 @@ body-drawn h lines c low e =
     (λ line v. input-formed most (let g = low.greatest in omega (arith, g)) (line_numbers most line) v (λ ns is. numbers-low most (pieces line) ns is)) 2 h.inputs lines one.0 one.1.0 in
     let outputs = read-each (λ (l : ℕ). Unit {0}) (output_of most) (λ line l k. tt) (2 + h.inputs) h.outputs (drop h.inputs lines) two.0 two.1.0 in
     let ands = read-each IsDefinition (and_of most)
-    (λ line a. and-defines most (let g = low.greatest in omega (arith, g)) (line_numbers most line) a (λ ns is. numbers-low most (pieces line) ns is)) (2 + h.inputs + h.outputs) h.ands (drop (h.inputs + h.outputs) lines) three.0 three.1.0 in
+    (λ line a. and-defines most (let g = low.greatest in omega (arith, g)) (line_numbers most line) a (λ ns is. numbers-low most (pieces line) ns is)) (2 + h.inputs + h.outputs) h.ands
+    (drop (h.inputs + h.outputs) lines) three.0 three.1.0 in
     let input_size = length-map-range_with_len (name_at four.0 105) 0 h.inputs in
     let output_size = length-map-range_with_len (name_at four.0 111) 0 h.outputs in
     subst IsDrawn (ok-same _ c four.1.1)

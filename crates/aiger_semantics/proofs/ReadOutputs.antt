@@ -1,5 +1,6 @@
 -- The net that is read has the circuit's outputs.
-use Rattle.std.proofs.Common.{◌≡◌, ◌≢◌, ℕ, zero, suc, ◌+◌, ◌-◌, ◌/◌, ◌%◌, ◌<◌, ◌≤◌, Bool, true, false, cond, not, ◌||◌, ◌&&◌, ◌==◌, ltb, List, [], ◌∷◌, ◌++◌, map, length, get_or, AllPairs, bytes_eq, Option, Some, None, refl, ap, sym, subst, ◌∙◌, append_assoc, append-nil, inl, inr, arith}
+use Rattle.std.proofs.Common.{◌≡◌, ◌≢◌, ℕ, zero, suc, ◌+◌, ◌-◌, ◌/◌, ◌%◌, ◌<◌, ◌≤◌, Bool, true, false, cond, not, ◌||◌, ◌&&◌, ◌==◌, ltb, List, [], ◌∷◌, ◌++◌, map, length, get_or, AllPairs, bytes_eq}
+use Rattle.std.proofs.Common.{Option, Some, None, refl, ap, sym, subst, ◌∙◌, append_assoc, append-nil, inl, inr, arith}
 use Rattle.std.specs.List.{AllByRecursion, list_any, list_all, position, position_or_len}
 use Rattle.std.proofs.lemmas.Bool.{cases_lt, lt-ltb, ltb-true, both_ways, eqb-true, eqb-false, eq-eqb, ne_eqb, false_from_ne_true, and_parts, or_parts}
 use Rattle.std.proofs.lemmas.List.{length-map, get_or_append_left, get_or-append-add, get_or-map}
@@ -15,10 +16,12 @@ use Rattle.semantics.specs.Value.{Assignment, mark_matches, row_matches, table_v
 use Rattle.semantics.proofs.Values.{value_law}
 use Rattle.aiger_semantics.specs.declared.and_line.AndLine.{AndLine}
 use Rattle.aiger_semantics.specs.Circuit.{CircuitValue, literal_of_variable, literal_value, and_value, Fits, output_values, HasOutputs}
-use Rattle.aiger_semantics.specs.ReadNet.{variables, place_or_end, signal_of_variable, literal_mark, asked, conjunction_table, and_name, and_table, Port, is_port, ports, input_ports, output_ports, has_port, own_outputs, output_table, port_signal, net_of}
+use Rattle.aiger_semantics.specs.ReadNet.{variables, place_or_end, signal_of_variable, literal_mark, asked, conjunction_table, and_name, and_table, Port, is_port, ports, input_ports, output_ports}
+use Rattle.aiger_semantics.specs.ReadNet.{has_port, own_outputs, output_table, port_signal, net_of}
 use Rattle.aiger_semantics.specs.Reading.{has_variable, first_repeated_after, first_repeated, operands}
 use Rattle.aiger_semantics.proofs.Literals.{value-variable}
-use Rattle.aiger_semantics.proofs.ReadWired.{none_if, place-found, position-some, or_right, IsUsable, IsThere, each_there, new_there, defined-count, tables-count, ands-usable, own-usable, port-signal, read-acyclic}
+use Rattle.aiger_semantics.proofs.ReadWired.{none_if, place-found, position-some, or_right, IsUsable, IsThere, each_there, new_there, defined-count, tables-count, ands-usable, own-usable}
+use Rattle.aiger_semantics.proofs.ReadWired.{port-signal, read-acyclic}
 use Rattle.aiger_semantics.proofs.ReadLines.{IsInput, IsDrawn, IsDefinition}
 use Rattle.aiger_semantics.proofs.ReadSound.{IsAccepted}
 
@@ -108,7 +111,8 @@ module _ (D : List ℕ) (V u : Assignment) (constant : u 0 ≡ false) where
       one_row false = refl
 
       at_test : (t : Bool) → list_any (λ l. l == 0) ls ≡ t
-          → table_value (cond t (constant_table name false) (record { name = name; pins = map (λ l. signal_of_variable D (l / 2)) (asked ls); rows = map literal_mark (asked ls) ∷ []; plane = true })) V
+          → table_value (cond t (constant_table name false) (record { name = name; pins = map (λ l. signal_of_variable D (l / 2)) (asked ls); rows = map literal_mark (asked ls) ∷ []; plane = true }))
+          V
           ≡ list_all (literal_value u) ls
       at_test true is = sym (with-zero ls is)
       at_test false is = one_row (row_matches (map literal_mark (asked ls)) (map (λ l. signal_of_variable D (l / 2)) (asked ls)) V) ∙ row-value ls is h
@@ -330,7 +334,8 @@ module _ (c : CircuitValue) (drawn : IsDrawn c) (acc : IsAccepted c) (x : List B
     outputs-same =
         along-ports (literal_value v) (λ p. V (port_signal c p)) c.output_names c.outputs drawn.output_count
         (each_there (IsThere (input_ports c) (own_outputs c)) (λ (p : Port). V (port_signal c p) ≡ literal_value v p.literal)
-        (λ p there. sym (V-only W W-consistent (port_signal c p) (port-signal c drawn.input_count acc.all_defined p there)) ∙ port-value p there) (output_ports c) (new_there (input_ports c) (output_ports c)))
+        (λ p there. sym (V-only W W-consistent (port_signal c p) (port-signal c drawn.input_count acc.all_defined p there)) ∙ port-value p there) (output_ports c)
+        (new_there (input_ports c) (output_ports c)))
         ∙ map-map V (port_signal c) (output_ports c)
 
   pub circuit-outputs : HasOutputs c x (outputs_of (net_of c) x)

@@ -1,5 +1,6 @@
 -- What is read is a small sound net: that of the circuit of the text's lines.
-use Rattle.std.proofs.Common.{◌≡◌, ℕ, suc, ◌-◌, ◌/◌, ◌^◌, ◌<◌, ◌≤◌, Bool, true, false, cond, not, ◌==◌, leb, List, [], ◌∷◌, ◌++◌, map, length, codes, decimal, All, Option, Some, None, Result, Ok, Err, refl, ap, sym, subst, ◌∙◌, arith}
+use Rattle.std.proofs.Common.{◌≡◌, ℕ, suc, ◌-◌, ◌/◌, ◌^◌, ◌<◌, ◌≤◌, Bool, true, false, cond, not, ◌==◌, leb, List, [], ◌∷◌, ◌++◌, map, length, codes, decimal, All, Option, Some, None, Result, Ok}
+use Rattle.std.proofs.Common.{Err, refl, ap, sym, subst, ◌∙◌, arith}
 use Rattle.std.specs.List.{AllByRecursion, list_any}
 use Rattle.std.specs.Option.{option_map}
 use Rattle.std.proofs.lemmas.Bool.{eqb-false, leb-true, not-false}
@@ -17,7 +18,8 @@ use Rattle.blif_semantics.proofs.Names.{IsName-from_test}
 use Rattle.aiger_semantics.specs.Circuit.{CircuitValue}
 use Rattle.aiger_semantics.specs.TextLines.{text_lines}
 use Rattle.aiger_semantics.specs.CircuitLines.{Refusal, text_long, twice, undefined, no_output, loop, doubled, limit, and_then, circuit_reading}
-use Rattle.aiger_semantics.specs.ReadNet.{variables, signal_of_variable, literal_mark, asked, conjunction_table, and_name, and_table, Port, ports, input_ports, output_ports, own_outputs, output_table, port_signal, net_of}
+use Rattle.aiger_semantics.specs.ReadNet.{variables, signal_of_variable, literal_mark, asked, conjunction_table, and_name, and_table, Port, ports, input_ports, output_ports, own_outputs}
+use Rattle.aiger_semantics.specs.ReadNet.{output_table, port_signal, net_of}
 use Rattle.aiger_semantics.specs.Reading.{first_repeated, first_undefined, first_loop, operand_tables, unless_refused, sized, named, grounded, with_output, defined, net_reading, aiger_reading}
 use Rattle.aiger_semantics.proofs.Each.{each-append}
 use Rattle.aiger_semantics.proofs.ReadWired.{new-each, read-acyclic, read-pins, read-outputs}

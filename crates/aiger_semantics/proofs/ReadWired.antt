@@ -1,6 +1,7 @@
 -- The net of a circuit in which all variables that are used are defined, and no line is on a loop: its pins and outputs are signals, and its
 -- tables are acyclic.
-use Rattle.std.proofs.Common.{◌≡◌, ℕ, zero, suc, ◌+◌, ◌-◌, ◌/◌, ◌<◌, ◌≤◌, Bool, true, false, cond, not, ◌||◌, ◌==◌, ltb, List, [], ◌∷◌, ◌++◌, map, flat_map, filter, find, length, get_or, All, Option, Some, None, refl, ap, sym, subst, ◌∙◌, inl, inr, arith}
+use Rattle.std.proofs.Common.{◌≡◌, ℕ, zero, suc, ◌+◌, ◌-◌, ◌/◌, ◌<◌, ◌≤◌, Bool, true, false, cond, not, ◌||◌, ◌==◌, ltb, List, [], ◌∷◌, ◌++◌, map, flat_map, filter, find, length, get_or, All, Option}
+use Rattle.std.proofs.Common.{Some, None, refl, ap, sym, subst, ◌∙◌, inl, inr, arith}
 use Rattle.std.specs.List.{AllByRecursion, list_any, position, position_or_len}
 use Rattle.std.proofs.lemmas.Bool.{not-false, cases_lt, lt-ltb, both_ways, ltb-true, false_from_ne_true, eqb-false, eq-eqb, ne_eqb}
 use Rattle.std.proofs.lemmas.List.{length-append, length-map, get_or_append_left, get_or-append-add, get_or-map}
@@ -19,7 +20,8 @@ use Rattle.semantics.proofs.Ordered.{acyclic_from_steps}
 use Rattle.semantics.proofs.Grounding.{IsGroundedIn-table}
 use Rattle.aiger_semantics.specs.declared.and_line.AndLine.{AndLine}
 use Rattle.aiger_semantics.specs.Circuit.{CircuitValue, literal_of_variable}
-use Rattle.aiger_semantics.specs.ReadNet.{variables, place_or_end, signal_of_variable, literal_mark, asked, conjunction_table, and_name, and_table, Port, is_port, ports, input_ports, output_ports, has_port, new_ports, own_outputs, output_table, port_signal, net_of}
+use Rattle.aiger_semantics.specs.ReadNet.{variables, place_or_end, signal_of_variable, literal_mark, asked, conjunction_table, and_name, and_table, Port, is_port, ports, input_ports, output_ports}
+use Rattle.aiger_semantics.specs.ReadNet.{has_port, new_ports, own_outputs, output_table, port_signal, net_of}
 use Rattle.aiger_semantics.specs.Reading.{has_variable, operands, variables_used, first_undefined, operand_table, operand_tables}
 use Rattle.aiger_semantics.proofs.Each.{each-append, each-left, each-right}
 
@@ -269,8 +271,12 @@ module _ (c : CircuitValue) (same : length c.input_names ≡ length c.inputs) (n
             let within : s - n < length c.ands = omega (arith, h.0, ops-count, high) in
             let a : AndLine = get_or c.ands (s - n) no_line in
             let pins : AllByRecursion (IsGroundedIn n tables k) (operand_table D a).pins =
-            each_weaker (IsGroundedIn n ops k) (IsGroundedIn n tables k) (operand_table D a).pins (lines-grounded k) (subst (λ (t : TableValue). AllByRecursion (IsGroundedIn n ops k) t.pins) (op_at (s - n) within) h.1) in
-            inr (omega (arith, within, tables-count, high), subst (λ (t : TableValue). AllByRecursion (IsGroundedIn n tables k) t.pins) (sym (line_at (s - n) within)) (line-reads D (IsGroundedIn n tables k) a pins))
+            each_weaker (IsGroundedIn n ops k) (IsGroundedIn n tables k) (operand_table D a).pins (lines-grounded k)
+            (subst (λ (t : TableValue). AllByRecursion (IsGroundedIn n ops k) t.pins) (op_at (s - n) within) h.1) in
+            inr (
+              omega (arith, within, tables-count, high),
+              subst (λ (t : TableValue). AllByRecursion (IsGroundedIn n tables k) t.pins) (sym (line_at (s - n) within)) (line-reads D (IsGroundedIn n tables k) a pins),
+            )
       ]
 
   module _ (no_loop : first_ungrounded (length c.inputs) (operand_tables c) ≡ None) where

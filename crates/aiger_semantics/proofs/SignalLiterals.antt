@@ -7,7 +7,8 @@ use Rattle.semantics.specs.Net.{TableValue, table_at, IsGroundedIn, IsAcyclic}
 use Rattle.semantics.proofs.Members.{each_weaker}
 use Rattle.semantics.proofs.Values.{IsGroundedIn-signal}
 use Rattle.aiger_semantics.specs.Circuit.{negated}
-use Rattle.aiger_semantics.specs.NetCircuit.{Literals, joined, marked, row_inputs, row_ands, rows_ands, rows_joined, disjunction, table_literal, first_variable, input_literal, after_rounds, signal_literal}
+use Rattle.aiger_semantics.specs.NetCircuit.{Literals, joined, marked, row_inputs, row_ands, rows_ands, rows_joined, disjunction, table_literal, first_variable, input_literal, after_rounds}
+use Rattle.aiger_semantics.specs.NetCircuit.{signal_literal}
 use Rattle.aiger_semantics.specs.Laws.{AreLiterals}
 
 -- a table's literal is made of those of its pins alone

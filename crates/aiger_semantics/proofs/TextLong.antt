@@ -1,5 +1,6 @@
 -- Exactly the texts beyond the limit are refused for their length.
-use Rattle.std.proofs.Common.{◌≡◌, ◌↔◌, ℕ, zero, suc, ◌+◌, ◌<◌, Bool, true, false, cond, not, ◌==◌, leb, List, [], ◌∷◌, length, drop, Option, Some, None, Result, Ok, Err, refl, ap, sym, ◌∙◌, true≢false, inl, inr, arith}
+use Rattle.std.proofs.Common.{◌≡◌, ◌↔◌, ℕ, zero, suc, ◌+◌, ◌<◌, Bool, true, false, cond, not, ◌==◌, leb, List, [], ◌∷◌, length, drop, Option, Some, None, Result, Ok, Err, refl, ap, sym, ◌∙◌}
+use Rattle.std.proofs.Common.{true≢false, inl, inr, arith}
 use Rattle.std.proofs.lemmas.Bool.{leb-true, false_from_ne_true, le-leb, cases_lt}
 use Rattle.semantics.specs.Texts.{Bytes}
 use Rattle.semantics.specs.Net.{NetValue, signal_names}
@@ -7,7 +8,9 @@ use Rattle.semantics.specs.Refusals.{first_doubled, first_limit}
 use Rattle.aiger_semantics.specs.declared.header.Header.{Header}
 use Rattle.aiger_semantics.specs.Circuit.{CircuitValue}
 use Rattle.aiger_semantics.specs.TextLines.{text_lines}
-use Rattle.aiger_semantics.specs.CircuitLines.{Refusal, text_long, has_latches, wrong_line, wrong_symbol, twice, undefined, no_output, loop, doubled, limit, and_then, header_of, put_before, all_read, Symbol, symbol_of, is_new, symbols_after, body_reading, with_header, circuit_reading, greatest_literal, input_of, output_of, and_of, before_comment, symbols_line}
+use Rattle.aiger_semantics.specs.CircuitLines.{Refusal, text_long, has_latches, wrong_line, wrong_symbol, twice, undefined, no_output, loop, doubled, limit, and_then, header_of, put_before, all_read}
+use Rattle.aiger_semantics.specs.CircuitLines.{Symbol, symbol_of, is_new, symbols_after, body_reading, with_header, circuit_reading, greatest_literal, input_of, output_of, and_of, before_comment}
+use Rattle.aiger_semantics.specs.CircuitLines.{symbols_line}
 use Rattle.aiger_semantics.specs.ReadNet.{variables, net_of}
 use Rattle.aiger_semantics.specs.Reading.{first_repeated, first_undefined, first_loop, unless_refused, sized, named, grounded, with_output, defined, net_reading, aiger_reading}
 
@@ -48,15 +51,18 @@ symbols-step (Some s) number so_far rest h = at_test (is_new so_far s)
 
 symbols-other : (h : Header) (number : ℕ) (so_far : List Symbol) (lines : List Bytes) → IsOther (symbols_after h number so_far lines)
 symbols-other h number so_far [] = tt
-symbols-other h number so_far (line ∷ lines) = symbols-step (symbol_of h line) number so_far (λ s. symbols_after h (number + 1) (s ∷ so_far) lines) (λ s. symbols-other h (number + 1) (s ∷ so_far) lines)
+symbols-other h number so_far (line ∷ lines) = symbols-step (symbol_of h line) number so_far (λ s. symbols_after h (number + 1) (s ∷ so_far) lines)
+    (λ s. symbols-other h (number + 1) (s ∷ so_far) lines)
 
 body-other : (h : Header) (lines : List Bytes) → IsOther (body_reading h lines)
 body-other h lines =
     let most = greatest_literal h in
     other-then (all_read (input_of most) 2 h.inputs lines) _ (all-other (input_of most) 2 h.inputs lines)
     (λ inputs. other-then (all_read (output_of most) (2 + h.inputs) h.outputs (drop h.inputs lines)) _ (all-other (output_of most) (2 + h.inputs) h.outputs (drop h.inputs lines))
-    (λ outputs. other-then (all_read (and_of most) (2 + h.inputs + h.outputs) h.ands (drop (h.inputs + h.outputs) lines)) _ (all-other (and_of most) (2 + h.inputs + h.outputs) h.ands (drop (h.inputs + h.outputs) lines))
-    (λ ands. other-then (symbols_after h (symbols_line h) [] (before_comment (drop (h.inputs + h.outputs + h.ands) lines))) _ (symbols-other h (symbols_line h) [] (before_comment (drop (h.inputs + h.outputs + h.ands) lines))) (λ symbols. tt))))
+    (λ outputs. other-then (all_read (and_of most) (2 + h.inputs + h.outputs) h.ands (drop (h.inputs + h.outputs) lines)) _
+    (all-other (and_of most) (2 + h.inputs + h.outputs) h.ands (drop (h.inputs + h.outputs) lines))
+    (λ ands. other-then (symbols_after h (symbols_line h) [] (before_comment (drop (h.inputs + h.outputs + h.ands) lines))) _
+    (symbols-other h (symbols_line h) [] (before_comment (drop (h.inputs + h.outputs + h.ands) lines))) (λ symbols. tt))))
 
 header-other : (o : Option Header) (lines : List Bytes) → IsOther (with_header o lines)
 header-other None lines = refl
@@ -96,11 +102,15 @@ not-long (Err refusal) h e = true≢false (sym (ap err-of e) ∙ h)
 
 pub long : (text : Bytes) (most : ℕ) → (aiger_reading text most ≡ Err text_long) ↔ (most < length text)
 unfolding aiger_reading
-long text most = (at_test (leb (length text) most) refl, (λ past. ap (λ t. cond (not t) (Err text_long) rest) (false_from_ne_true (leb (length text) most) (λ t. let low = leb-true (length text) most t in omega (arith, low, past)))))
+long text most = (
+  at_test (leb (length text) most) refl,
+  (λ past. ap (λ t. cond (not t) (Err text_long) rest) (false_from_ne_true (leb (length text) most) (λ t. let low = leb-true (length text) most t in omega (arith, low, past)))),
+)
   where
     rest : Result NetValue Refusal
     rest = and_then (circuit_reading (text_lines text)) net_reading
 
     at_test : (t : Bool) → leb (length text) most ≡ t → cond (not t) (Err text_long) (and_then (circuit_reading (text_lines text)) net_reading) ≡ Err text_long → most < length text
-    at_test true is e = absurd (not-long (and_then (circuit_reading (text_lines text)) net_reading) (other-then (circuit_reading (text_lines text)) net_reading (circuit-other (text_lines text)) net-other) e)
+    at_test true is e = absurd (not-long (and_then (circuit_reading (text_lines text)) net_reading)
+        (other-then (circuit_reading (text_lines text)) net_reading (circuit-other (text_lines text)) net-other) e)
     at_test false is e = elim (cases_lt most (length text)) [ inl low ↦ low | inr past ↦ absurd (true≢false (sym (le-leb (length text) most past) ∙ is)) ]

@@ -1,5 +1,6 @@
 -- The text of a circuit is read back, where the circuit is one that a text can have.
-use Rattle.std.proofs.Common.{◌≡◌, ℕ, zero, suc, ◌+◌, ◌*◌, ◌/◌, ◌%◌, ◌<◌, ◌≤◌, true, false, cond, ◌==◌, leb, List, [], ◌∷◌, ◌++◌, map, length, drop, decimal, All, codes, Some, None, Result, Ok, refl, ap, sym, subst, ◌∙◌, append-nil, arith}
+use Rattle.std.proofs.Common.{◌≡◌, ℕ, zero, suc, ◌+◌, ◌*◌, ◌/◌, ◌%◌, ◌<◌, ◌≤◌, true, false, cond, ◌==◌, leb, List, [], ◌∷◌, ◌++◌, map, length, drop, decimal, All, codes, Some, None, Result, Ok, refl}
+use Rattle.std.proofs.Common.{ap, sym, subst, ◌∙◌, append-nil, arith}
 use Rattle.std.specs.List.{AllByRecursion, range_with_len, join_with_byte}
 use Rattle.std.proofs.lemmas.Bool.{eq-eqb, and_from, le-leb, le-ltb}
 use Rattle.std.proofs.lemmas.Fmt.{decimal_digit}
@@ -15,7 +16,9 @@ use Rattle.aiger_semantics.specs.declared.header.Header.{Header}
 use Rattle.aiger_semantics.specs.Circuit.{CircuitValue, literal_of_variable}
 use Rattle.aiger_semantics.specs.Text.{header_line, number_line, input_line, and_line, symbol_line, symbol_lines, aiger_lines, aiger_text}
 use Rattle.aiger_semantics.specs.TextLines.{text_lines}
-use Rattle.aiger_semantics.specs.CircuitLines.{Refusal, and_then, most_in_header, header_numbers, header_words, header_of, greatest_literal, is_definable, input_numbers, input_of, output_numbers, output_of, and_numbers, and_of, all_read, Symbol, symbols_after, before_comment, begins_comment, names_at, symbols_line, body_reading, with_header, circuit_reading}
+use Rattle.aiger_semantics.specs.CircuitLines.{Refusal, and_then, most_in_header, header_numbers, header_words, header_of, greatest_literal, is_definable, input_numbers, input_of, output_numbers}
+use Rattle.aiger_semantics.specs.CircuitLines.{output_of, and_numbers, and_of, all_read, Symbol, symbols_after, before_comment, begins_comment, names_at, symbols_line, body_reading, with_header}
+use Rattle.aiger_semantics.specs.CircuitLines.{circuit_reading}
 use Rattle.aiger_semantics.proofs.Each.{each-append}
 use Rattle.aiger_semantics.proofs.WrittenNumbers.{IsLow, word_from_name, text_lines-written, pieces-written, all_numbers-written, number_line-formed, line_numbers-written, all_read-written}
 use Rattle.aiger_semantics.proofs.WrittenSymbols.{symbol_bytes, symbol-formed, name_before, letter-lines, names-read, before_comment-none}
@@ -190,7 +193,8 @@ module _ (c : CircuitValue) (h : IsTextual c) where
   lines-formed =
       let symbols = each-append IsLine (symbol_lines 105 c.input_names) (symbol_lines 111 c.output_names) input_symbols-formed output_symbols-formed in
       let ands = each-append IsLine (map and_line c.ands) (symbol_lines 105 c.input_names ++ symbol_lines 111 c.output_names) (each-map IsLine and_line c.ands ands-formed) symbols in
-      let outputs = each-append IsLine (map number_line c.outputs) (map and_line c.ands ++ (symbol_lines 105 c.input_names ++ symbol_lines 111 c.output_names)) (each-map IsLine number_line c.outputs outputs-formed) ands in (
+      let outputs = each-append IsLine (map number_line c.outputs) (map and_line c.ands ++ (symbol_lines 105 c.input_names ++ symbol_lines 111 c.output_names))
+      (each-map IsLine number_line c.outputs outputs-formed) ands in (
         header-formed,
         each-append IsLine (map input_line c.inputs) (map number_line c.outputs ++ (map and_line c.ands ++ (symbol_lines 105 c.input_names ++ symbol_lines 111 c.output_names)))
             (each-map IsLine input_line c.inputs inputs-formed) outputs,

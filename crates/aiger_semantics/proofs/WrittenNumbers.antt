@@ -1,5 +1,6 @@
 -- Lines of numbers that are written, read as the same numbers.
-use Rattle.std.proofs.Common.{◌≡◌, ℕ, suc, ◌+◌, ◌-◌, ◌^◌, ◌<◌, ◌≤◌, true, false, cond, ◌&&◌, ◌==◌, leb, List, [], ◌∷◌, ◌++◌, map, length, take, get_or, decimal, All, Option, Some, None, Ok, Err, refl, ap, ◌∙◌, arith}
+use Rattle.std.proofs.Common.{◌≡◌, ℕ, suc, ◌+◌, ◌-◌, ◌^◌, ◌<◌, ◌≤◌, true, false, cond, ◌&&◌, ◌==◌, leb, List, [], ◌∷◌, ◌++◌, map, length, take, get_or, decimal, All, Option, Some, None, Ok, Err}
+use Rattle.std.proofs.Common.{refl, ap, ◌∙◌, arith}
 use Rattle.std.specs.List.{AllByRecursion, join_with_byte}
 use Rattle.std.specs.Option.{option_map}
 use Rattle.std.proofs.lemmas.Bool.{ne_eqb, and_from, le-leb}
@@ -112,7 +113,8 @@ line_numbers-written most ns some h = ap (all_numbers most) (pieces-written (map
 
 -- ---- sections
 
-put_before-ok : {X : Type 0} (read : Bytes → Option X) (line : Bytes) (x : X) (xs : List X) (number count : ℕ) (lines : List Bytes) → read line ≡ Some x → all_read read (number + 1) count lines ≡ Ok xs
+put_before-ok : {X : Type 0} (read : Bytes → Option X) (line : Bytes) (x : X) (xs : List X) (number count : ℕ) (lines : List Bytes) → read line ≡ Some x
+    → all_read read (number + 1) count lines ≡ Ok xs
     → all_read read number (suc count) (line ∷ lines) ≡ Ok (x ∷ xs)
 put_before-ok read line x xs number count lines is rest =
     ap (λ found. elim found [ None ↦ Err (wrong_line number) | Some y ↦ put_before y (all_read read (number + 1) count lines) ]) is

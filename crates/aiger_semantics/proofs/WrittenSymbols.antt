@@ -1,5 +1,6 @@
 -- Lines of symbols that are written, read as the same names.
-use Rattle.std.proofs.Common.{◌≡◌, ℕ, zero, suc, ◌+◌, ◌-◌, ◌^◌, ◌<◌, ◌≤◌, true, false, cond, ◌&&◌, ◌==◌, ltb, List, [], ◌∷◌, ◌++◌, map, length, take, drop, get_or, decimal, All, Some, None, Err, inl, inr, refl, ap, sym, subst, ◌∙◌, arith}
+use Rattle.std.proofs.Common.{◌≡◌, ℕ, zero, suc, ◌+◌, ◌-◌, ◌^◌, ◌<◌, ◌≤◌, true, false, cond, ◌&&◌, ◌==◌, ltb, List, [], ◌∷◌, ◌++◌, map, length, take, drop, get_or, decimal, All, Some, None, Err, inl}
+use Rattle.std.proofs.Common.{inr, refl, ap, sym, subst, ◌∙◌, arith}
 use Rattle.std.specs.List.{range_with_len, join_with_byte, position, position_or_len}
 use Rattle.std.proofs.lemmas.Bool.{cases_lt, cases_eq, ne_eqb, eq-eqb, lt-ltb, le-ltb}
 use Rattle.std.proofs.lemmas.List.{length-append, get_or_append_left}
@@ -15,7 +16,8 @@ use Rattle.blif_semantics.proofs.WordLines.{IsWord, IsLine}
 use Rattle.aiger_semantics.specs.declared.header.Header.{Header}
 use Rattle.aiger_semantics.specs.Text.{symbol_line}
 use Rattle.aiger_semantics.specs.TextLines.{number_to}
-use Rattle.aiger_semantics.specs.CircuitLines.{wrong_symbol, most_in_header, Symbol, places, symbol_at, symbol_of, symbol_text, is_new, symbols_after, begins_comment, before_comment, name_at, names_at}
+use Rattle.aiger_semantics.specs.CircuitLines.{wrong_symbol, most_in_header, Symbol, places, symbol_at, symbol_of, symbol_text, is_new, symbols_after, begins_comment, before_comment, name_at}
+use Rattle.aiger_semantics.specs.CircuitLines.{names_at}
 use Rattle.aiger_semantics.proofs.WrittenNumbers.{number_to-written, number_word, word_from_name}
 
 -- the bytes of a symbol's line

@@ -1,12 +1,14 @@
 -- AND circuits and their values. Source: AIGER: a literal is twice its variable, and the opposite literal is
 -- one more.
-use Rattle.std.specs.Prelude.{◌≡◌, ◌==◌, ℕ, ◌+◌, ◌-◌, ◌*◌, ◌/◌, ◌%◌, ◌<◌, Bool, false, not, ◌&&◌, if◌then◌else◌, List, map, length, slice_index_or}
+use Rattle.std.specs.Prelude.{◌≡◌, ◌==◌, ℕ, ◌+◌, ◌-◌, ◌*◌, ◌/◌, ◌%◌, ◌<◌, Bool, false, not, ◌&&◌}
+use Rattle.std.specs.Prelude.{if◌then◌else◌, List, map, length, slice_index_or}
 use Rattle.std.specs.List.{AllByRecursion}
 use Rattle.semantics.specs.Texts.{Bytes}
 use Rattle.semantics.specs.Value.{Assignment}
 use Rattle.aiger_semantics.specs.declared.and_line.AndLine.{AndLine}
 
--- the variables of the inputs, the AND lines and the literals of the outputs, and the names of the inputs and of the outputs
+-- the variables of the inputs, the AND lines and the literals of the outputs, and the names of the inputs and
+-- of the outputs
 pub record CircuitValue : Type 0 where
   pub inputs : List ℕ
   pub ands : List AndLine

@@ -1,6 +1,8 @@
--- From the lines of a text to an AND circuit, or the first refusal of a line. Source: the ASCII form of AIGER; what is refused, and in which
--- order, is this tool's own.
-use Rattle.std.specs.Prelude.{ℕ, zero, suc, ◌+◌, ◌-◌, ◌*◌, ◌/◌, ◌%◌, ◌^◌, ◌==◌, nat_lt, nat_le, Bool, false, ◌&&◌, List, [], ◌∷◌, map, length, take, drop, codes, decimal, bytes_eq, position, Option, Some, None, Result, Ok, Err, if◌then◌else◌}
+-- From the lines of a text to an AND circuit, or the first refusal of a line. Source: the ASCII form of
+-- AIGER; what is refused, and in which order, is this tool's own.
+use Rattle.std.specs.Prelude.{ℕ, zero, suc, ◌+◌, ◌-◌, ◌*◌, ◌/◌, ◌%◌, ◌^◌, ◌==◌, nat_lt, nat_le, Bool, false}
+use Rattle.std.specs.Prelude.{◌&&◌, List, [], ◌∷◌, map, length, take, drop, codes, decimal, bytes_eq}
+use Rattle.std.specs.Prelude.{position, Option, Some, None, Result, Ok, Err, if◌then◌else◌}
 use Rattle.std.specs.List.{range_with_len}
 use Rattle.semantics.specs.declared.which.Which.{Which}
 use Rattle.semantics.specs.Texts.{Bytes}
@@ -42,7 +44,8 @@ header_numbers _ = None
 
 abbrev pub header_words : List Bytes → Option Header
 header_words [] = None
-header_words (word ∷ words) = if bytes_eq word (codes "aag") then header_numbers (all_numbers most_in_header words) else None
+header_words (word ∷ words)
+    = if bytes_eq word (codes "aag") then header_numbers (all_numbers most_in_header words) else None
 
 abbrev pub header_of : Bytes → Option Header
 header_of line = header_words (pieces line)
@@ -75,7 +78,8 @@ output_of most line = output_numbers (line_numbers most line)
 
 abbrev pub and_numbers : Option (List ℕ) → Option AndLine
 and_numbers (Some (literal ∷ left ∷ right ∷ [])) =
-    if is_definable literal then Some (record { variable = literal / 2; left = left; right = right }) else None
+    if is_definable literal then Some (record { variable = literal / 2; left = left; right = right })
+    else None
 and_numbers _ = None
 
 abbrev pub and_of : ℕ → Bytes → Option AndLine
@@ -87,11 +91,16 @@ put_before x (Ok xs) = Ok (x ∷ xs)
 
 -- what the first `count` of the lines say, where the first of them has the number `number`; or the first of
 -- them that is missing or lacks its form
-abbrev pub all_read : {X : Type 0} → (Bytes → Option X) → (number count : ℕ) → List Bytes → Result (List X) Refusal
+abbrev pub all_read : {X : Type 0} → (Bytes → Option X) → (number count : ℕ) → List Bytes
+    → Result (List X) Refusal
 all_read read number zero lines = Ok []
 all_read read number (suc count) [] = Err (wrong_line number)
 all_read read number (suc count) (line ∷ lines) =
-    elim (read line) [ None ↦ Err (wrong_line number) | Some x ↦ put_before x (all_read read (number + 1) count lines) ]
+    elim (read line) [
+      | None ↦ Err (wrong_line number)
+      | Some x ↦ put_before x
+          (all_read read (number + 1) count lines)
+    ]
 
 -- ---- symbols
 
@@ -111,19 +120,22 @@ symbol_at letter count word text =
     if length text == 0 then None
     else elim (number_to most_in_header word) [
       | None ↦ None
-      | Some place ↦ if nat_lt place count then Some (record { letter = letter; place = place; text = text }) else None
+      | Some place ↦ if nat_lt place count then Some (record { letter = letter; place = place; text = text })
+          else None
     ]
 
 -- a letter and a place, and behind the first blank a text
 abbrev pub symbol_of : Header → Bytes → Option Symbol
 symbol_of h [] = None
 symbol_of h (letter ∷ rest) =
-    elim (position (λ b. b == 32) rest) [ None ↦ None | Some at ↦ symbol_at letter (places h letter) (take at rest) (drop (at + 1) rest) ]
+    elim (position (λ b. b == 32) rest)
+    [ None ↦ None | Some at ↦ symbol_at letter (places h letter) (take at rest) (drop (at + 1) rest) ]
 
 -- the text that symbols give to a place, and no bytes where they give none
 abbrev pub symbol_text : List Symbol → ℕ → ℕ → Bytes
 symbol_text [] letter place = []
-symbol_text (s ∷ symbols) letter place = if s.letter == letter && s.place == place then s.text else symbol_text symbols letter place
+symbol_text (s ∷ symbols) letter place
+    = if s.letter == letter && s.place == place then s.text else symbol_text symbols letter place
 
 -- whether none of the symbols stands at the place of this one
 abbrev pub is_new : List Symbol → Symbol → Bool
@@ -136,7 +148,8 @@ symbols_after h number so_far [] = Ok so_far
 symbols_after h number so_far (line ∷ lines) =
     elim (symbol_of h line) [
       | None ↦ Err (wrong_symbol number)
-      | Some s ↦ if is_new so_far s then symbols_after h (number + 1) (s ∷ so_far) lines else Err (wrong_symbol number)
+      | Some s ↦ if is_new so_far s then symbols_after h (number + 1) (s ∷ so_far) lines
+          else Err (wrong_symbol number)
     ]
 
 abbrev pub begins_comment : Bytes → Bool
@@ -168,8 +181,10 @@ body_reading h lines =
     let most = greatest_literal h in
     and_then (all_read (input_of most) 2 h.inputs lines) (λ inputs.
     and_then (all_read (output_of most) (2 + h.inputs) h.outputs (drop h.inputs lines)) (λ outputs.
-    and_then (all_read (and_of most) (2 + h.inputs + h.outputs) h.ands (drop (h.inputs + h.outputs) lines)) (λ ands.
-    and_then (symbols_after h (symbols_line h) [] (before_comment (drop (h.inputs + h.outputs + h.ands) lines))) (λ symbols.
+    and_then (all_read (and_of most) (2 + h.inputs + h.outputs) h.ands (drop (h.inputs + h.outputs) lines))
+    (λ ands.
+    and_then (symbols_after h (symbols_line h) []
+    (before_comment (drop (h.inputs + h.outputs + h.ands) lines))) (λ symbols.
     Ok (record {
       inputs = inputs;
       ands = ands;

@@ -10,18 +10,22 @@ use Rattle.aiger_semantics.specs.TextLines.{text_lines}
 use Rattle.aiger_semantics.specs.CircuitLines.{text_long, circuit_reading}
 use Rattle.aiger_semantics.specs.ReadNet.{net_of}
 use Rattle.aiger_semantics.specs.Reading.{net_reading, aiger_reading}
-use Rattle.aiger_semantics.specs.NetCircuit.{Literals, table_literal, first_variable, input_literal, signal_literal, ands_of}
+use Rattle.aiger_semantics.specs.NetCircuit.{Literals, table_literal, first_variable, input_literal}
+use Rattle.aiger_semantics.specs.NetCircuit.{signal_literal, ands_of}
 
 -- literals that give each input the literal of its variable, and each table the literal of its rows
 pub record AreLiterals (n : ℕ) (tables : List TableValue) (literals : Literals) : Type 0 where
   pub input : (s : ℕ) → s < n → literals s ≡ input_literal s
-  pub table : (i : ℕ) → i < length tables → literals (n + i) ≡ table_literal literals (first_variable n tables i) (table_at tables i)
+  pub table : (i : ℕ) → i < length tables
+      → literals (n + i) ≡ table_literal literals (first_variable n tables i) (table_at tables i)
 
 -- The signals of a sound net have one literal each, and at every input vector the circuit of the net has the
 -- outputs of the net.
 pub record NetCircuitLaw : Type 0 where
-  pub literals : (n : ℕ) (tables : List TableValue) → IsAcyclic n tables → AreLiterals n tables (signal_literal n tables)
-  pub only : (n : ℕ) (tables : List TableValue) (literals : Literals) → IsAcyclic n tables → AreLiterals n tables literals
+  pub literals : (n : ℕ) (tables : List TableValue) → IsAcyclic n tables
+      → AreLiterals n tables (signal_literal n tables)
+  pub only : (n : ℕ) (tables : List TableValue) (literals : Literals) → IsAcyclic n tables
+      → AreLiterals n tables literals
       → (s : ℕ) → s < n + length tables → literals s ≡ signal_literal n tables s
   pub outputs : (N : NetValue) → IsSound N → (x : List Bool) → HasOutputs (ands_of N) x (outputs_of N x)
 
@@ -37,8 +41,11 @@ IsLiteralOf c literal = literal < 2 * (variable_count c + 1)
 -- circuit's literals are of these variables.
 pub record NumberedLaw : Type 0 where
   pub variables : (N : NetValue) → IsSound N
-      → (ands_of N).inputs ++ map (λ a. a.variable) (ands_of N).ands ≡ range_with_len 1 (variable_count (ands_of N))
-  pub lines : (N : NetValue) → IsSound N → AllByRecursion (λ a. IsLiteralOf (ands_of N) a.left × IsLiteralOf (ands_of N) a.right) (ands_of N).ands
+      → (ands_of N).inputs ++ map (λ a. a.variable) (ands_of N).ands
+      ≡ range_with_len 1 (variable_count (ands_of N))
+  pub lines : (N : NetValue) → IsSound N
+      → AllByRecursion (λ a. IsLiteralOf (ands_of N) a.left × IsLiteralOf (ands_of N) a.right)
+      (ands_of N).ands
   pub outputs : (N : NetValue) → IsSound N → AllByRecursion (IsLiteralOf (ands_of N)) (ands_of N).outputs
 
 -- What is read is a small sound net: the net of the circuit that the text's lines say, with the circuit's
@@ -50,7 +57,8 @@ pub record ReadingLaw : Type 0 where
   pub sound : (text : Bytes) (most : ℕ) (N : NetValue) → aiger_reading text most ≡ Ok N → IsSound N
   pub small : (text : Bytes) (most : ℕ) (N : NetValue) → aiger_reading text most ≡ Ok N → IsSmall N
   pub circuit : (text : Bytes) (most : ℕ) (N : NetValue) → aiger_reading text most ≡ Ok N
-      → (c : CircuitValue) × (circuit_reading (text_lines text) ≡ Ok c) × (net_of c ≡ N) × ((x : List Bool) → HasOutputs c x (outputs_of N x))
+      → (c : CircuitValue) × (circuit_reading (text_lines text) ≡ Ok c) × (net_of c ≡ N)
+      × ((x : List Bool) → HasOutputs c x (outputs_of N x))
 
 -- the text of the circuit of a net
 abbrev pub circuit_text : NetValue → Bytes

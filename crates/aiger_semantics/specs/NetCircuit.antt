@@ -1,10 +1,12 @@
--- The AND circuit of a net: table by table and row by row, joined from left to right, and nothing is folded. Source: AIGER; the order is
--- this tool's own.
-use Rattle.std.specs.Prelude.{ℕ, zero, suc, ◌+◌, ◌-◌, if◌then◌else◌, nat_lt, List, [], ◌∷◌, ◌++◌, map, length, take, sum_by}
+-- The AND circuit of a net: table by table and row by row, joined from left to right, and nothing is folded.
+-- Source: AIGER; the order is this tool's own.
+use Rattle.std.specs.Prelude.{ℕ, zero, suc, ◌+◌, ◌-◌, if◌then◌else◌, nat_lt, List, [], ◌∷◌, ◌++◌, map}
+use Rattle.std.specs.Prelude.{length, take, sum_by}
 use Rattle.std.specs.List.{range_with_len}
 use Rattle.semantics.specs.declared.mark.Mark.{Mark}
 use Rattle.semantics.specs.declared.mark.Mark.TheVariants.{Zero, One, Dash}
-use Rattle.semantics.specs.Net.{TableValue, NetValue, table_at, input_count, signal_names, name_of, row_literals}
+use Rattle.semantics.specs.Net.{TableValue, NetValue, table_at, input_count, signal_names, name_of}
+use Rattle.semantics.specs.Net.{row_literals}
 use Rattle.aiger_semantics.specs.declared.and_line.AndLine.{AndLine}
 use Rattle.aiger_semantics.specs.Circuit.{CircuitValue, literal_of_variable, negated}
 
@@ -12,11 +14,13 @@ use Rattle.aiger_semantics.specs.Circuit.{CircuitValue, literal_of_variable, neg
 abbrev pub Literals : Type 0
 Literals = ℕ → ℕ
 
--- Literals are joined from left to right. Each line has the next variable, and joins the literal so far and the next literal.
+-- Literals are joined from left to right. Each line has the next variable, and joins the literal so far and
+-- the next literal.
 abbrev pub joins_after : ℕ → ℕ → List ℕ → List AndLine
 joins_after next so_far [] = []
 joins_after next so_far (literal ∷ literals) =
-    record { variable = next; left = so_far; right = literal } ∷ joins_after (next + 1) (literal_of_variable next) literals
+    record { variable = next; left = so_far; right = literal }
+    ∷ joins_after (next + 1) (literal_of_variable next) literals
 
 abbrev pub joins : ℕ → List ℕ → List AndLine
 joins next [] = []
@@ -56,25 +60,29 @@ table_ands t = rows_ands t.rows + (length t.rows - 1)
 -- the lines of rows, and the literal of each row
 abbrev pub rows_joins : Literals → ℕ → List ℕ → List (List Mark) → List AndLine
 rows_joins literals next pins [] = []
-rows_joins literals next pins (marks ∷ rows) = joins next (row_inputs literals marks pins) ++ rows_joins literals (next + row_ands marks) pins rows
+rows_joins literals next pins (marks ∷ rows)
+    = joins next (row_inputs literals marks pins) ++ rows_joins literals (next + row_ands marks) pins rows
 
 abbrev pub rows_joined : Literals → ℕ → List ℕ → List (List Mark) → List ℕ
 rows_joined literals next pins [] = []
-rows_joined literals next pins (marks ∷ rows) = joined next (row_inputs literals marks pins) ∷ rows_joined literals (next + row_ands marks) pins rows
+rows_joined literals next pins (marks ∷ rows)
+    = joined next (row_inputs literals marks pins) ∷ rows_joined literals (next + row_ands marks) pins rows
 
 -- A table joins the opposites of its rows; the opposite of their conjunction is the disjunction of the rows.
 abbrev pub no_rows : Literals → ℕ → TableValue → List ℕ
 no_rows literals next t = map negated (rows_joined literals next t.pins t.rows)
 
 abbrev pub table_joins : Literals → ℕ → TableValue → List AndLine
-table_joins literals next t = rows_joins literals next t.pins t.rows ++ joins (next + rows_ands t.rows) (no_rows literals next t)
+table_joins literals next t
+    = rows_joins literals next t.pins t.rows ++ joins (next + rows_ands t.rows) (no_rows literals next t)
 
 abbrev pub disjunction : Literals → ℕ → TableValue → ℕ
 disjunction literals next t = negated (joined (next + rows_ands t.rows) (no_rows literals next t))
 
 -- the disjunction, negated for plane 0
 abbrev pub table_literal : Literals → ℕ → TableValue → ℕ
-table_literal literals next t = if t.plane then disjunction literals next t else negated (disjunction literals next t)
+table_literal literals next t
+    = if t.plane then disjunction literals next t else negated (disjunction literals next t)
 
 -- The variables 1 to n are the inputs, and then those of the AND lines follow, table by table.
 abbrev pub first_variable : ℕ → List TableValue → ℕ → ℕ
@@ -88,7 +96,9 @@ input_literal s = literal_of_variable (s + 1)
 unfoldable pub after_rounds : ℕ → List TableValue → ℕ → Literals
 after_rounds n tables zero = input_literal
 after_rounds n tables (suc rounds) = λ s.
-    if nat_lt s n then input_literal s else table_literal (after_rounds n tables rounds) (first_variable n tables (s - n)) (table_at tables (s - n))
+    if nat_lt s n then input_literal s
+    else table_literal (after_rounds n tables rounds) (first_variable n tables (s - n))
+    (table_at tables (s - n))
 
 unfoldable pub signal_literal : ℕ → List TableValue → Literals
 signal_literal n tables = after_rounds n tables (length tables)
@@ -96,7 +106,8 @@ signal_literal n tables = after_rounds n tables (length tables)
 -- the lines of tables
 abbrev pub tables_joins : Literals → ℕ → List TableValue → List AndLine
 tables_joins literals next [] = []
-tables_joins literals next (t ∷ tables) = table_joins literals next t ++ tables_joins literals (next + table_ands t) tables
+tables_joins literals next (t ∷ tables)
+    = table_joins literals next t ++ tables_joins literals (next + table_ands t) tables
 
 unfoldable pub ands_of : NetValue → CircuitValue
 ands_of N = record {

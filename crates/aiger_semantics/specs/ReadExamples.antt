@@ -9,7 +9,9 @@ use Rattle.semantics.specs.Examples.{text, half_adder}
 use Rattle.aiger_semantics.specs.NetCircuit.{ands_of}
 use Rattle.aiger_semantics.specs.Text.{aiger_text}
 use Rattle.aiger_semantics.specs.TextLines.{text_lines}
-use Rattle.aiger_semantics.specs.CircuitLines.{Refusal, text_long, no_header, has_latches, wrong_line, wrong_symbol, twice, undefined, no_output, loop, doubled, circuit_reading}
+use Rattle.aiger_semantics.specs.CircuitLines.{Refusal, text_long, no_header, has_latches, wrong_line}
+use Rattle.aiger_semantics.specs.CircuitLines.{wrong_symbol, twice, undefined, no_output, loop, doubled}
+use Rattle.aiger_semantics.specs.CircuitLines.{circuit_reading}
 use Rattle.aiger_semantics.specs.Reading.{aiger_reading}
 
 abbrev pub read : List Bytes → Result NetValue Refusal
@@ -17,7 +19,8 @@ read lines = aiger_reading (text lines) MOST_INPUT_BYTES
 
 abbrev pub half_adder_lines : List Bytes
 half_adder_lines =
-    codes "aag 6 2 0 2 4" ∷ codes "2" ∷ codes "4" ∷ codes "11" ∷ codes "12" ∷ codes "6 2 5" ∷ codes "8 3 4" ∷ codes "10 7 9" ∷ codes "12 2 4" ∷ []
+    codes "aag 6 2 0 2 4" ∷ codes "2" ∷ codes "4" ∷ codes "11" ∷ codes "12" ∷ codes "6 2 5" ∷ codes "8 3 4"
+    ∷ codes "10 7 9" ∷ codes "12 2 4" ∷ []
 
 -- a table of one row and plane 1
 abbrev pub one_row : Bytes → List ℕ → List Mark → TableValue
@@ -45,25 +48,31 @@ pub record TextLineExamples : Type 0 where
   pub one : text_lines (codes "a") ≡ codes "a" ∷ []
   pub ended : text_lines (codes "a" ++ 10 ∷ []) ≡ codes "a" ∷ []
   pub empty_line : text_lines (codes "a" ++ 10 ∷ 10 ∷ codes "b") ≡ codes "a" ∷ [] ∷ codes "b" ∷ []
-  pub returns : text_lines (codes "a" ++ 13 ∷ 10 ∷ codes "b" ++ 13 ∷ 13 ∷ 10 ∷ codes "c" ++ 13 ∷ []) ≡ codes "a" ∷ (codes "b" ++ 13 ∷ []) ∷ codes "c" ∷ []
+  pub returns : text_lines (codes "a" ++ 13 ∷ 10 ∷ codes "b" ++ 13 ∷ 13 ∷ 10 ∷ codes "c" ++ 13 ∷ [])
+      ≡ codes "a" ∷ (codes "b" ++ 13 ∷ []) ∷ codes "c" ∷ []
 
 -- What is written is read as the circuit that was written, and names without symbols are a letter and a
 -- place.
 pub record ReadExamples : Type 0 where
   pub circuit_back : circuit_reading (text_lines (aiger_text (ands_of half_adder))) ≡ Ok (ands_of half_adder)
-  pub half_adder_back : aiger_reading (aiger_text (ands_of half_adder)) MOST_INPUT_BYTES ≡ Ok (half_adder_read (codes "a") (codes "b") (codes "s") (codes "c"))
+  pub half_adder_back : aiger_reading (aiger_text (ands_of half_adder)) MOST_INPUT_BYTES
+      ≡ Ok (half_adder_read (codes "a") (codes "b") (codes "s") (codes "c"))
   pub half_adder_counts :
       (table_count (half_adder_read (codes "a") (codes "b") (codes "s") (codes "c")) ≡ 6)
       × (literal_count (half_adder_read (codes "a") (codes "b") (codes "s") (codes "c")) ≡ 10)
-  pub without_symbols : read half_adder_lines ≡ Ok (half_adder_read (codes "i0") (codes "i1") (codes "o0") (codes "o1"))
+  pub without_symbols : read half_adder_lines
+      ≡ Ok (half_adder_read (codes "i0") (codes "i1") (codes "o0") (codes "o1"))
   -- a text with a blank is no name
   pub some_symbols :
-      read (half_adder_lines ++ codes "o1 c" ∷ codes "i0 a b" ∷ codes "i1 b" ∷ codes "comment" ∷ codes "i0 i0" ∷ [])
+      read (half_adder_lines ++ codes "o1 c" ∷ codes "i0 a b" ∷ codes "i1 b" ∷ codes "comment"
+      ∷ codes "i0 i0" ∷ [])
       ≡ Ok (half_adder_read (codes "i0") (codes "b") (codes "o0") (codes "c"))
   -- constants, an input that is an output, an output twice, and lines out of order
   pub constants :
-      read (codes "aag 9 1 0 8 4" ∷ codes "2" ∷ codes "0" ∷ codes "1" ∷ codes "2" ∷ codes "2" ∷ codes "3" ∷ codes "18" ∷ codes "18" ∷ codes "10"
-      ∷ codes "8 6 1" ∷ codes "6 2 0" ∷ codes "10 1 1" ∷ codes "18 3 8" ∷ codes "i0 a" ∷ codes "o2 a" ∷ codes "o6 o5" ∷ [])
+      read (codes "aag 9 1 0 8 4" ∷ codes "2" ∷ codes "0" ∷ codes "1" ∷ codes "2" ∷ codes "2" ∷ codes "3"
+      ∷ codes "18" ∷ codes "18" ∷ codes "10"
+      ∷ codes "8 6 1" ∷ codes "6 2 0" ∷ codes "10 1 1" ∷ codes "18 3 8" ∷ codes "i0 a" ∷ codes "o2 a"
+      ∷ codes "o6 o5" ∷ [])
       ≡ Ok (record {
         model = codes "top";
         inputs = codes "a" ∷ [];
@@ -98,15 +107,22 @@ pub record LineRefusals : Type 0 where
   pub constant_defined : read (codes "aag 1 0 0 1 1" ∷ codes "2" ∷ codes "0 1 1" ∷ []) ≡ Err (wrong_line 3)
   pub no_symbol : read (half_adder_lines ++ codes "" ∷ []) ≡ Err (wrong_symbol 10)
   pub out_of_range : read (half_adder_lines ++ codes "i1 b" ∷ codes "i2 a" ∷ []) ≡ Err (wrong_symbol 11)
-  pub symbol_twice : read (half_adder_lines ++ codes "i1 b" ∷ codes "o1 b" ∷ codes "i1 c" ∷ []) ≡ Err (wrong_symbol 12)
+  pub symbol_twice : read (half_adder_lines ++ codes "i1 b" ∷ codes "o1 b" ∷ codes "i1 c" ∷ [])
+      ≡ Err (wrong_symbol 12)
   pub without_text : read (half_adder_lines ++ codes "i1 " ∷ []) ≡ Err (wrong_symbol 10)
   pub defined_twice : read (codes "aag 3 1 0 1 2" ∷ codes "4" ∷ codes "9" ∷ []) ≡ Err (wrong_line 3)
 
 -- circuits and nets that are refused
 pub record CircuitRefusals : Type 0 where
-  pub input_and_line : read (codes "aag 9 1 0 1 2" ∷ codes "4" ∷ codes "8" ∷ codes "6 8 8" ∷ codes "4 2 2" ∷ []) ≡ Err (twice 2)
-  pub operand : read (codes "aag 9 1 0 1 2" ∷ codes "4" ∷ codes "8" ∷ codes "6 4 11" ∷ codes "8 2 2" ∷ []) ≡ Err (undefined 5)
+  pub input_and_line : read (codes "aag 9 1 0 1 2" ∷ codes "4" ∷ codes "8" ∷ codes "6 8 8" ∷ codes "4 2 2"
+      ∷ []) ≡ Err (twice 2)
+  pub operand : read (codes "aag 9 1 0 1 2" ∷ codes "4" ∷ codes "8" ∷ codes "6 4 11" ∷ codes "8 2 2" ∷ [])
+      ≡ Err (undefined 5)
   pub output : read (codes "aag 9 1 0 1 0" ∷ codes "4" ∷ codes "9" ∷ []) ≡ Err (undefined 4)
-  pub itself : read (codes "aag 9 1 0 1 2" ∷ codes "4" ∷ codes "8" ∷ codes "6 8 8" ∷ codes "8 0 9" ∷ []) ≡ Err (loop 3)
-  pub named_twice : read (codes "aag 2 1 0 1 1" ∷ codes "2" ∷ codes "5" ∷ codes "4 2 2" ∷ codes "o0 i0" ∷ []) ≡ Err (doubled (codes "i0"))
-  pub named_as_a_line : read (codes "aag 2 1 0 1 1" ∷ codes "2" ∷ codes "4" ∷ codes "4 2 2" ∷ codes "o0 $a2" ∷ []) ≡ Err (doubled (codes "$a2"))
+  pub itself : read (codes "aag 9 1 0 1 2" ∷ codes "4" ∷ codes "8" ∷ codes "6 8 8" ∷ codes "8 0 9" ∷ [])
+      ≡ Err (loop 3)
+  pub named_twice : read (codes "aag 2 1 0 1 1" ∷ codes "2" ∷ codes "5" ∷ codes "4 2 2" ∷ codes "o0 i0" ∷ [])
+      ≡ Err (doubled (codes "i0"))
+  pub named_as_a_line : read
+      (codes "aag 2 1 0 1 1" ∷ codes "2" ∷ codes "4" ∷ codes "4 2 2" ∷ codes "o0 $a2" ∷ [])
+      ≡ Err (doubled (codes "$a2"))

@@ -1,6 +1,8 @@
 -- The net that an AND circuit is read as: a table for each AND line, and a table for each output that is no
 -- signal yet. Source: AIGER and BLIF; which tables they are is this tool's own.
-use Rattle.std.specs.Prelude.{ℕ, ◌+◌, ◌/◌, ◌%◌, ◌==◌, Bool, true, false, not, ◌&&◌, List, [], ◌∷◌, ◌++◌, map, length, filter, codes, decimal, bytes_eq, position, Option, Some, None, if◌then◌else◌}
+use Rattle.std.specs.Prelude.{ℕ, ◌+◌, ◌/◌, ◌%◌, ◌==◌, Bool, true, false, not, ◌&&◌, List, [], ◌∷◌, ◌++◌, map}
+use Rattle.std.specs.Prelude.{length, filter, codes, decimal, bytes_eq, position, Option, Some, None}
+use Rattle.std.specs.Prelude.{if◌then◌else◌}
 use Rattle.std.specs.List.{list_any}
 use Rattle.semantics.specs.declared.mark.Mark.{Mark}
 use Rattle.semantics.specs.declared.mark.Mark.TheVariants.{Zero, One}
@@ -28,7 +30,8 @@ literal_mark literal = if literal % 2 == 0 then One else Zero
 abbrev pub asked : List ℕ → List ℕ
 asked literals = filter (λ literal. not (literal == 1)) literals
 
--- the table that is the conjunction of literals: a canonical constant, or one row with a pin for each literal that is no constant
+-- the table that is the conjunction of literals: a canonical constant, or one row with a pin for each literal
+-- that is no constant
 abbrev pub conjunction_table : List ℕ → Bytes → List ℕ → TableValue
 conjunction_table defined name literals =
     if list_any (λ literal. literal == 0) literals then constant_table name false
@@ -71,9 +74,11 @@ has_port earlier p = list_any (is_port p) earlier
 -- the ports that stand neither in the first list nor earlier in their own
 abbrev pub new_ports : List Port → List Port → List Port
 new_ports earlier [] = []
-new_ports earlier (p ∷ ps) = if has_port earlier p then new_ports earlier ps else p ∷ new_ports (earlier ++ p ∷ []) ps
+new_ports earlier (p ∷ ps)
+    = if has_port earlier p then new_ports earlier ps else p ∷ new_ports (earlier ++ p ∷ []) ps
 
--- the outputs that have tables of their own: neither an input nor an earlier output has the name and the literal
+-- the outputs that have tables of their own: neither an input nor an earlier output has the name and the
+-- literal
 abbrev pub own_outputs : CircuitValue → List Port
 own_outputs c = new_ports (input_ports c) (output_ports c)
 

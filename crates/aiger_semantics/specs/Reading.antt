@@ -1,5 +1,8 @@
--- The reading of an ASCII AIGER text: a small sound net, or one refusal. Source: AIGER; the order of the refusals is this tool's own.
-use Rattle.std.specs.Prelude.{ℕ, ◌/◌, ◌==◌, Bool, not, ◌||◌, nat_le, true, List, [], ◌∷◌, ◌++◌, map, flat_map, length, filter, option_map, slice_index_or, Option, Some, None, Result, Ok, Err, if◌then◌else◌}
+-- The reading of an ASCII AIGER text: a small sound net, or one refusal. Source: AIGER; the order of the
+-- refusals is this tool's own.
+use Rattle.std.specs.Prelude.{ℕ, ◌/◌, ◌==◌, Bool, not, ◌||◌, nat_le, true, List, [], ◌∷◌, ◌++◌, map}
+use Rattle.std.specs.Prelude.{flat_map, length, filter, option_map, slice_index_or, Option, Some, None}
+use Rattle.std.specs.Prelude.{Result, Ok, Err, if◌then◌else◌}
 use Rattle.std.specs.List.{find, list_any}
 use Rattle.semantics.specs.Texts.{Bytes}
 use Rattle.semantics.specs.Net.{TableValue, NetValue, signal_names}
@@ -7,7 +10,8 @@ use Rattle.semantics.specs.Refusals.{first_doubled, first_ungrounded, first_limi
 use Rattle.aiger_semantics.specs.declared.and_line.AndLine.{AndLine}
 use Rattle.aiger_semantics.specs.Circuit.{CircuitValue}
 use Rattle.aiger_semantics.specs.TextLines.{text_lines}
-use Rattle.aiger_semantics.specs.CircuitLines.{Refusal, text_long, twice, undefined, no_output, loop, doubled, limit, and_then, circuit_reading}
+use Rattle.aiger_semantics.specs.CircuitLines.{Refusal, text_long, twice, undefined, no_output, loop}
+use Rattle.aiger_semantics.specs.CircuitLines.{doubled, limit, and_then, circuit_reading}
 use Rattle.aiger_semantics.specs.ReadNet.{variables, signal_of_variable, net_of}
 
 abbrev pub has_variable : List ℕ → ℕ → Bool
@@ -15,7 +19,8 @@ has_variable defined variable = list_any (λ v. v == variable) defined
 
 abbrev pub first_repeated_after : List ℕ → List ℕ → Option ℕ
 first_repeated_after earlier [] = None
-first_repeated_after earlier (v ∷ vs) = if has_variable earlier v then Some v else first_repeated_after (earlier ++ v ∷ []) vs
+first_repeated_after earlier (v ∷ vs)
+    = if has_variable earlier v then Some v else first_repeated_after (earlier ++ v ∷ []) vs
 
 -- the first variable that stands a second time
 abbrev pub first_repeated : List ℕ → Option ℕ
@@ -47,10 +52,12 @@ operand_tables c = map (operand_table (variables c)) c.ands
 
 -- the variable of the first line that is not grounded
 abbrev pub first_loop : CircuitValue → Option ℕ
-first_loop c = option_map (λ i. slice_index_or (map (λ a. a.variable) c.ands) i 0) (first_ungrounded (length c.inputs) (operand_tables c))
+first_loop c = option_map (λ i. slice_index_or (map (λ a. a.variable) c.ands) i 0)
+    (first_ungrounded (length c.inputs) (operand_tables c))
 
 -- the refusal where there is one, else what the rest says
-abbrev pub unless_refused : {X : Type 0} → Option X → (X → Refusal) → Result NetValue Refusal → Result NetValue Refusal
+abbrev pub unless_refused : {X : Type 0} → Option X → (X → Refusal) → Result NetValue Refusal
+    → Result NetValue Refusal
 unless_refused None refuse rest = rest
 unless_refused (Some x) refuse rest = Err (refuse x)
 
@@ -75,4 +82,5 @@ net_reading c = unless_refused (first_repeated (variables c)) twice (defined c)
 
 -- the net of a text of at most `most` bytes, or the refusal of the text
 unfoldable pub aiger_reading : Bytes → ℕ → Result NetValue Refusal
-aiger_reading text most = if not (nat_le (length text) most) then Err text_long else and_then (circuit_reading (text_lines text)) net_reading
+aiger_reading text most = if not (nat_le (length text) most) then Err text_long
+    else and_then (circuit_reading (text_lines text)) net_reading

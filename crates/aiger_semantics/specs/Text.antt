@@ -1,4 +1,5 @@
--- The text of an AND circuit. Source: the ASCII form of AIGER, with no latch and a symbol for each input and output.
+-- The text of an AND circuit. Source: the ASCII form of AIGER, with no latch and a symbol for each input and
+-- output.
 use Rattle.std.specs.Prelude.{ℕ, ◌+◌, List, [], ◌∷◌, ◌++◌, map, length, decimal, codes}
 use Rattle.std.specs.List.{range_with_len}
 use Rattle.semantics.specs.Texts.{Bytes, Line, text_of}
@@ -9,7 +10,8 @@ use Rattle.aiger_semantics.specs.Circuit.{CircuitValue, literal_of_variable}
 -- the greatest variable, and the numbers of inputs, latches, outputs and AND lines
 abbrev pub header_line : CircuitValue → Line
 header_line c =
-    codes "aag" ∷ decimal (length c.inputs + length c.ands) ∷ decimal (length c.inputs) ∷ codes "0" ∷ decimal (length c.outputs)
+    codes "aag" ∷ decimal (length c.inputs + length c.ands) ∷ decimal (length c.inputs) ∷ codes "0"
+    ∷ decimal (length c.outputs)
     ∷ decimal (length c.ands) ∷ []
 
 abbrev pub number_line : ℕ → Line
@@ -33,7 +35,8 @@ abbrev pub aiger_lines : CircuitValue → List Line
 aiger_lines c =
     header_line c
     ∷ (map input_line c.inputs
-    ++ (map number_line c.outputs ++ (map and_line c.ands ++ (symbol_lines 105 c.input_names ++ symbol_lines 111 c.output_names))))
+    ++ (map number_line c.outputs
+    ++ (map and_line c.ands ++ (symbol_lines 105 c.input_names ++ symbol_lines 111 c.output_names))))
 
 unfoldable pub aiger_text : CircuitValue → Bytes
 aiger_text c = text_of (aiger_lines c)

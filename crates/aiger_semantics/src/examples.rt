@@ -1,6 +1,7 @@
 //! Worked examples of circuits, computed by the checker: each function's contract is its examples.
 ghost use Rattle.aiger_semantics.specs.Examples.{LiteralExamples, CircuitExamples, TextExamples};
-ghost use Rattle.aiger_semantics.specs.ReadExamples.{TextLineExamples, ReadExamples, LineRefusals, CircuitRefusals};
+ghost use Rattle.aiger_semantics.specs.ReadExamples.{TextLineExamples, ReadExamples, LineRefusals};
+ghost use Rattle.aiger_semantics.specs.ReadExamples.{CircuitRefusals};
 
 /// Values of literals.
 pub fn literals()

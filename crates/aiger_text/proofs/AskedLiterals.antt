@@ -30,7 +30,8 @@ filter-more f p xs i low =
     ∙ ap (map f) (sym (filter-append p (take i xs) (get_or xs i 0 ∷ [])) ∙ ap (filter p) (sym (take_more xs i 0 low)))
 
 -- the marks are as many as the pins
-pub same-width : (D literals pins : List ℕ) (marks : List Mark) → pins ≡ map (λ l. signal_of_variable D (l / 2)) (asked literals) → marks ≡ map literal_mark (asked literals) → length marks ≡ length pins
+pub same-width : (D literals pins : List ℕ) (marks : List Mark) → pins ≡ map (λ l. signal_of_variable D (l / 2)) (asked literals) → marks ≡ map literal_mark (asked literals)
+    → length marks ≡ length pins
 same-width D literals pins marks read asks =
     ap length asks ∙ length-map (asked literals) literal_mark ∙ sym (length-map (asked literals) (λ l. signal_of_variable D (l / 2))) ∙ ap length (sym read)
 
@@ -39,7 +40,8 @@ conjunction-constant D name literals e =
     sym (ap (λ t. cond t (constant_table name false)
     (record { name = name; pins = map (λ l. signal_of_variable D (l / 2)) (asked literals); rows = map literal_mark (asked literals) ∷ []; plane = true })) e)
 
-pub conjunction-row : (D : List ℕ) (name : Bytes) (literals pins : List ℕ) (marks : List Mark) → list_any (λ l. l == 0) literals ≡ false → pins ≡ map (λ l. signal_of_variable D (l / 2)) (asked literals) → marks ≡ map literal_mark (asked literals)
+pub conjunction-row : (D : List ℕ) (name : Bytes) (literals pins : List ℕ) (marks : List Mark) → list_any (λ l. l == 0) literals ≡ false
+    → pins ≡ map (λ l. signal_of_variable D (l / 2)) (asked literals) → marks ≡ map literal_mark (asked literals)
     → record { name = name; pins = pins; rows = marks ∷ []; plane = true } ≡ conjunction_table D name literals
 conjunction-row D name literals pins marks e read asks =
     ap (λ ps. record { name = name; pins = ps; rows = marks ∷ []; plane = true }) read
@@ -60,7 +62,8 @@ module _ (c : CircuitValue) (read : IsRead c) where
     own-at : get_or all place no_port ≡ get_or (own_outputs c) (place - length c.inputs) no_port
     own-at =
         let sum : length (input_ports c) + (place - length c.inputs) ≡ place = omega (arith, past, inputs-count c read) in
-        ap (λ l. get_or l place no_port) is ∙ ap (λ k. get_or (input_ports c ++ own_outputs c) k no_port) (sym sum) ∙ get_or-append-add (input_ports c) (own_outputs c) (place - length c.inputs) no_port
+        ap (λ l. get_or l place no_port) is ∙ ap (λ k. get_or (input_ports c ++ own_outputs c) k no_port) (sym sum) ∙ get_or-append-add (input_ports c) (own_outputs c) (place - length c.inputs)
+        no_port
 
     own-within : place - length c.inputs < length (own_outputs c)
     own-within =
@@ -84,7 +87,8 @@ module _ (c : CircuitValue) (read : IsRead c) where
         ∙ ap (λ l. l ++ output_table D (port name literal) ∷ []) same
         ∙ append_assoc before (map (output_table D) (take k (own_outputs c))) (output_table D (port name literal) ∷ [])
         ∙ ap (λ p. before ++ (map (output_table D) (take k (own_outputs c)) ++ output_table D p ∷ [])) (here ∙ own-at)
-        ∙ ap (λ l. before ++ l) (sym (map-append (output_table D) (take k (own_outputs c)) (get_or (own_outputs c) k no_port ∷ [])) ∙ ap (map (output_table D)) (sym (take_more (own_outputs c) k no_port own-within)))
+        ∙ ap (λ l. before ++ l) (sym (map-append (output_table D) (take k (own_outputs c)) (get_or (own_outputs c) k no_port ∷ [])) ∙ ap (map (output_table D))
+        (sym (take_more (own_outputs c) k no_port own-within)))
         ∙ ap (λ j. before ++ map (output_table D) (take j (own_outputs c))) next
 
   pub own-end : (D : List ℕ) (before so_far : List TableValue) (all : List Port) (place : ℕ) → all ≡ input_ports c ++ own_outputs c → length all ≤ place

@@ -7,7 +7,8 @@ use Rattle.semantics.specs.Texts.{Bytes}
 use Rattle.aiger_semantics.specs.declared.and_line.AndLine.{AndLine}
 use Rattle.aiger_semantics.specs.declared.header.Header.{Header}
 use Rattle.aiger_semantics.specs.Circuit.{CircuitValue}
-use Rattle.aiger_semantics.specs.CircuitLines.{Refusal, no_header, has_latches, wrong_line, and_then, header_of, greatest_literal, input_of, output_of, and_of, put_before, all_read, Symbol, symbols_after, symbols_line, before_comment, names_at, body_reading, with_header, circuit_reading}
+use Rattle.aiger_semantics.specs.CircuitLines.{Refusal, no_header, has_latches, wrong_line, and_then, header_of, greatest_literal, input_of, output_of, and_of, put_before, all_read, Symbol}
+use Rattle.aiger_semantics.specs.CircuitLines.{symbols_after, symbols_line, before_comment, names_at, body_reading, with_header, circuit_reading}
 use Rattle.aiger_semantics.proofs.ReadLines.{err-ok, ok-same, and_then-parts, read-each, IsInput, circuit-drawn}
 use Rattle.aiger_text.specs.declared.refusal.AigerRefusal.{AigerRefusal}
 use Rattle.aiger_text.specs.Refusals.{Tells}
@@ -91,7 +92,8 @@ module _ (h : Header) (lines : List Bytes) where
                   output_names = names_at symbols 111 h.outputs;
                 }))) (symbols-are ∙ t refusal e)
 
-                pub body-read : (symbols : List Symbol) (input_names output_names : List Bytes) → symbols_after h last [] named ≡ Ok symbols → input_names ≡ names_at symbols 105 h.inputs → output_names ≡ names_at symbols 111 h.outputs
+                pub body-read : (symbols : List Symbol) (input_names output_names : List Bytes) → symbols_after h last [] named ≡ Ok symbols → input_names ≡ names_at symbols 105 h.inputs
+                    → output_names ≡ names_at symbols 111 h.outputs
                     → body_reading h lines ≡ Ok (record { inputs = inputs; ands = ands; outputs = outputs; input_names = input_names; output_names = output_names })
                 body-read symbols input_names output_names said ins outs =
                     ands-read

@@ -16,7 +16,8 @@ lines_of f [] = refl
 lines_of f (x ∷ xs) = ap (λ rest. line_text (f x) ++ rest) (lines_of f xs)
 
 -- lines and what follows
-lines_then : {X : Type 0} (f : X → Line) (xs : List X) (rest : List Line) (text : Bytes) → flat_map line_text rest ≡ text → flat_map line_text (map f xs ++ rest) ≡ flat_map (λ x. line_text (f x)) xs ++ text
+lines_then : {X : Type 0} (f : X → Line) (xs : List X) (rest : List Line) (text : Bytes) → flat_map line_text rest ≡ text
+    → flat_map line_text (map f xs ++ rest) ≡ flat_map (λ x. line_text (f x)) xs ++ text
 lines_then f xs rest text is = flat_map-append line_text (map f xs) rest ∙ ap (λ t. t ++ flat_map line_text rest) (lines_of f xs) ∙ ap (λ t. flat_map (λ x. line_text (f x)) xs ++ t) is
 
 five : (h i o a s : Bytes) → (h ++ (i ++ (o ++ a))) ++ s ≡ h ++ (i ++ (o ++ (a ++ s)))
@@ -34,7 +35,8 @@ aiger_text-parts c =
     five (line_text (header_line c)) (inputs_text c.inputs) (outputs_text c.outputs) (ands_text c.ands) symbols
     ∙ ap (λ t. line_text (header_line c) ++ t)
     (sym
-    (lines_then input_line c.inputs (map number_line c.outputs ++ (map and_line c.ands ++ (symbol_lines 105 c.input_names ++ symbol_lines 111 c.output_names))) (outputs_text c.outputs ++ (ands_text c.ands ++ symbols))
+    (lines_then input_line c.inputs (map number_line c.outputs ++ (map and_line c.ands ++ (symbol_lines 105 c.input_names ++ symbol_lines 111 c.output_names)))
+    (outputs_text c.outputs ++ (ands_text c.ands ++ symbols))
     (lines_then number_line c.outputs (map and_line c.ands ++ (symbol_lines 105 c.input_names ++ symbol_lines 111 c.output_names)) (ands_text c.ands ++ symbols)
     (lines_then and_line c.ands (symbol_lines 105 c.input_names ++ symbol_lines 111 c.output_names) symbols names))))
 

@@ -1,5 +1,6 @@
 -- The words of a header's line.
-use Rattle.std.proofs.Common.{◌≡◌, ℕ, ◌+◌, ◌≤◌, ◌==◌, Bool, true, false, cond, [], ◌∷◌, length, take, drop, codes, bytes_eq, ltb, Option, Some, None, Result, IfOk, ◌-◌, refl, ap, sym, subst, ◌∙◌, arith}
+use Rattle.std.proofs.Common.{◌≡◌, ℕ, ◌+◌, ◌≤◌, ◌==◌, Bool, true, false, cond, [], ◌∷◌, length, take, drop, codes, bytes_eq, ltb, Option, Some, None, Result, IfOk, ◌-◌, refl, ap, sym, subst, ◌∙◌}
+use Rattle.std.proofs.Common.{arith}
 use Rattle.std.specs.List.{position, position_or_len}
 use Rattle.std.proofs.lemmas.Bool.{ltb-true, ltb-false}
 use Rattle.std.proofs.lemmas.Option.{none-some, same_Some}
@@ -42,7 +43,8 @@ pub header-first : (line : Bytes) (at : ℕ) → position (λ b. b == 32) line �
 header-first line at is = ap header_words (pieces-first line at is)
 
 -- what was read behind the first word
-pub header-behind : {E : Type 0} (r : Result (Option Header) E) (line rest : Bytes) (at : ℕ) → position (λ b. b == 32) line ≡ Some at → bytes_eq (take at line) (codes "aag") ≡ true → rest ≡ drop (at + 1) line
+pub header-behind : {E : Type 0} (r : Result (Option Header) E) (line rest : Bytes) (at : ℕ) → position (λ b. b == 32) line ≡ Some at → bytes_eq (take at line) (codes "aag") ≡ true
+    → rest ≡ drop (at + 1) line
     → IfOk r (λ header. header ≡ header_numbers (line_numbers most_in_header rest)) → IfOk r (λ header. header ≡ header_of line)
 header-behind r line rest at is word same h =
     subst (λ f. IfOk r (λ header. header ≡ f))

@@ -16,7 +16,8 @@ row_inputs-suc literals (m ∷ marks) (s ∷ pins) (suc i) d e low low' =
     ap (λ l. marked m (literals s) ++ l) (row_inputs-suc literals marks pins i d e (omega arith) (omega arith))
     ∙ sym (append_assoc (marked m (literals s)) (row_inputs literals (take i marks) pins) (marked (get_or marks i d) (literals (get_or pins i e))))
 
-pub row_asked : (literals : Literals) (marks : List Mark) (pins : List ℕ) (i : ℕ) (d : Mark) (before after : List ℕ) → before ≡ row_inputs literals (take i marks) pins → i < length marks → length marks ≡ length pins
+pub row_asked : (literals : Literals) (marks : List Mark) (pins : List ℕ) (i : ℕ) (d : Mark) (before after : List ℕ) → before ≡ row_inputs literals (take i marks) pins → i < length marks
+    → length marks ≡ length pins
     → after ≡ before ++ marked (get_or marks i d) (literals (get_or pins i 0)) → after ≡ row_inputs literals (take (i + 1) marks) pins
 row_asked literals marks pins i d before after so low same more =
     let next : suc i ≡ i + 1 = omega arith in

@@ -31,7 +31,8 @@ table_joins-same k l next t same =
     ap (λ x. x ++ joins (next + rows_ands t.rows) (no_rows k next t)) (rows_joins-same k l next t.pins t.rows same)
     ∙ ap (λ x. rows_joins l next t.pins t.rows ++ joins (next + rows_ands t.rows) (map negated x)) (rows_joined-same k l next t.pins t.rows same)
 
-tables_joins-same : (k l : Literals) (next : ℕ) (tables : List TableValue) → AllByRecursion (λ (t : TableValue). AllByRecursion (λ s. k s ≡ l s) t.pins) tables → tables_joins k next tables ≡ tables_joins l next tables
+tables_joins-same : (k l : Literals) (next : ℕ) (tables : List TableValue) → AllByRecursion (λ (t : TableValue). AllByRecursion (λ s. k s ≡ l s) t.pins) tables
+    → tables_joins k next tables ≡ tables_joins l next tables
 tables_joins-same k l next [] same = refl
 tables_joins-same k l next (t ∷ tables) same =
     ap (λ x. x ++ tables_joins k (next + table_ands t) tables) (table_joins-same k l next t same.0)
@@ -63,23 +64,30 @@ circuit_of N c literals sound same ei ea eo en em =
     let pins : AllByRecursion (λ (t : TableValue). AllByRecursion (λ s. get_or literals s 0 ≡ signal_literal (input_count N) N.tables s) t.pins) N.tables =
     recursion_from_All (λ (t : TableValue). AllByRecursion (λ s. get_or literals s 0 ≡ signal_literal (input_count N) N.tables s) t.pins) N.tables
     (All-weaker (λ (t : TableValue). All (λ s. s < signal_count N) t.pins) (λ (t : TableValue). AllByRecursion (λ s. get_or literals s 0 ≡ signal_literal (input_count N) N.tables s) t.pins)
-    (λ t h. recursion_from_All (λ s. get_or literals s 0 ≡ signal_literal (input_count N) N.tables s) t.pins (All-weaker (λ s. s < signal_count N) (λ s. get_or literals s 0 ≡ signal_literal (input_count N) N.tables s) same t.pins h))
+    (λ t h. recursion_from_All (λ s. get_or literals s 0 ≡ signal_literal (input_count N) N.tables s) t.pins
+    (All-weaker (λ s. s < signal_count N) (λ s. get_or literals s 0 ≡ signal_literal (input_count N) N.tables s) same t.pins h))
     N.tables sound.pins_are_signals) in
     let lines = tables_joins-same (λ s. get_or literals s 0) (signal_literal (input_count N) N.tables) (input_count N + 1) N.tables pins in
     let outputs = literals-same (λ s. get_or literals s 0) (signal_literal (input_count N) N.tables) N.outputs
-    (recursion_from_All (λ s. get_or literals s 0 ≡ signal_literal (input_count N) N.tables s) N.outputs (All-weaker (λ s. s < signal_count N) (λ s. get_or literals s 0 ≡ signal_literal (input_count N) N.tables s) same N.outputs sound.outputs_are_signals)) in
+    (recursion_from_All (λ s. get_or literals s 0 ≡ signal_literal (input_count N) N.tables s) N.outputs
+    (All-weaker (λ s. s < signal_count N) (λ s. get_or literals s 0 ≡ signal_literal (input_count N) N.tables s) same N.outputs sound.outputs_are_signals)) in
     ap (λ (x : List ℕ). circuit x c.ands c.outputs c.input_names c.output_names) ei
     ∙ ap (λ (x : List AndLine). circuit (range_with_len 1 (input_count N)) x c.outputs c.input_names c.output_names) (ea ∙ lines)
-    ∙ ap (λ (x : List ℕ). circuit (range_with_len 1 (input_count N)) (tables_joins (signal_literal (input_count N) N.tables) (input_count N + 1) N.tables) x c.input_names c.output_names) (eo ∙ outputs)
-    ∙ ap (λ (x : List Bytes). circuit (range_with_len 1 (input_count N)) (tables_joins (signal_literal (input_count N) N.tables) (input_count N + 1) N.tables) (map (signal_literal (input_count N) N.tables) N.outputs) x c.output_names) en
-    ∙ ap (λ (x : List Bytes). circuit (range_with_len 1 (input_count N)) (tables_joins (signal_literal (input_count N) N.tables) (input_count N + 1) N.tables) (map (signal_literal (input_count N) N.tables) N.outputs) N.inputs x) em
+    ∙ ap (λ (x : List ℕ). circuit (range_with_len 1 (input_count N)) (tables_joins (signal_literal (input_count N) N.tables) (input_count N + 1) N.tables) x c.input_names c.output_names)
+    (eo ∙ outputs)
+    ∙ ap (λ (x : List Bytes). circuit (range_with_len 1 (input_count N)) (tables_joins (signal_literal (input_count N) N.tables) (input_count N + 1) N.tables)
+    (map (signal_literal (input_count N) N.tables) N.outputs) x c.output_names) en
+    ∙ ap (λ (x : List Bytes). circuit (range_with_len 1 (input_count N)) (tables_joins (signal_literal (input_count N) N.tables) (input_count N + 1) N.tables)
+    (map (signal_literal (input_count N) N.tables) N.outputs) N.inputs x) em
 
 -- it has few variables
-pub circuit_few : (N : NetValue) (inputs : List ℕ) (lines : List AndLine) (literals : Literals) → IsSound N → inputs ≡ range_with_len 1 (input_count N) → lines ≡ tables_joins literals (input_count N + 1) N.tables
+pub circuit_few : (N : NetValue) (inputs : List ℕ) (lines : List AndLine) (literals : Literals) → IsSound N → inputs ≡ range_with_len 1 (input_count N)
+    → lines ≡ tables_joins literals (input_count N + 1) N.tables
     → input_count N + 1 + sum_by table_ands N.tables ≤ 2 ^ 31 → length inputs + length lines < 2 ^ 31
 circuit_few N inputs lines literals sound ei el fits =
     let front : length inputs ≡ input_count N = ap length ei ∙ length-range_with_len 1 (input_count N) in
-    let size : length lines ≡ sum_by table_ands N.tables = ap length el ∙ tables-length literals (input_count N + 1) N.tables (tables_wide (input_count N) N.tables sound.acyclic sound.tables_formed) in
+    let size : length lines ≡ sum_by table_ands N.tables
+    = ap length el ∙ tables-length literals (input_count N + 1) N.tables (tables_wide (input_count N) N.tables sound.acyclic sound.tables_formed) in
     omega arith
 
 pub range_more : (a n : ℕ) → range_with_len a (n + 1) ≡ range_with_len a n ++ (a + n) ∷ []

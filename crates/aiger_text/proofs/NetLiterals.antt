@@ -41,16 +41,19 @@ pub firsts_fit : (n : ℕ) (tables : List TableValue) (t next count bound : ℕ)
 firsts_fit n tables t next count bound at low ec fits =
     let sum = sum_by_more_le table_ands tables t no_table low in omega (arith, sum)
 
-pub firsts_all : (n : ℕ) (tables : List TableValue) (t next : ℕ) (firsts : List ℕ) → AreFirsts n tables t next firsts → t ≡ length tables → firsts ≡ map (first_variable n tables) (range_with_len 0 (length tables))
+pub firsts_all : (n : ℕ) (tables : List TableValue) (t next : ℕ) (firsts : List ℕ) → AreFirsts n tables t next firsts → t ≡ length tables
+    → firsts ≡ map (first_variable n tables) (range_with_len 0 (length tables))
 firsts_all n tables t next firsts so at = so.firsts_are ∙ ap (λ k. map (first_variable n tables) (range_with_len 0 k)) at
 
-pub first_read : (n : ℕ) (tables : List TableValue) (i d first : ℕ) (firsts : List ℕ) → i < length tables → firsts ≡ map (first_variable n tables) (range_with_len 0 (length tables)) → first ≡ get_or firsts i d
+pub first_read : (n : ℕ) (tables : List TableValue) (i d first : ℕ) (firsts : List ℕ) → i < length tables → firsts ≡ map (first_variable n tables) (range_with_len 0 (length tables))
+    → first ≡ get_or firsts i d
     → first ≡ first_variable n tables i
 first_read n tables i d first firsts low same read =
     read ∙ ap (λ l. get_or l i d) same ∙ get_or-map-range_with_len (first_variable n tables) 0 (length tables) i i d low (omega arith)
 
 -- the lines of a table fit with the lines of the other tables
-pub first_fits : (n : ℕ) (tables : List TableValue) (i d first : ℕ) (firsts : List ℕ) (t : TableValue) (bound : ℕ) → i < length tables → firsts ≡ map (first_variable n tables) (range_with_len 0 (length tables))
+pub first_fits : (n : ℕ) (tables : List TableValue) (i d first : ℕ) (firsts : List ℕ) (t : TableValue) (bound : ℕ) → i < length tables
+    → firsts ≡ map (first_variable n tables) (range_with_len 0 (length tables))
     → first ≡ get_or firsts i d → t ≡ table_at tables i → n + 1 + sum_by table_ands tables ≤ bound → first + table_ands t ≤ bound
 first_fits n tables i d first firsts t bound low same read is fits =
     let at = first_read n tables i d first firsts low same read in

@@ -77,7 +77,8 @@ module _ (N : NetValue) (output : (length N.outputs == 0) ≡ false) (driven : f
 -- ---- circuits
 
 module _ (c : CircuitValue) where
-  pub repeated_told : (vs : List ℕ) (told : AigerRefusal) → vs ≡ variables c → ((rest : Result NetValue Refusal) → Tells told (unless_refused (first_repeated vs) twice rest)) → Tells told (net_reading c)
+  pub repeated_told : (vs : List ℕ) (told : AigerRefusal) → vs ≡ variables c → ((rest : Result NetValue Refusal) → Tells told (unless_refused (first_repeated vs) twice rest))
+      → Tells told (net_reading c)
   repeated_told vs told same h = λ refusal e. ap (λ d. unless_refused (first_repeated d) twice (defined c)) (sym same) ∙ h (defined c) refusal e
 
   module _ (differ : first_repeated (variables c) ≡ None) where

@@ -22,18 +22,21 @@ at_word : (words : List Bytes) (k : ℕ) (word : Bytes) → k < length words →
 at_word words k word low is = drop_more words k word low ∙ ap (λ w. w ∷ drop (k + 1) words) (sym is)
 
 -- one word further
-pub numbers-next : (most : ℕ) (words : List Bytes) (k : ℕ) (word : Bytes) (n : ℕ) (numbers : List ℕ) (all : Option (List ℕ)) → k < length words → word ≡ get_or words k word → number_to most word ≡ Some n
+pub numbers-next : (most : ℕ) (words : List Bytes) (k : ℕ) (word : Bytes) (n : ℕ) (numbers : List ℕ) (all : Option (List ℕ)) → k < length words → word ≡ get_or words k word
+    → number_to most word ≡ Some n
     → behind numbers (all_numbers most (drop k words)) ≡ all → behind (numbers ++ n ∷ []) (all_numbers most (drop (k + 1) words)) ≡ all
 numbers-next most words k word n numbers all low is reads same =
     behind-one numbers n (all_numbers most (drop (k + 1) words))
-    ∙ ap (behind numbers) (ap (λ found. elim found [ None ↦ None | Some m ↦ option_map (λ more. m ∷ more) (all_numbers most (drop (k + 1) words)) ]) (sym reads) ∙ ap (all_numbers most) (sym (at_word words k word low is)))
+    ∙ ap (behind numbers) (ap (λ found. elim found [ None ↦ None | Some m ↦ option_map (λ more. m ∷ more) (all_numbers most (drop (k + 1) words)) ]) (sym reads) ∙ ap (all_numbers most)
+    (sym (at_word words k word low is)))
     ∙ same
 
 -- a word that is no number
 pub numbers-none : (most : ℕ) (words : List Bytes) (k : ℕ) (word : Bytes) (numbers : List ℕ) (all : Option (List ℕ)) → k < length words → word ≡ get_or words k word → number_to most word ≡ None
     → behind numbers (all_numbers most (drop k words)) ≡ all → all ≡ None
 numbers-none most words k word numbers all low is reads same =
-    sym same ∙ ap (behind numbers) (ap (all_numbers most) (at_word words k word low is) ∙ ap (λ found. elim found [ None ↦ None | Some m ↦ option_map (λ more. m ∷ more) (all_numbers most (drop (k + 1) words)) ]) reads)
+    sym same ∙ ap (behind numbers) (ap (all_numbers most) (at_word words k word low is) ∙ ap
+    (λ found. elim found [ None ↦ None | Some m ↦ option_map (λ more. m ∷ more) (all_numbers most (drop (k + 1) words)) ]) reads)
 
 -- no word is left
 pub numbers-end : (most : ℕ) (words : List Bytes) (k : ℕ) (numbers : List ℕ) (all : Option (List ℕ)) → k ≡ length words → behind numbers (all_numbers most (drop k words)) ≡ all → all ≡ Some numbers

@@ -1,5 +1,6 @@
 -- Ports: those that are new, and the signal of each by its place among the inputs and the new ones.
-use Rattle.std.proofs.Common.{◌≡◌, ℕ, zero, suc, ◌+◌, ◌<◌, ◌≤◌, Bool, true, false, cond, not, ◌||◌, ◌&&◌, ◌==◌, ltb, List, [], ◌∷◌, ◌++◌, map, length, get_or, take, drop, bytes_eq, Option, Some, None, refl, ap, sym, ◌∙◌, inl, inr, ◌⊎◌, append_assoc, arith}
+use Rattle.std.proofs.Common.{◌≡◌, ℕ, zero, suc, ◌+◌, ◌<◌, ◌≤◌, Bool, true, false, cond, not, ◌||◌, ◌&&◌, ◌==◌, ltb, List, [], ◌∷◌, ◌++◌, map, length, get_or, take, drop, bytes_eq, Option, Some}
+use Rattle.std.proofs.Common.{None, refl, ap, sym, ◌∙◌, inl, inr, ◌⊎◌, append_assoc, arith}
 use Rattle.std.specs.Borrow.{Bor}
 use Rattle.std.specs.List.{list_any, position, position_or_len}
 use Rattle.std.proofs.lemmas.Bool.{both_ways, eq-eqb, eqb-true, lt-ltb, and_parts, false_from_ne_true}
@@ -59,7 +60,8 @@ new-next earlier p ps = at_test (has_port earlier p)
     at_test true = refl
     at_test false = append_assoc earlier (p ∷ []) (new_ports (earlier ++ p ∷ []) ps)
 
-pub ports-next : (names : List Bytes) (literals : List ℕ) (k : ℕ) (name : Bytes) (literal : ℕ) (earlier later whole : List Port) → k < length names → k < length literals → name ≡ get_or names k name → literal ≡ get_or literals k 0
+pub ports-next : (names : List Bytes) (literals : List ℕ) (k : ℕ) (name : Bytes) (literal : ℕ) (earlier later whole : List Port) → k < length names → k < length literals → name ≡ get_or names k name
+    → literal ≡ get_or literals k 0
     → later ≡ with_new earlier (port name literal) → earlier ++ new_ports earlier (ports (drop k names) (drop k literals)) ≡ whole
     → later ++ new_ports later (ports (drop (k + 1) names) (drop (k + 1) literals)) ≡ whole
 ports-next names literals k name literal earlier later whole low short is at added same =
@@ -70,7 +72,8 @@ ports-next names literals k name literal earlier later whole low short is at add
     ∙ ap (λ ls. ports (name ∷ drop (k + 1) names) ls) (drop_more literals k 0 short ∙ ap (λ l. l ∷ drop (k + 1) literals) (sym at))))
     ∙ same
 
-pub ports-end : (names : List Bytes) (literals : List ℕ) (k : ℕ) (earlier whole : List Port) → length names ≤ k → earlier ++ new_ports earlier (ports (drop k names) (drop k literals)) ≡ whole → earlier ≡ whole
+pub ports-end : (names : List Bytes) (literals : List ℕ) (k : ℕ) (earlier whole : List Port) → length names ≤ k → earlier ++ new_ports earlier (ports (drop k names) (drop k literals)) ≡ whole
+    → earlier ≡ whole
 ports-end names literals k earlier whole past same =
     sym (append-nil earlier) ∙ ap (λ ns. earlier ++ new_ports earlier (ports ns (drop k literals))) (sym (drop_all k names past)) ∙ same
 
@@ -91,7 +94,8 @@ stand-more earlier vs name v h other u there =
     elim (or_cases (has_port earlier q) (is_port q p || false) (sym (list_any-append (is_port q) earlier (p ∷ [])) ∙ there)) [
       | inl before ↦ list_any-append (λ w. w == u) vs (v ∷ []) ∙ ap (λ t. t || ((v == u) || false)) (h other u before)
       | inr now ↦
-          let same : literal_of_variable u ≡ literal_of_variable v = eqb-true (literal_of_variable u) (literal_of_variable v) (and_parts (bytes_eq other name) (literal_of_variable u == literal_of_variable v) (one (is_port q p) now)).1 in
+          let same : literal_of_variable u ≡ literal_of_variable v
+          = eqb-true (literal_of_variable u) (literal_of_variable v) (and_parts (bytes_eq other name) (literal_of_variable u == literal_of_variable v) (one (is_port q p) now)).1 in
           list_any-append (λ w. w == u) vs (v ∷ []) ∙ ap (λ t. has_variable vs u || (t || false)) (eq-eqb v u (omega (arith, same))) ∙ last (has_variable vs u)
     ]
   where
@@ -183,7 +187,8 @@ module _ (c : CircuitValue) (read : IsRead c) where
         sum : length (input_ports c ++ own_outputs c) ≡ length (input_ports c) + length (own_outputs c)
         sum = length-append (input_ports c) (own_outputs c)
 
-        joined : position_or_len (is_port p) (input_ports c ++ own_outputs c) ≡ cond (has_port (input_ports c) p) (position_or_len (is_port p) (input_ports c)) (length (input_ports c) + position_or_len (is_port p) (own_outputs c))
+        joined : position_or_len (is_port p) (input_ports c ++ own_outputs c)
+            ≡ cond (has_port (input_ports c) p) (position_or_len (is_port p) (input_ports c)) (length (input_ports c) + position_or_len (is_port p) (own_outputs c))
         joined = place-append (is_port p) (input_ports c) (own_outputs c)
 
         place-of : (xs : List Port) (k : ℕ) → position (is_port p) xs ≡ Some k → position_or_len (is_port p) xs ≡ k
@@ -204,7 +209,8 @@ module _ (c : CircuitValue) (read : IsRead c) where
         at_test true h =
             let found = place-found (is_port p) (input_ports c) h in
             let place : position_or_len (is_port p) (input_ports c ++ own_outputs c) ≡ found.0 =
-            joined ∙ ap (λ t. cond t (position_or_len (is_port p) (input_ports c)) (length (input_ports c) + position_or_len (is_port p) (own_outputs c))) h ∙ place-of (input_ports c) found.0 found.1.0 in
+            joined ∙ ap (λ t. cond t (position_or_len (is_port p) (input_ports c)) (length (input_ports c) + position_or_len (is_port p) (own_outputs c))) h ∙ place-of (input_ports c) found.0
+            found.1.0 in
             let low = found.1.1 in
             let same : at ≡ found.0 = at_place found.0 place (omega (arith, low, sum)) in
             let signal : port_signal c p ≡ found.0 = ap (λ o. elim o [ None ↦ length c.inputs + length c.ands + place_or_end (position (is_port p) (own_outputs c)) | Some input ↦ input ]) found.1.0 in
@@ -212,7 +218,8 @@ module _ (c : CircuitValue) (read : IsRead c) where
         at_test false h =
             let found = place-found (is_port p) (own_outputs c) (or_right (has_port (input_ports c) p) (has_port (own_outputs c) p) h there) in
             let place : position_or_len (is_port p) (input_ports c ++ own_outputs c) ≡ length (input_ports c) + found.0 =
-            joined ∙ ap (λ t. cond t (position_or_len (is_port p) (input_ports c)) (length (input_ports c) + position_or_len (is_port p) (own_outputs c))) h ∙ ap (λ k. length (input_ports c) + k) (place-of (own_outputs c) found.0 found.1.0) in
+            joined ∙ ap (λ t. cond t (position_or_len (is_port p) (input_ports c)) (length (input_ports c) + position_or_len (is_port p) (own_outputs c))) h ∙ ap (λ k. length (input_ports c) + k)
+            (place-of (own_outputs c) found.0 found.1.0) in
             let low = found.1.1 in
             let same : at ≡ length (input_ports c) + found.0 = at_place (length (input_ports c) + found.0) place (omega (arith, low, sum)) in
             let signal : port_signal c p ≡ length c.inputs + length c.ands + found.0 =
@@ -228,26 +235,31 @@ ports-at (name ∷ names) (literal ∷ literals) (suc i) d low short = ports-at 
 
 -- the place of an output among the inputs and the new ones
 pub output-signal : (c : CircuitValue) → IsRead c → (all : List Port) → all ≡ input_ports c ++ own_outputs c → (names : List Bytes) → names ≡ c.output_names → (outputs : List ℕ) → outputs ≡ c.outputs
-    → (i : ℕ) → i < length c.outputs → (name : Bytes) → name ≡ get_or names i name → (at : ℕ) → at ≡ place_or_end (position (is_port (port name (get_or outputs i 0))) all) → (d : Port) → IsSignalAt c (get_or (output_ports c) i d) at
+    → (i : ℕ) → i < length c.outputs → (name : Bytes) → name ≡ get_or names i name → (at : ℕ) → at ≡ place_or_end (position (is_port (port name (get_or outputs i 0))) all) → (d : Port)
+    → IsSignalAt c (get_or (output_ports c) i d) at
 output-signal c read all is names same outputs equal i low name here at place d =
     let short : i < length c.output_names = omega (arith, low, read.output_names) in
     let p : Port = get_or (output_ports c) i d in
     let named : name ≡ get_or c.output_names i [] = here ∙ ap (λ ns. get_or ns i name) same ∙ get_or_default c.output_names i name [] short in
     let literal : get_or outputs i 0 ≡ get_or c.outputs i 0 = ap (λ ls. get_or ls i 0) equal in
-    let port_is : port name (get_or outputs i 0) ≡ p = ap (λ n. port n (get_or outputs i 0)) named ∙ ap (port (get_or c.output_names i [])) literal ∙ sym (ports-at c.output_names c.outputs i d short low) in
+    let port_is : port name (get_or outputs i 0) ≡ p
+    = ap (λ n. port n (get_or outputs i 0)) named ∙ ap (port (get_or c.output_names i [])) literal ∙ sym (ports-at c.output_names c.outputs i d short low) in
     let there : IsThere (input_ports c) (own_outputs c) p =
     All-from_recursion (IsThere (input_ports c) (own_outputs c)) (output_ports c) (new_there (input_ports c) (output_ports c)) i d (omega (arith, low, outputs-count c read)) in
     signal_at c read p there at (place ∙ ap (λ q. place_or_end (position (is_port q) all)) port_is ∙ ap (λ ps. place_or_end (position (is_port p) ps)) is)
 
 -- one signal more
-pub signals-next : (f : Port → ℕ) (ps : List Port) (i : ℕ) (d : Port) (s : ℕ) (so_far : List ℕ) → i < length ps → s ≡ f (get_or ps i d) → so_far ≡ map f (take i ps) → so_far ++ s ∷ [] ≡ map f (take (i + 1) ps)
+pub signals-next : (f : Port → ℕ) (ps : List Port) (i : ℕ) (d : Port) (s : ℕ) (so_far : List ℕ) → i < length ps → s ≡ f (get_or ps i d) → so_far ≡ map f (take i ps)
+    → so_far ++ s ∷ [] ≡ map f (take (i + 1) ps)
 signals-next f ps i d s so_far low is same =
     ap (λ l. l ++ s ∷ []) same ∙ ap (λ n. map f (take i ps) ++ n ∷ []) is
     ∙ sym (map-append f (take i ps) (get_or ps i d ∷ [])) ∙ ap (map f) (sym (take_more ps i d low))
 
 -- the inputs, and then the outputs that are new
-pub ports-of : (c : CircuitValue) → first_repeated (variables c) ≡ None → (start first last : List Port) (in_names out_names : List Bytes) (literals outputs : List ℕ) → start ≡ [] → in_names ≡ c.input_names
-    → literals ≡ map literal_of_variable c.inputs → first ≡ start ++ new_ports start (ports in_names literals) → out_names ≡ c.output_names → outputs ≡ c.outputs → last ≡ first ++ new_ports first (ports out_names outputs)
+pub ports-of : (c : CircuitValue) → first_repeated (variables c) ≡ None → (start first last : List Port) (in_names out_names : List Bytes) (literals outputs : List ℕ) → start ≡ []
+    → in_names ≡ c.input_names
+    → literals ≡ map literal_of_variable c.inputs → first ≡ start ++ new_ports start (ports in_names literals) → out_names ≡ c.output_names → outputs ≡ c.outputs
+    → last ≡ first ++ new_ports first (ports out_names outputs)
     → last ≡ input_ports c ++ own_outputs c
 ports-of c differ start first last in_names out_names literals outputs none ins lits one outs equal two =
     let before : first ≡ input_ports c =

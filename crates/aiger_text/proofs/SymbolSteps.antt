@@ -1,5 +1,6 @@
 -- Symbols, one line further, and the texts that they give.
-use Rattle.std.proofs.Common.{◌≡◌, ℕ, ◌+◌, ◌<◌, ◌≤◌, Bool, true, false, cond, ◌==◌, ◌&&◌, ltb, List, [], ◌∷◌, length, get_or, set, drop, take, map, Option, Some, None, Result, Ok, Err, refl, ap, sym, subst, ◌∙◌, inl, inr, ◌⊎◌, arith}
+use Rattle.std.proofs.Common.{◌≡◌, ℕ, ◌+◌, ◌<◌, ◌≤◌, Bool, true, false, cond, ◌==◌, ◌&&◌, ltb, List, [], ◌∷◌, length, get_or, set, drop, take, map, Option, Some, None, Result, Ok, Err, refl, ap, sym}
+use Rattle.std.proofs.Common.{subst, ◌∙◌, inl, inr, ◌⊎◌, arith}
 use Rattle.std.specs.List.{position, position_or_len, range_with_len}
 use Rattle.std.proofs.lemmas.Bool.{cases_eq, eq-eqb, ne_eqb, ltb-true, lt-ltb, le-ltb}
 use Rattle.std.proofs.lemmas.List.{drop_all, drop_more, get_or-set_same, get_or-set_other, length-set}
@@ -9,7 +10,8 @@ use Rattle.std.proofs.lemmas.Option.{none-some, same_Some}
 use Rattle.semantics.specs.Texts.{Bytes}
 use Rattle.aiger_semantics.specs.declared.header.Header.{Header}
 use Rattle.aiger_semantics.specs.TextLines.{number_to}
-use Rattle.aiger_semantics.specs.CircuitLines.{Refusal, wrong_symbol, most_in_header, Symbol, places, symbol_at, symbol_of, symbol_text, is_new, symbols_after, begins_comment, before_comment, name_at, names_at}
+use Rattle.aiger_semantics.specs.CircuitLines.{Refusal, wrong_symbol, most_in_header, Symbol, places, symbol_at, symbol_of, symbol_text, is_new, symbols_after, begins_comment, before_comment}
+use Rattle.aiger_semantics.specs.CircuitLines.{name_at, names_at}
 use Rattle.aiger_text.specs.SymbolTexts.{AreTextsOf, name_or}
 
 -- ---- the place of a symbol
@@ -50,7 +52,8 @@ symbol-placed h (letter ∷ rest) s e = at_blank (position (λ b. b == 32) rest)
 -- ---- the texts of symbols
 
 -- a symbol gives its place a text
-pub text-given : (symbols : List Symbol) (letter count : ℕ) (old : List Bytes) (s : Symbol) → s.letter ≡ letter → s.place < count → AreTextsOf symbols letter count old → AreTextsOf (s ∷ symbols) letter count (set old s.place s.text)
+pub text-given : (symbols : List Symbol) (letter count : ℕ) (old : List Bytes) (s : Symbol) → s.letter ≡ letter → s.place < count → AreTextsOf symbols letter count old
+    → AreTextsOf (s ∷ symbols) letter count (set old s.place s.text)
 text-given symbols letter count old s same within h = record {
   size = length-set old s.place s.text ∙ h.size;
   each = λ place low. at_place place low (cases_eq place s.place);
@@ -131,7 +134,8 @@ module _ (h : Header) (first : ℕ) (lines : List Bytes) where
 
 -- ---- the line that ends the reading
 
-pub comment-at : (lines : List Bytes) (k : ℕ) (d : Bytes) → k < length lines → ((j : ℕ) → j < k → begins_comment (get_or lines j d) ≡ false) → begins_comment (get_or lines k d) ≡ true → before_comment lines ≡ take k lines
+pub comment-at : (lines : List Bytes) (k : ℕ) (d : Bytes) → k < length lines → ((j : ℕ) → j < k → begins_comment (get_or lines j d) ≡ false) → begins_comment (get_or lines k d) ≡ true
+    → before_comment lines ≡ take k lines
 comment-at lines k d within before at =
     let place : position_or_len begins_comment lines ≡ k = position_or_len_is begins_comment lines k d (omega arith) before (λ low. at) in
     let found : position begins_comment lines ≡ Some k =
@@ -140,7 +144,8 @@ comment-at lines k d within before at =
 
 pub no-comment : (lines : List Bytes) (k : ℕ) (d : Bytes) → length lines ≡ k → ((j : ℕ) → j < k → begins_comment (get_or lines j d) ≡ false) → before_comment lines ≡ lines
 no-comment lines k d size before =
-    let place : position_or_len begins_comment lines ≡ length lines = position_or_len_is begins_comment lines (length lines) d (omega arith) (λ j low. before j (omega (arith, low, size))) (λ low. absurd (omega (arith, low))) in
+    let place : position_or_len begins_comment lines ≡ length lines
+    = position_or_len_is begins_comment lines (length lines) d (omega arith) (λ j low. before j (omega (arith, low, size))) (λ low. absurd (omega (arith, low))) in
     let past : ltb (length lines) (length lines) ≡ false = le-ltb (length lines) (length lines) (omega arith) in
     let none : position begins_comment lines ≡ None =
     ap (λ j. cond (ltb j (length lines)) (Some j) None) place ∙ ap (λ t. cond t (Some (length lines)) None) past in
@@ -149,7 +154,8 @@ no-comment lines k d size before =
 -- ---- names
 
 -- the names that texts make are those of the symbols
-pub names-given : (symbols : List Symbol) (letter n : ℕ) (given : List Bytes) → AreTextsOf symbols letter n given → map (λ k. name_or letter k (get_or given k [])) (range_with_len 0 n) ≡ names_at symbols letter n
+pub names-given : (symbols : List Symbol) (letter n : ℕ) (given : List Bytes) → AreTextsOf symbols letter n given
+    → map (λ k. name_or letter k (get_or given k [])) (range_with_len 0 n) ≡ names_at symbols letter n
 names-given symbols letter n given h =
     let f : ℕ → Bytes = λ k. name_or letter k (get_or given k []) in
     fill_by_all (name_at symbols letter) (map f (range_with_len 0 n)) n [] (length-map-range_with_len f 0 n)

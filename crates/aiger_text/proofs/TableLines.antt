@@ -23,7 +23,8 @@ rows_joins-suc literals pins next m (marks ∷ rows) (suc i) d low at =
     ∙ sym (append_assoc (joins next (row_inputs literals marks pins)) (rows_joins literals (next + row_ands marks) pins (take i rows)) (joins m (row_inputs literals (get_or rows i d) pins)))
 
 rows_joined-suc : (literals : Literals) (pins : List ℕ) (next m : ℕ) (rows : List (List Mark)) (i : ℕ) (d : List Mark) → i < length rows → m ≡ next + rows_ands (take i rows)
-    → map negated (rows_joined literals next pins (take (suc i) rows)) ≡ map negated (rows_joined literals next pins (take i rows)) ++ negated (joined m (row_inputs literals (get_or rows i d) pins)) ∷ []
+    → map negated (rows_joined literals next pins (take (suc i) rows))
+    ≡ map negated (rows_joined literals next pins (take i rows)) ++ negated (joined m (row_inputs literals (get_or rows i d) pins)) ∷ []
 rows_joined-suc literals pins next m [] i d low at = absurd (omega arith)
 rows_joined-suc literals pins next m (marks ∷ rows) zero d low at =
     let same : next ≡ m = omega arith in ap (λ k. negated (joined k (row_inputs literals marks pins)) ∷ []) same
@@ -86,7 +87,8 @@ module _ (literals : Literals) (pins : List ℕ) (first : ℕ) (rows : List (Lis
             ∙ ap (λ k. before ++ rows_joins literals first pins (take k rows)) one;
       }
 
-  pub rows_joined-all : (i next : ℕ) (before lines : List AndLine) → AreRowsJoined literals pins first rows i next before lines → length rows ≤ i → lines ≡ before ++ rows_joins literals first pins rows
+  pub rows_joined-all : (i next : ℕ) (before lines : List AndLine) → AreRowsJoined literals pins first rows i next before lines → length rows ≤ i
+      → lines ≡ before ++ rows_joins literals first pins rows
   rows_joined-all i next before lines so past = so.lines_are ∙ ap (λ (rs : List (List Mark)). before ++ rows_joins literals first pins rs) (take_all i rows past)
 
   pub rows_opposed-none : (opposites : List ℕ) → opposites ≡ [] → AreRowsOpposed literals pins first rows 0 first opposites
@@ -122,7 +124,8 @@ pub ands-row_fits : (count : ℕ) (rows : List (List Mark)) (i size : ℕ) (row 
     → count + (size - 1) ≤ rows_ands rows
 ands-row_fits count rows i size row at low es = let sum = sum_by_more_le row_ands rows i row low in omega (arith, sum)
 
-pub tables_joins-more : (literals : Literals) (n first : ℕ) (tables : List TableValue) (i : ℕ) (t d : TableValue) (lines more : List AndLine) → i < length tables → first ≡ n + 1 + sum_by table_ands (take i tables)
+pub tables_joins-more : (literals : Literals) (n first : ℕ) (tables : List TableValue) (i : ℕ) (t d : TableValue) (lines more : List AndLine) → i < length tables
+    → first ≡ n + 1 + sum_by table_ands (take i tables)
     → t ≡ get_or tables i d → lines ≡ tables_joins literals (n + 1) (take i tables) → more ≡ lines ++ table_joins literals first t → more ≡ tables_joins literals (n + 1) (take (i + 1) tables)
 tables_joins-more literals n first tables i t d lines more low at et el em =
     let one : suc i ≡ i + 1 = omega arith in

@@ -1,5 +1,6 @@
 -- Variables that are used: the first that is not known, and the pins of tables that read them.
-use Rattle.std.proofs.Common.{◌≡◌, ℕ, zero, suc, ◌+◌, ◌-◌, ◌/◌, ◌<◌, Bool, true, false, cond, not, ◌||◌, ◌&&◌, ◌==◌, ltb, List, [], ◌∷◌, ◌++◌, map, flat_map, filter, find, length, get_or, All, Option, Some, None, refl, ap, sym, subst, ◌∙◌, arith}
+use Rattle.std.proofs.Common.{◌≡◌, ℕ, zero, suc, ◌+◌, ◌-◌, ◌/◌, ◌<◌, Bool, true, false, cond, not, ◌||◌, ◌&&◌, ◌==◌, ltb, List, [], ◌∷◌, ◌++◌, map, flat_map, filter, find, length, get_or, All}
+use Rattle.std.proofs.Common.{Option, Some, None, refl, ap, sym, subst, ◌∙◌, arith}
 use Rattle.std.specs.List.{AllByRecursion, list_all, position, position_or_len, range_with_len}
 use Rattle.std.specs.Option.{is_some, option_map}
 use Rattle.std.proofs.lemmas.Bool.{both_ways, eq-eqb}
@@ -119,7 +120,8 @@ variables-count c =
 abbrev unknown : List ℕ → ℕ → Bool
 unknown defined v = not (v == 0 || has_variable defined v)
 
-module _ (c : CircuitValue) (defined : List ℕ) (same : defined ≡ variables c) (lines : List AndLine) (here : lines ≡ c.ands) (found : Option ℕ) (first : found ≡ find (unknown defined) (flat_map operands lines)) where
+module _ (c : CircuitValue) (defined : List ℕ) (same : defined ≡ variables c) (lines : List AndLine) (here : lines ≡ c.ands) (found : Option ℕ)
+    (first : found ≡ find (unknown defined) (flat_map operands lines)) where
   operand-is : found ≡ find (unknown (variables c)) (flat_map operands c.ands)
   operand-is = first ∙ ap (λ d. find (unknown d) (flat_map operands lines)) same ∙ ap (λ ls. find (unknown (variables c)) (flat_map operands ls)) here
 

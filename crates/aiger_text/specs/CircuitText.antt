@@ -16,8 +16,10 @@ abbrev pub ands_text : List AndLine → Bytes
 ands_text ands = flat_map (λ a. line_text (and_line a)) ands
 
 abbrev pub symbols_text : ℕ → List Bytes → Bytes
-symbols_text letter names = flat_map (λ i. line_text (symbol_line letter names i)) (range_with_len 0 (length names))
+symbols_text letter names = flat_map (λ i. line_text (symbol_line letter names i))
+    (range_with_len 0 (length names))
 
 -- the lines before the symbols
 abbrev pub body_text : CircuitValue → Bytes
-body_text c = line_text (header_line c) ++ (inputs_text c.inputs ++ (outputs_text c.outputs ++ ands_text c.ands))
+body_text c = line_text (header_line c)
+    ++ (inputs_text c.inputs ++ (outputs_text c.outputs ++ ands_text c.ands))

@@ -3,7 +3,8 @@ ghost use Rattle.std.specs.Prelude.{◌≡◌, ℕ, ◌+◌, ◌^◌, ◌<◌, �
 ghost use Rattle.std.specs.List.{range_with_len};
 ghost use Rattle.semantics.specs.Net.{IsSmall, input_count, table_count, signal_count, signal_names, name_of};
 ghost use Rattle.aiger_semantics.specs.ReadNet.{variables};
-ghost use Rattle.aiger_semantics.specs.NetCircuit.{table_ands, first_variable, signal_literal, tables_joins, ands_of};
+ghost use Rattle.aiger_semantics.specs.NetCircuit.{table_ands, first_variable, signal_literal, tables_joins};
+ghost use Rattle.aiger_semantics.specs.NetCircuit.{ands_of};
 
 use crate::lines::push_table;
 use crate::literal::Literal;
@@ -15,7 +16,8 @@ use net_core::net::Net;
 use std::alloc::{AllocError, Global};
 use std::marker::Model;
 
-/// An AND circuit: the variables of its inputs, its lines and the literals of its outputs, and a name for each input and output.
+/// An AND circuit: the variables of its inputs, its lines and the literals of its outputs, and a name for
+/// each input and output.
 #[derive(Drop)]
 pub struct Ands {
     inputs: Items<u32>,

@@ -1,8 +1,12 @@
-//! The net that a circuit is read as, or why it is refused. Source: AIGER; what is refused, and in which order, is this tool's own.
-ghost use Rattle.std.specs.Prelude.{◌≡◌, ◌+◌, ◌<◌, ◌^◌, ◌==◌, ◌++◌, false, None, Ok, length, map, IfOk, IfErr};
+//! The net that a circuit is read as, or why it is refused. Source: AIGER; what is refused, and in which
+//! order, is this tool's own.
+ghost use Rattle.std.specs.Prelude.{◌≡◌, ◌+◌, ◌<◌, ◌^◌, ◌==◌, ◌++◌, false, None, Ok, length, map, IfOk};
+ghost use Rattle.std.specs.Prelude.{IfErr};
 ghost use Rattle.semantics.specs.Refusals.{first_undriven, first_ungrounded};
-ghost use Rattle.aiger_semantics.specs.ReadNet.{variables, and_table, output_table, input_ports, output_ports, own_outputs, port_signal, net_of};
-ghost use Rattle.aiger_semantics.specs.Reading.{first_repeated, first_undefined, first_loop, named, net_reading};
+ghost use Rattle.aiger_semantics.specs.ReadNet.{variables, and_table, output_table, input_ports};
+ghost use Rattle.aiger_semantics.specs.ReadNet.{output_ports, own_outputs, port_signal, net_of};
+ghost use Rattle.aiger_semantics.specs.Reading.{first_repeated, first_undefined, first_loop, named};
+ghost use Rattle.aiger_semantics.specs.Reading.{net_reading};
 ghost use Rattle.aiger_text.specs.ReadCircuit.{IsRead};
 ghost use Rattle.aiger_text.specs.Refusals.{Tells};
 
@@ -28,11 +32,14 @@ fn named_net(
 ) -> Result<Net, AigerRefusal>
     requires few { length inputs + length tables < 2 ^ 31 }
     requires output { (length outputs == 0) ≡ false }
-    requires driven { first_undriven (record { model = model; inputs = inputs; tables = tables; outputs = outputs }) ≡ None }
+    requires driven { first_undriven
+        (record { model = model; inputs = inputs; tables = tables; outputs = outputs }) ≡ None }
     requires grounded { first_ungrounded (length inputs) tables ≡ None }
-    ensures ok { IfOk result (λ n. named (record { model = model; inputs = inputs; tables = tables; outputs = outputs }) ≡ Ok n) }
+    ensures ok { IfOk result (λ n. named
+        (record { model = model; inputs = inputs; tables = tables; outputs = outputs }) ≡ Ok n) }
     ensures err { IfErr result
-        (λ told. Tells told (named (record { model = model; inputs = inputs; tables = tables; outputs = outputs }))) }
+        (λ told. Tells told (named
+        (record { model = model; inputs = inputs; tables = tables; outputs = outputs }))) }
 {
     match Net::from_parts(alloc, model, inputs, tables, outputs) {
         Ok(net) => Ok(net),
@@ -55,7 +62,8 @@ fn circuit_tables(
     requires read { IsRead circuit.now }
     requires ports { ports.now ≡ input_ports circuit.now ++ own_outputs circuit.now }
     ensures { IfOk result (λ tables. tables
-        ≡ map (and_table known.now) circuit.now.ands ++ map (output_table known.now) (own_outputs circuit.now)) }
+        ≡ map (and_table known.now) circuit.now.ands
+        ++ map (output_table known.now) (own_outputs circuit.now)) }
 {
     let mut tables = and_tables(alloc, known, circuit.lines())?;
     push_own_tables(alloc, &mut tables, known, ports, circuit)?;
@@ -71,7 +79,8 @@ fn wired_parts(
     requires read { IsRead circuit.now }
     requires differ { first_repeated (variables circuit.now) ≡ None }
     ensures tables { IfOk result (λ p. p.0
-        ≡ map (and_table known.now) circuit.now.ands ++ map (output_table known.now) (own_outputs circuit.now)) }
+        ≡ map (and_table known.now) circuit.now.ands
+        ++ map (output_table known.now) (own_outputs circuit.now)) }
     ensures outputs { IfOk result (λ p. p.1 ≡ map (port_signal circuit.now) (output_ports circuit.now)) }
 {
     let ports = Ports::of(alloc, circuit)?;

@@ -1,7 +1,8 @@
 //! The tables that are conjunctions of literals. Source: BLIF; which tables they are is this tool's own.
 ghost use Rattle.std.specs.Prelude.{◌≡◌, ◌==◌, ◌/◌, [], ◌∷◌, ◌++◌, true, length, map, IfOk, OnOk};
 ghost use Rattle.std.specs.List.{list_any};
-ghost use Rattle.aiger_semantics.specs.ReadNet.{signal_of_variable, literal_mark, asked, conjunction_table, and_name, and_table, input_ports, own_outputs, output_table};
+ghost use Rattle.aiger_semantics.specs.ReadNet.{signal_of_variable, literal_mark, asked, conjunction_table};
+ghost use Rattle.aiger_semantics.specs.ReadNet.{and_name, and_table, input_ports, own_outputs, output_table};
 ghost use Rattle.aiger_text.specs.ReadCircuit.{IsRead};
 
 use crate::ands::Ands;
@@ -90,7 +91,8 @@ fn has_zero(literals: &[Literal]) -> bool
 /// The table of one row and plane 1.
 fn row_table(alloc: Global, name: Name, pins: SignalList, marks: Row) -> Result<Table, AllocError>
     requires { length marks ≡ length pins }
-    ensures { IfOk result (λ table. table ≡ record { name = name; pins = pins; rows = marks ∷ []; plane = true }) }
+    ensures { IfOk result (λ table. table
+        ≡ record { name = name; pins = pins; rows = marks ∷ []; plane = true }) }
 {
     let mut rows: RowList = Items::new(alloc);
     rows.push(marks)?;

@@ -34,7 +34,8 @@ pub(crate) fn ask(
 ) -> Result<(), AllocError>
     requires widths { length marks.now ≡ length pins.now }
     requires pins_in { All (λ s. s < length literals.now) pins.now }
-    ensures { OnOk result (asked.new.items ≡ row_inputs (λ s. slice_index_or literals.now s 0) marks.now pins.now) }
+    ensures { OnOk result (asked.new.items
+        ≡ row_inputs (λ s. slice_index_or literals.now s 0) marks.now pins.now) }
 {
     asked.clear();
     for (i, mark) in marks.iter().enumerate() {

@@ -1,7 +1,9 @@
 //! The lines and the literal of a table.
-ghost use Rattle.std.specs.Prelude.{◌≡◌, ◌+◌, ◌-◌, ◌^◌, ◌<◌, ◌≤◌, ◌++◌, length, map, slice_index_or, All, IfOk, OnOk};
+ghost use Rattle.std.specs.Prelude.{◌≡◌, ◌+◌, ◌-◌, ◌^◌, ◌<◌, ◌≤◌, ◌++◌, length, map, slice_index_or, All};
+ghost use Rattle.std.specs.Prelude.{IfOk, OnOk};
 ghost use Rattle.aiger_semantics.specs.Circuit.{negated};
-ghost use Rattle.aiger_semantics.specs.NetCircuit.{rows_ands, table_ands, rows_joins, rows_joined, table_joins, table_literal};
+ghost use Rattle.aiger_semantics.specs.NetCircuit.{rows_ands, table_ands, rows_joins, rows_joined};
+ghost use Rattle.aiger_semantics.specs.NetCircuit.{table_joins, table_literal};
 
 use crate::joined_literals::{ask, joined, push_joins};
 use crate::literal::{Literal, negated};
@@ -100,7 +102,8 @@ pub(crate) fn table_literal(
 ) -> Result<Literal, AllocError>
     requires pins_in { All (λ s. s < length literals.now) table.now.pins }
     requires fits { first + table_ands table.now ≤ 2 ^ 31 }
-    ensures { IfOk result (λ literal. literal ≡ table_literal (λ s. slice_index_or literals.now s 0) first table.now) }
+    ensures { IfOk result (λ literal. literal
+        ≡ table_literal (λ s. slice_index_or literals.now s 0) first table.now) }
 {
     let (rows, pins) = (table.rows().as_slice(), table.pins().as_slice());
     let next = oppose_rows(rows, pins, literals, first, asked, opposites)?;

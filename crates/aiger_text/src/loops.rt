@@ -1,5 +1,6 @@
 //! AND lines that depend on themselves.
-ghost use Rattle.std.specs.Prelude.{◌≡◌, not, ◌==◌, [], ◌∷◌, ◌++◌, Result, None, IfOk, OnOk, IfErr, map, filter};
+ghost use Rattle.std.specs.Prelude.{◌≡◌, not, ◌==◌, [], ◌∷◌, ◌++◌, Result, None, IfOk, OnOk, IfErr, map};
+ghost use Rattle.std.specs.Prelude.{filter};
 ghost use Rattle.semantics.specs.Net.{NetValue};
 ghost use Rattle.aiger_semantics.specs.CircuitLines.{Refusal, loop as looped};
 ghost use Rattle.aiger_semantics.specs.ReadNet.{variables, signal_of_variable};

@@ -26,7 +26,8 @@ pub(crate) fn line_numbers(
     most: u32,
     numbers: &mut Vec<u32>,
 ) -> Result<bool, AllocError>
-    ensures { IfOk result (λ all. line_numbers most line.now ≡ (if all then Some numbers.new.items else None)) }
+    ensures { IfOk result (λ all. line_numbers most line.now
+        ≡ (if all then Some numbers.new.items else None)) }
 {
     numbers.clear();
     for word in line.split(|b| *b == b' ') {

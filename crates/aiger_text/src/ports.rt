@@ -1,7 +1,11 @@
-//! The inputs and outputs of a circuit, each a name and a literal, and which outputs have tables of their own.
-ghost use Rattle.std.specs.Prelude.{◌≡◌, ◌<◌, ◌^◌, [], ◌∷◌, ◌++◌, None, IfOk, OnOk, All, if◌then◌else◌, length, map, slice_index_or, position};
+//! The inputs and outputs of a circuit, each a name and a literal, and which outputs have tables of their
+//! own.
+ghost use Rattle.std.specs.Prelude.{◌≡◌, ◌<◌, ◌^◌, [], ◌∷◌, ◌++◌, None, IfOk, OnOk, All, if◌then◌else◌};
+ghost use Rattle.std.specs.Prelude.{length, map, slice_index_or, position};
 ghost use Rattle.aiger_semantics.specs.Circuit.{literal_of_variable};
-ghost use Rattle.aiger_semantics.specs.ReadNet.{Port, variables, ports, is_port, has_port, new_ports, place_or_end, input_ports, output_ports, own_outputs, port_signal};
+ghost use Rattle.aiger_semantics.specs.ReadNet.{Port, variables, ports, is_port, has_port, new_ports};
+ghost use Rattle.aiger_semantics.specs.ReadNet.{place_or_end, input_ports, output_ports, own_outputs};
+ghost use Rattle.aiger_semantics.specs.ReadNet.{port_signal};
 ghost use Rattle.aiger_semantics.specs.Reading.{first_repeated};
 ghost use Rattle.aiger_text.specs.ReadCircuit.{IsRead};
 
@@ -51,7 +55,8 @@ impl<'a> Ports<'a> {
 
     /// Adds a name with a literal, if it is new.
     fn add(&mut self, name: &'a Name, literal: Literal) -> Result<(), AllocError>
-        ensures { OnOk result (self.new ≡ (if has_port self.old (record { name = name.now; literal = literal })
+        ensures { OnOk result (self.new
+            ≡ (if has_port self.old (record { name = name.now; literal = literal })
             then self.old else self.old ++ record { name = name.now; literal = literal } ∷ [])) }
     {
         self.ports.add((name.bytes(), literal))?;
@@ -91,14 +96,16 @@ impl<'a> Ports<'a> {
     /// The name and the literal at a place.
     pub(crate) fn port(&self, place: usize) -> (&'a [u8], Literal)
         requires { place < length self.now }
-        ensures { (d : Port) → record { name = result.0.now; literal = result.1 } ≡ slice_index_or self.now place d }
+        ensures { (d : Port) → record { name = result.0.now; literal = result.1 }
+            ≡ slice_index_or self.now place d }
     {
         self.ports.as_slice()[place]
     }
 
     /// The place of a name with a literal.
     fn place(&self, name: &'a Name, literal: Literal) -> usize
-        ensures { result ≡ place_or_end (position (is_port (record { name = name.now; literal = literal })) self.now) }
+        ensures { result ≡ place_or_end
+            (position (is_port (record { name = name.now; literal = literal })) self.now) }
     {
         match self.ports.place(&(name.bytes(), literal)) {
             Some(place) => place,
@@ -111,7 +118,8 @@ impl<'a> Ports<'a> {
         requires read { IsRead circuit.now }
         requires ports { self.now ≡ input_ports circuit.now ++ own_outputs circuit.now }
         requires output { i < length circuit.now.outputs }
-        ensures { (d : Port) → result ≡ port_signal circuit.now (slice_index_or (output_ports circuit.now) i d) }
+        ensures { (d : Port) → result
+            ≡ port_signal circuit.now (slice_index_or (output_ports circuit.now) i d) }
     {
         let place = self.place(&circuit.output_names()[i], circuit.outputs()[i]);
         if place < circuit.inputs().len() {
@@ -129,7 +137,8 @@ impl<'a> Ports<'a> {
     ) -> Result<SignalList, AllocError>
         requires read { IsRead circuit.now }
         requires ports { self.now ≡ input_ports circuit.now ++ own_outputs circuit.now }
-        ensures { IfOk result (λ signals. signals ≡ map (port_signal circuit.now) (output_ports circuit.now)) }
+        ensures { IfOk result (λ signals. signals
+            ≡ map (port_signal circuit.now) (output_ports circuit.now)) }
     {
         let mut signals = Items::new(alloc);
         for i in 0..circuit.outputs().len() {

@@ -7,7 +7,8 @@ use net_core::name::Name;
 use semantics::which::Which;
 use std::alloc::AllocError;
 
-/// Why a text is refused, in the order in which it is tested; want of memory may come at any point. Lines are counted from 1.
+/// Why a text is refused, in the order in which it is tested; want of memory may come at any point. Lines are
+/// counted from 1.
 #[derive(Debug, Drop)]
 pub enum AigerRefusal {
     /// The text has more bytes than the limit.

@@ -1,4 +1,5 @@
-//! The lines of the inputs, the outputs and the ANDs, each as many as the header says. Source: the ASCII form of AIGER.
+//! The lines of the inputs, the outputs and the ANDs, each as many as the header says. Source: the ASCII form
+//! of AIGER.
 ghost use Rattle.std.specs.Prelude.{◌≡◌, ◌+◌, ◌<◌, ◌≤◌, ◌^◌, length, Ok, OnOk, IfOk, IfErr};
 ghost use Rattle.aiger_semantics.specs.CircuitLines.{input_of, output_of, and_of, all_read};
 ghost use Rattle.aiger_text.specs.Refusals.{Tells};
@@ -47,8 +48,10 @@ pub(crate) fn read_outputs(
     most: Literal,
 ) -> Result<Items<Literal>, AigerRefusal>
     requires { first < 2 ^ 63 }
-    ensures ok { IfOk result (λ outputs. all_read (output_of most) first count (texts lines.now) ≡ Ok outputs) }
-    ensures err { IfErr result (λ told. Tells told (all_read (output_of most) first count (texts lines.now))) }
+    ensures ok { IfOk result (λ outputs. all_read (output_of most) first count (texts lines.now)
+        ≡ Ok outputs) }
+    ensures err { IfErr result
+        (λ told. Tells told (all_read (output_of most) first count (texts lines.now))) }
 {
     let mut numbers = Vec::new(alloc);
     let mut outputs = Items::new(alloc);

@@ -13,7 +13,8 @@ use std::alloc::{AllocError, Global};
 pub(crate) fn first_variables(alloc: Global, net: &Net) -> Result<Vec<u32>, AllocError>
     requires fits { input_count net.now + 1 + sum_by table_ands net.now.tables ≤ 2 ^ 31 }
     ensures { IfOk result (λ firsts. firsts.items
-        ≡ map (first_variable (input_count net.now) net.now.tables) (range_with_len 0 (table_count net.now))) }
+        ≡ map (first_variable (input_count net.now) net.now.tables)
+        (range_with_len 0 (table_count net.now))) }
 {
     let mut firsts = Vec::new(alloc);
     let mut next = net.inputs() + 1;
@@ -29,7 +30,8 @@ fn input_literals(alloc: Global, inputs: u32, room: usize) -> Result<Vec<Literal
     requires few { inputs < 2 ^ 31 }
     requires room { inputs ≤ room }
     ensures room { IfOk result (λ literals. length literals.items ≡ room) }
-    ensures inputs { IfOk result (λ literals. (s : ℕ) → s < inputs → slice_index_or literals.items s 0 ≡ input_literal s) }
+    ensures inputs { IfOk result
+        (λ literals. (s : ℕ) → s < inputs → slice_index_or literals.items s 0 ≡ input_literal s) }
 {
     let mut literals = vec![in alloc; 0; room]?;
     for i in 0..inputs {

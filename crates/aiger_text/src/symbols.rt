@@ -1,7 +1,9 @@
 //! The lines of symbols. Source: the ASCII form of AIGER.
-ghost use Rattle.std.specs.Prelude.{◌≡◌, ℕ, ◌+◌, ◌<◌, ◌^◌, ◌==◌, true, List, [], ◌∷◌, Ok, length, slice_index_or, slice_set, IfOk, IfErr};
+ghost use Rattle.std.specs.Prelude.{◌≡◌, ℕ, ◌+◌, ◌<◌, ◌^◌, ◌==◌, true, List, [], ◌∷◌, Ok, length};
+ghost use Rattle.std.specs.Prelude.{slice_index_or, slice_set, IfOk, IfErr};
 ghost use Rattle.semantics.specs.Texts.{Bytes};
-ghost use Rattle.aiger_semantics.specs.CircuitLines.{Symbol as SymbolValue, places, is_new, symbols_after, before_comment};
+ghost use Rattle.aiger_semantics.specs.CircuitLines.{Symbol as SymbolValue, places, is_new, symbols_after};
+ghost use Rattle.aiger_semantics.specs.CircuitLines.{before_comment};
 ghost use Rattle.aiger_text.specs.Refusals.{Tells};
 ghost use Rattle.aiger_text.specs.SymbolTexts.{AreTextsOf, IsSymbolTexts};
 ghost use Rattle.text_words.specs.Slices.{texts};
@@ -32,7 +34,8 @@ impl<'a> Model for SymbolTexts<'a> {
 /// `count` empty texts.
 fn no_texts<'a>(alloc: Global, count: u32) -> Result<Vec<&'a [u8]>, AllocError>
     ensures size { IfOk result (λ none. length none.items ≡ count) }
-    ensures empty { IfOk result (λ none. (place : ℕ) → place < count → slice_index_or (texts none.items) place [] ≡ []) }
+    ensures empty { IfOk result
+        (λ none. (place : ℕ) → place < count → slice_index_or (texts none.items) place [] ≡ []) }
 {
     let mut none: Vec<&'a [u8]> = Vec::new(alloc);
     for _ in 0..count {
@@ -68,8 +71,10 @@ impl<'a> SymbolTexts<'a> {
     /// Adds a symbol, if no symbol stands at its place, and returns whether it did.
     fn add(&mut self, header: &Header, symbol: &Symbol<'a>) -> bool
         requires place { symbol.now.place < places header.now symbol.now.letter }
-        requires sizes { (length self.old.inputs ≡ header.now.inputs) × (length self.old.outputs ≡ header.now.outputs) }
-        ensures new { (symbols : List SymbolValue) → IsSymbolTexts header.now symbols self.old → result ≡ is_new symbols symbol.now }
+        requires sizes { (length self.old.inputs ≡ header.now.inputs)
+            × (length self.old.outputs ≡ header.now.outputs) }
+        ensures new { (symbols : List SymbolValue) → IsSymbolTexts header.now symbols self.old
+            → result ≡ is_new symbols symbol.now }
         ensures added { result ≡ true
             → (symbols : List SymbolValue) → IsSymbolTexts header.now symbols self.old
             → IsSymbolTexts header.now (symbol.now ∷ symbols) self.new }
@@ -104,7 +109,8 @@ pub(crate) fn read_symbols<'a>(
 ) -> Result<SymbolTexts<'a>, AigerRefusal>
     requires { first < 2 ^ 63 }
     ensures ok { IfOk result (λ given. (symbols : List SymbolValue)
-        × (symbols_after header.now first [] (texts lines.now) ≡ Ok symbols) × IsSymbolTexts header.now symbols given) }
+        × (symbols_after header.now first [] (texts lines.now) ≡ Ok symbols)
+        × IsSymbolTexts header.now symbols given) }
     ensures err { IfErr result (λ told. Tells told (symbols_after header.now first [] (texts lines.now))) }
 {
     let mut given = SymbolTexts::new(alloc, header)?;

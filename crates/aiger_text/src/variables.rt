@@ -1,10 +1,12 @@
 //! The variables that a circuit defines, numbered in order, with a map from variables to numbers.
-ghost use Rattle.std.specs.Prelude.{◌≡◌, ◌<◌, ◌≤◌, ◌+◌, ◌/◌, ◌^◌, true, not, ◌||◌, ◌==◌, [], ◌∷◌, ◌++◌, Result, None, IfOk, OnOk, IfErr, length, map};
+ghost use Rattle.std.specs.Prelude.{◌≡◌, ◌<◌, ◌≤◌, ◌+◌, ◌/◌, ◌^◌, true, not, ◌||◌, ◌==◌, [], ◌∷◌, ◌++◌};
+ghost use Rattle.std.specs.Prelude.{Result, None, IfOk, OnOk, IfErr, length, map};
 ghost use Rattle.std.specs.List.{find, flat_map};
 ghost use Rattle.semantics.specs.Net.{NetValue};
 ghost use Rattle.aiger_semantics.specs.CircuitLines.{Refusal, twice, undefined};
 ghost use Rattle.aiger_semantics.specs.ReadNet.{variables, signal_of_variable};
-ghost use Rattle.aiger_semantics.specs.Reading.{has_variable, first_repeated, operands, first_undefined, unless_refused};
+ghost use Rattle.aiger_semantics.specs.Reading.{has_variable, first_repeated, operands, first_undefined};
+ghost use Rattle.aiger_semantics.specs.Reading.{unless_refused};
 ghost use Rattle.aiger_text.specs.Refusals.{Tells};
 
 use crate::ands::Ands;
@@ -102,7 +104,8 @@ impl Variables {
 
     /// The first variable of these literals that is not known.
     fn first_unknown_literal(&self, literals: &[Literal]) -> Option<u32>
-        ensures { result ≡ find (λ v. not (v == 0 || has_variable self.now v)) (map (λ literal. literal / 2) literals.now) }
+        ensures { result ≡ find (λ v. not (v == 0 || has_variable self.now v))
+            (map (λ literal. literal / 2) literals.now) }
     {
         for literal in literals {
             if !self.knows(*literal / 2) {

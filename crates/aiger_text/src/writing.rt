@@ -42,7 +42,8 @@ fn write_header<F: Files>(circuit: &Ands, files: &mut F, page: &mut Page) -> Res
 
 /// Puts the line of a number.
 fn write_number<F: Files>(number: u64, files: &mut F, page: &mut Page) -> Result<(), FileFault>
-    ensures { Gathers result (F.told files.old) (F.told files.new) page.old page.new (line_text (number_line number)) }
+    ensures { Gathers result (F.told files.old) (F.told files.new) page.old page.new
+        (line_text (number_line number)) }
 {
     let mut digits = Buffer::new();
     gather_pieces(files, page, &[digits.format(number).as_bytes(), b"\n"])
@@ -53,7 +54,8 @@ fn write_inputs<F: Files>(
     files: &mut F,
     page: &mut Page,
 ) -> Result<(), FileFault>
-    ensures { Gathers result (F.told files.old) (F.told files.new) page.old page.new (inputs_text variables.now) }
+    ensures { Gathers result (F.told files.old) (F.told files.new) page.old page.new
+        (inputs_text variables.now) }
 {
     for variable in variables {
         write_number(2 * u64::from(*variable), files, page)?;
@@ -66,7 +68,8 @@ fn write_outputs<F: Files>(
     files: &mut F,
     page: &mut Page,
 ) -> Result<(), FileFault>
-    ensures { Gathers result (F.told files.old) (F.told files.new) page.old page.new (outputs_text literals.now) }
+    ensures { Gathers result (F.told files.old) (F.told files.new) page.old page.new
+        (outputs_text literals.now) }
 {
     for literal in literals {
         write_number(u64::from(*literal), files, page)?;
@@ -76,7 +79,8 @@ fn write_outputs<F: Files>(
 
 /// Puts the line of an AND.
 fn write_and<F: Files>(and: AndLine, files: &mut F, page: &mut Page) -> Result<(), FileFault>
-    ensures { Gathers result (F.told files.old) (F.told files.new) page.old page.new (line_text (and_line and)) }
+    ensures { Gathers result (F.told files.old) (F.told files.new) page.old page.new
+        (line_text (and_line and)) }
 {
     let mut literal = Buffer::new();
     let mut left = Buffer::new();
@@ -121,7 +125,8 @@ fn write_symbols<F: Files>(
     files: &mut F,
     page: &mut Page,
 ) -> Result<(), FileFault>
-    ensures { Gathers result (F.told files.old) (F.told files.new) page.old page.new (symbols_text letter names.now) }
+    ensures { Gathers result (F.told files.old) (F.told files.new) page.old page.new
+        (symbols_text letter names.now) }
 {
     for i in 0..names.len() {
         let mut place = Buffer::new();

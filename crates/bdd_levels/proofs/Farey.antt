@@ -77,7 +77,8 @@ module _ (w k : ℕ) (low high : Ratio) where
             let two : k * high.denominator * m < high.numerator * 1000000 * m = mul-lt-mul_of_pos_right above.is (omega (arith, some)) in
             let under : d * high.denominator < high.numerator * m = lt_of_mul-lt-mul_right 1000000
             (omega (arith, one, two, mul_right_comm d 1000000 high.denominator, mul_right_comm k m high.denominator, mul_right_comm high.numerator 1000000 m)) in
-            let far : low.denominator + high.denominator ≤ m = between low.numerator low.denominator high.numerator high.denominator d m (d * low.denominator - low.numerator * m) (high.numerator * m - d * high.denominator)
+            let far : low.denominator + high.denominator ≤ m
+            = between low.numerator low.denominator high.numerator high.denominator d m (d * low.denominator - low.numerator * m) (high.numerator * m - d * high.denominator)
             near.is (omega (arith, h)) (omega (arith, under)) (omega (arith, h)) (omega (arith, under)) in
             absurd (omega (arith, far, small, fine))
       ]

@@ -22,8 +22,10 @@ few_or_one : (w e : ℕ) → 0 < w → e < 2 ^ w → max 1 e < 2 ^ w
 few_or_one zero e some below = absurd (omega (arith, some))
 few_or_one (suc w) e some below = let one : 0 < 2 ^ w = pow_pos w in grind (arith, one, below)
 
-pub ratio_says : (w k : ℕ) (ratio : Ratio) (S M L V : WordNetValue) (e a m z : List ℕ) (s : ℕ) → 0 < w → S ≡ started (w + w) → e ≡ exact_bus w → a ≡ approximate_bus w → BeginsWith M S → HasNumber M m (λ v. max 1 (number v e)) → BeginsWith L M
-    → HasNumber L z (λ v. ratio.numerator * number v m) → BeginsWith V L → HasBit V s (λ v. ltb (number v z) (distance (number v e) (number v a) * ratio.denominator)) → IsRatioFor w k ratio → SaysExcess Rel w k V s
+pub ratio_says : (w k : ℕ) (ratio : Ratio) (S M L V : WordNetValue) (e a m z : List ℕ) (s : ℕ) → 0 < w → S ≡ started (w + w) → e ≡ exact_bus w → a ≡ approximate_bus w → BeginsWith M S
+    → HasNumber M m (λ v. max 1 (number v e)) → BeginsWith L M
+    → HasNumber L z (λ v. ratio.numerator * number v m) → BeginsWith V L → HasBit V s (λ v. ltb (number v z) (distance (number v e) (number v a) * ratio.denominator)) → IsRatioFor w k ratio
+    → SaysExcess Rel w k V s
 ratio_says w k ratio S M L V e a m z s some start he ha to_S divisor to_M level to_L far is = record {
   begins = subst (BeginsWith V) start (begins_after S M V (begins_after M L V to_L to_M) to_S);
   at = λ v fits.

@@ -1,5 +1,6 @@
 -- A subtraction says how far two words are apart, and a network says whether that exceeds a level.
-use Rattle.std.proofs.Common.{◌≡◌, ℕ, zero, suc, ◌+◌, ◌-◌, ◌*◌, ◌^◌, ◌<◌, ◌≤◌, ltb, Bool, true, false, cond, List, [], ◌∷◌, ◌++◌, length, get_or, take, drop, map, refl, ap, sym, subst, ◌∙◌, arith, length-drop, drop-cons}
+use Rattle.std.proofs.Common.{◌≡◌, ℕ, zero, suc, ◌+◌, ◌-◌, ◌*◌, ◌^◌, ◌<◌, ◌≤◌, ltb, Bool, true, false, cond, List, [], ◌∷◌, ◌++◌, length, get_or, take, drop, map, refl, ap, sym, subst, ◌∙◌, arith}
+use Rattle.std.proofs.Common.{length-drop, drop-cons}
 use Rattle.std.specs.Prelude.{ℤ, pos, negsuc, ◌+ℤ◌, ◌-ℤ◌, unsigned_abs, decimal}
 use Rattle.std.specs.List.{range_with_len}
 use Rattle.std.proofs.Math.Nat.{pow-succ', mul_comm, mul-sub, mul-add}
@@ -75,7 +76,8 @@ differs_value v a b = refl
 place_value : (a b c t s d : Bool) → t ≡ differs a b → s ≡ differs t c → d ≡ cond t b c → bit_number a + 2 * bit_number d ≡ bit_number b + bit_number c + bit_number s
 place_value a b c t s d et es ed = rw (ed, es, et) (place_bits a b c)
 
-pub place_made : (W T S V : WordNetValue) (a b c t s d : ℕ) → T ≡ appended W (xor2 a b) → t ≡ signals W → S ≡ appended T (xor2 t c) → s ≡ signals T → V ≡ appended S (choice t b c) → d ≡ signals S → IsPlaceOf V a b c s d
+pub place_made : (W T S V : WordNetValue) (a b c t s d : ℕ) → T ≡ appended W (xor2 a b) → t ≡ signals W → S ≡ appended T (xor2 t c) → s ≡ signals T → V ≡ appended S (choice t b c) → d ≡ signals S
+    → IsPlaceOf V a b c s d
 place_made W T S V a b c t s d hT ht hS hs hV hd = record {
   at = λ v fits.
       let at_V : Fits v (appended S (choice t b c)) = subst (Fits v) hV fits in
@@ -137,7 +139,8 @@ subtracting_none W x y within = record {
   at = λ v fits. rw (fits.zero) refl;
 }
 
-pub subtracting_more : (start now after : WordNetValue) (x y bits bits' : List ℕ) (borrow i a b s d : ℕ) → Subtracting start now x y bits borrow i → i < length x → length x ≡ length y → a ≡ get_or x i a → b ≡ get_or y i b
+pub subtracting_more : (start now after : WordNetValue) (x y bits bits' : List ℕ) (borrow i a b s d : ℕ) → Subtracting start now x y bits borrow i → i < length x → length x ≡ length y
+    → a ≡ get_or x i a → b ≡ get_or y i b
     → IsPlaceOf after a b borrow s d → bits' ≡ bits ++ s ∷ [] → s < signals after → d < signals after → signals now ≤ signals after → BeginsWith after now → Subtracting start after x y bits' d (i + 1)
 subtracting_more start now after x y bits bits' borrow i a b s d h within same ea eb place pushed s_in d_in more begins = record {
   begins = begins_through start now after begins h.begins;
@@ -185,7 +188,8 @@ far_numbers true u o q p x y d z sum few over under =
     let apart : distance x y ≡ p - d = omega (arith, sum, few) in
     under ∙ less_both z (q * d) (q * p) ∙ ap (ltb z) (sym (mul-sub q p d) ∙ mul_comm q (p - d) ∙ ap (λ n. n * q) (sym apart))
 
-pub short_made : (P W S V : WordNetValue) (x y p whole sum : List ℕ) (w q s : ℕ) → HasNumber P p (λ v. 2 ^ w) → HasNumber W whole (λ v. q * number v p) → HasNumber S sum (λ v. number v x + number v y) → BeginsWith W P → BeginsWith S W
+pub short_made : (P W S V : WordNetValue) (x y p whole sum : List ℕ) (w q s : ℕ) → HasNumber P p (λ v. 2 ^ w) → HasNumber W whole (λ v. q * number v p)
+    → HasNumber S sum (λ v. number v x + number v y) → BeginsWith W P → BeginsWith S W
     → BeginsWith V S → HasBit V s (λ v. ltb (number v sum) (number v whole)) → HasBit V s (λ v. ltb (number v x + number v y) (q * 2 ^ w))
 short_made P W S V x y p whole sum w q s hp hw hs to_P to_W to_S hb = record {
   at = λ v fits.
@@ -195,8 +199,10 @@ short_made P W S V x y p whole sum w q s hp hw hs to_P to_W to_S hb = record {
       hb.at v fits ∙ rw (hs.at v at_S, hw.at v at_W, hp.at v at_P) refl;
 }
 
-pub far_made : (D S O U V : WordNetValue) (x y d t z : List ℕ) (b o u s w q : ℕ) → length x ≡ w → IsDifferenceOf D x y d b → HasNumber S t (λ v. q * number v d) → BeginsWith S D → HasBit O o (λ v. ltb (number v z) (number v t)) → BeginsWith O S
-    → HasBit U u (λ v. ltb (number v z + number v t) (q * 2 ^ w)) → BeginsWith U O → V ≡ appended U (choice b u o) → s ≡ signals U → HasBit V s (λ v. ltb (number v z) (distance (number v x) (number v y) * q))
+pub far_made : (D S O U V : WordNetValue) (x y d t z : List ℕ) (b o u s w q : ℕ) → length x ≡ w → IsDifferenceOf D x y d b → HasNumber S t (λ v. q * number v d) → BeginsWith S D
+    → HasBit O o (λ v. ltb (number v z) (number v t)) → BeginsWith O S
+    → HasBit U u (λ v. ltb (number v z + number v t) (q * 2 ^ w)) → BeginsWith U O → V ≡ appended U (choice b u o) → s ≡ signals U
+    → HasBit V s (λ v. ltb (number v z) (distance (number v x) (number v y) * q))
 far_made D S O U V x y d t z b o u s w q width is scaled to_D over to_S under to_O hV hs = record {
   at = λ v fits.
       let at_V : Fits v (appended U (choice b u o)) = subst (Fits v) hV fits in
@@ -230,7 +236,8 @@ signed_apart : (z i j : ℤ) (n m h : ℕ) → z ≡ i -ℤ j → pos n ≡ i +�
 signed_apart (pos t) i j n m h is first second = omega (arith, ints, is, first, second)
 signed_apart (negsuc t) i j n m h is first second = omega (arith, ints, is, first, second)
 
-pub signed_says : (w k : ℕ) (S E A V : WordNetValue) (x y e a z : List ℕ) (s : ℕ) → S ≡ started (w + w) → x ≡ exact_bus w → y ≡ approximate_bus w → BeginsWith E S → HasFlipped E e x → BeginsWith A E → HasFlipped A a y → HasNumber A z (λ v. k)
+pub signed_says : (w k : ℕ) (S E A V : WordNetValue) (x y e a z : List ℕ) (s : ℕ) → S ≡ started (w + w) → x ≡ exact_bus w → y ≡ approximate_bus w → BeginsWith E S → HasFlipped E e x → BeginsWith A E
+    → HasFlipped A a y → HasNumber A z (λ v. k)
     → BeginsWith V A → HasBit V s (λ v. ltb (number v z) (distance (number v e) (number v a) * 1)) → SaysExcess Sabs w k V s
 signed_says w k S E A V x y e a z s start hx hy to_S first to_E second level to_A far = record {
   begins = subst (BeginsWith V) start (begins_through S E V (begins_through E A V to_A to_E) to_S);
@@ -270,7 +277,8 @@ fits_consistent v W x b h =
       table = h.table;
     }
 
-inputs_bits : (v : Assignment) (x : List Bool) (from width : ℕ) → ((s : ℕ) → s < length x → v s ≡ get_or x s false) → from + width ≤ length x → map v (range_with_len from width) ≡ take width (drop from x)
+inputs_bits : (v : Assignment) (x : List Bool) (from width : ℕ) → ((s : ℕ) → s < length x → v s ≡ get_or x s false) → from + width ≤ length x
+    → map v (range_with_len from width) ≡ take width (drop from x)
 inputs_bits v x from zero h few = refl
 inputs_bits v x from (suc width) h few =
     let here : v from ≡ get_or x from false = h from (omega arith) in

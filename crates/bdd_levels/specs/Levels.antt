@@ -1,4 +1,5 @@
--- Whether the error of a net exceeds a level, by diagrams. Source: SALSA's quality function circuit, over diagrams in place of nets.
+-- Whether the error of a net exceeds a level, by diagrams. Source: SALSA's quality function circuit, over
+-- diagrams in place of nets.
 use Rattle.std.specs.Prelude.{◌≡◌, ◌≢◌, ℕ, ◌+◌, ◌<◌, nat_lt, Bool, List, map, length, AllPairs}
 use Rattle.semantics.specs.Net.{NetValue, input_count}
 use Rattle.semantics.specs.Value.{Assignment}
@@ -24,13 +25,16 @@ abbrev pub IsLevelOf : NetValue → Level → Type 0
 IsLevelOf N level = TellsLevel level.metric (length N.outputs) level.k level.network
 
 -- f says whether the error exceeds k where each input has the value of its diagram
-pub record IsOverOf (nodes : List Node) (metric : Metric) (exact approx : NetValue) (k : ℕ) (inputs : List ℕ) (f : ℕ) : Type 0 where
+pub record IsOverOf (nodes : List Node) (metric : Metric) (exact approx : NetValue) (k : ℕ) (inputs : List ℕ)
+    (f : ℕ) : Type 0 where
   pub within : f < length nodes
-  pub is : (x v : Assignment) → IsValuation nodes x v → v f ≡ nat_lt k (net_error metric exact approx (map v inputs))
+  pub is : (x v : Assignment) → IsValuation nodes x v
+      → v f ≡ nat_lt k (net_error metric exact approx (map v inputs))
 
 -- the diagrams of a net's inputs, each of which is that of a variable of its own, and the diagrams of the
 -- net's outputs
-pub record AreDrawn (N : NetValue) (variables : List ℕ) (nodes : List Node) (inputs outputs : List ℕ) : Type 0 where
+pub record AreDrawn (N : NetValue) (variables : List ℕ) (nodes : List Node)
+    (inputs outputs : List ℕ) : Type 0 where
   pub inputs_are : AreVariablesOf nodes variables inputs
   pub outputs_are : AreOutputsOf nodes N inputs outputs
 

@@ -20,4 +20,5 @@ pub record AreNeighbours (low high : Ratio) : Type 0 where
 -- d parts of m are more than the fraction exactly where they are more than k millionths, for each m of at
 -- most w bits
 pub record IsRatioFor (w k : ℕ) (r : Ratio) : Type 0 where
-  pub same : (d m : ℕ) → 1 ≤ m → m < 2 ^ w → nat_lt (r.numerator * m) (d * r.denominator) ≡ nat_lt (k * m) (d * 1000000)
+  pub same : (d m : ℕ) → 1 ≤ m → m < 2 ^ w
+      → nat_lt (r.numerator * m) (d * r.denominator) ≡ nat_lt (k * m) (d * 1000000)

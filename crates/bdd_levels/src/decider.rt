@@ -83,7 +83,8 @@ fn better<'a>(
     least: u32,
     found: Option<Drawn<'a>>,
 ) -> (Option<Drawn<'a>>, u32)
-    ensures { (N : NetValue) → IfSome best.entry (λ d. d ≡ N) → IfSome found.entry (λ d. d ≡ N) → IfSome result.0 (λ d. d ≡ N) }
+    ensures { (N : NetValue) → IfSome best.entry (λ d. d ≡ N) → IfSome found.entry (λ d. d ≡ N)
+        → IfSome result.0 (λ d. d ≡ N) }
 {
     match found {
         Some(drawn) => {

@@ -91,7 +91,8 @@ fn is_short(
     ensures more { signals net.old ≤ signals net.new }
     ensures within { IfOk result (λ s. s < signals net.new) }
     ensures begins { BeginsWith net.new net.old }
-    ensures value { IfOk result (λ s. HasBit net.new s (λ v. nat_lt (number v x.now + number v y.now) (factor * 2 ^ width))) }
+    ensures value { IfOk result
+        (λ s. HasBit net.new s (λ v. nat_lt (number v x.now + number v y.now) (factor * 2 ^ width))) }
 {
     let power = net.constant(1u128 << width)?;
     let whole = net.times(&power, factor)?;
@@ -120,7 +121,8 @@ pub(crate) fn far_apart(
     ensures within { IfOk result (λ s. s < signals net.new) }
     ensures begins { BeginsWith net.new net.old }
     ensures value { IfOk result
-        (λ s. HasBit net.new s (λ v. nat_lt (number v level.now) (distance (number v x.now) (number v y.now) * factor))) }
+        (λ s. HasBit net.new s (λ v. nat_lt (number v level.now)
+        (distance (number v x.now) (number v y.now) * factor))) }
 {
     let (bits, borrow) = difference(alloc, net, x, y)?;
     let scaled = net.times(&bits, factor)?;
@@ -181,7 +183,8 @@ fn signed_excess(
 /// The net of the network, with this output.
 pub(crate) fn finished(net: WordNet, output: Signal) -> Result<Net, AllocError>
     requires within { output < signals net }
-    ensures { IfOk result (λ made. (metric : Metric) (w k : ℕ) → SaysExcess metric w k net output → TellsLevel metric w k made) }
+    ensures { IfOk result (λ made. (metric : Metric) (w k : ℕ) → SaysExcess metric w k net output
+        → TellsLevel metric w k made) }
 {
     let made: Net = net.finish(&[output])?;
     made.see_sound();

@@ -86,8 +86,10 @@ fn decide_drawn(
 ) -> Result<Decision, AllocError>
     requires level { IsLevelOf nets.now.exact level.now }
     requires own { AreInputVariables nets.now.exact variables.now }
-    requires drawn { AreDrawn nets.now.exact variables.now drawing.old.diagrams drawing.old.inputs.items drawing.old.outputs.items }
-    ensures drawn { AreDrawn nets.now.exact variables.now drawing.new.diagrams drawing.new.inputs.items drawing.new.outputs.items }
+    requires drawn { AreDrawn nets.now.exact variables.now drawing.old.diagrams drawing.old.inputs.items
+        drawing.old.outputs.items }
+    ensures drawn { AreDrawn nets.now.exact variables.now drawing.new.diagrams drawing.new.inputs.items
+        drawing.new.outputs.items }
     ensures decided { IfOk result
         (IsLevelDecided level.now.metric nets.now.exact nets.now.approx level.now.k) }
 {
@@ -129,7 +131,8 @@ impl<'a> Model for Drawn<'a> {
     ghost view = { λ d. d.exact.now };
 
     ghost invariant = { λ d. AreInputVariables d.exact.now d.variables.items
-        × AreDrawn d.exact.now d.variables.items d.drawing.diagrams d.drawing.inputs.items d.drawing.outputs.items };
+        × AreDrawn d.exact.now d.variables.items d.drawing.diagrams d.drawing.inputs.items
+        d.drawing.outputs.items };
 }
 
 impl<'a> Drawn<'a> {

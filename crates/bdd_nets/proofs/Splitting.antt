@@ -76,7 +76,8 @@ always_settled (r ∷ rs) chosen (suc i) low always pins v width on =
     ap (λ b. row_matches r pins v || b) (always_settled rs chosen i (omega (arith, low)) always pins v width on) ∙ or_true (row_matches r pins v)
 
 -- one more pin is chosen, as it is
-pub chosen_more : (chosen : List Mark) (pins : List ℕ) (v : Assignment) (p : ℕ) (m : Mark) → mark_matches m (v (get_or pins p 0)) ≡ true → row_matches chosen pins v ≡ true → row_matches (slice_set chosen p m) pins v ≡ true
+pub chosen_more : (chosen : List Mark) (pins : List ℕ) (v : Assignment) (p : ℕ) (m : Mark) → mark_matches m (v (get_or pins p 0)) ≡ true → row_matches chosen pins v ≡ true
+    → row_matches (slice_set chosen p m) pins v ≡ true
 chosen_more [] pins v p m is on = refl
 chosen_more (c ∷ cs) [] v zero m is on = refl
 chosen_more (c ∷ cs) [] v (suc p) m is on = refl
@@ -95,13 +96,15 @@ chosen_anew [] p m n = refl
 chosen_anew (c ∷ cs) zero m n = refl
 chosen_anew (c ∷ cs) (suc p) m n = ap (λ ds. c ∷ ds) (chosen_anew cs p m n)
 
-pub settled_true : (nodes : List Node) (rows : List (List Mark)) (pins signals : List ℕ) (chosen : List Mark) → AreDiagrams nodes → length chosen ≡ length pins → IsSettled rows chosen true → IsSplitOver nodes rows pins signals chosen 1
+pub settled_true : (nodes : List Node) (rows : List (List Mark)) (pins signals : List ℕ) (chosen : List Mark) → AreDiagrams nodes → length chosen ≡ length pins → IsSettled rows chosen true
+    → IsSplitOver nodes rows pins signals chosen 1
 settled_true nodes rows pins signals chosen are width settled = record {
   within = omega (arith, are.constants);
   is = λ x v val on. val.one_is ∙ sym (settled pins (signal_values signals v) (sym width) on);
 }
 
-pub settled_false : (nodes : List Node) (rows : List (List Mark)) (pins signals : List ℕ) (chosen : List Mark) → AreDiagrams nodes → length chosen ≡ length pins → IsSettled rows chosen false → IsSplitOver nodes rows pins signals chosen 0
+pub settled_false : (nodes : List Node) (rows : List (List Mark)) (pins signals : List ℕ) (chosen : List Mark) → AreDiagrams nodes → length chosen ≡ length pins → IsSettled rows chosen false
+    → IsSplitOver nodes rows pins signals chosen 0
 settled_false nodes rows pins signals chosen are width settled = record {
   within = omega (arith, are.constants);
   is = λ x v val on. val.zero_is ∙ sym (settled pins (signal_values signals v) (sym width) on);
@@ -134,7 +137,8 @@ nothing_chosen zero pins v = refl
 nothing_chosen (suc n) [] v = refl
 nothing_chosen (suc n) (s ∷ ps) v = nothing_chosen n ps v
 
-pub split_all : (nodes : List Node) (rows : List (List Mark)) (pins signals : List ℕ) (chosen : List Mark) (n r : ℕ) → chosen ≡ replicate n Dash → IsSplitOver nodes rows pins signals chosen r → IsSomeRowOf nodes rows pins signals r
+pub split_all : (nodes : List Node) (rows : List (List Mark)) (pins signals : List ℕ) (chosen : List Mark) (n r : ℕ) → chosen ≡ replicate n Dash → IsSplitOver nodes rows pins signals chosen r
+    → IsSomeRowOf nodes rows pins signals r
 split_all nodes rows pins signals chosen n r is over = record {
   within = over.within;
   is = λ x v val. over.is x v val (ap (λ (cs : List Mark). row_matches cs pins (signal_values signals v)) is ∙ nothing_chosen n pins (signal_values signals v));

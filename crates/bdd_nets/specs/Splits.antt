@@ -10,10 +10,13 @@ use Rattle.bdd_nets.specs.Tables.{signal_values}
 -- whether some row matches is the same wherever the pins are as they are chosen
 abbrev pub IsSettled : List (List Mark) → List Mark → Bool → Type 0
 IsSettled rows chosen some =
-    (pins : List ℕ) (v : Assignment) → length pins ≡ length chosen → row_matches chosen pins v ≡ true → list_any (λ marks. row_matches marks pins v) rows ≡ some
+    (pins : List ℕ) (v : Assignment) → length pins ≡ length chosen → row_matches chosen pins v ≡ true
+    → list_any (λ marks. row_matches marks pins v) rows ≡ some
 
 -- where the pins are as they are chosen, r is true where some row matches
-pub record IsSplitOver (nodes : List Node) (rows : List (List Mark)) (pins signals : List ℕ) (chosen : List Mark) (r : ℕ) : Type 0 where
+pub record IsSplitOver (nodes : List Node) (rows : List (List Mark)) (pins signals : List ℕ)
+    (chosen : List Mark) (r : ℕ) : Type 0 where
   pub within : r < length nodes
-  pub is : (x v : Assignment) → IsValuation nodes x v → row_matches chosen pins (signal_values signals v) ≡ true
+  pub is : (x v : Assignment) → IsValuation nodes x v
+      → row_matches chosen pins (signal_values signals v) ≡ true
       → v r ≡ list_any (λ marks. row_matches marks pins (signal_values signals v)) rows

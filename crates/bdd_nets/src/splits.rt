@@ -4,7 +4,8 @@
 //!
 //! The values that were chosen for the pins are held as a row of marks, with a dash for each pin without a
 //! chosen value.
-ghost use Rattle.std.specs.Prelude.{◌≡◌, ℕ, ◌<◌, true, false, Bool, List, replicate, length, slice_index_or, All, IfOk, IfSome, OnOk};
+ghost use Rattle.std.specs.Prelude.{◌≡◌, ℕ, ◌<◌, true, false, Bool, List, replicate, length, slice_index_or};
+ghost use Rattle.std.specs.Prelude.{All, IfOk, IfSome, OnOk};
 ghost use Rattle.semantics.specs.declared.mark.Mark.TheVariants.{Zero, Dash};
 ghost use Rattle.semantics.specs.Value.{Assignment, mark_matches, row_matches};
 ghost use Rattle.bdd_core.specs.Diagrams.{Grows};

@@ -2,7 +2,8 @@
 use Rattle.std.proofs.Common.{◌≡◌, ◌+◌, Bool, true, false, ◌==◌, cond, length, Option, Some, None, Result, Ok, Err, refl, ap, sym, ◌∙◌, true≢false}
 use Rattle.semantics.specs.Net.{NetValue, input_count, signal_names, name_of}
 use Rattle.semantics.specs.Refusals.{first_doubled, first_ungrounded, first_limit}
-use Rattle.blif_semantics.specs.Reading.{Refusal, doubled, no_output, undriven, cycle, limit, NamedNet, names_of, first_undriven_name, numbered, unless_refused, sized, grounded, driven, with_output, single}
+use Rattle.blif_semantics.specs.Reading.{Refusal, doubled, no_output, undriven, cycle, limit, NamedNet, names_of, first_undriven_name, numbered, unless_refused, sized, grounded, driven, with_output}
+use Rattle.blif_semantics.specs.Reading.{single}
 
 -- nothing refuses the net of names
 pub record IsAccepted (d : NamedNet) : Type 0 where

@@ -1,5 +1,6 @@
 -- Comments mean nothing.
-use Rattle.std.proofs.Common.{◌≡◌, ◌≢◌, ℕ, suc, ◌+◌, Bool, true, false, ◌==◌, not, cond, ltb, List, [], ◌∷◌, ◌++◌, map, length, take, All, Option, Some, None, refl, ap, sym, ◌∙◌, inl, inr, append-nil, arith}
+use Rattle.std.proofs.Common.{◌≡◌, ◌≢◌, ℕ, suc, ◌+◌, Bool, true, false, ◌==◌, not, cond, ltb, List, [], ◌∷◌, ◌++◌, map, length, take, All, Option, Some, None, refl, ap, sym, ◌∙◌, inl, inr}
+use Rattle.std.proofs.Common.{append-nil, arith}
 use Rattle.std.specs.List.{onto_first, position_or_len}
 use Rattle.std.proofs.lemmas.Bool.{cases_lt, lt-ltb, le-ltb, ne_eqb}
 use Rattle.std.proofs.lemmas.List.{take_all}
@@ -82,7 +83,8 @@ pub comment : (before bytes after : Bytes) → All (λ b. b ≢ 10) bytes → lo
 unfolding cut_lines
 comment before bytes after h =
     let split = slice_split_at (λ b. b == 10) (35 ∷ bytes) 10 after (comment_bytes bytes h) refl in
-    let here : cut_lines (35 ∷ (bytes ++ 10 ∷ after)) ≡ cut_lines (10 ∷ after) = ap (map without_comment) split ∙ ap (λ line. line ∷ map without_comment (physical_lines after)) (without_comment-cons 35 bytes) in
+    let here : cut_lines (35 ∷ (bytes ++ 10 ∷ after)) ≡ cut_lines (10 ∷ after)
+    = ap (map without_comment) split ∙ ap (λ line. line ∷ map without_comment (physical_lines after)) (without_comment-cons 35 bytes) in
     same_cut (before ++ 35 ∷ (bytes ++ 10 ∷ after)) (before ++ 10 ∷ after) (cut_behind before (35 ∷ (bytes ++ 10 ∷ after)) (10 ∷ after) here)
 
 pub last_comment : (before bytes : Bytes) → All (λ b. b ≢ 10) bytes → logical_lines (before ++ 35 ∷ bytes) ≡ logical_lines before

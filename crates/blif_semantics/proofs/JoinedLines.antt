@@ -1,5 +1,6 @@
 -- A backslash at the end of a line joins the next one to it.
-use Rattle.std.proofs.Common.{◌≡◌, ◌≢◌, ◌⊎◌, ℕ, ◌+◌, ◌-◌, ◌<◌, Bool, true, false, ◌==◌, cond, List, [], ◌∷◌, ◌++◌, length, take, get_or, All, Option, Some, None, refl, ap, sym, ◌∙◌, inl, inr, append_assoc, append-nil, arith}
+use Rattle.std.proofs.Common.{◌≡◌, ◌≢◌, ◌⊎◌, ℕ, ◌+◌, ◌-◌, ◌<◌, Bool, true, false, ◌==◌, cond, List, [], ◌∷◌, ◌++◌, length, take, get_or, All, Option, Some, None, refl, ap, sym, ◌∙◌, inl, inr}
+use Rattle.std.proofs.Common.{append_assoc, append-nil, arith}
 use Rattle.std.specs.List.{onto_first, suffix_len, prefix_len}
 use Rattle.std.proofs.lemmas.Bool.{cases_Bool, ne_eqb, false≢true}
 use Rattle.std.proofs.lemmas.List.{length_push, take-append-le, take_at, take_all, reverse-append, get_or_at}
@@ -213,7 +214,8 @@ joined_lines line blanks after plain none blank =
     ∙ texts-joined line blanks (physical_lines after) (omega (arith, length-slice_split (λ c. c == 10) after)) plain none blank
     ∙ ap texts (sym (line-before line after plain))
 
-behind : (before some other : Bytes) → AreWholeLines before → texts (physical_lines some) ≡ texts (physical_lines other) → texts (physical_lines (before ++ some)) ≡ texts (physical_lines (before ++ other))
+behind : (before some other : Bytes) → AreWholeLines before → texts (physical_lines some) ≡ texts (physical_lines other)
+    → texts (physical_lines (before ++ some)) ≡ texts (physical_lines (before ++ other))
 behind before some other (inl none) e =
     ap (λ l. texts (physical_lines (l ++ some))) none ∙ e ∙ ap (λ l. texts (physical_lines (l ++ other))) (sym none)
 behind before some other (inr (lines, is)) e =

@@ -6,7 +6,8 @@ use Rattle.semantics.specs.Net.{NetValue, input_count, signal_names, name_of}
 use Rattle.semantics.specs.Refusals.{first_doubled, first_ungrounded, first_limit}
 use Rattle.blif_semantics.specs.Lines.{Statement, logical_lines, statements}
 use Rattle.blif_semantics.specs.Statements.{first_wrong}
-use Rattle.blif_semantics.specs.Reading.{Refusal, text_long, wrong_line, doubled, no_output, undriven, cycle, limit, NamedNet, named_net, names_of, first_undriven_name, numbered, unless_refused, sized, grounded, driven, with_output, single, lines_reading, blif_reading}
+use Rattle.blif_semantics.specs.Reading.{Refusal, text_long, wrong_line, doubled, no_output, undriven, cycle, limit, NamedNet, named_net, names_of, first_undriven_name, numbered, unless_refused}
+use Rattle.blif_semantics.specs.Reading.{sized, grounded, driven, with_output, single, lines_reading, blif_reading}
 
 tells_long : Result NetValue Refusal → Bool
 tells_long (Err text_long) = true

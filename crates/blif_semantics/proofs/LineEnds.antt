@@ -1,11 +1,13 @@
 -- The last line needs no LF, and a CR may stand before each.
-use Rattle.std.proofs.Common.{◌≡◌, ℕ, ◌+◌, ◌-◌, ◌<◌, Bool, true, false, ◌==◌, not, cond, List, [], ◌∷◌, ◌++◌, map, length, take, get_or, filter, Option, Some, None, refl, ap, sym, subst, ◌∙◌, ◌⊎◌, inl, inr, append-nil, append_assoc, arith}
+use Rattle.std.proofs.Common.{◌≡◌, ℕ, ◌+◌, ◌-◌, ◌<◌, Bool, true, false, ◌==◌, not, cond, List, [], ◌∷◌, ◌++◌, map, length, take, get_or, filter, Option, Some, None, refl, ap, sym, subst, ◌∙◌, ◌⊎◌}
+use Rattle.std.proofs.Common.{inl, inr, append-nil, append_assoc, arith}
 use Rattle.std.specs.List.{slice_split, onto_first, suffix_len, prefix_len, AllZip}
 use Rattle.std.proofs.lemmas.List.{length_push, take-append-le, reverse-append, map-append}
 use Rattle.std.proofs.lemmas.List.Elements.{filter-append}
 use Rattle.std.proofs.lemmas.List.Splits.{length-slice_split}
 use Rattle.semantics.specs.Texts.{Bytes}
-use Rattle.blif_semantics.specs.Lines.{is_blank, physical_lines, without_comment, trimmed, before_backslash, LogicalLine, joined_before, line_before, logical_from, logical_lines, words_of, Statement, statements}
+use Rattle.blif_semantics.specs.Lines.{is_blank, physical_lines, without_comment, trimmed, before_backslash, LogicalLine, joined_before, line_before, logical_from, logical_lines, words_of, Statement}
+use Rattle.blif_semantics.specs.Lines.{statements}
 use Rattle.blif_semantics.specs.Laws.{with_carriage_returns}
 use Rattle.blif_semantics.proofs.Comments.{without_comment-cons}
 
@@ -49,7 +51,8 @@ before_longer number line lines longer h = at_cut (before_backslash line)
     after : List LogicalLine → Option Bytes → List LogicalLine
     after rest cut = elim cut [ None ↦ record { number = number; bytes = line } ∷ rest | Some bytes ↦ joined_before (record { number = number; bytes = bytes }) rest ]
 
-    more : (longer ≡ lines) ⊎ ((number : ℕ) × (longer ≡ lines ++ empty_line number ∷ [])) → IsLonger (record { number = number; bytes = line } ∷ lines) (record { number = number; bytes = line } ∷ longer)
+    more : (longer ≡ lines) ⊎ ((number : ℕ) × (longer ≡ lines ++ empty_line number ∷ []))
+        → IsLonger (record { number = number; bytes = line } ∷ lines) (record { number = number; bytes = line } ∷ longer)
     more (inl e) = inl (ap (λ rest. record { number = number; bytes = line } ∷ rest) e)
     more (inr h) = inr (h.0, ap (λ rest. record { number = number; bytes = line } ∷ rest) h.1)
 
@@ -156,7 +159,8 @@ joined-returned line [] (r ∷ returned) h = absurd h
 joined-returned line (next ∷ lines) [] h = absurd h
 joined-returned line (next ∷ lines) (r ∷ returned) h = (record { number = refl; bytes = append-returned line.bytes next.bytes r.bytes h.0.bytes }, h.1)
 
-line_before-returned : (number : ℕ) (line r : Bytes) (lines returned : List LogicalLine) → IsReturned line r → AllZip IsReturnedLine lines returned → AllZip IsReturnedLine (line_before number line lines) (line_before number r returned)
+line_before-returned : (number : ℕ) (line r : Bytes) (lines returned : List LogicalLine) → IsReturned line r → AllZip IsReturnedLine lines returned
+    → AllZip IsReturnedLine (line_before number line lines) (line_before number r returned)
 line_before-returned number line r lines returned h others =
     subst (λ cut. AllZip IsReturnedLine (after line lines (before_backslash line)) (after r returned cut)) (sym (before_backslash-returned line r h)) (at_cut (before_backslash line))
   where

@@ -15,7 +15,8 @@ listed-append is_kind [] more = refl
 listed-append is_kind (words ∷ lines) more = at_test (is_kind (kind_of words)) (listed-append is_kind lines more)
   where
     at_test : (t : Bool) → listed is_kind (lines ++ more) ≡ listed is_kind lines ++ listed is_kind more
-        → flat_map arguments (cond t (words ∷ of_kind is_kind (lines ++ more)) (of_kind is_kind (lines ++ more))) ≡ flat_map arguments (cond t (words ∷ of_kind is_kind lines) (of_kind is_kind lines)) ++ listed is_kind more
+        → flat_map arguments (cond t (words ∷ of_kind is_kind (lines ++ more)) (of_kind is_kind (lines ++ more)))
+        ≡ flat_map arguments (cond t (words ∷ of_kind is_kind lines) (of_kind is_kind lines)) ++ listed is_kind more
     at_test true e = ap (λ l. arguments words ++ l) e ∙ sym (append_assoc (arguments words) (listed is_kind lines) (listed is_kind more))
     at_test false e = e
 

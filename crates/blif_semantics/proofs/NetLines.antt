@@ -68,7 +68,8 @@ names_line-is_line names h t named pins = record {
   words = (keyword (codes ".names") refl, all_append IsWord (map (name_of names) t.pins) (t.name ∷ []) (signals_words names h t.pins pins) (name_word t.name named, tt));
 }
 
-tables-are_lines : (names : List Bytes) → All IsName names → (tables : List TableValue) → All IsTable tables → All (λ t. All (λ s. s < length names) t.pins) tables → AllByRecursion IsLine (flat_map (table_lines names) tables)
+tables-are_lines : (names : List Bytes) → All IsName names → (tables : List TableValue) → All IsTable tables → All (λ t. All (λ s. s < length names) t.pins) tables
+    → AllByRecursion IsLine (flat_map (table_lines names) tables)
 tables-are_lines names h [] formed pins = tt
 tables-are_lines names h (t ∷ tables) formed pins =
     all_append IsLine (table_lines names t) (flat_map (table_lines names) tables) (

@@ -10,7 +10,8 @@ use Rattle.semantics.specs.Refusals.{has_name, first_doubled, first_undriven, fi
 use Rattle.semantics.specs.Refusals.NetRefused.{doubled as parts_doubled, no_output as parts_no_output, undriven as parts_undriven, cycle as parts_cycle, limit as parts_limit}
 use Rattle.semantics.proofs.Refused.{signals-driven}
 use Rattle.blif_semantics.specs.Tables.{NamedTable}
-use Rattle.blif_semantics.specs.Reading.{Refusal, doubled, no_output, undriven, cycle, NamedNet, names_of, names_read, first_undriven_name, signal_named, numbered, unless_refused, sized, grounded, driven, with_output, single}
+use Rattle.blif_semantics.specs.Reading.{Refusal, doubled, no_output, undriven, cycle, NamedNet, names_of, names_read, first_undriven_name, signal_named, numbered, unless_refused, sized, grounded}
+use Rattle.blif_semantics.specs.Reading.{driven, with_output, single}
 use Rattle.blif_semantics.specs.Laws.{refusal_of, reading_of_parts}
 use Rattle.blif_semantics.specs.Named.{with_signals}
 use Rattle.blif_semantics.proofs.Looked.{signal_named-below, each_there}
@@ -31,7 +32,8 @@ words_below names [] h = All-nil (λ s. s < length names)
 words_below names (word ∷ words) h =
     All-cons (λ s. s < length names) (signal_named names word) (map (signal_named names) words) (signal_named-below names word h.0) (words_below names words h.1)
 
-pins_below : (names : List Bytes) (tables : List NamedTable) → AllByRecursion (IsThere names) (flat_map (λ t. t.pins) tables) → All (λ t. All (λ s. s < length names) t.pins) (map (with_signals names) tables)
+pins_below : (names : List Bytes) (tables : List NamedTable) → AllByRecursion (IsThere names) (flat_map (λ t. t.pins) tables)
+    → All (λ t. All (λ s. s < length names) t.pins) (map (with_signals names) tables)
 pins_below names [] h = All-nil (λ t. All (λ s. s < length names) t.pins)
 pins_below names (t ∷ tables) h =
     let parts = parts_there names t.pins (flat_map (λ u. u.pins) tables) h in
@@ -52,7 +54,8 @@ length-names_of d =
     ∙ ap (λ k. length d.inputs + k) (length-map d.tables (λ t. t.name) ∙ sym (length-map d.tables (with_signals (names_of d))))
 
 -- where each name that is read is driven, each pin and output is a signal
-pub signals_below : (d : NamedNet) → first_undriven_name d ≡ None → All (λ t. All (λ s. s < signal_count (numbered d)) t.pins) (numbered d).tables × All (λ s. s < signal_count (numbered d)) (numbered d).outputs
+pub signals_below : (d : NamedNet) → first_undriven_name d ≡ None
+    → All (λ t. All (λ s. s < signal_count (numbered d)) t.pins) (numbered d).tables × All (λ s. s < signal_count (numbered d)) (numbered d).outputs
 unfolding numbered
 signals_below d none =
     let names : List Bytes = names_of d in
@@ -69,7 +72,8 @@ signals_below d none =
 judged : NetValue → Option NetRefused → Result NetValue Refusal
 judged N refused = elim refused [ None ↦ Ok N | Some r ↦ Err (refusal_of (signal_names N) r) ]
 
-judged-or : {X : Type 0} (N : NetValue) (o : Option X) (refuse : X → NetRefused) (rest : Option NetRefused) → judged N (or_else o refuse rest) ≡ unless_refused o (λ x. refusal_of (signal_names N) (refuse x)) (judged N rest)
+judged-or : {X : Type 0} (N : NetValue) (o : Option X) (refuse : X → NetRefused) (rest : Option NetRefused)
+    → judged N (or_else o refuse rest) ≡ unless_refused o (λ x. refusal_of (signal_names N) (refuse x)) (judged N rest)
 unfolding judged
 judged-or N None refuse rest = refl
 judged-or N (Some x) refuse rest = refl

@@ -1,5 +1,6 @@
 -- What is read is a small sound net.
-use Rattle.std.proofs.Common.{◌≡◌, ◌≢◌, ℕ, zero, suc, ◌-◌, ◌<◌, ◌≤◌, Bool, true, false, ◌==◌, not, ◌&&◌, cond, leb, List, [], ◌∷◌, map, flat_map, length, take, filter, codes, find, All, AllPairs, Option, Some, None, Ok, refl, ap, sym, subst, ◌∙◌, arith}
+use Rattle.std.proofs.Common.{◌≡◌, ◌≢◌, ℕ, zero, suc, ◌-◌, ◌<◌, ◌≤◌, Bool, true, false, ◌==◌, not, ◌&&◌, cond, leb, List, [], ◌∷◌, map, flat_map, length, take, filter, codes, find, All, AllPairs}
+use Rattle.std.proofs.Common.{Option, Some, None, Ok, refl, ap, sym, subst, ◌∙◌, arith}
 use Rattle.std.specs.List.{AllByRecursion, list_all}
 use Rattle.std.proofs.lemmas.Bool.{and_parts, eqb-true, eqb-false, leb-true, not-false, false≢true}
 use Rattle.std.proofs.lemmas.List.{length-map, length_push, length-take}
@@ -12,9 +13,11 @@ use Rattle.semantics.proofs.Refused.{undoubled, grounded, small}
 use Rattle.blif_semantics.specs.declared.kind.Kind.{Kind}
 use Rattle.blif_semantics.specs.declared.kind.Kind.TheVariants as kind
 use Rattle.blif_semantics.specs.Lines.{Statement, logical_lines, statements}
-use Rattle.blif_semantics.specs.Statements.{is_name, are_names, is_mark, kind_of, first_word, arguments, is_model, plane_of, row_plane, table_before, table_by, Place, place_after, second_model, names_empty, bad_name, unless, wrong, wrong_by, first_wrong}
+use Rattle.blif_semantics.specs.Statements.{is_name, are_names, is_mark, kind_of, first_word, arguments, is_model, plane_of, row_plane, table_before, table_by, Place, place_after, second_model}
+use Rattle.blif_semantics.specs.Statements.{names_empty, bad_name, unless, wrong, wrong_by, first_wrong}
 use Rattle.blif_semantics.specs.Tables.{NamedTable, mark_of, last_word, marks_of, named, with_row, with_rows, rows_first, table_first, tables_of}
-use Rattle.blif_semantics.specs.Reading.{text_long, wrong_line, NamedNet, is_inputs, is_outputs, listed, model_of, named_net, names_of, first_undriven_name, signal_named, numbered, unless_refused, lines_reading, blif_reading}
+use Rattle.blif_semantics.specs.Reading.{text_long, wrong_line, NamedNet, is_inputs, is_outputs, listed, model_of, named_net, names_of, first_undriven_name, signal_named, numbered, unless_refused}
+use Rattle.blif_semantics.specs.Reading.{lines_reading, blif_reading}
 use Rattle.blif_semantics.specs.Named.{IsNamedTable, IsNamedNet, with_signals, IsDriven}
 use Rattle.blif_semantics.proofs.Names.{IsName-from_test, IsName-from_are_names}
 use Rattle.semantics.proofs.FirstFound.{none_if}
@@ -133,7 +136,8 @@ names_line-parts place words h =
     let parts = none_if (length args == 0) names_empty (unless (are_names args) bad_name) h in
     (let some = eqb-false (length args) 0 parts.0 in omega arith, IsName-from_are_names args (good (are_names args) bad_name parts.1))
 
-named_table : (earlier : List Line) (words : Line) (lines : List Line) → kind_of words ≡ kind.Names → AllRight earlier (words ∷ lines) → IsNamedTable (with_rows (named (arguments words)) (rows_first lines))
+named_table : (earlier : List Line) (words : Line) (lines : List Line) → kind_of words ≡ kind.Names → AllRight earlier (words ∷ lines)
+    → IsNamedTable (with_rows (named (arguments words)) (rows_first lines))
 named_table earlier words lines e h =
     let args : List Bytes = arguments words in
     let parts = names_line-parts (place_after earlier) words (ap (λ k. wrong_by k (place_after earlier) words) (sym e) ∙ right_by (place_after earlier) words h.0) in
@@ -141,7 +145,12 @@ named_table earlier words lines e h =
     let count : length args - 1 ≡ length (take (length args - 1) args) = omega (arith, length-take (length args - 1) args) in
     let widths = rows_width (length args - 1) None (words ∷ earlier) lines opened h.1 in
     let name : IsName (last_word args) = All-get_or IsName args (length args - 1) [] (omega (arith, parts.0)) parts.1 in
-    let empty : IsNamedTable (named args) = record { named = name; pins = All-take IsName (length args - 1) args parts.1; widths = All-nil (λ marks. length marks ≡ length (take (length args - 1) args)); plane = λ e. refl } in
+    let empty : IsNamedTable (named args) = record {
+      named = name;
+      pins = All-take IsName (length args - 1) args parts.1;
+      widths = All-nil (λ marks. length marks ≡ length (take (length args - 1) args));
+      plane = λ e. refl;
+    } in
     rows_formed (named args) (rows_first lines) empty
     (subst (λ n. AllByRecursion (HasWidth n) (rows_first lines)) count widths)
 
@@ -235,7 +244,8 @@ read_sound text most N e =
     subst IsSound (sym h.net.is) (sound (named_net lines) (names_formed lines h.right) h.net.accepted)
 
 pub read_small : (text : Bytes) (most : ℕ) (N : NetValue) → blif_reading text most ≡ Ok N → IsSmall N
-read_small text most N e = let h = reading_parts text most N e in subst IsSmall (sym h.net.is) (small (numbered (named_net (map (λ s. s.words) (statements (logical_lines text))))) h.net.accepted.small)
+read_small text most N e = let h = reading_parts text most N e in subst IsSmall (sym h.net.is)
+    (small (numbered (named_net (map (λ s. s.words) (statements (logical_lines text))))) h.net.accepted.small)
 
 pub read_short : (text : Bytes) (most : ℕ) (N : NetValue) → blif_reading text most ≡ Ok N → length text ≤ most
 read_short text most N e = (reading_parts text most N e).short

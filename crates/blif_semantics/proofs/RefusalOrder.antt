@@ -12,7 +12,8 @@ use Rattle.semantics.proofs.RefusalOrder.{first_passed, passed_first}
 use Rattle.semantics.proofs.Refused.{undoubled, differ-undoubled, grounded as all_grounded, acyclic-grounded, ungrounded, first-ungrounded, small, limits-small}
 use Rattle.blif_semantics.specs.Lines.{Statement, logical_lines, statements}
 use Rattle.blif_semantics.specs.Statements.{Wrong, WrongLine, first_wrong}
-use Rattle.blif_semantics.specs.Reading.{Refusal, text_long, wrong_line, doubled, no_output, undriven, cycle, limit, NamedNet, names_of, named_net, first_undriven_name, numbered, unless_refused, single, lines_reading, blif_reading}
+use Rattle.blif_semantics.specs.Reading.{Refusal, text_long, wrong_line, doubled, no_output, undriven, cycle, limit, NamedNet, names_of, named_net, first_undriven_name, numbered, unless_refused}
+use Rattle.blif_semantics.specs.Reading.{single, lines_reading, blif_reading}
 use Rattle.blif_semantics.specs.FirstRefusals.{IsFirstWrong, IsFirstUndriven}
 use Rattle.blif_semantics.specs.RefusalOrder.{NamesDiffer, HasOutput, ReadsDriven, IsGrounded, IsFirstOnCycle}
 use Rattle.blif_semantics.proofs.FirstRefusals.{first_wrong-first, first_undriven-first, driven-each}
@@ -105,10 +106,12 @@ module _ (d : NamedNet) where
   whole = told N name_at (first_doubled (names_of d)) (eqb (length d.outputs) 0) (first_undriven_name d) (first_ungrounded (input_count N) N.tables) (first_limit N)
 
   -- the tests one after the other
-  at_once : (o : Option Bytes) → first_doubled (names_of d) ≡ o → single d ≡ told N name_at o (eqb (length d.outputs) 0) (first_undriven_name d) (first_ungrounded (input_count N) N.tables) (first_limit N)
+  at_once : (o : Option Bytes) → first_doubled (names_of d) ≡ o
+      → single d ≡ told N name_at o (eqb (length d.outputs) 0) (first_undriven_name d) (first_ungrounded (input_count N) N.tables) (first_limit N)
   at_once o e = ap (λ o. told N name_at o (eqb (length d.outputs) 0) (first_undriven_name d) (first_ungrounded (input_count N) N.tables) (first_limit N)) e
 
-  at_listed : (b : Bool) → first_doubled (names_of d) ≡ None → eqb (length d.outputs) 0 ≡ b → single d ≡ told N name_at None b (first_undriven_name d) (first_ungrounded (input_count N) N.tables) (first_limit N)
+  at_listed : (b : Bool) → first_doubled (names_of d) ≡ None → eqb (length d.outputs) 0 ≡ b
+      → single d ≡ told N name_at None b (first_undriven_name d) (first_ungrounded (input_count N) N.tables) (first_limit N)
   at_listed b once e = at_once None once ∙ ap (λ b. told N name_at None b (first_undriven_name d) (first_ungrounded (input_count N) N.tables) (first_limit N)) e
 
   at_driven : (p : Option Bytes) → first_doubled (names_of d) ≡ None → eqb (length d.outputs) 0 ≡ false → first_undriven_name d ≡ p

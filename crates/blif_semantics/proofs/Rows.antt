@@ -36,7 +36,8 @@ pub record IsRowRight (n : ℕ) (first : Option Bool) (earlier : List Line) (row
   pub good : HasGoodPlane n first row
   pub grown : table_before (row ∷ earlier) ≡ open_table n (elim first [ None ↦ row_plane n row | Some plane ↦ Some plane ])
 
-pub row_right : (n : ℕ) (first : Option Bool) (earlier : List Line) (row : Line) (lines : List Line) → table_before earlier ≡ open_table n first → AllRight earlier (row ∷ lines) → kind_of row ≡ kind.Row → IsRowRight n first earlier row
+pub row_right : (n : ℕ) (first : Option Bool) (earlier : List Line) (row : Line) (lines : List Line) → table_before earlier ≡ open_table n first → AllRight earlier (row ∷ lines)
+    → kind_of row ≡ kind.Row → IsRowRight n first earlier row
 row_right n first earlier row lines table h e = record {
   good = good_plane n first row (ap (λ t. wrong_row t row) (sym table) ∙ ap (λ k. wrong_by k (place_after earlier) row) (sym e) ∙ right_by (place_after earlier) row h.0);
   grown = ap (λ k. table_by k row (table_before earlier)) e ∙ ap (λ t. with_plane t row) table;

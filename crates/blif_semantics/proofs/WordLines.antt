@@ -100,7 +100,8 @@ before_backslash-none line h =
 
 -- ---- a joined line is cut into its words
 
-pub split_words : (test : ℕ → Bool) → test 32 ≡ true → ((b : ℕ) → IsNameByte b → test b ≡ false) → (words : Line) → 0 < length words → AllByRecursion IsWord words → slice_split test (join_with_byte 32 words) ≡ words
+pub split_words : (test : ℕ → Bool) → test 32 ≡ true → ((b : ℕ) → IsNameByte b → test b ≡ false) → (words : Line) → 0 < length words → AllByRecursion IsWord words
+    → slice_split test (join_with_byte 32 words) ≡ words
 split_words test cut none [] some h = absurd (omega arith)
 split_words test cut none (w ∷ []) some h = slice_split_none test w (foreign_word test none w h.0)
 split_words test cut none (w ∷ v ∷ words) some h =
@@ -124,13 +125,15 @@ physical_lines-text_of (line ∷ lines) h =
     ∙ slice_split_at (λ b. b == 10) (join_with_byte 32 line) 10 (text_of lines) (foreign_line (λ b. b == 10) no_line_end line h.0.words) refl
     ∙ ap (λ rest. join_with_byte 32 line ∷ rest) (physical_lines-text_of lines h.1)
 
-logical_alone : (number : ℕ) (line : Bytes) (lines : List Bytes) → without_comment line ≡ line → before_backslash line ≡ None → logical_from number (line ∷ lines) ≡ record { number = number; bytes = line } ∷ logical_from (number + 1) lines
+logical_alone : (number : ℕ) (line : Bytes) (lines : List Bytes) → without_comment line ≡ line → before_backslash line ≡ None
+    → logical_from number (line ∷ lines) ≡ record { number = number; bytes = line } ∷ logical_from (number + 1) lines
 logical_alone number line lines uncut alone = ap (λ bytes. line_before number bytes (logical_from (number + 1) lines)) uncut ∙ rw (alone, line_before) refl
 
 abbrev words_in : List LogicalLine → List Line
 words_in lines = map (λ s. s.words) (statements lines)
 
-words_in-more : (number : ℕ) (bytes : Bytes) (words : Line) (lines : List LogicalLine) → words_of bytes ≡ words → 0 < length words → words_in (record { number = number; bytes = bytes } ∷ lines) ≡ words ∷ words_in lines
+words_in-more : (number : ℕ) (bytes : Bytes) (words : Line) (lines : List LogicalLine) → words_of bytes ≡ words → 0 < length words
+    → words_in (record { number = number; bytes = bytes } ∷ lines) ≡ words ∷ words_in lines
 words_in-more number bytes words lines is some = let kept = ne_eqb (length words) 0 (λ e. omega (arith, e, some)) in rw (is, kept) refl
 
 -- each line is a statement of these words

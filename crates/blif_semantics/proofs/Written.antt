@@ -44,7 +44,8 @@ unfolding blif_reading
 within_limit text most short = rw (le-leb (length text) most short) refl
 
 -- a text that keeps the limit, none of whose lines is wrong
-reading_of : (text : Bytes) (most : ℕ) (lines : List Line) → length text ≤ most → map (λ s. s.words) (statements (logical_lines text)) ≡ lines → AllRight [] lines → blif_reading text most ≡ lines_reading lines
+reading_of : (text : Bytes) (most : ℕ) (lines : List Line) → length text ≤ most → map (λ s. s.words) (statements (logical_lines text)) ≡ lines → AllRight [] lines
+    → blif_reading text most ≡ lines_reading lines
 reading_of text most lines short words right =
     let all : List Statement = statements (logical_lines text) in
     let none : first_wrong all ≡ None = none_wrong all (subst (AllRight []) (sym words) right) in
@@ -66,7 +67,8 @@ pub read : (N : NetValue) → IsSound N → IsSmall N → blif_reading (blif_tex
 read N h small = read_within N MOST_BUNDLE_BYTES h small (within N h small)
 
 -- what is read depends on the statements alone
-pub same_reading : (text other : Bytes) (most : ℕ) → length text ≤ most → length other ≤ most → statements (logical_lines text) ≡ statements (logical_lines other) → blif_reading text most ≡ blif_reading other most
+pub same_reading : (text other : Bytes) (most : ℕ) → length text ≤ most → length other ≤ most → statements (logical_lines text) ≡ statements (logical_lines other)
+    → blif_reading text most ≡ blif_reading other most
 same_reading text other most short short' e = within_limit text most short ∙ ap statements_reading e ∙ sym (within_limit other most short')
 
 pub only : (N M : NetValue) → IsSound N → IsSmall N → IsSound M → IsSmall M → blif_text N ≡ blif_text M → N ≡ M

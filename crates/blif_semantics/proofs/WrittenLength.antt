@@ -57,7 +57,8 @@ names_size (name ∷ names) h =
 
 signals_size : (names : List Bytes) → All IsName names → (signals : List ℕ) → All (λ s. s < length names) signals → words_size (map (name_of names) signals) ≤ length signals * 1024
 signals_size names h signals within =
-    let named : All IsName (map (name_of names) signals) = All-map IsName (name_of names) signals (All-weaker (λ s. s < length names) (λ s. IsName (name_of names s)) (λ s l. All-get_or IsName names s [] l h) signals within) in
+    let named : All IsName (map (name_of names) signals)
+    = All-map IsName (name_of names) signals (All-weaker (λ s. s < length names) (λ s. IsName (name_of names s)) (λ s l. All-get_or IsName names s [] l h) signals within) in
     omega (arith, names_size (map (name_of names) signals) named, length-map signals (name_of names))
 
 row_size : (plane : Bool) (marks : List Mark) → words_size (row_line plane marks) ≤ length marks + 3

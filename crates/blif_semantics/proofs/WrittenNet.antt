@@ -1,5 +1,6 @@
 -- The lines of a net's text give that net.
-use Rattle.std.proofs.Common.{◌≡◌, ◌≢◌, ℕ, ◌-◌, ◌<◌, Bool, true, false, not, List, [], ◌∷◌, ◌++◌, map, flat_map, length, filter, find, All, AllPairs, None, refl, ap, sym, ◌∙◌, append_assoc, append-nil, arith}
+use Rattle.std.proofs.Common.{◌≡◌, ◌≢◌, ℕ, ◌-◌, ◌<◌, Bool, true, false, not, List, [], ◌∷◌, ◌++◌, map, flat_map, length, filter, find, All, AllPairs, None, refl, ap, sym, ◌∙◌, append_assoc}
+use Rattle.std.proofs.Common.{append-nil, arith}
 use Rattle.std.specs.List.{AllByRecursion}
 use Rattle.std.proofs.lemmas.List.{length_push, get_or_push, take_at}
 use Rattle.std.proofs.lemmas.List.Elements.{All-head, All-tail}
@@ -49,14 +50,16 @@ row_back : (name : Bytes) (pins : List Bytes) (rows : List (List Mark)) (first p
     → with_row (part name pins rows first) (row_line plane marks) ≡ part name pins (rows ++ marks ∷ []) plane
 row_back name pins rows first plane marks = let ms = marks_back plane marks in let p = plane_back plane marks in rw (with_row, ms, p) refl
 
-rows_back : (name : Bytes) (pins : List Bytes) (front rows : List (List Mark)) (plane : Bool) → with_rows (part name pins front plane) (map (row_line plane) rows) ≡ part name pins (front ++ rows) plane
+rows_back : (name : Bytes) (pins : List Bytes) (front rows : List (List Mark)) (plane : Bool)
+    → with_rows (part name pins front plane) (map (row_line plane) rows) ≡ part name pins (front ++ rows) plane
 rows_back name pins front [] plane = rw append-nil refl
 rows_back name pins front (marks ∷ rows) plane =
     ap (λ t. with_rows t (map (row_line plane) rows)) (row_back name pins front plane plane marks)
     ∙ rows_back name pins (front ++ marks ∷ []) rows plane
     ∙ ap (λ all. part name pins all plane) (append_assoc front (marks ∷ []) rows)
 
-table_back : (name : Bytes) (pins : List Bytes) (rows : List (List Mark)) (plane : Bool) → (rows ≡ [] → plane ≡ true) → with_rows (part name pins [] true) (map (row_line plane) rows) ≡ part name pins rows plane
+table_back : (name : Bytes) (pins : List Bytes) (rows : List (List Mark)) (plane : Bool) → (rows ≡ [] → plane ≡ true)
+    → with_rows (part name pins [] true) (map (row_line plane) rows) ≡ part name pins rows plane
 table_back name pins [] plane h = ap (part name pins []) (sym (h refl))
 table_back name pins (marks ∷ rows) plane h =
     ap (λ t. with_rows t (map (row_line plane) rows)) (row_back name pins [] true plane marks) ∙ rows_back name pins (marks ∷ []) rows plane
@@ -116,7 +119,8 @@ record IsApart (is_kind : Kind → Bool) : Type 0 where
 abbrev of_kind : (Kind → Bool) → List Line → List Line
 of_kind is_kind lines = filter (λ words. is_kind (kind_of words)) lines
 
-rows_apart : (is_kind : Kind → Bool) → IsApart is_kind → (plane : Bool) (rows : List (List Mark)) (rest : List Line) → of_kind is_kind rest ≡ [] → of_kind is_kind (map (row_line plane) rows ++ rest) ≡ []
+rows_apart : (is_kind : Kind → Bool) → IsApart is_kind → (plane : Bool) (rows : List (List Mark)) (rest : List Line) → of_kind is_kind rest ≡ []
+    → of_kind is_kind (map (row_line plane) rows ++ rest) ≡ []
 rows_apart is_kind h plane [] rest none = none
 rows_apart is_kind h plane (marks ∷ rows) rest none = let apart = ap is_kind (row_kind plane marks) ∙ h.row in rw apart (rows_apart is_kind h plane rows rest none)
 
@@ -143,7 +147,8 @@ named_net-blif_lines N formed =
     let no_inputs = body_apart is_inputs (record { names = refl; row = refl; end' = refl }) names N.tables in
     let no_outputs = body_apart is_outputs (record { names = refl; row = refl; end' = refl }) names N.tables in
     let inputs : listed is_inputs (blif_lines N) ≡ N.inputs = ap (λ lines. N.inputs ++ flat_map arguments lines) no_inputs ∙ append-nil N.inputs in
-    let outputs : listed is_outputs (blif_lines N) ≡ map (name_of names) N.outputs = ap (λ lines. map (name_of names) N.outputs ++ flat_map arguments lines) no_outputs ∙ append-nil (map (name_of names) N.outputs) in
+    let outputs : listed is_outputs (blif_lines N) ≡ map (name_of names) N.outputs
+    = ap (λ lines. map (name_of names) N.outputs ++ flat_map arguments lines) no_outputs ∙ append-nil (map (name_of names) N.outputs) in
     let tables : tables_of (blif_lines N) ≡ map (with_names names) N.tables = tables_back names N.tables formed in
     cc (inputs, outputs, tables)
 
@@ -161,14 +166,16 @@ signals_back names differ (s ∷ signals) h =
     let rest = signals_back names differ signals (All-tail (λ p. p < length names) s signals h) in
     cc (here, rest)
 
-pins_back : (names : List Bytes) → AllPairs ◌≢◌ names → (tables : List TableValue) → All (λ t. All (λ s. s < length names) t.pins) tables → map (with_signals names) (map (with_names names) tables) ≡ tables
+pins_back : (names : List Bytes) → AllPairs ◌≢◌ names → (tables : List TableValue) → All (λ t. All (λ s. s < length names) t.pins) tables
+    → map (with_signals names) (map (with_names names) tables) ≡ tables
 pins_back names differ [] h = refl
 pins_back names differ (t ∷ tables) h =
     let here = signals_back names differ t.pins (All-head (λ u. All (λ s. s < length names) u.pins) t tables h) in
     let rest = pins_back names differ tables (All-tail (λ u. All (λ s. s < length names) u.pins) t tables h) in
     ap (λ pins. record { name = t.name; pins = pins; rows = t.rows; plane = t.plane } ∷ map (with_signals names) (map (with_names names) tables)) here ∙ ap (λ others. t ∷ others) rest
 
-pub numbered-named_of : (N : NetValue) → AllPairs ◌≢◌ (signal_names N) → All (λ t. All (λ s. s < length (signal_names N)) t.pins) N.tables → All (λ s. s < length (signal_names N)) N.outputs → numbered (named_of N) ≡ N
+pub numbered-named_of : (N : NetValue) → AllPairs ◌≢◌ (signal_names N) → All (λ t. All (λ s. s < length (signal_names N)) t.pins) N.tables → All (λ s. s < length (signal_names N)) N.outputs
+    → numbered (named_of N) ≡ N
 unfolding numbered
 numbered-named_of N differ pins outputs =
     let names : List Bytes = signal_names N in
@@ -188,7 +195,8 @@ signals_driven names (s ∷ signals) h = (
   signals_driven names signals (All-tail (λ p. p < length names) s signals h),
 )
 
-pins_driven : (names : List Bytes) (tables : List TableValue) → All (λ t. All (λ s. s < length names) t.pins) tables → AllByRecursion (λ word. has_name names word ≡ true) (flat_map (λ t. t.pins) (map (with_names names) tables))
+pins_driven : (names : List Bytes) (tables : List TableValue) → All (λ t. All (λ s. s < length names) t.pins) tables
+    → AllByRecursion (λ word. has_name names word ≡ true) (flat_map (λ t. t.pins) (map (with_names names) tables))
 pins_driven names [] h = tt
 pins_driven names (t ∷ tables) h =
     all_append (λ word. has_name names word ≡ true) (map (name_of names) t.pins) (flat_map (λ t. t.pins) (map (with_names names) tables))
@@ -200,4 +208,5 @@ named_of-driven N pins outputs =
     let names : List Bytes = signal_names N in
     ap (λ ns. find (λ word. not (has_name ns word)) (names_read (named_of N))) (names_of-named_of N)
     ∙ none_missing names (names_read (named_of N))
-    (all_append (λ word. has_name names word ≡ true) (flat_map (λ t. t.pins) (named_of N).tables) (map (name_of names) N.outputs) (pins_driven names N.tables pins) (signals_driven names N.outputs outputs))
+    (all_append (λ word. has_name names word ≡ true) (flat_map (λ t. t.pins) (named_of N).tables) (map (name_of names) N.outputs) (pins_driven names N.tables pins)
+    (signals_driven names N.outputs outputs))

@@ -1,5 +1,6 @@
 -- No line of a sound net's text is wrong.
-use Rattle.std.proofs.Common.{◌≡◌, ℕ, zero, suc, ◌-◌, ◌<◌, Bool, true, false, not, cond, List, [], ◌∷◌, ◌++◌, map, flat_map, length, codes, All, Option, Some, None, refl, ap, sym, subst, ◌∙◌, append_assoc, arith}
+use Rattle.std.proofs.Common.{◌≡◌, ℕ, zero, suc, ◌-◌, ◌<◌, Bool, true, false, not, cond, List, [], ◌∷◌, ◌++◌, map, flat_map, length, codes, All, Option, Some, None, refl, ap, sym, subst, ◌∙◌}
+use Rattle.std.proofs.Common.{append_assoc, arith}
 use mathlib.Core.Bool.{beq}
 use Rattle.std.specs.List.{AllByRecursion, list_all}
 use Rattle.std.proofs.lemmas.Bool.{eq-eqb, ne_eqb, and_from}
@@ -12,7 +13,8 @@ use Rattle.semantics.specs.Texts.{Bytes, Line, bit_byte}
 use Rattle.semantics.specs.Net.{TableValue, NetValue, signal_names, name_of, signal_count, IsName, IsNameByte, IsTable, IsSound}
 use Rattle.semantics.specs.Blif.{mark_byte, row_line, names_line, table_lines, blif_lines, end_line}
 use Rattle.blif_semantics.specs.declared.kind.Kind.TheVariants as kind
-use Rattle.blif_semantics.specs.Statements.{is_printable, kind_of, is_mark, plane_of, row_plane, had_end, table_before, Place, place_after, agrees, with_plane, Wrong, bad_byte, after_end, wrong, wrong_by, wrong_row}
+use Rattle.blif_semantics.specs.Statements.{is_printable, kind_of, is_mark, plane_of, row_plane, had_end, table_before, Place, place_after, agrees, with_plane, Wrong, bad_byte, after_end, wrong}
+use Rattle.blif_semantics.specs.Statements.{wrong_by, wrong_row}
 use Rattle.blif_semantics.proofs.Names.{printable_byte, is_name-from_IsName, are_names-from_IsName}
 use Rattle.blif_semantics.proofs.WordLines.{IsWord, IsLine}
 use Rattle.blif_semantics.proofs.NetLines.{keyword, row_line-is_line, names_line-is_line, length-signal_names, signal_names-are_names, blif_lines-are_lines}
@@ -100,14 +102,16 @@ table_right : (names : List Bytes) → All IsName names → (t : TableValue) →
 table_right names h t formed pins rest earlier unended others =
     let pin_names : List Bytes = map (name_of names) t.pins in
     let listed : List Bytes = pin_names ++ t.name ∷ [] in
-    let named : All IsName listed = All-push IsName pin_names t.name (All-map IsName (name_of names) t.pins (All-weaker (λ s. s < length names) (λ s. IsName (name_of names s)) (λ s l. All-get_or IsName names s [] l h) t.pins pins)) formed.named in
+    let named : All IsName listed = All-push IsName pin_names t.name
+    (All-map IsName (name_of names) t.pins (All-weaker (λ s. s < length names) (λ s. IsName (name_of names s)) (λ s l. All-get_or IsName names s [] l h) t.pins pins)) formed.named in
     let some = ne_eqb (length listed) 0 (λ e. omega (arith, e, length_push pin_names t.name)) in
     let count : length listed - 1 ≡ length t.pins = omega (arith, length_push pin_names t.name, length-map t.pins (name_of names)) in (
       right_by (place_after earlier) (names_line names t) (names_line-is_line names h t formed.named pins) unended (rw (some, are_names-from_IsName listed named) refl),
       rows_right (length t.pins) t.plane t.rows rest (names_line names t ∷ earlier) None formed.widths unended (ap (λ n. open_table n None) count) tt others,
     )
 
-tables_right : (names : List Bytes) → All IsName names → (tables : List TableValue) → All IsTable tables → All (λ t. All (λ s. s < length names) t.pins) tables → (earlier : List Line) → had_end earlier ≡ false
+tables_right : (names : List Bytes) → All IsName names → (tables : List TableValue) → All IsTable tables → All (λ t. All (λ s. s < length names) t.pins) tables → (earlier : List Line)
+    → had_end earlier ≡ false
     → AllRight earlier (flat_map (table_lines names) tables ++ end_line ∷ [])
 tables_right names h [] formed pins earlier unended = (right_by (place_after earlier) end_line (record { some = omega arith; words = (keyword (codes ".end") refl, tt) }) unended refl, tt)
 tables_right names h (t ∷ tables) formed pins earlier unended =
@@ -126,7 +130,8 @@ blif_lines-right N h =
     let model : Line = codes ".model" ∷ N.model ∷ [] in
     let inputs : Line = codes ".inputs" ∷ N.inputs in
     let output_names : List Bytes = map (name_of names) N.outputs in
-    let outputs_named : All IsName output_names = All-map IsName (name_of names) N.outputs (All-weaker (λ s. s < length names) (λ s. IsName (name_of names s)) (λ s l. All-get_or IsName names s [] l named) N.outputs outputs) in
+    let outputs_named : All IsName output_names = All-map IsName (name_of names) N.outputs
+    (All-weaker (λ s. s < length names) (λ s. IsName (name_of names s)) (λ s l. All-get_or IsName names s [] l named) N.outputs outputs) in
     let lines = blif_lines-are_lines N h in (
       right_by (place_after []) model lines.0 refl (rw (is_name-from_IsName N.model h.model_named) refl),
       (

@@ -1,5 +1,6 @@
 -- From bytes to numbered lines of words. Source: BLIF: comments, blanks, and lines that a backslash joins.
-use Rattle.std.specs.Prelude.{ℕ, ◌+◌, ◌-◌, ◌==◌, Bool, not, ◌||◌, List, [], ◌∷◌, ◌++◌, map, length, take, filter, slice_index, position, Option, Some, None, if◌then◌else◌}
+use Rattle.std.specs.Prelude.{ℕ, ◌+◌, ◌-◌, ◌==◌, Bool, not, ◌||◌, List, [], ◌∷◌, ◌++◌, map, length, take}
+use Rattle.std.specs.Prelude.{filter, slice_index, position, Option, Some, None, if◌then◌else◌}
 use Rattle.std.specs.List.{slice_split, suffix_len}
 use Rattle.semantics.specs.Texts.{Bytes, Line}
 
@@ -47,7 +48,8 @@ line_before number line lines =
 -- the logical lines of physical lines, of which the first has this number
 abbrev pub logical_from : ℕ → List Bytes → List LogicalLine
 logical_from number [] = []
-logical_from number (line ∷ lines) = line_before number (without_comment line) (logical_from (number + 1) lines)
+logical_from number (line ∷ lines)
+    = line_before number (without_comment line) (logical_from (number + 1) lines)
 
 unfoldable pub logical_lines : Bytes → List LogicalLine
 logical_lines text = logical_from 1 (physical_lines text)
@@ -63,4 +65,5 @@ pub record Statement : Type 0 where
 
 -- a line without words means nothing
 abbrev pub statements : List LogicalLine → List Statement
-statements lines = filter (λ s. not (length s.words == 0)) (map (λ l. record { line = l.number; words = words_of l.bytes }) lines)
+statements lines = filter (λ s. not (length s.words == 0))
+    (map (λ l. record { line = l.number; words = words_of l.bytes }) lines)

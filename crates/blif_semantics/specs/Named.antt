@@ -22,7 +22,8 @@ pub record IsNamedNet (d : NamedNet) : Type 0 where
 
 -- a table with the signals of its names
 abbrev pub with_signals : List Bytes → NamedTable → TableValue
-with_signals names t = record { name = t.name; pins = map (signal_named names) t.pins; rows = t.rows; plane = t.plane }
+with_signals names t = record
+    { name = t.name; pins = map (signal_named names) t.pins; rows = t.rows; plane = t.plane }
 
 -- each name is driven once, there is an output, and what is read is driven
 pub record IsDriven (N : NetValue) : Type 0 where

@@ -1,5 +1,8 @@
--- The reading of a text: a small sound net, or one refusal. Source: BLIF; the order of the refusals is this tool's own.
-use Rattle.std.specs.Prelude.{ℕ, ◌+◌, ◌==◌, Bool, true, false, not, nat_le, List, ◌++◌, map, flat_map, length, filter, codes, bytes_eq, position, Option, Some, None, Result, Ok, Err, if◌then◌else◌}
+-- The reading of a text: a small sound net, or one refusal. Source: BLIF; the order of the refusals is this
+-- tool's own.
+use Rattle.std.specs.Prelude.{ℕ, ◌+◌, ◌==◌, Bool, true, false, not, nat_le, List, ◌++◌, map, flat_map}
+use Rattle.std.specs.Prelude.{length, filter, codes, bytes_eq, position, Option, Some, None, Result, Ok, Err}
+use Rattle.std.specs.Prelude.{if◌then◌else◌}
 use Rattle.std.specs.List.{find}
 use Rattle.semantics.specs.declared.which.Which.{Which}
 use Rattle.semantics.specs.Texts.{Bytes, Line}
@@ -29,7 +32,8 @@ pub record NamedNet : Type 0 where
 
 -- the name that the `.model` line gives, or `top`
 abbrev pub model_of : List Line → Bytes
-model_of lines = elim (find (λ words. is_model (kind_of words)) lines) [ None ↦ codes "top" | Some words ↦ first_word (arguments words) ]
+model_of lines = elim (find (λ words. is_model (kind_of words)) lines)
+    [ None ↦ codes "top" | Some words ↦ first_word (arguments words) ]
 
 abbrev pub is_inputs : Kind → Bool
 is_inputs kind.Inputs = true
@@ -44,7 +48,12 @@ abbrev pub listed : (Kind → Bool) → List Line → List Bytes
 listed is_kind lines = flat_map arguments (filter (λ words. is_kind (kind_of words)) lines)
 
 unfoldable pub named_net : List Line → NamedNet
-named_net lines = record { model = model_of lines; inputs = listed is_inputs lines; outputs = listed is_outputs lines; tables = tables_of lines }
+named_net lines = record {
+  model = model_of lines;
+  inputs = listed is_inputs lines;
+  outputs = listed is_outputs lines;
+  tables = tables_of lines;
+}
 
 -- the names that are driven: those of the inputs and of the tables
 abbrev pub names_of : NamedNet → List Bytes
@@ -68,12 +77,14 @@ numbered d =
     record {
       model = d.model;
       inputs = d.inputs;
-      tables = map (λ t. record { name = t.name; pins = map (signal_named names) t.pins; rows = t.rows; plane = t.plane }) d.tables;
+      tables = map (λ t. record
+          { name = t.name; pins = map (signal_named names) t.pins; rows = t.rows; plane = t.plane }) d.tables;
       outputs = map (signal_named names) d.outputs;
     }
 
 -- the refusal where there is one, else what the rest says
-abbrev pub unless_refused : {X : Type 0} → Option X → (X → Refusal) → Result NetValue Refusal → Result NetValue Refusal
+abbrev pub unless_refused : {X : Type 0} → Option X → (X → Refusal) → Result NetValue Refusal
+    → Result NetValue Refusal
 unless_refused None refuse rest = rest
 unless_refused (Some x) refuse rest = Err (refuse x)
 
@@ -81,7 +92,8 @@ abbrev pub sized : NetValue → Result NetValue Refusal
 sized N = unless_refused (first_limit N) limit (Ok N)
 
 abbrev pub grounded : NetValue → Result NetValue Refusal
-grounded N = unless_refused (first_ungrounded (input_count N) N.tables) (λ i. cycle (name_of (signal_names N) (input_count N + i))) (sized N)
+grounded N = unless_refused (first_ungrounded (input_count N) N.tables)
+    (λ i. cycle (name_of (signal_names N) (input_count N + i))) (sized N)
 
 abbrev pub driven : NamedNet → Result NetValue Refusal
 driven d = unless_refused (first_undriven_name d) undriven (grounded (numbered d))
@@ -101,4 +113,5 @@ unfoldable pub blif_reading : Bytes → ℕ → Result NetValue Refusal
 blif_reading text most =
     let lines = statements (logical_lines text) in
     if not (nat_le (length text) most) then Err text_long
-    else unless_refused (first_wrong lines) (λ w. wrong_line w.line w.wrong) (lines_reading (map (λ s. s.words) lines))
+    else unless_refused (first_wrong lines) (λ w. wrong_line w.line w.wrong)
+    (lines_reading (map (λ s. s.words) lines))

@@ -1,6 +1,8 @@
--- What each line of words is, and the first line that is wrong. Source: BLIF's `.model`, `.inputs`, `.outputs`, `.names`, `.end`
--- and the rows of tables; what is refused, and in which order, is this tool's own.
-use Rattle.std.specs.Prelude.{ℕ, zero, suc, ◌-◌, ◌==◌, nat_le, Bool, true, false, not, ◌||◌, ◌&&◌, List, [], ◌∷◌, length, slice_index, codes, bytes_eq, Option, Some, None, if◌then◌else◌}
+-- What each line of words is, and the first line that is wrong. Source: BLIF's `.model`, `.inputs`,
+-- `.outputs`, `.names`, `.end` and the rows of tables; what is refused, and in which order, is this tool's
+-- own.
+use Rattle.std.specs.Prelude.{ℕ, zero, suc, ◌-◌, ◌==◌, nat_le, Bool, true, false, not, ◌||◌, ◌&&◌, List, []}
+use Rattle.std.specs.Prelude.{◌∷◌, length, slice_index, codes, bytes_eq, Option, Some, None, if◌then◌else◌}
 use Rattle.std.specs.List.{list_any, list_all}
 use mathlib.Core.Bool.{beq}
 use Rattle.semantics.specs.Texts.{Bytes, Line}
@@ -44,7 +46,8 @@ abbrev pub has_name_bytes : Bytes → Bool
 has_name_bytes word = list_all (λ b. is_printable b && not (b == 35)) word
 
 abbrev pub is_name : Bytes → Bool
-is_name word = not (length word == 0) && nat_le (length word) 1023 && has_name_bytes word && not (slice_index word (length word - 1) == 92)
+is_name word = not (length word == 0) && nat_le (length word) 1023 && has_name_bytes word
+    && not (slice_index word (length word - 1) == 92)
 
 abbrev pub are_names : List Bytes → Bool
 are_names words = list_all is_name words
@@ -59,7 +62,8 @@ plane_of _ = None
 -- the plane of a row of a table with this number of pins, where the words have the form of such a row
 abbrev pub row_plane : ℕ → Line → Option Bool
 row_plane zero (plane ∷ []) = plane_of plane
-row_plane (suc n) (marks ∷ plane ∷ []) = if length marks == suc n && list_all is_mark marks then plane_of plane else None
+row_plane (suc n) (marks ∷ plane ∷ [])
+    = if length marks == suc n && list_all is_mark marks then plane_of plane else None
 row_plane _ _ = None
 
 -- ---- what the lines before a line say; the latest stands first
@@ -86,7 +90,11 @@ pub record OpenTable : Type 0 where
 -- the table after one row more: its first row sets its plane
 abbrev pub with_plane : Option OpenTable → Line → Option OpenTable
 with_plane None words = None
-with_plane (Some table) words = Some (record table { plane = elim table.plane [ None ↦ row_plane table.pins words | Some plane ↦ Some plane ] })
+with_plane (Some table) words
+    = Some (record table {
+      plane
+          = elim table.plane [ None ↦ row_plane table.pins words | Some plane ↦ Some plane ];
+    })
 
 abbrev pub table_by : Kind → Line → Option OpenTable → Option OpenTable
 table_by kind.Names words before = Some (record { pins = length (arguments words) - 1; plane = None })
@@ -105,7 +113,8 @@ pub record Place : Type 0 where
   pub table : Option OpenTable
 
 abbrev pub place_after : List Line → Place
-place_after earlier = record { had_model = had_model earlier; had_end = had_end earlier; table = table_before earlier }
+place_after earlier = record
+    { had_model = had_model earlier; had_end = had_end earlier; table = table_before earlier }
 
 -- ---- what is wrong with a line
 
@@ -127,16 +136,21 @@ agrees (Some first) plane = beq first plane
 abbrev pub wrong_row : Option OpenTable → Line → Option Wrong
 wrong_row None words = Some stray_row
 wrong_row (Some table) words =
-    elim (row_plane table.pins words) [ None ↦ Some bad_row | Some plane ↦ if agrees table.plane plane then None else Some mixed_plane ]
+    elim (row_plane table.pins words)
+    [ None ↦ Some bad_row | Some plane ↦ if agrees table.plane plane then None else Some mixed_plane ]
 
 abbrev pub unless : Bool → Wrong → Option Wrong
 unless good wrong = if good then None else Some wrong
 
 abbrev pub wrong_by : Kind → Place → Line → Option Wrong
-wrong_by kind.Model place words = if place.had_model then Some second_model else unless (length (arguments words) == 1 && are_names (arguments words)) bad_name
+wrong_by kind.Model place words
+    = if place.had_model then Some second_model
+    else unless (length (arguments words) == 1 && are_names (arguments words)) bad_name
 wrong_by kind.Inputs place words = unless (are_names (arguments words)) bad_name
 wrong_by kind.Outputs place words = unless (are_names (arguments words)) bad_name
-wrong_by kind.Names place words = if length (arguments words) == 0 then Some names_empty else unless (are_names (arguments words)) bad_name
+wrong_by kind.Names place words
+    = if length (arguments words) == 0 then Some names_empty
+    else unless (are_names (arguments words)) bad_name
 wrong_by kind.End place words = None
 wrong_by kind.Command place words = Some (command (first_word words))
 wrong_by kind.Row place words = wrong_row place.table words
@@ -154,7 +168,11 @@ pub record WrongLine : Type 0 where
 abbrev pub first_wrong_after : List Line → List Statement → Option WrongLine
 first_wrong_after earlier [] = None
 first_wrong_after earlier (s ∷ rest) =
-    elim (wrong (place_after earlier) s.words) [ None ↦ first_wrong_after (s.words ∷ earlier) rest | Some w ↦ Some (record { line = s.line; wrong = w }) ]
+    elim (wrong (place_after earlier) s.words) [
+      | None ↦ first_wrong_after (s.words ∷ earlier) rest
+      | Some w ↦ Some
+          (record { line = s.line; wrong = w })
+    ]
 
 -- the first line that is wrong
 unfoldable pub first_wrong : List Statement → Option WrongLine

@@ -1,5 +1,6 @@
 //! Worked examples of the definitions, computed by the checker: each function's contract is its examples.
-ghost use Rattle.blif_semantics.specs.Examples.{LineExamples, WrongExamples, ReadingExamples, SeveralExamples};
+ghost use Rattle.blif_semantics.specs.Examples.{LineExamples, WrongExamples, ReadingExamples};
+ghost use Rattle.blif_semantics.specs.Examples.{SeveralExamples};
 
 /// Texts as logical lines of words.
 pub fn lines()

@@ -1,7 +1,8 @@
 //! The laws about what a text means: each function's contract is a law.
 ghost use Rattle.blif_semantics.specs.LineLaws.{JoinLaw, ListLaw, RowLaw};
 ghost use Rattle.blif_semantics.specs.RefusalOrder.{RefusalOrderLaw};
-ghost use Rattle.blif_semantics.specs.Laws.{TextLaw, FirstRefusalLaw, PlaneLaw, NamedNetLaw, ReadingLaw, WrittenLaw};
+ghost use Rattle.blif_semantics.specs.Laws.{TextLaw, FirstRefusalLaw, PlaneLaw, NamedNetLaw, ReadingLaw};
+ghost use Rattle.blif_semantics.specs.Laws.{WrittenLaw};
 
 /// What the bytes of a text mean, and what means nothing.
 pub fn texts()

@@ -11,11 +11,13 @@ use Rattle.blif_text.specs.KeptLines.{KeptLines, Outcome, outcome, unless_wrong}
 use Rattle.blif_text.specs.Refusals.{Tells}
 
 -- a physical line without a backslash at its end is the last one of its logical line
-line_ended : (begun : Option LogicalLine) (number : ℕ) (line : Bytes) (rest : List LogicalLine) → before_backslash line ≡ None → after_begun begun (line_before number line rest) ≡ gone_on begun number line ∷ rest
+line_ended : (begun : Option LogicalLine) (number : ℕ) (line : Bytes) (rest : List LogicalLine) → before_backslash line ≡ None
+    → after_begun begun (line_before number line rest) ≡ gone_on begun number line ∷ rest
 line_ended None number line rest none =
     ap (λ (o : Option Bytes). elim o [ None ↦ record { number = number; bytes = line } ∷ rest | Some bytes ↦ joined_before (record { number = number; bytes = bytes }) rest ]) none
 line_ended (Some begun) number line rest none =
-    ap (λ (o : Option Bytes). joined_before begun (elim o [ None ↦ record { number = number; bytes = line } ∷ rest | Some bytes ↦ joined_before (record { number = number; bytes = bytes }) rest ])) none
+    ap (λ (o : Option Bytes). joined_before begun (elim o [ None ↦ record { number = number; bytes = line } ∷ rest | Some bytes ↦ joined_before (record { number = number; bytes = bytes }) rest ]))
+    none
 
 -- a logical line was refused
 pub ended_told : (k : KeptLines) (begun : Option LogicalLine) (number : ℕ) (line : Bytes) (ended : LogicalLine) (told : BlifRefusal) → before_backslash line ≡ None → ended ≡ gone_on begun number line
@@ -36,7 +38,8 @@ outcome-next old new begun left number k parts line all within is added same =
     ∙ same
 
 -- a physical line was refused
-pub outcome-told : (old : KeptLines) (begun : Option LogicalLine) (number k : ℕ) (parts : List Bytes) (line : Bytes) (all : Outcome) (told : BlifRefusal) → k < length parts → line ≡ get_or parts k line
+pub outcome-told : (old : KeptLines) (begun : Option LogicalLine) (number k : ℕ) (parts : List Bytes) (line : Bytes) (all : Outcome) (told : BlifRefusal) → k < length parts
+    → line ≡ get_or parts k line
     → ((rest : List LogicalLine) (answer : Result NetValue Refusal) → Tells told (unless_wrong (outcome old (after_begun begun (line_before number (without_comment line) rest))).wrong answer))
     → outcome old (after_begun begun (logical_from number (drop k parts))) ≡ all
     → (answer : Result NetValue Refusal) → Tells told (unless_wrong all.wrong answer)

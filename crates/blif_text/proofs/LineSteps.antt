@@ -20,7 +20,9 @@ list_any-filter p [] = refl
 list_any-filter p (x ∷ xs) = some_of p x xs (p x) refl (list_any-filter p xs)
 
 -- a physical line was added
-pub lines-next : (old new : List LogicalLine) (begun left : Option LogicalLine) (number k : ℕ) (parts : List Bytes) (line : Bytes) (all : List LogicalLine) → k < length parts → line ≡ get_or parts k line → ((rest : List LogicalLine) → new ++ with_words (after_begun left rest) ≡ old ++ with_words (after_begun begun (line_before number (without_comment line) rest))) → old ++ with_words (after_begun begun (logical_from number (drop k parts))) ≡ all → new ++ with_words (after_begun left (logical_from (number + 1) (drop (k + 1) parts))) ≡ all
+pub lines-next : (old new : List LogicalLine) (begun left : Option LogicalLine) (number k : ℕ) (parts : List Bytes) (line : Bytes) (all : List LogicalLine) → k < length parts
+    → line ≡ get_or parts k line → ((rest : List LogicalLine) → new ++ with_words (after_begun left rest) ≡ old ++ with_words (after_begun begun (line_before number (without_comment line) rest)))
+    → old ++ with_words (after_begun begun (logical_from number (drop k parts))) ≡ all → new ++ with_words (after_begun left (logical_from (number + 1) (drop (k + 1) parts))) ≡ all
 lines-next old new begun left number k parts line all within is added same =
     let cut : drop k parts ≡ line ∷ drop (k + 1) parts = drop_more parts k line within ∙ ap (λ l. l ∷ drop (k + 1) parts) (sym is) in
     added (logical_from (number + 1) (drop (k + 1) parts))
@@ -28,11 +30,13 @@ lines-next old new begun left number k parts line all within is added same =
     ∙ same
 
 -- all physical lines were added
-pub lines-end : (old : List LogicalLine) (begun : Option LogicalLine) (number k : ℕ) (parts : List Bytes) (all : List LogicalLine) → k ≡ length parts → old ++ with_words (after_begun begun (logical_from number (drop k parts))) ≡ all → old ++ with_words (after_begun begun []) ≡ all
+pub lines-end : (old : List LogicalLine) (begun : Option LogicalLine) (number k : ℕ) (parts : List Bytes) (all : List LogicalLine) → k ≡ length parts
+    → old ++ with_words (after_begun begun (logical_from number (drop k parts))) ≡ all → old ++ with_words (after_begun begun []) ≡ all
 lines-end old begun number k parts all is same =
     ap (λ ps. old ++ with_words (after_begun begun (logical_from number ps))) (sym (drop_all k parts (omega (arith, is)))) ∙ same
 
-kept : (line : LogicalLine) (lines : List LogicalLine) (b : Bool) → has_words line ≡ b → map statement_of (with_words lines) ≡ statements lines → map statement_of (with_words (line ∷ lines)) ≡ statements (line ∷ lines)
+kept : (line : LogicalLine) (lines : List LogicalLine) (b : Bool) → has_words line ≡ b → map statement_of (with_words lines) ≡ statements lines
+    → map statement_of (with_words (line ∷ lines)) ≡ statements (line ∷ lines)
 kept line lines true is rest = rw is (ap (λ s. statement_of line ∷ s) rest)
 kept line lines false is rest = rw is rest
 

@@ -46,7 +46,8 @@ names_of-bare d = ap (λ l. d.inputs ++ l) (names_bare d.tables)
 numbered-bare : (d : NamedNet) → numbered (without_rows d) ≡ bare (numbered d)
 unfolding numbered
 numbered-bare d =
-    let at : List Bytes → NetValue = λ names. record { model = d.model; inputs = d.inputs; tables = map (with_signals names) (map table_without_rows d.tables); outputs = map (signal_named names) d.outputs } in
+    let at : List Bytes → NetValue = λ names. record
+    { model = d.model; inputs = d.inputs; tables = map (with_signals names) (map table_without_rows d.tables); outputs = map (signal_named names) d.outputs } in
     ap at (names_of-bare d)
     ∙ ap (λ ts. record { model = d.model; inputs = d.inputs; tables = ts; outputs = map (signal_named (names_of d)) d.outputs }) (tables_bare (names_of d) d.tables)
 
@@ -120,7 +121,8 @@ sized_bare N many =
 
 -- ---- the refusals before it, one behind another
 
-for_rows-over : {X : Type 0} (refused : Option X) (refuse : X → Refusal) (rest : Result NetValue Refusal) → refused_for_rows (unless_refused refused refuse rest) ≡ unless_refused refused refuse (refused_for_rows rest)
+for_rows-over : {X : Type 0} (refused : Option X) (refuse : X → Refusal) (rest : Result NetValue Refusal)
+    → refused_for_rows (unless_refused refused refuse rest) ≡ unless_refused refused refuse (refused_for_rows rest)
 for_rows-over None refuse rest = refl
 for_rows-over (Some x) refuse rest = refl
 

@@ -1,5 +1,6 @@
 -- Names as slices of the text, as texts, and the places at which they stand.
-use Rattle.std.proofs.Common.{◌≡◌, ℕ, ◌+◌, ◌<◌, Bool, true, false, not, cond, ltb, List, [], ◌∷◌, ◌++◌, length, bytes_eq, Option, Some, None, get_or, drop, take, map, All, Result, Err, ◌≤◌, refl, sym, ap, subst, ◌∙◌, arith}
+use Rattle.std.proofs.Common.{◌≡◌, ℕ, ◌+◌, ◌<◌, Bool, true, false, not, cond, ltb, List, [], ◌∷◌, ◌++◌, length, bytes_eq, Option, Some, None, get_or, drop, take, map, All, Result, Err, ◌≤◌, refl}
+use Rattle.std.proofs.Common.{sym, ap, subst, ◌∙◌, arith}
 use Rattle.std.specs.Prelude.{position, ◌||◌}
 use Rattle.std.specs.Borrow.{Bor}
 use Rattle.std.specs.List.{list_any, position_or_len}
@@ -64,7 +65,8 @@ named_at words i w within named =
     subst IsName (get_or-map (λ s. s.now) words i w [] within) (named i [] (omega (arith, within, length-map words (λ s. s.now))))
 
 -- one signal more
-pub signals-next : (names : List Bytes) (words : List (Bor Bytes)) (i : ℕ) (w : Bor Bytes) (found : List ℕ) (s : ℕ) → i < length words → Some s ≡ place_of names (get_or words i w).now → found ≡ map (signal_named names) (texts (take i words)) → found ++ s ∷ [] ≡ map (signal_named names) (texts (take (i + 1) words))
+pub signals-next : (names : List Bytes) (words : List (Bor Bytes)) (i : ℕ) (w : Bor Bytes) (found : List ℕ) (s : ℕ) → i < length words → Some s ≡ place_of names (get_or words i w).now
+    → found ≡ map (signal_named names) (texts (take i words)) → found ++ s ∷ [] ≡ map (signal_named names) (texts (take (i + 1) words))
 signals-next names words i w found s within placed so_far =
     let here : signal_named names (get_or words i w).now ≡ s = ap (λ (o : Option ℕ). elim o [ None ↦ 0 | Some at ↦ at ]) (sym placed) in
     ap (λ l. l ++ s ∷ []) so_far
@@ -75,23 +77,27 @@ signals-next names words i w found s within placed so_far =
 cut : (words : List (Bor Bytes)) (i : ℕ) (w : Bor Bytes) → i < length words → texts (drop i words) ≡ (get_or words i w).now ∷ texts (drop (i + 1) words)
 cut words i w within = ap texts (drop_more words i w within)
 
-known-next : (names : List Bytes) (words : List (Bor Bytes)) (i : ℕ) (w : Bor Bytes) (s : ℕ) → i < length words → Some s ≡ place_of names (get_or words i w).now → first_unknown names (texts (drop i words)) ≡ first_unknown names (texts (drop (i + 1) words))
+known-next : (names : List Bytes) (words : List (Bor Bytes)) (i : ℕ) (w : Bor Bytes) (s : ℕ) → i < length words → Some s ≡ place_of names (get_or words i w).now
+    → first_unknown names (texts (drop i words)) ≡ first_unknown names (texts (drop (i + 1) words))
 known-next names words i w s within placed =
     ap (first_unknown names) (cut words i w within)
     ∙ ap (λ b. cond (not b) (Some (get_or words i w).now) (first_unknown names (texts (drop (i + 1) words)))) (has_name-placed names (get_or words i w).now s placed)
 
 -- a word that has a place is not the first unknown one
-pub unknown-next : (names : List Bytes) (words : List (Bor Bytes)) (i : ℕ) (w : Bor Bytes) (s : ℕ) (all : Option Bytes) → i < length words → Some s ≡ place_of names (get_or words i w).now → first_unknown names (texts (drop i words)) ≡ all → first_unknown names (texts (drop (i + 1) words)) ≡ all
+pub unknown-next : (names : List Bytes) (words : List (Bor Bytes)) (i : ℕ) (w : Bor Bytes) (s : ℕ) (all : Option Bytes) → i < length words → Some s ≡ place_of names (get_or words i w).now
+    → first_unknown names (texts (drop i words)) ≡ all → first_unknown names (texts (drop (i + 1) words)) ≡ all
 unknown-next names words i w s all within placed so_far = sym (known-next names words i w s within placed) ∙ so_far
 
 -- the first word without a place is
-pub unknown-here : (names : List Bytes) (words : List (Bor Bytes)) (i : ℕ) (w : Bor Bytes) (all : Option Bytes) → i < length words → None ≡ place_of names (get_or words i w).now → first_unknown names (texts (drop i words)) ≡ all → all ≡ Some (get_or words i w).now
+pub unknown-here : (names : List Bytes) (words : List (Bor Bytes)) (i : ℕ) (w : Bor Bytes) (all : Option Bytes) → i < length words → None ≡ place_of names (get_or words i w).now
+    → first_unknown names (texts (drop i words)) ≡ all → all ≡ Some (get_or words i w).now
 unknown-here names words i w all within unplaced so_far =
     sym so_far
     ∙ ap (first_unknown names) (cut words i w within)
     ∙ ap (λ b. cond (not b) (Some (get_or words i w).now) (first_unknown names (texts (drop (i + 1) words)))) (has_name-unplaced names (get_or words i w).now unplaced)
 
 -- the refusal of the first unknown word
-pub unknown_told : (unknown : Option Bytes) (word name : Bytes) → unknown ≡ Some word → name ≡ word → (rest : Result NetValue Refusal) (refusal : Refusal) → Some (undriven name) ≡ Some refusal → unless_refused unknown undriven rest ≡ Err refusal
+pub unknown_told : (unknown : Option Bytes) (word name : Bytes) → unknown ≡ Some word → name ≡ word → (rest : Result NetValue Refusal) (refusal : Refusal) → Some (undriven name) ≡ Some refusal
+    → unless_refused unknown undriven rest ≡ Err refusal
 unknown_told unknown word name is same rest refusal e =
     ap (λ o. unless_refused o undriven rest) is ∙ ap (λ n. Err (undriven n)) (sym same) ∙ ap Err (same_Some _ _ e)

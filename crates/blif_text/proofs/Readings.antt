@@ -96,7 +96,8 @@ pub formed : (text : Bytes) → first_wrong (statements (logical_lines text)) �
 formed text none = names_formed (lines_of text) (all_right (statements (logical_lines text)) none)
 
 -- a text that is not too long is refused for its first wrong line, or else read by its lines
-pub reading-short : (text : Bytes) (most : ℕ) → length text ≤ most → blif_reading text most ≡ unless_refused (first_wrong (statements (logical_lines text))) (λ w. wrong_line w.line w.wrong) (lines_reading (lines_of text))
+pub reading-short : (text : Bytes) (most : ℕ) → length text ≤ most
+    → blif_reading text most ≡ unless_refused (first_wrong (statements (logical_lines text))) (λ w. wrong_line w.line w.wrong) (lines_reading (lines_of text))
 unfolding blif_reading
 reading-short text most short = rw (le-leb (length text) most short) refl
 

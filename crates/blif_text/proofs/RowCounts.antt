@@ -38,7 +38,8 @@ module _ (test : Kind → Bool) (other : test kind.Row ≡ false) where
   same_more : (line : LogicalLine) (a b : List LogicalLine) → of_kind test (words_in a) ≡ of_kind test (words_in b) → of_kind test (words_in (line ∷ a)) ≡ of_kind test (words_in (line ∷ b))
   same_more line a b same = ap (λ rest. cond (test (kind_of (words_of line.bytes))) (words_of line.bytes ∷ rest) rest) same
 
-  same_dropped : (line : LogicalLine) (a b : List LogicalLine) → is_row (kind_of (words_of line.bytes)) ≡ true → of_kind test (words_in a) ≡ of_kind test (words_in b) → of_kind test (words_in a) ≡ of_kind test (words_in (line ∷ b))
+  same_dropped : (line : LogicalLine) (a b : List LogicalLine) → is_row (kind_of (words_of line.bytes)) ≡ true → of_kind test (words_in a) ≡ of_kind test (words_in b)
+      → of_kind test (words_in a) ≡ of_kind test (words_in (line ∷ b))
   same_dropped line a b row same =
       let no : test (kind_of (words_of line.bytes)) ≡ false = ap test (row_kind _ row) ∙ other in
       same ∙ ap (λ t. cond t (words_of line.bytes ∷ of_kind test (words_in b)) (of_kind test (words_in b))) (sym no)
@@ -133,7 +134,8 @@ none_first earlier (words ∷ lines) closed h = at_kind (kind_of words) refl
 
 -- a line, where the rows behind it are counted
 counted_at : (before : Option OpenTable) (words : Line) (lines : List Line) (k : Kind) → total (tables_of lines) + length (rows_first lines) ≡ rows_in lines
-    → (table_by k words before ≡ None → rows_first lines ≡ []) → total (table_first k words lines (tables_of lines)) + length (if_row k (words ∷ rows_first lines) []) ≡ cond (is_row k) 1 0 + rows_in lines
+    → (table_by k words before ≡ None → rows_first lines ≡ [])
+    → total (table_first k words lines (tables_of lines)) + length (if_row k (words ∷ rows_first lines) []) ≡ cond (is_row k) 1 0 + rows_in lines
 counted_at before words lines kind.Row rest closed = omega (arith, rest)
 counted_at before words lines kind.Names rest closed =
     omega (arith, rest, sum_by-cons (λ t. length t.rows) (with_rows (named (arguments words)) (rows_first lines)) (tables_of lines), rows_with (named (arguments words)) (rows_first lines))

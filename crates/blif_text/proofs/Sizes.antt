@@ -83,7 +83,8 @@ line_below : (number : ℕ) (line : Bytes) (lines : List LogicalLine) → bytes_
 line_below number line lines = at_front (before_backslash line) refl
   where
     at_front : (o : Option Bytes) → before_backslash line ≡ o
-        → bytes_total (elim o [ None ↦ record { number = number; bytes = line } ∷ lines | Some bytes ↦ joined_before (record { number = number; bytes = bytes }) lines ]) ≤ length line + bytes_total lines
+        → bytes_total (elim o [ None ↦ record { number = number; bytes = line } ∷ lines | Some bytes ↦ joined_before (record { number = number; bytes = bytes }) lines ])
+        ≤ length line + bytes_total lines
     at_front None e = omega arith
     at_front (Some front) e = omega (arith, joined_total (record { number = number; bytes = front }) lines, front_below line front e)
 
@@ -100,7 +101,8 @@ word_count lines = sizes (λ (words : Line). length words) lines
 abbrev words_in : List LogicalLine → List Line
 words_in lines = map (λ s. s.words) (statements lines)
 
-counted : (line : LogicalLine) (lines : List LogicalLine) → word_count (words_in lines) ≤ bytes_total lines → (t : Bool) → has_words line ≡ t → word_count (words_in (line ∷ lines)) ≤ length line.bytes + bytes_total lines
+counted : (line : LogicalLine) (lines : List LogicalLine) → word_count (words_in lines) ≤ bytes_total lines → (t : Bool) → has_words line ≡ t
+    → word_count (words_in (line ∷ lines)) ≤ length line.bytes + bytes_total lines
 counted line lines rest true e = rw e (omega (arith, rest, words_below line.bytes))
 counted line lines rest false e = rw e (omega (arith, rest))
 
@@ -113,7 +115,9 @@ words_total (line ∷ lines) = let next = counted line lines (words_total lines)
 abbrev of_inputs : List Line → List Line
 of_inputs lines = filter (λ words. is_inputs (kind_of words)) lines
 
-names_as : (k : Kind) (word : Bytes) (words : List Bytes) (lines : List Line) → length (listed is_inputs lines) + length (tables_of lines) ≤ word_count lines → length (flat_map arguments (cond (is_inputs k) ((word ∷ words) ∷ of_inputs lines) (of_inputs lines))) + length (table_first k (word ∷ words) lines (tables_of lines)) ≤ 1 + length words + word_count lines
+names_as : (k : Kind) (word : Bytes) (words : List Bytes) (lines : List Line) → length (listed is_inputs lines) + length (tables_of lines) ≤ word_count lines
+    → length (flat_map arguments (cond (is_inputs k) ((word ∷ words) ∷ of_inputs lines) (of_inputs lines))) + length (table_first k (word ∷ words) lines (tables_of lines))
+    ≤ 1 + length words + word_count lines
 names_as kind.Model word words lines h = omega (arith, h)
 names_as kind.Inputs word words lines h = omega (arith, h, length-append words (listed is_inputs lines))
 names_as kind.Outputs word words lines h = omega (arith, h)

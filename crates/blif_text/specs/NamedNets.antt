@@ -44,7 +44,8 @@ row_added d words = record d { begun = option_map (λ t. with_row t words) d.beg
 
 -- what a line of this kind, which is no row, adds by its words after the first
 abbrev pub added : Kind → NetSoFar → List Bytes → NetSoFar
-added kind.Model d words = record d { model = elim d.model [ None ↦ Some (first_word words) | Some model ↦ Some model ] }
+added kind.Model d words = record d
+    { model = elim d.model [ None ↦ Some (first_word words) | Some model ↦ Some model ] }
 added kind.Inputs d words = record d { inputs = d.inputs ++ words }
 added kind.Outputs d words = record d { outputs = d.outputs ++ words }
 added kind.Names d words = record d { begun = Some (named words) }

@@ -7,7 +7,9 @@ use Rattle.blif_semantics.specs.Statements.{kind_of, first_word, is_model, is_en
 use Rattle.blif_text.specs.declared.judging.OpenTable.{OpenTable}
 use Rattle.blif_text.specs.declared.judging.Place.{Place}
 use Rattle.blif_text.specs.declared.judging.Wrong.{Wrong}
-use Rattle.blif_text.specs.declared.judging.Wrong.TheVariants.{BadByte, Command, StrayRow, BadRow, MixedPlane, SecondModel, AfterEnd, NamesEmpty, BadName}
+use Rattle.blif_text.specs.declared.judging.Wrong.TheVariants.{BadByte, Command, StrayRow, BadRow}
+use Rattle.blif_text.specs.declared.judging.Wrong.TheVariants.{MixedPlane, SecondModel, AfterEnd, NamesEmpty}
+use Rattle.blif_text.specs.declared.judging.Wrong.TheVariants.{BadName}
 
 -- the value, in the definitions, of what the code holds
 abbrev pub table_of : Option OpenTable → Option s.OpenTable
@@ -32,7 +34,11 @@ start = record { had_model = false; had_end = false; table = None }
 abbrev pub first_wrong_in : s.Place → List Statement → Option WrongLine
 first_wrong_in place [] = None
 first_wrong_in place (s ∷ rest) =
-    elim (wrong place s.words) [ None ↦ first_wrong_in (place_next place s.words) rest | Some w ↦ Some (record { line = s.line; wrong = w }) ]
+    elim (wrong place s.words) [
+      | None ↦ first_wrong_in (place_next place s.words) rest
+      | Some w ↦ Some
+          (record { line = s.line; wrong = w })
+    ]
 
 -- what is wrong with a line of these words
 abbrev pub wrong_of : Wrong → Line → s.Wrong

@@ -1,7 +1,8 @@
 -- Why a text is refused.
 use Rattle.std.specs.Prelude.{◌≡◌, Option, Some, None, Result, Err}
 use Rattle.semantics.specs.Net.{NetValue}
-use Rattle.blif_semantics.specs.Statements.{bad_byte, command, stray_row, bad_row, mixed_plane, second_model, after_end, names_empty, bad_name}
+use Rattle.blif_semantics.specs.Statements.{bad_byte, command, stray_row, bad_row, mixed_plane, second_model}
+use Rattle.blif_semantics.specs.Statements.{after_end, names_empty, bad_name}
 use Rattle.blif_semantics.specs.Reading as r
 use Rattle.blif_text.specs.declared.refusal.BlifRefusal.{BlifRefusal}
 use Rattle.blif_text.specs.declared.refusal.BlifRefusal.TheVariants as b

@@ -1,6 +1,7 @@
 //! Logical lines: physical lines, joined where a backslash says so. Source: BLIF.
 ghost use Rattle.std.specs.Prelude.{◌≡◌, List, ◌++◌, ◌∷◌, [], None, Some, IfOk, OnOk};
-ghost use Rattle.blif_semantics.specs.Lines.{LogicalLine as LineValue, line_before, without_comment, logical_lines};
+ghost use Rattle.blif_semantics.specs.Lines.{LogicalLine as LineValue, line_before, without_comment};
+ghost use Rattle.blif_semantics.specs.Lines.{logical_lines};
 ghost use Rattle.blif_text.specs.LogicalLines.{gone_on, after_begun, with_words};
 
 use crate::lines::{before_backslash, has_words, without_comment};
@@ -112,7 +113,8 @@ fn add_line<'a>(
 ) -> Result<Option<LogicalLine<'a>>, AllocError>
     ensures { IfOk result (λ left. (rest : List LineValue)
         → lines.new.items ++ with_words (after_begun left rest)
-        ≡ lines.old.items ++ with_words (after_begun begun.entry (line_before number (without_comment line.now) rest))) }
+        ≡ lines.old.items ++ with_words
+        (after_begun begun.entry (line_before number (without_comment line.now) rest))) }
 {
     let line = without_comment(line);
     match before_backslash(line) {

@@ -104,7 +104,8 @@ impl Place {
 
     /// The place behind lines with or without `.model` and `.end`, where `table` may get rows.
     pub fn new(had_model: bool, had_end: bool, table: Option<OpenTable>) -> Place
-        ensures { place_of result ≡ record { had_model = had_model; had_end = had_end; table = table_of table } }
+        ensures { place_of result
+            ≡ record { had_model = had_model; had_end = had_end; table = table_of table } }
     {
         Place {
             had_model,

@@ -3,7 +3,8 @@ ghost use Rattle.std.specs.Prelude.{◌≡◌, ◌⊎◌, ◌<◌, ◌≤◌, Li
 ghost use Rattle.blif_semantics.specs.Lines.{logical_lines, statements};
 ghost use Rattle.text_words.specs.Slices.{texts};
 ghost use Rattle.blif_text.specs.LogicalLines.{statement_of};
-ghost use Rattle.blif_text.specs.declared.refusal.BlifRefusal.TheVariants.{TextLong as Long, OutOfMemory as NoMemory};
+ghost use Rattle.blif_text.specs.declared.refusal.BlifRefusal.TheVariants.{TextLong as Long};
+ghost use Rattle.blif_text.specs.declared.refusal.BlifRefusal.TheVariants.{OutOfMemory as NoMemory};
 
 use crate::joining::{LogicalLine, lines_with_words};
 use crate::refusal::BlifRefusal;

@@ -118,7 +118,8 @@ impl<'a> NetSoFar<'a> {
 
     /// Adds a line.
     fn add_line(&mut self, words: &[&'a [u8]]) -> Result<(), AllocError>
-        ensures { OnOk result ((rest : List Line) → with_rest self.new rest ≡ with_rest self.old (texts words.now ∷ rest)) }
+        ensures { OnOk result ((rest : List Line)
+            → with_rest self.new rest ≡ with_rest self.old (texts words.now ∷ rest)) }
     {
         match kind_of(words) {
             Kind::Row => self.add_row(words),

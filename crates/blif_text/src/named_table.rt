@@ -34,7 +34,12 @@ impl<'a> Model for NamedTable<'a> {
 
     ghost Value = { NamedTable };
 
-    ghost view = { λ a. record { name = a.name.now; pins = texts a.pins.items; rows = a.rows; plane = a.plane } };
+    ghost view = { λ a. record {
+      name = a.name.now;
+      pins = texts a.pins.items;
+      rows = a.rows;
+      plane = a.plane;
+    } };
 }
 
 fn mark_of(byte: u8) -> Mark

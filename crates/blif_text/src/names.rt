@@ -1,5 +1,6 @@
 //! The names of signals, numbered in order, with a map from names to numbers.
-ghost use Rattle.std.specs.Prelude.{◌≡◌, ◌<◌, ◌+◌, ◌^◌, true, not, [], ◌∷◌, ◌++◌, Result, None, Some, IfOk, OnOk, IfErr, IfSome, All, length, map, bytes_eq, position};
+ghost use Rattle.std.specs.Prelude.{◌≡◌, ◌<◌, ◌+◌, ◌^◌, true, not, [], ◌∷◌, ◌++◌, Result, None, Some, IfOk};
+ghost use Rattle.std.specs.Prelude.{OnOk, IfErr, IfSome, All, length, map, bytes_eq, position};
 ghost use Rattle.semantics.specs.Net.{IsName, NetValue};
 ghost use Rattle.semantics.specs.Refusals.{has_name, first_doubled};
 ghost use Rattle.blif_semantics.specs.Reading.{Refusal, doubled, undriven, unless_refused, signal_named};

@@ -1,6 +1,7 @@
-//! The net of a net of names: signals in the place of names, and what is refused of the whole. Source: BLIF; what is refused, and in
-//! which order, is this tool's own.
-ghost use Rattle.std.specs.Prelude.{◌≡◌, ◌<◌, ◌+◌, ◌^◌, ◌==◌, false, ◌++◌, Result, Ok, None, IfOk, OnOk, IfErr, All, length, map, flat_map};
+//! The net of a net of names: signals in the place of names, and what is refused of the whole. Source: BLIF;
+//! what is refused, and in which order, is this tool's own.
+ghost use Rattle.std.specs.Prelude.{◌≡◌, ◌<◌, ◌+◌, ◌^◌, ◌==◌, false, ◌++◌, Result, Ok, None, IfOk, OnOk};
+ghost use Rattle.std.specs.Prelude.{IfErr, All, length, map, flat_map};
 ghost use Rattle.semantics.specs.Net.{NetValue};
 ghost use Rattle.semantics.specs.Refusals.{first_doubled};
 ghost use Rattle.blif_semantics.specs.Reading.{Refusal, undriven, unless_refused, names_of, grounded, single};
@@ -46,7 +47,8 @@ fn numbered_tables(
     ensures ok { IfOk result (λ list. list ≡ map (with_signals names.now) tables.entry.items) }
     ensures known { OnOk result (first_unknown names.now (flat_map (λ t. t.pins) tables.entry.items) ≡ None) }
     ensures err { IfErr result (λ told. (rest : Result NetValue Refusal)
-        → Tells told (unless_refused (first_unknown names.now (flat_map (λ t. t.pins) tables.entry.items)) undriven rest)) }
+        → Tells told (unless_refused (first_unknown names.now (flat_map (λ t. t.pins) tables.entry.items))
+        undriven rest)) }
 {
     let mut list = Items::new(alloc);
     for table in tables {
@@ -63,10 +65,14 @@ fn ordered_net(
     tables: TableList,
     outputs: SignalList,
 ) -> Result<Net, BlifRefusal>
-    requires driven { IsDriven (record { model = model; inputs = inputs; tables = tables; outputs = outputs }) }
+    requires driven { IsDriven
+        (record { model = model; inputs = inputs; tables = tables; outputs = outputs }) }
     requires few { length inputs + length tables < 2 ^ 31 }
-    ensures ok { IfOk result (λ n. grounded (record { model = model; inputs = inputs; tables = tables; outputs = outputs }) ≡ Ok n) }
-    ensures err { IfErr result (λ told. Tells told (grounded (record { model = model; inputs = inputs; tables = tables; outputs = outputs }))) }
+    ensures ok { IfOk result (λ n. grounded
+        (record { model = model; inputs = inputs; tables = tables; outputs = outputs }) ≡ Ok n) }
+    ensures err { IfErr result
+        (λ told. Tells told (grounded
+        (record { model = model; inputs = inputs; tables = tables; outputs = outputs }))) }
 {
     let order = match order_of(alloc, inputs.len() as u32, tables.as_slice())? {
         Ok(order) => order,

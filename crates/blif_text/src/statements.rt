@@ -1,7 +1,9 @@
 //! What a line is, and the words in it. Source: BLIF.
 ghost use Rattle.std.specs.Prelude.{◌≡◌, ◌==◌, not};
 ghost use Rattle.std.specs.List.{list_all};
-ghost use Rattle.blif_semantics.specs.Statements.{kind_of, first_word, arguments, is_printable, has_name_bytes, is_name, are_names, is_mark, plane_of, row_plane};
+ghost use Rattle.blif_semantics.specs.Statements.{kind_of, first_word, arguments, is_printable};
+ghost use Rattle.blif_semantics.specs.Statements.{has_name_bytes, is_name, are_names, is_mark, plane_of};
+ghost use Rattle.blif_semantics.specs.Statements.{row_plane};
 ghost use Rattle.text_words.specs.Slices.{texts};
 
 use blif_semantics::kind::Kind;

@@ -72,7 +72,8 @@ header_pieces : (m lf i x o y : Bytes) → (m ++ ((lf ++ i) ++ [])) ++ (x ++ ((l
 header_pieces m lf i x o y = simp (append_assoc, append-nil {A = ℕ})
 
 -- the three lines of the header in the pieces in which they are written
-pub header_text-parts : (N : NetValue) (model : Bytes) → model ≡ N.model → (codes ".model " ++ (model ++ ((10 ∷ codes ".inputs") ++ []))) ++ (blank_words N.inputs ++ ((10 ∷ codes ".outputs") ++ (blank_names (signal_names N) N.outputs ++ (10 ∷ [])))) ≡ header_text N
+pub header_text-parts : (N : NetValue) (model : Bytes) → model ≡ N.model
+    → (codes ".model " ++ (model ++ ((10 ∷ codes ".inputs") ++ []))) ++ (blank_words N.inputs ++ ((10 ∷ codes ".outputs") ++ (blank_names (signal_names N) N.outputs ++ (10 ∷ [])))) ≡ header_text N
 header_text-parts N model is =
     let names : List Bytes = signal_names N in
     let lf : Bytes = 10 ∷ [] in
@@ -88,7 +89,8 @@ names_line_pieces : (pins name lf : Bytes) → pins ++ (32 ∷ (name ++ (lf ++ [
 names_line_pieces pins name lf = simp (append_assoc, append-nil {A = ℕ})
 
 -- the line that begins a table, in pieces
-pub names_line-parts : (names : List Bytes) (t : TableValue) (pins : List ℕ) (name : Bytes) → pins ≡ t.pins → name ≡ t.name → codes ".names" ++ (blank_names names pins ++ (32 ∷ (name ++ (10 ∷ [] ++ [])))) ≡ line_text (names_line names t)
+pub names_line-parts : (names : List Bytes) (t : TableValue) (pins : List ℕ) (name : Bytes) → pins ≡ t.pins → name ≡ t.name
+    → codes ".names" ++ (blank_names names pins ++ (32 ∷ (name ++ (10 ∷ [] ++ [])))) ≡ line_text (names_line names t)
 names_line-parts names t pins name same_pins same_name =
     let words : List Bytes = map (name_of names) t.pins in
     ap (λ p. codes ".names" ++ (blank_names names p ++ (32 ∷ (name ++ (10 ∷ [] ++ []))))) same_pins
@@ -99,7 +101,8 @@ names_line-parts names t pins name same_pins same_name =
     ∙ sym (line_text-words (codes ".names") (words ++ t.name ∷ []))
 
 -- the line of a row with marks, in pieces
-pub row_line-parts : (plane : Bool) (marks : List Mark) (digit : ℕ) → (length marks == 0) ≡ false → digit ≡ bit_byte plane → marks_text marks ++ (32 ∷ digit ∷ 10 ∷ []) ≡ line_text (row_line plane marks)
+pub row_line-parts : (plane : Bool) (marks : List Mark) (digit : ℕ) → (length marks == 0) ≡ false → digit ≡ bit_byte plane
+    → marks_text marks ++ (32 ∷ digit ∷ 10 ∷ []) ≡ line_text (row_line plane marks)
 row_line-parts plane [] digit some is = cc
 row_line-parts plane (m ∷ marks) digit some is =
     ap (λ d. marks_text (m ∷ marks) ++ (32 ∷ d ∷ 10 ∷ [])) is
@@ -107,6 +110,7 @@ row_line-parts plane (m ∷ marks) digit some is =
     ∙ sym (append_assoc (map mark_byte (m ∷ marks)) (32 ∷ bit_byte plane ∷ []) (10 ∷ []))
 
 -- a table's line and its rows
-pub table_text-parts : (names : List Bytes) (t : TableValue) (rows : List (List Mark)) (plane : Bool) → rows ≡ t.rows → plane ≡ t.plane → line_text (names_line names t) ++ rows_text plane rows ≡ table_text names t
+pub table_text-parts : (names : List Bytes) (t : TableValue) (rows : List (List Mark)) (plane : Bool) → rows ≡ t.rows → plane ≡ t.plane
+    → line_text (names_line names t) ++ rows_text plane rows ≡ table_text names t
 table_text-parts names t rows plane same_rows same_plane =
     ap (λ r. line_text (names_line names t) ++ rows_text plane r) same_rows ∙ ap (λ p. line_text (names_line names t) ++ rows_text p t.rows) same_plane

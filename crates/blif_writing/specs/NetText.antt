@@ -30,4 +30,5 @@ tables_text names tables = flat_map (table_text names) tables
 abbrev pub header_text : NetValue → Bytes
 header_text N =
     line_text (codes ".model" ∷ N.model ∷ [])
-    ++ (line_text (codes ".inputs" ∷ N.inputs) ++ line_text (codes ".outputs" ∷ map (name_of (signal_names N)) N.outputs))
+    ++ (line_text (codes ".inputs" ∷ N.inputs)
+    ++ line_text (codes ".outputs" ∷ map (name_of (signal_names N)) N.outputs))

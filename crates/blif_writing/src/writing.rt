@@ -4,7 +4,8 @@ ghost use Rattle.semantics.specs.Texts.{line_text, bit_byte};
 ghost use Rattle.semantics.specs.Net.{signal_count, signal_names};
 ghost use Rattle.semantics.specs.Blif.{mark_byte, row_line, names_line, blif_text};
 ghost use Rattle.file_core.specs.Page.{Gathers, Writes};
-ghost use Rattle.blif_writing.specs.NetText.{blank_words, blank_names, marks_text, rows_text, table_text, tables_text, header_text};
+ghost use Rattle.blif_writing.specs.NetText.{blank_words, blank_names, marks_text, rows_text, table_text};
+ghost use Rattle.blif_writing.specs.NetText.{tables_text, header_text};
 
 use file_core::fault::FileFault;
 use file_core::files::Files;
@@ -43,7 +44,8 @@ fn write_name<F: Files>(name: &Name, files: &mut F, page: &mut Page) -> Result<(
 
 /// Puts a blank and a name for each input.
 fn write_inputs<F: Files>(net: &Net, files: &mut F, page: &mut Page) -> Result<(), FileFault>
-    ensures { Gathers result (F.told files.old) (F.told files.new) page.old page.new (blank_words net.now.inputs) }
+    ensures { Gathers result (F.told files.old) (F.told files.new) page.old page.new
+        (blank_words net.now.inputs) }
 {
     for s in 0..net.inputs() {
         write_name(net.signal_name(s), files, page)?;
@@ -142,7 +144,8 @@ fn write_rows<F: Files>(
     files: &mut F,
     page: &mut Page,
 ) -> Result<(), FileFault>
-    ensures { Gathers result (F.told files.old) (F.told files.new) page.old page.new (rows_text plane rows.now) }
+    ensures { Gathers result (F.told files.old) (F.told files.new) page.old page.new
+        (rows_text plane rows.now) }
 {
     for row in rows {
         write_row(row.as_slice(), plane, files, page)?;

@@ -36,10 +36,12 @@ unfolding blif_reading
 too_long text most long = if_false (nat_le (length text) most) _ _ (grind (arith, nat_tests))
 
 -- the reading of a netlist is the reading of its front, up to one byte past the limit
-pub reading_front : (content text : Bytes) (limit : ℕ) → limit ≡ MOST_BUNDLE_BYTES → IsAllWanted content text (limit + 1 - length text) → blif_reading text MOST_BUNDLE_BYTES ≡ blif_reading content MOST_BUNDLE_BYTES
+pub reading_front : (content text : Bytes) (limit : ℕ) → limit ≡ MOST_BUNDLE_BYTES → IsAllWanted content text (limit + 1 - length text)
+    → blif_reading text MOST_BUNDLE_BYTES ≡ blif_reading content MOST_BUNDLE_BYTES
 reading_front content text limit is wanted =
     elim (cases_lt MOST_BUNDLE_BYTES (length text)) [
-      | inl long ↦ too_long text MOST_BUNDLE_BYTES long ∙ sym (too_long content MOST_BUNDLE_BYTES (front_at_most content text (limit + 1 - length text) (MOST_BUNDLE_BYTES + 1) wanted (omega (arith, long))))
+      | inl long ↦ too_long text MOST_BUNDLE_BYTES long ∙ sym
+          (too_long content MOST_BUNDLE_BYTES (front_at_most content text (limit + 1 - length text) (MOST_BUNDLE_BYTES + 1) wanted (omega (arith, long))))
       | inr short ↦ ap (λ t. blif_reading t MOST_BUNDLE_BYTES) (whole_front content text limit wanted (omega (arith, short, is)))
     ]
 
@@ -63,7 +65,8 @@ told_refusal (b.Limit which) other = (_, refl)
 told_refusal b.OutOfMemory other = absurd (other refl)
 
 -- no net is in a text that is refused
-pub refused_text : (reason : BlifRefusal) (content text : Bytes) → blif_reading text MOST_BUNDLE_BYTES ≡ blif_reading content MOST_BUNDLE_BYTES → Tells reason (blif_reading text MOST_BUNDLE_BYTES) → ¬ (reason ≡ b.OutOfMemory)
+pub refused_text : (reason : BlifRefusal) (content text : Bytes) → blif_reading text MOST_BUNDLE_BYTES ≡ blif_reading content MOST_BUNDLE_BYTES → Tells reason (blif_reading text MOST_BUNDLE_BYTES)
+    → ¬ (reason ≡ b.OutOfMemory)
     → IsNetIn None content
 refused_text reason content text same tells other M is =
     let told = told_refusal reason other in

@@ -10,7 +10,8 @@ use Rattle.proof_semantics.specs.Miter.{miter}
 use Rattle.job_semantics.specs.declared.ending.Ending.TheVariants as file
 use Rattle.job_semantics.specs.declared.certificate_clause.Clause.TheVariants as clause
 use Rattle.job_semantics.specs.Report.{Report}
-use Rattle.job_semantics.specs.Certificate.{IsNeededFor, Texts, moves_in, IsNetlist, IsReport, AreVectors, IsRefutation, AreCounts, OfNet, OfReport, IsShownMinimal, OfBoth, Holds, Certifies, IsFirstFailing}
+use Rattle.job_semantics.specs.Certificate.{IsNeededFor, Texts, moves_in, IsNetlist, IsReport, AreVectors, IsRefutation, AreCounts, OfNet, OfReport, IsShownMinimal, OfBoth, Holds, Certifies}
+use Rattle.job_semantics.specs.Certificate.{IsFirstFailing}
 use Rattle.job_semantics.proofs.Certificates.{verified_law}
 use Rattle.bundle_texts.specs.declared.report_reading.ReportRead.{ReportRead}
 use Rattle.bundle_texts.specs.Reading.{report_read}
@@ -113,12 +114,19 @@ module _ (exact : NetValue) (metric : Metric) (bound : ℕ) (texts : Texts) wher
               order = refl;
               hold = (
                 (M, k.net.netlist),
-                ((M, k.net.netlist, k.net.ports), ((r, k.report), ((r, k.report, k.within), ((r, k.report, (known.vectors.pool, known.vectors.read)), ((M, k.net.netlist, (r, k.report, known.attained)), tt))))),
+                (
+                  (M, k.net.netlist, k.net.ports),
+                  (
+                    (r, k.report),
+                    ((r, k.report, k.within), ((r, k.report, (known.vectors.pool, known.vectors.read)), ((M, k.net.netlist, (r, k.report, known.attained)), tt))),
+                  ),
+                ),
               );
               fails = λ some. other (of_both (λ N s. texts file.Formula ≡ dimacs_text (miter exact N metric s.maximum)) M r k.net.netlist k.report some);
             }
 
-        pub no_refutation : FormulaKnown exact metric bound M r shown texts → ¬ IsRefutingText (miter exact M metric r.maximum).clauses (texts file.Log) → IsFirstFailing exact metric bound texts clause.Log
+        pub no_refutation : FormulaKnown exact metric bound M r shown texts → ¬ IsRefutingText (miter exact M metric r.maximum).clauses (texts file.Log)
+            → IsFirstFailing exact metric bound texts clause.Log
         no_refutation known other =
             let w = known.witness in
             let k = w.report in

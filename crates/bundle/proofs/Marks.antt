@@ -175,7 +175,8 @@ pub taken_first : (b : BrokenValue) → b.block ≡ [] → AreMarks b.asked [] b
 taken_first b none marks = record { before = []; vectors_are = sym none; marks = marks }
 
 pub block_dropped : (old new : BrokenValue) → new.asked ≡ old.asked → new.block ≡ []
-    → ((before : List (List Bool)) → AreMarks old.asked before old.marks → AreMarks old.asked (before ++ old.block) new.marks) → (vectors : List (List Bool)) → HasSeen old vectors → HasSeen new vectors
+    → ((before : List (List Bool)) → AreMarks old.asked before old.marks → AreMarks old.asked (before ++ old.block) new.marks) → (vectors : List (List Bool)) → HasSeen old vectors
+    → HasSeen new vectors
 block_dropped old new same none marked vectors h = record {
   before = h.before ++ old.block;
   vectors_are = h.vectors_are ∙ sym (append-nil (h.before ++ old.block)) ∙ ap (λ b. (h.before ++ old.block) ++ b) (sym none);
@@ -191,7 +192,8 @@ vector_taken old new x is vectors h =
       marks = h.marks;
     })
 
-pub all_shown : (b : BrokenValue) (answer : Bool) → answer ≡ list_all (λ mark. mark) b.marks → b.block ≡ [] → (vectors : List (List Bool)) → HasSeen b vectors → IsTrue answer ↔ AreAllBroken b.asked vectors
+pub all_shown : (b : BrokenValue) (answer : Bool) → answer ≡ list_all (λ mark. mark) b.marks → b.block ≡ [] → (vectors : List (List Bool)) → HasSeen b vectors
+    → IsTrue answer ↔ AreAllBroken b.asked vectors
 all_shown b answer is none vectors h =
     let are : vectors ≡ h.before = h.vectors_are ∙ ap (λ l. h.before ++ l) none ∙ append-nil h.before in
     let marks = subst (λ v. AreMarks b.asked v b.marks) (sym are) h.marks in (

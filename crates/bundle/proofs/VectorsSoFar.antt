@@ -13,7 +13,8 @@ use Rattle.bundle.specs.Shown.{AskedValue, AreAllBroken, BrokenValue, HasSeen, V
 use Rattle.bundle.specs.VectorsStanding.{check_view, Stands}
 
 -- the vector of the line is taken, or the line goes on
-pub vector_some : (b c : BrokenValue) (line : LineValue) (x : List Bool) → (x ≡ line.begun) × (length line.begun ≡ line.inputs) → ((vectors : List (List Bool)) → HasSeen b vectors → HasSeen c (vectors ++ x ∷ []))
+pub vector_some : (b c : BrokenValue) (line : LineValue) (x : List Bool) → (x ≡ line.begun) × (length line.begun ≡ line.inputs)
+    → ((vectors : List (List Bool)) → HasSeen b vectors → HasSeen c (vectors ++ x ∷ []))
     → (vectors : List (List Bool)) → HasSeen b vectors → HasSeen c (if length line.begun == line.inputs then vectors ++ line.begun ∷ [] else vectors)
 vector_some b c line x (is, full) taken vectors seen =
     subst (λ t. HasSeen c (if t then vectors ++ line.begun ∷ [] else vectors)) (sym (eq-eqb (length line.begun) line.inputs full))

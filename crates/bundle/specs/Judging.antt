@@ -1,10 +1,12 @@
 -- What the check of a bundle's files comes to.
-use Rattle.std.specs.Prelude.{◌≡◌, ◌↔◌, ℕ, ◌≤◌, Bool, false, IsTrue, List, ◌∷◌, length, Option, None, Some, Result, Ok, Err}
+use Rattle.std.specs.Prelude.{◌≡◌, ◌↔◌, ℕ, ◌≤◌, Bool, false, IsTrue, List, ◌∷◌, length, Option, None, Some}
+use Rattle.std.specs.Prelude.{Result, Ok, Err}
 use Rattle.semantics.specs.Texts.{Bytes}
 use Rattle.semantics.specs.Net.{NetValue, input_count, HasSamePorts}
 use Rattle.semantics.specs.Error.{net_error}
 use Rattle.semantics.specs.declared.metric.Metric.{Metric}
-use Rattle.outside_semantics.specs.Outside.{Held, FilesTold, Goes, Rose, IsReadOut, WhereTold, bytes_of, turn_budget}
+use Rattle.outside_semantics.specs.Outside.{Held, FilesTold, Goes, Rose, IsReadOut, WhereTold, bytes_of}
+use Rattle.outside_semantics.specs.Outside.{turn_budget}
 use Rattle.file_reading.specs.declared.unread.Unread.{Unread}
 use Rattle.file_reading.specs.declared.unread.Unread.TheVariants.{Fault, OutOfMemory, Endless}
 use Rattle.file_reading.specs.Reading.{FilesStay, FileFailed}
@@ -16,7 +18,9 @@ use Rattle.job_semantics.specs.declared.ending.Ending.TheVariants as file
 use Rattle.job_semantics.specs.declared.certificate_clause.Clause.{Clause}
 use Rattle.job_semantics.specs.Endings.{bundle_name}
 use Rattle.job_semantics.specs.Report.{Report}
-use Rattle.job_semantics.specs.Certificate.{Texts, texts_of, IsVectorsText, moves_in, AreCounts, OfBundle, AreNeededHeld, IsNetlist, IsReport, Certifies, IsFirstFailing, IsNeededFor, clause_number}
+use Rattle.job_semantics.specs.Certificate.{Texts, texts_of, IsVectorsText, moves_in, AreCounts, OfBundle}
+use Rattle.job_semantics.specs.Certificate.{AreNeededHeld, IsNetlist, IsReport, Certifies, IsFirstFailing}
+use Rattle.job_semantics.specs.Certificate.{IsNeededFor, clause_number}
 use Rattle.chain_semantics.specs.Minimality.{AreBrokenBySome}
 use Rattle.bundle_texts.specs.LogTold.{IsRefutingText}
 use Rattle.bundle_texts.specs.LogJudged.{IsOfRefutation}
@@ -37,26 +41,34 @@ verdict_of (Some c) = Refuted (clause_number c)
 
 -- Calls changed no file. Where K holds of the texts and the files that the verdict needs are held, what was
 -- told is still told.
-pub record FilesKept (exact : NetValue) (metric : Metric) (bound : ℕ) (stem : Bytes) (K : Texts → Type 0) (old new : FilesTold) : Type 0 where
+pub record FilesKept (exact : NetValue) (metric : Metric) (bound : ℕ) (stem : Bytes) (K : Texts → Type 0)
+    (old new : FilesTold) : Type 0 where
   pub goes : Goes old new
   pub stays : WhereTold old new (λ a b. b ≡ a)
-  pub still_told : (a : Held) → old.held ≡ Some a → K (texts_of a stem) → AreNeededHeld exact metric bound stem a → new.held ≡ Some a
+  pub still_told : (a : Held) → old.held ≡ Some a → K (texts_of a stem)
+      → AreNeededHeld exact metric bound stem a → new.held ≡ Some a
 
 -- the verdict by the first clause that fails
-pub record IsVerdict (exact : NetValue) (metric : Metric) (bound : ℕ) (stem : Bytes) (old new : FilesTold) (verdict : Verdict) : Type 0 where
+pub record IsVerdict (exact : NetValue) (metric : Metric) (bound : ℕ) (stem : Bytes) (old new : FilesTold)
+    (verdict : Verdict) : Type 0 where
   pub failing : Option Clause
   pub is : verdict ≡ verdict_of failing
   pub judged : OfBundle old new stem (λ texts. IsFirstFault exact metric bound texts failing)
 
--- why there is no verdict, where K holds of the texts: a needed file could not be read, or goes on past the budget of turns
-abbrev pub IsCause : NetValue → Metric → ℕ → Bytes → (Texts → Type 0) → FilesTold → FilesTold → Unread → Type 0
+-- why there is no verdict, where K holds of the texts: a needed file could not be read, or goes on past the
+-- budget of turns
+abbrev pub IsCause : NetValue → Metric → ℕ → Bytes → (Texts → Type 0) → FilesTold → FilesTold → Unread
+    → Type 0
 IsCause exact metric bound stem K old new Fault =
-    Rose old.faults new.faults × ((ending : Ending) × OfBundle old new stem (λ texts. K texts → IsNeededFor exact metric bound texts ending)
+    Rose old.faults new.faults
+    × ((ending : Ending) × OfBundle old new stem
+    (λ texts. K texts → IsNeededFor exact metric bound texts ending)
     × (old.steady_read (bundle_name stem ending) ≡ false))
 IsCause exact metric bound stem K old new OutOfMemory = Unit {0}
 IsCause exact metric bound stem K old new Endless =
     (ending : Ending) × OfBundle old new stem (λ texts. K texts → IsNeededFor exact metric bound texts ending)
-    × IsReadOut old new (bundle_name stem ending) × OfBundle old new stem (λ texts. turn_budget ≤ length (texts ending))
+    × IsReadOut old new (bundle_name stem ending)
+    × OfBundle old new stem (λ texts. turn_budget ≤ length (texts ending))
 
 -- the first clause that fails, if one does
 abbrev pub failing_of : {L : Type 0} → Judged L → Option Clause
@@ -66,7 +78,8 @@ failing_of (Failing c) = Some c
 module _ {L : Type 0} (holds : L → List LogItem → Type 0) where
   -- the certificate's formula and what was kept of its log, or the first clause that fails
   abbrev pub IsJudged : NetValue → Metric → ℕ → Texts → Judged L → Type 0
-  IsJudged exact metric bound texts (Good goal kept) = (log : List LogItem) × holds kept log × IsCertificateOf exact metric bound texts goal log
+  IsJudged exact metric bound texts (Good goal kept) = (log : List LogItem) × holds kept log
+      × IsCertificateOf exact metric bound texts goal log
   IsJudged exact metric bound texts (Failing c) = IsFirstFailing exact metric bound texts c
 
   -- whatever the files tell, the log that was kept refutes the formula
@@ -75,10 +88,13 @@ module _ {L : Type 0} (holds : L → List LogItem → Type 0) where
   IsProved (Failing c) = Unit {0}
 
   -- what the check answers, where K holds of the texts
-  abbrev pub Answers : NetValue → Metric → ℕ → Bytes → (Texts → Type 0) → FilesTold → FilesTold → Result (Judged L) Unread → Type 0
+  abbrev pub Answers : NetValue → Metric → ℕ → Bytes → (Texts → Type 0) → FilesTold → FilesTold
+      → Result (Judged L) Unread → Type 0
   Answers exact metric bound stem K old new (Ok judged) =
-      FilesKept exact metric bound stem K old new × IsProved judged × OfBundle old new stem (λ texts. K texts → IsJudged exact metric bound texts judged)
-  Answers exact metric bound stem K old new (Err reason) = FilesKept exact metric bound stem K old new × IsCause exact metric bound stem K old new reason
+      FilesKept exact metric bound stem K old new × IsProved judged
+      × OfBundle old new stem (λ texts. K texts → IsJudged exact metric bound texts judged)
+  Answers exact metric bound stem K old new (Err reason) = FilesKept exact metric bound stem K old new
+      × IsCause exact metric bound stem K old new reason
 
 -- a file was read to its end, or as far as Q of its bytes needs
 pub record TextRead (old new : FilesTold) (name : Bytes) (Q : Bytes → Type 0) : Type 0 where
@@ -89,7 +105,8 @@ pub record TextRead (old new : FilesTold) (name : Bytes) (Q : Bytes → Type 0) 
 abbrev pub TextUnread : FilesTold → FilesTold → Bytes → Unread → Type 0
 TextUnread old new name Fault = FileFailed old new name
 TextUnread old new name OutOfMemory = FilesStay old new name
-TextUnread old new name Endless = FilesStay old new name × IsReadOut old new name × WhereTold old new (λ a b. turn_budget ≤ length (bytes_of a name))
+TextUnread old new name Endless = FilesStay old new name × IsReadOut old new name
+    × WhereTold old new (λ a b. turn_budget ≤ length (bytes_of a name))
 
 -- ---- what is known once the clauses that speak of a file hold
 
@@ -100,27 +117,34 @@ pub record NetKnown (exact M : NetValue) (texts : Texts) : Type 0 where
   pub netlist : IsNetlist texts M
   pub ports : HasSamePorts exact M
 
-pub record ReportKnown (exact : NetValue) (metric : Metric) (bound : ℕ) (M : NetValue) (r : Report) (texts : Texts) : Type 0 where
+pub record ReportKnown (exact : NetValue) (metric : Metric) (bound : ℕ) (M : NetValue) (r : Report)
+    (texts : Texts) : Type 0 where
   pub net : NetKnown exact M texts
   pub report : IsReport exact metric bound texts r
   pub within : r.maximum ≤ bound
 
--- the text is that of vectors with the witness first, and `shown` says whether they show what the report says of the moves, where its
--- counts are right
-pub record AreVectorsJudged (exact : NetValue) (metric : Metric) (bound : ℕ) (M : NetValue) (r : Report) (shown : Bool) (text : Bytes) : Type 0 where
+-- the text is that of vectors with the witness first, and `shown` says whether they show what the report says
+-- of the moves, where its counts are right
+pub record AreVectorsJudged (exact : NetValue) (metric : Metric) (bound : ℕ) (M : NetValue) (r : Report)
+    (shown : Bool) (text : Bytes) : Type 0 where
   pub pool : List (List Bool)
   pub read : IsVectorsText (input_count exact) text r.witness pool
-  pub decided : AreCounts exact M r → IsTrue shown ↔ (IsTrue r.minimal → AreBrokenBySome metric exact bound M (r.witness ∷ pool) (moves_in r.version M))
+  pub decided : AreCounts exact M r
+      → IsTrue shown ↔ (IsTrue r.minimal
+      → AreBrokenBySome metric exact bound M (r.witness ∷ pool) (moves_in r.version M))
 
-pub record WitnessKnown (exact : NetValue) (metric : Metric) (bound : ℕ) (M : NetValue) (r : Report) (shown : Bool) (texts : Texts) : Type 0 where
+pub record WitnessKnown (exact : NetValue) (metric : Metric) (bound : ℕ) (M : NetValue) (r : Report)
+    (shown : Bool) (texts : Texts) : Type 0 where
   pub report : ReportKnown exact metric bound M r texts
   pub vectors : AreVectorsJudged exact metric bound M r shown (texts file.Vectors)
   pub attained : net_error metric exact M r.witness ≡ r.maximum
 
-pub record FormulaKnown (exact : NetValue) (metric : Metric) (bound : ℕ) (M : NetValue) (r : Report) (shown : Bool) (texts : Texts) : Type 0 where
+pub record FormulaKnown (exact : NetValue) (metric : Metric) (bound : ℕ) (M : NetValue) (r : Report)
+    (shown : Bool) (texts : Texts) : Type 0 where
   pub witness : WitnessKnown exact metric bound M r shown texts
   pub formula : texts file.Formula ≡ dimacs_text (miter exact M metric r.maximum)
 
-pub record LogKnown (exact : NetValue) (metric : Metric) (bound : ℕ) (M : NetValue) (r : Report) (shown : Bool) (texts : Texts) : Type 0 where
+pub record LogKnown (exact : NetValue) (metric : Metric) (bound : ℕ) (M : NetValue) (r : Report)
+    (shown : Bool) (texts : Texts) : Type 0 where
   pub formula : FormulaKnown exact metric bound M r shown texts
   pub refutation : IsRefutingText (miter exact M metric r.maximum).clauses (texts file.Log)

@@ -8,16 +8,19 @@ use Rattle.proof_semantics.specs.Formula.{Formula}
 use Rattle.proof_semantics.specs.Logs.{LogItem, Refutes}
 use Rattle.proof_semantics.specs.Miter.{miter}
 use Rattle.job_semantics.specs.declared.certificate_clause.Clause.{Clause}
-use Rattle.job_semantics.specs.Certificate.{Texts, OfBundle, OfBoth, IsRefutation, Certifies, IsFirstFailing, clause_number}
+use Rattle.job_semantics.specs.Certificate.{Texts, OfBundle, OfBoth, IsRefutation, Certifies, IsFirstFailing}
+use Rattle.job_semantics.specs.Certificate.{clause_number}
 use Rattle.bundle.specs.declared.judged.Judged.{Judged}
 use Rattle.bundle.specs.declared.judged.Judged.TheVariants as judged
 use Rattle.bundle.specs.declared.loaded.Loaded.{Loaded}
 use Rattle.bundle.specs.declared.loaded.Loaded.TheVariants.{Good, Refuted}
 
 -- the texts are a certificate, with this miter as its formula and these items as its log
-pub record IsCertificateOf (exact : NetValue) (metric : Metric) (bound : ℕ) (texts : Texts) (goal : Formula) (log : List LogItem) : Type 0 where
+pub record IsCertificateOf (exact : NetValue) (metric : Metric) (bound : ℕ) (texts : Texts) (goal : Formula)
+    (log : List LogItem) : Type 0 where
   pub certifies : Certifies exact metric bound texts
-  pub parts : OfBoth exact metric bound texts (λ M r. (goal ≡ miter exact M metric r.maximum) × IsRefutation exact M metric r.maximum texts log)
+  pub parts : OfBoth exact metric bound texts
+      (λ M r. (goal ≡ miter exact M metric r.maximum) × IsRefutation exact M metric r.maximum texts log)
 
 -- a certificate all items of whose log were kept, or the number of the first clause that fails
 abbrev pub loaded_of : Judged (List LogItem) → Loaded
@@ -28,6 +31,8 @@ loaded_of (judged.Failing c) = Refuted (clause_number c)
 -- Whether or not the files are told, the log refutes the formula.
 abbrev pub IsLoaded : NetValue → Metric → ℕ → Bytes → FilesTold → FilesTold → Loaded → Type 0
 IsLoaded exact metric bound stem old new (Good goal log) =
-    Refutes goal.clauses log × OfBundle old new stem (λ texts. IsCertificateOf exact metric bound texts goal log)
+    Refutes goal.clauses log × OfBundle old new stem
+    (λ texts. IsCertificateOf exact metric bound texts goal log)
 IsLoaded exact metric bound stem old new (Refuted number) =
-    (c : Clause) × (number ≡ clause_number c) × OfBundle old new stem (λ texts. IsFirstFailing exact metric bound texts c)
+    (c : Clause) × (number ≡ clause_number c)
+    × OfBundle old new stem (λ texts. IsFirstFailing exact metric bound texts c)

@@ -1,5 +1,7 @@
--- What the vectors of a bundle are to show of its net, and what they have shown so far. Source: this tool's own certificates.
-use Rattle.std.specs.Prelude.{◌≡◌, ◌↔◌, ℕ, ◌<◌, ◌≤◌, Bool, true, false, IsTrue, List, [], ◌∷◌, ◌++◌, length, slice_index_or, if◌then◌else◌, Option, None, Some}
+-- What the vectors of a bundle are to show of its net, and what they have shown so far. Source: this tool's
+-- own certificates.
+use Rattle.std.specs.Prelude.{◌≡◌, ◌↔◌, ℕ, ◌<◌, ◌≤◌, Bool, true, false, IsTrue, List, [], ◌∷◌, ◌++◌, length}
+use Rattle.std.specs.Prelude.{slice_index_or, if◌then◌else◌, Option, None, Some}
 use Rattle.semantics.specs.Texts.{Bytes}
 use Rattle.semantics.specs.Net.{NetValue, IsSmall, input_count}
 use Rattle.semantics.specs.Error.{IsCandidate}
@@ -12,7 +14,8 @@ use Rattle.job_semantics.specs.Certificate.{IsVectorsText, moves_in}
 use Rattle.bundle_texts.specs.VectorLine.{LineValue, line_of}
 use Rattle.bundle_texts.specs.VectorsTaken.{TakenValue, AreVectorsSoFar, NeverVectors}
 
--- two nets, an error and its bound, the witness, and the version whose moves are to be broken, or none where nothing is claimed
+-- two nets, an error and its bound, the witness, and the version whose moves are to be broken, or none where
+-- nothing is claimed
 pub record AskedValue : Type 0 where
   pub exact : NetValue
   pub approx : NetValue
@@ -53,7 +56,8 @@ pub record IsMoveAt (moves : List Move) (i : ℕ) (move : Move) : Type 0 where
 -- mark i says whether the vectors break the move at place i
 pub record AreMarks (a : AskedValue) (vectors : List (List Bool)) (marks : List Bool) : Type 0 where
   pub as_many : length marks ≡ length (asked_moves a)
-  pub told : (i : ℕ) (move : Move) → IsMoveAt (asked_moves a) i move → (slice_index_or marks i false ≡ true) ↔ IsBroken a vectors move
+  pub told : (i : ℕ) (move : Move) → IsMoveAt (asked_moves a) i move
+      → (slice_index_or marks i false ≡ true) ↔ IsBroken a vectors move
 
 -- what is asked, the marks of the vectors before the block, and the block
 pub record BrokenValue : Type 0 where
@@ -75,7 +79,8 @@ pub record VectorsText : Type 0 where
 
 -- either the text is right so far, with these vectors, or no text that begins with it is right
 abbrev pub StandsAt : Bool → BrokenValue → LineValue → Bytes → Type 0
-StandsAt true b line text = (v : TakenValue) × (line_of v ≡ line) × AreVectorsSoFar b.asked.witness v text × HasSeen b v.vectors
+StandsAt true b line text = (v : TakenValue) × (line_of v ≡ line) × AreVectorsSoFar b.asked.witness v text
+    × HasSeen b v.vectors
 StandsAt false b line text = NeverVectors b.asked.witness text
 
 -- the vectors of the text show what is asked, or they do not

@@ -99,7 +99,8 @@ impl<'a> Asked<'a> {
 
     /// The moves that are to be broken; none where nothing is claimed of the moves.
     pub(crate) fn moves(&self, alloc: Global) -> Result<Option<Moves<'a>>, AllocError>
-        ensures { IfOk result (λ given. MatchOption given (self.now.version ≡ None) (λ moves. moves ≡ asked_moves self.now)) }
+        ensures { IfOk result (λ given. MatchOption given (self.now.version ≡ None)
+            (λ moves. moves ≡ asked_moves self.now)) }
     {
         match self.version {
             None => Ok(None),

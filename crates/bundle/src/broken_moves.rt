@@ -86,7 +86,8 @@ impl<'a> BrokenMoves<'a> {
         ensures asked { self.new.asked ≡ self.old.asked }
         ensures ok { OnOk result ((vectors : List (List Bool)) → HasSeen self.old vectors
             → HasSeen self.new (vectors ++ x.now ∷ [])) }
-        ensures err { OnErr result ((vectors : List (List Bool)) → HasSeen self.old vectors → HasSeen self.new vectors) }
+        ensures err { OnErr result
+            ((vectors : List (List Bool)) → HasSeen self.old vectors → HasSeen self.new vectors) }
     {
         self.make_room()?;
         self.block.push(x)?;

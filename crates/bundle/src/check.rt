@@ -26,7 +26,8 @@ pub fn check_bundle<F: Files>(
     files: &mut F,
 ) -> Result<Verdict, Unread>
     requires { IsSmall net.now }
-    ensures kept { FilesKept net.now metric bound stem.now NothingKnown (F.told files.old) (F.told files.new) }
+    ensures kept { FilesKept net.now metric bound stem.now NothingKnown (F.told files.old)
+        (F.told files.new) }
     ensures verdict { IfOk result
         (IsVerdict net.now metric bound stem.now (F.told files.old) (F.told files.new)) }
     ensures cause { IfErr result

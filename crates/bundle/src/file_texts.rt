@@ -60,7 +60,8 @@ pub(crate) fn read_report_file<F: Files>(
 ) -> Result<Option<ReportRead>, Unread>
     requires { inputs ≤ MOST_INPUTS }
     ensures ok { IfOk result
-        (λ report. TextRead (F.told files.old) (F.told files.new) name.now (IsReportIn inputs metric bound report)) }
+        (λ report. TextRead (F.told files.old) (F.told files.new) name.now
+        (IsReportIn inputs metric bound report)) }
     ensures width { IfOk result (λ report. IfSome report (λ r. length r.witness ≡ inputs)) }
     ensures err { IfErr result (TextUnread (F.told files.old) (F.told files.new) name.now) }
 {
@@ -110,7 +111,8 @@ pub(crate) fn read_log<F: Files, L: ItemSink>(
     formula: &Cnf,
 ) -> Result<Option<L>, Unread>
     ensures ok { IfOk result
-        (λ log. TextRead (F.told files.old) (F.told files.new) name.now (IsLogIn L.holds formula.now.clauses log)) }
+        (λ log. TextRead (F.told files.old) (F.told files.new) name.now
+        (IsLogIn L.holds formula.now.clauses log)) }
     ensures refutes { IfOk result (λ log. IfSome log (IsOfRefutation L.holds formula.now.clauses)) }
     ensures err { IfErr result (TextUnread (F.told files.old) (F.told files.new) name.now) }
 {

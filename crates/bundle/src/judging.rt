@@ -1,5 +1,5 @@
-//! The walk over the clauses of a certificate, in their order. Each file is opened when a clause first needs it, and the walk ends at the
-//! first clause that fails.
+//! The walk over the clauses of a certificate, in their order. Each file is opened when a clause first needs
+//! it, and the walk ends at the first clause that fails.
 ghost use Rattle.std.specs.Prelude.{◌≡◌, ◌↔◌, ◌&&◌, length, IsTrue};
 ghost use Rattle.semantics.specs.Net.{IsSmall, input_count};
 ghost use Rattle.proof_semantics.specs.Miter.{miter};
@@ -7,7 +7,8 @@ ghost use Rattle.semantics.specs.declared.metric.Metric.TheVariants.{Abs};
 ghost use Rattle.job_semantics.specs.Certificate.{Texts, AreCounts};
 ghost use Rattle.bundle_texts.specs.Reading.{report_read};
 ghost use Rattle.bundle.specs.Shown.{claimed_version};
-ghost use Rattle.bundle.specs.Judging.{Answers, IsFirstFault, NothingKnown, NetKnown, ReportKnown, WitnessKnown, FormulaKnown, LogKnown};
+ghost use Rattle.bundle.specs.Judging.{Answers, IsFirstFault, NothingKnown, NetKnown, ReportKnown};
+ghost use Rattle.bundle.specs.Judging.{WitnessKnown, FormulaKnown, LogKnown};
 
 use crate::asked::Asked;
 use crate::claim::{Claim, Contents, are_counts};
@@ -97,7 +98,8 @@ fn check_formula<F: Files, L: ItemSink>(
     check_log(alloc, claim, contents, formula, files)
 }
 
-/// Whether what the vectors show of the moves can decide: the witness attains the maximum, and the report's counts are right.
+/// Whether what the vectors show of the moves can decide: the witness attains the maximum, and the report's
+/// counts are right.
 fn decides_by_moves(claim: &Claim, report: &ReportRead, is_attained: bool) -> bool
     requires exact { IsSmall claim.now.nets.now.exact }
     requires approx { IsSmall claim.now.nets.now.approx }
@@ -107,7 +109,8 @@ fn decides_by_moves(claim: &Claim, report: &ReportRead, is_attained: bool) -> bo
     is_attained && are_counts(claim.nets, report)
 }
 
-/// The version whose moves are to be broken; none where the report does not say that they are, or no move can decide.
+/// The version whose moves are to be broken; none where the report does not say that they are, or no move can
+/// decide.
 fn asked_version(report: &ReportRead, by_moves: bool) -> Option<Version>
     ensures { result ≡ claimed_version (by_moves && report.now.counts.minimal) report.now.version }
 {
@@ -118,8 +121,8 @@ fn asked_version(report: &ReportRead, by_moves: bool) -> Option<Version>
     }
 }
 
-/// What the clauses from the witness's on come to. Where a clause before the last fails whatever the vectors show of the moves, no move
-/// is tried.
+/// What the clauses from the witness's on come to. Where a clause before the last fails whatever the vectors
+/// show of the moves, no move is tried.
 fn check_witness<F: Files, L: ItemSink>(
     alloc: Global,
     claim: &Claim,
@@ -175,8 +178,8 @@ fn check_report<F: Files, L: ItemSink>(
     check_witness(alloc, claim, &report, files)
 }
 
-/// What all clauses come to, from the netlist's on: the first that fails, or the formula of the certificate and what a sink keeps of
-/// its log.
+/// What all clauses come to, from the netlist's on: the first that fails, or the formula of the certificate
+/// and what a sink keeps of its log.
 pub(crate) fn check_netlist<F: Files, L: ItemSink>(
     alloc: Global,
     net: &Net,
@@ -186,7 +189,8 @@ pub(crate) fn check_netlist<F: Files, L: ItemSink>(
     files: &mut F,
 ) -> Result<Judged<L>, Unread>
     requires { IsSmall net.now }
-    ensures { Answers L.holds net.now metric bound stem.now NothingKnown (F.told files.old) (F.told files.new) result }
+    ensures { Answers L.holds net.now metric bound stem.now NothingKnown (F.told files.old)
+        (F.told files.new) result }
 {
     let Some(approx) = read_netlist(alloc, files, stem.name(Ending::Netlist))? else {
         return Ok(Judged::Failing(Clause::Netlist));

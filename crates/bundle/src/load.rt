@@ -24,7 +24,8 @@ pub fn load_bundle<F: Files>(
     files: &mut F,
 ) -> Result<Loaded, Unread>
     requires { IsSmall net.now }
-    ensures kept { FilesKept net.now metric bound stem.now NothingKnown (F.told files.old) (F.told files.new) }
+    ensures kept { FilesKept net.now metric bound stem.now NothingKnown (F.told files.old)
+        (F.told files.new) }
     ensures loaded { IfOk result
         (IsLoaded net.now metric bound stem.now (F.told files.old) (F.told files.new)) }
     ensures cause { IfErr result

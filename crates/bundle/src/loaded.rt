@@ -10,8 +10,8 @@ use cnf_core::log::Log;
 /// What a bundle proves, and how.
 #[derive(Drop)]
 pub enum Loaded {
-    /// The texts of the bundle are a certificate: the formula that says that some error exceeds its maximum, and the items
-    /// of its log, which refutes that formula.
+    /// The texts of the bundle are a certificate: the formula that says that some error exceeds its maximum,
+    /// and the items of its log, which refutes that formula.
     Good { goal: Cnf, log: Log },
     /// The clause of this number, from 1, is the first that fails.
     Refuted(u8),

@@ -41,7 +41,8 @@ pub(crate) fn first_marks(alloc: Global, asked: &Asked) -> Result<Vec<bool>, All
 fn mark_after(masks: &mut GrowingMasks, step: Move, mark: bool) -> Result<bool, AllocError>
     requires { Contains (moves_of masks.old.net) step }
     ensures mark { IfOk result (λ after. (after ≡ true) ↔ ((mark ≡ true)
-        ⊎ IsBrokenBySome masks.old.metric masks.old.exact masks.old.bound masks.old.net masks.old.vectors step)) }
+        ⊎ IsBrokenBySome masks.old.metric masks.old.exact masks.old.bound masks.old.net masks.old.vectors
+        step)) }
     ensures same { masks.new ≡ masks.old }
 {
     if mark {

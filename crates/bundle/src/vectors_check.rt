@@ -1,6 +1,7 @@
 //! The vectors of a text are judged line by line as they are read: the first wrong byte refutes the text, and
 //! only a block of the vectors before it is held.
-ghost use Rattle.std.specs.Prelude.{◌≡◌, ◌==◌, [], ◌∷◌, ◌++◌, List, Bool, true, length, if◌then◌else◌, IfOk, OnOk, OnErr};
+ghost use Rattle.std.specs.Prelude.{◌≡◌, ◌==◌, [], ◌∷◌, ◌++◌, List, Bool, true, length, if◌then◌else◌, IfOk};
+ghost use Rattle.std.specs.Prelude.{OnOk, OnErr};
 ghost use Rattle.semantics.specs.Net.{input_count};
 ghost use Rattle.semantics.specs.Texts.{Bytes};
 ghost use Rattle.file_reading.specs.Reading.{IsAllWanted};
@@ -22,8 +23,10 @@ fn take_vector(broken: &mut BrokenMoves, line: &VectorLine) -> Result<(), AllocE
     requires { line.now.inputs ≡ input_count broken.old.asked.exact }
     ensures asked { broken.new.asked ≡ broken.old.asked }
     ensures ok { OnOk result ((vectors : List (List Bool)) → HasSeen broken.old vectors
-        → HasSeen broken.new (if length line.now.begun == line.now.inputs then vectors ++ line.now.begun ∷ [] else vectors)) }
-    ensures err { OnErr result ((vectors : List (List Bool)) → HasSeen broken.old vectors → HasSeen broken.new vectors) }
+        → HasSeen broken.new (if length line.now.begun == line.now.inputs then vectors ++ line.now.begun
+        ∷ [] else vectors)) }
+    ensures err { OnErr result
+        ((vectors : List (List Bool)) → HasSeen broken.old vectors → HasSeen broken.new vectors) }
 {
     let Some(x) = line.vector() else {
         return Ok(());
@@ -99,7 +102,8 @@ impl<'a> VectorsCheck<'a> {
     /// Whether the vectors of the text, once all wanted bytes were taken, show what is asked; None where the
     /// text is not lines of vectors with the witness first.
     pub(crate) fn finish(self) -> Result<Option<bool>, AllocError>
-        ensures { IfOk result (λ shown. (content : Bytes) → IsAllWanted content self.entry.text self.entry.room
+        ensures { IfOk result (λ shown. (content : Bytes)
+            → IsAllWanted content self.entry.text self.entry.room
             → AreShownIn self.entry.asked shown content) }
     {
         let VectorsCheck {

@@ -1,5 +1,6 @@
 -- Pieces at the front of a text are cut off in one way.
-use Rattle.std.proofs.Common.{◌≡◌, ◌≢◌, ℕ, suc, ◌+◌, ◌-◌, ◌<◌, ◌≤◌, ◌^◌, Bool, true, false, ◌&&◌, ◌==◌, List, [], ◌∷◌, ◌++◌, length, get_or, take, drop, decimal, Option, Some, None, if◌then◌else◌, nat_le, refl, ap, sym, subst, ◌∙◌, inl, inr, arith}
+use Rattle.std.proofs.Common.{◌≡◌, ◌≢◌, ℕ, suc, ◌+◌, ◌-◌, ◌<◌, ◌≤◌, ◌^◌, Bool, true, false, ◌&&◌, ◌==◌, List, [], ◌∷◌, ◌++◌, length, get_or, take, drop, decimal, Option, Some, None, if◌then◌else◌}
+use Rattle.std.proofs.Common.{nat_le, refl, ap, sym, subst, ◌∙◌, inl, inr, arith}
 use Rattle.std.specs.List.{list_all}
 use Rattle.std.proofs.lemmas.Bool.{and_parts, le-leb, leb-true, eqb-true, eqb-false, ne_eqb, or_cases}
 use Rattle.std.proofs.lemmas.List.{append_cancel_left, length-append, length-map, length-take-le, take_at, take-append-drop}

@@ -32,7 +32,8 @@ next_decides is_next piece rest next count decides is given =
 differs_still : (formula : Formula) (text piece rest new : Bytes) → StandsAt false formula text rest → StandsAt false formula (text ++ piece) new
 differs_still formula text piece rest new never more is = never (piece ++ more) (sym (append_assoc text piece more) ∙ is)
 
-pub taken_next : (a mid : Inside) (bytes piece new : Bytes) (is_next : Bool) → mid ≡ record a { rest = new; is_same = is_next } → bytes ≡ mid.text.bytes ++ piece → StandsAt true a.formula.now a.text.bytes a.rest
+pub taken_next : (a mid : Inside) (bytes piece new : Bytes) (is_next : Bool) → mid ≡ record a { rest = new; is_same = is_next } → bytes ≡ mid.text.bytes ++ piece
+    → StandsAt true a.formula.now a.text.bytes a.rest
     → IsTrue is_next ↔ (piece ≡ take (length piece) a.rest) → new ≡ drop (length piece) a.rest → StandsAt mid.is_same mid.formula.now bytes mid.rest
 taken_next a mid bytes piece new is_next is text same next rest =
     let whole : bytes ≡ a.text.bytes ++ piece = text ∙ ap (λ (m : Inside). m.text.bytes ++ piece) is in
@@ -45,7 +46,8 @@ taken_still a mid bytes piece is text other stands =
     let never = subst (λ b. StandsAt b a.formula.now a.text.bytes a.rest) other stands in
     let whole : bytes ≡ a.text.bytes ++ piece = text ∙ ap (λ (m : Inside). m.text.bytes ++ piece) is in
     subst (λ (m : Inside). StandsAt m.is_same m.formula.now bytes m.rest) (sym is)
-    (subst (λ b. StandsAt b a.formula.now bytes a.rest) (sym other) (subst (λ t. StandsAt false a.formula.now t a.rest) (sym whole) (differs_still a.formula.now a.text.bytes piece a.rest a.rest never)))
+    (subst (λ b. StandsAt b a.formula.now bytes a.rest) (sym other)
+    (subst (λ t. StandsAt false a.formula.now t a.rest) (sym whole) (differs_still a.formula.now a.text.bytes piece a.rest a.rest never)))
 
 -- a text that differs is not the formula's, and none that goes on from it
 pub differs : (formula : Formula) (text rest content : Bytes) (room : ℕ) → StandsAt false formula text rest → IsAllWanted content text room → content ≢ dimacs_text formula

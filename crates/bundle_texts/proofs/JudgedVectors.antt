@@ -1,5 +1,6 @@
 -- What each byte of a text of vectors says of it.
-use Rattle.std.proofs.Common.{◌≡◌, ◌≢◌, ℕ, ◌+◌, ◌<◌, ◌≤◌, Bool, true, false, ◌==◌, ◌&&◌, nat_lt, if◌then◌else◌, Option, Some, None, List, [], ◌∷◌, ◌++◌, take, drop, length, get_or, refl, ap, sym, subst, ◌∙◌, append_assoc, inl, inr, arith}
+use Rattle.std.proofs.Common.{◌≡◌, ◌≢◌, ℕ, ◌+◌, ◌<◌, ◌≤◌, Bool, true, false, ◌==◌, ◌&&◌, nat_lt, if◌then◌else◌, Option, Some, None, List, [], ◌∷◌, ◌++◌, take, drop, length, get_or, refl, ap, sym}
+use Rattle.std.proofs.Common.{subst, ◌∙◌, append_assoc, inl, inr, arith}
 use Rattle.std.specs.List.{AllByRecursion}
 use Rattle.std.proofs.lemmas.Bool.{and_parts, eqb-true, eqb-false, eq-eqb, ne_eqb, or_cases, lt-ltb}
 use Rattle.std.proofs.lemmas.List.{append-nil, length-append, length-map, length_push, map-append, take_all, take_more, get_or-map, get_or_append_left, take-append-drop}
@@ -86,7 +87,8 @@ module _ (witness : List Bool) (v : TakenValue) (text : Bytes) (byte : ℕ) (h :
       let digit = digit_of (get_or witness (length begun) false) byte (eqb-true byte (bit_byte (get_or witness (length begun) false)) told) in (
         digit.0,
         (λ i. first i ++ digit.1 i ∷ [])
-            ∙ sym (take_more witness (length begun) false within) ∙ ap (λ n. take n witness) (sym (let e : length (begun ++ (byte == 49) ∷ []) ≡ length begun + 1 = omega (arith, length_push begun (byte == 49)) in e)),
+            ∙ sym (take_more witness (length begun) false within) ∙ ap (λ n. take n witness)
+            (sym (let e : length (begun ++ (byte == 49) ∷ []) ≡ length begun + 1 = omega (arith, length_push begun (byte == 49)) in e)),
       )
   bit_right (x ∷ pool) begun first within told =
       (sym (ap (λ t. if t then byte == bit_byte (get_or witness (length begun) false) else is_bit_digit byte) (some_vectors x pool)) ∙ told, first)
@@ -183,7 +185,8 @@ module _ (witness : List Bool) (v : TakenValue) (text : Bytes) (h : AreVectorsSo
   some_bits : (b : Bool) (begun : List Bool) (t : Bool) → ((length (b ∷ begun) == 0) && t) ≡ true → ⊥
   some_bits b begun t whole = omega (arith, eqb-true (length (b ∷ begun)) 0 (and_parts (length (b ∷ begun) == 0) t whole).0)
 
-  holds_all : (vectors : List (List Bool)) (begun : List Bool) → v.vectors ≡ vectors → v.begun ≡ begun → BeginWith witness vectors begun → are_whole (record v { vectors = vectors; begun = begun }) ≡ true
+  holds_all : (vectors : List (List Bool)) (begun : List Bool) → v.vectors ≡ vectors → v.begun ≡ begun → BeginWith witness vectors begun
+      → are_whole (record v { vectors = vectors; begun = begun }) ≡ true
       → HoldsVectors (length witness) text witness v.vectors
   holds_all [] [] is same first whole = absurd (cc (whole))
   holds_all [] (b ∷ begun) is same first whole = absurd (some_bits b begun (nat_lt 0 0) whole)
@@ -244,13 +247,18 @@ pub next_is : (witness : List Bool) (v : TakenValue) (byte : ℕ) → is_next wi
 next_is witness v byte = at v.vectors refl where
   at : (vectors : List (List Bool)) → v.vectors ≡ vectors → is_next witness (line_of v) byte ≡ is_next_byte witness v byte
   at [] is =
-      ap (λ (xs : List (List Bool)). if length v.begun == length witness then byte == 10 else (if nat_lt 0 (length xs) then is_bit_digit byte else byte == bit_byte (get_or witness (length v.begun) false))) is
-      ∙ sym (ap (λ (xs : List (List Bool)). if length v.begun == length witness then byte == 10 else (if length xs == 0 then byte == bit_byte (get_or witness (length v.begun) false) else is_bit_digit byte)) is)
+      ap (λ (xs : List (List Bool)). if length v.begun == length witness then byte == 10
+      else (if nat_lt 0 (length xs) then is_bit_digit byte else byte == bit_byte (get_or witness (length v.begun) false))) is
+      ∙ sym (ap (λ (xs : List (List Bool)). if length v.begun == length witness then byte == 10
+      else (if length xs == 0 then byte == bit_byte (get_or witness (length v.begun) false) else is_bit_digit byte)) is)
   at (x ∷ xs) is =
-      ap (λ (ys : List (List Bool)). if length v.begun == length witness then byte == 10 else (if nat_lt 0 (length ys) then is_bit_digit byte else byte == bit_byte (get_or witness (length v.begun) false))) is
-      ∙ ap (λ t. if length v.begun == length witness then byte == 10 else (if t then is_bit_digit byte else byte == bit_byte (get_or witness (length v.begun) false))) (lt-ltb 0 (length (x ∷ xs)) (omega arith))
+      ap (λ (ys : List (List Bool)). if length v.begun == length witness then byte == 10
+      else (if nat_lt 0 (length ys) then is_bit_digit byte else byte == bit_byte (get_or witness (length v.begun) false))) is
+      ∙ ap (λ t. if length v.begun == length witness then byte == 10 else (if t then is_bit_digit byte else byte == bit_byte (get_or witness (length v.begun) false)))
+      (lt-ltb 0 (length (x ∷ xs)) (omega arith))
       ∙ sym (ap (λ t. if length v.begun == length witness then byte == 10 else (if t then byte == bit_byte (get_or witness (length v.begun) false) else is_bit_digit byte)) (some_vectors x xs))
-      ∙ sym (ap (λ (ys : List (List Bool)). if length v.begun == length witness then byte == 10 else (if length ys == 0 then byte == bit_byte (get_or witness (length v.begun) false) else is_bit_digit byte)) is)
+      ∙ sym (ap (λ (ys : List (List Bool)). if length v.begun == length witness then byte == 10
+      else (if length ys == 0 then byte == bit_byte (get_or witness (length v.begun) false) else is_bit_digit byte)) is)
 
 some_more : (vectors : List (List Bool)) (x : List Bool) → nat_lt 0 (length (vectors ++ x ∷ [])) ≡ true
 some_more vectors x = lt-ltb 0 (length (vectors ++ x ∷ [])) (omega (arith, length_push vectors x))

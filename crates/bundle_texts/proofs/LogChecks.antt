@@ -1,5 +1,6 @@
 -- What the reader's and the checker's answers say of a log's text.
-use Rattle.std.proofs.Common.{◌≡◌, ℕ, ◌+◌, ◌<◌, ◌≤◌, Bool, true, false, List, [], ◌∷◌, ◌++◌, length, take, drop, refl, sym, ap, subst, ◌∙◌, inl, inr, Option, None, Some, Result, Ok, Err, slice_get, is_some, append_assoc, length-append, if◌then◌else◌, ◌-◌, arith}
+use Rattle.std.proofs.Common.{◌≡◌, ℕ, ◌+◌, ◌<◌, ◌≤◌, Bool, true, false, List, [], ◌∷◌, ◌++◌, length, take, drop, refl, sym, ap, subst, ◌∙◌, inl, inr, Option, None, Some, Result, Ok, Err, slice_get}
+use Rattle.std.proofs.Common.{is_some, append_assoc, length-append, if◌then◌else◌, ◌-◌, arith}
 use Rattle.std.specs.Prelude.{◌⊎◌, ⊤, IfOk, IfSome, IsTrue}
 use Rattle.std.proofs.lemmas.List.{append-nil, take-append-drop, take_more}
 use Rattle.std.proofs.Math.Seq.{take-append_seam, take-length}
@@ -118,7 +119,8 @@ kept_in holds clauses text items judge None read taken other = λ (log, again, r
 kept_in holds clauses text items judge (Some kept) read taken (ends, held) = (items, read, record { sound = taken.checked.sound; ends = ends }, held)
 
 -- what is known of what is kept, whatever the text
-pub of_refutation : {L : Type 0} (holds : L → List LogItem → Type 0) (clauses : List Clause) (kept : Option L) (text : Bytes) → IsLogIn holds clauses kept text → IfSome kept (IsOfRefutation holds clauses)
+pub of_refutation : {L : Type 0} (holds : L → List LogItem → Type 0) (clauses : List Clause) (kept : Option L) (text : Bytes) → IsLogIn holds clauses kept text
+    → IfSome kept (IsOfRefutation holds clauses)
 of_refutation holds clauses None text h = tt
 of_refutation holds clauses (Some kept) text (log, read, refutes, held) = (log, refutes, held)
 

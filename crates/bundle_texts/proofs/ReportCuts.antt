@@ -153,11 +153,13 @@ module _ (inputs : ℕ) (version : Version) (metric : Metric) (bound : ℕ) (tex
           spelled = (front_once head inputs text maximum r.maximum x r.witness rest (tail_of r) front (front_of r same h)).2;
         })
 
-    pub read_is : (found : ReportRead) → found.version ≡ version → found.maximum ≡ maximum → found.witness ≡ x → IsTail rest found.counts → IsReportText inputs metric bound text (report_read metric bound found)
+    pub read_is : (found : ReportRead) → found.version ≡ version → found.maximum ≡ maximum → found.witness ≡ x → IsTail rest found.counts
+        → IsReportText inputs metric bound text (report_read metric bound found)
     read_is found same_version same_maximum same_witness tail = record {
       spelled =
           front.spelled
-          ∙ (λ i. (head_there ∙ ap (λ v. head_text v metric bound) (sym same_version)) i ++ (decimal (sym same_maximum i) ++ 10 ∷ (codes "witness " ++ (bits_word (sym same_witness i) ++ 10 ∷ tail.spelled i))))
+          ∙ (λ i. (head_there ∙ ap (λ v. head_text v metric bound) (sym same_version)) i
+          ++ (decimal (sym same_maximum i) ++ 10 ∷ (codes "witness " ++ (bits_word (sym same_witness i) ++ 10 ∷ tail.spelled i))))
           ∙ parts_are (report_read metric bound found);
       same_metric = refl;
       same_bound = refl;

@@ -18,4 +18,5 @@ IsNetIn (Some M) text = blif_reading text MOST_BUNDLE_BYTES ≡ Ok M
 -- the text is the report's, or that of none
 abbrev pub IsReportIn : ℕ → Metric → ℕ → Option ReportRead → Bytes → Type 0
 IsReportIn inputs metric bound None text = (r : Report) → ¬ IsReportText inputs metric bound text r
-IsReportIn inputs metric bound (Some read) text = IsReportText inputs metric bound text (report_read metric bound read)
+IsReportIn inputs metric bound (Some read) text
+    = IsReportText inputs metric bound text (report_read metric bound read)

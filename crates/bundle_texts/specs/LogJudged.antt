@@ -27,4 +27,5 @@ module _ {L : Type 0} (holds : L → List LogItem → Type 0) where
   -- them
   abbrev pub IsLogIn : List Clause → Option L → Bytes → Type 0
   IsLogIn clauses None text = ¬ IsRefutingText clauses text
-  IsLogIn clauses (Some kept) text = (log : List LogItem) × (lrat_items text ≡ Ok log) × Refutes clauses log × holds kept log
+  IsLogIn clauses (Some kept) text = (log : List LogItem) × (lrat_items text ≡ Ok log) × Refutes clauses log
+      × holds kept log

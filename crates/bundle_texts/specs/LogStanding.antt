@@ -23,7 +23,8 @@ module _ {L : Type 0} where
 
   module _ (holds : L → List LogItem → Type 0) where
     abbrev pub StandsAt : Standing → List Clause → LogRead → Judge L → Type 0
-    StandsAt (Accepted room) clauses v judge = IsSoundSoFar (HasTaken holds) clauses v judge × (length v.text + room < 2 ^ 63)
+    StandsAt (Accepted room) clauses v judge = IsSoundSoFar (HasTaken holds) clauses v judge
+        × (length v.text + room < 2 ^ 63)
     StandsAt Refused clauses v judge = NeverRefutes clauses v.text
     StandsAt Lost clauses v judge = Unit {0}
 

@@ -7,7 +7,8 @@ use Rattle.bundle_texts.specs.declared.report_reading.ReportRead.{ReportRead}
 use Rattle.job_semantics.specs.Certificate.{IsVectorsText}
 
 -- these are the vectors of the text, of which the witness is the first
-pub record HoldsVectors (inputs : ℕ) (text : Bytes) (witness : List Bool) (vectors : List (List Bool)) : Type 0 where
+pub record HoldsVectors (inputs : ℕ) (text : Bytes) (witness : List Bool)
+    (vectors : List (List Bool)) : Type 0 where
   pub pool : List (List Bool)
   pub vectors_are : vectors ≡ witness ∷ pool
   pub read : IsVectorsText inputs text witness pool

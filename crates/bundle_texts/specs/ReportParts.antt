@@ -10,11 +10,13 @@ use Rattle.bundle_texts.specs.declared.report_reading.Counts.{Counts}
 -- the text before the maximum
 abbrev pub head_text : Version → Metric → ℕ → Bytes
 head_text version metric bound =
-    line_text (codes "salsa" ∷ version_word version ∷ []) ++ (line_text (codes "metric" ∷ metric_word metric ∷ [])
+    line_text (codes "salsa" ∷ version_word version ∷ [])
+    ++ (line_text (codes "metric" ∷ metric_word metric ∷ [])
     ++ (line_text (codes "bound" ∷ decimal bound ∷ []) ++ codes "maximum "))
 
 -- the head, the maximum, the line of the witness, and then the rest
-pub record IsFrontBefore (head : Bytes) (width : ℕ) (text : Bytes) (maximum : ℕ) (x : List Bool) (rest : Bytes) : Type 0 where
+pub record IsFrontBefore (head : Bytes) (width : ℕ) (text : Bytes) (maximum : ℕ) (x : List Bool)
+    (rest : Bytes) : Type 0 where
   pub few : maximum ≤ LARGEST_ERROR
   pub width_is : length x ≡ width
   pub spelled : text ≡ head ++ (decimal maximum ++ 10 ∷ (codes "witness " ++ (bits_word x ++ 10 ∷ rest)))
@@ -34,7 +36,8 @@ minimal_text is_minimal = codes "minimal " ++ (yes_word is_minimal ++ 10 ∷ [])
 -- the text from the counts to its end
 abbrev pub tail_text : ℕ → ℕ → ℕ → ℕ → Bool → Bytes
 tail_text old_tables new_tables old_literals new_literals minimal =
-    counts_text (codes "tables ") old_tables new_tables (counts_text (codes "literals ") old_literals new_literals (minimal_text minimal))
+    counts_text (codes "tables ") old_tables new_tables
+    (counts_text (codes "literals ") old_literals new_literals (minimal_text minimal))
 
 pub record IsTail (text : Bytes) (c : Counts) : Type 0 where
   pub few_old_tables : c.old_tables < 2 ^ 32

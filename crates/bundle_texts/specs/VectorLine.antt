@@ -1,5 +1,6 @@
 -- The line of an input vector that is at hand. Source: this tool's own format, `STEM.wit`.
-use Rattle.std.specs.Prelude.{ℕ, ◌==◌, nat_lt, ◌&&◌, Bool, true, false, List, [], ◌∷◌, ◌++◌, length, slice_index_or, if◌then◌else◌}
+use Rattle.std.specs.Prelude.{ℕ, ◌==◌, nat_lt, ◌&&◌, Bool, true, false, List, [], ◌∷◌, ◌++◌, length}
+use Rattle.std.specs.Prelude.{slice_index_or, if◌then◌else◌}
 use Rattle.semantics.specs.Texts.{bit_byte}
 use Rattle.bundle_texts.specs.Pieces.{is_bit_digit}
 use Rattle.bundle_texts.specs.VectorsTaken.{TakenValue}
@@ -18,7 +19,8 @@ line_of v = record { inputs = v.inputs; begun = v.begun; has_ended = nat_lt 0 (l
 abbrev pub is_next : List Bool → LineValue → ℕ → Bool
 is_next witness l byte =
     if length l.begun == length witness then byte == 10
-    else (if l.has_ended then is_bit_digit byte else byte == bit_byte (slice_index_or witness (length l.begun) false))
+    else (if l.has_ended then is_bit_digit byte
+    else byte == bit_byte (slice_index_or witness (length l.begun) false))
 
 -- a line end ends the line, and a digit is its next bit
 abbrev pub line_after : LineValue → ℕ → LineValue

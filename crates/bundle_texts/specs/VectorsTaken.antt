@@ -1,5 +1,6 @@
 -- Lines of input vectors, taken byte by byte. Source: this tool's own format, `STEM.wit`.
-use Rattle.std.specs.Prelude.{◌≡◌, ℕ, ◌≤◌, ◌==◌, nat_lt, ◌&&◌, Bool, false, List, [], ◌∷◌, ◌++◌, length, take, slice_index_or, if◌then◌else◌}
+use Rattle.std.specs.Prelude.{◌≡◌, ℕ, ◌≤◌, ◌==◌, nat_lt, ◌&&◌, Bool, false, List, [], ◌∷◌, ◌++◌, length}
+use Rattle.std.specs.Prelude.{take, slice_index_or, if◌then◌else◌}
 use Rattle.std.specs.List.{AllByRecursion}
 use Rattle.semantics.specs.Texts.{Bytes, bit_byte, bits_word}
 use Rattle.job_semantics.specs.Certificate.{IsVectorsText}
@@ -20,7 +21,8 @@ taken_text v = vector_lines v.vectors ++ bits_word v.begun
 abbrev pub is_next_byte : List Bool → TakenValue → ℕ → Bool
 is_next_byte witness v byte =
     if length v.begun == length witness then byte == 10
-    else (if length v.vectors == 0 then byte == bit_byte (slice_index_or witness (length v.begun) false) else is_bit_digit byte)
+    else (if length v.vectors == 0 then byte == bit_byte (slice_index_or witness (length v.begun) false)
+    else is_bit_digit byte)
 
 -- a line end ends the vector, and a digit is its next bit
 abbrev pub with_byte : TakenValue → ℕ → TakenValue
@@ -48,4 +50,5 @@ pub record AreVectorsSoFar (witness : List Bool) (v : TakenValue) (text : Bytes)
 
 -- however the text goes on, it is not lines of vectors with the witness first
 abbrev pub NeverVectors : List Bool → Bytes → Type 0
-NeverVectors witness text = (more : Bytes) (pool : List (List Bool)) → ¬ IsVectorsText (length witness) (text ++ more) witness pool
+NeverVectors witness text = (more : Bytes) (pool : List (List Bool))
+    → ¬ IsVectorsText (length witness) (text ++ more) witness pool

@@ -22,7 +22,8 @@ pub struct Judge<L> {
 /// Whether the checker accepts the item.
 fn is_accepted(checker: &mut Checker, item: &Item) -> Result<bool, AllocError>
     ensures { IfOk result (λ accepted. (clauses : List Clause) (log : List LogItem)
-        → StandsAfter clauses log checker.old → AreJudged StandsAfter accepted clauses (log ++ item.now ∷ []) checker.new) }
+        → StandsAfter clauses log checker.old
+        → AreJudged StandsAfter accepted clauses (log ++ item.now ∷ []) checker.new) }
 {
     match item {
         Item::Add(step) => match checker.step(step) {
@@ -43,7 +44,8 @@ impl<L: ItemSink> Judge<L> {
     /// Takes the next item, and returns whether the checker accepted it.
     pub fn accepts(&mut self, item: Item) -> Result<bool, AllocError>
         ensures { IfOk result (λ accepted. (clauses : List Clause) (log : List LogItem)
-            → HasTaken L.holds clauses log self.old → AreJudged (HasTaken L.holds) accepted clauses (log ++ item ∷ []) self.new) }
+            → HasTaken L.holds clauses log self.old
+            → AreJudged (HasTaken L.holds) accepted clauses (log ++ item ∷ []) self.new) }
     {
         if !is_accepted(&mut self.checker, &item)? {
             return Ok(false);

@@ -1,4 +1,5 @@
-//! The texts of a bundle's files: how a report is read back, and how formulas, logs and vectors are judged as they are read.
+//! The texts of a bundle's files: how a report is read back, and how formulas, logs and vectors are judged as
+//! they are read.
 #![tactic(auto)]
 
 pub mod bits;

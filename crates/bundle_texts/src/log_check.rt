@@ -1,5 +1,6 @@
 //! A log is checked as its text is read, so that the text is never held.
-ghost use Rattle.std.specs.Prelude.{◌≡◌, ℕ, ◌+◌, ◌≤◌, ◌<◌, ◌^◌, [], ◌++◌, List, length, false, None, IsTrue, IfOk};
+ghost use Rattle.std.specs.Prelude.{◌≡◌, ℕ, ◌+◌, ◌≤◌, ◌<◌, ◌^◌, [], ◌++◌, List, length, false, None, IsTrue};
+ghost use Rattle.std.specs.Prelude.{IfOk};
 ghost use Rattle.semantics.specs.Texts.{Bytes};
 ghost use Rattle.proof_semantics.specs.Clauses.{Clause};
 ghost use Rattle.file_reading.specs.Reading.{IsAllWanted};

@@ -29,7 +29,8 @@ impl Model for VectorLine {
       has_ended = a.has_ended;
     } };
 
-    ghost invariant = { λ a. (a.filled ≤ a.inputs) × ((a.inputs ≤ MOST_INPUTS) × (length a.bits ≡ MOST_INPUTS)) };
+    ghost invariant = { λ a. (a.filled ≤ a.inputs)
+        × ((a.inputs ≤ MOST_INPUTS) × (length a.bits ≡ MOST_INPUTS)) };
 }
 
 impl VectorLine {

@@ -26,7 +26,7 @@ impl Model for Stem {
 
     ghost invariant = { λ s.
         AreNames (stem_of s.netlist.items)
-            s.netlist.items s.formula.items s.log.items s.vectors.items s.report.items };
+        s.netlist.items s.formula.items s.log.items s.vectors.items s.report.items };
 }
 
 /// The stem with an ending.

@@ -33,7 +33,8 @@ fn write_vector<F: Files>(x: &[bool], files: &mut F, page: &mut Page) -> Result<
 }
 
 fn write_pool<F: Files>(pool: &Patterns, files: &mut F, page: &mut Page) -> Result<(), FileFault>
-    ensures { Gathers result (F.told files.old) (F.told files.new) page.old page.new (vector_lines pool.now.vectors) }
+    ensures { Gathers result (F.told files.old) (F.told files.new) page.old page.new
+        (vector_lines pool.now.vectors) }
 {
     let mut buffer = [false; MOST_INPUTS];
     let x = &mut buffer[..pool.inputs() as usize];
@@ -52,7 +53,8 @@ pub fn write_vectors<F: Files>(
     files: &mut F,
 ) -> Result<(), FileFault>
     requires { length witness.now ≤ MOST_INPUTS }
-    ensures { Writes result (F.told files.old) (F.told files.new) (vectors_text witness.now pool.now.vectors) }
+    ensures { Writes result (F.told files.old) (F.told files.new)
+        (vectors_text witness.now pool.now.vectors) }
 {
     let mut page = Page::new();
     write_vector(witness, files, &mut page)?;

@@ -28,35 +28,40 @@ fn create<F: Files>(files: &mut F, stem: &Stem, ending: Ending) -> Result<(), Fi
 }
 
 fn write_netlist<F: Files>(b: &Bundle, stem: &Stem, files: &mut F) -> Result<(), FileFault>
-    ensures { WritesFiles result (F.told files.old) (F.told files.new) (file_of stem.now b.now Ending.Netlist ∷ []) }
+    ensures { WritesFiles result (F.told files.old) (F.told files.new)
+        (file_of stem.now b.now Ending.Netlist ∷ []) }
 {
     create(files, stem, Ending::Netlist)?;
     write_blif(&b.approx, files)
 }
 
 fn write_formula<F: Files>(b: &Bundle, stem: &Stem, files: &mut F) -> Result<(), FileFault>
-    ensures { WritesFiles result (F.told files.old) (F.told files.new) (file_of stem.now b.now Ending.Formula ∷ []) }
+    ensures { WritesFiles result (F.told files.old) (F.told files.new)
+        (file_of stem.now b.now Ending.Formula ∷ []) }
 {
     create(files, stem, Ending::Formula)?;
     write_dimacs(&b.goal, files)
 }
 
 fn write_log<F: Files>(b: &Bundle, stem: &Stem, files: &mut F) -> Result<(), FileFault>
-    ensures { WritesFiles result (F.told files.old) (F.told files.new) (file_of stem.now b.now Ending.Log ∷ []) }
+    ensures { WritesFiles result (F.told files.old) (F.told files.new)
+        (file_of stem.now b.now Ending.Log ∷ []) }
 {
     create(files, stem, Ending::Log)?;
     write_lrat(&b.log, files)
 }
 
 fn write_vectors_file<F: Files>(b: &Bundle, stem: &Stem, files: &mut F) -> Result<(), FileFault>
-    ensures { WritesFiles result (F.told files.old) (F.told files.new) (file_of stem.now b.now Ending.Vectors ∷ []) }
+    ensures { WritesFiles result (F.told files.old) (F.told files.new)
+        (file_of stem.now b.now Ending.Vectors ∷ []) }
 {
     create(files, stem, Ending::Vectors)?;
     write_vectors(b.witness.as_slice(), &b.pool, files)
 }
 
 fn write_report<F: Files>(b: &Bundle, stem: &Stem, files: &mut F) -> Result<(), FileFault>
-    ensures { WritesFiles result (F.told files.old) (F.told files.new) (file_of stem.now b.now Ending.Report ∷ []) }
+    ensures { WritesFiles result (F.told files.old) (F.told files.new)
+        (file_of stem.now b.now Ending.Report ∷ []) }
 {
     create(files, stem, Ending::Report)?;
     append_all(files, report(b).as_str().as_bytes())

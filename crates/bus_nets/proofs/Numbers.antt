@@ -1,5 +1,6 @@
 -- The number of each call's result, from the tables that the call appended.
-use Rattle.std.proofs.Common.{◌≡◌, ◌≢◌, ℕ, zero, suc, ◌+◌, ◌-◌, ◌*◌, ◌/◌, ◌%◌, ◌<◌, IfOk, OnOk, Result, Ok, Err, ◌≤◌, max, ltb, leb, count_by, List, ◌∷◌, [], ◌++◌, length, map, drop, get_or, set, replicate, refl, ap, sym, subst, ◌∙◌, arith}
+use Rattle.std.proofs.Common.{◌≡◌, ◌≢◌, ℕ, zero, suc, ◌+◌, ◌-◌, ◌*◌, ◌/◌, ◌%◌, ◌<◌, IfOk, OnOk, Result, Ok, Err, ◌≤◌, max, ltb, leb, count_by, List, ◌∷◌, [], ◌++◌, length, map, drop, get_or, set}
+use Rattle.std.proofs.Common.{replicate, refl, ap, sym, subst, ◌∙◌, arith}
 use Rattle.std.proofs.lemmas.List.{drop_all, get_or_default}
 use Rattle.std.specs.List.{range_with_len}
 use Rattle.std.specs.Prelude.{pos}
@@ -30,7 +31,8 @@ constant_has W k bus e = record { at = λ v fits. ap (number v) e ∙ constant_n
 pub add_has : (W V : WordNetValue) (x y bus : List ℕ) → V ≡ (add W x y).net → bus ≡ (add W x y).bus → HasNumber V bus (λ v. number v x + number v y)
 add_has W V x y bus net e = record { at = λ v fits. ap (number v) e ∙ add_number v W x y (subst (Fits v) net fits) }
 
-pub adding_has : (start now : WordNetValue) (x y sums bus : List ℕ) (carry i : ℕ) → Adding start now x y sums carry i → max (length x) (length y) ≤ i → bus ≡ sums ++ carry ∷ [] → HasNumber now bus (λ v. number v x + number v y)
+pub adding_has : (start now : WordNetValue) (x y sums bus : List ℕ) (carry i : ℕ) → Adding start now x y sums carry i → max (length x) (length y) ≤ i → bus ≡ sums ++ carry ∷ []
+    → HasNumber now bus (λ v. number v x + number v y)
 adding_has start now x y sums bus carry i h past e =
     let none = places_none start.inputs x y i past in
     let net : now ≡ (add start x y).net = ap (λ r. (adders now carry r).net) (sym none) ∙ h.net in
@@ -90,7 +92,8 @@ even_has W x half double k h e even = record {
   at = λ v fits. ap (number v) e ∙ double_number W half v fits ∙ ap (λ n. 2 * n) (h.at v fits) ∙ half_step k (k / 2) (number v x) refl even;
 }
 
-pub odd_has : (W V : WordNetValue) (x half double bus : List ℕ) (k : ℕ) → HasNumber W half (λ v. (k / 2) * number v x) → double ≡ W.inputs ∷ half → BeginsWith V W → HasNumber V bus (λ v. number v double + number v x) → k % 2 ≡ 1 → HasNumber V bus (λ v. k * number v x)
+pub odd_has : (W V : WordNetValue) (x half double bus : List ℕ) (k : ℕ) → HasNumber W half (λ v. (k / 2) * number v x) → double ≡ W.inputs ∷ half → BeginsWith V W
+    → HasNumber V bus (λ v. number v double + number v x) → k % 2 ≡ 1 → HasNumber V bus (λ v. k * number v x)
 odd_has W V x half double bus k h e begins sum odd = record {
   at = λ v fits.
       let before = Fits-earlier v V W begins fits in
@@ -108,7 +111,8 @@ exceed_made W S P T Q V x y z s t p q r hS hs hP hp hT ht hQ hq hV hr =
 
 -- ---- the end of a count
 
-counting_whole : (start now : WordNetValue) (k : ℕ) (ds row : List ℕ) (i : ℕ) → Counting start now k ds row i → length ds ≤ i → record { net = now; bus = row } ≡ count_rows start (replicate k start.inputs) ds
+counting_whole : (start now : WordNetValue) (k : ℕ) (ds row : List ℕ) (i : ℕ) → Counting start now k ds row i → length ds ≤ i
+    → record { net = now; bus = row } ≡ count_rows start (replicate k start.inputs) ds
 counting_whole start now k ds row i h past = ap (λ r. count_rows now row r) (sym (drop_all i ds past)) ∙ h.rest
 
 counted_place : (bus : List ℕ) (k s z one : ℕ) → k ≢ 0 → length bus ≡ k → s ≡ get_or bus (k - 1) s → s ≡ get_or (one ∷ bus) k z
@@ -117,7 +121,8 @@ counted_place bus (suc k) s z one some size e =
     let place : suc k - 1 ≡ k = omega arith in
     e ∙ ap (λ j. get_or bus j s) place ∙ get_or_default bus k s z (omega (arith, size))
 
-pub counting_some : (start now : WordNetValue) (k : ℕ) (ds given row : List ℕ) (i s : ℕ) → Counting start now k ds row i → length ds ≤ i → ds ≡ given → k ≢ 0 → s ≡ get_or row (k - 1) s → HasBit now s (λ v. leb k (count_by v given))
+pub counting_some : (start now : WordNetValue) (k : ℕ) (ds given row : List ℕ) (i s : ℕ) → Counting start now k ds row i → length ds ≤ i → ds ≡ given → k ≢ 0 → s ≡ get_or row (k - 1) s
+    → HasBit now s (λ v. leb k (count_by v given))
 counting_some start now k ds given row i s h past same some e =
     let whole = counting_whole start now k ds row i h past in
     let width = counting_width start now k ds row i h past in
@@ -135,21 +140,24 @@ flipped_in W U V x bus h same x_in net e = rw (net, e) ((flip_top_formed W x (su
 
 -- ---- the ends of the other loops
 
-pub differing_has : (start now : WordNetValue) (x y bits : List ℕ) (i : ℕ) → Differing start now x y bits i → max (length x) (length y) ≤ i → length x ≡ length y → HasCount now bits (λ v. differing (map v x) (map v y))
+pub differing_has : (start now : WordNetValue) (x y bits : List ℕ) (i : ℕ) → Differing start now x y bits i → max (length x) (length y) ≤ i → length x ≡ length y
+    → HasCount now bits (λ v. differing (map v x) (map v y))
 differing_has start now x y bits i h past same =
     let net : now ≡ (differ start x y).net = ap (λ r. (differences now r).net) (sym (places_none start.inputs x y i past)) ∙ h.net in
     differ_has start now x y bits same net (differing_all start now x y bits i h past)
 
 -- ---- the least bit of a word that is not to be 0
 
-pub not_zero_made : (W V : WordNetValue) (x pins bus rest : List ℕ) (rows : List (List Mark)) (s : ℕ) → 0 < length x → pins ≡ x → rows ≡ (One ∷ replicate (length x - 1) Dash) ∷ (Zero ∷ replicate (length x - 1) Zero) ∷ []
+pub not_zero_made : (W V : WordNetValue) (x pins bus rest : List ℕ) (rows : List (List Mark)) (s : ℕ) → 0 < length x → pins ≡ x
+    → rows ≡ (One ∷ replicate (length x - 1) Dash) ∷ (Zero ∷ replicate (length x - 1) Zero) ∷ []
     → V ≡ appended W (form pins rows) → s ≡ signals W → rest ≡ drop 1 x → bus ≡ s ∷ rest → HasNumber V bus (λ v. max 1 (number v x))
 not_zero_made W V [] pins bus rest rows s some ep er net es et e = absurd (omega arith)
 not_zero_made W V (a ∷ xs) pins bus rest rows s some ep er net es et e =
     let count : suc (length xs) - 1 ≡ length xs = omega arith in
     not_zero_has W V (a ∷ xs) bus some (rw (net, ep, er, count) refl) (rw (e, es, et) refl)
 
-pub flipped_made : (W V : WordNetValue) (x bus : List ℕ) (top b s : ℕ) → 0 < length x → top ≡ length x - 1 → b ≡ get_or x top W.inputs → V ≡ appended W (form (b ∷ []) ((Zero ∷ []) ∷ [])) → s ≡ signals W → bus ≡ set x top s → HasFlipped V bus x
+pub flipped_made : (W V : WordNetValue) (x bus : List ℕ) (top b s : ℕ) → 0 < length x → top ≡ length x - 1 → b ≡ get_or x top W.inputs → V ≡ appended W (form (b ∷ []) ((Zero ∷ []) ∷ []))
+    → s ≡ signals W → bus ≡ set x top s → HasFlipped V bus x
 flipped_made W V x bus top b s some et eb net es e = flipped_has W V x bus some (rw (net, eb, et) refl) (rw (e, es, et) refl)
 
 -- the double of a word, as the code has it

@@ -83,7 +83,9 @@ counting_width start now k ds row i h past =
     let e = ap (λ r. count_rows now row r) (sym (drop_all i ds past)) ∙ h.rest in
     ap (λ r. length r.bus) e ∙ length-count_rows start (replicate k start.inputs) ds ∙ length-replicate k start.inputs
 
-pub adding_more : (start now after : WordNetValue) (x y sums sums' : List ℕ) (carry i a b s c : ℕ) → Adding start now x y sums carry i → i < max (length x) (length y) → a ≡ get_or x i now.inputs → b ≡ get_or y i now.inputs → after ≡ appended (appended now (xor3 a b carry)) (maj a b carry) → s ≡ signals now → c ≡ signals (appended now (xor3 a b carry)) → sums' ≡ sums ++ s ∷ [] → s < signals after → c < signals after → signals now ≤ signals after → BeginsWith after now → Adding start after x y sums' c (i + 1)
+pub adding_more : (start now after : WordNetValue) (x y sums sums' : List ℕ) (carry i a b s c : ℕ) → Adding start now x y sums carry i → i < max (length x) (length y) → a ≡ get_or x i now.inputs
+    → b ≡ get_or y i now.inputs → after ≡ appended (appended now (xor3 a b carry)) (maj a b carry) → s ≡ signals now → c ≡ signals (appended now (xor3 a b carry)) → sums' ≡ sums ++ s ∷ []
+    → s < signals after → c < signals after → signals now ≤ signals after → BeginsWith after now → Adding start after x y sums' c (i + 1)
 adding_more start now after x y sums sums' carry i a b s c h within ea eb e es ec en s_in c_in more begins =
     let inputs = h.begins.inputs in
     let step : drop i (places start.inputs x y) ≡ (a, b) ∷ drop (i + 1) (places start.inputs x y) =
@@ -97,7 +99,9 @@ adding_more start now after x y sums sums' carry i a b s c h within ea eb e es e
       bus = rw (e, ec, en, es, append_assoc) (ap (λ r. sums ++ (adders now carry r).bus) (sym step) ∙ h.bus);
     }
 
-pub differing_more : (start now after : WordNetValue) (x y bits bits' : List ℕ) (i a b s : ℕ) → Differing start now x y bits i → i < max (length x) (length y) → a ≡ get_or x i now.inputs → b ≡ get_or y i now.inputs → after ≡ appended now (xor2 a b) → s ≡ signals now → bits' ≡ bits ++ s ∷ [] → signals now < signals after → BeginsWith after now → Differing start after x y bits' (i + 1)
+pub differing_more : (start now after : WordNetValue) (x y bits bits' : List ℕ) (i a b s : ℕ) → Differing start now x y bits i → i < max (length x) (length y) → a ≡ get_or x i now.inputs
+    → b ≡ get_or y i now.inputs → after ≡ appended now (xor2 a b) → s ≡ signals now → bits' ≡ bits ++ s ∷ [] → signals now < signals after → BeginsWith after now
+    → Differing start after x y bits' (i + 1)
 differing_more start now after x y bits bits' i a b s h within ea eb e es en more begins =
     let inputs = h.begins.inputs in
     let step : drop i (places start.inputs x y) ≡ (a, b) ∷ drop (i + 1) (places start.inputs x y) =

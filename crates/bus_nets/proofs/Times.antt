@@ -21,7 +21,8 @@ times_more W x k h g =
     let high = binary_more (k / 2) (omega arith) in
     rw (binary_more k (omega arith), high) refl
 
-pub times_even : (W : WordNetValue) (x : List ℕ) (k : ℕ) → k ≢ 0 → k ≢ 1 → k % 2 ≢ 1 → times W x k ≡ record { net = (times W x (k / 2)).net; bus = (times W x (k / 2)).net.inputs ∷ (times W x (k / 2)).bus }
+pub times_even : (W : WordNetValue) (x : List ℕ) (k : ℕ) → k ≢ 0 → k ≢ 1 → k % 2 ≢ 1
+    → times W x k ≡ record { net = (times W x (k / 2)).net; bus = (times W x (k / 2)).net.inputs ∷ (times W x (k / 2)).bus }
 times_even W x k h g even = times_more W x k h g ∙ ap (λ b. doubled_and b (times W x (k / 2)) x) (ne_eqb (k % 2) 1 even)
 
 pub times_odd : (W : WordNetValue) (x : List ℕ) (k : ℕ) → k ≢ 0 → k ≢ 1 → k % 2 ≡ 1 → times W x k ≡ add (times W x (k / 2)).net ((times W x (k / 2)).net.inputs ∷ (times W x (k / 2)).bus) x
@@ -43,7 +44,8 @@ range_suc a (suc n) =
 pub range_more : (a n : ℕ) → range_with_len a (n + 1) ≡ range_with_len a n ++ (a + n) ∷ []
 range_more a n = rw add-one (range_suc a n)
 
-pub pushing_more : (W : WordNetValue) (k : ℕ) (bus bus' : List ℕ) (left s : ℕ) → Pushing W k bus left → left ≢ 0 → s ≡ cond (left % 2 == 1) (suc W.inputs) W.inputs → s < signals W → bus' ≡ bus ++ s ∷ [] → Pushing W k bus' (left / 2)
+pub pushing_more : (W : WordNetValue) (k : ℕ) (bus bus' : List ℕ) (left s : ℕ) → Pushing W k bus left → left ≢ 0 → s ≡ cond (left % 2 == 1) (suc W.inputs) W.inputs → s < signals W
+    → bus' ≡ bus ++ s ∷ [] → Pushing W k bus' (left / 2)
 pushing_more W k bus bus' left s h some es below e = record {
   bits_in = rw e (All-push (λ p. p < signals W) bus s h.bits_in below);
   rest = rw (e, es, append_assoc) (ap (λ r. bus ++ r) (sym (constant_more W left some)) ∙ h.rest);

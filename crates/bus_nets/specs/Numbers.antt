@@ -20,8 +20,10 @@ pub record HasBit (W : WordNetValue) (signal : ℕ) (of : Assignment → Bool) :
 
 -- the bits of the bus are `width` bits of the input vector, from input `from` on
 pub record HasInputs (W : WordNetValue) (bus : List ℕ) (from width : ℕ) : Type 0 where
-  pub at : (x : List Bool) → length x ≡ W.inputs → map (value_of W.inputs W.tables x) bus ≡ take width (drop from x)
+  pub at : (x : List Bool) → length x ≡ W.inputs
+      → map (value_of W.inputs W.tables x) bus ≡ take width (drop from x)
 
 -- the number of the bus is the number of x in two's complement plus half of the range
 pub record HasFlipped (W : WordNetValue) (bus x : List ℕ) : Type 0 where
-  pub at : (v : Assignment) → Fits v W → pos (number v bus) ≡ signed_number_of (map v x) +ℤ pos (2 ^ (length x - 1))
+  pub at : (v : Assignment) → Fits v W
+      → pos (number v bus) ≡ signed_number_of (map v x) +ℤ pos (2 ^ (length x - 1))

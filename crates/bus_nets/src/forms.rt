@@ -1,5 +1,6 @@
 //! The rows of the forms of tables, and the names of a network. Source: the gates of ripple-carry arithmetic.
-ghost use Rattle.std.specs.Prelude.{◌≡◌, ◌<◌, ◌-◌, [], ◌∷◌, length, map, replicate, decimal, codes, All, IfOk};
+ghost use Rattle.std.specs.Prelude.{◌≡◌, ◌<◌, ◌-◌, [], ◌∷◌, length, map, replicate, decimal, codes, All};
+ghost use Rattle.std.specs.Prelude.{IfOk};
 ghost use Rattle.std.specs.List.{range_with_len};
 ghost use Rattle.quality_semantics.specs.Forms.{form};
 ghost use Rattle.quality_semantics.specs.WordNets.{table_of};

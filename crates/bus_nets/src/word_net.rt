@@ -1,10 +1,13 @@
 //! A network under construction, on buses.
-ghost use Rattle.std.specs.Prelude.{cond, suc, ◌≡◌, ◌+◌, ◌*◌, ◌<◌, ◌≤◌, nat_lt, nat_le, max, count_by, map, [], ◌∷◌, length, slice_index_or, All, IfOk, OnOk};
+ghost use Rattle.std.specs.Prelude.{cond, suc, ◌≡◌, ◌+◌, ◌*◌, ◌<◌, ◌≤◌, nat_lt, nat_le, max, count_by, map};
+ghost use Rattle.std.specs.Prelude.{[], ◌∷◌, length, slice_index_or, All, IfOk, OnOk};
 ghost use Rattle.std.specs.List.{range_with_len};
 ghost use Rattle.semantics.specs.Error.{distance, differing};
 ghost use Rattle.quality_semantics.specs.Forms.{form, xor3, maj};
-ghost use Rattle.quality_semantics.specs.WordNets.{signals, appended, started, net_of, BeginsWith, AreSignalsOf};
-ghost use Rattle.quality_semantics.specs.Buses.{add, greater, exceed, constant, times, not_zero_low, flip_top, differ, growers, at_least};
+ghost use Rattle.quality_semantics.specs.WordNets.{signals, appended, started, net_of, BeginsWith};
+ghost use Rattle.quality_semantics.specs.WordNets.{AreSignalsOf};
+ghost use Rattle.quality_semantics.specs.Buses.{add, greater, exceed, constant, times, not_zero_low};
+ghost use Rattle.quality_semantics.specs.Buses.{flip_top, differ, growers, at_least};
 ghost use Rattle.quality_semantics.specs.Laws.{number};
 ghost use Rattle.bus_nets.specs.Numbers.{HasNumber, HasCount, HasBit, HasInputs, HasFlipped};
 
@@ -276,7 +279,8 @@ impl WordNet {
         ensures ok { OnOk result (self.new ≡ (exceed self.old x.now y.now z.now).net) }
         ensures signal { IfOk result (λ s. s ≡ (exceed self.old x.now y.now z.now).signal) }
         ensures value { IfOk result
-            (λ s. HasBit self.new s (λ v. nat_lt (number v z.now) (distance (number v x.now) (number v y.now)))) }
+            (λ s. HasBit self.new s
+            (λ v. nat_lt (number v z.now) (distance (number v x.now) (number v y.now)))) }
         ensures begins { BeginsWith self.new self.old }
     {
         let upper = self.add(y, z)?;
@@ -330,7 +334,8 @@ impl WordNet {
         ensures ok { OnOk result (self.new ≡ (differ self.old x.now y.now).net) }
         ensures bus { IfOk result (λ bus. bus ≡ (differ self.old x.now y.now).bus) }
         ensures count { IfOk result
-            (λ bus. length x.now ≡ length y.now → HasCount self.new bus (λ v. differing (map v x.now) (map v y.now))) }
+            (λ bus. length x.now ≡ length y.now
+            → HasCount self.new bus (λ v. differing (map v x.now) (map v y.now))) }
         ensures begins { BeginsWith self.new self.old }
     {
         let mut bits = Bus::new(self.alloc);

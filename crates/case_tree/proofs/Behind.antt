@@ -63,7 +63,8 @@ inputs_behind N front vectors words first rest width few all fronts kept rests x
       low,
       λ s within.
           elim (cases_lt s (length front)) [
-            | inl here ↦ ap (λ w. word_bit w (number_of later)) (kept s here) ∙ fronts (number_of later) s low here ∙ ap (λ l. get_or l s false) (sym begins) ∙ get_or-take (length front) x s false here
+            | inl here ↦ ap (λ w. word_bit w (number_of later)) (kept s here) ∙ fronts (number_of later) s low here ∙ ap (λ l. get_or l s false) (sym begins) ∙ get_or-take (length front) x s false
+                here
             | inr behind ↦
                 let j : ℕ = s - length front in
                 let place : length front + j ≡ s = omega (arith, behind) in

@@ -1,5 +1,6 @@
 -- The steps by cases refute the goal of a net whose output is 0 at every input vector.
-use Rattle.std.proofs.Common.{◌≡◌, ℕ, zero, suc, ◌+◌, ◌-◌, ◌^◌, ◌<◌, ◌≤◌, Bool, true, false, List, [], ◌∷◌, ◌++◌, length, refl, ap, subst, sym, ◌∙◌, arith, append_assoc, length-append, All, Option, None, Some}
+use Rattle.std.proofs.Common.{◌≡◌, ℕ, zero, suc, ◌+◌, ◌-◌, ◌^◌, ◌<◌, ◌≤◌, Bool, true, false, List, [], ◌∷◌, ◌++◌, length, refl, ap, subst, sym, ◌∙◌, arith, append_assoc, length-append, All, Option}
+use Rattle.std.proofs.Common.{None, Some}
 use Rattle.std.specs.FinMap.{get, insert}
 use Rattle.std.proofs.lemmas.List.{append-nil}
 use Rattle.std.proofs.lemmas.List.Elements.{All-nil, All-cons}
@@ -75,7 +76,8 @@ last_added-end [] s before = refl
 last_added-end (Add t ∷ log) s before = last_added-end log s (Some t.literals)
 last_added-end (Remove ids ∷ log) s before = last_added-end log s before
 
-cases-end : (n : ℕ) (tables : List TableValue) (order : List ℕ) (output : ℕ) (free : ℕ) (front : List Bool) (last : ℕ) → last_added (cases_from n tables order output free front last) ≡ Some (negation front)
+cases-end : (n : ℕ) (tables : List TableValue) (order : List ℕ) (output : ℕ) (free : ℕ) (front : List Bool) (last : ℕ)
+    → last_added (cases_from n tables order output free front last) ≡ Some (negation front)
 unfolding cases_from
 cases-end n tables order output zero front last = refl
 cases-end n tables order output (suc free) front last =
@@ -85,7 +87,8 @@ cases-end n tables order output (suc free) front last =
     let join : StepValue = join_step (last + step_count (suc free)) front (last + c) (last + c + c) in
     ap last_added (sym (append_assoc zeros others (Add join ∷ []))) ∙ last_added-end (zeros ++ others) join None
 
-pub cases-count : (n : ℕ) (tables : List TableValue) (order : List ℕ) (output : ℕ) (free : ℕ) (front : List Bool) (last : ℕ) → length (cases_from n tables order output free front last) ≡ step_count free
+pub cases-count : (n : ℕ) (tables : List TableValue) (order : List ℕ) (output : ℕ) (free : ℕ) (front : List Bool) (last : ℕ)
+    → length (cases_from n tables order output free front last) ≡ step_count free
 unfolding cases_from
 cases-count n tables order output zero front last = refl
 cases-count n tables order output (suc free) front last =
@@ -102,7 +105,8 @@ literals_of-negation variables [] place e = All-nil (IsLiteralOf variables)
 literals_of-negation variables (b ∷ bits) place e =
     All-cons (IsLiteralOf variables) _ (negation_from (suc place) bits) (IsLiteralOf-at variables place _ (omega (arith, e))) (literals_of-negation variables bits (suc place) (omega (arith, e)))
 
-cases-in_turn : (n : ℕ) (tables : List TableValue) (order : List ℕ) (output : ℕ) (variables : ℕ) → n ≤ variables → (free : ℕ) (front : List Bool) (last : ℕ) (rest : List LogItem) → length front + free ≡ n
+cases-in_turn : (n : ℕ) (tables : List TableValue) (order : List ℕ) (output : ℕ) (variables : ℕ) → n ≤ variables → (free : ℕ) (front : List Bool) (last : ℕ) (rest : List LogItem)
+    → length front + free ≡ n
     → AddsInTurn variables (last + step_count free) rest → AddsInTurn variables last (cases_from n tables order output free front last ++ rest)
 unfolding cases_from
 cases-in_turn n tables order output variables few zero front last rest e follows = (refl, literals_of-negation variables front 0 (omega (arith, e, few)), follows)

@@ -1,5 +1,6 @@
 -- How the code's lists of hints and steps grow.
-use Rattle.std.proofs.Common.{◌≡◌, ℕ, zero, suc, ◌+◌, ◌-◌, ◌^◌, ◌<◌, ◌≤◌, Bool, true, false, cond, List, [], ◌∷◌, ◌++◌, length, get_or, set, drop, replicate, reverse, refl, ap, sym, subst, ◌∙◌, arith, append_assoc, drop-cons, sum_by}
+use Rattle.std.proofs.Common.{◌≡◌, ℕ, zero, suc, ◌+◌, ◌-◌, ◌^◌, ◌<◌, ◌≤◌, Bool, true, false, cond, List, [], ◌∷◌, ◌++◌, length, get_or, set, drop, replicate, reverse, refl, ap, sym, subst, ◌∙◌}
+use Rattle.std.proofs.Common.{arith, append_assoc, drop-cons, sum_by}
 use Rattle.std.specs.List.{AllByRecursion}
 use Rattle.std.proofs.lemmas.List.{reverse-append, reverse-reverse, drop_more}
 use Rattle.std.proofs.lemmas.List.Sums.{sum_by-cons, sum_by-take-drop}
@@ -13,7 +14,8 @@ use Rattle.std.proofs.lemmas.List.Elements.{All-from_recursion}
 use Rattle.semantics.proofs.Values.{row_matches-same}
 use Rattle.proof_semantics.specs.Variables.{table_clause_count}
 use Rattle.proof_semantics.proofs.NetValues.{each_pin}
-use Rattle.case_tree.specs.Cases.{row_hint, match_hints, failing_hints, has_match, asked_by_row, asked_by_failing, asked_by_match, asked_by_rows, asked_by_table, first_ids, hints_from, needed_before, hints_before, only_needed, ordered_hints}
+use Rattle.case_tree.specs.Cases.{row_hint, match_hints, failing_hints, has_match, asked_by_row, asked_by_failing, asked_by_match, asked_by_rows, asked_by_table, first_ids, hints_from, needed_before}
+use Rattle.case_tree.specs.Cases.{hints_before, only_needed, ordered_hints}
 use Rattle.case_tree.proofs.Needs.{set_flag}
 use Rattle.case_tree.proofs.Vectors.{rows_clause_count}
 
@@ -98,7 +100,8 @@ rows_within rows i =
 
 -- the hints of the last of the `left` rows, by the terms of the code
 pub failing_last : (next id implied : ℕ) (pins : List ℕ) (rows : List (List Mark)) (v : Assignment) (left : ℕ) (row : List Mark) (hints one old : List ℕ) → 0 < left → left ≤ length rows
-    → row ≡ get_or rows (left - 1) row → next + row_literals row + 1 ≡ id → one ≡ hints ++ row_hint next row pins v ∷ [] → hints ≡ old ++ reverse (failing_hints id (implied + left) pins (drop left rows) v)
+    → row ≡ get_or rows (left - 1) row → next + row_literals row + 1 ≡ id → one ≡ hints ++ row_hint next row pins v ∷ []
+    → hints ≡ old ++ reverse (failing_hints id (implied + left) pins (drop left rows) v)
     → one ≡ old ++ reverse (failing_hints next (implied + (left - 1)) pins (drop (left - 1) rows) v)
 failing_last next id implied pins rows v left row hints one old some within read place pushed invariant =
     let e : left - 1 + 1 ≡ left = omega (arith, some) in
@@ -176,7 +179,8 @@ module _ (tables : List TableValue) (firsts : List ℕ) (n i place : ℕ) (neede
       let T : TableValue = table_at tables i in
       let next : ℕ = get_or (first_ids 1 tables) i 0 in
       let implied : ℕ = next + table_literals T + length T.rows in
-      let matches : has_match T.plane (v (n + i)) ≡ true = subst (λ s. has_match T.plane (v s) ≡ true) here (subst (λ b. has_match b (v place) ≡ true) (up ∙ ap (λ (u : TableValue). u.plane) is) has) in
+      let matches : has_match T.plane (v (n + i)) ≡ true
+      = subst (λ s. has_match T.plane (v s) ≡ true) here (subst (λ b. has_match b (v place) ≡ true) (up ∙ ap (λ (u : TableValue). u.plane) is) has) in
       let whole : hints_here ≡ match_hints next implied T.pins T.rows v = ap (λ b. cond b (match_hints next implied T.pins T.rows v) (failing_hints next implied T.pins T.rows v)) matches in
       let first : get_or firsts i 0 ≡ next = ap (λ l. get_or l i 0) ids in
       let rows_same : rows ≡ T.rows = down ∙ ap (λ (u : TableValue). u.rows) is in
@@ -191,7 +195,8 @@ module _ (tables : List TableValue) (firsts : List ℕ) (n i place : ℕ) (neede
       let T : TableValue = table_at tables i in
       let next : ℕ = get_or (first_ids 1 tables) i 0 in
       let implied : ℕ = next + table_literals T + length T.rows in
-      let fails : has_match T.plane (v (n + i)) ≡ false = subst (λ s. has_match T.plane (v s) ≡ false) here (subst (λ b. has_match b (v place) ≡ false) (up ∙ ap (λ (u : TableValue). u.plane) is) has) in
+      let fails : has_match T.plane (v (n + i)) ≡ false
+      = subst (λ s. has_match T.plane (v s) ≡ false) here (subst (λ b. has_match b (v place) ≡ false) (up ∙ ap (λ (u : TableValue). u.plane) is) has) in
       let whole : hints_here ≡ failing_hints next implied T.pins T.rows v = ap (λ b. cond b (match_hints next implied T.pins T.rows v) (failing_hints next implied T.pins T.rows v)) fails in
       let first : get_or firsts (i + 1) 0 - 1 - length rows - sum_by (λ marks. row_literals marks + 1) rows ≡ next =
       omega (arith, last_id tables firsts i t rows ids within is down, ap (λ l. get_or l i 0) ids) in
@@ -202,7 +207,8 @@ module _ (tables : List TableValue) (firsts : List ℕ) (n i place : ℕ) (neede
       pushed ∙ ap (λ l. old ++ reverse l) (same ∙ sym whole ∙ needed_hints)
 
 -- the hints of a table, and what they ask for, where it is needed and where not
-pub table_pushed : (n : ℕ) (tables : List TableValue) (v : Assignment) (needed : List Bool) (order : List ℕ) (k i : ℕ) (flags one : List Bool) (hints two : List ℕ) → k < length order → get_or order k 0 ≡ i
+pub table_pushed : (n : ℕ) (tables : List TableValue) (v : Assignment) (needed : List Bool) (order : List ℕ) (k i : ℕ) (flags one : List Bool) (hints two : List ℕ) → k < length order
+    → get_or order k 0 ≡ i
     → flags ≡ needed_before n tables v needed (drop (k + 1) order) → hints ≡ reverse (hints_before n tables v needed (drop (k + 1) order))
     → one ≡ cond (get_or flags (n + i) false) (asked_by_table (n + i) (table_at tables i) v (set flags (n + i) false)) flags
     → two ≡ hints ++ reverse (cond (get_or flags (n + i) false) (hints_from (get_or (first_ids 1 tables) i 0) (n + i) (table_at tables i) v) [])
@@ -229,7 +235,8 @@ table_last n tables v needed order left i flags one hints two some within read a
     table_pushed n tables v needed order (left - 1) i flags one hints two (omega (arith, some, within)) read (rw e are) (rw e pushed) first second
 
 -- the hints of an input vector, in their order
-pub hints_turned : (n : ℕ) (tables : List TableValue) (order : List ℕ) (count out output : ℕ) (values old filled : List Bool) (ids turned hints : List ℕ) → values ≡ old → filled ≡ replicate count false
+pub hints_turned : (n : ℕ) (tables : List TableValue) (order : List ℕ) (count out output : ℕ) (values old filled : List Bool) (ids turned hints : List ℕ) → values ≡ old
+    → filled ≡ replicate count false
     → count ≡ n + length tables → out ≡ output → hints ≡ reverse (hints_before n tables (λ s. get_or values s false) (set filled out true) order) → turned ≡ hints → ids ≡ reverse turned
     → ids ≡ ordered_hints n tables order output (λ s. get_or old s false)
 hints_turned n tables order count out output values old filled ids turned hints same cleared as_many here pushed is back =

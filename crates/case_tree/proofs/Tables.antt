@@ -71,9 +71,11 @@ pub match-decides : (a v : Assignment) (held : ℕ → Option Clause) (known lat
     → EndsInConflict held set (match_hints next implied pins rows v ++ rest)
 unfolding AgreesFrom
 match-decides a v held known later size place plane pins rest needed behind split within as_many same value more goes [] first next implied set asked widths clauses implying agree any h k = cc
-match-decides a v held known later size place plane pins rest needed behind split within as_many same value more goes (marks ∷ rows) first next implied set asked widths clauses implying agree any h k =
+match-decides a v held known later size place plane pins rest needed behind split within as_many same value more goes (marks ∷ rows) first next implied set asked widths clauses implying agree any h k
+    =
     at_row (row_matches marks pins v) refl agree.0 any asked
-    (λ asked' any'. match-decides a v held known later size place plane pins rest needed behind split within as_many same value more goes rows (suc first) (next + row_literals marks + 1) (implied + 1) set asked' widths.1 apart.1 implying.1 agree.1 any' h k) where
+    (λ asked' any'. match-decides a v held known later size place plane pins rest needed behind split within as_many same value more goes rows (suc first) (next + row_literals marks + 1)
+    (implied + 1) set asked' widths.1 apart.1 implying.1 agree.1 any' h k) where
       whole : Clause
       whole = with_literals (literal_at first true ∷ []) (map neg_ℤ (literals_of_row marks pins))
 
@@ -127,8 +129,10 @@ failing-decide a v held known later size place plane pins rest needed split with
     let nothing : before ++ [] ≡ before = append-nil before in
     let is_true = literal_at-true a place (not plane) (same ∙ value) in
     let unit : open_literals set (l ∷ (before ++ [])) ≡ l ∷ [] = rw nothing (open-first a set l before h is_true are_false) in
-    unit-hint held set implied (l ∷ (before ++ [])) l rest behind.0 unit more (goes (literals.insert set l) (NegationsFail-more a set l h is_true) (Knows-next v set known later place (not plane) split k value))
-failing-decide a v held known later size place plane pins rest needed split within as_many same value more goes (marks ∷ rows) first next implied before set asked widths clauses behind agree none h k are_false =
+    unit-hint held set implied (l ∷ (before ++ [])) l rest behind.0 unit more
+    (goes (literals.insert set l) (NegationsFail-more a set l h is_true) (Knows-next v set known later place (not plane) split k value))
+failing-decide a v held known later size place plane pins rest needed split within as_many same value more goes (marks ∷ rows) first next implied before set asked widths clauses behind agree none h k
+    are_false =
     let others : List Bool = asked_by_rows pins rows v needed in
     let fails = or_parts (row_matches marks pins v) (list_any (λ ms. row_matches ms pins v) rows) none in
     let whole : Clause = with_literals (literal_at first true ∷ []) (map neg_ℤ (literals_of_row marks pins)) in
@@ -142,7 +146,8 @@ failing-decide a v held known later size place plane pins rest needed split with
     let set' : LiteralSet = literals.insert set row in
     let h' = NegationsFail-more a set row h is_true in
     let shifted = append_assoc before (literal_at first true ∷ []) (variables_from (suc first) (length rows)) in
-    let behind' : AreHeldFrom held (implied + 1) (implications (suc first) (length rows) (literal_at place plane) ++ (literal_at place (not plane) ∷ ((before ++ literal_at first true ∷ []) ++ variables_from (suc first) (length rows))) ∷ []) =
+    let behind' : AreHeldFrom held (implied + 1) (implications (suc first) (length rows) (literal_at place plane)
+    ++ (literal_at place (not plane) ∷ ((before ++ literal_at first true ∷ []) ++ variables_from (suc first) (length rows))) ∷ []) =
     rw shifted behind.1 in
     let further = failing-decide a v held known later size place plane pins rest needed split within as_many same value more goes rows (suc first) (next + row_literals marks + 1) (implied + 1)
     (before ++ literal_at first true ∷ []) set' (λ q is. asked q (failing-keeps marks pins v others q is)) widths.1 apart.1 behind' agree.1 fails.1 h' (Knows-more v set known row k)

@@ -1,5 +1,6 @@
 -- Where the output is 0 at an input vector, the vector's hints derive its negation.
-use Rattle.std.proofs.Common.{◌≡◌, ◌≢◌, ℕ, zero, suc, ◌+◌, ◌-◌, ◌<◌, ◌⊎◌, Bool, true, false, cond, not, List, [], ◌∷◌, ◌++◌, length, get_or, replicate, map, refl, ap, subst, sym, ◌∙◌, inl, inr, arith, append_assoc, sum_by, All, neg_ℤ, Option, Some}
+use Rattle.std.proofs.Common.{◌≡◌, ◌≢◌, ℕ, zero, suc, ◌+◌, ◌-◌, ◌<◌, ◌⊎◌, Bool, true, false, cond, not, List, [], ◌∷◌, ◌++◌, length, get_or, replicate, map, refl, ap, subst, sym, ◌∙◌, inl, inr}
+use Rattle.std.proofs.Common.{arith, append_assoc, sum_by, All, neg_ℤ, Option, Some}
 use Rattle.std.specs.List.{AllByRecursion, Contains, list_any}
 use Rattle.std.specs.FinSet as literals
 use Rattle.std.proofs.Math.ListN.{length-map}
@@ -21,7 +22,8 @@ use Rattle.proof_semantics.proofs.Refutations.{negations-fail, none-fails}
 use Rattle.proof_semantics.proofs.Agreement.{AgreesFrom, AgreesFrom-parts, AgreesFrom-from}
 use Rattle.proof_semantics.proofs.Counts.{length-rows_clauses, length-table_clauses}
 use Rattle.proof_semantics.proofs.NetValues.{each_pin, at_signal, rows_have_values}
-use Rattle.case_tree.specs.Cases.{negation_from, negation, match_hints, failing_hints, has_match, asked_by_match, asked_by_rows, asked_by_table, first_ids, hints_from, needed_before, hints_before, only_needed, ordered_hints}
+use Rattle.case_tree.specs.Cases.{negation_from, negation, match_hints, failing_hints, has_match, asked_by_match, asked_by_rows, asked_by_table, first_ids, hints_from, needed_before, hints_before}
+use Rattle.case_tree.specs.Cases.{only_needed, ordered_hints}
 use Rattle.case_tree.proofs.Sets.{Holds, Holds-new, Holds-negations, open-none}
 use Rattle.case_tree.proofs.Units.{AreHeldFrom, AreHeldFrom-parts}
 use Rattle.case_tree.proofs.Rows.{Knows, Knows-literal}
@@ -45,7 +47,8 @@ pub record HasClauses (a v : Assignment) (held : ℕ → Option Clause) (next pl
 AreWide : TableValue → Type 0
 AreWide t = AllByRecursion (λ marks. length marks ≡ length t.pins) t.rows
 
-HasClauses-at : (a v : Assignment) (held : ℕ → Option Clause) (goal : List Clause) (tables : List TableValue) (place first next i k : ℕ) → AllByRecursion AreWide tables → i < length tables → place + i ≡ k
+HasClauses-at : (a v : Assignment) (held : ℕ → Option Clause) (goal : List Clause) (tables : List TableValue) (place first next i k : ℕ) → AllByRecursion AreWide tables → i < length tables
+    → place + i ≡ k
     → AreHeldFrom held next (tables_clauses place first tables ++ goal) → AgreesFrom a first (row_values tables v)
     → HasClauses a v held (get_or (first_ids next tables) i 0) k (table_at tables i)
 unfolding AgreesFrom AreWide
@@ -183,7 +186,8 @@ module _ (a v : Assignment) (held : ℕ → Option Clause) (n : ℕ) (tables : L
       ]
 
   parts : AreHeldFrom held next (rows_clauses has.first t.pins t.rows)
-      × AreHeldFrom held (next + table_literals t + length t.rows) (implications has.first (length t.rows) (literal_at (n + i) t.plane) ++ (literal_at (n + i) (not t.plane) ∷ variables_from has.first (length t.rows)) ∷ [])
+      × AreHeldFrom held (next + table_literals t + length t.rows)
+      (implications has.first (length t.rows) (literal_at (n + i) t.plane) ++ (literal_at (n + i) (not t.plane) ∷ variables_from has.first (length t.rows)) ∷ [])
   unfolding AreWide
   parts =
       let rows = length-rows_clauses has.first t.pins t.rows (All-from_recursion (λ marks. length marks ≡ length t.pins) t.rows wide) in
@@ -191,7 +195,8 @@ module _ (a v : Assignment) (held : ℕ → Option Clause) (n : ℕ) (tables : L
       (implications has.first (length t.rows) (literal_at (n + i) t.plane) ++ (literal_at (n + i) (not t.plane) ∷ variables_from has.first (length t.rows)) ∷ [])
       next (next + table_literals t + length t.rows) (omega (arith, rows, rows_clause_count t.rows)) has.clauses
 
-  table-decides : (b : Bool) → has_match t.plane (v (n + i)) ≡ b → ((s : ℕ) → IsNeeded behind s → IsNeeded (cond b (asked_by_match t.pins t.rows v left) (asked_by_rows t.pins t.rows v left)) s ⊎ (s ≡ n + i))
+  table-decides : (b : Bool) → has_match t.plane (v (n + i)) ≡ b
+      → ((s : ℕ) → IsNeeded behind s → IsNeeded (cond b (asked_by_match t.pins t.rows v left) (asked_by_rows t.pins t.rows v left)) s ⊎ (s ≡ n + i))
       → Goes a v held (IsNeeded (cond b (asked_by_match t.pins t.rows v left) (asked_by_rows t.pins t.rows v left)))
       (cond b (match_hints next (next + table_literals t + length t.rows) t.pins t.rows v) (failing_hints next (next + table_literals t + length t.rows) t.pins t.rows v) ++ rest)
   unfolding AreWide

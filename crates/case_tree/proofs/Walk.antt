@@ -57,7 +57,8 @@ front-kept x y d b e =
     let within : d ≤ d + 1 = omega arith in
     sym (take-take d (d + 1) y within) ∙ ap (take d) e ∙ take-take d (d + 1) (set x d b) within ∙ take-set x d b
 
-pub walk-none : (n : ℕ) (tables : List TableValue) (order : List ℕ) (output : ℕ) (x : List Bool) (d last : ℕ) (log more : List LogItem) (s : StepValue) → d ≡ length x → s ≡ vector_step (last + 1) n tables order output x
+pub walk-none : (n : ℕ) (tables : List TableValue) (order : List ℕ) (output : ℕ) (x : List Bool) (d last : ℕ) (log more : List LogItem) (s : StepValue) → d ≡ length x
+    → s ≡ vector_step (last + 1) n tables order output x
     → more ≡ log ++ Add s ∷ [] → more ≡ log ++ cases_from n tables order output (length x - d) (take d x) last
 unfolding cases_from
 walk-none n tables order output x d last log more s end is pushed =
@@ -65,7 +66,8 @@ walk-none n tables order output x d last log more s end is pushed =
     let whole : take d x ≡ x = take_all d x (omega (arith, end)) in
     rw (none, whole) (pushed ∙ ap (λ u. log ++ Add u ∷ []) is)
 
-pub walk-joined : (n : ℕ) (tables : List TableValue) (order : List ℕ) (output : ℕ) (x y z : List Bool) (d last half other : ℕ) (log log1 log2 log3 : List LogItem) (join : StepValue) → d < length x → length y ≡ length x
+pub walk-joined : (n : ℕ) (tables : List TableValue) (order : List ℕ) (output : ℕ) (x y z : List Bool) (d last half other : ℕ) (log log1 log2 log3 : List LogItem) (join : StepValue) → d < length x
+    → length y ≡ length x
     → log1 ≡ log ++ cases_from n tables order output (length (set x d false) - (d + 1)) (take (d + 1) (set x d false)) last
     → half ≡ last + step_count (length (set x d false) - (d + 1)) → take (d + 1) y ≡ take (d + 1) (set x d false)
     → log2 ≡ log1 ++ cases_from n tables order output (length (set y d true) - (d + 1)) (take (d + 1) (set y d true)) half
@@ -137,4 +139,5 @@ pub walk-derives : (N : NetValue) (order : List ℕ) (f : Formula) (last : ℕ) 
 walk-derives N order f last log built is_order is few always count short walked =
     let clauses = ap (λ (g : Formula). length g.clauses) is in
     rw (walked, count, is)
-    (cases-derivation (input_count N) N.tables order (get_or N.outputs 0 0) (variable_count (input_count N) N.tables) (IsZeroSignal-output N order built is_order always) (omega arith) few (omega (arith, short, clauses)))
+    (cases-derivation (input_count N) N.tables order (get_or N.outputs 0 0) (variable_count (input_count N) N.tables) (IsZeroSignal-output N order built is_order always) (omega arith) few
+    (omega (arith, short, clauses)))

@@ -2,7 +2,8 @@
 -- clauses of the net; then these clauses are joined two at a time. A step names only the clauses of the
 -- tables on which the output's value depends at its vector. Source: Shannon's expansion, unit propagation in
 -- an order in which tables can be evaluated, and the cone of influence under given values.
-use Rattle.std.specs.Prelude.{ℕ, zero, suc, ◌+◌, Bool, true, false, not, if◌then◌else◌, List, [], ◌∷◌, ◌++◌, length, replicate, slice_index, slice_index_or, slice_set}
+use Rattle.std.specs.Prelude.{ℕ, zero, suc, ◌+◌, Bool, true, false, not, if◌then◌else◌, List, [], ◌∷◌, ◌++◌}
+use Rattle.std.specs.Prelude.{length, replicate, slice_index, slice_index_or, slice_set}
 use Rattle.semantics.specs.declared.mark.Mark.{Mark}
 use Rattle.semantics.specs.Net.{TableValue, is_literal, row_literals, table_literals, table_at}
 use Rattle.semantics.specs.Value.{Assignment, mark_matches, row_matches, value_of}
@@ -41,17 +42,20 @@ match_hints next implied pins (marks ∷ rows) v =
 -- which says that some row matches or the table has the opposite of its plane.
 abbrev pub failing_hints : ℕ → ℕ → List ℕ → List (List Mark) → Assignment → List ℕ
 failing_hints next implied pins [] v = implied ∷ []
-failing_hints next implied pins (marks ∷ rows) v = row_hint next marks pins v ∷ failing_hints (next + row_literals marks + 1) (implied + 1) pins rows v
+failing_hints next implied pins (marks ∷ rows) v
+    = row_hint next marks pins v ∷ failing_hints (next + row_literals marks + 1) (implied + 1) pins rows v
 
 -- whether a table of this plane and this value has a row that matches
 abbrev pub has_match : Bool → Bool → Bool
 has_match plane value = if plane then value else not value
 
--- The signals whose values hints rest on, by a flag for each signal: those that are needed already, and those that a row asks for a value,
+-- The signals whose values hints rest on, by a flag for each signal: those that are needed already, and those
+-- that a row asks for a value,
 abbrev pub asked_by_row : List Mark → List ℕ → List Bool → List Bool
 asked_by_row [] pins needed = needed
 asked_by_row (m ∷ marks) [] needed = needed
-asked_by_row (m ∷ marks) (s ∷ pins) needed = asked_by_row marks pins (if is_literal m then slice_set needed s true else needed)
+asked_by_row (m ∷ marks) (s ∷ pins) needed
+    = asked_by_row marks pins (if is_literal m then slice_set needed s true else needed)
 
 -- that of a row's first literal that is false,
 abbrev pub asked_by_failing : List Mark → List ℕ → Assignment → List Bool → List Bool
@@ -84,7 +88,9 @@ hints_from next s t v =
 
 -- the signals on which these hints depend join the signals that are needed
 abbrev pub asked_by_table : ℕ → TableValue → Assignment → List Bool → List Bool
-asked_by_table s t v needed = if has_match t.plane (v s) then asked_by_match t.pins t.rows v needed else asked_by_rows t.pins t.rows v needed
+asked_by_table s t v needed
+    = if has_match t.plane (v s) then asked_by_match t.pins t.rows v needed
+    else asked_by_rows t.pins t.rows v needed
 
 -- Over n inputs: the signals that are needed before the tables of an order, where `needed` are needed behind
 -- them. A needed table is known from its hints, and needs the signals on which its hints depend.
@@ -92,7 +98,8 @@ abbrev pub needed_before : ℕ → List TableValue → Assignment → List Bool 
 needed_before n tables v needed [] = needed
 needed_before n tables v needed (i ∷ order) =
     let behind : List Bool = needed_before n tables v needed order in
-    if slice_index_or behind (n + i) false then asked_by_table (n + i) (table_at tables i) v (slice_set behind (n + i) false) else behind
+    if slice_index_or behind (n + i) false
+    then asked_by_table (n + i) (table_at tables i) v (slice_set behind (n + i) false) else behind
 
 -- the hints of the needed tables of an order, and then the clause behind those of all tables, which says that
 -- the output is true
@@ -113,7 +120,12 @@ ordered_hints n tables order output v = hints_before n tables v (only_needed (n 
 
 -- the step that derives the negation of an input vector
 abbrev pub vector_step : ℕ → ℕ → List TableValue → List ℕ → ℕ → List Bool → StepValue
-vector_step id n tables order output x = record { id = id; literals = negation x; hints = ordered_hints n tables order output (value_of n tables x) }
+vector_step id n tables order output x
+    = record {
+      id = id;
+      literals = negation x;
+      hints = ordered_hints n tables order output (value_of n tables x);
+    }
 
 -- The step that joins the clauses with these ids, which differ in the sign of their last literal.
 abbrev pub join_step : ℕ → List Bool → ℕ → ℕ → StepValue
@@ -127,8 +139,10 @@ step_count (suc free) = step_count free + step_count free + 1
 -- The steps after the id `last` that derive the negation of the front `front`, with `free` inputs behind it:
 -- the steps of both halves, and their join.
 unfoldable pub cases_from : ℕ → List TableValue → List ℕ → ℕ → ℕ → List Bool → ℕ → List LogItem
-cases_from n tables order output zero front last = Add (vector_step (last + 1) n tables order output front) ∷ []
+cases_from n tables order output zero front last
+    = Add (vector_step (last + 1) n tables order output front) ∷ []
 cases_from n tables order output (suc free) front last =
     cases_from n tables order output free (front ++ false ∷ []) last
     ++ (cases_from n tables order output free (front ++ true ∷ []) (last + step_count free)
-    ++ Add (join_step (last + step_count (suc free)) front (last + step_count free) (last + step_count free + step_count free)) ∷ [])
+    ++ Add (join_step (last + step_count (suc free)) front (last + step_count free)
+    (last + step_count free + step_count free)) ∷ [])

@@ -1,6 +1,7 @@
 //! The values of all signals at 64 input vectors at a time, which begin with the same bits, the front, and go
 //! on behind it in every way.
-ghost use Rattle.std.specs.Prelude.{◌≡◌, ℕ, ◌+◌, ◌*◌, ◌<◌, ◌≤◌, false, length, take, drop, slice_index, slice_index_or};
+ghost use Rattle.std.specs.Prelude.{◌≡◌, ℕ, ◌+◌, ◌*◌, ◌<◌, ◌≤◌, false, length, take, drop, slice_index};
+ghost use Rattle.std.specs.Prelude.{slice_index_or};
 ghost use Rattle.semantics.specs.Net.{input_count, signal_count};
 ghost use Rattle.semantics.specs.Error.{number_of};
 ghost use Rattle.semantics.specs.Vectors.{all_vectors};
@@ -22,7 +23,8 @@ fn splat(bit: bool) -> u64
 /// Sets the first words to those of inputs that have the front's bits at every pattern.
 fn set_front(front: &[bool], words: &mut [u64])
     requires { length front.now ≤ length words.old }
-    ensures { (b s : ℕ) → b < 64 → s < length front.now → values_at words.new b s ≡ slice_index_or front.now s false }
+    ensures { (b s : ℕ) → b < 64 → s < length front.now
+        → values_at words.new b s ≡ slice_index_or front.now s false }
 {
     for (s, bit) in front.iter().enumerate() {
         words[s] = splat(*bit);
@@ -33,7 +35,8 @@ fn set_front(front: &[bool], words: &mut [u64])
 fn set_rest(patterns: &Patterns, from: usize, words: &mut [u64])
     requires room { from + patterns.now.inputs ≤ length words.old }
     requires some { 0 < length patterns.now.vectors }
-    ensures rest { (b s : ℕ) → b < 64 → s < patterns.now.inputs → values_at words.new b (from + s) ≡ pattern_bit patterns.now.vectors s b }
+    ensures rest { (b s : ℕ) → b < 64 → s < patterns.now.inputs
+        → values_at words.new b (from + s) ≡ pattern_bit patterns.now.vectors s b }
     ensures front { (s : ℕ) → s < from → slice_index words.new s ≡ slice_index words.old s }
 {
     for s in 0..patterns.inputs() {

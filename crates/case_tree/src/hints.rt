@@ -4,11 +4,15 @@
 //! The hints are found from the last to the first. The output is needed; a needed table depends on the row
 //! that matches, or on one false literal of each row; and the signals of those literals are needed before it.
 //! A table that is not needed has no hint.
-ghost use Rattle.std.specs.Prelude.{◌≡◌, ℕ, ◌+◌, ◌-◌, ◌<◌, ◌≤◌, ◌^◌, false, if◌then◌else◌, [], ◌∷◌, ◌++◌, length, reverse, slice_index, slice_index_or, slice_set, sum_by, All, IfOk, OnOk};
+ghost use Rattle.std.specs.Prelude.{◌≡◌, ℕ, ◌+◌, ◌-◌, ◌<◌, ◌≤◌, ◌^◌, false, if◌then◌else◌, [], ◌∷◌, ◌++◌};
+ghost use Rattle.std.specs.Prelude.{length, reverse, slice_index, slice_index_or, slice_set, sum_by, All};
+ghost use Rattle.std.specs.Prelude.{IfOk, OnOk};
 ghost use Rattle.semantics.specs.Net.{input_count, table_count, signal_count, table_at, row_literals};
 ghost use Rattle.semantics.specs.Order.{IsOrderOf};
 ghost use Rattle.proof_semantics.specs.Variables.{table_clause_count};
-ghost use Rattle.case_tree.specs.Cases.{row_hint, match_hints, failing_hints, has_match, asked_by_row, asked_by_failing, asked_by_match, asked_by_rows, hints_from, asked_by_table, first_ids, hints_before, ordered_hints};
+ghost use Rattle.case_tree.specs.Cases.{row_hint, match_hints, failing_hints, has_match, asked_by_row};
+ghost use Rattle.case_tree.specs.Cases.{asked_by_failing, asked_by_match, asked_by_rows, hints_from};
+ghost use Rattle.case_tree.specs.Cases.{asked_by_table, first_ids, hints_before, ordered_hints};
 ghost use Rattle.case_tree.specs.Rooms.{FitsRoom};
 
 use net_core::items::{Items, Signal};
@@ -164,11 +168,13 @@ fn push_table(
     requires ids { sum_by table_clause_count net.now.tables < 2 ^ 62 }
     ensures hints { OnOk result (hints.new.items ≡ hints.old.items
         ++ reverse (if slice_index_or needed.old (input_count net.now + i) false
-        then hints_from (slice_index (first_ids 1 net.now.tables) i) (input_count net.now + i) (table_at net.now.tables i)
+        then hints_from (slice_index (first_ids 1 net.now.tables) i) (input_count net.now + i)
+        (table_at net.now.tables i)
         (λ s. slice_index_or values.now s false)
         else [])) }
     ensures asked { OnOk result (needed.new ≡ (if slice_index_or needed.old (input_count net.now + i) false
-        then asked_by_table (input_count net.now + i) (table_at net.now.tables i) (λ s. slice_index_or values.now s false)
+        then asked_by_table (input_count net.now + i) (table_at net.now.tables i)
+        (λ s. slice_index_or values.now s false)
         (slice_set needed.old (input_count net.now + i) false)
         else needed.old)) }
 {
@@ -237,7 +243,8 @@ fn push_tables(
     requires ids { sum_by table_clause_count net.now.tables < 2 ^ 62 }
     requires start { hints.old.items ≡ slice_index (first_ids 1 net.now.tables) (table_count net.now) ∷ [] }
     ensures { OnOk result (hints.new.items
-        ≡ reverse (hints_before (input_count net.now) net.now.tables (λ s. slice_index_or values.now s false) needed.old order.now)) }
+        ≡ reverse (hints_before (input_count net.now) net.now.tables (λ s. slice_index_or values.now s false)
+        needed.old order.now)) }
 {
     let mut left = order.len();
     while left > 0 {

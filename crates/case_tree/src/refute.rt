@@ -1,11 +1,13 @@
 //! A refutation by cases: the negation of each input vector is derived, and then the clauses are joined two
 //! at a time.
-ghost use Rattle.std.specs.Prelude.{◌≡◌, ℕ, ◌+◌, ◌-◌, ◌<◌, ◌≤◌, ◌^◌, Bool, false, List, [], ◌∷◌, ◌++◌, length, take, slice_index, sum_by, IfOk, OnOk};
+ghost use Rattle.std.specs.Prelude.{◌≡◌, ℕ, ◌+◌, ◌-◌, ◌<◌, ◌≤◌, ◌^◌, Bool, false, List, [], ◌∷◌, ◌++◌};
+ghost use Rattle.std.specs.Prelude.{length, take, slice_index, sum_by, IfOk, OnOk};
 ghost use Rattle.semantics.specs.Net.{input_count, signal_count};
 ghost use Rattle.semantics.specs.Value.{outputs_of};
 ghost use Rattle.proof_semantics.specs.Formula.{goal_of};
 ghost use Rattle.proof_semantics.specs.Logs.{Refutes, IsDerivation};
-ghost use Rattle.case_tree.specs.Cases.{negation_from, negation, vector_step, join_step, step_count, cases_from};
+ghost use Rattle.case_tree.specs.Cases.{negation_from, negation, vector_step, join_step, step_count};
+ghost use Rattle.case_tree.specs.Cases.{cases_from};
 ghost use Rattle.case_tree.specs.Behind.{AreValuesBehind};
 ghost use Rattle.case_tree.specs.Rooms.{FitsRoom};
 ghost use Rattle.case_tree.specs.Trees.{IsTree};
@@ -60,10 +62,12 @@ fn vector_step(
 ) -> Result<Step, AllocError>
     requires tree { IsTree tree.now }
     requires width { length x.now ≡ input_count tree.now.net.now }
-    requires values { AreValuesBehind tree.now.net.now (take (length x.now - tree.now.rest.now.inputs) x.now) words.now }
+    requires values { AreValuesBehind tree.now.net.now (take (length x.now - tree.now.rest.now.inputs) x.now)
+        words.now }
     requires words { length words.now ≡ signal_count tree.now.net.now }
     requires room { FitsRoom tree.now.net.now room.old }
-    ensures step { IfOk result (λ s. s ≡ vector_step id (input_count tree.now.net.now) tree.now.net.now.tables tree.now.order.now
+    ensures step { IfOk result
+        (λ s. s ≡ vector_step id (input_count tree.now.net.now) tree.now.net.now.tables tree.now.order.now
         (slice_index tree.now.net.now.outputs 0) x.now) }
     ensures room { FitsRoom tree.now.net.now room.new }
 {
@@ -128,7 +132,8 @@ fn push_cases(
         → AreValuesBehind tree.now.net.now (take (length x.old - tree.now.rest.now.inputs) x.old) words.old }
     requires room { FitsRoom tree.now.net.now room.old }
     ensures log { OnOk result (log.new ≡ log.old
-        ++ cases_from (input_count tree.now.net.now) tree.now.net.now.tables tree.now.order.now (slice_index tree.now.net.now.outputs 0)
+        ++ cases_from (input_count tree.now.net.now) tree.now.net.now.tables tree.now.order.now
+        (slice_index tree.now.net.now.outputs 0)
         (length x.old - depth) (take depth x.old) last) }
     ensures last { IfOk result (λ id. id ≡ last + step_count (length x.old - depth)) }
     ensures front { OnOk result (take depth x.new ≡ take depth x.old) }
@@ -155,7 +160,8 @@ fn push_cases(
 fn all_cases(alloc: Global, tree: &Tree, last: u64) -> Result<Log, AllocError>
     requires tree { IsTree tree.now }
     requires ids { last + step_count (input_count tree.now.net.now) < 2 ^ 63 }
-    ensures { IfOk result (λ log. log ≡ cases_from (input_count tree.now.net.now) tree.now.net.now.tables tree.now.order.now
+    ensures { IfOk result (λ log. log
+        ≡ cases_from (input_count tree.now.net.now) tree.now.net.now.tables tree.now.order.now
         (slice_index tree.now.net.now.outputs 0) (input_count tree.now.net.now) [] last) }
 {
     let mut x = vec![in alloc; false; tree.net.inputs() as usize]?;
@@ -176,12 +182,13 @@ fn clause_count(goal: &Cnf) -> u64
     goal.clauses().as_slice().len() as u64
 }
 
-/// A log that refutes the goal of a net whose one output is 0 at every input vector: one step for each input vector and one for
-/// each front of a vector, so at most 65,535 steps.
+/// A log that refutes the goal of a net whose one output is 0 at every input vector: one step for each input
+/// vector and one for each front of a vector, so at most 65,535 steps.
 pub fn refute(alloc: Global, joint: &Net, goal: &Cnf) -> Result<Log, AllocError>
     requires few_inputs { input_count joint.now ≤ TRIED_INPUTS }
     requires its_goal { goal.now ≡ goal_of joint.now }
-    requires always_0 { (x : List Bool) → length x ≡ input_count joint.now → outputs_of joint.now x ≡ false ∷ [] }
+    requires always_0 { (x : List Bool) → length x ≡ input_count joint.now
+        → outputs_of joint.now x ≡ false ∷ [] }
     ensures refutes { IfOk result (λ log. Refutes goal.now.clauses log) }
     ensures derivation { IfOk result (λ log. IsDerivation goal.now log) }
 {

@@ -44,7 +44,8 @@ running_jumped clauses t s C u at m c h learned jump =
           ]) C jump.others));
       levels = record {
         rising = closed.1.rising;
-        within = All-weaker (λ r. r < length (take q t.literals)) (λ r. r < length (take q t.literals ++ u ∷ [])) (λ r low. omega (arith, length-append (take q t.literals) (u ∷ []))) (take m t.starts) closed.1.within;
+        within = All-weaker (λ r. r < length (take q t.literals)) (λ r. r < length (take q t.literals ++ u ∷ [])) (λ r low. omega (arith, length-append (take q t.literals) (u ∷ [])))
+            (take m t.starts) closed.1.within;
       };
       settled = back-cut more t.literals (take q t.literals ++ u ∷ []) (take m t.starts) q
           (All-weaker (λ r. r < length (take q t.literals)) (λ r. r ≤ q) (λ r low. omega arith) (take m t.starts) closed.1.within)

@@ -53,7 +53,14 @@ other_later trail start own C D (Some q) x p in_C low within is h =
       | inl up ↦ let e : r ≡ p = omega arith in subst (λ n. IsOther trail start own C (D ++ x ∷ []) n) (sym e)
           (record { literal = x; inside = in_C; below = low; within = within; is = is; others = subst (λ n. All (λ a. (a ≡ own) ⊎ IsTrueBelow trail (n + 1) (neg_ℤ a)) (D ++ x ∷ [])) e all })
       | inr down ↦ let e : r ≡ q = omega arith in subst (λ n. IsOther trail start own C (D ++ x ∷ []) n) (sym e)
-          (record { literal = h.literal; inside = h.inside; below = h.below; within = h.within; is = h.is; others = subst (λ n. All (λ a. (a ≡ own) ⊎ IsTrueBelow trail (n + 1) (neg_ℤ a)) (D ++ x ∷ [])) e all })
+          (record {
+            literal = h.literal;
+            inside = h.inside;
+            below = h.below;
+            within = h.within;
+            is = h.is;
+            others = subst (λ n. All (λ a. (a ≡ own) ⊎ IsTrueBelow trail (n + 1) (neg_ℤ a)) (D ++ x ∷ [])) e all;
+          })
     ]
 
 pub step_own : (trail : List ℤ) (start : ℕ) (own : ℤ) (C : Clause) (n : ℕ) (o p : Option ℕ) (x : ℤ) (t : Bool) → n < length C → x ≡ get_or C n x → (IsTrue t ↔ (x ≡ own)) → t ≡ true → p ≡ o
@@ -61,7 +68,8 @@ pub step_own : (trail : List ℤ) (start : ℕ) (own : ℤ) (C : Clause) (n : �
 step_own trail start own C n o p x t within is says e same h =
     rw (same, take_more C n x within) (subst (λ y. IsLastOther trail start own C (take n C ++ y ∷ []) o) is (other_push trail start own C (take n C) o x (says.0 e) h))
 
-pub step_other : (trail : List ℤ) (start : ℕ) (own : ℤ) (C : Clause) (n : ℕ) (o p : Option ℕ) (x : ℤ) (t : Bool) (at r : ℕ) → IsConsistent trail → All (λ a. (a ≡ own) ⊎ IsTrueBelow trail start (neg_ℤ a)) C
+pub step_other : (trail : List ℤ) (start : ℕ) (own : ℤ) (C : Clause) (n : ℕ) (o p : Option ℕ) (x : ℤ) (t : Bool) (at r : ℕ) → IsConsistent trail
+    → All (λ a. (a ≡ own) ⊎ IsTrueBelow trail start (neg_ℤ a)) C
     → n < length C → x ≡ get_or C n x → (IsTrue t ↔ (x ≡ own)) → t ≡ false → at < length trail → literal_at trail at ≡ neg_ℤ x → r ≡ later_of o at → p ≡ Some r
     → IsLastOther trail start own C (take n C) o → IsLastOther trail start own C (take (n + 1) C) p
 step_other trail start own C n o p x t at r c others within is says e at_within at_is later same h =
@@ -71,4 +79,5 @@ step_other trail start own C n o p x t at r c others within is says e at_within 
       | inr b ↦ let place : b.place ≡ at = c.distinct b.place at b.within at_within (b.is ∙ sym at_is) in let below = b.below in omega arith
     ] in
     let in_C : Contains C x = subst (Contains C) (sym is) (Contains-get_or C n x within) in
-    rw (same, later, take_more C n x within) (subst (λ y. IsLastOther trail start own C (take n C ++ y ∷ []) (Some (later_of o at))) is (other_later trail start own C (take n C) o x at in_C low at_within at_is h))
+    rw (same, later, take_more C n x within) (subst (λ y. IsLastOther trail start own C (take n C ++ y ∷ []) (Some (later_of o at))) is
+    (other_later trail start own C (take n C) o x at in_C low at_within at_is h))

@@ -80,7 +80,8 @@ clause_skipped trail marks touched C i h never = record {
   all = h.all;
 }
 
-pub clause_marked : (trail : List ℤ) (marks : List Bool) (touched : List ℕ) (C D : Clause) (i p : ℕ) (l n : ℤ) → IsClauseSoFar trail marks touched C i → p ≡ get_or touched i 0 → mark_at marks p ≡ true → p < length trail
+pub clause_marked : (trail : List ℤ) (marks : List Bool) (touched : List ℕ) (C D : Clause) (i p : ℕ) (l n : ℤ) → IsClauseSoFar trail marks touched C i → p ≡ get_or touched i 0
+    → mark_at marks p ≡ true → p < length trail
     → l ≡ literal_at trail p → n ≡ neg_ℤ l → D ≡ C ++ n ∷ [] → IsClauseSoFar trail marks touched D (i + 1)
 clause_marked trail marks touched C D i p l n h place marked within is negated e =
     let x : ℤ = neg_ℤ (literal_at trail p) in
@@ -97,7 +98,8 @@ clause_marked trail marks touched C D i p l n h place marked within is negated e
     })
 
 -- each marked place is listed
-pub clause_whole : (trail : List ℤ) (marks : List Bool) (touched : List ℕ) (C : Clause) (i : ℕ) → IsClauseSoFar trail marks touched C i → AreTouched marks touched → length touched ≤ i → IsClauseOf trail marks C
+pub clause_whole : (trail : List ℤ) (marks : List Bool) (touched : List ℕ) (C : Clause) (i : ℕ) → IsClauseSoFar trail marks touched C i → AreTouched marks touched → length touched ≤ i
+    → IsClauseOf trail marks C
 clause_whole trail marks touched C i h t past = record {
   each = λ p within m.
       let l : IsListed touched 0 p = t.listed p m in

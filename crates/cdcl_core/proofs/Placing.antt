@@ -63,7 +63,8 @@ placed-set places trail l n o h = record {
 }
 
 -- the place of the next entry was written before
-pub placed-push : (places : List ℕ) (trail : List ℤ) (l : ℤ) → 0 < nat_abs l → nat_abs l < length places → get_or places (nat_abs l) 0 ≡ length trail → IsPlaced places trail → IsPlaced places (trail ++ l ∷ [])
+pub placed-push : (places : List ℕ) (trail : List ℤ) (l : ℤ) → 0 < nat_abs l → nat_abs l < length places → get_or places (nat_abs l) 0 ≡ length trail → IsPlaced places trail
+    → IsPlaced places (trail ++ l ∷ [])
 placed-push places trail l positive inside place h =
     let at_end : literal_at (trail ++ l ∷ []) (length trail) ≡ l = get_or-append_seam trail l [] (pos zero) in
     record {
@@ -113,7 +114,8 @@ any_below (x ∷ xs) q n h e =
 pub placed_few : (places : List ℕ) (trail : List ℤ) → IsPlaced places trail → length trail ≤ length places
 placed_few places trail h =
     let variables : List ℕ = map nat_abs trail in
-    let each : All (λ v. v < length places) variables = All-map (λ v. v < length places) nat_abs trail (λ k d within. subst (λ x. nat_abs x < length places) (get_or_default trail k (pos zero) d within) ((h.literal k within).1)) in
+    let each : All (λ v. v < length places) variables
+    = All-map (λ v. v < length places) nat_abs trail (λ k d within. subst (λ x. nat_abs x < length places) (get_or_default trail k (pos zero) d within) ((h.literal k within).1)) in
     let differ : AllPairs (λ x y. x ≢ y) variables = λ i j d low high e.
     let within : i < length trail = omega (arith, length-map trail nat_abs) in
     let within' : j < length trail = omega (arith, length-map trail nat_abs) in

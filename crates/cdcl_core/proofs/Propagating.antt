@@ -14,7 +14,8 @@ use Rattle.cdcl_core.proofs.Trails.{trail-implied}
 pub extended_same : (clauses : List Clause) (t : TrailValue) → IsExtended clauses t t
 extended_same clauses t = record { variables = refl; starts = refl; longer = omega arith; before = take-length t.literals; follows = λ h. h }
 
-pub extended_push : (clauses : List Clause) (old t new : TrailValue) (l : ℤ) (j : ℕ) → IsExtended clauses old t → j < length clauses → Contains (clause_at clauses j) l → All (λ a. (a ≡ l) ⊎ Holds t.literals (neg_ℤ a)) (clause_at clauses j)
+pub extended_push : (clauses : List Clause) (old t new : TrailValue) (l : ℤ) (j : ℕ) → IsExtended clauses old t → j < length clauses → Contains (clause_at clauses j) l
+    → All (λ a. (a ≡ l) ⊎ Holds t.literals (neg_ℤ a)) (clause_at clauses j)
     → new ≡ record t { literals = t.literals ++ l ∷ []; reasons = t.reasons ++ Some j ∷ [] } → IsExtended clauses old new
 extended_push clauses old t new l j h within inside others e =
     let longer = h.longer in

@@ -37,13 +37,15 @@ pub region_longer : (spans : List Span) (region more : List ℤ) → IsRegion sp
 region_longer spans region more h small =
     let longer : length (region ++ more) ≡ length region + length more = length-append region more in
     record {
-      spans_within = All-weaker (IsSpan (length region)) (IsSpan (length (region ++ more))) (λ s was. let within = was.within in record { order = was.order; within = omega arith }) spans h.spans_within;
+      spans_within = All-weaker (IsSpan (length region)) (IsSpan (length (region ++ more))) (λ s was. let within = was.within in record { order = was.order; within = omega arith }) spans
+          h.spans_within;
       small = omega arith;
       few = h.few;
     }
 
 -- one span more
-pub region_pushed : (spans : List Span) (region : List ℤ) (C : Clause) (s : Span) → IsRegion spans region → length region + length C < 2 ^ 32 → length spans + 1 < 2 ^ 32 → s.start ≡ length region → s.end ≡ length region + length C
+pub region_pushed : (spans : List Span) (region : List ℤ) (C : Clause) (s : Span) → IsRegion spans region → length region + length C < 2 ^ 32 → length spans + 1 < 2 ^ 32 → s.start ≡ length region
+    → s.end ≡ length region + length C
     → IsRegion (spans ++ s ∷ []) (region ++ C)
 region_pushed spans region C s h small few start end =
     let longer : length (region ++ C) ≡ length region + length C = length-append region C in
@@ -55,11 +57,13 @@ region_pushed spans region C s h small few start end =
     }
 
 -- what is read at a place
-pub clause_at_place : (spans : List Span) (region : List ℤ) (i : ℕ) (s : Span) (C : Clause) → i < length spans → s ≡ get_or spans i s → C ≡ literals_in region s → C ≡ get_or (clauses_in spans region) i C
+pub clause_at_place : (spans : List Span) (region : List ℤ) (i : ℕ) (s : Span) (C : Clause) → i < length spans → s ≡ get_or spans i s → C ≡ literals_in region s
+    → C ≡ get_or (clauses_in spans region) i C
 clause_at_place spans region i s C low is read = read ∙ ap (literals_in region) is ∙ sym (get_or-map (literals_in region) spans i s C low)
 
 -- a clause is pushed, by the terms of the code
-pub pushed_view : (spans spans1 spans2 : List Span) (region region1 : List ℤ) (C : Clause) (s : Span) (value : List Clause) → IsRegion spans region → clauses_in spans region ≡ value → spans1 ≡ spans → spans2 ≡ spans1 ++ s ∷ []
+pub pushed_view : (spans spans1 spans2 : List Span) (region region1 : List ℤ) (C : Clause) (s : Span) (value : List Clause) → IsRegion spans region → clauses_in spans region ≡ value → spans1 ≡ spans
+    → spans2 ≡ spans1 ++ s ∷ []
     → region1 ≡ region ++ C → s.start ≡ length region → s.end ≡ length region + length C → clauses_in spans2 region1 ≡ value ++ C ∷ []
 pushed_view spans spans1 spans2 region region1 C s value h v e1 e2 e start end =
     rw (e, e2, e1) (clauses_pushed spans region C s h.spans_within start end ∙ ap (λ cs. cs ++ C ∷ []) v)

@@ -17,7 +17,8 @@ pub reason_others : (clauses : List Clause) (trail : List ℤ) (i j : ℕ) (C D 
 reason_others clauses trail i j C D own r is same e =
     rw (clause_read clauses j C D r.held is same, e) r.others
 
-pub resolved_explained : (clauses : List Clause) (trail : List ℤ) (old new : List Bool) (hints after : List ℕ) (i j id : ℕ) (C D : Clause) (own : ℤ) → IsConsistent trail → i < length trail → IsReason clauses trail i j
+pub resolved_explained : (clauses : List Clause) (trail : List ℤ) (old new : List Bool) (hints after : List ℕ) (i j id : ℕ) (C D : Clause) (own : ℤ) → IsConsistent trail → i < length trail
+    → IsReason clauses trail i j
     → C ≡ get_or clauses j C → D ≡ C → own ≡ literal_at trail i → ((p : ℕ) → mark_at (set old i false) p ≡ true → mark_at new p ≡ true)
     → All (λ a. (a ≡ own) ⊎ IsMarked trail new (neg_ℤ a)) D → id ≡ suc j → after ≡ hints ++ id ∷ []
     → IsExplained clauses trail old (reverse hints) → IsExplained clauses trail new (reverse after)
@@ -30,7 +31,8 @@ resolved_explained clauses trail old new hints after i j id C D own c within r i
 pub resolved_kept : (old new : List Bool) (i p : ℕ) → ((q : ℕ) → mark_at (set old i false) q ≡ true → mark_at new q ≡ true) → p ≢ i → mark_at old p ≡ true → mark_at new p ≡ true
 resolved_kept old new i p kept other m = kept p (get_or-set_other old i p false false other ∙ m)
 
-pub resolved_below : (old new : List Bool) (i p : ℕ) → i < length old → ((q : ℕ) → i ≤ q → mark_at new q ≡ true → mark_at (set old i false) q ≡ true) → i ≤ p → mark_at new p ≡ true → (p ≢ i) × (mark_at old p ≡ true)
+pub resolved_below : (old new : List Bool) (i p : ℕ) → i < length old → ((q : ℕ) → i ≤ q → mark_at new q ≡ true → mark_at (set old i false) q ≡ true) → i ≤ p → mark_at new p ≡ true
+    → (p ≢ i) × (mark_at old p ≡ true)
 resolved_below old new i p within below high m = elim (cases_eq p i) [
   | inl e ↦ let one : mark_at (set old i false) i ≡ true = ap (mark_at (set old i false)) (sym e) ∙ below p high m in let two = get_or-set_same old i false false within in absurd (cc)
   | inr other ↦ (other, sym (get_or-set_other old i p false false other) ∙ below p high m)

@@ -1,6 +1,7 @@
 -- What holds of a search between its steps, and what the search answers.
 use Rattle.std.proofs.Math.IntN.{neg_ℤ-neg_ℤ}
-use Rattle.std.proofs.Common.{◌≡◌, ℕ, zero, suc, ◌+◌, ◌-◌, ◌^◌, ◌<◌, ◌≤◌, Bool, true, false, not, IsTrue, ◌↔◌, List, [], ◌∷◌, ◌++◌, take, reverse, length, get_or, refl, ap, subst, sym, ◌∙◌, inl, inr, length-append, arith, ℤ, pos, negsuc, neg_ℤ, None}
+use Rattle.std.proofs.Common.{◌≡◌, ℕ, zero, suc, ◌+◌, ◌-◌, ◌^◌, ◌<◌, ◌≤◌, Bool, true, false, not, IsTrue, ◌↔◌, List, [], ◌∷◌, ◌++◌, take, reverse, length, get_or, refl, ap, subst, sym, ◌∙◌, inl, inr}
+use Rattle.std.proofs.Common.{length-append, arith, ℤ, pos, negsuc, neg_ℤ, None}
 use Rattle.std.specs.Prelude.{◌⊎◌, All}
 use Rattle.std.specs.List.{Contains}
 use Rattle.std.proofs.lemmas.Bool.{cases_lt, false_from_ne_true}
@@ -189,7 +190,8 @@ has_ended clauses before after hints s r is few logged = record {
 }
 
 -- a search whose trail went on
-pub search_found : (f : Formula) (merged : List LogItem) (k : ℕ) (s : Search) (t : TrailValue) (w : WatchesValue) (order : ℕ) → IsSearch f merged k s → IsSearching s.clauses.list t order → order ≡ s.order
+pub search_found : (f : Formula) (merged : List LogItem) (k : ℕ) (s : Search) (t : TrailValue) (w : WatchesValue) (order : ℕ) → IsSearch f merged k s → IsSearching s.clauses.list t order
+    → order ≡ s.order
     → IsSearch f merged k (record s { trail = t; watches = w; order = order })
 search_found f merged k s t w order h searching same = record {
   searching = searching;
@@ -210,7 +212,8 @@ moved_again a b c one two = record {
   log = two.log ∙ one.log;
 }
 
-pub moved_found : (s : Search) (t : TrailValue) (w : WatchesValue) (order : ℕ) → IsSearching s.clauses.list s.trail s.order → IsSearching s.clauses.list t order → order ≡ s.order → HasMoved s (record s { trail = t; watches = w; order = order })
+pub moved_found : (s : Search) (t : TrailValue) (w : WatchesValue) (order : ℕ) → IsSearching s.clauses.list s.trail s.order → IsSearching s.clauses.list t order → order ≡ s.order
+    → HasMoved s (record s { trail = t; watches = w; order = order })
 moved_found s t w order h searching same = record {
   searching = searching;
   variables = sym searching.variables ∙ same ∙ h.variables;

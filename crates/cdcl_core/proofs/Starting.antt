@@ -52,7 +52,8 @@ starting_none clauses t w starts e = rw e (record {
 none_below : (trail : List ℤ) (l : ℤ) → IsTrueBelow trail 0 l → ⊥
 none_below trail l h = let low = h.below in omega arith
 
-pub starting_next : (clauses : List Clause) (n : ℕ) (t new : TrailValue) (w after : WatchesValue) (one other : ℤ) (binary : Bool) → IsStarting clauses n t w → AreClausesOf t.variables clauses → n < length clauses
+pub starting_next : (clauses : List Clause) (n : ℕ) (t new : TrailValue) (w after : WatchesValue) (one other : ℤ) (binary : Bool) → IsStarting clauses n t w → AreClausesOf t.variables clauses
+    → n < length clauses
     → Contains (clause_at clauses n) one → Contains (clause_at clauses n) other → IsExtended clauses t new → ((one ≡ other → ⊥) ⊎ HasTrue (Holds new.literals) (clause_at clauses n))
     → (binary ≡ true → IsBinary one other (clause_at clauses n)) → after ≡ watches_with w one other binary → IsStarting clauses (n + 1) new after
 starting_next clauses n t new w after one other binary h literals low one_in other_in e free only a =

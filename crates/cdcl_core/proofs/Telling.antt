@@ -1,9 +1,11 @@
 -- The table that tells of each literal whether it is true.
 use Rattle.std.specs.Prelude.{ℤ, pos, IsTrue, ◌↔◌, nat_abs}
-use Rattle.std.proofs.Common.{◌≡◌, ℕ, zero, Bool, true, false, ◌+◌, ◌-◌, ◌*◌, ◌<◌, ◌≤◌, min, List, [], ◌∷◌, ◌++◌, take, length, get_or, set, refl, ap, subst, sym, ◌∙◌, inl, inr, replicate, length-append, arith}
+use Rattle.std.proofs.Common.{◌≡◌, ℕ, zero, Bool, true, false, ◌+◌, ◌-◌, ◌*◌, ◌<◌, ◌≤◌, min, List, [], ◌∷◌, ◌++◌, take, length, get_or, set, refl, ap, subst, sym, ◌∙◌, inl, inr, replicate}
+use Rattle.std.proofs.Common.{length-append, arith}
 use Rattle.std.proofs.lemmas.Bool.{cases_lt}
 use Rattle.std.proofs.lemmas.Bool.Decides.{eqb_tells}
-use Rattle.std.proofs.lemmas.List.{get_or_push, get_or_append_left, get_or_past, get_or-set_same, get_or-set_other, get_or-replicate, get_or-take, length-set, length-take, length-replicate, take_more, take_min, get_or_read}
+use Rattle.std.proofs.lemmas.List.{get_or_push, get_or_append_left, get_or_past, get_or-set_same, get_or-set_other, get_or-replicate, get_or-take, length-set, length-take, length-replicate}
+use Rattle.std.proofs.lemmas.List.{take_more, take_min, get_or_read}
 use Rattle.cdcl_core.specs.Settled.{IsOpen}
 use Rattle.cdcl_core.specs.Trail.{literal_at, IsConsistent}
 use Rattle.cdcl_core.specs.Explained.{Holds}
@@ -91,7 +93,8 @@ told_none n = record {
 }
 
 -- the last entry but those from `end` on stands nowhere before
-pub told_back : (told : List Bool) (trail : List ℤ) (end : ℕ) → IsConsistent trail → end < length trail → AreTold told (take (end + 1) trail) → AreTold (set told (index_of (literal_at trail end)) false) (take end trail)
+pub told_back : (told : List Bool) (trail : List ℤ) (end : ℕ) → IsConsistent trail → end < length trail → AreTold told (take (end + 1) trail)
+    → AreTold (set told (index_of (literal_at trail end)) false) (take end trail)
 told_back told trail end c low h =
     told_pop told (take end trail) (literal_at trail end)
     (λ holds.
@@ -136,8 +139,10 @@ held_next places told trail after l v n k h o ok e m i more = record {
   wide = length-set told k true ∙ h.wide ∙ ap (λ (w : ℕ). w * 2) (sym (length-set places v n));
 }
 
-pub places_next : (places : List ℕ) (told : List Bool) (trail after : List ℤ) (l : ℤ) (v n k : ℕ) (reasons more literal_room literal_room1 reason_room reason_room1 : ℕ) → HasPlaces places told trail reasons literal_room reason_room
-    → IsOpen (Holds trail) l → IsLiteralOf (length places - 1) l → v ≡ nat_abs l → n ≡ length trail → k ≡ index_of l → after ≡ trail ++ l ∷ [] → more ≡ reasons + 1 → literal_room1 ≡ literal_room → reason_room1 ≡ reason_room
+pub places_next : (places : List ℕ) (told : List Bool) (trail after : List ℤ) (l : ℤ) (v n k : ℕ) (reasons more literal_room literal_room1 reason_room reason_room1 : ℕ)
+    → HasPlaces places told trail reasons literal_room reason_room
+    → IsOpen (Holds trail) l → IsLiteralOf (length places - 1) l → v ≡ nat_abs l → n ≡ length trail → k ≡ index_of l → after ≡ trail ++ l ∷ [] → more ≡ reasons + 1 → literal_room1 ≡ literal_room
+    → reason_room1 ≡ reason_room
     → HasPlaces (set places v n) (set told k true) after more literal_room1 reason_room1
 places_next places told trail after l v n k reasons more literal_room literal_room1 reason_room reason_room1 h o ok e m i longer counted same same1 =
     let same_length = h.same_length in
@@ -153,7 +158,8 @@ places_next places told trail after l v n k reasons more literal_room literal_ro
     }
 
 -- the entries from `start` on are there no more
-pub held_cut : (places : List ℕ) (told after : List Bool) (trail : List ℤ) (start : ℕ) → IsHeld places told trail → AreTold after (take start trail) → length after ≡ length told → IsHeld places after (take start trail)
+pub held_cut : (places : List ℕ) (told after : List Bool) (trail : List ℤ) (start : ℕ) → IsHeld places told trail → AreTold after (take start trail) → length after ≡ length told
+    → IsHeld places after (take start trail)
 held_cut places told after trail start h cut same = record { placed = placed-take places trail start h.placed; told_values = cut; wide = same ∙ h.wide }
 
 -- the table's last entry, by the terms of the code
@@ -176,7 +182,8 @@ told_all told trail n start h low high within =
     subst (AreTold told) (ap (λ m. take m trail) e ∙ take_min start trail) h
 
 -- there is room for one entry more
-pub places_room : (places : List ℕ) (told : List Bool) (trail : List ℤ) (reasons literal_room reason_room : ℕ) → HasPlaces places told trail reasons literal_room reason_room → (length trail < literal_room) × (reasons < reason_room)
+pub places_room : (places : List ℕ) (told : List Bool) (trail : List ℤ) (reasons literal_room reason_room : ℕ) → HasPlaces places told trail reasons literal_room reason_room
+    → (length trail < literal_room) × (reasons < reason_room)
 places_room places told trail reasons literal_room reason_room h =
     let few = placed_few places trail h.held.placed in
     let same_length = h.same_length in

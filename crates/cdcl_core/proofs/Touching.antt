@@ -1,6 +1,7 @@
 -- The places that were marked are listed.
 use Rattle.std.specs.Prelude.{All, ◌≢◌}
-use Rattle.std.proofs.Common.{◌≡◌, ℕ, zero, suc, Bool, true, false, cond, ◌+◌, ◌-◌, ◌<◌, ◌≤◌, List, [], ◌∷◌, ◌++◌, take, replicate, length, get_or, refl, ap, subst, sym, ◌∙◌, inl, inr, length-append, arith}
+use Rattle.std.proofs.Common.{◌≡◌, ℕ, zero, suc, Bool, true, false, cond, ◌+◌, ◌-◌, ◌<◌, ◌≤◌, List, [], ◌∷◌, ◌++◌, take, replicate, length, get_or, refl, ap, subst, sym, ◌∙◌, inl, inr, length-append}
+use Rattle.std.proofs.Common.{arith}
 use Rattle.std.proofs.lemmas.Bool.{cases_lt, cases_eq, false_from_ne_true}
 use Rattle.std.proofs.lemmas.List.{get_or-set_same, get_or-set_other, get_or-take, length-take, get_or_default}
 use Rattle.std.proofs.Math.ListN.{set, length-set, get_or-append}
@@ -74,7 +75,8 @@ count_one xs x inside off =
     omega arith
 
 -- nothing is marked, and nothing is listed
-pub listed_none : (on listed : List Bool) (touched : List ℕ) (list_room sort_room : ℕ) → touched ≡ [] → length listed ≡ length on → ((p : ℕ) → get_or on p false ≡ false) → ((p : ℕ) → get_or listed p false ≡ false)
+pub listed_none : (on listed : List Bool) (touched : List ℕ) (list_room sort_room : ℕ) → touched ≡ [] → length listed ≡ length on → ((p : ℕ) → get_or on p false ≡ false)
+    → ((p : ℕ) → get_or listed p false ≡ false)
     → length on ≤ list_room → length on ≤ sort_room → AreListed on listed touched list_room sort_room
 listed_none on listed touched list_room sort_room empty same none none_listed to_list to_sort = record {
   places = same;
@@ -92,7 +94,8 @@ listed_touched on listed touched list_room sort_room h = record {
 }
 
 -- there is room for a place that is not listed
-pub room_to_list : (on listed : List Bool) (touched : List ℕ) (list_room sort_room x : ℕ) → AreListed on listed touched list_room sort_room → x < length on → get_or listed x false ≡ false → length touched < list_room
+pub room_to_list : (on listed : List Bool) (touched : List ℕ) (list_room sort_room x : ℕ) → AreListed on listed touched list_room sort_room → x < length on → get_or listed x false ≡ false
+    → length touched < list_room
 room_to_list on listed touched list_room sort_room x h inside off =
     let places = h.places in
     let once = h.once in
@@ -101,7 +104,8 @@ room_to_list on listed touched list_room sort_room x h inside off =
     let few = count_by-le-length (λ b. b) (set listed x true) in
     omega (arith, length-set listed x true)
 
-marked_more : (on listed : List Bool) (x p : ℕ) → ((q : ℕ) → get_or on q false ≡ true → get_or listed q false ≡ true) → x < length listed → get_or (set on x true) p false ≡ true → get_or (set listed x true) p false ≡ true
+marked_more : (on listed : List Bool) (x p : ℕ) → ((q : ℕ) → get_or on q false ≡ true → get_or listed q false ≡ true) → x < length listed → get_or (set on x true) p false ≡ true
+    → get_or (set listed x true) p false ≡ true
 marked_more on listed x p h inside m = elim (cases_eq p x) [
   | inl e ↦ ap (λ k. get_or (set listed x true) k false) e ∙ get_or-set_same listed x true false inside
   | inr other ↦ get_or-set_other listed x p true false other ∙ h p (sym (get_or-set_other on x p true false other) ∙ m)

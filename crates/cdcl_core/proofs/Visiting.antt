@@ -32,17 +32,21 @@ never_binary b = absurd (cc)
 pub false_by : (clauses : List Clause) (t : TrailValue) (w : WatchesValue) (x : ℤ) (at : ℕ) → IsHandling clauses t w x at → Holds t.literals (neg_ℤ x)
 false_by clauses t w x at h = record { place = w.handled; below = h.low; within = h.low; is = h.is }
 
-pub held_by : (clauses : List Clause) (t : TrailValue) (w : WatchesValue) (x : ℤ) (at j : ℕ) → IsHandling clauses t w x at → at < length (list_at w.lists x) → (watch_at (list_at w.lists x) at).clause ≡ j → j < length clauses
+pub held_by : (clauses : List Clause) (t : TrailValue) (w : WatchesValue) (x : ℤ) (at j : ℕ) → IsHandling clauses t w x at → at < length (list_at w.lists x)
+    → (watch_at (list_at w.lists x) at).clause ≡ j → j < length clauses
 held_by clauses t w x at j h low e = let held = (h.watching.base.formed.watchers x at low).held in omega arith
 
-pub literal_in : (clauses : List Clause) (t : TrailValue) (w : WatchesValue) (x : ℤ) (at j : ℕ) (l : ℤ) → IsHandling clauses t w x at → j < length clauses → Contains (clause_at clauses j) l → IsLiteralOf t.variables l
+pub literal_in : (clauses : List Clause) (t : TrailValue) (w : WatchesValue) (x : ℤ) (at j : ℕ) (l : ℤ) → IsHandling clauses t w x at → j < length clauses → Contains (clause_at clauses j) l
+    → IsLiteralOf t.variables l
 literal_in clauses t w x at j l h within inside = All-contains (IsLiteralOf t.variables) (clause_at clauses j) l (h.watching.base.formed.literals j [] within) inside
 
-pub list_in : (clauses : List Clause) (t : TrailValue) (w : WatchesValue) (x : ℤ) (at j : ℕ) (l : ℤ) → IsHandling clauses t w x at → j < length clauses → Contains (clause_at clauses j) l → index_of l < length w.lists
+pub list_in : (clauses : List Clause) (t : TrailValue) (w : WatchesValue) (x : ℤ) (at j : ℕ) (l : ℤ) → IsHandling clauses t w x at → j < length clauses → Contains (clause_at clauses j) l
+    → index_of l < length w.lists
 list_in clauses t w x at j l h within inside = rw h.watching.base.formed.lists_length (index_low t.variables l (literal_in clauses t w x at j l h within inside))
 
 -- the blocker's literal is one of the variables
-pub blocker_literal : (clauses : List Clause) (t : TrailValue) (w : WatchesValue) (x : ℤ) (at : ℕ) (v : Watch) → IsHandling clauses t w x at → at < length (list_at w.lists x) → v ≡ watch_at (list_at w.lists x) at → IsLiteralOf t.variables v.blocker
+pub blocker_literal : (clauses : List Clause) (t : TrailValue) (w : WatchesValue) (x : ℤ) (at : ℕ) (v : Watch) → IsHandling clauses t w x at → at < length (list_at w.lists x)
+    → v ≡ watch_at (list_at w.lists x) at → IsLiteralOf t.variables v.blocker
 blocker_literal clauses t w x at v h low e =
     let ok = h.watching.base.formed.watchers x at low in
     rw e (literal_in clauses t w x at (watch_at (list_at w.lists x) at).clause (watch_at (list_at w.lists x) at).blocker h ok.held ok.inside)
@@ -51,7 +55,8 @@ pub next_by : (clauses : List Clause) (t : TrailValue) (w : WatchesValue) (x : �
     → Contains (clause_at clauses j) l → Holds t.literals l → IsHandling clauses t w x (at + 1)
 next_by clauses t w x at j l h e inside holds = handling_next clauses t w x at h (rw e (record { literal = l; inside = inside; holds = holds }))
 
-pub blocker_next : (clauses : List Clause) (t : TrailValue) (w : WatchesValue) (x : ℤ) (at : ℕ) (v : Watch) → IsHandling clauses t w x at → at < length (list_at w.lists x) → v ≡ watch_at (list_at w.lists x) at
+pub blocker_next : (clauses : List Clause) (t : TrailValue) (w : WatchesValue) (x : ℤ) (at : ℕ) (v : Watch) → IsHandling clauses t w x at → at < length (list_at w.lists x)
+    → v ≡ watch_at (list_at w.lists x) at
     → Holds t.literals v.blocker → IsHandling clauses t w x (at + 1)
 blocker_next clauses t w x at v h low e holds =
     let ok = h.watching.base.formed.watchers x at low in
@@ -65,14 +70,16 @@ list_low lists x at low = elim (cases_lt (index_of x) (length lists)) [
 ]
 
 -- the list is shorter by one
-removed_one : (lists : List (List Watch)) (x : ℤ) (at : ℕ) (v : Watch) → at < length (list_at lists x) → length (list_at (set lists (index_of x) (swap_remove (list_at lists x) at v)) x) + 1 ≡ length (list_at lists x)
+removed_one : (lists : List (List Watch)) (x : ℤ) (at : ℕ) (v : Watch) → at < length (list_at lists x)
+    → length (list_at (set lists (index_of x) (swap_remove (list_at lists x) at v)) x) + 1 ≡ length (list_at lists x)
 removed_one lists x at v low = elim (written lists x (swap_remove (list_at lists x) at v) x (list_low lists x at low)) [
   | here s f ↦ ap (λ ys. length ys + 1) f ∙ removed_length (list_at lists x) at v low
   | there n f ↦ absurd (n refl)
 ]
 
 -- a watcher of a clause that does not watch x
-pub stale_at : (clauses : List Clause) (t : TrailValue) (w new : WatchesValue) (x : ℤ) (at : ℕ) (p : Pair) (j : ℕ) → IsHandling clauses t w x at → at < length (list_at w.lists x) → (watch_at (list_at w.lists x) at).clause ≡ j → p ≡ pair_at w.pairs j
+pub stale_at : (clauses : List Clause) (t : TrailValue) (w new : WatchesValue) (x : ℤ) (at : ℕ) (p : Pair) (j : ℕ) → IsHandling clauses t w x at → at < length (list_at w.lists x)
+    → (watch_at (list_at w.lists x) at).clause ≡ j → p ≡ pair_at w.pairs j
     → (IsOneOf p x → ⊥) → new ≡ record w { lists = set w.lists (index_of x) (swap_remove (list_at w.lists x) at (watch_at (list_at w.lists x) at)) }
     → IsHandling clauses t new x at × (length (list_at new.lists x) + 1 ≡ length (list_at w.lists x))
 stale_at clauses t w new x at p j h low clause p_is stale e =
@@ -104,7 +111,8 @@ partner_differ F p x first (inl e) h same = h.differ (e.0 ∙ sym same ∙ sym e
 partner_differ F p x first (inr e) h same = h.differ (e.1 ∙ same ∙ sym e.0)
 
 -- its other literal is true, and becomes the blocker
-pub rewatched : (clauses : List Clause) (t : TrailValue) (w new : WatchesValue) (x : ℤ) (at j : ℕ) (first : ℤ) → IsHandling clauses t w x at → at < length (list_at w.lists x) → (watch_at (list_at w.lists x) at).clause ≡ j
+pub rewatched : (clauses : List Clause) (t : TrailValue) (w new : WatchesValue) (x : ℤ) (at j : ℕ) (first : ℤ) → IsHandling clauses t w x at → at < length (list_at w.lists x)
+    → (watch_at (list_at w.lists x) at).clause ≡ j
     → Contains (clause_at clauses j) first → Holds t.literals first
     → new ≡ record w { lists = set w.lists (index_of x) (set (list_at w.lists x) at (record { clause = j; blocker = first; binary = false })) }
     → IsHandling clauses t new x (at + 1) × (length (list_at new.lists x) ≡ length (list_at w.lists x))
@@ -122,7 +130,8 @@ rewatched clauses t w new x at j first h low clause inside holds e =
     rw e (next_by clauses t (record w { lists = lists1 }) x at j first one clause1 inside holds, ap (λ (ls : List Watch). length ls) list_is ∙ length-set (list_at w.lists x) at v)
 
 -- a clause that watches one literal twice is true
-pub twice_next : (clauses : List Clause) (t : TrailValue) (w : WatchesValue) (x : ℤ) (at j : ℕ) (first : ℤ) → IsHandling clauses t w x at → j < length clauses → (watch_at (list_at w.lists x) at).clause ≡ j
+pub twice_next : (clauses : List Clause) (t : TrailValue) (w : WatchesValue) (x : ℤ) (at j : ℕ) (first : ℤ) → IsHandling clauses t w x at → j < length clauses
+    → (watch_at (list_at w.lists x) at).clause ≡ j
     → IsPartner (pair_at w.pairs j) x first → first ≡ x → IsHandling clauses t w x (at + 1)
 twice_next clauses t w x at j first h held clause partner same = elim (h.watching.kept.each j held) [
   | inl holds ↦ handling_next clauses t w x at h (rw clause holds)
@@ -130,7 +139,8 @@ twice_next clauses t w x at j first h held clause partner same = elim (h.watchin
 ]
 
 -- l is watched in place of x
-moved : (clauses : List Clause) (t : TrailValue) (w : WatchesValue) (x : ℤ) (at j : ℕ) (first l : ℤ) → IsHandling clauses t w x at → at < length (list_at w.lists x) → (watch_at (list_at w.lists x) at).clause ≡ j
+moved : (clauses : List Clause) (t : TrailValue) (w : WatchesValue) (x : ℤ) (at j : ℕ) (first l : ℤ) → IsHandling clauses t w x at → at < length (list_at w.lists x)
+    → (watch_at (list_at w.lists x) at).clause ≡ j
     → IsPartner (pair_at w.pairs j) x first → (first ≡ x → ⊥) → IsOtherWatch t.literals (clause_at clauses j) first l
     → (let v : Watch = record { clause = j; blocker = first; binary = false } in
     let p : Pair = record { one = first; other = l } in
@@ -172,7 +182,8 @@ moved clauses t w x at j first l h low clause partner first_x other =
     (rw (clause1, changed) (λ one_of. elim one_of [ inl e ↦ first_x (sym e) | inr e ↦ differ (sym e) ])) in
     (h3, removed_one lists1 x at (watch_at (list_at lists1 x) at) low1 ∙ ap (λ (ys : List Watch). length ys) x_list)
 
-pub moved_at : (clauses : List Clause) (t : TrailValue) (w w1 w2 w3 : WatchesValue) (x : ℤ) (at j : ℕ) (first l : ℤ) → IsHandling clauses t w x at → at < length (list_at w.lists x) → (watch_at (list_at w.lists x) at).clause ≡ j
+pub moved_at : (clauses : List Clause) (t : TrailValue) (w w1 w2 w3 : WatchesValue) (x : ℤ) (at j : ℕ) (first l : ℤ) → IsHandling clauses t w x at → at < length (list_at w.lists x)
+    → (watch_at (list_at w.lists x) at).clause ≡ j
     → IsPartner (pair_at w.pairs j) x first → (first ≡ x → ⊥) → IsOtherWatch t.literals (clause_at clauses j) first l
     → w1 ≡ record w { lists = lists_with w.lists l (record { clause = j; blocker = first; binary = false }) } → w2 ≡ record w1 { pairs = set w1.pairs j (record { one = first; other = l }) }
     → w3 ≡ record w2 { lists = set w2.lists (index_of x) (swap_remove (list_at w2.lists x) at (watch_at (list_at w2.lists x) at)) }
@@ -186,16 +197,23 @@ all_false trail C D first same others f = rw (sym same) (λ k d within. elim (ot
 ])
 
 pub holds_last : (trail : List ℤ) (l : ℤ) → Holds (trail ++ l ∷ []) l
-holds_last trail l = record { place = length trail; below = omega (arith, length-append trail (l ∷ [])); within = omega (arith, length-append trail (l ∷ [])); is = get_or_push trail l (pos zero) (length trail) refl }
+holds_last trail l = record {
+  place = length trail;
+  below = omega (arith, length-append trail (l ∷ []));
+  within = omega (arith, length-append trail (l ∷ []));
+  is = get_or_push trail l (pos zero) (length trail) refl;
+}
 
 -- the literal follows
-pub implied_extended : (clauses : List Clause) (t new : TrailValue) (D : Clause) (j : ℕ) (l : ℤ) → j < length clauses → Contains (clause_at clauses j) l → D ≡ clause_at clauses j → AreOthersFalse t.literals D l
+pub implied_extended : (clauses : List Clause) (t new : TrailValue) (D : Clause) (j : ℕ) (l : ℤ) → j < length clauses → Contains (clause_at clauses j) l → D ≡ clause_at clauses j
+    → AreOthersFalse t.literals D l
     → new ≡ record t { literals = t.literals ++ l ∷ []; reasons = t.reasons ++ Some j ∷ [] } → IsExtended clauses t new
 implied_extended clauses t new D j l held inside same others n =
     extended_push clauses t t new l j (extended_same clauses t) held inside (subst (λ C. AreOthersFalse t.literals C l) same others) n
 
 -- and its clause is true
-pub implied_at : (clauses : List Clause) (t new : TrailValue) (w : WatchesValue) (x : ℤ) (at j : ℕ) (l : ℤ) → IsHandling clauses t w x at → (watch_at (list_at w.lists x) at).clause ≡ j → Contains (clause_at clauses j) l
+pub implied_at : (clauses : List Clause) (t new : TrailValue) (w : WatchesValue) (x : ℤ) (at j : ℕ) (l : ℤ) → IsHandling clauses t w x at → (watch_at (list_at w.lists x) at).clause ≡ j
+    → Contains (clause_at clauses j) l
     → IsExtended clauses t new → new ≡ record t { literals = t.literals ++ l ∷ []; reasons = t.reasons ++ Some j ∷ [] } → IsHandling clauses new w x (at + 1)
 implied_at clauses t new w x at j l h clause inside e n =
     let literals : new.literals ≡ t.literals ++ l ∷ [] = ap (λ (u : TrailValue). u.literals) n in
@@ -204,11 +222,13 @@ implied_at clauses t new w x at j l h clause inside e n =
     (rw literals (holds_last t.literals l))
 
 -- the other literal of the pair
-pub first_in : (clauses : List Clause) (t : TrailValue) (w : WatchesValue) (x : ℤ) (at j : ℕ) (first : ℤ) → IsHandling clauses t w x at → at < length (list_at w.lists x) → (watch_at (list_at w.lists x) at).clause ≡ j
+pub first_in : (clauses : List Clause) (t : TrailValue) (w : WatchesValue) (x : ℤ) (at j : ℕ) (first : ℤ) → IsHandling clauses t w x at → at < length (list_at w.lists x)
+    → (watch_at (list_at w.lists x) at).clause ≡ j
     → IsPartner (pair_at w.pairs j) x first → Contains (clause_at clauses j) first
 first_in clauses t w x at j first h low clause partner = partner_in clauses t w x at j first h (held_by clauses t w x at j h low clause) partner
 
-pub first_literal : (clauses : List Clause) (t : TrailValue) (w : WatchesValue) (x : ℤ) (at j : ℕ) (first : ℤ) → IsHandling clauses t w x at → at < length (list_at w.lists x) → (watch_at (list_at w.lists x) at).clause ≡ j
+pub first_literal : (clauses : List Clause) (t : TrailValue) (w : WatchesValue) (x : ℤ) (at j : ℕ) (first : ℤ) → IsHandling clauses t w x at → at < length (list_at w.lists x)
+    → (watch_at (list_at w.lists x) at).clause ≡ j
     → IsPartner (pair_at w.pairs j) x first → IsLiteralOf t.variables first
 first_literal clauses t w x at j first h low clause partner =
     let held = held_by clauses t w x at j h low clause in literal_in clauses t w x at j first h held (partner_in clauses t w x at j first h held partner)
@@ -217,7 +237,8 @@ pub holds_implied : (t new : TrailValue) (l : ℤ) (j : ℕ) → new ≡ record 
 holds_implied t new l j n = let literals : new.literals ≡ t.literals ++ l ∷ [] = ap (λ (u : TrailValue). u.literals) n in rw literals (holds_last t.literals l)
 
 -- the literal follows, or the clause is false
-pub followed_visited : (clauses : List Clause) (t new : TrailValue) (w : WatchesValue) (x : ℤ) (at j : ℕ) (l : ℤ) → IsHandling clauses t w x at → (watch_at (list_at w.lists x) at).clause ≡ j → j < length clauses → Contains (clause_at clauses j) l
+pub followed_visited : (clauses : List Clause) (t new : TrailValue) (w : WatchesValue) (x : ℤ) (at j : ℕ) (l : ℤ) → IsHandling clauses t w x at → (watch_at (list_at w.lists x) at).clause ≡ j
+    → j < length clauses → Contains (clause_at clauses j) l
     → AreOthersFalse t.literals (clause_at clauses j) l → (v : Visit) → IsFollowed t new j l v → IsVisited clauses new w w x at v
 followed_visited clauses t new w x at j l h clause held inside others Next n =
     (implied_at clauses t new w x at j l h clause inside (implied_extended clauses t new (clause_at clauses j) j l held inside refl others n) n, refl)
@@ -225,14 +246,16 @@ followed_visited clauses t new w x at j l h clause held inside others Again none
 followed_visited clauses t new w x at j l h clause held inside others (Conflict k) f =
     rw (f.1, f.0) (h.watching.base, record { within = held; false_clause = all_false t.literals (clause_at clauses j) (clause_at clauses j) l refl others f.2 })
 
-pub followed_extended : (clauses : List Clause) (t new : TrailValue) (j : ℕ) (l : ℤ) → j < length clauses → Contains (clause_at clauses j) l → AreOthersFalse t.literals (clause_at clauses j) l → (v : Visit) → IsFollowed t new j l v
+pub followed_extended : (clauses : List Clause) (t new : TrailValue) (j : ℕ) (l : ℤ) → j < length clauses → Contains (clause_at clauses j) l → AreOthersFalse t.literals (clause_at clauses j) l
+    → (v : Visit) → IsFollowed t new j l v
     → IsExtended clauses t new
 followed_extended clauses t new j l held inside others Next n = implied_extended clauses t new (clause_at clauses j) j l held inside refl others n
 followed_extended clauses t new j l held inside others Again none = absurd none
 followed_extended clauses t new j l held inside others (Conflict k) f = rw f.1 (extended_same clauses t)
 
 -- in a binary clause that watches x the literals other than the blocker are false
-pub binary_false : (clauses : List Clause) (t : TrailValue) (w : WatchesValue) (x : ℤ) (at : ℕ) (v : Watch) → IsHandling clauses t w x at → at < length (list_at w.lists x) → v ≡ watch_at (list_at w.lists x) at → v.binary ≡ true
+pub binary_false : (clauses : List Clause) (t : TrailValue) (w : WatchesValue) (x : ℤ) (at : ℕ) (v : Watch) → IsHandling clauses t w x at → at < length (list_at w.lists x)
+    → v ≡ watch_at (list_at w.lists x) at → v.binary ≡ true
     → AreOthersFalse t.literals (clause_at clauses v.clause) v.blocker
 binary_false clauses t w x at v h low e binary =
     let ok : IsWatcher clauses x v = subst (IsWatcher clauses x) (sym e) (h.watching.base.formed.watchers x at low) in
@@ -242,5 +265,6 @@ binary_false clauses t w x at v h low e binary =
       | inr is_blocker ↦ inl is_blocker
     ]) (clause_at clauses v.clause) (ok.only binary)
 
-pub watcher_read : (clauses : List Clause) (t : TrailValue) (w : WatchesValue) (x : ℤ) (at : ℕ) (v : Watch) → IsHandling clauses t w x at → at < length (list_at w.lists x) → v ≡ watch_at (list_at w.lists x) at → IsWatcher clauses x v
+pub watcher_read : (clauses : List Clause) (t : TrailValue) (w : WatchesValue) (x : ℤ) (at : ℕ) (v : Watch) → IsHandling clauses t w x at → at < length (list_at w.lists x)
+    → v ≡ watch_at (list_at w.lists x) at → IsWatcher clauses x v
 watcher_read clauses t w x at v h low e = subst (IsWatcher clauses x) (sym e) (h.watching.base.formed.watchers x at low)

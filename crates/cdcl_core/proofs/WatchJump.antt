@@ -21,7 +21,8 @@ use Rattle.cdcl_core.proofs.Trails.{kept-below}
 use Rattle.cdcl_core.proofs.Watching.{index_low, below_holds, kept_same, kept_at_same, kept_added, watched_added}
 
 -- the two literals of a learned clause are open below each start up to the entry of the second
-pair_free : (trail : List ℤ) (s : ℕ) (C : Clause) (u : ℤ) (at r : ℕ) (other : ℤ) (place : ℕ) → IsConsistent trail → IsLearned trail s C u at → place < s → literal_at trail place ≡ neg_ℤ other → r ≤ place
+pair_free : (trail : List ℤ) (s : ℕ) (C : Clause) (u : ℤ) (at r : ℕ) (other : ℤ) (place : ℕ) → IsConsistent trail → IsLearned trail s C u at → place < s → literal_at trail place ≡ neg_ℤ other
+    → r ≤ place
     → AreFree (IsTrueBelow trail r) (record { one = u; other = other })
 pair_free trail s C u at r other place c h low is past =
     let after = h.after in
@@ -39,7 +40,8 @@ free_same before after q r p low within same h = record {
   other = λ f. h.other (true-same after before q r (neg_ℤ p.other) low within (sym same) f);
 }
 
-pub watching_jumped : (clauses : List Clause) (t : TrailValue) (w : WatchesValue) (s : ℕ) (C : Clause) (u : ℤ) (at m : ℕ) (other : ℤ) (binary : Bool) → IsConsistent t.literals → IsRunning clauses t → IsWatchedBelow clauses t w
+pub watching_jumped : (clauses : List Clause) (t : TrailValue) (w : WatchesValue) (s : ℕ) (C : Clause) (u : ℤ) (at m : ℕ) (other : ℤ) (binary : Bool) → IsConsistent t.literals → IsRunning clauses t
+    → IsWatchedBelow clauses t w
     → IsLearned t.literals s C u at → m < length t.starts → IsJumpPair t s C u m other → All (IsLiteralOf t.variables) C → (binary ≡ true → IsBinary u other C)
     → IsWatching (clauses ++ C ∷ []) (jumped clauses t u m) (record (watches_with w u other binary) { handled = get_or t.starts m 0 })
 watching_jumped clauses t w s C u at m other binary c running h learned m_low pair literals only =
@@ -63,7 +65,12 @@ watching_jumped clauses t w s C u at m other binary c running h learned m_low pa
     let u_holds : HasTrue (Holds after) C = record {
       literal = u;
       inside = learned.inside;
-      holds = record { place = q; below = omega (arith, length-append (take q t.literals) (u ∷ [])); within = omega (arith, length-append (take q t.literals) (u ∷ [])); is = get_or_push (take q t.literals) u (pos zero) q cut };
+      holds = record {
+        place = q;
+        below = omega (arith, length-append (take q t.literals) (u ∷ []));
+        within = omega (arith, length-append (take q t.literals) (u ∷ []));
+        is = get_or_push (take q t.literals) u (pos zero) q cut;
+      };
     } in
     record {
       base = record {
@@ -76,7 +83,8 @@ watching_jumped clauses t w s C u at m other binary c running h learned m_low pa
             kept_added (IsTrueBelow after r) (IsTrueBelow after r) clauses w.pairs C p count (kept_at_same clauses w.pairs t.literals after q r (omega arith) (omega arith) in_after same kept)
             (elim pair [
               | inl first ↦ absurd (let none = first.0 in omega (arith, length-take m t.starts))
-              | inr last ↦ inr (free_same t.literals after q r p (omega arith) (omega arith) same (pair_free t.literals s C u at r other last.place c learned last.below last.is (last.last k d within)))
+              | inr last ↦ inr (free_same t.literals after q r p (omega arith) (omega arith) same
+                  (pair_free t.literals s C u at r other last.place c learned last.below last.is (last.last k d within)))
             ]);
       };
       within = in_after;
@@ -85,8 +93,10 @@ watching_jumped clauses t w s C u at m other binary c running h learned m_low pa
     }
 
 -- the watches after a jump, by the terms of the code
-pub jump_watching : (clauses more : List Clause) (t u : TrailValue) (w added new : WatchesValue) (s : ℕ) (C : Clause) (x own : ℤ) (at m n q : ℕ) (other : ℤ) (binary : Bool) → IsConsistent t.literals → IsRunning clauses t → IsWatchedBelow clauses t w
-    → IsLearned t.literals s C x at → own ≡ x → m < length t.starts → IsJumpPair t s C own m other → All (IsLiteralOf t.variables) C → (binary ≡ true → IsBinary own other C) → more ≡ clauses ++ C ∷ [] → n ≡ length clauses
+pub jump_watching : (clauses more : List Clause) (t u : TrailValue) (w added new : WatchesValue) (s : ℕ) (C : Clause) (x own : ℤ) (at m n q : ℕ) (other : ℤ) (binary : Bool) → IsConsistent t.literals
+    → IsRunning clauses t → IsWatchedBelow clauses t w
+    → IsLearned t.literals s C x at → own ≡ x → m < length t.starts → IsJumpPair t s C own m other → All (IsLiteralOf t.variables) C → (binary ≡ true → IsBinary own other C)
+    → more ≡ clauses ++ C ∷ [] → n ≡ length clauses
     → added ≡ watches_with w own other binary → q ≡ get_or t.starts m 0 → new ≡ record added { handled = q } → u ≡ record t {
       literals = take (get_or t.starts m 0) t.literals ++ own ∷ [];
       reasons = take (get_or t.starts m 0) t.reasons ++ Some n ∷ [];
@@ -126,7 +136,8 @@ pub restart_watching : (clauses : List Clause) (t u : TrailValue) (w new : Watch
     → q ≡ get_or t.starts m 0 → new ≡ record w { handled = q } → u ≡ closed t m → IsWatching clauses u new
 restart_watching clauses t u w new m q running h m_low q_is new_is e = rw (e, new_is, q_is) (watching_closed clauses t w m running h m_low)
 
-pub pair_low : (clauses : List Clause) (t : TrailValue) (w : WatchesValue) (C : Clause) (l : ℤ) → IsWatchedBelow clauses t w → All (IsLiteralOf t.variables) C → Contains C l → index_of l < length w.lists
+pub pair_low : (clauses : List Clause) (t : TrailValue) (w : WatchesValue) (C : Clause) (l : ℤ) → IsWatchedBelow clauses t w → All (IsLiteralOf t.variables) C → Contains C l
+    → index_of l < length w.lists
 pair_low clauses t w C l h literals inside = rw h.formed.lists_length (index_low t.variables l (All-contains (IsLiteralOf t.variables) C l literals inside))
 
 pub other_inside : (t : TrailValue) (s : ℕ) (C : Clause) (own : ℤ) (m : ℕ) (other : ℤ) → IsJumpPair t s C own m other → Contains C own → Contains C other
@@ -134,7 +145,8 @@ other_inside t s C own m other (inl first) inside = subst (Contains C) (sym firs
 other_inside t s C own m other (inr last) inside = last.inside
 
 -- the literal that follows is open after the levels were closed
-pub own_open : (t : TrailValue) (C : Clause) (x own : ℤ) (at m : ℕ) → IsConsistent t.literals → AreLevels t.literals t.starts → IsLearned t.literals (last_start t) C x at → own ≡ x → m < length t.starts
+pub own_open : (t : TrailValue) (C : Clause) (x own : ℤ) (at m : ℕ) → IsConsistent t.literals → AreLevels t.literals t.starts → IsLearned t.literals (last_start t) C x at → own ≡ x
+    → m < length t.starts
     → IsOpen (Holds (take (get_or t.starts m 0) t.literals)) own
 own_open t C x own at m c levels learned same m_low =
     let q : ℕ = get_or t.starts m 0 in

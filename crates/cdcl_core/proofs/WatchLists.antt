@@ -73,7 +73,8 @@ removed_last list at w low =
     get_or-take (length list - 1) (set list at last) at no_watch (omega arith) ∙ get_or-set_same list at last no_watch (omega arith) ∙ get_or_default list (length list - 1) w no_watch (omega arith)
 
 -- the watcher of another clause stays
-pub watcher_removed : (list : List Watch) (at from j : ℕ) (w : Watch) (T : Type 0) → at < length list → from ≤ at → ((watch_at list at).clause ≡ j → ⊥) → HasWatcher list from j T → HasWatcher (swap_remove list at w) from j T
+pub watcher_removed : (list : List Watch) (at from j : ℕ) (w : Watch) (T : Type 0) → at < length list → from ≤ at → ((watch_at list at).clause ≡ j → ⊥) → HasWatcher list from j T
+    → HasWatcher (swap_remove list at w) from j T
 watcher_removed list at from j w T low le other h =
     let within = h.within in
     let shorter = removed_length list at w low in
@@ -100,7 +101,8 @@ watcher_removed list at from j w T low le other h =
     ]
 
 -- each watcher that is left was there
-pub removed_was : (list : List Watch) (at k : ℕ) (w : Watch) → at < length list → k < length (swap_remove list at w) → (m : ℕ) × (m < length list) × (watch_at (swap_remove list at w) k ≡ watch_at list m)
+pub removed_was : (list : List Watch) (at k : ℕ) (w : Watch) → at < length list → k < length (swap_remove list at w)
+    → (m : ℕ) × (m < length list) × (watch_at (swap_remove list at w) k ≡ watch_at list m)
 removed_was list at k w low within =
     let shorter = removed_length list at w low in
     elim (eqb_tells k at) [
@@ -111,7 +113,8 @@ removed_was list at k w low within =
     ]
 
 -- another watcher of the same clause in the place of one
-pub watcher_changed : (list : List Watch) (at from j : ℕ) (w : Watch) (T : Type 0) → at < length list → w.clause ≡ (watch_at list at).clause → HasWatcher list from j T → HasWatcher (set list at w) from j T
+pub watcher_changed : (list : List Watch) (at from j : ℕ) (w : Watch) (T : Type 0) → at < length list → w.clause ≡ (watch_at list at).clause → HasWatcher list from j T
+    → HasWatcher (set list at w) from j T
 watcher_changed list at from j w T low same h =
     let within = h.within in
     record {

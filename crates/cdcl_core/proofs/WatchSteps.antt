@@ -42,7 +42,8 @@ one_of_tells p x = elim (int_tells x p.one) [
 ]
 
 -- the next entry is taken
-pub handling_start : (clauses : List Clause) (t : TrailValue) (w : WatchesValue) (x : ℤ) → IsWatching clauses t w → w.handled < length t.literals → literal_at t.literals w.handled ≡ neg_ℤ x → IsHandling clauses t w x 0
+pub handling_start : (clauses : List Clause) (t : TrailValue) (w : WatchesValue) (x : ℤ) → IsWatching clauses t w → w.handled < length t.literals → literal_at t.literals w.handled ≡ neg_ℤ x
+    → IsHandling clauses t w x 0
 handling_start clauses t w x h low is = record {
   watching = h;
   low = low;
@@ -53,7 +54,8 @@ handling_start clauses t w x h low is = record {
 }
 
 -- the watcher's clause is true
-pub handling_next : (clauses : List Clause) (t : TrailValue) (w : WatchesValue) (x : ℤ) (at : ℕ) → IsHandling clauses t w x at → HasTrue (Holds t.literals) (clause_at clauses (watch_at (list_at w.lists x) at).clause)
+pub handling_next : (clauses : List Clause) (t : TrailValue) (w : WatchesValue) (x : ℤ) (at : ℕ) → IsHandling clauses t w x at
+    → HasTrue (Holds t.literals) (clause_at clauses (watch_at (list_at w.lists x) at).clause)
     → IsHandling clauses t w x (at + 1)
 handling_next clauses t w x at h holds = record {
   watching = h.watching;
@@ -90,7 +92,8 @@ not_by trail n x l is differ free f =
     ]
 
 -- all watchers have been handled
-pub handling_done : (clauses : List Clause) (t : TrailValue) (w : WatchesValue) (x : ℤ) (at : ℕ) → IsHandling clauses t w x at → length (list_at w.lists x) ≤ at → IsWatching clauses t (record w { handled = w.handled + 1 })
+pub handling_done : (clauses : List Clause) (t : TrailValue) (w : WatchesValue) (x : ℤ) (at : ℕ) → IsHandling clauses t w x at → length (list_at w.lists x) ≤ at
+    → IsWatching clauses t (record w { handled = w.handled + 1 })
 handling_done clauses t w x at h past =
     let low = h.low in
     record {
@@ -145,13 +148,15 @@ handling_pushed clauses t w x l at v h ok low =
     }
 
 -- a watcher of a clause that no longer watches x is taken out
-pub handling_removed : (clauses : List Clause) (t : TrailValue) (w : WatchesValue) (x : ℤ) (at : ℕ) (v : Watch) → IsHandling clauses t w x at → at < length (list_at w.lists x) → index_of x < length w.lists
+pub handling_removed : (clauses : List Clause) (t : TrailValue) (w : WatchesValue) (x : ℤ) (at : ℕ) (v : Watch) → IsHandling clauses t w x at → at < length (list_at w.lists x)
+    → index_of x < length w.lists
     → (IsOneOf (pair_at w.pairs (watch_at (list_at w.lists x) at).clause) x → ⊥) → IsHandling clauses t (record w { lists = set w.lists (index_of x) (swap_remove (list_at w.lists x) at v) }) x at
 handling_removed clauses t w x at v h here_at low stale =
     let formed = h.watching.base.formed in
     let list : List Watch = list_at w.lists x in
     let new : List (List Watch) = set w.lists (index_of x) (swap_remove list at v) in
-    let less : (y : ℤ) (from j : ℕ) (T : Type 0) → IsOneOf (pair_at w.pairs j) y → from ≤ at → HasWatcher (list_at w.lists y) from j T → HasWatcher (list_at new y) from j T = λ y from j T one_of le one.
+    let less : (y : ℤ) (from j : ℕ) (T : Type 0) → IsOneOf (pair_at w.pairs j) y → from ≤ at → HasWatcher (list_at w.lists y) from j T
+    → HasWatcher (list_at new y) from j T = λ y from j T one_of le one.
     elim (written w.lists x (swap_remove list at v) y low) [
       | here same e ↦
           rw e (watcher_removed list at from j v T here_at le (λ k. stale (subst (λ c. IsOneOf (pair_at w.pairs c) x) (sym k) (subst (IsOneOf (pair_at w.pairs j)) same one_of)))
@@ -186,7 +191,8 @@ handling_removed clauses t w x at v h here_at low stale =
     }
 
 -- another watcher of the same clause in the place of one
-pub handling_rewatched : (clauses : List Clause) (t : TrailValue) (w : WatchesValue) (x : ℤ) (at : ℕ) (v : Watch) → IsHandling clauses t w x at → at < length (list_at w.lists x) → index_of x < length w.lists
+pub handling_rewatched : (clauses : List Clause) (t : TrailValue) (w : WatchesValue) (x : ℤ) (at : ℕ) (v : Watch) → IsHandling clauses t w x at → at < length (list_at w.lists x)
+    → index_of x < length w.lists
     → v.clause ≡ (watch_at (list_at w.lists x) at).clause → IsWatcher clauses x v → IsHandling clauses t (record w { lists = set w.lists (index_of x) (set (list_at w.lists x) at v) }) x at
 handling_rewatched clauses t w x at v h here_at low same ok =
     let formed = h.watching.base.formed in
@@ -238,7 +244,8 @@ pair_written pairs j p i within = elim (eqb_tells i j) [
   | inr f ↦ another f.1 (get_or-set_other pairs j i p no_pair f.1)
 ]
 
-kept_changed : (T F : ℤ → Type 0) (clauses : List Clause) (pairs : List Pair) (j : ℕ) (p : Pair) → j < length pairs → (AreFree F (pair_at pairs j) → AreFree F p) → AreKept T F clauses pairs → AreKept T F clauses (set pairs j p)
+kept_changed : (T F : ℤ → Type 0) (clauses : List Clause) (pairs : List Pair) (j : ℕ) (p : Pair) → j < length pairs → (AreFree F (pair_at pairs j) → AreFree F p) → AreKept T F clauses pairs
+    → AreKept T F clauses (set pairs j p)
 kept_changed T F clauses pairs j p low free h = record {
   each = λ i within. elim (h.each i within) [
     | inl t ↦ inl t
@@ -250,7 +257,8 @@ kept_changed T F clauses pairs j p low free h = record {
 }
 
 -- clause j watches others
-pub handling_changed : (clauses : List Clause) (t : TrailValue) (w : WatchesValue) (x : ℤ) (at j : ℕ) (p : Pair) → IsHandling clauses t w x at → j < length clauses → ((l : ℤ) → IsOneOf p l → Contains (clause_at clauses j) l)
+pub handling_changed : (clauses : List Clause) (t : TrailValue) (w : WatchesValue) (x : ℤ) (at j : ℕ) (p : Pair) → IsHandling clauses t w x at → j < length clauses
+    → ((l : ℤ) → IsOneOf p l → Contains (clause_at clauses j) l)
     → ((l : ℤ) → IsOneOf p l → HasWatcher (list_at w.lists l) 0 j ⊥) → ((s : ℕ) → AreFree (IsTrueBelow t.literals s) (pair_at w.pairs j) → AreFree (IsTrueBelow t.literals s) p) → (IsOneOf p x → ⊥)
     → IsHandling clauses t (record w { pairs = set w.pairs j p }) x at
 handling_changed clauses t w x at j p h held inside has free not_x =
@@ -290,7 +298,8 @@ handling_changed clauses t w x at j p h held inside has free not_x =
     }
 
 -- entries more
-pub handling_extended : (clauses : List Clause) (t new : TrailValue) (w : WatchesValue) (x : ℤ) (at : ℕ) → IsHandling clauses t w x at → IsExtended clauses t new → literal_at new.literals w.handled ≡ literal_at t.literals w.handled
+pub handling_extended : (clauses : List Clause) (t new : TrailValue) (w : WatchesValue) (x : ℤ) (at : ℕ) → IsHandling clauses t w x at → IsExtended clauses t new
+    → literal_at new.literals w.handled ≡ literal_at t.literals w.handled
     → IsHandling clauses new w x at
 handling_extended clauses t new w x at h e same =
     let low = h.low in

@@ -1,6 +1,7 @@
 -- What is kept of the watches as the trail and the clauses change.
 use Rattle.std.specs.Prelude.{ℤ, pos, neg_ℤ, ◌⊎◌, All, int_lt}
-use Rattle.std.proofs.Common.{◌≡◌, ℕ, zero, suc, Bool, true, false, cond, ◌+◌, ◌*◌, ◌<◌, ◌≤◌, None, List, [], ◌∷◌, ◌++◌, take, length, get_or, refl, ap, subst, sym, ◌∙◌, inl, inr, length-append, arith}
+use Rattle.std.proofs.Common.{◌≡◌, ℕ, zero, suc, Bool, true, false, cond, ◌+◌, ◌*◌, ◌<◌, ◌≤◌, None, List, [], ◌∷◌, ◌++◌, take, length, get_or, refl, ap, subst, sym, ◌∙◌, inl, inr, length-append}
+use Rattle.std.proofs.Common.{arith}
 use Rattle.std.specs.List.{Contains}
 use Rattle.std.specs.Ordering.{int_eq}
 use Rattle.std.proofs.lemmas.Bool.{cases_lt, cases_Bool}
@@ -128,7 +129,8 @@ below_extended clauses old new w h e =
       formed = rw e.variables h.formed;
       low = rw e.starts (All-weaker (λ s. s ≤ length old.literals) (λ s. s ≤ length new.literals) (λ s low. omega arith) old.starts h.low);
       below = rw e.starts (λ k d within.
-          kept_at_same clauses w.pairs old.literals new.literals (length old.literals) (get_or old.starts k d) (h.low k d within) (omega arith) longer (take-length old.literals ∙ sym e.before) (h.below k d within));
+          kept_at_same clauses w.pairs old.literals new.literals (length old.literals) (get_or old.starts k d) (h.low k d within) (omega arith) longer (take-length old.literals ∙ sym e.before)
+          (h.below k d within));
     }
 
 pub watching_extended : (clauses : List Clause) (old new : TrailValue) (w : WatchesValue) → IsWatching clauses old w → IsLonger old new → IsWatching clauses new w
@@ -160,7 +162,8 @@ watching_decided clauses t new w l h e =
         low = All-push (λ s. s ≤ length more) t.starts n (All-weaker (λ s. s ≤ n) (λ s. s ≤ length more) (λ s low. omega arith) t.starts b.low) longer;
         below = All-push (AreKeptAt clauses more w.pairs) t.starts n
             (λ k d k_within. kept_at_same clauses w.pairs t.literals more n (get_or t.starts k d) (b.low k d k_within) (omega arith) longer both (b.below k d k_within))
-            (kept_at_same clauses w.pairs t.literals more n n (omega arith) (omega arith) longer both (subst (λ m. AreKept (Holds t.literals) (IsTrueBelow t.literals m) clauses w.pairs) h.all h.watching.kept));
+            (kept_at_same clauses w.pairs t.literals more n n (omega arith) (omega arith) longer both
+            (subst (λ m. AreKept (Holds t.literals) (IsTrueBelow t.literals m) clauses w.pairs) h.all h.watching.kept));
       };
       within = omega arith;
       kept = kept_same (Holds t.literals) (IsTrueBelow t.literals w.handled) (Holds more) (IsTrueBelow more w.handled) clauses w.pairs
@@ -181,7 +184,8 @@ index_low n l h =
     omega arith
 
 -- another watcher in the list of l
-pub has_pushed : (lists : List (List Watch)) (l : ℤ) (w : Watch) → index_of l < length lists → (y : ℤ) (from j : ℕ) (T : Type 0) → HasWatcher (list_at lists y) from j T → HasWatcher (list_at (lists_with lists l w) y) from j T
+pub has_pushed : (lists : List (List Watch)) (l : ℤ) (w : Watch) → index_of l < length lists → (y : ℤ) (from j : ℕ) (T : Type 0) → HasWatcher (list_at lists y) from j T
+    → HasWatcher (list_at (lists_with lists l w) y) from j T
 has_pushed lists l w low y from j T one = elim (written lists l (list_at lists l ++ w ∷ []) y low) [
   | here same e ↦ rw e (watcher_pushed (list_at lists l) w from j T (subst (λ z. HasWatcher (list_at lists z) from j T) same one))
   | there differ e ↦ rw e one
@@ -193,7 +197,8 @@ has_new lists l w j low e = elim (written lists l (list_at lists l ++ w ∷ []) 
   | there n f ↦ absurd (n refl)
 ]
 
-pub watchers_pushed : (clauses : List Clause) (lists : List (List Watch)) (l : ℤ) (w : Watch) → index_of l < length lists → ((y : ℤ) (k : ℕ) → k < length (list_at lists y) → IsWatcher clauses y (watch_at (list_at lists y) k)) → IsWatcher clauses l w
+pub watchers_pushed : (clauses : List Clause) (lists : List (List Watch)) (l : ℤ) (w : Watch) → index_of l < length lists
+    → ((y : ℤ) (k : ℕ) → k < length (list_at lists y) → IsWatcher clauses y (watch_at (list_at lists y) k)) → IsWatcher clauses l w
     → (y : ℤ) (k : ℕ) → k < length (list_at (lists_with lists l w) y) → IsWatcher clauses y (watch_at (list_at (lists_with lists l w) y) k)
 watchers_pushed clauses lists l w low all ok y k within = elim (written lists l (list_at lists l ++ w ∷ []) y low) [
   | here same e ↦
@@ -223,9 +228,11 @@ kept_added T F clauses pairs C p count h new = record {
 binary_turned : (one other : ℤ) (C : Clause) → IsBinary one other C → IsBinary other one C
 binary_turned one other C h = All-weaker (λ a. (a ≡ one) ⊎ (a ≡ other)) (λ a. (a ≡ other) ⊎ (a ≡ one)) (λ a either. elim either [ inl e ↦ inr e | inr e ↦ inl e ]) C h
 
-pub watched_added : (clauses : List Clause) (n : ℕ) (lists : List (List Watch)) (pairs : List Pair) (C : Clause) (one other : ℤ) (binary : Bool) → AreWatched clauses n lists pairs → All (IsLiteralOf n) C → Contains C one → Contains C other
+pub watched_added : (clauses : List Clause) (n : ℕ) (lists : List (List Watch)) (pairs : List Pair) (C : Clause) (one other : ℤ) (binary : Bool) → AreWatched clauses n lists pairs
+    → All (IsLiteralOf n) C → Contains C one → Contains C other
     → (binary ≡ true → IsBinary one other C)
-    → AreWatched (clauses ++ C ∷ []) n (lists_with (lists_with lists one (record { clause = length pairs; blocker = other; binary = binary })) other (record { clause = length pairs; blocker = one; binary = binary })) (pairs ++ record { one = one; other = other } ∷ [])
+    → AreWatched (clauses ++ C ∷ []) n (lists_with (lists_with lists one (record { clause = length pairs; blocker = other; binary = binary })) other
+    (record { clause = length pairs; blocker = one; binary = binary })) (pairs ++ record { one = one; other = other } ∷ [])
 watched_added clauses n lists pairs C one other binary h literals one_in other_in only =
     let more : List Clause = clauses ++ C ∷ [] in
     let p : Pair = record { one = one; other = other } in
@@ -251,7 +258,8 @@ watched_added clauses n lists pairs C one other binary h literals one_in other_i
       lists_length = long2 ∙ long1 ∙ h.lists_length;
       pairs_length = omega (arith, length-append clauses (C ∷ []), length-append pairs (p ∷ []));
       watchers = watchers_pushed more lists1 other second low_other1
-          (watchers_pushed more lists one first low_one (λ y k k_within. is_old y (watch_at (list_at lists y) k) (h.watchers y k k_within)) (record { held = held_new; inside = rw last other_in; only = λ b. rw last (only b) }))
+          (watchers_pushed more lists one first low_one (λ y k k_within. is_old y (watch_at (list_at lists y) k) (h.watchers y k k_within))
+          (record { held = held_new; inside = rw last other_in; only = λ b. rw last (only b) }))
           (record { held = held_new; inside = rw last one_in; only = λ b. rw last (binary_turned one other C (only b)) });
       inside = λ j l within is_one. elim (cases_lt j (length clauses)) [
         | inl low ↦ rw (old j low) (h.inside j l low (rw (old_pair j low) at is_one))

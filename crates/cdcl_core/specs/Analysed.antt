@@ -12,7 +12,8 @@ use Rattle.cdcl_core.specs.declared.analysis.Learned.{Learned}
 -- of the trail
 pub record IsAnalysed (clauses : List Clause) (t : TrailValue) (start : ℕ) (r : Learned) : Type 0 where
   pub learned : IsLearned t.literals start r.clause.items (neg_ℤ (literal_at t.literals r.place)) r.place
-  pub derives : (id : ℕ) → Derives (held_of clauses) (record { id = id; literals = r.clause.items; hints = reverse r.hints.items })
+  pub derives : (id : ℕ) → Derives (held_of clauses)
+      (record { id = id; literals = r.clause.items; hints = reverse r.hints.items })
   pub new : IsNew clauses r.clause.items
   pub literals : All (IsLiteralOf t.variables) r.clause.items
 

@@ -1,5 +1,6 @@
 -- Analysis by marks on the entries of the trail. Source: GRASP and MiniSat.
-use Rattle.std.specs.Prelude.{ℤ, neg_ℤ, ◌≡◌, ◌⊎◌, ℕ, ◌<◌, ◌≤◌, Bool, true, false, List, length, slice_index_or, All}
+use Rattle.std.specs.Prelude.{ℤ, neg_ℤ, ◌≡◌, ◌⊎◌, ℕ, ◌<◌, ◌≤◌, Bool, true, false, List, length}
+use Rattle.std.specs.Prelude.{slice_index_or, All}
 use Rattle.std.specs.List.{Contains}
 use Rattle.proof_semantics.specs.Clauses.{Clause}
 use Rattle.cdcl_core.specs.Trail.{literal_at}
@@ -41,7 +42,8 @@ pub record IsShortened (old new : List Bool) (start : ℕ) : Type 0 where
   pub only : (p : ℕ) → start ≤ p → mark_at new p ≡ true → mark_at old p ≡ true
 
 -- marks were added, before bound, at the entries that make the literals of C other than own false
-pub record AreOthersMarked (trail : List ℤ) (old new : List Bool) (C : Clause) (own : ℤ) (bound : ℕ) : Type 0 where
+pub record AreOthersMarked (trail : List ℤ) (old new : List Bool) (C : Clause) (own : ℤ)
+    (bound : ℕ) : Type 0 where
   pub same_length : length new ≡ length old
   pub kept : (p : ℕ) → mark_at old p ≡ true → mark_at new p ≡ true
   pub below : (p : ℕ) → bound ≤ p → mark_at new p ≡ true → mark_at old p ≡ true

@@ -1,5 +1,6 @@
 -- Decisions, and where there is none left.
-use Rattle.std.specs.Prelude.{◌≡◌, ◌⊎◌, ℕ, suc, ◌<◌, ◌↔◌, Bool, false, IsTrue, List, length, slice_index_or, ℤ, pos, neg_ℤ}
+use Rattle.std.specs.Prelude.{◌≡◌, ◌⊎◌, ℕ, suc, ◌<◌, ◌↔◌, Bool, false, IsTrue, List, length, slice_index_or}
+use Rattle.std.specs.Prelude.{ℤ, pos, neg_ℤ}
 use Rattle.proof_semantics.specs.Clauses.{IsLiteralOf}
 use Rattle.cdcl_core.specs.Settled.{IsOpen}
 use Rattle.cdcl_core.specs.Explained.{Holds}

@@ -15,7 +15,8 @@ IsIn set l = literals.contains set l ≡ true
 
 -- the hints end in a conflict from each set of true literals that contains those of T
 pub record Explains (clauses : List Clause) (trail : List ℤ) (T : ℤ → Type 0) (hints : List ℕ) : Type 0 where
-  pub along : (set : LiteralSet) → ((l : ℤ) → IsIn set l → Holds trail l) → ((l : ℤ) → T l → IsIn set l) → EndsInConflict (get (held_of clauses)) set hints
+  pub along : (set : LiteralSet) → ((l : ℤ) → IsIn set l → Holds trail l) → ((l : ℤ) → T l → IsIn set l)
+      → EndsInConflict (get (held_of clauses)) set hints
 
 -- l is true by an entry that is marked: the entry is still to be explained, or its negation stays in the
 -- learned clause

@@ -1,5 +1,6 @@
 -- Going back after a conflict. Source: the jump of GRASP and Chaff.
-use Rattle.std.specs.Prelude.{ℤ, neg_ℤ, ◌≡◌, ◌⊎◌, ℕ, ◌+◌, ◌<◌, ◌≤◌, max, Option, None, Some, List, [], ◌∷◌, ◌++◌, take, length, slice_index_or, All}
+use Rattle.std.specs.Prelude.{ℤ, neg_ℤ, ◌≡◌, ◌⊎◌, ℕ, ◌+◌, ◌<◌, ◌≤◌, max, Option, None, Some, List, [], ◌∷◌}
+use Rattle.std.specs.Prelude.{◌++◌, take, length, slice_index_or, All}
 use Rattle.std.specs.List.{Contains}
 use Rattle.proof_semantics.specs.Clauses.{Clause}
 use Rattle.cdcl_core.specs.Trail.{literal_at, IsTrueBelow, IsTrail, AreLevels, IsSettledBelow}

@@ -1,5 +1,6 @@
 -- How the trail is held: each variable that stands in the trail has its place there.
-use Rattle.std.specs.Prelude.{ℤ, ◌≡◌, ℕ, ◌+◌, ◌-◌, ◌*◌, ◌<◌, ◌≤◌, Bool, true, false, Option, List, length, slice_index_or, nat_abs}
+use Rattle.std.specs.Prelude.{ℤ, ◌≡◌, ℕ, ◌+◌, ◌-◌, ◌*◌, ◌<◌, ◌≤◌, Bool, true, false, Option, List, length}
+use Rattle.std.specs.Prelude.{slice_index_or, nat_abs}
 use Rattle.cdcl_core.specs.Trail.{literal_at}
 use Rattle.cdcl_core.specs.Explained.{Holds}
 use Rattle.cdcl_core.specs.Watched.{index_of}
@@ -22,7 +23,8 @@ pub record AreTold (told : List Bool) (trail : List ℤ) : Type 0 where
 -- each entry's variable has the entry's place
 pub record IsPlaced (places : List ℕ) (trail : List ℤ) : Type 0 where
   pub some : 0 < length places
-  pub literal : (i : ℕ) → i < length trail → (0 < nat_abs (literal_at trail i)) × (nat_abs (literal_at trail i) < length places)
+  pub literal : (i : ℕ) → i < length trail
+      → (0 < nat_abs (literal_at trail i)) × (nat_abs (literal_at trail i) < length places)
   pub at : (i : ℕ) → i < length trail → slice_index_or places (nat_abs (literal_at trail i)) 0 ≡ i
 
 -- the trail, with the places and with `told`
@@ -33,7 +35,8 @@ pub record IsHeld (places : List ℕ) (told : List Bool) (trail : List ℤ) : Ty
 
 -- the trail, with the places, with `told` and with a reason for each entry; and there is room for more
 -- entries than there are variables
-pub record HasPlaces (places : List ℕ) (told : List Bool) (trail : List ℤ) (reasons literal_room reason_room : ℕ) : Type 0 where
+pub record HasPlaces (places : List ℕ) (told : List Bool) (trail : List ℤ)
+    (reasons literal_room reason_room : ℕ) : Type 0 where
   pub held : IsHeld places told trail
   pub same_length : reasons ≡ length trail
   pub for_literals : length places + 1 ≤ literal_room

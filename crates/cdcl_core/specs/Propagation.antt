@@ -13,7 +13,8 @@ pub record IsExtended (clauses : List Clause) (old new : TrailValue) : Type 0 wh
   pub starts : new.starts ≡ old.starts
   pub longer : length old.literals ≤ length new.literals
   pub before : take (length old.literals) new.literals ≡ old.literals
-  pub follows : IsTrail clauses old.literals old.reasons old.starts → IsTrail clauses new.literals new.reasons new.starts
+  pub follows : IsTrail clauses old.literals old.reasons old.starts
+      → IsTrail clauses new.literals new.reasons new.starts
 
 -- a clause is false
 pub record IsConflict (clauses : List Clause) (t : TrailValue) (j : ℕ) : Type 0 where

@@ -5,4 +5,5 @@ use Rattle.proof_semantics.specs.Logs.{Derives, held_of}
 
 -- the empty clause derives by the hints under any id
 abbrev pub IsRefuted : List Clause → List ℕ → Type 0
-IsRefuted clauses hints = (id : ℕ) → Derives (held_of clauses) (record { id = id; literals = []; hints = hints })
+IsRefuted clauses hints = (id : ℕ)
+    → Derives (held_of clauses) (record { id = id; literals = []; hints = hints })

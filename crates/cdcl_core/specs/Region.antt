@@ -1,4 +1,5 @@
--- Clauses in one region: each has the span in which its literals lie. Source: the clause arena of Chaff and MiniSat.
+-- Clauses in one region: each has the span in which its literals lie. Source: the clause arena of Chaff and
+-- MiniSat.
 use Rattle.std.specs.Prelude.{ℕ, ◌-◌, ◌<◌, ◌≤◌, ◌^◌, min, List, length, map, slice_range, ℤ, All}
 use Rattle.proof_semantics.specs.Clauses.{Clause}
 use Rattle.cdcl_core.specs.declared.clause_list.Span.{Span}

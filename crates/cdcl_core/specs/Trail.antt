@@ -1,6 +1,7 @@
--- The trail: the literals that are true, in the order in which they became so. A level opens at its start, a place of the trail.
--- Source: the implication graph of GRASP.
-use Rattle.std.specs.Prelude.{ℤ, neg_ℤ, pos, ◌≡◌, ◌≢◌, ◌⊎◌, ℕ, zero, ◌<◌, ◌≤◌, Option, Some, None, List, length, slice_index_or, All, AllPairs}
+-- The trail: the literals that are true, in the order in which they became so. A level opens at its start, a
+-- place of the trail. Source: the implication graph of GRASP.
+use Rattle.std.specs.Prelude.{ℤ, neg_ℤ, pos, ◌≡◌, ◌≢◌, ◌⊎◌, ℕ, zero, ◌<◌, ◌≤◌, Option, Some, None, List}
+use Rattle.std.specs.Prelude.{length, slice_index_or, All, AllPairs}
 use Rattle.std.specs.List.{Contains}
 use Rattle.proof_semantics.specs.Clauses.{Clause}
 use Rattle.proof_semantics.specs.Conflicts.{clause_at}
@@ -21,8 +22,10 @@ pub record IsTrueBelow (trail : List ℤ) (s : ℕ) (l : ℤ) : Type 0 where
 
 -- no variable twice
 pub record IsConsistent (trail : List ℤ) : Type 0 where
-  pub distinct : (i j : ℕ) → i < length trail → j < length trail → literal_at trail i ≡ literal_at trail j → i ≡ j
-  pub consistent : (i j : ℕ) → i < length trail → j < length trail → literal_at trail i ≢ neg_ℤ (literal_at trail j)
+  pub distinct : (i j : ℕ) → i < length trail → j < length trail → literal_at trail i ≡ literal_at trail j
+      → i ≡ j
+  pub consistent : (i j : ℕ) → i < length trail → j < length trail
+      → literal_at trail i ≢ neg_ℤ (literal_at trail j)
 
 -- clause j made entry i true: it has the entry's literal, and its other literals were false before
 pub record IsReason (clauses : List Clause) (trail : List ℤ) (i j : ℕ) : Type 0 where
@@ -31,7 +34,8 @@ pub record IsReason (clauses : List Clause) (trail : List ℤ) (i j : ℕ) : Typ
   pub others : All (λ a. (a ≡ literal_at trail i) ⊎ IsTrueBelow trail i (neg_ℤ a)) (clause_at clauses j)
 
 -- an entry with a reason follows by the reason, and an entry without one opens a level
-pub record IsTrail (clauses : List Clause) (trail : List ℤ) (reasons : List (Option ℕ)) (starts : List ℕ) : Type 0 where
+pub record IsTrail (clauses : List Clause) (trail : List ℤ) (reasons : List (Option ℕ))
+    (starts : List ℕ) : Type 0 where
   pub same_length : length reasons ≡ length trail
   pub reason : (i j : ℕ) → i < length trail → reason_at reasons i ≡ Some j → IsReason clauses trail i j
   pub decision : (i : ℕ) → i < length trail → reason_at reasons i ≡ None → Contains starts i

@@ -1,5 +1,6 @@
 -- What a visit of a watcher does.
-use Rattle.std.specs.Prelude.{◌≡◌, ◌⊎◌, ℕ, ◌+◌, Option, Some, None, [], ◌∷◌, ◌++◌, length, ℤ, neg_ℤ, List, All}
+use Rattle.std.specs.Prelude.{◌≡◌, ◌⊎◌, ℕ, ◌+◌, Option, Some, None, [], ◌∷◌, ◌++◌, length, ℤ, neg_ℤ, List}
+use Rattle.std.specs.Prelude.{All}
 use Rattle.std.specs.List.{Contains}
 use Rattle.proof_semantics.specs.Clauses.{Clause}
 use Rattle.cdcl_core.specs.Settled.{IsSettled}
@@ -28,14 +29,17 @@ AreOthersFalse trail C first = All (λ a. (a ≡ first) ⊎ Holds trail (neg_ℤ
 
 -- l follows by clause j, or is false
 abbrev pub IsFollowed : TrailValue → TrailValue → ℕ → ℤ → Visit → Type 0
-IsFollowed old new j l Next = new ≡ record old { literals = old.literals ++ l ∷ []; reasons = old.reasons ++ Some j ∷ [] }
+IsFollowed old new j l Next
+    = new ≡ record old { literals = old.literals ++ l ∷ []; reasons = old.reasons ++ Some j ∷ [] }
 IsFollowed old new j l Again = ⊥
 IsFollowed old new j l (Conflict k) = (k ≡ j) × (new ≡ old) × Holds old.literals (neg_ℤ l)
 
 -- the watcher stays, or was taken out, or the watcher's clause is false
 abbrev pub IsVisited : List Clause → TrailValue → WatchesValue → WatchesValue → ℤ → ℕ → Visit → Type 0
-IsVisited clauses t old new x at Next = IsHandling clauses t new x (at + 1) × (length (list_at new.lists x) ≡ length (list_at old.lists x))
-IsVisited clauses t old new x at Again = IsHandling clauses t new x at × (length (list_at new.lists x) + 1 ≡ length (list_at old.lists x))
+IsVisited clauses t old new x at Next = IsHandling clauses t new x (at + 1)
+    × (length (list_at new.lists x) ≡ length (list_at old.lists x))
+IsVisited clauses t old new x at Again = IsHandling clauses t new x at
+    × (length (list_at new.lists x) + 1 ≡ length (list_at old.lists x))
 IsVisited clauses t old new x at (Conflict j) = IsWatchedBelow clauses t new × IsConflict clauses t j
 
 -- the next entry was handled, or a clause is false

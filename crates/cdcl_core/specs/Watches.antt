@@ -1,6 +1,7 @@
--- How the watches are held: for each literal its watchers, for each clause the two literals that it watches, and the number of
--- the trail's entries that have been handled.
-use Rattle.std.specs.Prelude.{ℕ, zero, Bool, false, ◌+◌, ◌*◌, List, [], ◌∷◌, ◌++◌, length, replicate, slice_index_or, slice_set, ℤ, pos}
+-- How the watches are held: for each literal its watchers, for each clause the two literals that it watches,
+-- and the number of the trail's entries that have been handled.
+use Rattle.std.specs.Prelude.{ℕ, zero, Bool, false, ◌+◌, ◌*◌, List, [], ◌∷◌, ◌++◌, length, replicate}
+use Rattle.std.specs.Prelude.{slice_index_or, slice_set, ℤ, pos}
 use Rattle.cdcl_core.specs.Watched.{index_of}
 use Rattle.cdcl_core.specs.declared.watches.Watch.{Watch}
 use Rattle.cdcl_core.specs.declared.watches.Pair.{Pair}
@@ -32,7 +33,9 @@ lists_with lists l w = slice_set lists (index_of l) (list_at lists l ++ w ∷ []
 -- the next clause watches these two literals, and possibly has no others
 abbrev pub watches_with : WatchesValue → ℤ → ℤ → Bool → WatchesValue
 watches_with w one other binary = record w {
-  lists = lists_with (lists_with w.lists one (record { clause = length w.pairs; blocker = other; binary = binary })) other (record { clause = length w.pairs; blocker = one; binary = binary });
+  lists = lists_with (lists_with w.lists one
+      (record { clause = length w.pairs; blocker = other; binary = binary })) other
+      (record { clause = length w.pairs; blocker = one; binary = binary });
   pairs = w.pairs ++ record { one = one; other = other } ∷ [];
 }
 

@@ -1,5 +1,6 @@
--- Watched literals: each clause watches two of its literals, and where it has no true literal neither of them is false, as far as
--- the entries of the trail have been handled. Source: Chaff, with the blockers of MiniSat.
+-- Watched literals: each clause watches two of its literals, and where it has no true literal neither of them
+-- is false, as far as the entries of the trail have been handled. Source: Chaff, with the blockers of
+-- MiniSat.
 use Rattle.std.specs.Prelude.{◌≡◌, ◌≢◌, ◌⊎◌, ℕ, ◌+◌, ◌*◌, ◌<◌, ◌≤◌, true, List, length, ℤ, neg_ℤ, All}
 use Rattle.std.specs.List.{Contains}
 use Rattle.proof_semantics.specs.Clauses.{Clause, AreClausesOf}
@@ -45,13 +46,17 @@ pub record IsWatcher (clauses : List Clause) (y : ℤ) (w : Watch) : Type 0 wher
   pub only : w.binary ≡ true → IsBinary y w.blocker (clause_at clauses w.clause)
 
 -- each clause has the literals that it watches, and a watcher at each of these
-pub record AreWatched (clauses : List Clause) (variables : ℕ) (lists : List (List Watch)) (pairs : List Pair) : Type 0 where
+pub record AreWatched (clauses : List Clause) (variables : ℕ) (lists : List (List Watch))
+    (pairs : List Pair) : Type 0 where
   pub literals : AreClausesOf variables clauses
   pub lists_length : length lists ≡ variables * 2 + 2
   pub pairs_length : length pairs ≡ length clauses
-  pub watchers : (y : ℤ) (k : ℕ) → k < length (list_at lists y) → IsWatcher clauses y (watch_at (list_at lists y) k)
-  pub inside : (j : ℕ) (l : ℤ) → j < length clauses → IsOneOf (pair_at pairs j) l → Contains (clause_at clauses j) l
-  pub watched : (j : ℕ) (l : ℤ) → j < length clauses → IsOneOf (pair_at pairs j) l → HasWatcher (list_at lists l) 0 j ⊥
+  pub watchers : (y : ℤ) (k : ℕ) → k < length (list_at lists y)
+      → IsWatcher clauses y (watch_at (list_at lists y) k)
+  pub inside : (j : ℕ) (l : ℤ) → j < length clauses → IsOneOf (pair_at pairs j) l
+      → Contains (clause_at clauses j) l
+  pub watched : (j : ℕ) (l : ℤ) → j < length clauses → IsOneOf (pair_at pairs j) l
+      → HasWatcher (list_at lists l) 0 j ⊥
 
 -- each clause is kept below the start s
 abbrev pub AreKeptAt : List Clause → List ℤ → List Pair → ℕ → Type 0
@@ -71,8 +76,10 @@ pub record IsWatching (clauses : List Clause) (t : TrailValue) (w : WatchesValue
 
 -- `IsWatching` while the next entry, by which x is false, is handled: each clause that watches x has a true
 -- literal, or a watcher from `at` on
-pub record IsHandling (clauses : List Clause) (t : TrailValue) (w : WatchesValue) (x : ℤ) (at : ℕ) : Type 0 where
+pub record IsHandling (clauses : List Clause) (t : TrailValue) (w : WatchesValue) (x : ℤ)
+    (at : ℕ) : Type 0 where
   pub watching : IsWatching clauses t w
   pub low : w.handled < length t.literals
   pub is : literal_at t.literals w.handled ≡ neg_ℤ x
-  pub pending : (j : ℕ) → j < length clauses → IsOneOf (pair_at w.pairs j) x → HasWatcher (list_at w.lists x) at j (HasTrue (Holds t.literals) (clause_at clauses j))
+  pub pending : (j : ℕ) → j < length clauses → IsOneOf (pair_at w.pairs j) x
+      → HasWatcher (list_at w.lists x) at j (HasTrue (Holds t.literals) (clause_at clauses j))

@@ -12,7 +12,8 @@
 //! reasons in the order of the trail, and then the conflict's clause. An entry is replaced once, after all
 //! entries behind it that are replaced, so each reason is one hint. So the room that the clause and its hints
 //! can take is known before, and the analysis itself takes no memory (`HasRoom`).
-ghost use Rattle.std.specs.Prelude.{◌≡◌, ◌⊎◌, ◌+◌, ◌<◌, ◌≤◌, ◌^◌, length, vec_len, vec_capacity, neg_ℤ, All, IfSome, OnOk, reverse};
+ghost use Rattle.std.specs.Prelude.{◌≡◌, ◌⊎◌, ◌+◌, ◌<◌, ◌≤◌, ◌^◌, length, vec_len, vec_capacity, neg_ℤ, All};
+ghost use Rattle.std.specs.Prelude.{IfSome, OnOk, reverse};
 ghost use Rattle.proof_semantics.specs.Clauses.{AreClausesOf};
 ghost use Rattle.cdcl_core.specs.Trail.{IsReason, IsTrail, IsTrueBelow};
 ghost use Rattle.cdcl_core.specs.Explained.{IsExplained};
@@ -64,7 +65,8 @@ pub fn make_room(
     learned: &mut Learned,
 ) -> Result<(), AllocError>
     requires { entries < 2 ^ 32 }
-    ensures room { OnOk result (HasRoom entries marks.new (vec_capacity learned.new.clause) (vec_capacity learned.new.hints)) }
+    ensures room { OnOk result
+        (HasRoom entries marks.new (vec_capacity learned.new.clause) (vec_capacity learned.new.hints)) }
     ensures place { OnOk result (HasPlace (length marks.new) clauses.new) }
     ensures clauses { clauses.new.list ≡ clauses.old.list }
     ensures order { order.new ≡ order.old }
@@ -171,7 +173,8 @@ pub fn bring_forward(
     }
 }
 
-/// Whether the entries that make the literals of a clause false, but for one literal, are marked or stand before `first`.
+/// Whether the entries that make the literals of a clause false, but for one literal, are marked or stand
+/// before `first`.
 fn is_implied(trail: &Trail, marks: &Marks, clause: &[Literal], own: Literal, first: usize) -> bool
     requires marks { length trail.now.literals ≤ length marks.now }
     requires others { All (λ a. (a ≡ own)
@@ -337,7 +340,8 @@ pub fn learn(
     learned: &mut Learned,
     conflict: usize,
 )
-    requires room { HasRoom (length trail.now.literals) marks.old (vec_capacity learned.old.clause) (vec_capacity learned.old.hints) }
+    requires room { HasRoom (length trail.now.literals) marks.old (vec_capacity learned.old.clause)
+        (vec_capacity learned.old.hints) }
     requires running { IsRunning clauses.now.list trail.now }
     requires levels { 0 < length trail.now.starts }
     requires conflict { IsConflict clauses.now.list trail.now conflict }

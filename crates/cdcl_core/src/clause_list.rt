@@ -1,7 +1,7 @@
-//! The clauses that the solver holds, in one region: their literals lie one after another, and each clause has the span in which they
-//! lie. So a clause costs no memory of its own, and the literals of clauses that were learned one after another lie side by side. A
-//! clause goes by its place in the list, from 0, and a log speaks of it by the number after its place. Source: the clause arena of
-//! Chaff and MiniSat.
+//! The clauses that the solver holds, in one region: their literals lie one after another, and each clause
+//! has the span in which they lie. So a clause costs no memory of its own, and the literals of clauses that
+//! were learned one after another lie side by side. A clause goes by its place in the list, from 0, and a log
+//! speaks of it by the number after its place. Source: the clause arena of Chaff and MiniSat.
 ghost use Rattle.std.specs.Prelude.{◌≡◌, ◌<◌, ◌^◌, suc, [], ◌∷◌, ◌++◌, length, slice_index_or, OnOk, OnErr};
 ghost use Rattle.cdcl_core.specs.Region.{HasPlace};
 

@@ -56,7 +56,8 @@ struct Target {
 fn jump_target(trail: &Trail, clause: &[Literal], own: Literal) -> Target
     requires levels { 0 < length trail.now.starts }
     requires rising { AreLevels trail.now.literals trail.now.starts }
-    requires others { All (λ a. (a ≡ own) ⊎ IsTrueBelow trail.now.literals (last_start trail.now) (neg_ℤ a)) clause.now }
+    requires others { All (λ a. (a ≡ own) ⊎ IsTrueBelow trail.now.literals (last_start trail.now) (neg_ℤ a))
+        clause.now }
     ensures jump { IsJump trail.now (last_start trail.now) clause.now own result.level }
     ensures pair { IsJumpPair trail.now (last_start trail.now) clause.now own result.level result.other }
 {
@@ -108,7 +109,8 @@ pub fn jump(
     ensures added { OnOk result (clauses.new.list ≡ clauses.old.list ++ clause.now ∷ []) }
     ensures variables { OnOk result (trail.new.variables ≡ trail.old.variables) }
     ensures order { order.new ≡ order.old }
-    ensures err { OnErr result ((clauses.new ≡ clauses.old) × (trail.new ≡ trail.old) × (watches.new ≡ watches.old)) }
+    ensures err { OnErr result
+        ((clauses.new ≡ clauses.old) × (trail.new ≡ trail.old) × (watches.new ≡ watches.old)) }
 {
     trail.consistent();
     let own = trail.literal(place).negated();

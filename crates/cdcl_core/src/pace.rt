@@ -5,17 +5,20 @@
 //! averages a clause weighs less the older it is; they are fixed-point numbers with 32 bits behind the point.
 //! Source: Glucose, with the averages of Biere and Froehlich, which CaDiCaL has.
 //!
-//! Where nothing is known of a net behind the formula the last clauses have to be of many more levels: in a trial outside of this
-//! repository formulas of multipliers then took hardly more conflicts than without any restart, and large formulas of adders far fewer.
+//! Where nothing is known of a net behind the formula the last clauses have to be of many more levels: in a
+//! trial outside of this repository formulas of multipliers then took hardly more conflicts than without any
+//! restart, and large formulas of adders far fewer.
 //!
-//! With few inputs a search ends soonest, once it has gone on for long, if it decides them in the order of their numbers, without
-//! restarts: then it goes over their vectors, as far as clauses do not rule them out many at a time.
+//! With few inputs a search ends soonest, once it has gone on for long, if it decides them in the order of
+//! their numbers, without restarts: then it goes over their vectors, as far as clauses do not rule them out
+//! many at a time.
 ghost use Rattle.std.specs.Prelude.{◌<◌, ◌≤◌};
 
 /// With at most so many inputs they come to be decided in the order of their numbers.
 const ORDERED_INPUTS: u32 = 16;
 
-/// The conflicts of a search, besides an eighth of the vectors, from which on it decides few inputs in the order of their numbers.
+/// The conflicts of a search, besides an eighth of the vectors, from which on it decides few inputs in the
+/// order of their numbers.
 const LONG: u64 = 3000;
 
 /// How far the averages reach: a clause weighs 1 / 2 ^ n of the fast or the slow one.
@@ -23,12 +26,14 @@ const FAST: u32 = 5;
 
 const SLOW: u32 = 14;
 
-/// How large the fast average has to be, in hundredths of the slow one, where the signals of a net are known, and where they are not.
+/// How large the fast average has to be, in hundredths of the slow one, where the signals of a net are known,
+/// and where they are not.
 const NET_MARGIN: u64 = 105;
 
 const BARE_MARGIN: u64 = 120;
 
-/// The averages, the clauses that were learned, those since the last restart, and the number of inputs where they are few.
+/// The averages, the clauses that were learned, those since the last restart, and the number of inputs where
+/// they are few.
 #[derive(Drop)]
 pub struct Pace {
     fast: u64,

@@ -45,7 +45,8 @@ pub fn refute(
 )
     requires trail { IsTrail clauses.now.list trail.now.literals trail.now.reasons [] }
     requires conflict { IsConflict clauses.now.list trail.now conflict }
-    requires room { HasRoom (length trail.now.literals) marks.old (vec_capacity learned.old.clause) (vec_capacity learned.old.hints) }
+    requires room { HasRoom (length trail.now.literals) marks.old (vec_capacity learned.old.clause)
+        (vec_capacity learned.old.hints) }
     ensures { IsRefuted clauses.now.list (reverse learned.new.hints.items) }
 {
     mark_conflict(trail, clauses, marks, conflict);

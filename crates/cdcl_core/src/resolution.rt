@@ -1,6 +1,7 @@
 //! Resolution over the marked entries: each step replaces an entry by the entries that forced it, and gives a
 //! hint.
-ghost use Rattle.std.specs.Prelude.{◌≡◌, ◌≢◌, ◌⊎◌, ℕ, suc, ◌+◌, ◌<◌, ◌≤◌, true, [], ◌∷◌, length, vec_len, vec_capacity, neg_ℤ, All, reverse};
+ghost use Rattle.std.specs.Prelude.{◌≡◌, ◌≢◌, ◌⊎◌, ℕ, suc, ◌+◌, ◌<◌, ◌≤◌, true, [], ◌∷◌, length, vec_len};
+ghost use Rattle.std.specs.Prelude.{vec_capacity, neg_ℤ, All, reverse};
 ghost use Rattle.cdcl_core.specs.Settled.{IsSettled};
 ghost use Rattle.cdcl_core.specs.Trail.{IsTrueBelow, IsReason};
 ghost use Rattle.cdcl_core.specs.Explained.{IsExplained};
@@ -62,7 +63,8 @@ pub fn resolve(
         → IsExplained clauses.now.list trail.now.literals marks.new (reverse hints.new.items) }
     ensures same { length marks.new ≡ length marks.old }
     ensures kept { (p : ℕ) → p ≢ entry → mark_at marks.old p ≡ true → mark_at marks.new p ≡ true }
-    ensures below { (p : ℕ) → entry ≤ p → mark_at marks.new p ≡ true → (p ≢ entry) × (mark_at marks.old p ≡ true) }
+    ensures below { (p : ℕ) → entry ≤ p → mark_at marks.new p ≡ true
+        → (p ≢ entry) × (mark_at marks.old p ≡ true) }
     ensures one { vec_len hints.new ≡ vec_len hints.old + 1 }
     ensures room { vec_capacity hints.new ≡ vec_capacity hints.old }
 {

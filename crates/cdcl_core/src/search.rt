@@ -1,7 +1,9 @@
-//! The search: propagation, and decisions only where it is complete, until a clause is false or each variable has a value.
+//! The search: propagation, and decisions only where it is complete, until a clause is false or each variable
+//! has a value.
 //!
-//! Before each decision every clause is settled: it has a true literal, or two that are open. This is what makes each learned
-//! clause new, so a decision never comes before propagation has ended. Source: the loop of GRASP, Chaff and MiniSat.
+//! Before each decision every clause is settled: it has a true literal, or two that are open. This is what
+//! makes each learned clause new, so a decision never comes before propagation has ended. Source: the loop of
+//! GRASP, Chaff and MiniSat.
 ghost use Rattle.std.specs.Prelude.{◌≡◌, [], MatchOption, IfOk};
 ghost use Rattle.proof_semantics.specs.Logs.{IsDerivation};
 ghost use Rattle.proof_semantics.specs.Conflicts.{clauses_with};
@@ -25,8 +27,8 @@ use proof_parts::cnf::Cnf;
 use proof_parts::log::Log;
 use std::alloc::{AllocError, Global};
 
-/// The clauses that are held, the literals that are true, the watches, the order of the variables, the log of what was derived, room for the
-/// marks of an analysis, and what was learned last.
+/// The clauses that are held, the literals that are true, the watches, the order of the variables, the log of
+/// what was derived, room for the marks of an analysis, and what was learned last.
 #[derive(Drop)]
 pub struct Search {
     pub clauses: ClauseList,
@@ -75,8 +77,8 @@ pub fn start(alloc: Global, cnf: &Cnf, merged: &Log, signals: u32) -> Result<Sea
     })
 }
 
-/// Decides, each time after complete propagation, until a clause is false, or every variable has a value. The least open variable up to
-/// `inputs` is decided first.
+/// Decides, each time after complete propagation, until a clause is false, or every variable has a value. The
+/// least open variable up to `inputs` is decided first.
 pub fn next_conflict(
     trail: &mut Trail,
     watches: &mut Watches,

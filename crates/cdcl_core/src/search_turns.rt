@@ -92,7 +92,8 @@ fn swept_conflict(
     Ok(None)
 }
 
-/// The next clause that is false, or None where each variable has a value. The least open variable up to `inputs` is decided first.
+/// The next clause that is false, or None where each variable has a value. The least open variable up to
+/// `inputs` is decided first.
 fn find_conflict(
     search: &mut Search,
     sweep: &mut Sweep,
@@ -103,9 +104,11 @@ fn find_conflict(
     requires watching { IsWatching search.old.clauses.list search.old.trail search.old.watches }
     ensures moved { OnOk result (HasMoved search.old search.new) }
     ensures searching { OnOk result (IsSearching search.new.clauses.list search.new.trail search.new.order) }
-    ensures watched { OnOk result (IsWatchedBelow search.new.clauses.list search.new.trail search.new.watches) }
+    ensures watched { OnOk result
+        (IsWatchedBelow search.new.clauses.list search.new.trail search.new.watches) }
     ensures found { IfOk result (λ found. MatchOption found
-        (IsModelTrail search.new.clauses.list search.new.trail) (IsConflict search.new.clauses.list search.new.trail)) }
+        (IsModelTrail search.new.clauses.list search.new.trail)
+        (IsConflict search.new.clauses.list search.new.trail)) }
 {
     let swept = swept_conflict(search, sweep, guide)?;
     if let Some(conflict) = swept {
@@ -166,7 +169,8 @@ pub fn take_turn(
     requires watching { IsWatching search.old.clauses.list search.old.trail search.old.watches }
     ensures ready { IfOk result (IsReady search.new) }
     ensures variables { OnOk result (search.new.trail.variables ≡ search.old.trail.variables) }
-    ensures shown { IfOk result (λ turn. (f : Formula) (merged : List LogItem) (k : ℕ) → IsSearch f merged k search.old
+    ensures shown { IfOk result
+        (λ turn. (f : Formula) (merged : List LogItem) (k : ℕ) → IsSearch f merged k search.old
         → IsTurn f merged k search.new turn) }
 {
     let inputs = pace.inputs_first();

@@ -99,7 +99,8 @@ fn search_from<P: Progress>(
 /// What the search has shown.
 fn answer(alloc: Global, search: Search, end: Turn) -> Result<Answer, AllocError>
     requires { search.trail.variables < 2 ^ 31 }
-    ensures { IfOk result (λ answer. (f : Formula) (merged : List LogItem) (limit : ℕ) → IsEnd f merged limit search end
+    ensures { IfOk result (λ answer. (f : Formula) (merged : List LogItem) (limit : ℕ)
+        → IsEnd f merged limit search end
         → IsAnswer f merged limit answer) }
 {
     match end {
@@ -128,8 +129,8 @@ pub fn solve_guided<P: Progress>(
     answer(alloc, search, end)
 }
 
-/// A model of the formula, a log that refutes it, or a log of as many conflicts as the limit allows. The logs begin with
-/// `merged`, which the caller derived.
+/// A model of the formula, a log that refutes it, or a log of as many conflicts as the limit allows. The logs
+/// begin with `merged`, which the caller derived.
 pub fn solve(alloc: Global, cnf: &Cnf, merged: &Log, limit: u64) -> Result<Answer, AllocError>
     requires limit { 1 ≤ limit }
     requires merged { IsDerivation cnf.now merged.now }

@@ -82,7 +82,11 @@ impl StepLog {
         requires { self.old.is_packed ≡ true }
         ensures { self.new ≡ record {
           items = self.old.items
-              ++ Add (record { id = id; literals = learned.old.clause.items; hints = reverse learned.old.hints.items }) ∷ [];
+              ++ Add (record {
+                id = id;
+                literals = learned.old.clause.items;
+                hints = reverse learned.old.hints.items;
+              }) ∷ [];
           is_packed = false;
         } }
     {

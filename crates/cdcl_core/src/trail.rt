@@ -4,7 +4,8 @@
 //! literals that are no longer true. A variable that has a value has its place in the trail. A level is its
 //! start, the place of its decision: no levels are stored, and the place of a literal says of which level it
 //! is. Source: the trail and the implication graph of GRASP, as MiniSat holds them.
-ghost use Rattle.std.specs.Prelude.{◌≡◌, ℕ, ◌+◌, ◌-◌, ◌<◌, ◌≤◌, ◌⊎◌, ◌↔◌, true, false, IsTrue, All, ◌^◌, neg_ℤ, take, slice_index_or, [], ◌∷◌, ◌++◌, IfOk, OnOk, OnErr, length};
+ghost use Rattle.std.specs.Prelude.{◌≡◌, ℕ, ◌+◌, ◌-◌, ◌<◌, ◌≤◌, ◌⊎◌, ◌↔◌, true, false, IsTrue, All, ◌^◌};
+ghost use Rattle.std.specs.Prelude.{neg_ℤ, take, slice_index_or, [], ◌∷◌, ◌++◌, IfOk, OnOk, OnErr, length};
 ghost use Rattle.proof_semantics.specs.Clauses.{IsLiteralOf};
 ghost use Rattle.cdcl_core.specs.Placed.{AreTold};
 ghost use Rattle.cdcl_core.specs.Explained.{Holds};
@@ -39,7 +40,8 @@ impl Model for Trail {
       starts = t.starts.items;
     } };
 
-    ghost invariant = { λ t. HasPlaces t.places.items t.told.items t.literals.items (length t.reasons.items) (vec_capacity t.literals) (vec_capacity t.reasons) };
+    ghost invariant = { λ t. HasPlaces t.places.items t.told.items t.literals.items (length t.reasons.items)
+        (vec_capacity t.literals) (vec_capacity t.reasons) };
 }
 
 /// Notes in the table that the literals of the entries from `start` on are true no more.
@@ -92,7 +94,8 @@ impl Trail {
     pub fn is_open(&self, literal: Literal) -> bool
         requires { IsLiteralOf self.now.variables literal }
         ensures open { result ≡ true → IsOpen (Holds self.now.literals) literal }
-        ensures closed { result ≡ false → Holds self.now.literals literal ⊎ Holds self.now.literals (neg_ℤ literal) }
+        ensures closed { result ≡ false
+            → Holds self.now.literals literal ⊎ Holds self.now.literals (neg_ℤ literal) }
     {
         !self.is_true(literal) && !self.is_false(literal)
     }
@@ -168,7 +171,8 @@ impl Trail {
         requires { AreLevels self.now.literals self.now.starts }
         ensures within { result ≤ length self.now.starts }
         ensures before { All (λ s. s ≤ place) (take result self.now.starts) }
-        ensures after { (k : ℕ) → result ≤ k → k < length self.now.starts → place < slice_index_or self.now.starts k 0 }
+        ensures after { (k : ℕ) → result ≤ k → k < length self.now.starts
+            → place < slice_index_or self.now.starts k 0 }
     {
         let mut level = 0;
         'up: while level < self.starts.len() && self.starts[level] <= place {

@@ -3,7 +3,8 @@
 //! The places that were marked are listed, so that clearing the marks and gathering a clause touch only these
 //! and not the whole trail. Each place is listed once, so there is room for all from the start, and marking
 //! takes no memory.
-ghost use Rattle.std.specs.Prelude.{◌≡◌, ℕ, ◌+◌, ◌<◌, ◌≤◌, [], true, false, length, slice_set, max, All, vec_len, vec_capacity, IfSome, IsNone, OnOk};
+ghost use Rattle.std.specs.Prelude.{◌≡◌, ℕ, ◌+◌, ◌<◌, ◌≤◌, [], true, false, length, slice_set, max, All};
+ghost use Rattle.std.specs.Prelude.{vec_len, vec_capacity, IfSome, IsNone, OnOk};
 ghost use Rattle.cdcl_core.specs.Analysis.{mark_at, IsClauseOf, IsHighest};
 ghost use Rattle.cdcl_core.specs.Touched.{AreTouched, AreListed};
 
@@ -30,7 +31,8 @@ impl Model for Marks {
 
     ghost view = { λ m. m.on.items };
 
-    ghost invariant = { λ m. AreListed m.on.items m.listed.items m.touched.items (vec_capacity m.touched) (vec_capacity m.sorted) };
+    ghost invariant = { λ m. AreListed m.on.items m.listed.items m.touched.items (vec_capacity m.touched)
+        (vec_capacity m.sorted) };
 }
 
 /// Sets the listed places, which are all that are set, to false.

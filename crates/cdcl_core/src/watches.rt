@@ -4,7 +4,8 @@
 //! The literals of a clause keep their places, since the log names them in order; so the two that are watched
 //! stand beside the clause. A watcher may be stale, where its clause watches the literal no more; a visit
 //! takes such a watcher out. Source: Chaff; the blockers are MiniSat's.
-ghost use Rattle.std.specs.Prelude.{◌≡◌, ℕ, ◌<◌, ◌^◌, [], ◌∷◌, ◌++◌, length, map, replicate, slice_index_or, slice_set, IfOk, OnOk, OnErr};
+ghost use Rattle.std.specs.Prelude.{◌≡◌, ℕ, ◌<◌, ◌^◌, [], ◌∷◌, ◌++◌, length, map, replicate, slice_index_or};
+ghost use Rattle.std.specs.Prelude.{slice_set, IfOk, OnOk, OnErr};
 ghost use Rattle.std.specs.List.{swap_remove};
 ghost use Rattle.cdcl_core.specs.Watched.{index_of};
 ghost use Rattle.cdcl_core.specs.Watches.{list_at, watch_at, pair_at, lists_with, watches_with, no_watches};
@@ -47,7 +48,11 @@ impl Model for Watches {
 
     ghost Value = { WatchesValue };
 
-    ghost view = { λ w. record { lists = map (λ v. v.items) w.lists.items; pairs = w.pairs.items; handled = w.handled } };
+    ghost view = { λ w. record {
+      lists = map (λ v. v.items) w.lists.items;
+      pairs = w.pairs.items;
+      handled = w.handled;
+    } };
 }
 
 /// `lists` empty lists.
@@ -76,7 +81,8 @@ fn push_reserved(lists: &mut Vec<Vec<Watch>>, at: usize, watch: Watch)
     requires within { at < length lists.old.items }
     requires room { HasRoomAt lists.old.items 1 at }
     ensures items { map (λ v. v.items) lists.new.items
-        ≡ slice_set (map (λ v. v.items) lists.old.items) at (slice_index_or (map (λ v. v.items) lists.old.items) at [] ++ watch ∷ []) }
+        ≡ slice_set (map (λ v. v.items) lists.old.items) at
+        (slice_index_or (map (λ v. v.items) lists.old.items) at [] ++ watch ∷ []) }
     ensures kept { (k : ℕ) → HasRoomAt lists.old.items 2 k → HasRoomAt lists.new.items 1 k }
 {
     lists[at].push_reserved(watch);
@@ -124,7 +130,8 @@ impl Watches {
     /// Adds a watcher.
     pub fn push(&mut self, literal: Literal, watch: Watch) -> Result<(), AllocError>
         requires { index_of literal < length self.old.lists }
-        ensures { OnOk result (self.new ≡ record self.old { lists = lists_with self.old.lists literal watch }) }
+        ensures { OnOk result (self.new
+            ≡ record self.old { lists = lists_with self.old.lists literal watch }) }
     {
         self.lists[literal.index()].push(watch)?;
         Ok(())
@@ -136,7 +143,8 @@ impl Watches {
         requires at { at < length (list_at self.old.lists literal) }
         ensures { self.new ≡ record self.old {
           lists = slice_set self.old.lists (index_of literal)
-              (swap_remove (list_at self.old.lists literal) at (watch_at (list_at self.old.lists literal) at));
+              (swap_remove (list_at self.old.lists literal) at
+              (watch_at (list_at self.old.lists literal) at));
         } }
     {
         self.lists[literal.index()].swap_remove(at);
@@ -147,7 +155,8 @@ impl Watches {
         requires literal { index_of literal < length self.old.lists }
         requires at { at < length (list_at self.old.lists literal) }
         ensures { self.new ≡ record self.old {
-          lists = slice_set self.old.lists (index_of literal) (slice_set (list_at self.old.lists literal) at watch);
+          lists = slice_set self.old.lists (index_of literal)
+              (slice_set (list_at self.old.lists literal) at watch);
         } }
     {
         self.lists[literal.index()][at] = watch;

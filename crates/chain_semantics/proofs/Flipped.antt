@@ -32,18 +32,21 @@ flipped-is n tables x t acyclic within =
       others = but.others;
     }
 
-pub flipped-only : (n : ℕ) (tables : List TableValue) (x : List Bool) (t : ℕ) → IsAcyclic n tables → t < length tables → (v : Assignment) → IsFlipped n tables x t v → (s : ℕ) → s < n + length tables → v s ≡ flipped_values n tables x t s
+pub flipped-only : (n : ℕ) (tables : List TableValue) (x : List Bool) (t : ℕ) → IsAcyclic n tables → t < length tables → (v : Assignment) → IsFlipped n tables x t v → (s : ℕ) → s < n + length tables
+    → v s ≡ flipped_values n tables x t s
 flipped-only n tables x t acyclic within v h =
     let b : Bool = not (value_of n tables x (n + t)) in
     replaced-only n tables t (constant_table [] b) x v (constant-acyclic n tables t b acyclic within)
     (record { input = h.input; others = h.others }) (h.itself ∙ sym (constant-value b v))
 
-pub flipped-apart : (n : ℕ) (tables : List TableValue) (x : List Bool) (t : ℕ) → IsAcyclic n tables → t < length tables → (s : ℕ) → s < n + length tables → ¬ DependsOn n tables t s → flipped_values n tables x t s ≡ value_of n tables x s
+pub flipped-apart : (n : ℕ) (tables : List TableValue) (x : List Bool) (t : ℕ) → IsAcyclic n tables → t < length tables → (s : ℕ) → s < n + length tables → ¬ DependsOn n tables t s
+    → flipped_values n tables x t s ≡ value_of n tables x s
 flipped-apart n tables x t acyclic within =
     let b : Bool = not (value_of n tables x (n + t)) in
     replaced-apart n tables t (constant_table [] b) x acyclic (constant-acyclic n tables t b acyclic within)
 
-pub flipped-opposite : (n : ℕ) (tables : List TableValue) (x : List Bool) (t : ℕ) (new : TableValue) → IsAcyclic n tables → IsAcyclic n (replaced tables t new) → t < length tables → table_value new (value_of n tables x) ≡ not (value_of n tables x (n + t)) → (s : ℕ) → s < n + length tables → value_of n (replaced tables t new) x s ≡ flipped_values n tables x t s
+pub flipped-opposite : (n : ℕ) (tables : List TableValue) (x : List Bool) (t : ℕ) (new : TableValue) → IsAcyclic n tables → IsAcyclic n (replaced tables t new) → t < length tables
+    → table_value new (value_of n tables x) ≡ not (value_of n tables x (n + t)) → (s : ℕ) → s < n + length tables → value_of n (replaced tables t new) x s ≡ flipped_values n tables x t s
 flipped-opposite n tables x t new acyclic acyclic' within e =
     let v : Assignment = value_of n (replaced tables t new) x in
     let but : IsConsistentBut n tables x t v = IsConsistentBut-replaced n tables x t new v (value_law n (replaced tables t new) x acyclic').consistent in

@@ -40,7 +40,8 @@ All-literal_pins P p (m ∷ marks) f =
     (λ literal. let place : p + 0 ≡ p = omega arith in All-cons P p (literal_pins (p + 1) marks) (subst P place (f 0 literal)) rest)
     (λ e. rest)
 
-pub All-literal_moves : (P : Move → Type 0) (t r : ℕ) (rows : List (List Mark)) → ((i k : ℕ) → i < length rows → is_literal (mark_at (row_at rows i) k) ≡ true → P (DropLiteral t (r + i) k)) → All P (literal_moves t r rows)
+pub All-literal_moves : (P : Move → Type 0) (t r : ℕ) (rows : List (List Mark)) → ((i k : ℕ) → i < length rows → is_literal (mark_at (row_at rows i) k) ≡ true → P (DropLiteral t (r + i) k))
+    → All P (literal_moves t r rows)
 All-literal_moves P t r [] f = All-nil P
 All-literal_moves P t r (marks ∷ rows) f =
     All-append P (map (DropLiteral t r) (literal_pins 0 marks)) (literal_moves t (r + 1) rows)
@@ -109,7 +110,8 @@ Contains-literal_pins p (m ∷ marks) (suc k) literal =
     cond_both (is_literal m) (p ∷ literal_pins (p + 1) marks) (literal_pins (p + 1) marks) (λ l. Contains l (p + suc k))
     (λ keeps. Contains-later p (literal_pins (p + 1) marks) (p + suc k) rest) (λ drops. rest)
 
-pub Contains-literal_moves : (t r : ℕ) (rows : List (List Mark)) (i k : ℕ) → i < length rows → is_literal (mark_at (row_at rows i) k) ≡ true → Contains (literal_moves t r rows) (DropLiteral t (r + i) k)
+pub Contains-literal_moves : (t r : ℕ) (rows : List (List Mark)) (i k : ℕ) → i < length rows → is_literal (mark_at (row_at rows i) k) ≡ true
+    → Contains (literal_moves t r rows) (DropLiteral t (r + i) k)
 Contains-literal_moves t r [] i k low literal = absurd (omega arith)
 Contains-literal_moves t r (marks ∷ rows) zero k low literal =
     let place : r ≡ r + 0 = omega arith in

@@ -7,10 +7,12 @@ use Rattle.semantics.specs.Net.{TableValue, NetValue, table_at, input_count, tab
 use Rattle.semantics.specs.Dependence.{DependsOn}
 use Rattle.chain_semantics.specs.declared.moves.Move.{Move}
 use Rattle.chain_semantics.specs.declared.moves.Move.TheVariants.{Const, DropRow, DropLiteral, Signal, Pair}
-use Rattle.chain_semantics.specs.Moves.{depends, constant_moves, row_moves, literal_moves, copies_of, independent_signals, signal_moves, old_moves_of_table, near_signals, pairs_of, flips_of, pair_moves, moves_of_table, moves_from, moves_of}
+use Rattle.chain_semantics.specs.Moves.{depends, constant_moves, row_moves, literal_moves, copies_of, independent_signals, signal_moves, old_moves_of_table, near_signals, pairs_of, flips_of}
+use Rattle.chain_semantics.specs.Moves.{pair_moves, moves_of_table, moves_from, moves_of}
 use Rattle.chain_semantics.specs.MoveLaws.{AreInOrder, IsMoveOf}
 use Rattle.chain_semantics.proofs.MoveDependence.{depends-path}
-use Rattle.chain_semantics.proofs.MoveLists.{All-when, All-range, All-filtered, All-flat_map, All-literal_moves, Contains-when, Contains-here, Contains-later, Contains-range, Contains-map, Contains-filter, Contains-flat_map, Contains-literal_moves}
+use Rattle.chain_semantics.proofs.MoveLists.{All-when, All-range, All-filtered, All-flat_map, All-literal_moves, Contains-when, Contains-here, Contains-later, Contains-range, Contains-map}
+use Rattle.chain_semantics.proofs.MoveLists.{Contains-filter, Contains-flat_map, Contains-literal_moves}
 use Rattle.chain_semantics.proofs.PairLists.{All-pairs, Contains-pairs, in_order-itself, All-flips, Contains-flips}
 
 module _ (N : NetValue) (acyclic : IsAcyclic (input_count N) N.tables) where
@@ -71,7 +73,8 @@ module _ (N : NetValue) (acyclic : IsAcyclic (input_count N) N.tables) where
       (λ e. let parts = and_parts three two e in pairs_are_moves t within (ltb-true 2 (table_literals table) parts.0) (ltb-true 1 (length table.pins) parts.1)))
 
   -- of tables that stand in the net from table t on
-  moves_from_are : (t : ℕ) (tables : List TableValue) → ((i : ℕ) → i < length tables → (t + i < table_count N) × (table_at tables i ≡ table_at N.tables (t + i))) → All (IsMoveOf N) (moves_from (moves_of_table N) t tables)
+  moves_from_are : (t : ℕ) (tables : List TableValue) → ((i : ℕ) → i < length tables → (t + i < table_count N) × (table_at tables i ≡ table_at N.tables (t + i)))
+      → All (IsMoveOf N) (moves_from (moves_of_table N) t tables)
   moves_from_are t [] h = All-nil (IsMoveOf N)
   moves_from_are t (table ∷ tables) h =
       let here = h 0 (omega arith) in
@@ -181,7 +184,8 @@ module _ (N : NetValue) (acyclic : IsAcyclic (input_count N) N.tables) where
             (Contains-pairs near s u h.3.first h.3.second h.3.order h.3.within h.3.is_first h.3.is_second) (Contains-flips t s u flip_s flip_u flip))),
       )
 
-  in_tables : (t : ℕ) (tables : List TableValue) (i : ℕ) (m : Move) → i < length tables → Contains (moves_of_table N (t + i) (table_at tables i)) m → Contains (moves_from (moves_of_table N) t tables) m
+  in_tables : (t : ℕ) (tables : List TableValue) (i : ℕ) (m : Move) → i < length tables → Contains (moves_of_table N (t + i) (table_at tables i)) m
+      → Contains (moves_from (moves_of_table N) t tables) m
   in_tables t [] i m low c = absurd (omega arith)
   in_tables t (table ∷ tables) zero m low c =
       let place : t + 0 ≡ t = omega arith in

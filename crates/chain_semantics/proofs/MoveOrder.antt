@@ -9,7 +9,8 @@ use Rattle.semantics.specs.declared.mark.Mark.{Mark}
 use Rattle.semantics.specs.Net.{TableValue, NetValue, table_at, input_count, signal_count, is_literal, table_literals, IsAcyclic}
 use Rattle.chain_semantics.specs.declared.moves.Move.{Move}
 use Rattle.chain_semantics.specs.declared.moves.Move.TheVariants.{Const, DropRow, DropLiteral, Signal, Pair}
-use Rattle.chain_semantics.specs.Moves.{depends, constant_moves, row_moves, literal_pins, literal_moves, copies_of, independent_signals, signal_moves, old_moves_of_table, near_signals, pairs_of, plain_and_flipped, flips_of, pair_moves, moves_of_table, moves_from, moves_of, table_of}
+use Rattle.chain_semantics.specs.Moves.{depends, constant_moves, row_moves, literal_pins, literal_moves, copies_of, independent_signals, signal_moves, old_moves_of_table, near_signals, pairs_of}
+use Rattle.chain_semantics.specs.Moves.{plain_and_flipped, flips_of, pair_moves, moves_of_table, moves_from, moves_of, table_of}
 use Rattle.semantics.specs.Error.{bit_number}
 use Rattle.chain_semantics.specs.TidyRules.{first_place_of}
 use Rattle.chain_semantics.specs.MoveLaws.{IsMoveOf}

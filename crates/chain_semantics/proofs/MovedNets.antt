@@ -9,7 +9,8 @@ use Rattle.std.proofs.lemmas.List.Elements.{All-nil, All-cons, All-append, All-t
 use Rattle.semantics.specs.declared.mark.Mark.{Mark}
 use Rattle.semantics.specs.declared.mark.Mark.TheVariants.{Dash}
 use Rattle.semantics.specs.Texts.{Bytes}
-use Rattle.semantics.specs.Net.{TableValue, NetValue, no_table, table_at, name_of, input_count, table_count, signal_count, signal_names, is_literal, row_literals, table_literals, constant_table, IsTable, IsAcyclic, IsSound, IsSmall}
+use Rattle.semantics.specs.Net.{TableValue, NetValue, no_table, table_at, name_of, input_count, table_count, signal_count, signal_names, is_literal, row_literals, table_literals, constant_table}
+use Rattle.semantics.specs.Net.{IsTable, IsAcyclic, IsSound, IsSmall}
 use Rattle.semantics.proofs.Depends.{each_member}
 use Rattle.semantics.proofs.Grounding.{replaced-acyclic, narrower-acyclic}
 use Rattle.semantics.proofs.Replaced.{signal_names-with_table}
@@ -265,7 +266,8 @@ literal_drop-row marks pin literal =
     let one : weight (mark_at marks pin) ≡ 1 = ap (λ (b : Bool). cond b 1 0) literal in
     omega (arith, sum_by-set weight marks pin Dash Dash (literal_within marks pin literal), one)
 
-table-lowered : (N : NetValue) (m : Move) → IsSound N → IsMoveOf N m → HasFullRows (table_at N.tables (table_of m)) → table_literals (moved_table (table_at N.tables (table_of m)) m) < table_literals (table_at N.tables (table_of m))
+table-lowered : (N : NetValue) (m : Move) → IsSound N → IsMoveOf N m → HasFullRows (table_at N.tables (table_of m))
+    → table_literals (moved_table (table_at N.tables (table_of m)) m) < table_literals (table_at N.tables (table_of m))
 table-lowered N (Const t value) sound is lean = omega (arith, constant-literals (table_at N.tables t).name value, is.1)
 table-lowered N (DropRow t row) sound is lean =
     let old : TableValue = table_at N.tables t in

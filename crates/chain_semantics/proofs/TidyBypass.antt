@@ -9,7 +9,8 @@ use Rattle.std.proofs.lemmas.List.Elements.{All-map, All-weaker, Contains-get_or
 use Rattle.std.proofs.lemmas.List.Sums.{sum_by-cons}
 use Rattle.semantics.specs.declared.mark.Mark.{Mark}
 use Rattle.semantics.specs.declared.mark.Mark.TheVariants.{Zero, One, Dash}
-use Rattle.semantics.specs.Net.{TableValue, NetValue, no_table, table_at, input_count, table_count, signal_count, signal_names, name_of, is_literal, row_literals, table_literals, IsTable, IsSound, IsAcyclic}
+use Rattle.semantics.specs.Net.{TableValue, NetValue, no_table, table_at, input_count, table_count, signal_count, signal_names, name_of, is_literal, row_literals, table_literals, IsTable, IsSound}
+use Rattle.semantics.specs.Net.{IsAcyclic}
 use Rattle.semantics.specs.Value.{Assignment, mark_matches, row_matches, table_value, IsConsistent, value_of, outputs_of}
 use Rattle.semantics.proofs.Values.{table_value-same, value_law}
 use Rattle.semantics.specs.Dependence.DependsOn.{itself}
@@ -17,7 +18,8 @@ use Rattle.semantics.specs.Renamed.{renamed, redirect}
 use Rattle.semantics.proofs.Depends.{each_member, no_cycle, pin_is_signal}
 use Rattle.semantics.proofs.Embedded.{table_value-renamed}
 use Rattle.semantics.proofs.Renamed.{redirected-acyclic}
-use Rattle.chain_semantics.specs.TidyRules.{is_empty, mark_at, pin_at, is_canonical, is_canonical_rows, is_one_literal, has_one_literal, is_inverter, is_output, is_read, is_bypassed, with_marks_turned, reading_past, with_bypass}
+use Rattle.chain_semantics.specs.TidyRules.{is_empty, mark_at, pin_at, is_canonical, is_canonical_rows, is_one_literal, has_one_literal, is_inverter, is_output, is_read, is_bypassed}
+use Rattle.chain_semantics.specs.TidyRules.{with_marks_turned, reading_past, with_bypass}
 use Rattle.chain_semantics.proofs.TidyMeasure.{table_cost, unless, count_below}
 use Rattle.chain_semantics.specs.TidyLevels.{greatest, level_of, triple_of, IsBelow}
 use Rattle.chain_semantics.proofs.TidyLevelling.{levels, levels-fall, greatest-map-le, tables-lt}
@@ -98,7 +100,13 @@ past-formed s to false t h = record {
 turned-literals : (s : ℕ) (pins : List ℕ) (rows : List (List Mark)) → sum_by row_literals (map (with_marks_turned s pins) rows) ≤ sum_by row_literals rows
 turned-literals s pins [] = omega arith
 turned-literals s pins (marks ∷ rows) =
-    omega (arith, sum_by-cons row_literals marks rows, sum_by-cons row_literals (with_marks_turned s pins marks) (map (with_marks_turned s pins) rows), literals-turned s pins marks, turned-literals s pins rows)
+    omega (
+      arith,
+      sum_by-cons row_literals marks rows,
+      sum_by-cons row_literals (with_marks_turned s pins marks) (map (with_marks_turned s pins) rows),
+      literals-turned s pins marks,
+      turned-literals s pins rows,
+    )
 
 past-literals : (s to : ℕ) (inverted : Bool) (t : TableValue) → table_literals (reading_past s to inverted t) ≤ table_literals t
 past-literals s to true t = turned-literals s t.pins t.rows
@@ -147,7 +155,8 @@ module _ (N : NetValue) (i : ℕ) (sound : IsSound N) (within : i < table_count 
   same_names : signal_names (with_bypass N i) ≡ signal_names N
   same_names = ap (λ names. N.inputs ++ names) (map-map (λ t. t.name) (reading_past (input_count N + i) (pin_at (table_at N.tables i) 0) (is_inverter (table_at N.tables i))) N.tables)
 
-  at-past : (j : ℕ) → j < table_count N → table_at (with_bypass N i).tables j ≡ reading_past (input_count N + i) (pin_at (table_at N.tables i) 0) (is_inverter (table_at N.tables i)) (table_at N.tables j)
+  at-past : (j : ℕ) → j < table_count N → table_at (with_bypass N i).tables j
+      ≡ reading_past (input_count N + i) (pin_at (table_at N.tables i) 0) (is_inverter (table_at N.tables i)) (table_at N.tables j)
   at-past j h = get_or-map (reading_past (input_count N + i) (pin_at (table_at N.tables i) 0) (is_inverter (table_at N.tables i))) N.tables j no_table no_table h
 
   acyclic' : IsAcyclic (input_count N) (with_bypass N i).tables
@@ -239,7 +248,8 @@ module _ (N : NetValue) (i : ℕ) (sound : IsSound N) (within : i < table_count 
       let level : (ℕ → ℕ) = level_of (input_count N) N.tables in
       elim (cases_eq s (input_count N + i)) [
         | inl same ↦
-            let new : level (redirect (input_count N + i) (pin_at (table_at N.tables i) 0) s) ≡ level (pin_at (table_at N.tables i) 0) = ap level (redirect-same (input_count N + i) (pin_at (table_at N.tables i) 0) s same) in
+            let new : level (redirect (input_count N + i) (pin_at (table_at N.tables i) 0) s) ≡ level (pin_at (table_at N.tables i) 0)
+            = ap level (redirect-same (input_count N + i) (pin_at (table_at N.tables i) 0) s same) in
             let old : level s ≡ level (input_count N + i) = ap level same in
             omega (arith, pin_lower)
         | inr ne ↦
@@ -250,7 +260,11 @@ module _ (N : NetValue) (i : ℕ) (sound : IsSound N) (within : i < table_count 
   redirect_within : (s : ℕ) → s < signal_count N → redirect (input_count N + i) (pin_at (table_at N.tables i) 0) s < signal_count N
   redirect_within s h =
       elim (cases_eq s (input_count N + i)) [
-        | inl same ↦ omega (arith, redirect-same (input_count N + i) (pin_at (table_at N.tables i) 0) s same, pin_is_signal (input_count N) N.tables i (pin_at (table_at N.tables i) 0) sound.acyclic within own)
+        | inl same ↦ omega (
+          arith,
+          redirect-same (input_count N + i) (pin_at (table_at N.tables i) 0) s same,
+          pin_is_signal (input_count N) N.tables i (pin_at (table_at N.tables i) 0) sound.acyclic within own,
+        )
         | inr ne ↦ omega (arith, redirect-other (input_count N + i) (pin_at (table_at N.tables i) 0) s ne)
       ]
 
@@ -271,7 +285,8 @@ module _ (N : NetValue) (i : ℕ) (sound : IsSound N) (within : i < table_count 
       let f : (ℕ → ℕ) = redirect (input_count N + i) (pin_at (table_at N.tables i) 0) in
       below-levels (triple_of (with_bypass N i)) (triple_of N) (omega (arith, bypass-grows.tables, bypass-grows.pins))
       (tables-lt old_level new_level f (reading_past (input_count N + i) (pin_at (table_at N.tables i) 0) (is_inverter (table_at N.tables i))) (λ t. refl) (input_count N + i)
-      (let at : new_level (f (input_count N + i)) ≡ new_level (pin_at (table_at N.tables i) 0) = ap new_level (redirect-same (input_count N + i) (pin_at (table_at N.tables i) 0) (input_count N + i) refl) in
+      (let at : new_level (f (input_count N + i)) ≡ new_level (pin_at (table_at N.tables i) 0)
+      = ap new_level (redirect-same (input_count N + i) (pin_at (table_at N.tables i) 0) (input_count N + i) refl) in
       omega (arith, pin_lower, levels_fall (pin_at (table_at N.tables i) 0) (pin_is_signal (input_count N) N.tables i (pin_at (table_at N.tables i) 0) sound.acyclic within own)))
       N.tables
       (all-pins (λ s. new_level (f s) ≤ old_level s) (input_count N) N.tables sound.acyclic

@@ -11,17 +11,20 @@ use Rattle.semantics.specs.declared.mark.Mark.TheVariants.{Dash}
 use Rattle.semantics.specs.Texts.{Bytes}
 use Rattle.semantics.specs.Net.{TableValue, NetValue, no_table, table_at, input_count, table_count, is_literal, row_literals, constant_table, IsSound}
 use Rattle.semantics.specs.Replaced.{with_table}
-use Rattle.chain_semantics.specs.TidyRules.{is_empty, has, first_from, pin_at, mark_at, is_dash, first_place_of, is_constant_signal, constant_value, with_pin_fixed, without_pin, with_pins_joined, is_canonical, is_constant, made_canonical, is_output, is_read, has_one_literal, is_bypassed, with_bypass, is_unread, without_table}
+use Rattle.chain_semantics.specs.TidyRules.{is_empty, has, first_from, pin_at, mark_at, is_dash, first_place_of, is_constant_signal, constant_value, with_pin_fixed, without_pin, with_pins_joined}
+use Rattle.chain_semantics.specs.TidyRules.{is_canonical, is_constant, made_canonical, is_output, is_read, has_one_literal, is_bypassed, with_bypass, is_unread, without_table}
 use Rattle.chain_semantics.specs.Tidy.{some_if, first_some, by_constant_pin, by_dashed_pin, by_repeated_pin, by_constant, by_bypass, by_removal, step_at, tidy_step, IsTidy}
 use Rattle.chain_semantics.specs.TidyLaws.{HasLiterals}
-use Rattle.chain_semantics.specs.TidyChoices.{Rule, IsConstantSignal, IsCanonical, HasOneLiteral, IsOutput, IsRead, Applies, rule_number, pin_of, joined_pin_of, IsLesser, made, IsChosenStep, HasNothingToTidy}
+use Rattle.chain_semantics.specs.TidyChoices.{Rule, IsConstantSignal, IsCanonical, HasOneLiteral, IsOutput, IsRead, Applies, rule_number, pin_of, joined_pin_of, IsLesser, made, IsChosenStep}
+use Rattle.chain_semantics.specs.TidyChoices.{HasNothingToTidy}
 use Rattle.chain_semantics.specs.TidyChoices.Rule.{fix_pin, drop_pin, join_pins, make_constant, read_past, remove_table}
 use Rattle.chain_semantics.proofs.TidyRows.{first_place}
 use Rattle.chain_semantics.proofs.TidyTriples.{no_elements, no_length}
 use Rattle.chain_semantics.proofs.TidyReading.{has-Contains, has_not, read-by, by-read}
 use Rattle.chain_semantics.proofs.TidySteps.{first_from-found}
 use Rattle.chain_semantics.proofs.TidyNets.{none_passes, first-step, none-at, none-anywhere, step-first, tidy-literals}
-use Rattle.chain_semantics.proofs.TidyConditions.{some_elements, constant_signal-is, is-constant_signal, dashes-are, are-dashes, stands_before, place_is_first, canonical-is, is-canonical, one_value-is, is-one_value, one_literal-is, is-one_literal}
+use Rattle.chain_semantics.proofs.TidyConditions.{some_elements, constant_signal-is, is-constant_signal, dashes-are, are-dashes, stands_before, place_is_first, canonical-is, is-canonical}
+use Rattle.chain_semantics.proofs.TidyConditions.{one_value-is, is-one_value, one_literal-is, is-one_literal}
 
 -- ---- the order of the rules
 
@@ -286,7 +289,8 @@ module _ (N : NetValue) (i : ℕ) where
   first_tried k [] tried none = inl (refl, λ r low. none r (omega (arith, low)))
   first_tried k (o ∷ os) tried none = at_tried tried.0 (first_tried (suc k) os tried.1)
     where
-      at_tried : Tried k o → (NoneBelow (suc k) → ((first_some os ≡ None) × NoneBelow (suc k + length os)) ⊎ Least (first_some os)) → ((first_some (o ∷ os) ≡ None) × NoneBelow (k + suc (length os))) ⊎ Least (first_some (o ∷ os))
+      at_tried : Tried k o → (NoneBelow (suc k) → ((first_some os ≡ None) × NoneBelow (suc k + length os)) ⊎ Least (first_some os))
+          → ((first_some (o ∷ os) ≡ None) × NoneBelow (k + suc (length os))) ⊎ Least (first_some (o ∷ os))
       at_tried (inl (is_none, none_here)) rest =
           let skip : first_some (o ∷ os) ≡ first_some os = ap (λ u. first_some (u ∷ os)) is_none in
           let none_more : NoneBelow (suc k) = λ r low. elim (cases_lt (rule_number r) k) [ inl below ↦ none r below | inr at ↦ none_here r (omega (arith, low, at)) ] in

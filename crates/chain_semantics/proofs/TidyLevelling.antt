@@ -106,6 +106,18 @@ tables-lt la lb f g same gone less [] h e = absurd (false≢true e)
 tables-lt la lb f g same gone less (t ∷ tables) h e =
     let here : sum_by lb (g t).pins ≡ sum_by lb (map f t.pins) = ap (sum_by lb) (same t) in
     elim (or_cases (has t.pins gone) (is_read tables gone) e) [
-      | inl first ↦ omega (arith, sum_by-cons (λ u. sum_by la u.pins) t tables, sum_by-cons (λ u. sum_by lb u.pins) (g t) (map g tables), pins-lt la lb f gone less t.pins h.0 first, tables-le la lb f g same tables h.1)
-      | inr later ↦ omega (arith, sum_by-cons (λ u. sum_by la u.pins) t tables, sum_by-cons (λ u. sum_by lb u.pins) (g t) (map g tables), pins-le la lb f t.pins h.0, tables-lt la lb f g same gone less tables h.1 later)
+      | inl first ↦ omega (
+        arith,
+        sum_by-cons (λ u. sum_by la u.pins) t tables,
+        sum_by-cons (λ u. sum_by lb u.pins) (g t) (map g tables),
+        pins-lt la lb f gone less t.pins h.0 first,
+        tables-le la lb f g same tables h.1,
+      )
+      | inr later ↦ omega (
+        arith,
+        sum_by-cons (λ u. sum_by la u.pins) t tables,
+        sum_by-cons (λ u. sum_by lb u.pins) (g t) (map g tables),
+        pins-le la lb f t.pins h.0,
+        tables-lt la lb f g same gone less tables h.1 later,
+      )
     ]

@@ -24,10 +24,12 @@ map-remove f xs i = let first = take-map f i xs in let rest = drop-map f (suc i)
 pub acyclic-pins : (n : ℕ) (tables : List TableValue) → IsAcyclic n tables → All (λ t. All (λ s. s < n + length tables) t.pins) tables
 acyclic-pins n tables acyclic =
     All-from_get_or (λ t. All (λ s. s < n + length tables) t.pins) tables no_table
-    (λ i within. All-from_recursion (λ s. s < n + length tables) (table_at tables i).pins (each_member (λ s. s < n + length tables) (table_at tables i).pins (λ p c. pin_is_signal n tables i p acyclic within c)))
+    (λ i within. All-from_recursion (λ s. s < n + length tables) (table_at tables i).pins
+    (each_member (λ s. s < n + length tables) (table_at tables i).pins (λ p c. pin_is_signal n tables i p acyclic within c)))
 
 -- only the pins ground a table
-pub grounded_by_pins : (n : ℕ) (a b : List TableValue) → length b ≡ length a → ((i : ℕ) → i < length a → (table_at b i).pins ≡ (table_at a i).pins) → (k s : ℕ) → IsGroundedIn n a k s → IsGroundedIn n b k s
+pub grounded_by_pins : (n : ℕ) (a b : List TableValue) → length b ≡ length a → ((i : ℕ) → i < length a → (table_at b i).pins ≡ (table_at a i).pins) → (k s : ℕ) → IsGroundedIn n a k s
+    → IsGroundedIn n b k s
 grounded_by_pins n a b count pins zero s h = h
 grounded_by_pins n a b count pins (suc k) s (inl h) = inl h
 grounded_by_pins n a b count pins (suc k) s (inr h) =

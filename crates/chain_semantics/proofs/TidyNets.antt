@@ -114,7 +114,8 @@ some_if_none : {X : Type 0} (b : Bool) (x : X) → some_if b x ≡ None → b �
 some_if_none true x e = cc
 some_if_none false x e = refl
 
-none_passes_at : (test : ℕ → Bool) (start count : ℕ) (b : Bool) → test start ≡ b → cond b (Some start) (first_from test (start + 1) count) ≡ None → (b ≡ false) × (first_from test (start + 1) count ≡ None)
+none_passes_at : (test : ℕ → Bool) (start count : ℕ) (b : Bool) → test start ≡ b → cond b (Some start) (first_from test (start + 1) count) ≡ None
+    → (b ≡ false) × (first_from test (start + 1) count ≡ None)
 none_passes_at test start count true e h = cc
 none_passes_at test start count false e h = (refl, h)
 
@@ -163,7 +164,8 @@ tidy_at N i e =
           inr (record {
             rows = All-from_recursion (λ marks. 0 < row_literals marks) (table_at N.tables i).rows (all_literals (table_at N.tables i).rows parts.1);
             pins = λ q h.
-                let test = none_passes (λ p. not (is_empty (table_at N.tables i).rows) && list_all (λ marks. is_dash (mark_at marks p)) (table_at N.tables i).rows) 0 (length (table_at N.tables i).pins) no_column q (omega arith) (omega arith) in
+                let test = none_passes (λ p. not (is_empty (table_at N.tables i).rows) && list_all (λ marks. is_dash (mark_at marks p)) (table_at N.tables i).rows) 0
+                (length (table_at N.tables i).pins) no_column q (omega arith) (omega arith) in
                 let column : list_all (λ marks. is_dash (mark_at marks q)) (table_at N.tables i).rows ≡ false =
                 ap (λ b. not b && list_all (λ marks. is_dash (mark_at marks q)) (table_at N.tables i).rows) (sym parts.0) ∙ test in
                 Any-from_list_any (λ marks. is_literal (mark_at marks q)) (table_at N.tables i).rows (some_literal q (table_at N.tables i).rows column);

@@ -104,7 +104,8 @@ module _ (N : NetValue) (i : ℕ) (new : TableValue) (sound : IsSound N) (within
       let empty : length new.pins ≡ 0 = ap length none in
       none ∙ sym (no_length (table_at N.tables i).pins (omega arith))
 
-  levels_same : new.pins ≡ (table_at N.tables i).pins → pin_levels (level_of (input_count N) (replaced N.tables i new)) (replaced N.tables i new) ≤ pin_levels (level_of (input_count N) N.tables) N.tables
+  levels_same : new.pins ≡ (table_at N.tables i).pins
+      → pin_levels (level_of (input_count N) (replaced N.tables i new)) (replaced N.tables i new) ≤ pin_levels (level_of (input_count N) N.tables) N.tables
   levels_same same =
       let old_level : (ℕ → ℕ) = level_of (input_count N) N.tables in
       let new_level : (ℕ → ℕ) = level_of (input_count N) (replaced N.tables i new) in
@@ -116,10 +117,12 @@ module _ (N : NetValue) (i : ℕ) (new : TableValue) (sound : IsSound N) (within
             let e = ap (greatest (level_of (input_count N) N.tables)) pins in omega (arith, e)
         | inr ne ↦ let e = ap (λ t. greatest (level_of (input_count N) N.tables) t.pins) (table_at-other N.tables i j new ne) in omega (arith, e)
       ] in
-      let fall = levels-fall (input_count N) N.tables (replaced N.tables i new) old_level new_level (levels (input_count N) N.tables sound.acyclic) (levels (input_count N) (replaced N.tables i new) acyclic') (length-set N.tables i new) pins_at acyclic' in
+      let fall = levels-fall (input_count N) N.tables (replaced N.tables i new) old_level new_level (levels (input_count N) N.tables sound.acyclic)
+      (levels (input_count N) (replaced N.tables i new) acyclic') (length-set N.tables i new) pins_at acyclic' in
       let sum = tables-le old_level new_level (λ s. s) (λ t. t) (λ t. sym (map-id t.pins)) N.tables
       (all-pins (λ s. new_level s ≤ old_level s) (input_count N) N.tables sound.acyclic (λ s h. fall s (omega (arith, same_count)))) in
-      let stays : pin_levels new_level (replaced N.tables i new) ≡ pin_levels new_level N.tables = levels-by_pins new_level (replaced N.tables i new) N.tables (map-set_same (λ t. t.pins) N.tables i new no_table same) in
+      let stays : pin_levels new_level (replaced N.tables i new) ≡ pin_levels new_level N.tables
+      = levels-by_pins new_level (replaced N.tables i new) N.tables (map-set_same (λ t. t.pins) N.tables i new no_table same) in
       let id : pin_levels new_level (map (λ t. t) N.tables) ≡ pin_levels new_level N.tables = ap (pin_levels new_level) (map-id N.tables) in
       omega (arith, sum)
 
@@ -133,10 +136,16 @@ module _ (N : NetValue) (i : ℕ) (new : TableValue) (sound : IsSound N) (within
             below-bare (triple_of (with_table N i new)) (triple_of N)
             (omega (arith, length-set N.tables i new, sum_by-set (λ t. length t.pins) N.tables i new no_table within, narrower.pins))
             (levels_same same)
-            (omega (arith, sum_by-set (λ t. one_if (is_bare t)) N.tables i new no_table within, bare-canonical new cost.0, bare-other (table_at N.tables i) (sym same ∙ canonical-pins new cost.0) cost.1))
+            (omega (
+              arith,
+              sum_by-set (λ t. one_if (is_bare t)) N.tables i new no_table within,
+              bare-canonical new cost.0,
+              bare-other (table_at N.tables i) (sym same ∙ canonical-pins new cost.0) cost.1,
+            ))
       ]
 
-  pub replaced-good : ((x : List Bool) → table_value new (value_of (input_count N) N.tables x) ≡ table_value (table_at N.tables i) (value_of (input_count N) N.tables x)) → IsGoodStep N (with_table N i new)
+  pub replaced-good : ((x : List Bool) → table_value new (value_of (input_count N) N.tables x) ≡ table_value (table_at N.tables i) (value_of (input_count N) N.tables x))
+      → IsGoodStep N (with_table N i new)
   unfolding outputs_of
   replaced-good same = record {
     keeps = record {

@@ -154,7 +154,8 @@ turned_matches s to p m v e true same =
 turned_matches s to p m v e false other = refl
 
 -- a row that reads past an inverter matches as before
-pub turned-matches : (s to : ℕ) (pins : List ℕ) (marks : List Mark) (v : Assignment) → v s ≡ not (v to) → row_matches (with_marks_turned s pins marks) (map (redirect s to) pins) v ≡ row_matches marks pins v
+pub turned-matches : (s to : ℕ) (pins : List ℕ) (marks : List Mark) (v : Assignment) → v s ≡ not (v to)
+    → row_matches (with_marks_turned s pins marks) (map (redirect s to) pins) v ≡ row_matches marks pins v
 turned-matches s to [] [] v e = refl
 turned-matches s to [] (m ∷ marks) v e = refl
 turned-matches s to (p ∷ pins) [] v e = refl

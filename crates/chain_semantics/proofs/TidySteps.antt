@@ -9,7 +9,8 @@ use Rattle.semantics.specs.Net.{TableValue, NetValue, no_table, table_at, input_
 use Rattle.semantics.specs.Value.{Assignment, value_of}
 use Rattle.semantics.proofs.Values.{table_value-same, value_law}
 use Rattle.semantics.proofs.Depends.{pin_is_signal}
-use Rattle.chain_semantics.specs.TidyRules.{is_empty, has, first_from, pin_at, mark_at, is_dash, is_constant_signal, constant_pin, constant_value, with_pin_fixed, dashed_pin, without_pin, repeated_pin, first_place_of, with_pins_joined, is_constant, made_canonical, is_bypassed, with_bypass, is_unread, without_table}
+use Rattle.chain_semantics.specs.TidyRules.{is_empty, has, first_from, pin_at, mark_at, is_dash, is_constant_signal, constant_pin, constant_value, with_pin_fixed, dashed_pin, without_pin}
+use Rattle.chain_semantics.specs.TidyRules.{repeated_pin, first_place_of, with_pins_joined, is_constant, made_canonical, is_bypassed, with_bypass, is_unread, without_table}
 use Rattle.semantics.specs.Replaced.{with_table}
 use Rattle.chain_semantics.specs.Tidy.{some_if, first_some, by_constant_pin, by_dashed_pin, by_repeated_pin, by_constant, by_bypass, by_removal, step_at, step_from, tidy_step}
 use Rattle.chain_semantics.proofs.TidyRows.{first_place}
@@ -61,7 +62,8 @@ module _ (N : NetValue) (i : ℕ) (sound : IsSound N) (within : i < table_count 
   formed : IsTable (table_at N.tables i)
   formed = All-get_or IsTable N.tables i no_table within sound.tables_formed
 
-  constant_signal : (s : ℕ) → s < input_count N + table_count N → is_constant_signal (input_count N) N.tables s ≡ true → (x : List Bool) → value_of (input_count N) N.tables x s ≡ constant_value (input_count N) N.tables s
+  constant_signal : (s : ℕ) → s < input_count N + table_count N → is_constant_signal (input_count N) N.tables s ≡ true → (x : List Bool)
+      → value_of (input_count N) N.tables x s ≡ constant_value (input_count N) N.tables s
   constant_signal s below e x =
       let both = and_parts (nat_le (input_count N) s) (is_empty (table_at N.tables (s - input_count N)).pins) e in
       let past : input_count N ≤ s = leb-true (input_count N) s both.0 in
@@ -74,8 +76,10 @@ module _ (N : NetValue) (i : ℕ) (sound : IsSound N) (within : i < table_count 
   constant_pin_good : (new : TableValue) → by_constant_pin (input_count N) N.tables (table_at N.tables i) ≡ Some new → IsGoodStep N (with_table N i new)
   constant_pin_good new e =
       let t : TableValue = table_at N.tables i in
-      let made : IsMadeOf (λ q. with_pin_fixed q (constant_value (input_count N) N.tables (pin_at (table_at N.tables i) q)) (table_at N.tables i)) (constant_pin (input_count N) N.tables (table_at N.tables i)) new =
-      made-of (λ q. with_pin_fixed q (constant_value (input_count N) N.tables (pin_at (table_at N.tables i) q)) (table_at N.tables i)) (constant_pin (input_count N) N.tables (table_at N.tables i)) new e in
+      let made : IsMadeOf (λ q. with_pin_fixed q (constant_value (input_count N) N.tables (pin_at (table_at N.tables i) q)) (table_at N.tables i))
+      (constant_pin (input_count N) N.tables (table_at N.tables i)) new =
+      made-of (λ q. with_pin_fixed q (constant_value (input_count N) N.tables (pin_at (table_at N.tables i) q)) (table_at N.tables i)) (constant_pin (input_count N) N.tables (table_at N.tables i))
+      new e in
       let q : ℕ = made.of in
       let found = first_from-found (λ p. is_constant_signal (input_count N) N.tables (pin_at (table_at N.tables i) p)) 0 (length t.pins) made.of made.is in
       let inside : made.of < length (table_at N.tables i).pins = omega (arith, found.0) in
@@ -89,8 +93,10 @@ module _ (N : NetValue) (i : ℕ) (sound : IsSound N) (within : i < table_count 
 
   dashed_pin_good : (new : TableValue) → by_dashed_pin (table_at N.tables i) ≡ Some new → IsGoodStep N (with_table N i new)
   dashed_pin_good new e =
-      let made : IsMadeOf (λ q. without_pin q (table_at N.tables i)) (dashed_pin (table_at N.tables i)) new = made-of (λ q. without_pin q (table_at N.tables i)) (dashed_pin (table_at N.tables i)) new e in
-      let found = first_from-found (λ q. not (is_empty (table_at N.tables i).rows) && list_all (λ marks. is_dash (mark_at marks q)) (table_at N.tables i).rows) 0 (length (table_at N.tables i).pins) made.of made.is in
+      let made : IsMadeOf (λ q. without_pin q (table_at N.tables i)) (dashed_pin (table_at N.tables i)) new
+      = made-of (λ q. without_pin q (table_at N.tables i)) (dashed_pin (table_at N.tables i)) new e in
+      let found = first_from-found (λ q. not (is_empty (table_at N.tables i).rows) && list_all (λ marks. is_dash (mark_at marks q)) (table_at N.tables i).rows) 0 (length (table_at N.tables i).pins)
+      made.of made.is in
       let inside : made.of < length (table_at N.tables i).pins = omega (arith, found.0) in
       let dashes = (and_parts (not (is_empty (table_at N.tables i).rows)) (list_all (λ marks. is_dash (mark_at marks made.of)) (table_at N.tables i).rows) found.1).1 in
       subst (λ u. IsGoodStep N (with_table N i u)) made.gives

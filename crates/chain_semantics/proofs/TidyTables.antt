@@ -14,7 +14,8 @@ use Rattle.semantics.specs.Net.{TableValue, IsTable, IsName, row_literals, table
 use Rattle.semantics.specs.Value.{Assignment, mark_matches, row_matches, table_value}
 use Rattle.semantics.specs.Net.{constant_table}
 use Rattle.semantics.proofs.Depends.{each_member}
-use Rattle.chain_semantics.specs.TidyRules.{is_empty, mark_at, pin_at, is_dash, clash, joined, with_marks_joined, without_pin, settled, settled_rows, with_pin_fixed, with_pins_joined, is_canonical, is_canonical_rows, is_constant, made_canonical}
+use Rattle.chain_semantics.specs.TidyRules.{is_empty, mark_at, pin_at, is_dash, clash, joined, with_marks_joined, without_pin, settled, settled_rows, with_pin_fixed, with_pins_joined, is_canonical}
+use Rattle.chain_semantics.specs.TidyRules.{is_canonical_rows, is_constant, made_canonical}
 use Rattle.chain_semantics.proofs.TidyMeasure.{unless, table_cost}
 use Rattle.chain_semantics.proofs.TidyRows.{row_matches-split, dash_matches, joined-matches, clash-matches, no_literal-matches, literals-remove, literals-joined}
 
@@ -166,7 +167,8 @@ fixed-value t q b v h e =
     ∙ ap (λ some. cond some t.plane (not t.plane))
     (kept_any (λ marks. remove marks q) (λ marks. mark_matches (mark_at marks q) b) (remove t.pins q) t.pins v
     (λ marks m. sym (row_matches-split marks t.pins q v h ∙ ap (λ c. c && row_matches (remove marks q) (remove t.pins q) v) (ap (mark_matches (mark_at marks q)) e ∙ m)))
-    (λ marks m. row_matches-split marks t.pins q v h ∙ and_left (mark_matches (mark_at marks q) (v (pin_at t q))) (row_matches (remove marks q) (remove t.pins q) v) (ap (mark_matches (mark_at marks q)) e ∙ m))
+    (λ marks m. row_matches-split marks t.pins q v h ∙ and_left (mark_matches (mark_at marks q) (v (pin_at t q))) (row_matches (remove marks q) (remove t.pins q) v)
+    (ap (mark_matches (mark_at marks q)) e ∙ m))
     t.rows)
 
 remove_width : (marks : List Mark) (q n : ℕ) → q < n → length marks ≡ n → length (remove marks q) + 1 ≡ length marks
@@ -232,7 +234,8 @@ joined-value t p q v less h e =
 pub joined-narrower : (t : TableValue) (p q : ℕ) → IsTable t → p < q → q < length t.pins → IsNarrower t (with_pins_joined p q t)
 joined-narrower t p q formed less h =
     subst (IsNarrower t) (sym (joined_table p q t))
-    (settled-narrower t (record t { pins = remove t.pins q; rows = map (λ marks. remove (with_marks_joined p q marks) q) (filter (λ marks. not (clash (mark_at marks p) (mark_at marks q))) t.rows) }) formed refl
+    (settled-narrower t (record t { pins = remove t.pins q; rows = map (λ marks. remove (with_marks_joined p q marks) q) (filter (λ marks. not (clash (mark_at marks p) (mark_at marks q))) t.rows) })
+    formed refl
     (kept-shorter t q (λ marks. remove (with_marks_joined p q marks) q) (λ marks. not (clash (mark_at marks p) (mark_at marks q))) formed h
     (λ marks e.
     let same = length-set marks p (joined (mark_at marks p) (mark_at marks q)) in

@@ -150,8 +150,10 @@ module _ (N : NetValue) (i : ℕ) (sound : IsSound N) (within : i < table_count 
   pub read_before : (s : ℕ) → is_read (without (input_count N) N.tables i) s ≡ true → is_read N.tables (raised (input_count N + i) s) ≡ true
   read_before s r =
       let by : IsReadBy (without (input_count N) N.tables i) s = read-by (without (input_count N) N.tables i) s r in
-      let embedded : IsEmbedded (input_count N) (without (input_count N) N.tables i) (input_count N) N.tables (raised (input_count N + i)) = without-embedded (input_count N) N.tables i within no_reader in
-      let at : StandsAt (raised (input_count N + i)) (table_at (without (input_count N) N.tables i) by.place) (input_count N) N.tables (raised (input_count N + i) (input_count N + by.place)) = embedded.table by.place by.within in
+      let embedded : IsEmbedded (input_count N) (without (input_count N) N.tables i) (input_count N) N.tables (raised (input_count N + i))
+      = without-embedded (input_count N) N.tables i within no_reader in
+      let at : StandsAt (raised (input_count N + i)) (table_at (without (input_count N) N.tables i) by.place) (input_count N) N.tables (raised (input_count N + i) (input_count N + by.place))
+      = embedded.table by.place by.within in
       by-read N.tables (raised (input_count N + i) s) (record {
         place = at.place;
         within = at.within;

@@ -1,4 +1,5 @@
--- The inputs at which the value of a table matters to the error. Source: SALSA's approximation don't-cares, taken at every table.
+-- The inputs at which the value of a table matters to the error. Source: SALSA's approximation don't-cares,
+-- taken at every table.
 use Rattle.std.specs.Prelude.{◌≢◌, ℕ, ◌+◌, ◌<◌, Bool, List}
 use Rattle.semantics.specs.Net.{NetValue, table_at, input_count}
 use Rattle.semantics.specs.Value.{table_value, value_of, outputs_of}
@@ -19,7 +20,8 @@ Exceeds metric exact bound N x = bound < net_error metric exact N x
 
 -- the value at x that the move gives to its table
 abbrev pub moved_value : NetValue → Move → List Bool → Bool
-moved_value N move x = table_value (moved_table (table_at N.tables (table_of move)) move) (value_of (input_count N) N.tables x)
+moved_value N move x = table_value (moved_table (table_at N.tables (table_of move)) move)
+    (value_of (input_count N) N.tables x)
 
 -- the move changes the value of its table at x
 abbrev pub Changes : NetValue → Move → List Bool → Type 0

@@ -26,7 +26,8 @@ places_of N (Const t value) = bit_number value ∷ []
 places_of N (DropRow t row) = row ∷ []
 places_of N (DropLiteral t row pin) = row ∷ pin ∷ []
 places_of N (Signal t s flip) = s ∷ bit_number flip ∷ []
-places_of N (Pair t s flip_s u flip_u flip) = near_place N t s ∷ near_place N t u ∷ bit_number flip_s ∷ bit_number flip_u ∷ bit_number flip ∷ []
+places_of N (Pair t s flip_s u flip_u flip)
+    = near_place N t s ∷ near_place N t u ∷ bit_number flip_s ∷ bit_number flip_u ∷ bit_number flip ∷ []
 
 -- in dictionary order
 abbrev pub IsBefore : List ℕ → List ℕ → Type 0
@@ -35,12 +36,14 @@ IsBefore (x ∷ xs) [] = ⊥
 IsBefore (x ∷ xs) (y ∷ ys) = (x < y) ⊎ ((x ≡ y) × IsBefore xs ys)
 
 abbrev pub ComesBefore : NetValue → Move → Move → Type 0
-ComesBefore N a b = IsBefore (table_of a ∷ kind_number a ∷ places_of N a) (table_of b ∷ kind_number b ∷ places_of N b)
+ComesBefore N a b = IsBefore (table_of a ∷ kind_number a ∷ places_of N a)
+    (table_of b ∷ kind_number b ∷ places_of N b)
 
 -- Each move comes before all later ones, so no move stands twice. In an acyclic net the list is the only list
 -- in this order whose members are the moves whose condition holds.
 pub record MoveOrderLaw : Type 0 where
   pub in_order : (N : NetValue) → AllPairs (ComesBefore N) (moves_of N)
   pub once : (N : NetValue) → AllPairs ◌≢◌ (moves_of N)
-  pub only : (N : NetValue) (moves : List Move) → IsAcyclic (input_count N) N.tables → AllPairs (ComesBefore N) moves
+  pub only : (N : NetValue) (moves : List Move) → IsAcyclic (input_count N) N.tables
+      → AllPairs (ComesBefore N) moves
       → ((move : Move) → Contains moves move ↔ IsMoveOf N move) → moves ≡ moves_of N

@@ -1,5 +1,6 @@
 -- What a move makes of its table, and the value of the moved table by kind.
-use Rattle.std.specs.Prelude.{◌≡◌, ◌≢◌, ◌↔◌, ◌⊎◌, ℕ, ◌<◌, Bool, true, not, ◌&&◌, if◌then◌else◌, List, [], ◌∷◌, ◌++◌, length}
+use Rattle.std.specs.Prelude.{◌≡◌, ◌≢◌, ◌↔◌, ◌⊎◌, ℕ, ◌<◌, Bool, true, not, ◌&&◌, if◌then◌else◌, List, []}
+use Rattle.std.specs.Prelude.{◌∷◌, ◌++◌, length}
 use Rattle.semantics.specs.declared.mark.Mark.{Mark}
 use Rattle.semantics.specs.declared.mark.Mark.TheVariants.{Zero, One, Dash}
 use Rattle.semantics.specs.Net.{TableValue, NetValue, table_at, table_count, constant_table}
@@ -44,23 +45,43 @@ turned_over flip value = if flip then not value else value
 pub record MovedValueLaw : Type 0 where
   pub itself : (N : NetValue) (move : Move) → table_of move < table_count N
       → table_at (moved N move).tables (table_of move) ≡ moved_table (table_at N.tables (table_of move)) move
-  pub others : (N : NetValue) (move : Move) (i : ℕ) → i ≢ table_of move → table_at (moved N move).tables i ≡ table_at N.tables i
+  pub others : (N : NetValue) (move : Move) (i : ℕ) → i ≢ table_of move
+      → table_at (moved N move).tables i ≡ table_at N.tables i
   pub name : (t : TableValue) (move : Move) → (moved_table t move).name ≡ t.name
-  pub becomes_constant : (t : TableValue) (i : ℕ) (value : Bool) → moved_table t (Const i value) ≡ constant_table t.name value
+  pub becomes_constant : (t : TableValue) (i : ℕ) (value : Bool)
+      → moved_table t (Const i value) ≡ constant_table t.name value
   pub becomes_copy : (t : TableValue) (i s : ℕ) (flip : Bool)
-      → moved_table t (Signal i s flip) ≡ record { name = t.name; pins = s ∷ []; rows = ((if flip then Zero else One) ∷ []) ∷ []; plane = true }
+      → moved_table t (Signal i s flip)
+      ≡ record {
+        name = t.name;
+        pins = s ∷ [];
+        rows = ((if flip then Zero else One) ∷ []) ∷ [];
+        plane = true;
+      }
   pub becomes_pair : (t : TableValue) (i s : ℕ) (flip_s : Bool) (u : ℕ) (flip_u flip : Bool)
       → moved_table t (Pair i s flip_s u flip_u flip)
-      ≡ record { name = t.name; pins = s ∷ u ∷ []; rows = ((if flip_s then Zero else One) ∷ (if flip_u then Zero else One) ∷ []) ∷ []; plane = not flip }
-  pub constant : (t : TableValue) (i : ℕ) (value : Bool) (v : Assignment) → table_value (moved_table t (Const i value)) v ≡ value
-  pub row : (t : TableValue) (i r : ℕ) (v : Assignment) → r < length t.rows → HasPlane t (DropRow i r) v ↔ AnotherRowHolds t v r
+      ≡ record {
+        name = t.name;
+        pins = s ∷ u ∷ [];
+        rows = ((if flip_s then Zero else One) ∷ (if flip_u then Zero else One) ∷ []) ∷ [];
+        plane = not flip;
+      }
+  pub constant : (t : TableValue) (i : ℕ) (value : Bool) (v : Assignment)
+      → table_value (moved_table t (Const i value)) v ≡ value
+  pub row : (t : TableValue) (i r : ℕ) (v : Assignment) → r < length t.rows
+      → HasPlane t (DropRow i r) v ↔ AnotherRowHolds t v r
   pub literal : (t : TableValue) (i r p : ℕ) (v : Assignment) → r < length t.rows
       → HasPlane t (DropLiteral i r p) v ↔ (AnotherRowHolds t v r ⊎ RowHoldsBut t v r p)
-  pub signal : (t : TableValue) (i s : ℕ) (flip : Bool) (v : Assignment) → table_value (moved_table t (Signal i s flip)) v ≡ (if flip then not (v s) else v s)
+  pub signal : (t : TableValue) (i s : ℕ) (flip : Bool) (v : Assignment)
+      → table_value (moved_table t (Signal i s flip)) v ≡ (if flip then not (v s) else v s)
   pub pair : (t : TableValue) (i s : ℕ) (flip_s : Bool) (u : ℕ) (flip_u flip : Bool) (v : Assignment)
-      → table_value (moved_table t (Pair i s flip_s u flip_u flip)) v ≡ turned_over flip (turned_over flip_s (v s) && turned_over flip_u (v u))
-  pub rows_left : (t : TableValue) (i : ℕ) (before : List (List Mark)) (marks : List Mark) (after : List (List Mark)) → t.rows ≡ before ++ marks ∷ after
+      → table_value (moved_table t (Pair i s flip_s u flip_u flip)) v
+      ≡ turned_over flip (turned_over flip_s (v s) && turned_over flip_u (v u))
+  pub rows_left : (t : TableValue) (i : ℕ) (before : List (List Mark)) (marks : List Mark)
+      (after : List (List Mark)) → t.rows ≡ before ++ marks ∷ after
       → moved_table t (DropRow i (length before)) ≡ record t { rows = before ++ after }
-  pub literals_left : (t : TableValue) (i : ℕ) (before : List (List Mark)) (left : List Mark) (m : Mark) (right : List Mark) (after : List (List Mark))
+  pub literals_left : (t : TableValue) (i : ℕ) (before : List (List Mark)) (left : List Mark) (m : Mark)
+      (right : List Mark) (after : List (List Mark))
       → t.rows ≡ before ++ (left ++ m ∷ right) ∷ after
-      → moved_table t (DropLiteral i (length before) (length left)) ≡ record t { rows = before ++ (left ++ Dash ∷ right) ∷ after }
+      → moved_table t (DropLiteral i (length before) (length left))
+      ≡ record t { rows = before ++ (left ++ Dash ∷ right) ∷ after }

@@ -14,7 +14,8 @@ use Rattle.chain_semantics.specs.Moves.{each_once, near_signals, pairs_of, pair_
 abbrev pub table_of_rows : List ℕ → List (List Mark) → TableValue
 table_of_rows pins rows = record { name = codes "y"; pins = pins; rows = rows; plane = true }
 
--- q is 1 where exactly one of w and the conjunction of u and v are; y is the exclusive or of w and q, which is that conjunction
+-- q is 1 where exactly one of w and the conjunction of u and v are; y is the exclusive or of w and q, which
+-- is that conjunction
 abbrev pub behind_two : NetValue
 behind_two = record {
   model = codes "p";
@@ -40,15 +41,21 @@ pub record PairExamples : Type 0 where
   pub cut : near_signals wire (table_of_rows (range_with_len 0 18) []) ≡ range_with_len 0 16
   pub in_order :
       pair_moves half_adder 0 (table_at half_adder.tables 0)
-      ≡ Pair 0 0 false 1 false false ∷ Pair 0 0 false 1 false true ∷ Pair 0 0 false 1 true false ∷ Pair 0 0 false 1 true true
-      ∷ Pair 0 0 true 1 false false ∷ Pair 0 0 true 1 false true ∷ Pair 0 0 true 1 true false ∷ Pair 0 0 true 1 true true ∷ []
+      ≡ Pair 0 0 false 1 false false ∷ Pair 0 0 false 1 false true ∷ Pair 0 0 false 1 true false
+      ∷ Pair 0 0 false 1 true true
+      ∷ Pair 0 0 true 1 false false ∷ Pair 0 0 true 1 false true ∷ Pair 0 0 true 1 true false
+      ∷ Pair 0 0 true 1 true true ∷ []
   -- eight moves for each of six pairs
   pub through_a_table : length (pair_moves behind_two 1 (table_at behind_two.tables 1)) ≡ 48
   pub of_two_literals : pair_moves half_adder 1 (table_at half_adder.tables 1) ≡ []
-  pub of_one_pin : pair_moves wire 0 (table_of_rows (0 ∷ []) ((One ∷ []) ∷ (Zero ∷ []) ∷ (One ∷ []) ∷ [])) ≡ []
-  pub plain : moved behind_two (Pair 1 0 false 1 false false) ≡ with_table behind_two 1 (table_of_rows (0 ∷ 1 ∷ []) ((One ∷ One ∷ []) ∷ []))
+  pub of_one_pin : pair_moves wire 0 (table_of_rows (0 ∷ []) ((One ∷ []) ∷ (Zero ∷ []) ∷ (One ∷ []) ∷ []))
+      ≡ []
+  pub plain : moved behind_two (Pair 1 0 false 1 false false)
+      ≡ with_table behind_two 1 (table_of_rows (0 ∷ 1 ∷ []) ((One ∷ One ∷ []) ∷ []))
   pub flipped :
       moved behind_two (Pair 1 2 true 3 false true)
-      ≡ with_table behind_two 1 (record { name = codes "y"; pins = 2 ∷ 3 ∷ []; rows = (Zero ∷ One ∷ []) ∷ []; plane = false })
+      ≡ with_table behind_two 1
+      (record { name = codes "y"; pins = 2 ∷ 3 ∷ []; rows = (Zero ∷ One ∷ []) ∷ []; plane = false })
   -- the plain pair of u and v leaves every output
-  pub same_outputs : map (outputs_of (moved behind_two (Pair 1 0 false 1 false false))) (all_vectors 3) ≡ map (outputs_of behind_two) (all_vectors 3)
+  pub same_outputs : map (outputs_of (moved behind_two (Pair 1 0 false 1 false false))) (all_vectors 3)
+      ≡ map (outputs_of behind_two) (all_vectors 3)

@@ -1,5 +1,6 @@
--- The simplifications of a net within a bound: from the tidied net, the first allowed move is made and the moved net is tidied, until no move is
--- allowed. Source: SALSA; tidying and the order of the moves are this tool's own.
+-- The simplifications of a net within a bound: from the tidied net, the first allowed move is made and the
+-- moved net is tidied, until no move is allowed. Source: SALSA; tidying and the order of the moves are this
+-- tool's own.
 use Rattle.std.specs.Prelude.{ℕ}
 use Rattle.semantics.specs.Net.{NetValue}
 use Rattle.semantics.specs.Error.{IsWithin}

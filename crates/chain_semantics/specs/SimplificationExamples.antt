@@ -9,7 +9,8 @@ use Rattle.chain_semantics.specs.Simplification.{IsSimplificationEnd}
 
 -- the half adder within 1: its sum becomes constant 0, and then its carry a copy of b
 abbrev pub carry_is_b : NetValue
-carry_is_b = with_table constant_sum 1 (record { name = codes "c"; pins = 1 ∷ []; rows = (One ∷ []) ∷ []; plane = true })
+carry_is_b = with_table constant_sum 1
+    (record { name = codes "c"; pins = 1 ∷ []; rows = (One ∷ []) ∷ []; plane = true })
 
 pub record SimplificationExamples : Type 0 where
   pub within_one : IsSimplificationEnd Abs half_adder 1 carry_is_b

@@ -9,7 +9,8 @@ use Rattle.chain_semantics.specs.Moves.{moves_of, moved}
 use Rattle.chain_semantics.specs.MoveLaws.{IsLoweredFrom}
 use Rattle.chain_semantics.specs.Tidy.{IsTidy}
 use Rattle.chain_semantics.specs.TidyLaws.{DoesNotGrow}
-use Rattle.chain_semantics.specs.Simplification.{IsAllowedMove, IsTidiedMove, IsInSimplification, IsSimplificationEnd}
+use Rattle.chain_semantics.specs.Simplification.{IsAllowedMove, IsTidiedMove, IsInSimplification}
+use Rattle.chain_semantics.specs.Simplification.{IsSimplificationEnd}
 
 -- a sound tidy net that has the ports of the exact one, no larger counts, and an error within the bound
 pub record IsSimplifiedNet (metric : Metric) (exact : NetValue) (bound : ℕ) (N : NetValue) : Type 0 where
@@ -31,15 +32,24 @@ pub record HasNext (metric : Metric) (exact : NetValue) (bound : ℕ) (N : NetVa
 -- tidy, and small if the exact net is small. Each member is an end or has a next member, with fewer literals,
 -- so the chain has at most as many moves as the exact net has literals. The chain has one end.
 pub record SimplificationLaw : Type 0 where
-  pub lowers : (N : NetValue) (move : Move) → IsSound N → IsTidy N → Contains (moves_of N) move → IsLoweredFrom N (moved N move)
-  pub members : (metric : Metric) (exact : NetValue) (bound : ℕ) (N : NetValue) → IsSound exact → IsInSimplification metric exact bound N
+  pub lowers : (N : NetValue) (move : Move) → IsSound N → IsTidy N → Contains (moves_of N) move
+      → IsLoweredFrom N (moved N move)
+  pub members : (metric : Metric) (exact : NetValue) (bound : ℕ) (N : NetValue) → IsSound exact
+      → IsInSimplification metric exact bound N
       → IsSimplifiedNet metric exact bound N
-  pub small : (metric : Metric) (exact : NetValue) (bound : ℕ) (N : NetValue) → IsSound exact → IsSmall exact → IsInSimplification metric exact bound N → IsSmall N
-  pub goes_on : (metric : Metric) (exact : NetValue) (bound : ℕ) (N : NetValue) → IsSound exact → IsInSimplification metric exact bound N
+  pub small : (metric : Metric) (exact : NetValue) (bound : ℕ) (N : NetValue) → IsSound exact → IsSmall exact
+      → IsInSimplification metric exact bound N → IsSmall N
+  pub goes_on : (metric : Metric) (exact : NetValue) (bound : ℕ) (N : NetValue) → IsSound exact
+      → IsInSimplification metric exact bound N
       → IsSimplificationEnd metric exact bound N ⊎ HasNext metric exact bound N
-  pub falls : (metric : Metric) (exact : NetValue) (bound : ℕ) (N M : NetValue) (move : Move) → IsSound exact → IsInSimplification metric exact bound N
-      → IsFirstAllowed (IsAllowedMove metric exact bound N) (moves_of N) move → IsTidiedMove N move M → literal_count M < literal_count N
-  pub steps : (metric : Metric) (exact : NetValue) (bound : ℕ) (N : NetValue) → IsSound exact → (h : IsInSimplification metric exact bound N)
+  pub falls : (metric : Metric) (exact : NetValue) (bound : ℕ) (N M : NetValue) (move : Move) → IsSound exact
+      → IsInSimplification metric exact bound N
+      → IsFirstAllowed (IsAllowedMove metric exact bound N) (moves_of N) move → IsTidiedMove N move M
+      → literal_count M < literal_count N
+  pub steps : (metric : Metric) (exact : NetValue) (bound : ℕ) (N : NetValue) → IsSound exact
+      → (h : IsInSimplification metric exact bound N)
       → step_count N h.member + literal_count N ≤ literal_count exact
-  pub ends : (metric : Metric) (exact : NetValue) (bound : ℕ) → IsSound exact → (N : NetValue) × IsSimplificationEnd metric exact bound N
-  pub only : (metric : Metric) (exact : NetValue) (bound : ℕ) (N M : NetValue) → IsSimplificationEnd metric exact bound N → IsSimplificationEnd metric exact bound M → N ≡ M
+  pub ends : (metric : Metric) (exact : NetValue) (bound : ℕ) → IsSound exact
+      → (N : NetValue) × IsSimplificationEnd metric exact bound N
+  pub only : (metric : Metric) (exact : NetValue) (bound : ℕ) (N M : NetValue)
+      → IsSimplificationEnd metric exact bound N → IsSimplificationEnd metric exact bound M → N ≡ M

@@ -4,20 +4,25 @@ use Rattle.std.specs.Prelude.{◌≡◌, ℕ, zero, suc, ◌+◌, Bool, if◌the
 use Rattle.std.specs.Option.{option_map}
 use Rattle.semantics.specs.Net.{TableValue, NetValue, table_at, input_count, table_count}
 use Rattle.semantics.specs.Replaced.{with_table}
-use Rattle.chain_semantics.specs.TidyRules.{pin_at, constant_pin, constant_value, with_pin_fixed, dashed_pin, without_pin, repeated_pin, first_place_of, with_pins_joined, is_constant, made_canonical, is_bypassed, with_bypass, is_unread, without_table}
+use Rattle.chain_semantics.specs.TidyRules.{pin_at, constant_pin, constant_value, with_pin_fixed, dashed_pin}
+use Rattle.chain_semantics.specs.TidyRules.{without_pin, repeated_pin, first_place_of, with_pins_joined}
+use Rattle.chain_semantics.specs.TidyRules.{is_constant, made_canonical, is_bypassed, with_bypass, is_unread}
+use Rattle.chain_semantics.specs.TidyRules.{without_table}
 
 abbrev pub some_if : {X : Type 0} → Bool → X → Option X
 some_if test x = if test then Some x else None
 
 -- the table that a rule on one table puts in the place of t
 abbrev pub by_constant_pin : ℕ → List TableValue → TableValue → Option TableValue
-by_constant_pin n tables t = option_map (λ q. with_pin_fixed q (constant_value n tables (pin_at t q)) t) (constant_pin n tables t)
+by_constant_pin n tables t
+    = option_map (λ q. with_pin_fixed q (constant_value n tables (pin_at t q)) t) (constant_pin n tables t)
 
 abbrev pub by_dashed_pin : TableValue → Option TableValue
 by_dashed_pin t = option_map (λ q. without_pin q t) (dashed_pin t)
 
 abbrev pub by_repeated_pin : TableValue → Option TableValue
-by_repeated_pin t = option_map (λ q. with_pins_joined (first_place_of t.pins (pin_at t q)) q t) (repeated_pin t)
+by_repeated_pin t = option_map (λ q. with_pins_joined (first_place_of t.pins (pin_at t q)) q t)
+    (repeated_pin t)
 
 abbrev pub by_constant : TableValue → Option TableValue
 by_constant t = some_if (is_constant t) (made_canonical t)

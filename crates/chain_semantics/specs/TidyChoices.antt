@@ -1,12 +1,15 @@
 -- Where each of the six rules of tidying applies, in the subject's words, and which rule is chosen: at the
 -- first table at which a rule applies, the rule with the least number, and of that rule's pins the least.
 -- Source: this tool's own.
-use Rattle.std.specs.Prelude.{◌≡◌, ◌≢◌, ◌⊎◌, ◌↔◌, ℕ, ◌+◌, ◌-◌, ◌<◌, ◌≤◌, Bool, true, [], ◌∷◌, length, Some, All, Any, AllPairs, Contains}
+use Rattle.std.specs.Prelude.{◌≡◌, ◌≢◌, ◌⊎◌, ◌↔◌, ℕ, ◌+◌, ◌-◌, ◌<◌, ◌≤◌, Bool, true, [], ◌∷◌, length, Some}
+use Rattle.std.specs.Prelude.{All, Any, AllPairs, Contains}
 use Rattle.semantics.specs.declared.mark.Mark.{Mark}
 use Rattle.semantics.specs.declared.mark.Mark.TheVariants.{Dash}
-use Rattle.semantics.specs.Net.{TableValue, NetValue, table_at, input_count, table_count, is_literal, row_literals, constant_table, IsSound}
+use Rattle.semantics.specs.Net.{TableValue, NetValue, table_at, input_count, table_count, is_literal}
+use Rattle.semantics.specs.Net.{row_literals, constant_table, IsSound}
 use Rattle.semantics.specs.Replaced.{with_table}
-use Rattle.chain_semantics.specs.TidyRules.{pin_at, mark_at, constant_value, with_pin_fixed, without_pin, with_pins_joined, made_canonical, with_bypass, without_table}
+use Rattle.chain_semantics.specs.TidyRules.{pin_at, mark_at, constant_value, with_pin_fixed, without_pin}
+use Rattle.chain_semantics.specs.TidyRules.{with_pins_joined, made_canonical, with_bypass, without_table}
 use Rattle.chain_semantics.specs.Tidy.{tidy_step, IsTidy}
 use Rattle.chain_semantics.specs.TidyLaws.{HasLiterals}
 
@@ -51,7 +54,8 @@ IsRead N s = (i : ℕ) × (i < table_count N) × Contains (table_at N.tables i).
 -- the rule applies at a table that is signal s
 abbrev pub AppliesTo : NetValue → TableValue → ℕ → Rule → Type 0
 AppliesTo N t s (fix_pin q) = (q < length t.pins) × IsConstantSignal N (pin_at t q)
-AppliesTo N t s (drop_pin q) = (q < length t.pins) × (t.rows ≢ []) × All (λ marks. mark_at marks q ≡ Dash) t.rows
+AppliesTo N t s (drop_pin q) = (q < length t.pins) × (t.rows ≢ [])
+    × All (λ marks. mark_at marks q ≡ Dash) t.rows
 AppliesTo N t s (join_pins p q) = (p < q) × (q < length t.pins) × (pin_at t p ≡ pin_at t q)
 AppliesTo N t s make_constant = (¬ IsCanonical t) × HasConstantValue t
 AppliesTo N t s read_past = HasOneLiteral t × (¬ IsOutput N s) × IsRead N s
@@ -87,7 +91,8 @@ joined_pin_of _ = 0
 abbrev pub IsLesser : Rule → Rule → Type 0
 IsLesser a b =
     (rule_number a < rule_number b)
-    ⊎ ((rule_number a ≡ rule_number b) × ((pin_of a < pin_of b) ⊎ ((pin_of a ≡ pin_of b) × (joined_pin_of a < joined_pin_of b))))
+    ⊎ ((rule_number a ≡ rule_number b)
+    × ((pin_of a < pin_of b) ⊎ ((pin_of a ≡ pin_of b) × (joined_pin_of a < joined_pin_of b))))
 
 -- the rule applies at table i, no lesser rule applies there, and no rule applies at a table before i
 pub record IsChosen (N : NetValue) (i : ℕ) (rule : Rule) : Type 0 where
@@ -98,7 +103,9 @@ pub record IsChosen (N : NetValue) (i : ℕ) (rule : Rule) : Type 0 where
 
 -- the net that the rule makes at table i
 abbrev pub made : NetValue → ℕ → Rule → NetValue
-made N i (fix_pin q) = with_table N i (with_pin_fixed q (constant_value (input_count N) N.tables (pin_at (table_at N.tables i) q)) (table_at N.tables i))
+made N i (fix_pin q) = with_table N i
+    (with_pin_fixed q (constant_value (input_count N) N.tables (pin_at (table_at N.tables i) q))
+    (table_at N.tables i))
 made N i (drop_pin q) = with_table N i (without_pin q (table_at N.tables i))
 made N i (join_pins p q) = with_table N i (with_pins_joined p q (table_at N.tables i))
 made N i make_constant = with_table N i (made_canonical (table_at N.tables i))

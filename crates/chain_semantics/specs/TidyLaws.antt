@@ -1,6 +1,7 @@
 -- The laws about tidying, each the contract of a function without parameters.
 use Rattle.std.specs.Prelude.{◌≡◌, ◌⊎◌, ◌↔◌, ℕ, ◌<◌, ◌≤◌, Bool, true, Some, None, List, length, All, Any}
-use Rattle.semantics.specs.Net.{TableValue, NetValue, input_count, table_count, literal_count, pin_count, row_count, is_literal, row_literals, IsSound, IsSmall, HasSamePorts}
+use Rattle.semantics.specs.Net.{TableValue, NetValue, input_count, table_count, literal_count, pin_count}
+use Rattle.semantics.specs.Net.{row_count, is_literal, row_literals, IsSound, IsSmall, HasSamePorts}
 use Rattle.semantics.specs.Value.{outputs_of}
 use Rattle.chain_semantics.specs.TidyRules.{mark_at, is_canonical}
 use Rattle.chain_semantics.specs.Tidy.{step_at, tidy_step, IsTidy, IsTidiedFrom}
@@ -19,7 +20,8 @@ pub record DoesNotGrow (N M : NetValue) : Type 0 where
   pub literals : literal_count M ≤ literal_count N
   pub rows : row_count M ≤ row_count N
   pub pins : pin_count M ≤ pin_count N
-  pub table_pins : (most : ℕ) → All (λ t. length t.pins ≤ most) N.tables → All (λ t. length t.pins ≤ most) M.tables
+  pub table_pins : (most : ℕ) → All (λ t. length t.pins ≤ most) N.tables
+      → All (λ t. length t.pins ≤ most) M.tables
 
 -- the first table at which a rule applies
 pub record IsFirstStep (N M : NetValue) : Type 0 where
@@ -38,7 +40,8 @@ pub record StepLaw : Type 0 where
   pub keeps : (N M : NetValue) → IsSound N → tidy_step N ≡ Some M → KeepsNet N M
   pub does_not_grow : (N M : NetValue) → IsSound N → tidy_step N ≡ Some M → DoesNotGrow N M
   pub falls : (N M : NetValue) → IsSound N → tidy_step N ≡ Some M → IsBelow (triple_of M) (triple_of N)
-  pub levels : (N : NetValue) → IsSound N → AreLevels (input_count N) N.tables (level_of (input_count N) N.tables)
+  pub levels : (N : NetValue) → IsSound N
+      → AreLevels (input_count N) N.tables (level_of (input_count N) N.tables)
   pub first : (N M : NetValue) → tidy_step N ≡ Some M → IsFirstStep N M
   pub none : (N : NetValue) → IsTidy N ↔ ((i : ℕ) → i < table_count N → step_at N i ≡ None)
 

@@ -1,5 +1,7 @@
--- Levels of signals, and three numbers of a net that fall in dictionary order at each step of tidying. Source: this tool's own.
-use Rattle.std.specs.Prelude.{◌≡◌, ◌⊎◌, ℕ, zero, suc, ◌+◌, ◌-◌, ◌<◌, max, Bool, not, ◌&&◌, if◌then◌else◌, nat_lt, List, [], ◌∷◌, length, sum_by, count_by}
+-- Levels of signals, and three numbers of a net that fall in dictionary order at each step of tidying.
+-- Source: this tool's own.
+use Rattle.std.specs.Prelude.{◌≡◌, ◌⊎◌, ℕ, zero, suc, ◌+◌, ◌-◌, ◌<◌, max, Bool, not, ◌&&◌, if◌then◌else◌}
+use Rattle.std.specs.Prelude.{nat_lt, List, [], ◌∷◌, length, sum_by, count_by}
 use Rattle.semantics.specs.Net.{TableValue, NetValue, table_at, input_count, table_count, pin_count}
 use Rattle.chain_semantics.specs.TidyRules.{is_empty, is_canonical}
 
@@ -46,4 +48,5 @@ triple_of N = record {
 
 -- in dictionary order
 abbrev pub IsBelow : Triple → Triple → Type 0
-IsBelow a b = (a.size < b.size) ⊎ ((a.size ≡ b.size) × ((a.levels < b.levels) ⊎ ((a.levels ≡ b.levels) × (a.bare < b.bare))))
+IsBelow a b = (a.size < b.size)
+    ⊎ ((a.size ≡ b.size) × ((a.levels < b.levels) ⊎ ((a.levels ≡ b.levels) × (a.bare < b.bare))))

@@ -1,5 +1,8 @@
--- The six rules of tidying: for each its condition at a table, and what the table or the net becomes. Source: this tool's own.
-use Rattle.std.specs.Prelude.{ℕ, zero, suc, ◌+◌, ◌-◌, ◌==◌, Bool, true, false, not, ◌&&◌, ◌||◌, if◌then◌else◌, Option, Some, None, List, [], ◌∷◌, map, length, take, slice_set, slice_index, slice_index_or, nat_le}
+-- The six rules of tidying: for each its condition at a table, and what the table or the net becomes. Source:
+-- this tool's own.
+use Rattle.std.specs.Prelude.{ℕ, zero, suc, ◌+◌, ◌-◌, ◌==◌, Bool, true, false, not, ◌&&◌, ◌||◌}
+use Rattle.std.specs.Prelude.{if◌then◌else◌, Option, Some, None, List, [], ◌∷◌, map, length, take, slice_set}
+use Rattle.std.specs.Prelude.{slice_index, slice_index_or, nat_le}
 use Rattle.std.specs.List.{filter, list_any, list_all, remove}
 use Rattle.semantics.specs.declared.mark.Mark.{Mark}
 use Rattle.semantics.specs.declared.mark.Mark.TheVariants.{Zero, One, Dash}
@@ -41,7 +44,8 @@ settled_rows (marks ∷ rows) t = t
 abbrev pub settled : TableValue → TableValue
 settled t = settled_rows t.rows t
 
--- 1. Constant pin: the first pin that is a table without pins. The rows that ask for the other value go, and then the pin.
+-- 1. Constant pin: the first pin that is a table without pins. The rows that ask for the other value go, and
+--    then the pin.
 abbrev pub is_constant_signal : ℕ → List TableValue → ℕ → Bool
 is_constant_signal n tables s = nat_le n s && is_empty (table_at tables (s - n)).pins
 
@@ -53,17 +57,20 @@ abbrev pub constant_value : ℕ → List TableValue → ℕ → Bool
 constant_value n tables s = table_value (table_at tables (s - n)) (λ p. false)
 
 abbrev pub with_pin_fixed : ℕ → Bool → TableValue → TableValue
-with_pin_fixed q value t = settled (without_pin q (record t { rows = filter (λ marks. mark_matches (mark_at marks q) value) t.rows }))
+with_pin_fixed q value t = settled
+    (without_pin q (record t { rows = filter (λ marks. mark_matches (mark_at marks q) value) t.rows }))
 
 -- 2. Column of dashes: the first pin that has a dash in every row, where there is a row. The pin goes.
 abbrev pub is_dash : Mark → Bool
 is_dash m = not (is_literal m)
 
 abbrev pub dashed_pin : TableValue → Option ℕ
-dashed_pin t = first_pin (λ q. not (is_empty t.rows) && list_all (λ marks. is_dash (mark_at marks q)) t.rows) t
+dashed_pin t = first_pin (λ q. not (is_empty t.rows) && list_all (λ marks. is_dash (mark_at marks q)) t.rows)
+    t
 
--- 3. Repeated pin: the first place q of a pin whose signal stands at an earlier place, and p the first such place.
--- The rows that ask for both values go, a dash at p becomes the mark at q, and then the pin at q goes.
+-- 3. Repeated pin: the first place q of a pin whose signal stands at an earlier place, and p the first such
+--    place. The rows that ask for both values go, a dash at p becomes the mark at q, and then the pin at q
+--    goes.
 abbrev pub repeated_pin : TableValue → Option ℕ
 repeated_pin t = first_pin (λ q. has (take q t.pins) (pin_at t q)) t
 
@@ -85,10 +92,12 @@ with_marks_joined p q marks = slice_set marks p (joined (mark_at marks p) (mark_
 
 abbrev pub with_pins_joined : ℕ → ℕ → TableValue → TableValue
 with_pins_joined p q t = settled (without_pin q (record t {
-  rows = map (with_marks_joined p q) (filter (λ marks. not (clash (mark_at marks p) (mark_at marks q))) t.rows);
+  rows = map (with_marks_joined p q)
+      (filter (λ marks. not (clash (mark_at marks p) (mark_at marks q))) t.rows);
 }))
 
--- 4. Constant: a table that is no canonical constant and has no row, or a row without literals. It becomes the canonical constant of its value.
+-- 4. Constant: a table that is no canonical constant and has no row, or a row without literals. It becomes
+--    the canonical constant of its value.
 abbrev pub is_canonical_rows : List (List Mark) → Bool
 is_canonical_rows [] = true
 is_canonical_rows ([] ∷ []) = true
@@ -98,7 +107,8 @@ abbrev pub is_canonical : TableValue → Bool
 is_canonical t = is_empty t.pins && t.plane && is_canonical_rows t.rows
 
 abbrev pub is_constant : TableValue → Bool
-is_constant t = not (is_canonical t) && (is_empty t.rows || list_any (λ marks. row_literals marks == 0) t.rows)
+is_constant t = not (is_canonical t)
+    && (is_empty t.rows || list_any (λ marks. row_literals marks == 0) t.rows)
 
 abbrev pub made_canonical : TableValue → TableValue
 made_canonical t = constant_table t.name (not (is_empty t.rows) && t.plane)
@@ -120,7 +130,8 @@ abbrev pub has_one_literal : TableValue → Bool
 has_one_literal t = is_one_literal t.pins t.rows
 
 abbrev pub is_bypassed : NetValue → ℕ → Bool
-is_bypassed N i = has_one_literal (table_at N.tables i) && not (is_output N (input_count N + i)) && is_read N.tables (input_count N + i)
+is_bypassed N i = has_one_literal (table_at N.tables i) && not (is_output N (input_count N + i))
+    && is_read N.tables (input_count N + i)
 
 -- the literal's value differs from the plane
 abbrev pub is_inverter : TableValue → Bool
@@ -134,7 +145,8 @@ opposite Dash = Dash
 abbrev pub with_marks_turned : ℕ → List ℕ → List Mark → List Mark
 with_marks_turned s [] marks = marks
 with_marks_turned s (p ∷ pins) [] = []
-with_marks_turned s (p ∷ pins) (m ∷ marks) = (if p == s then opposite m else m) ∷ with_marks_turned s pins marks
+with_marks_turned s (p ∷ pins) (m ∷ marks)
+    = (if p == s then opposite m else m) ∷ with_marks_turned s pins marks
 
 -- each table that reads signal s reads signal p in its place; the flag says that p has the opposite value of
 -- s
@@ -146,10 +158,12 @@ reading_past s p inverted t = record t {
 
 abbrev pub with_bypass : NetValue → ℕ → NetValue
 with_bypass N i = record N {
-  tables = map (reading_past (input_count N + i) (pin_at (table_at N.tables i) 0) (is_inverter (table_at N.tables i))) N.tables;
+  tables = map (reading_past (input_count N + i) (pin_at (table_at N.tables i) 0)
+      (is_inverter (table_at N.tables i))) N.tables;
 }
 
--- 6. Unread: a table that is no output and that no table reads. It goes, and the later tables move down by one.
+-- 6. Unread: a table that is no output and that no table reads. It goes, and the later tables move down by
+--    one.
 abbrev pub is_unread : NetValue → ℕ → Bool
 is_unread N i = not (is_output N (input_count N + i)) && not (is_read N.tables (input_count N + i))
 

@@ -1,4 +1,5 @@
-//! Chains of simplifications, tidying, moves and flips, and the laws about them. It has no code but the type `Move` and its limit.
+//! Chains of simplifications, tidying, moves and flips, and the laws about them. It has no code but the type
+//! `Move` and its limit.
 #![tactic(auto)]
 
 pub mod move_examples;

@@ -1,4 +1,5 @@
-//! Worked examples of moves, flips and cared-for inputs, computed by the checker: each function's contract is its examples.
+//! Worked examples of moves, flips and cared-for inputs, computed by the checker: each function's contract is
+//! its examples.
 ghost use Rattle.chain_semantics.specs.MoveExamples.{MoveExamples, FlipExamples, CareExamples};
 ghost use Rattle.chain_semantics.specs.PairExamples.{PairExamples};
 

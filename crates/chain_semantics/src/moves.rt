@@ -28,8 +28,8 @@ pub enum Move {
         s: u32,
         flip: bool,
     },
-    /// Table `t` becomes the conjunction of signals `s` and `u`, each of them plain or turned over, and its value plain or turned
-    /// over.
+    /// Table `t` becomes the conjunction of signals `s` and `u`, each of them plain or turned over, and its
+    /// value plain or turned over.
     Pair {
         t: u32,
         s: u32,

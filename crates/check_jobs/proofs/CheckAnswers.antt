@@ -19,7 +19,8 @@ use Rattle.job_semantics.specs.Certificate.{Texts, texts_of, OfBundle, Certifies
 use Rattle.job_semantics.proofs.Certificates.{verified_law}
 use Rattle.job_semantics.proofs.CheckedFiles.{not_quiet_check}
 use Rattle.job_semantics.specs.Synthesis.{OfInput, WhereHeld, InputRefused}
-use Rattle.job_semantics.specs.Checking.{IsLeftAlone, ShowsItsBound, CheckVerified, CheckRefuted, IsNeeded, CheckEnd, verified, refuted, refused, out_of_memory, not_read, endless, IsVerifiedEnd, IsQuietCheck}
+use Rattle.job_semantics.specs.Checking.{IsLeftAlone, ShowsItsBound, CheckVerified, CheckRefuted, IsNeeded, CheckEnd, verified, refuted, refused, out_of_memory, not_read, endless, IsVerifiedEnd}
+use Rattle.job_semantics.specs.Checking.{IsQuietCheck}
 use Rattle.blif_text.specs.declared.refusal.BlifRefusal.{BlifRefusal}
 use Rattle.bundle.specs.declared.verdict.Verdict.{Verdict}
 use Rattle.bundle.specs.Judging.{FilesKept, IsVerdict, IsFirstFault, verdict_of, IsCause, NothingKnown}
@@ -147,7 +148,8 @@ module _ {metric : Metric} {bound : ℕ} {input stem : Bytes} {old mid new : Fil
     refl,
   )
 
-  check-judged : {said : SinkTold} → IsSound N → (checked : Result Verdict Unread) → IfOk checked (IsVerdict N metric bound stem mid new) → IfErr checked (IsCause N metric bound stem NothingKnown mid new)
+  check-judged : {said : SinkTold} → IsSound N → (checked : Result Verdict Unread) → IfOk checked (IsVerdict N metric bound stem mid new)
+      → IfErr checked (IsCause N metric bound stem NothingKnown mid new)
       → CheckAnswer metric bound input stem old new said said (status_of_check checked)
   check-judged sound (Ok v) ok err = by_verdict sound v ok
   check-judged sound (Err reason) ok err = by_cause reason err

@@ -8,14 +8,16 @@ use Rattle.blif_semantics.specs.Reading.{Refusal}
 use Rattle.file_reading.specs.declared.unread.Unread.{Unread}
 use Rattle.file_reading.specs.declared.unread.Unread.TheVariants as unread
 use Rattle.job_semantics.specs.Certificate.{clause_number}
-use Rattle.job_semantics.specs.Checking.{CheckEnd, verified, refuted, refused, out_of_memory, not_read, endless}
+use Rattle.job_semantics.specs.Checking.{CheckEnd, verified, refuted, refused, out_of_memory, not_read}
+use Rattle.job_semantics.specs.Checking.{endless}
 use Rattle.job_semantics.specs.Trimming as trimming
 use Rattle.blif_text.specs.Refusals.{refusal_of}
 use Rattle.blif_text.specs.declared.refusal.BlifRefusal.{BlifRefusal}
 use Rattle.bundle.specs.declared.verdict.Verdict.{Verdict}
 use Rattle.bundle.specs.declared.verdict.Verdict.TheVariants as verdict
 use Rattle.job_answers.specs.declared.status.Status.{Status}
-use Rattle.job_answers.specs.declared.status.Status.TheVariants.{Done, Verified, Refuted, Text, NoMemory, ReadFault, WriteFault, Endless}
+use Rattle.job_answers.specs.declared.status.Status.TheVariants.{Done, Verified, Refuted, Text, NoMemory}
+use Rattle.job_answers.specs.declared.status.Status.TheVariants.{ReadFault, WriteFault, Endless}
 use Rattle.job_answers.specs.Refused.{TellsBlif}
 
 -- the answer where a needed file of a bundle was not read
@@ -31,7 +33,8 @@ status_of_check (Ok (verdict.Refuted number)) = Refuted number
 status_of_check (Err reason) = status_of_unread reason
 
 -- the answer for each end of a check
-abbrev pub IsAnswerFor : {metric : Metric} {bound : ℕ} {input stem : Bytes} {old new : FilesTold} {said says : SinkTold}
+abbrev pub IsAnswerFor : {metric : Metric} {bound : ℕ} {input stem : Bytes} {old new : FilesTold}
+    {said says : SinkTold}
     → CheckEnd metric bound input stem old new said says → Status → Type 0
 IsAnswerFor (verified v) status = status ≡ Verified
 IsAnswerFor (refuted c r) status = status ≡ Refuted (clause_number c)
@@ -41,18 +44,22 @@ IsAnswerFor (not_read fault) status = status ≡ ReadFault
 IsAnswerFor (endless e) status = status ≡ Endless
 
 -- what a check job comes to, by its answer
-abbrev pub CheckAnswer : Metric → ℕ → Bytes → Bytes → FilesTold → FilesTold → SinkTold → SinkTold → Status → Type 0
-CheckAnswer metric bound input stem old new said says status = (end : CheckEnd metric bound input stem old new said says) × IsAnswerFor end status
+abbrev pub CheckAnswer : Metric → ℕ → Bytes → Bytes → FilesTold → FilesTold → SinkTold → SinkTold → Status
+    → Type 0
+CheckAnswer metric bound input stem old new said says status
+    = (end : CheckEnd metric bound input stem old new said says) × IsAnswerFor end status
 
 -- the answer for each end of a trim job
-abbrev pub IsTrimAnswer : {metric : Metric} {bound : ℕ} {input stem output : Bytes} {old new : FilesTold} {said says : SinkTold}
+abbrev pub IsTrimAnswer : {metric : Metric} {bound : ℕ} {input stem output : Bytes} {old new : FilesTold}
+    {said says : SinkTold}
     → trimming.TrimEnd metric bound input stem output old new said says → Status → Type 0
 IsTrimAnswer (trimming.done d) status = status ≡ Done
 IsTrimAnswer (trimming.not_written cut) status = status ≡ WriteFault
 IsTrimAnswer (trimming.not_verified end not) status = IsAnswerFor end status
 
 -- what a trim job comes to, by its answer
-abbrev pub TrimAnswer : Metric → ℕ → Bytes → Bytes → Bytes → FilesTold → FilesTold → SinkTold → SinkTold → Status → Type 0
+abbrev pub TrimAnswer : Metric → ℕ → Bytes → Bytes → Bytes → FilesTold → FilesTold → SinkTold → SinkTold
+    → Status → Type 0
 TrimAnswer metric bound input stem output old new said says status =
     (end : trimming.TrimEnd metric bound input stem output old new said says) × IsTrimAnswer end status
 

@@ -20,7 +20,9 @@ abbrev pub log_file : Bytes → List LogItem → File
 log_file output log = output_file output (lrat_text log)
 
 abbrev pub TrimmedAnswer : List Clause → List LogItem → Bytes → FilesTold → FilesTold → Status → Type 0
-TrimmedAnswer clauses log output old new Done = (short : List LogItem) × IsTrimmedTo clauses log short × FilesWritten old new (log_file output short ∷ [])
-TrimmedAnswer clauses log output old new WriteFault = (short : List LogItem) × IsTrimmedTo clauses log short × FilesCutShort old new (log_file output short ∷ [])
+TrimmedAnswer clauses log output old new Done = (short : List LogItem) × IsTrimmedTo clauses log short
+    × FilesWritten old new (log_file output short ∷ [])
+TrimmedAnswer clauses log output old new WriteFault = (short : List LogItem) × IsTrimmedTo clauses log short
+    × FilesCutShort old new (log_file output short ∷ [])
 TrimmedAnswer clauses log output old new NoMemory = new ≡ old
 TrimmedAnswer clauses log output old new _ = ⊥

@@ -1,4 +1,5 @@
-//! A trim job: IN is read, and then the bundle is checked against it. Where its certificate stands, its log is trimmed and written.
+//! A trim job: IN is read, and then the bundle is checked against it. Where its certificate stands, its log
+//! is trimmed and written.
 ghost use Rattle.std.specs.Prelude.{[], ◌∷◌, IsTrue};
 ghost use Rattle.outside_semantics.specs.Outside.{SinkTold};
 ghost use Rattle.proof_semantics.specs.Logs.{Refutes};
@@ -27,7 +28,8 @@ use std::alloc::Global;
 
 /// Makes the file with the text of a log. The call takes no memory.
 fn write_log<F: Files>(log: &Log, output: &[u8], files: &mut F) -> Result<(), FileFault>
-    ensures { WritesFiles result (F.told files.old) (F.told files.new) (output_file output.now (lrat_text log.now) ∷ []) }
+    ensures { WritesFiles result (F.told files.old) (F.told files.new)
+        (output_file output.now (lrat_text log.now) ∷ []) }
 {
     files.create(output)?;
     write_lrat(log, files)

@@ -54,7 +54,11 @@ Grows-push_number (Err e) old new n ok err same = Grows-from old new (rw (err, s
 
 -- one item more
 pub HasGrown-push : {T : Type 0} (a b c : DraftValue T) (x : T) → HasGrown a b → c ≡ record b { at_hand = b.at_hand ++ x ∷ [] } → HasGrown a c
-HasGrown-push {T} a b c x g is = (g.0 ++ x ∷ [], is ∙ ap (λ (d : DraftValue T). record d { at_hand = d.at_hand ++ x ∷ [] }) g.1 ∙ ap (λ (l : List T). record a { at_hand = l }) (append_assoc a.at_hand g.0 (x ∷ [])))
+HasGrown-push {T} a b c x g is = (
+  g.0 ++ x ∷ [],
+  is ∙ ap (λ (d : DraftValue T). record d { at_hand = d.at_hand ++ x ∷ [] }) g.1 ∙ ap (λ (l : List T). record a { at_hand = l })
+      (append_assoc a.at_hand g.0 (x ∷ [])),
+)
 
 -- hints or ids have grown
 pub Grows-numbers : (old : ItemDraftValue) (new : DraftValue ℕ) → HasGrown old.numbers new → Grows old (record old { numbers = new })

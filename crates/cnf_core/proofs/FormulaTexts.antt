@@ -30,7 +30,8 @@ clauses_text-next clauses rest clause literals first same =
 -- the first token of the next clause
 pub next_clause : (some : Bool) (before new : Option (Bor Clause)) (literals : Bor Clause) (clauses rest : List Clause) (clause : Clause) (token passed kept : Bytes) → before ≡ None
     → clauses ≡ clause ∷ rest → literals.now ≡ clause
-    → MatchBool some ((list_text signed_decimal (codes "0\n") literals.now ≡ token ++ list_rest signed_decimal (codes "0\n") new) × (0 < length token)) ((Some literals ≡ None) × (new ≡ None) × (token ≡ passed))
+    → MatchBool some ((list_text signed_decimal (codes "0\n") literals.now ≡ token ++ list_rest signed_decimal (codes "0\n") new) × (0 < length token))
+    ((Some literals ≡ None) × (new ≡ None) × (token ≡ passed))
     → MatchBool some ((clauses_rest before clauses ≡ token ++ clauses_rest new rest) × (0 < length token)) ((clauses_rest before clauses ≡ []) × (clauses_rest new rest ≡ []) × (token ≡ kept))
 next_clause true before new literals clauses rest clause token passed kept none first same h = (
   ap (λ o. clauses_rest o clauses) none

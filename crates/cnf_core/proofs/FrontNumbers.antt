@@ -18,12 +18,14 @@ number_ended : (stage : List ℕ → Stage) (t : ScannerValue) (numbers : List �
     → (scanned (numbered t false number count) c ≡ ready (stage (numbers ++ number ∷ [])) (t.at + count + 1)) × (gives (numbered t false number count) c ≡ [])
 number_ended stage t numbers number count c takes is some blank =
     let going : is_refused t.stage ≡ false = ap is_refused is ∙ takes.going numbers in
-    let joined : stage_after t.stage (Number false number) t.start ≡ stage (numbers ++ number ∷ []) = ap (λ g. stage_after g (Number false number) t.start) is ∙ takes.joined numbers number t.start some in
+    let joined : stage_after t.stage (Number false number) t.start ≡ stage (numbers ++ number ∷ [])
+    = ap (λ g. stage_after g (Number false number) t.start) is ∙ takes.joined numbers number t.start some in
     let nothing : item_given t.stage (Number false number) ≡ [] = ap (λ g. item_given g (Number false number)) is ∙ takes.nothing numbers number some in
     (rw (going, blank, joined) refl, rw (going, blank, nothing) refl)
 
 -- one number more, and the blank behind it
-number_more : (stage : List ℕ → Stage) (s t : ScannerValue) (text : Bytes) (at : ℕ) (numbers : List ℕ) (number count : ℕ) → TakesNumbers stage → t.stage ≡ stage numbers → t.word ≡ Empty → t.at ≡ s.at + at
+number_more : (stage : List ℕ → Stage) (s t : ScannerValue) (text : Bytes) (at : ℕ) (numbers : List ℕ) (number count : ℕ) → TakesNumbers stage → t.stage ≡ stage numbers → t.word ≡ Empty
+    → t.at ≡ s.at + at
     → at + count < length text → 0 < count → 0 < number → is_blank (slice_index text (at + count)) ≡ true → DigitsLead 0 (drop at text) number count → LeadAlike s text t (drop at text)
     → LeadAlike s text (ready (stage (numbers ++ number ∷ [])) (s.at + (at + count + 1))) (drop (at + count + 1) text)
 number_more stage s t text at numbers number count takes is empty place lt digit some blank digits lead =

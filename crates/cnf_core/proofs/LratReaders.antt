@@ -1,5 +1,6 @@
 -- How a reader's fields stand after a piece and at the end of the text.
-use Rattle.std.proofs.Common.{◌≡◌, ℕ, ◌+◌, ◌-◌, ◌≤◌, List, [], ◌∷◌, ◌++◌, length, drop, true, false, Bool, refl, ap, sym, ◌∙◌, subst, append_assoc, append-nil, length-append, length-drop, arith, Some, None, Option, Ok, Err, Result, inr}
+use Rattle.std.proofs.Common.{◌≡◌, ℕ, ◌+◌, ◌-◌, ◌≤◌, List, [], ◌∷◌, ◌++◌, length, drop, true, false, Bool, refl, ap, sym, ◌∙◌, subst, append_assoc, append-nil, length-append, length-drop, arith}
+use Rattle.std.proofs.Common.{Some, None, Option, Ok, Err, Result, inr}
 use Rattle.std.specs.Prelude.{if◌then◌else◌, ◌==◌}
 use Rattle.std.proofs.lemmas.List.{drop-append-le}
 use Rattle.semantics.specs.Texts.{Bytes}
@@ -102,14 +103,17 @@ goes_on a b more h going calm s w =
     let fits : k ≤ length (whole_items text) = omega (arith, ap (λ (xs : List LogItem). length xs) same) in
     let scan : scanner b ≡ scanned_all begin (text ++ more) = s ∙ ap (λ (u : ScannerValue). scanned_all u more) now ∙ sym (scanned_all-append begin text more) in
     let whole : whole_items (text ++ more) ≡ whole_items text ++ all_given (scanner a) more =
-    sym (items_scanned (text ++ more)) ∙ all_given-append begin text more ∙ ap (λ (u : ScannerValue). all_given begin text ++ all_given u more) (sym now) ∙ ap (λ (xs : List LogItem). xs ++ all_given (scanner a) more) (items_scanned text) in
+    sym (items_scanned (text ++ more)) ∙ all_given-append begin text more ∙ ap (λ (u : ScannerValue). all_given begin text ++ all_given u more) (sym now) ∙ ap
+    (λ (xs : List LogItem). xs ++ all_given (scanner a) more) (items_scanned text) in
     let waits : b.waiting.items ≡ drop k (whole_items (text ++ more)) =
-    w ∙ ap (λ (xs : List LogItem). xs ++ all_given (scanner a) more) (h.waiting ∙ ap (drop k) same) ∙ sym (drop-append-le k (whole_items text) (all_given (scanner a) more) fits) ∙ ap (drop k) (sym whole) in
+    w ∙ ap (λ (xs : List LogItem). xs ++ all_given (scanner a) more) (h.waiting ∙ ap (drop k) same) ∙ sym (drop-append-le k (whole_items text) (all_given (scanner a) more) fits) ∙ ap (drop k)
+    (sym whole) in
     record {
       scanner = scan;
       stage = ap (λ (u : ScannerValue). u.stage) scan ∙ stage_scanned (text ++ more);
       waiting = waits;
-      given = count (whole_items (text ++ more)) b.waiting.items k waits (omega (arith, fits, ap (λ (xs : List LogItem). length xs) whole, length-append (whole_items text) (all_given (scanner a) more)));
+      given = count (whole_items (text ++ more)) b.waiting.items k waits
+          (omega (arith, fits, ap (λ (xs : List LogItem). length xs) whole, length-append (whole_items text) (all_given (scanner a) more)));
     }
 
 same_read : (t u : Bytes) (g h : ℕ) (f e : Bool) (r q : Option LratRefusal) → t ≡ u → g ≡ h → f ≡ e → r ≡ q
@@ -121,7 +125,8 @@ pub record Fed (a b : Inside) (piece : Bytes) : Type 0 where
   pub stands : Stands b
   pub view : read_view b ≡ fed (read_view a) piece
 
-pub after_piece : (a b : Inside) (piece : Bytes) (draft : ItemDraftValue) → Stands a → a.is_finished ≡ false → refusal_at (stage a) ≡ None → b.is_finished ≡ a.is_finished → b.text.bytes ≡ a.text.bytes ++ piece
+pub after_piece : (a b : Inside) (piece : Bytes) (draft : ItemDraftValue) → Stands a → a.is_finished ≡ false → refusal_at (stage a) ≡ None → b.is_finished ≡ a.is_finished
+    → b.text.bytes ≡ a.text.bytes ++ piece
     → b.draft ≡ settled draft
     → scanner_at b.scanner draft ≡ scanned_all (scanner a) piece → b.waiting.items ≡ a.waiting.items ++ all_given (scanner a) piece → Fed a b piece
 after_piece a b piece draft h going calm f x d s w =
@@ -140,7 +145,8 @@ after_piece a b piece draft h going calm f x d s w =
       view = same_read _ _ _ _ _ _ _ _ x given f (ap refusal_at g.stage);
     }
 
-pub feed_refuses : (a : Inside) (now new : LogRead) (piece : Bytes) (r : LratRefusal) → read_view a ≡ now → refusal_at (stage a) ≡ None → new ≡ fed (read_view a) piece → new.refused ≡ Some r → IsFeedRefusal now piece r new
+pub feed_refuses : (a : Inside) (now new : LogRead) (piece : Bytes) (r : LratRefusal) → read_view a ≡ now → refusal_at (stage a) ≡ None → new ≡ fed (read_view a) piece → new.refused ≡ Some r
+    → IsFeedRefusal now piece r new
 feed_refuses a now new piece r v calm f s =
     let none : now.refused ≡ None = ap (λ (u : LogRead). u.refused) (sym v) ∙ calm in
     rw none (inr (f ∙ ap (λ u. fed u piece) v, s))
@@ -157,7 +163,8 @@ ends s r = (rw r refl, rw (r, append-nil) refl)
 read_at_end : (text : Bytes) → refusal_at_end (stage_of (with_end text)) ≡ None → lrat_items text ≡ Ok (whole_items (with_end text))
 read_at_end text e = items_at_end (refusal_at_end (stage_of (with_end text))) (whole_items (with_end text)) (whole_items (with_end text)) e refl
 
-refused_result : (end : Option LratRefusal) (items : List LogItem) (r : LratRefusal) → end ≡ Some r → (elim end as (λ _. Result (List LogItem) LratRefusal) [ None ↦ Ok items | Some refusal ↦ Err refusal ]) ≡ Err r
+refused_result : (end : Option LratRefusal) (items : List LogItem) (r : LratRefusal) → end ≡ Some r
+    → (elim end as (λ _. Result (List LogItem) LratRefusal) [ None ↦ Ok items | Some refusal ↦ Err refusal ]) ≡ Err r
 refused_result None items r e = cc
 refused_result (Some refusal) items r e = cc
 
@@ -214,7 +221,8 @@ pub record Cut (a b : Inside) (r : LratRefusal) : Type 0 where
   pub view : read_view b ≡ record (read_view a) { refused = Some r }
   pub waiting : b.waiting.items ≡ a.waiting.items
 
-pub after_cut : (a b : Inside) (last : Scanner) (draft : ItemDraftValue) (r : LratRefusal) → Stands a → a.is_finished ≡ false → refusal_at (stage a) ≡ None → b.is_finished ≡ a.is_finished → b.text.bytes ≡ a.text.bytes
+pub after_cut : (a b : Inside) (last : Scanner) (draft : ItemDraftValue) (r : LratRefusal) → Stands a → a.is_finished ≡ false → refusal_at (stage a) ≡ None → b.is_finished ≡ a.is_finished
+    → b.text.bytes ≡ a.text.bytes
     → b.scanner.part ≡ AfterRefusal r → b.draft ≡ settled draft → scanner_at last draft ≡ closed (scanner a) → b.waiting.items ≡ a.waiting.items ++ closed_gives (scanner a)
     → refusal_at_end (stage_at last.part b.draft) ≡ Some r → Cut a b r
 after_cut a b last draft r h going calm f x p d s w l =
@@ -233,19 +241,22 @@ after_cut a b last draft r h going calm f x p d s w l =
       waiting = waits;
     }
 
-pub finish_refuses : (a : Inside) (now new : LogRead) (r : LratRefusal) → read_view a ≡ now → refusal_at (stage a) ≡ None → lrat_items a.text.bytes ≡ Err r → new ≡ record (read_view a) { refused = Some r }
+pub finish_refuses : (a : Inside) (now new : LogRead) (r : LratRefusal) → read_view a ≡ now → refusal_at (stage a) ≡ None → lrat_items a.text.bytes ≡ Err r
+    → new ≡ record (read_view a) { refused = Some r }
     → IsFinishRefusal now r new
 finish_refuses a now new r v calm e f =
     let none : now.refused ≡ None = ap (λ (u : LogRead). u.refused) (sym v) ∙ calm in
     let text : lrat_items now.text ≡ Err r = ap (λ (u : LogRead). lrat_items u.text) (sym v) ∙ e in
     rw none (inr (text, f ∙ ap (λ (u : LogRead). record u { refused = Some r }) v))
 
-pub finish_goes : (a b : Inside) (now : LogRead) → read_view a ≡ now → Ended a b → (now.refused ≡ None) × (lrat_items now.text ≡ Ok (read_items (read_view b))) × (read_view b ≡ record now { finished = true })
+pub finish_goes : (a b : Inside) (now : LogRead) → read_view a ≡ now → Ended a b
+    → (now.refused ≡ None) × (lrat_items now.text ≡ Ok (read_items (read_view b))) × (read_view b ≡ record now { finished = true })
 finish_goes a b now v e =
     subst (λ (u : LogRead). (u.refused ≡ None) × (lrat_items u.text ≡ Ok (read_items (read_view b))) × (read_view b ≡ record u { finished = true })) v (e.calm, e.items, e.view)
 
 -- it had ended before
-pub has_ended : (a : Inside) (now : LogRead) → read_view a ≡ now → Stands a → a.is_finished ≡ true → (now.refused ≡ None) × (lrat_items now.text ≡ Ok (read_items now)) × (now ≡ record now { finished = true })
+pub has_ended : (a : Inside) (now : LogRead) → read_view a ≡ now → Stands a → a.is_finished ≡ true
+    → (now.refused ≡ None) × (lrat_items now.text ≡ Ok (read_items now)) × (now ≡ record now { finished = true })
 has_ended a now v h f =
     let n = h.finished f in
     let calm = none_at_end (stage a) n in

@@ -81,7 +81,8 @@ blank_is_good c h = rw h refl
 scan_blank : (s : ScannerValue) (c : ℕ) → is_refused s.stage ≡ false → is_blank c ≡ true → (scanned s c ≡ closed s) × (gives s c ≡ closed_gives s)
 scan_blank s c r b = (rw (r, b) refl, rw (r, b) refl)
 
-scan_good : (s : ScannerValue) (c : ℕ) → is_refused s.stage ≡ false → is_blank c ≡ false → is_log_byte c ≡ true → (scanned s c ≡ record s { word = held_with s.word c; at = s.at + 1 }) × (gives s c ≡ [])
+scan_good : (s : ScannerValue) (c : ℕ) → is_refused s.stage ≡ false → is_blank c ≡ false → is_log_byte c ≡ true
+    → (scanned s c ≡ record s { word = held_with s.word c; at = s.at + 1 }) × (gives s c ≡ [])
 scan_good s c r b g = (rw (r, b, g) refl, rw (r, b) refl)
 
 scan_bad : (s : ScannerValue) (c : ℕ) → is_refused s.stage ≡ false → is_blank c ≡ false → is_log_byte c ≡ false → (scanned s c ≡ record s { stage = Refused (BadByte s.at) }) × (gives s c ≡ [])
@@ -113,7 +114,8 @@ shifted x o p m n a b d h g e f =
     let j : m + b ≡ n + suc b = omega arith in
     rw (e, f, ← i, ← j) h
 
-agrees_good : (s : ScannerValue) (held : Bytes) (c : ℕ) (cs : Bytes) → Fits s held → is_blank c ≡ false → is_log_byte c ≡ true → ((t : ScannerValue) (more : Bytes) → Fits t more → Agrees t more cs) → Agrees s held (c ∷ cs)
+agrees_good : (s : ScannerValue) (held : Bytes) (c : ℕ) (cs : Bytes) → Fits s held → is_blank c ≡ false → is_log_byte c ≡ true → ((t : ScannerValue) (more : Bytes) → Fits t more → Agrees t more cs)
+    → Agrees s held (c ∷ cs)
 agrees_good s held c cs fits b g rest =
     let e : take_while is_log_byte (c ∷ cs) ≡ c ∷ take_while is_log_byte cs = rw (take_while-cons is_log_byte c cs, g) refl in
     let t : ScannerValue = record s { word = held_with s.word c; at = s.at + 1 } in
@@ -128,7 +130,8 @@ agrees_good s held c cs fits b g rest =
     } in
     let r = rest t more fit in
     record {
-      stage = first_scan s t c cs scan.0 ∙ shifted _ _ _ (s.at + 1) s.at (length (take_while is_log_byte cs)) (length cs) _ r.stage refl (ap (λ (ps : List Bytes). stage_after_all s.stage (ended s.start ps)) f) (ap length e);
+      stage = first_scan s t c cs scan.0 ∙ shifted _ _ _ (s.at + 1) s.at (length (take_while is_log_byte cs)) (length cs) _ r.stage refl
+          (ap (λ (ps : List Bytes). stage_after_all s.stage (ended s.start ps)) f) (ap length e);
       items = first_give s t c cs [] scan.0 scan.1 ∙ r.items ∙ ap (λ (ps : List Bytes). items_given s.stage (ended s.start ps)) (sym f);
     }
 
@@ -164,13 +167,15 @@ agrees_blank s held c cs fits b rest =
     let scan = scan_blank s c fits.going b in
     let f : parts held (c ∷ cs) ≡ held ∷ parts [] cs = rw e (slice_split_at is_blank held c (take_while is_log_byte cs) fits.plain b) in
     let i : s.at + 1 ≡ s.start + length held + 1 = omega (arith, fits.at) in
-    let k : ended s.start (parts held (c ∷ cs)) ≡ token_at s.start held ++ later = rw (f, i) (ended_more s.start held (parts [] cs) (omega (arith, length-slice_split is_blank (take_while is_log_byte cs)))) in
+    let k : ended s.start (parts held (c ∷ cs)) ≡ token_at s.start held ++ later
+    = rw (f, i) (ended_more s.start held (parts [] cs) (omega (arith, length-slice_split is_blank (take_while is_log_byte cs)))) in
     let m = closes s.stage s.start held later in
     let stage : stage_after_all s.stage (ended s.start (parts held (c ∷ cs))) ≡ stage_after_all t.stage later = rw (k, fits.word) m.0 in
     let items : items_given s.stage (ended s.start (parts held (c ∷ cs))) ≡ closed_gives s ++ items_given t.stage later = rw (k, fits.word) m.1 in
     blank_cases s held c cs t scan refl stage items e (is_refused t.stage) refl (λ going. rest t [] (record { going = going; word = refl; at = omega arith; plain = All-nil _ }))
 
-agrees_byte : (s : ScannerValue) (held : Bytes) (c : ℕ) (cs : Bytes) → Fits s held → ((t : ScannerValue) (more : Bytes) → Fits t more → Agrees t more cs) → (b g : Bool) → is_blank c ≡ b → is_log_byte c ≡ g → Agrees s held (c ∷ cs)
+agrees_byte : (s : ScannerValue) (held : Bytes) (c : ℕ) (cs : Bytes) → Fits s held → ((t : ScannerValue) (more : Bytes) → Fits t more → Agrees t more cs) → (b g : Bool) → is_blank c ≡ b
+    → is_log_byte c ≡ g → Agrees s held (c ∷ cs)
 agrees_byte s held c cs fits rest true g b h = agrees_blank s held c cs fits b rest
 agrees_byte s held c cs fits rest false true b h = agrees_good s held c cs fits b h rest
 agrees_byte s held c cs fits rest false false b h = agrees_bad s held c cs fits b h

@@ -19,6 +19,7 @@ scanned-at s c = at_refused (is_refused s.stage) where
   at_blank false = at_good (is_log_byte c)
 
   at_refused : (r : Bool)
-      → (if r then s else (if is_blank c then closed s else (if is_log_byte c then record s { word = held_with s.word c; at = s.at + 1 } else record s { stage = Refused (BadByte s.at) }))).at ≤ s.at + 1
+      → (if r then s else (if is_blank c then closed s else (if is_log_byte c then record s { word = held_with s.word c; at = s.at + 1 } else record s { stage = Refused (BadByte s.at) }))).at
+      ≤ s.at + 1
   at_refused true = omega arith
   at_refused false = at_blank (is_blank c)

@@ -13,7 +13,8 @@ LeadAlike s text t rest = (scanned_all s text ≡ scanned_all t rest) × (all_gi
 
 -- a digit adds to this number
 abbrev pub IsNumberSoFar : HeldWord → Bool → ℕ → Type 0
-IsNumberSoFar word negative size = (c : ℕ) → is_digit c ≡ true → held_with word c ≡ number_with negative size c
+IsNumberSoFar word negative size = (c : ℕ) → is_digit c ≡ true
+    → held_with word c ≡ number_with negative size c
 
 -- the scanner `count` bytes further, behind a number
 abbrev pub numbered : ScannerValue → Bool → ℕ → ℕ → ScannerValue
@@ -21,5 +22,6 @@ numbered s negative size count = record s { word = form.Number negative size; at
 
 -- the `count` bytes at the front are digits, which make the number `before` the number `after`
 abbrev pub DigitsLead : ℕ → Bytes → ℕ → ℕ → Type 0
-DigitsLead before text after count = (negative : Bool) (s : ScannerValue) → is_refused s.stage ≡ false → IsNumberSoFar s.word negative before
+DigitsLead before text after count = (negative : Bool) (s : ScannerValue) → is_refused s.stage ≡ false
+    → IsNumberSoFar s.word negative before
     → 0 < count → LeadAlike s text (numbered s negative after count) (drop count text)

@@ -15,11 +15,14 @@ ready stage at = record { stage = stage; word = Empty; start = at; at = at }
 -- a list of numbers is at hand, to which a positive number is added
 pub record TakesNumbers (stage : List ℕ → Stage) : Type 0 where
   pub going : (numbers : List ℕ) → is_refused (stage numbers) ≡ false
-  pub joined : (numbers : List ℕ) (number place : ℕ) → 0 < number → stage_after (stage numbers) (Number false number) place ≡ stage (numbers ++ number ∷ [])
-  pub nothing : (numbers : List ℕ) (number : ℕ) → 0 < number → item_given (stage numbers) (Number false number) ≡ []
+  pub joined : (numbers : List ℕ) (number place : ℕ) → 0 < number
+      → stage_after (stage numbers) (Number false number) place ≡ stage (numbers ++ number ∷ [])
+  pub nothing : (numbers : List ℕ) (number : ℕ) → 0 < number
+      → item_given (stage numbers) (Number false number) ≡ []
 
 -- the `count` bytes at the front are positive numbers, each before a blank, which make the list `before` the
 -- list `after`
 abbrev pub NumbersLead : List ℕ → Bytes → List ℕ → ℕ → Type 0
-NumbersLead before text after count = (stage : List ℕ → Stage) (s : ScannerValue) → TakesNumbers stage → s.stage ≡ stage before → s.word ≡ Empty
+NumbersLead before text after count = (stage : List ℕ → Stage) (s : ScannerValue) → TakesNumbers stage
+    → s.stage ≡ stage before → s.word ≡ Empty
     → 0 < count → LeadAlike s text (ready (stage after) (s.at + count)) (drop count text)

@@ -11,7 +11,8 @@ use Rattle.cnf_core.specs.NumberList.{list_rest}
 -- the items behind additions of which this id is the greatest
 abbrev pub items_text : ℕ → List LogItem → Bytes
 items_text greatest [] = []
-items_text greatest (item ∷ log) = line_text (item_line greatest item) ++ items_text (greatest_with greatest item) log
+items_text greatest (item ∷ log)
+    = line_text (item_line greatest item) ++ items_text (greatest_with greatest item) log
 
 -- what is left of a line: of an addition's literals, and of its hints or a removal's ids
 abbrev pub line_rest : Option (Bor Clause) → Option (Bor (List ℕ)) → Bytes

@@ -1,7 +1,8 @@
 -- Where a reader stands in the grammar of logs, as its fields say it.
 use Rattle.proof_semantics.specs.LratMatching.{Stage, Outside, Begun, Literals, Hints, Deletion, Refused}
 use Rattle.cnf_core.specs.declared.lrat_part.Part.{Part}
-use Rattle.cnf_core.specs.declared.lrat_part.Part.TheVariants.{BetweenItems, AfterId, InLiterals, InHints, InDeletion, AfterRefusal}
+use Rattle.cnf_core.specs.declared.lrat_part.Part.TheVariants.{BetweenItems, AfterId, InLiterals, InHints}
+use Rattle.cnf_core.specs.declared.lrat_part.Part.TheVariants.{InDeletion, AfterRefusal}
 use Rattle.cnf_core.specs.declared.lrat_scanner.Scanner.{Scanner}
 use Rattle.cnf_core.specs.LratScanning.{ScannerValue}
 use Rattle.cnf_core.specs.Drafts.{ItemDraftValue}

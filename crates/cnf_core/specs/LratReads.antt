@@ -1,5 +1,6 @@
 -- What a reader of logs has read.
-use Rattle.std.specs.Prelude.{◌≡◌, ℕ, ◌+◌, Bool, false, List, [], ◌++◌, slice_get, Option, Some, None, is_some, Err, if◌then◌else◌, ◌⊎◌}
+use Rattle.std.specs.Prelude.{◌≡◌, ℕ, ◌+◌, Bool, false, List, [], ◌++◌, slice_get, Option, Some, None}
+use Rattle.std.specs.Prelude.{is_some, Err, if◌then◌else◌, ◌⊎◌}
 use Rattle.semantics.specs.Texts.{Bytes}
 use Rattle.proof_semantics.specs.declared.lrat_refusal.LratRefusal.{LratRefusal}
 use Rattle.proof_semantics.specs.declared.lrat_refusal.LratRefusal.TheVariants.{OutOfMemory}
@@ -40,9 +41,13 @@ IsFeedRefusal old piece r new = elim old.refused [
 abbrev pub IsFinishRefusal : LogRead → LratRefusal → LogRead → Type 0
 IsFinishRefusal old r new = elim old.refused [
   | Some refusal ↦ (r ≡ refusal) × (new ≡ old)
-  | None ↦ ((r ≡ OutOfMemory) × (new ≡ old)) ⊎ ((lrat_items old.text ≡ Err r) × (new ≡ record old { refused = Some r }))
+  | None ↦ ((r ≡ OutOfMemory) × (new ≡ old))
+      ⊎ ((lrat_items old.text ≡ Err r) × (new ≡ record old { refused = Some r }))
 ]
 
 -- the next item was given, if there is one
 abbrev pub after_next : LogRead → LogRead
-after_next v = record v { given = if is_some (slice_get (read_items v) v.given) then v.given + 1 else v.given }
+after_next v = record v {
+  given
+      = if is_some (slice_get (read_items v) v.given) then v.given + 1 else v.given;
+}

@@ -1,5 +1,6 @@
 -- A log's text byte by byte. Laws of proofs/ say that it comes to what the definitions of whole texts say.
-use Rattle.std.specs.Prelude.{◌≡◌, ℕ, ◌+◌, ◌-◌, ◌*◌, Bool, true, false, ◌==◌, List, [], ◌∷◌, ◌++◌, Option, Some, None, if◌then◌else◌}
+use Rattle.std.specs.Prelude.{◌≡◌, ℕ, ◌+◌, ◌-◌, ◌*◌, Bool, true, false, ◌==◌, List, [], ◌∷◌, ◌++◌, Option}
+use Rattle.std.specs.Prelude.{Some, None, if◌then◌else◌}
 use Rattle.semantics.specs.Texts.{Bytes}
 use Rattle.semantics.specs.Decimal.{is_digit}
 use Rattle.proof_semantics.specs.declared.lrat_refusal.LratRefusal.TheVariants.{BadByte}
@@ -19,11 +20,13 @@ whole (Number negative size) = form.Number negative size
 whole Malformed = form.Malformed
 
 abbrev pub number_with : Bool → ℕ → ℕ → HeldWord
-number_with negative size c = whole (if is_digit c then number_word negative (10 * size + (c - 48)) else Malformed)
+number_with negative size c
+    = whole (if is_digit c then number_word negative (10 * size + (c - 48)) else Malformed)
 
 -- the bytes held with one more
 abbrev pub held_with : HeldWord → ℕ → HeldWord
-held_with form.Empty c = if c == 100 then form.Letter else (if c == 45 then form.Minus else number_with false 0 c)
+held_with form.Empty c = if c == 100 then form.Letter
+    else (if c == 45 then form.Minus else number_with false 0 c)
 held_with form.Minus c = number_with true 0 c
 held_with (form.Number negative size) c = number_with negative size c
 held_with form.Letter c = form.Malformed
@@ -58,7 +61,12 @@ given_with stage (Some word) = item_given stage word
 
 -- a blank ends the token at hand
 abbrev pub closed : ScannerValue → ScannerValue
-closed s = record { stage = stage_with s.stage (ended_word s.word) s.start; word = form.Empty; start = s.at + 1; at = s.at + 1 }
+closed s = record {
+  stage = stage_with s.stage (ended_word s.word) s.start;
+  word = form.Empty;
+  start = s.at + 1;
+  at = s.at + 1;
+}
 
 abbrev pub closed_gives : ScannerValue → List LogItem
 closed_gives s = given_with s.stage (ended_word s.word)

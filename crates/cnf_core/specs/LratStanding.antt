@@ -16,7 +16,8 @@ read_view a = record {
 }
 
 pub record Stands (a : Inside) : Type 0 where
-  pub scanner : is_refused (stage_at a.scanner.part a.draft) ≡ false → scanner_at a.scanner a.draft ≡ scanned_all begin (read_text a.text.bytes a.is_finished)
+  pub scanner : is_refused (stage_at a.scanner.part a.draft) ≡ false
+      → scanner_at a.scanner a.draft ≡ scanned_all begin (read_text a.text.bytes a.is_finished)
   pub waiting : a.waiting.items ≡ drop (read_view a).given (read_items (read_view a))
   pub literals : a.draft.literals.before ≡ []
   pub numbers : a.draft.numbers.before ≡ []

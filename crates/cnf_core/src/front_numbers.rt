@@ -13,7 +13,8 @@ use std::alloc::AllocError;
 #[inline(always)]
 pub fn take_numbers(numbers: &mut Draft<u64>, bytes: &[u8]) -> Result<usize, AllocError>
     ensures within { IfOk result (λ count. count ≤ length bytes.now) }
-    ensures lead { IfOk result (λ count. NumbersLead numbers.old.at_hand bytes.now numbers.new.at_hand count) }
+    ensures lead { IfOk result
+        (λ count. NumbersLead numbers.old.at_hand bytes.now numbers.new.at_hand count) }
     ensures none { IfOk result (λ count. count ≡ 0 → numbers.new ≡ numbers.old) }
     ensures grown { HasGrown numbers.old numbers.new }
 {

@@ -41,7 +41,10 @@ pub struct Lengths {
 impl ItemDraft {
     /// No lists. The call takes no memory.
     pub fn new(alloc: Global) -> ItemDraft
-        ensures { result ≡ record { literals = record { before = []; at_hand = [] }; numbers = record { before = []; at_hand = [] } } }
+        ensures { result ≡ record {
+          literals = record { before = []; at_hand = [] };
+          numbers = record { before = []; at_hand = [] };
+        } }
     {
         ItemDraft {
             literals: Draft::new(alloc),
@@ -51,7 +54,8 @@ impl ItemDraft {
 
     /// Begins an empty list of literals.
     pub fn begin_literals(&mut self)
-        ensures value { self.new ≡ record self.old { literals = record { before = whole self.old.literals; at_hand = [] } } }
+        ensures value { self.new
+            ≡ record self.old { literals = record { before = whole self.old.literals; at_hand = [] } } }
         ensures grows { Grows self.old self.new }
     {
         self.literals.begin();
@@ -59,7 +63,8 @@ impl ItemDraft {
 
     /// Begins an empty list of hints or ids.
     pub fn begin_numbers(&mut self)
-        ensures value { self.new ≡ record self.old { numbers = record { before = whole self.old.numbers; at_hand = [] } } }
+        ensures value { self.new
+            ≡ record self.old { numbers = record { before = whole self.old.numbers; at_hand = [] } } }
         ensures grows { Grows self.old self.new }
     {
         self.numbers.begin();
@@ -69,7 +74,10 @@ impl ItemDraft {
     pub fn push_literal(&mut self, literal: Literal) -> Result<(), AllocError>
         requires { IsLiteral literal }
         ensures ok { OnOk result (self.new
-            ≡ record self.old { literals = record self.old.literals { at_hand = self.old.literals.at_hand ++ literal ∷ [] } }) }
+            ≡ record self.old {
+              literals
+                  = record self.old.literals { at_hand = self.old.literals.at_hand ++ literal ∷ [] };
+            }) }
         ensures err { OnErr result (self.new ≡ self.old) }
         ensures grows { Grows self.old self.new }
     {
@@ -79,7 +87,10 @@ impl ItemDraft {
     /// Adds a hint or an id to the list at hand. A refusal leaves everything as it was.
     pub fn push_number(&mut self, number: u64) -> Result<(), AllocError>
         ensures ok { OnOk result (self.new
-            ≡ record self.old { numbers = record self.old.numbers { at_hand = self.old.numbers.at_hand ++ number ∷ [] } }) }
+            ≡ record self.old {
+              numbers
+                  = record self.old.numbers { at_hand = self.old.numbers.at_hand ++ number ∷ [] };
+            }) }
         ensures err { OnErr result (self.new ≡ self.old) }
         ensures grows { Grows self.old self.new }
     {
@@ -91,7 +102,8 @@ impl ItemDraft {
     #[inline(always)]
     pub fn push_numbers(&mut self, bytes: &[u8]) -> Result<usize, AllocError>
         ensures within { IfOk result (λ count. count ≤ length bytes.now) }
-        ensures lead { IfOk result (λ count. NumbersLead self.old.numbers.at_hand bytes.now self.new.numbers.at_hand count) }
+        ensures lead { IfOk result
+            (λ count. NumbersLead self.old.numbers.at_hand bytes.now self.new.numbers.at_hand count) }
         ensures kept { IfOk result (λ _. self.new ≡ with_numbers self.old self.new.numbers.at_hand) }
         ensures none { IfOk result (λ count. count ≡ 0 → self.new ≡ self.old) }
         ensures grows { Grows self.old self.new }

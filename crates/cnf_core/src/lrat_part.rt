@@ -1,6 +1,8 @@
 //! Where a log's text stands in the grammar of LRAT, and how a token goes on.
 ghost use Rattle.std.specs.Prelude.{◌≡◌, ◌^◌, ◌<◌, ◌++◌, IfOk, OnErr};
-ghost use Rattle.proof_semantics.specs.LratMatching.{Begun, Literals, Hints, Deletion, signed, after_outside, after_begun, after_literals, after_hints, after_deletion, stage_after, item_given};
+ghost use Rattle.proof_semantics.specs.LratMatching.{Begun, Literals, Hints, Deletion, signed, after_outside};
+ghost use Rattle.proof_semantics.specs.LratMatching.{after_begun, after_literals, after_hints};
+ghost use Rattle.proof_semantics.specs.LratMatching.{after_deletion, stage_after, item_given};
 ghost use Rattle.proof_semantics.specs.LratReading.{refusal_at, refusal_at_end};
 ghost use Rattle.cnf_core.specs.Drafts.{Grows};
 ghost use Rattle.cnf_core.specs.LratParts.{stage_at};
@@ -58,7 +60,8 @@ fn after_literals(
     place: u64,
     draft: &mut ItemDraft,
 ) -> Result<Part, AllocError>
-    ensures ok { IfOk result (λ part. stage_at part draft.new ≡ after_literals id draft.old.literals.at_hand word place) }
+    ensures ok { IfOk result (λ part. stage_at part draft.new
+        ≡ after_literals id draft.old.literals.at_hand word place) }
     ensures grows { Grows draft.old draft.new }
 {
     match word {
@@ -97,8 +100,10 @@ fn after_hints(
     draft: &mut ItemDraft,
     items: &mut VecDeque<Item>,
 ) -> Result<Part, AllocError>
-    ensures ok { IfOk result (λ part. (stage_at part draft.new ≡ after_hints id draft.old.literals.at_hand draft.old.numbers.at_hand word place)
-        × (items.new.items ≡ items.old.items ++ item_given (Hints id draft.old.literals.at_hand draft.old.numbers.at_hand) word)) }
+    ensures ok { IfOk result (λ part. (stage_at part draft.new
+        ≡ after_hints id draft.old.literals.at_hand draft.old.numbers.at_hand word place)
+        × (items.new.items ≡ items.old.items
+        ++ item_given (Hints id draft.old.literals.at_hand draft.old.numbers.at_hand) word)) }
     ensures err { OnErr result (items.new.items ≡ items.old.items) }
     ensures grows { Grows draft.old draft.new }
 {
@@ -125,7 +130,8 @@ fn after_deletion(
     draft: &mut ItemDraft,
     items: &mut VecDeque<Item>,
 ) -> Result<Part, AllocError>
-    ensures ok { IfOk result (λ part. (stage_at part draft.new ≡ after_deletion draft.old.numbers.at_hand word place)
+    ensures ok { IfOk result (λ part. (stage_at part draft.new
+        ≡ after_deletion draft.old.numbers.at_hand word place)
         × (items.new.items ≡ items.old.items ++ item_given (Deletion draft.old.numbers.at_hand) word)) }
     ensures err { OnErr result (items.new.items ≡ items.old.items) }
     ensures grows { Grows draft.old draft.new }
@@ -158,7 +164,8 @@ impl Part {
         draft: &mut ItemDraft,
         items: &mut VecDeque<Item>,
     ) -> Result<Part, AllocError>
-        ensures ok { IfOk result (λ part. (stage_at part draft.new ≡ stage_after (stage_at self draft.old) word place)
+        ensures ok { IfOk result
+            (λ part. (stage_at part draft.new ≡ stage_after (stage_at self draft.old) word place)
             × (items.new.items ≡ items.old.items ++ item_given (stage_at self draft.old) word)) }
         ensures err { OnErr result (items.new.items ≡ items.old.items) }
         ensures grows { Grows draft.old draft.new }

@@ -1,7 +1,8 @@
 //! A log whose text comes in pieces. Source: LRAT.
 ghost use Rattle.std.specs.Prelude.{◌≡◌, ◌+◌, ◌^◌, ◌<◌, false, true, length, slice_get, IfErr, OnErr, OnOk};
 ghost use Rattle.proof_semantics.specs.LratReading.{lrat_items};
-ghost use Rattle.cnf_core.specs.LratReads.{nothing_read, read_items, fed, IsFeedRefusal, IsFinishRefusal, after_next};
+ghost use Rattle.cnf_core.specs.LratReads.{nothing_read, read_items, fed, IsFeedRefusal, IsFinishRefusal};
+ghost use Rattle.cnf_core.specs.LratReads.{after_next};
 
 use crate::item_draft::ItemDraft;
 use crate::log::Item;
@@ -89,7 +90,8 @@ impl LratReader {
     pub fn feed(&mut self, piece: &[u8]) -> Result<(), LratRefusal>
         requires going { self.old.finished ≡ false }
         requires size { length self.old.text + length piece.now < 2 ^ 63 }
-        ensures ok { OnOk result ((self.old.refused ≡ None) × (self.new ≡ fed self.old piece.now) × (self.new.refused ≡ None)) }
+        ensures ok { OnOk result
+            ((self.old.refused ≡ None) × (self.new ≡ fed self.old piece.now) × (self.new.refused ≡ None)) }
         ensures err { IfErr result (λ r. IsFeedRefusal self.old piece.now r self.new) }
     {
         if let Some(refusal) = self.refusal() {
@@ -116,7 +118,8 @@ impl LratReader {
     /// nothing changes.
     pub fn finish(&mut self) -> Result<(), LratRefusal>
         requires { length self.old.text < 2 ^ 63 }
-        ensures ok { OnOk result ((self.old.refused ≡ None) × (lrat_items self.old.text ≡ Ok (read_items self.new))
+        ensures ok { OnOk result
+            ((self.old.refused ≡ None) × (lrat_items self.old.text ≡ Ok (read_items self.new))
             × (self.new ≡ record self.old { finished = true })) }
         ensures err { IfErr result (λ r. IsFinishRefusal self.old r self.new) }
     {

@@ -1,7 +1,8 @@
 //! A log's text byte by byte.
 ghost use Rattle.std.specs.Prelude.{◌≡◌, ◌+◌, ◌^◌, ◌<◌, ◌≤◌, ◌++◌, length, drop, false, IsTrue, IfOk, OnErr};
 ghost use Rattle.proof_semantics.specs.LratReading.{is_refused};
-ghost use Rattle.cnf_core.specs.LratScanning.{begin, closed, closed_gives, scanned, gives, scanned_all, all_given, FoundMore};
+ghost use Rattle.cnf_core.specs.LratScanning.{begin, closed, closed_gives, scanned, gives, scanned_all};
+ghost use Rattle.cnf_core.specs.LratScanning.{all_given, FoundMore};
 ghost use Rattle.cnf_core.specs.FrontDigits.{LeadAlike, IsNumberSoFar};
 ghost use Rattle.cnf_core.specs.FrontNumbers.{TakesNumbers};
 ghost use Rattle.cnf_core.specs.Drafts.{ItemDraftValue, with_numbers, Grows};
@@ -111,7 +112,8 @@ impl Scanner {
         requires number { IsNumberSoFar self.word number.negative number.size }
         requires place { self.at + length bytes.now < 2 ^ 63 }
         ensures within { result.count ≤ length bytes.now }
-        ensures lead { LeadAlike (scanner_at self draft.now) bytes.now (scanner_at result.scanner draft.now) (drop result.count bytes.now) }
+        ensures lead { LeadAlike (scanner_at self draft.now) bytes.now (scanner_at result.scanner draft.now)
+            (drop result.count bytes.now) }
         ensures place { result.scanner.at ≡ self.at + result.count }
     {
         let digits = take_digits(number.size, bytes);
@@ -139,7 +141,8 @@ impl Scanner {
     fn with_front(self, bytes: &[u8], draft: &ItemDraft) -> Advance
         requires { self.at + length bytes.now < 2 ^ 63 }
         ensures within { result.count ≤ length bytes.now }
-        ensures lead { LeadAlike (scanner_at self draft.now) bytes.now (scanner_at result.scanner draft.now) (drop result.count bytes.now) }
+        ensures lead { LeadAlike (scanner_at self draft.now) bytes.now (scanner_at result.scanner draft.now)
+            (drop result.count bytes.now) }
         ensures place { result.scanner.at ≡ self.at + result.count }
     {
         match self.word.number() {
@@ -157,7 +160,8 @@ impl Scanner {
     #[inline(always)]
     fn takes_numbers(self) -> bool
         ensures { IsTrue result → (self.word ≡ HeldWord.Empty)
-            × ((draft : ItemDraftValue) → TakesNumbers (λ numbers. stage_at self.part (with_numbers draft numbers))) }
+            × ((draft : ItemDraftValue)
+            → TakesNumbers (λ numbers. stage_at self.part (with_numbers draft numbers))) }
     {
         match self.part {
             Part::InHints(_) | Part::InDeletion => self.word.is_empty(),
@@ -171,7 +175,8 @@ impl Scanner {
         requires { self.at + length bytes.now < 2 ^ 63 }
         ensures within { IfOk result (λ a. a.count ≤ length bytes.now) }
         ensures lead { IfOk result (λ a.
-            LeadAlike (scanner_at self draft.old) bytes.now (scanner_at a.scanner draft.new) (drop a.count bytes.now)) }
+            LeadAlike (scanner_at self draft.old) bytes.now (scanner_at a.scanner draft.new)
+            (drop a.count bytes.now)) }
         ensures place { IfOk result (λ a. a.scanner.at ≡ self.at + a.count) }
         ensures grows { Grows draft.old draft.new }
     {
@@ -207,7 +212,8 @@ impl Scanner {
         items: &mut VecDeque<Item>,
     ) -> Result<Scanner, AllocError>
         requires { self.at + length bytes.now < 2 ^ 63 }
-        ensures ok { IfOk result (λ s. (scanner_at s draft.new ≡ scanned_all (scanner_at self draft.old) bytes.now)
+        ensures ok { IfOk result
+            (λ s. (scanner_at s draft.new ≡ scanned_all (scanner_at self draft.old) bytes.now)
             × (items.new.items ≡ items.old.items ++ all_given (scanner_at self draft.old) bytes.now)) }
         ensures items { FoundMore items.old.items items.new.items }
         ensures grows { Grows draft.old draft.new }

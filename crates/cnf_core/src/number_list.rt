@@ -11,7 +11,8 @@ pub fn next_of_list<I: Integer>(list: &mut Option<&[I]>, end: &[u8], token: &mut
     requires some { 0 < length end.now }
     requires short { length end.now ≤ 8 }
     ensures { MatchBool result
-        ((list_rest I.text end.now list.old ≡ token.new ++ list_rest I.text end.now list.new) × (0 < length token.new))
+        ((list_rest I.text end.now list.old ≡ token.new ++ list_rest I.text end.now list.new)
+        × (0 < length token.new))
         ((list.old ≡ None) × (list.new ≡ None) × (token.new ≡ token.old)) }
 {
     let Some(numbers) = *list else {

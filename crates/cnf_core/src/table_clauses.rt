@@ -1,8 +1,11 @@
-//! The clauses of a table: each row is the conjunction of its literals, and the table the disjunction of its rows.
-//! Source: Tseitin's encoding.
-ghost use Rattle.std.specs.Prelude.{◌≡◌, ◌+◌, ◌<◌, ◌^◌, [], ◌∷◌, ◌++◌, true, not, map, length, All, neg_ℤ, IfOk, OnOk};
+//! The clauses of a table: each row is the conjunction of its literals, and the table the disjunction of its
+//! rows. Source: Tseitin's encoding.
+ghost use Rattle.std.specs.Prelude.{◌≡◌, ◌+◌, ◌<◌, ◌^◌, [], ◌∷◌, ◌++◌, true, not, map, length, All, neg_ℤ};
+ghost use Rattle.std.specs.Prelude.{IfOk, OnOk};
 ghost use Rattle.proof_semantics.specs.Clauses.{with_literals};
-ghost use Rattle.proof_semantics.specs.NetClauses.{literal_at, mark_literals, literals_of_row, implication, row_clauses, rows_clauses, implications, variables_from, table_clauses};
+ghost use Rattle.proof_semantics.specs.NetClauses.{literal_at, mark_literals, literals_of_row, implication};
+ghost use Rattle.proof_semantics.specs.NetClauses.{row_clauses, rows_clauses, implications, variables_from};
+ghost use Rattle.proof_semantics.specs.NetClauses.{table_clauses};
 ghost use Rattle.proof_parts.specs.Literals.{IsLiteral};
 
 use crate::clause::{ClauseList, Lits};

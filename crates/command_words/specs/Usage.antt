@@ -3,4 +3,6 @@ use Rattle.std.specs.Prelude.{codes}
 use Rattle.semantics.specs.Texts.{Bytes}
 
 abbrev pub usage_line : Bytes
-usage_line = codes "usage: synth METRIC BOUND CONFLICTS IN STEM, check METRIC BOUND IN STEM, flat IN OUT, aag IN OUT, blif IN OUT, trim METRIC BOUND IN STEM OUT, or demo WIDTH BOUND CONFLICTS"
+usage_line
+    = codes
+    "usage: synth METRIC BOUND CONFLICTS IN STEM, check METRIC BOUND IN STEM, flat IN OUT, aag IN OUT, blif IN OUT, trim METRIC BOUND IN STEM OUT, or demo WIDTH BOUND CONFLICTS"

@@ -18,7 +18,8 @@ job_meaning (Trim metric bound input stem output) = words.trim metric bound inpu
 abbrev pub HasRanges : Command → Type 0
 HasRanges (Synth metric bound conflicts input stem) = (bound ≤ LARGEST_ERROR) × (1 ≤ conflicts)
 HasRanges (Check metric bound input stem) = bound ≤ LARGEST_ERROR
-HasRanges (Demo width bound conflicts) = (bound ≤ LARGEST_ERROR) × (1 ≤ conflicts) × (1 ≤ width) × (width ≤ 32)
+HasRanges (Demo width bound conflicts) = (bound ≤ LARGEST_ERROR) × (1 ≤ conflicts) × (1 ≤ width)
+    × (width ≤ 32)
 HasRanges (Flat input output) = Unit {0}
 HasRanges (Aag input output) = Unit {0}
 HasRanges (Blif input output) = Unit {0}

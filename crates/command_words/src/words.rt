@@ -1,7 +1,9 @@
 //! The words of the command line, and the job that they name.
 ghost use Rattle.std.specs.Prelude.{◌≡◌, option_map, IfSome};
 ghost use Rattle.semantics.specs.Texts.{Bytes};
-ghost use Rattle.job_semantics.specs.Job.{Job, job_of, synth_of, check_of, demo_of, conversion_of, trim_of, flat, aag, blif, metric_of, bound_of, conflicts_of, are_file_words, is_output_word, are_trim_words};
+ghost use Rattle.job_semantics.specs.Job.{Job, job_of, synth_of, check_of, demo_of, conversion_of, trim_of};
+ghost use Rattle.job_semantics.specs.Job.{flat, aag, blif, metric_of, bound_of, conflicts_of, are_file_words};
+ghost use Rattle.job_semantics.specs.Job.{is_output_word, are_trim_words};
 ghost use Rattle.command_words.specs.Words.{job_meaning, HasRanges};
 
 use crate::bundle_names::is_bundle_name;
@@ -154,7 +156,8 @@ fn demo(words: &[Word]) -> Option<Command<'_>>
 
 /// IN and OUT of a conversion.
 fn conversion(words: &[Word]) -> Option<(&[u8], &[u8])>
-    ensures { (job : Bytes → Bytes → Job) → option_map (λ pair. job pair.0.now pair.1.now) result ≡ conversion_of job words.now }
+    ensures { (job : Bytes → Bytes → Job)
+        → option_map (λ pair. job pair.0.now pair.1.now) result ≡ conversion_of job words.now }
 {
     let [input, output] = words else {
         return None;

@@ -1,4 +1,5 @@
-//! What stands between a program and its user: the words of the command line, files, standard output, and a line on a terminal.
+//! What stands between a program and its user: the words of the command line, files, standard output, and a
+//! line on a terminal.
 #![tactic(auto)]
 
 pub mod arguments;

@@ -3,7 +3,8 @@
 ghost use Rattle.std.specs.Prelude.{◌≡◌, ◌<◌, ◌≤◌, [], None, length, take};
 ghost use Rattle.std.specs.Prelude.{IsErr, IsSomeAnd, IfOk, OnOk, OnErr};
 ghost use Rattle.std.specs.Io.KnownBytes.{Appends, Consumes, IsAtEnd};
-ghost use Rattle.outside_semantics.specs.Outside.{Gave, ReadFailed, Wrote, WriteFailed, Opened, OpenFailed, Created, CreateFailed};
+ghost use Rattle.outside_semantics.specs.Outside.{Gave, ReadFailed, Wrote, WriteFailed, Opened, OpenFailed};
+ghost use Rattle.outside_semantics.specs.Outside.{Created, CreateFailed};
 ghost use Rattle.console.specs.Untold.{untold, WhereOpen};
 ghost use Rattle.console.specs.Options.{to_read, to_create};
 
@@ -66,9 +67,11 @@ impl<R: Paths + Drop> Files for RealFiles<R> {
 
     fn open_file(&mut self, name: &[u8]) -> Result<(), FileFault>
         ensures ok { OnOk result
-            (Opened (untold self.old.faults self.old.reads) (untold self.new.faults self.new.reads) name.now) }
+            (Opened (untold self.old.faults self.old.reads) (untold self.new.faults self.new.reads)
+            name.now) }
         ensures err { OnErr result
-            (OpenFailed (untold self.old.faults self.old.reads) (untold self.new.faults self.new.reads) name.now) }
+            (OpenFailed (untold self.old.faults self.old.reads) (untold self.new.faults self.new.reads)
+            name.now) }
         ensures opens { OnOk result
             (IsSomeAnd self.new.reading (R.opened self.old.paths to_read name.now)) }
         ensures closes { OnErr result (self.new.reading ≡ None) }
@@ -92,7 +95,8 @@ impl<R: Paths + Drop> Files for RealFiles<R> {
     fn read(&mut self, buffer: &mut [u8]) -> Result<usize, FileFault>
         ensures within { IfOk result (λ n. n ≤ length buffer.new) }
         ensures ok { IfOk result
-            (λ n. Gave (untold self.old.faults self.old.reads) (untold self.new.faults self.new.reads) n buffer.new) }
+            (λ n. Gave (untold self.old.faults self.old.reads) (untold self.new.faults self.new.reads) n
+            buffer.new) }
         ensures err { OnErr result
             (ReadFailed (untold self.old.faults self.old.reads) (untold self.new.faults self.new.reads)) }
         ensures closed { self.old.reading ≡ None → IsErr result }
@@ -114,9 +118,11 @@ impl<R: Paths + Drop> Files for RealFiles<R> {
 
     fn create(&mut self, name: &[u8]) -> Result<(), FileFault>
         ensures ok { OnOk result
-            (Created (untold self.old.faults self.old.reads) (untold self.new.faults self.new.reads) name.now) }
+            (Created (untold self.old.faults self.old.reads) (untold self.new.faults self.new.reads)
+            name.now) }
         ensures err { OnErr result
-            (CreateFailed (untold self.old.faults self.old.reads) (untold self.new.faults self.new.reads) name.now) }
+            (CreateFailed (untold self.old.faults self.old.reads) (untold self.new.faults self.new.reads)
+            name.now) }
         ensures opens { OnOk result
             (IsSomeAnd self.new.writing (R.opened self.old.paths to_create name.now)) }
         ensures closes { OnErr result (self.new.writing ≡ None) }
@@ -139,7 +145,8 @@ impl<R: Paths + Drop> Files for RealFiles<R> {
         ensures within { IfOk result (λ n. n ≤ length piece.now) }
         ensures progress { IfOk result (λ n. 0 < length piece.now → 0 < n) }
         ensures ok { IfOk result
-            (λ n. Wrote (untold self.old.faults self.old.reads) (untold self.new.faults self.new.reads) (take n piece.now)) }
+            (λ n. Wrote (untold self.old.faults self.old.reads) (untold self.new.faults self.new.reads)
+            (take n piece.now)) }
         ensures err { OnErr result
             (WriteFailed (untold self.old.faults self.old.reads) (untold self.new.faults self.new.reads) []) }
         ensures closed { self.old.writing ≡ None → IsErr result }

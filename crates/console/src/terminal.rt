@@ -1,5 +1,5 @@
-//! How far the work is, on a terminal: one line, made anew at most once a second, and taken away at the end; and how long its parts
-//! took, in one line at the end.
+//! How far the work is, on a terminal: one line, made anew at most once a second, and taken away at the end;
+//! and how long its parts took, in one line at the end.
 use progress::progress::Progress;
 use std::env::{self, VarError};
 use std::rt::Env;
@@ -66,7 +66,8 @@ impl<'a, R: Clock + Eprint + Env + AllocGlobal> Terminal<'a, R> {
 }
 
 impl<'a, R: Clock + Eprint> Terminal<'a, R> {
-    /// Nothing was told yet. A line is shown only where `is_shown`, and the parts are timed only where `is_timed`.
+    /// Nothing was told yet. A line is shown only where `is_shown`, and the parts are timed only where
+    /// `is_timed`.
     pub fn new(runtime: &'a R, is_shown: bool, is_timed: bool) -> Self {
         Terminal {
             runtime,
@@ -150,8 +151,9 @@ impl<'a, R: Clock + Eprint> Terminal<'a, R> {
         }
     }
 
-    /// Tells how many moves were made, how many questions of the chain went to the solver, and how many milliseconds the chain, the
-    /// search for the greatest error, and the log with the files took. Nothing is told where no search was timed.
+    /// Tells how many moves were made, how many questions of the chain went to the solver, and how many
+    /// milliseconds the chain, the search for the greatest error, and the log with the files took. Nothing is
+    /// told where no search was timed.
     pub fn tell_parts(&self) {
         let parts = &self.parts;
         if parts.chain.is_none() {

@@ -12,7 +12,8 @@ answer_of_writing (Ok whole) = Done
 answer_of_writing (Err fault) = WriteFault
 
 -- `Tells` says which answer tells a refusal
-abbrev pub IsConversionAnswer : {R : Type 0} {reading : Bytes → Result Bytes R} {input output : Bytes} {old new : FilesTold} {said says : SinkTold}
+abbrev pub IsConversionAnswer : {R : Type 0} {reading : Bytes → Result Bytes R} {input output : Bytes}
+    {old new : FilesTold} {said says : SinkTold}
     → (R → Status → Type 0) → ConversionEnd reading input output old new said says → Status → Type 0
 IsConversionAnswer Tells (done d) answer = answer ≡ Done
 IsConversionAnswer Tells (refused refusal r) answer = Tells refusal answer
@@ -21,7 +22,8 @@ IsConversionAnswer Tells (not_read fault) answer = answer ≡ ReadFault
 IsConversionAnswer Tells (not_written cut) answer = answer ≡ WriteFault
 
 -- what a conversion comes to, by its answer
-abbrev pub ConversionAnswer : {R : Type 0} → (Bytes → Result Bytes R) → (R → Status → Type 0) → Bytes → Bytes → FilesTold → FilesTold → SinkTold → SinkTold → Status → Type 0
+abbrev pub ConversionAnswer : {R : Type 0} → (Bytes → Result Bytes R) → (R → Status → Type 0) → Bytes → Bytes
+    → FilesTold → FilesTold → SinkTold → SinkTold → Status → Type 0
 ConversionAnswer reading Tells input output old new said says answer =
     (end : ConversionEnd reading input output old new said says) × IsConversionAnswer Tells end answer
 

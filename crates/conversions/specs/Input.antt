@@ -40,7 +40,8 @@ pub record TextRefused (refusal : Refusal) (old new : FilesTold) (name : Bytes) 
 
 -- the answer where IN gives no net
 abbrev pub NetUnread : FilesTold → FilesTold → Bytes → Status → Type 0
-NetUnread old new name (Text reason) = (refusal : Refusal) × (refusal_of reason ≡ Some refusal) × TextRefused refusal old new name
+NetUnread old new name (Text reason) = (refusal : Refusal) × (refusal_of reason ≡ Some refusal)
+    × TextRefused refusal old new name
 NetUnread old new name ReadFault = FileFailed old new name
 NetUnread old new name NoMemory = FilesStay old new name
 NetUnread old new name _ = ⊥

@@ -1,4 +1,5 @@
--- The text that each conversion makes of IN, or why IN is refused. Source: this tool's own table of commands; BLIF and AIGER.
+-- The text that each conversion makes of IN, or why IN is refused. Source: this tool's own table of commands;
+-- BLIF and AIGER.
 use Rattle.std.specs.Prelude.{Result, Ok, Err}
 use Rattle.semantics.specs.declared.limits.TheConstants.{MOST_INPUT_BYTES}
 use Rattle.semantics.specs.Texts.{Bytes}

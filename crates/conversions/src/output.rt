@@ -20,7 +20,8 @@ pub fn write_circuit<F: Files>(
     output: &[u8],
     files: &mut F,
 ) -> Result<(), FileFault>
-    ensures { WritesFiles result (F.told files.old) (F.told files.new) (output_file output.now (aiger_text circuit.now) ∷ []) }
+    ensures { WritesFiles result (F.told files.old) (F.told files.new)
+        (output_file output.now (aiger_text circuit.now) ∷ []) }
 {
     files.create(output)?;
     write_aiger(circuit, files)
@@ -28,7 +29,8 @@ pub fn write_circuit<F: Files>(
 
 /// Makes the file with the text of a net.
 pub fn write_netlist<F: Files>(net: &Net, output: &[u8], files: &mut F) -> Result<(), FileFault>
-    ensures { WritesFiles result (F.told files.old) (F.told files.new) (output_file output.now (blif_text net.now) ∷ []) }
+    ensures { WritesFiles result (F.told files.old) (F.told files.new)
+        (output_file output.now (blif_text net.now) ∷ []) }
 {
     files.create(output)?;
     write_blif(net, files)

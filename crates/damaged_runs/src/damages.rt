@@ -127,7 +127,8 @@ const DAMAGES: [(&[u8], Damage, Answer); 19] = [
     (b"out.cnf", Damage::Missing, Answer::ReadFault),
 ];
 
-/// Two files, each with its damage, and the answer. A report that claims too much is refuted before the formula is opened.
+/// Two files, each with its damage, and the answer. A report that claims too much is refuted before the
+/// formula is opened.
 const TWO_DAMAGES: [(&[u8], Damage, &[u8], Damage, Answer); 2] = [
     (
         b"out.txt",

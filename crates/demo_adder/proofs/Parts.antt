@@ -19,7 +19,9 @@ pub stages_more : (w i : ℕ) → flat_map (stage_tables w) (range_with_len 0 (i
 stages_more w i = ap (flat_map (stage_tables w)) (range_more i) ∙ flat_map-append (stage_tables w) (range_with_len 0 i) (i ∷ [])
 
 -- these are the parts of the net
-module _ (w : ℕ) (model : Bytes) (inputs : List Bytes) (tables : List TableValue) (outputs : List ℕ) (model_is : model ≡ codes "demo") (inputs_are : inputs ≡ map (demo_name (codes "a")) (range_with_len 0 w) ++ map (demo_name (codes "b")) (range_with_len 0 w)) (tables_are : tables ≡ flat_map (stage_tables w) (range_with_len 0 w)) (outputs_are : outputs ≡ map (sum_signal w) (range_with_len 0 w) ++ carry_signal w (w - 1) ∷ []) where
+module _ (w : ℕ) (model : Bytes) (inputs : List Bytes) (tables : List TableValue) (outputs : List ℕ) (model_is : model ≡ codes "demo")
+    (inputs_are : inputs ≡ map (demo_name (codes "a")) (range_with_len 0 w) ++ map (demo_name (codes "b")) (range_with_len 0 w)) (tables_are : tables ≡ flat_map (stage_tables w) (range_with_len 0 w))
+    (outputs_are : outputs ≡ map (sum_signal w) (range_with_len 0 w) ++ carry_signal w (w - 1) ∷ []) where
   pub parts-net : record { model = model; inputs = inputs; tables = tables; outputs = outputs } ≡ demo_net w
   unfolding demo_net
   parts-net = rw (model_is, inputs_are, tables_are, outputs_are) refl

@@ -13,7 +13,8 @@ use std::alloc::{AllocError, Global};
 /// The names `a0`, `a1` and so on, and then `b0`, `b1` and so on.
 fn input_names(alloc: Global, width: u32) -> Result<NameList, AllocError>
     ensures { IfOk result (λ names. names
-        ≡ map (demo_name (codes "a")) (range_with_len 0 width) ++ map (demo_name (codes "b")) (range_with_len 0 width)) }
+        ≡ map (demo_name (codes "a")) (range_with_len 0 width)
+        ++ map (demo_name (codes "b")) (range_with_len 0 width)) }
 {
     let mut names = numbered_names(alloc, b'a', width)?;
     let second = numbered_names(alloc, b'b', width)?;

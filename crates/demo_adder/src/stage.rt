@@ -1,7 +1,8 @@
 //! The two tables of each stage: those of a half adder, and then those of full adders.
 ghost use Rattle.std.specs.Prelude.{◌≡◌, ◌+◌, ◌≤◌, ◌<◌, [], ◌∷◌, ◌++◌, length, codes, All, IfOk, OnOk};
 ghost use Rattle.quality_semantics.specs.Forms.{form};
-ghost use Rattle.job_semantics.specs.Demo.{demo_name, demo_table, sum_signal, carry_signal, sum_form, carry_form, stage_tables};
+ghost use Rattle.job_semantics.specs.Demo.{demo_name, demo_table, sum_signal, carry_signal, sum_form};
+ghost use Rattle.job_semantics.specs.Demo.{carry_form, stage_tables};
 
 use bus_nets::forms::{AND2, MAJ, XOR2, XOR3};
 use net_core::items::{Signal, SignalList, TableList};

@@ -8,7 +8,8 @@ use memory_runs::runs::{Run, run_failing, run_on};
 use std::alloc::{AllocError, Global};
 use std::test::Fail;
 
-/// A job: its words, whether it reads a file, and the names of its bundle in the order in which they are written.
+/// A job: its words, whether it reads a file, and the names of its bundle in the order in which they are
+/// written.
 #[derive(Clone, Copy)]
 pub(crate) struct Writing<'a> {
     pub(crate) line: &'a [u8],
@@ -62,8 +63,8 @@ fn none_is_there(files: &MemFiles, names: &[&[u8]; 5]) -> bool {
     true
 }
 
-/// Whether one of the files is not whole: it is a first part, or is not there. Those before it are whole, and those after it are
-/// not there.
+/// Whether one of the files is not whole: it is a first part, or is not there. Those before it are whole, and
+/// those after it are not there.
 fn is_cut_short(files: &MemFiles, names: &[&[u8]; 5], whole: &MemFiles) -> bool {
     let mut is_cut = false;
     for name in names {

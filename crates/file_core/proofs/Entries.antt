@@ -1,5 +1,6 @@
 -- What a list of entries holds, and how it changes where an entry is set or put at its end.
-use Rattle.std.proofs.Common.{◌≡◌, ◌≢◌, ℕ, zero, suc, ◌<◌, Bool, true, false, cond, List, [], ◌∷◌, ◌++◌, length, set, take, Some, None, refl, sym, ap, subst, ◌∙◌, arith, ⊎_elim, get_or-set_same, get_or-set_other, length-set}
+use Rattle.std.proofs.Common.{◌≡◌, ◌≢◌, ℕ, zero, suc, ◌<◌, Bool, true, false, cond, List, [], ◌∷◌, ◌++◌, length, set, take, Some, None, refl, sym, ap, subst, ◌∙◌, arith, ⊎_elim, get_or-set_same}
+use Rattle.std.proofs.Common.{get_or-set_other, length-set}
 use Rattle.std.proofs.lemmas.List.{get_or_append_left, get_or_push, length_push, take_at}
 use Rattle.std.proofs.lemmas.Bool.{cases_eq, cond-true, cond-false, false_from_ne_true}
 use Rattle.std.specs.Ordering.{nat_cmp, eq_by_cmp}
@@ -46,7 +47,8 @@ swapped true true x y z apart = absurd (apart refl refl)
 swapped true false x y z apart = refl
 swapped false b x y z apart = refl
 
-find-set : (es : List Entry) (name bytes q : Bytes) (i : ℕ) → i < length es → name_at es i ≡ name → ((k : ℕ) → k < i → name_at es k ≢ name) → find (slice_cmp nat_cmp) q (set es i (name, bytes)) ≡ cond (same_name q name) (Some bytes) (find (slice_cmp nat_cmp) q es)
+find-set : (es : List Entry) (name bytes q : Bytes) (i : ℕ) → i < length es → name_at es i ≡ name → ((k : ℕ) → k < i → name_at es k ≢ name)
+    → find (slice_cmp nat_cmp) q (set es i (name, bytes)) ≡ cond (same_name q name) (Some bytes) (find (slice_cmp nat_cmp) q es)
 find-set [] name bytes q i within named before = absurd (omega arith)
 find-set (e ∷ es) name bytes q zero within named before =
     sym (ap (λ x. cond (same_name q name) (Some bytes) (cond (same_name q x) (Some e.1) (find (slice_cmp nat_cmp) q es))) named
@@ -108,15 +110,18 @@ SetsFile-push es new name bytes i lacks at_end e =
     }))
 
 -- a file is set through a slice of the whole list
-SetsFile-within : (es new others : List Entry) (name bytes : Bytes) (i n : ℕ) → IsFirstAt es name i → length es ≡ n → new ≡ set es i (name_at es i, bytes) → SetsFile es (take n (new ++ others)) name bytes i
+SetsFile-within : (es new others : List Entry) (name bytes : Bytes) (i n : ℕ) → IsFirstAt es name i → length es ≡ n → new ≡ set es i (name_at es i, bytes)
+    → SetsFile es (take n (new ++ others)) name bytes i
 SetsFile-within es new others name bytes i n at whole e =
     SetsFile-set es (take n (new ++ others)) name bytes i at
     (take_at new others n (ap length e ∙ length-set es i (name_at es i, bytes) ∙ whole) ∙ e ∙ ap (λ x. set es i (x, bytes)) at.named)
 
-pub SetsFile-emptied : (es part new others : List Entry) (name : Bytes) (i n : ℕ) → IsFirstAt es name i → length es ≡ n → part ≡ es → new ≡ set part i (name_at part i, []) → SetsFile es (take n (new ++ others)) name [] i
+pub SetsFile-emptied : (es part new others : List Entry) (name : Bytes) (i n : ℕ) → IsFirstAt es name i → length es ≡ n → part ≡ es → new ≡ set part i (name_at part i, [])
+    → SetsFile es (take n (new ++ others)) name [] i
 SetsFile-emptied es part new others name i n at whole same e =
     SetsFile-within es new others name [] i n at whole (e ∙ ap (λ x. set x i (name_at x i, [])) same)
 
-pub SetsFile-extended : (es part new others : List Entry) (piece : Bytes) (i n : ℕ) → IsCounted es i → length es ≡ n → part ≡ es → new ≡ set part i (name_at part i, bytes_at part i ++ piece) → SetsFile es (take n (new ++ others)) (name_at es i) (bytes_at es i ++ piece) i
+pub SetsFile-extended : (es part new others : List Entry) (piece : Bytes) (i n : ℕ) → IsCounted es i → length es ≡ n → part ≡ es → new ≡ set part i (name_at part i, bytes_at part i ++ piece)
+    → SetsFile es (take n (new ++ others)) (name_at es i) (bytes_at es i ++ piece) i
 SetsFile-extended es part new others piece i n at whole same e =
     SetsFile-within es new others (name_at es i) (bytes_at es i ++ piece) i n at whole (e ∙ ap (λ x. set x i (name_at x i, bytes_at x i ++ piece)) same)

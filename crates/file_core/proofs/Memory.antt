@@ -1,5 +1,6 @@
 -- What files in memory tell before and after a call is what the call may do.
-use Rattle.std.proofs.Common.{◌≡◌, ℕ, ◌+◌, ◌-◌, ◌^◌, ◌<◌, ◌≤◌, min, Bool, true, false, cond, eqb, List, [], ◌∷◌, ◌++◌, length, take, drop, Option, Some, None, refl, sym, ap, subst, ◌∙◌, ◌⊎◌, ⊎_elim, arith}
+use Rattle.std.proofs.Common.{◌≡◌, ℕ, ◌+◌, ◌-◌, ◌^◌, ◌<◌, ◌≤◌, min, Bool, true, false, cond, eqb, List, [], ◌∷◌, ◌++◌, length, take, drop, Option, Some, None, refl, sym, ap, subst, ◌∙◌, ◌⊎◌, ⊎_elim}
+use Rattle.std.proofs.Common.{arith}
 use Rattle.std.proofs.lemmas.Option.{none-some, same_Some, MatchOption-at_some}
 use Rattle.std.proofs.lemmas.Bool.{false≢true, eqb-true, leb-true, le-leb, lt-leb, and_parts, and_from, and_left, and_right, or_cases}
 use Rattle.std.specs.Bool.{⊤}
@@ -9,7 +10,8 @@ use Rattle.std.specs.Cmp.Lexicographic.{slice_cmp, nat_list_cmp_total}
 use Rattle.std.specs.Prelude.{count_by, bytes_eq}
 use Rattle.std.specs.FinMap.{get, insert, contains_key, get-insert}
 use Rattle.semantics.specs.Texts.{Bytes}
-use Rattle.outside_semantics.specs.Outside.{Held, Place, Goes, StaysCalm, KeepsAtOpen, Opened, OpenFailed, KeepsAtRead, GaveNext, Gave, ReadFailed, Created, CreateFailed, Wrote, WriteFailed, bytes_of, turns_on, turns_after, added_to, appended}
+use Rattle.outside_semantics.specs.Outside.{Held, Place, Goes, StaysCalm, KeepsAtOpen, Opened, OpenFailed, KeepsAtRead, GaveNext, Gave, ReadFailed, Created, CreateFailed, Wrote, WriteFailed}
+use Rattle.outside_semantics.specs.Outside.{bytes_of, turns_on, turns_after, added_to, appended}
 use Rattle.outside_semantics.proofs.ReadTurns.{turns_kept, turns_grow}
 use Rattle.file_core.specs.Calls.{one_more, is_listed, none_left}
 use Rattle.file_core.specs.Memory.{MemoryValue, memory_told, fails_next, faulted, opened, not_opened, left_of, moved, read_on, created, not_created, wrote}
@@ -45,7 +47,8 @@ pub record Later (m n : MemoryValue) : Type 0 where
   pub calls : m.calls ≤ n.calls
   pub failing : n.failing ≡ m.failing
 
-Goes-memory : (m n : MemoryValue) → Later m n → ((name : Bytes) → turns_on (memory_told m) name ≤ turns_on (memory_told n) name) → ((name : Bytes) → contains_key m.held name ≡ true → contains_key n.held name ≡ true) → Goes (memory_told m) (memory_told n)
+Goes-memory : (m n : MemoryValue) → Later m n → ((name : Bytes) → turns_on (memory_told m) name ≤ turns_on (memory_told n) name)
+    → ((name : Bytes) → contains_key m.held name ≡ true → contains_key n.held name ≡ true) → Goes (memory_told m) (memory_told n)
 Goes-memory m n later turns keeps = record {
   counts = later.faults;
   turns = turns;
@@ -119,7 +122,8 @@ OpenFailed-memory m n name later is why = record {
   none_opened = ap (λ x. x.opened) is;
 }
 
-KeepsAtRead-memory : (m n : MemoryValue) → Later m n → ((name : Bytes) → turns_on (memory_told m) name ≤ turns_on (memory_told n) name) → n.opened ≡ m.opened → n.held ≡ m.held → is_some n.reading ≡ is_some m.reading → KeepsAtRead (memory_told m) (memory_told n)
+KeepsAtRead-memory : (m n : MemoryValue) → Later m n → ((name : Bytes) → turns_on (memory_told m) name ≤ turns_on (memory_told n) name) → n.opened ≡ m.opened → n.held ≡ m.held
+    → is_some n.reading ≡ is_some m.reading → KeepsAtRead (memory_told m) (memory_told n)
 KeepsAtRead-memory m n later turns opened same open_same = record {
   goes = Goes-memory m n later turns (λ q e. subst (λ x. contains_key x q ≡ true) (sym same) e);
   opened = opened;
@@ -137,7 +141,8 @@ none_given k buffer chunk left at size some is left_is room none =
     omega arith
 
 -- the bytes from a place on were given
-pub GaveNext-given : (held : Held) (old new : Option Place) (place : Place) (k chunk : ℕ) (buffer : Bytes) → old ≡ Some place → new ≡ moved k old → (0 < length buffer → 0 < chunk) → k ≡ min (min (length buffer) chunk) (left_of held old) → take k buffer ≡ take k (drop place.at (bytes_of held place.name)) → GaveNext (bytes_of held place.name) place k buffer new
+pub GaveNext-given : (held : Held) (old new : Option Place) (place : Place) (k chunk : ℕ) (buffer : Bytes) → old ≡ Some place → new ≡ moved k old → (0 < length buffer → 0 < chunk)
+    → k ≡ min (min (length buffer) chunk) (left_of held old) → take k buffer ≡ take k (drop place.at (bytes_of held place.name)) → GaveNext (bytes_of held place.name) place k buffer new
 GaveNext-given held old new place k chunk buffer reads is some count bytes =
     let left : left_of held old ≡ length (bytes_of held place.name) - place.at = ap (left_of held) reads in
     record {
@@ -158,9 +163,11 @@ turns_read m n asked k is name =
     subst (λ ts. turns_on (memory_told m) name ≤ count_by (bytes_eq name) ts) (sym is) (turns_grow m.opened asked k m.turns name)
 
 -- `read` gave k bytes
-pub Gave-memory : (m n : MemoryValue) (k : ℕ) (buffer : Bytes) → Later m n → n ≡ read_on m (length buffer) k → 0 < m.chunk → k ≡ min (min (length buffer) m.chunk) (left_of m.held m.reading) → ((place : Place) → m.reading ≡ Some place → take k buffer ≡ take k (drop place.at (bytes_of m.held place.name))) → Gave (memory_told m) (memory_told n) k buffer
+pub Gave-memory : (m n : MemoryValue) (k : ℕ) (buffer : Bytes) → Later m n → n ≡ read_on m (length buffer) k → 0 < m.chunk → k ≡ min (min (length buffer) m.chunk) (left_of m.held m.reading)
+    → ((place : Place) → m.reading ≡ Some place → take k buffer ≡ take k (drop place.at (bytes_of m.held place.name))) → Gave (memory_told m) (memory_told n) k buffer
 Gave-memory m n k buffer later is some count bytes = record {
-  keeps = KeepsAtRead-memory m n later (turns_read m n (length buffer) k (ap (λ x. x.turns) is)) (ap (λ x. x.opened) is) (ap (λ x. x.held) is) (ap (λ x. is_some x.reading) is ∙ is_some-moved k m.reading);
+  keeps = KeepsAtRead-memory m n later (turns_read m n (length buffer) k (ap (λ x. x.turns) is)) (ap (λ x. x.opened) is) (ap (λ x. x.held) is)
+      (ap (λ x. is_some x.reading) is ∙ is_some-moved k m.reading);
   turns = ap (λ x. x.turns) is;
   from_file = λ a place x reads.
       subst (λ h. GaveNext (bytes_of h place.name) place k buffer n.reading) (same_Some m.held a x)
@@ -254,23 +261,27 @@ bytes_of-counted : (es : List Entry) (i : ℕ) → IsCounted es i → bytes_of (
 bytes_of-counted es i at = ap (λ o. unwrap_or o []) (get-first at)
 
 -- what is left of the entry that is read
-pub left_of-counted : (es : List Entry) (reading : Option Cursor) (c : Cursor) → reading ≡ Some c → IsCounted es c.file → left_of (held_in es) (place_of es reading) ≡ length (bytes_at es c.file) - c.at
+pub left_of-counted : (es : List Entry) (reading : Option Cursor) (c : Cursor) → reading ≡ Some c → IsCounted es c.file
+    → left_of (held_in es) (place_of es reading) ≡ length (bytes_at es c.file) - c.at
 left_of-counted es reading c is at =
     ap (λ r. left_of (held_in es) (place_of es r)) is ∙ ap (λ x. length x - c.at) (bytes_of-counted es c.file at)
 
 -- the next bytes of the entry that is read
-pub next_bytes-counted : (es : List Entry) (reading : Option Cursor) (c : Cursor) (k : ℕ) (given : Bytes) → reading ≡ Some c → IsCounted es c.file → given ≡ take k (drop c.at (bytes_at es c.file)) → (place : Place) → place_of es reading ≡ Some place → given ≡ take k (drop place.at (bytes_of (held_in es) place.name))
+pub next_bytes-counted : (es : List Entry) (reading : Option Cursor) (c : Cursor) (k : ℕ) (given : Bytes) → reading ≡ Some c → IsCounted es c.file → given ≡ take k (drop c.at (bytes_at es c.file))
+    → (place : Place) → place_of es reading ≡ Some place → given ≡ take k (drop place.at (bytes_of (held_in es) place.name))
 next_bytes-counted es reading c k given is at e place reads =
     e ∙ ap (λ x. take k (drop c.at x)) (sym (bytes_of-counted es c.file at))
     ∙ ap (λ (p : Place). take k (drop p.at (bytes_of (held_in es) p.name))) (same_Some _ _ (ap (place_of es) (sym is) ∙ reads))
 
-same_memory : {m n : MemoryValue} → m.held ≡ n.held → m.reading ≡ n.reading → m.writing ≡ n.writing → m.opened ≡ n.opened → m.turns ≡ n.turns → m.faults ≡ n.faults → m.calls ≡ n.calls → m.failing ≡ n.failing → m.chunk ≡ n.chunk → m ≡ n
+same_memory : {m n : MemoryValue} → m.held ≡ n.held → m.reading ≡ n.reading → m.writing ≡ n.writing → m.opened ≡ n.opened → m.turns ≡ n.turns → m.faults ≡ n.faults → m.calls ≡ n.calls
+    → m.failing ≡ n.failing → m.chunk ≡ n.chunk → m ≡ n
 same_memory h r w o t f c l k = λ i. record { held = h i; reading = r i; writing = w i; opened = o i; turns = t i; faults = f i; calls = c i; failing = l i; chunk = k i }
 
 name_at-kept : {es fs : List Entry} {name bytes : Bytes} {i : ℕ} (k : ℕ) → SetsFile es fs name bytes i → IsCounted es k → name_at fs k ≡ name_at es k
 name_at-kept k sets at = (sets.keeps _ k at).named
 
-place_of-kept : {es fs : List Entry} {name bytes : Bytes} {i : ℕ} (reading : Option Cursor) → SetsFile es fs name bytes i → IfSome reading (λ c. IsCounted es c.file) → place_of fs reading ≡ place_of es reading
+place_of-kept : {es fs : List Entry} {name bytes : Bytes} {i : ℕ} (reading : Option Cursor) → SetsFile es fs name bytes i → IfSome reading (λ c. IsCounted es c.file)
+    → place_of fs reading ≡ place_of es reading
 place_of-kept None sets at = refl
 place_of-kept (Some c) sets at = ap (λ x. Some (record { name = x; at = c.at })) (name_at-kept c.file sets at)
 
@@ -278,7 +289,9 @@ appended-counted : (es : List Entry) (i : ℕ) (text : Bytes) → IsCounted es i
 appended-counted es i text at = ap (λ o. added_to o (held_in es) (name_at es i) text) (get-first at)
 
 -- the entry that is written got the text at its end
-pub wrote-extended : (es fs : List Entry) (reading : Option Cursor) (writing : Option ℕ) (known : Reads) (cs ds : Calls) (chunk i : ℕ) (text : Bytes) → writing ≡ Some i → IfSome reading (λ c. IsCounted es c.file) → IsCounted es i → SetsFile es fs (name_at es i) (bytes_at es i ++ text) i → ds ≡ record cs { calls = one_more cs.calls } → memory_value fs reading writing known ds chunk ≡ wrote (memory_value es reading writing known cs chunk) text
+pub wrote-extended : (es fs : List Entry) (reading : Option Cursor) (writing : Option ℕ) (known : Reads) (cs ds : Calls) (chunk i : ℕ) (text : Bytes) → writing ≡ Some i
+    → IfSome reading (λ c. IsCounted es c.file) → IsCounted es i → SetsFile es fs (name_at es i) (bytes_at es i ++ text) i → ds ≡ record cs { calls = one_more cs.calls }
+    → memory_value fs reading writing known ds chunk ≡ wrote (memory_value es reading writing known cs chunk) text
 wrote-extended es fs reading writing known cs ds chunk i text is reads at sets once = same_memory
     (sets.held ∙ sym (appended-counted es i text at) ∙ ap (λ w. appended (held_in es) (name_of es w) text) (sym is))
     (place_of-kept reading sets reads)
@@ -299,6 +312,7 @@ pub counted_writing : (es : List Entry) {writing : Option ℕ} {i : ℕ} → wri
 counted_writing es {i = i} is h = MatchOption-at_some ⊤ (IsCounted es) i is h
 
 -- how many bytes are given
-pub count-counted : (es : List Entry) (reading : Option Cursor) (c : Cursor) (k room chunk : ℕ) (content : Bytes) → reading ≡ Some c → IsCounted es c.file → content ≡ bytes_at es c.file → k ≡ min (min room chunk) (length content - c.at) → k ≡ min (min room chunk) (left_of (held_in es) (place_of es reading))
+pub count-counted : (es : List Entry) (reading : Option Cursor) (c : Cursor) (k room chunk : ℕ) (content : Bytes) → reading ≡ Some c → IsCounted es c.file → content ≡ bytes_at es c.file
+    → k ≡ min (min room chunk) (length content - c.at) → k ≡ min (min room chunk) (left_of (held_in es) (place_of es reading))
 count-counted es reading c k room chunk content is at same e =
     e ∙ ap (λ x. min (min room chunk) (length x - c.at)) same ∙ ap (min (min room chunk)) (sym (left_of-counted es reading c is at))

@@ -57,15 +57,18 @@ module _ {S T E F : Type 0} {e : E} {f : F} where
   Gathers-first {p = p} {s = s} t whole is g = Gathers-err (WriteFailed-first p s t whole is g.err) g.emptied
 
   -- a fault within the second of three parts
-  pub Gathers-second : {a b c : FilesTold} {p q m s t : Bytes} (u whole : Bytes) → s ++ (t ++ u) ≡ whole → Gathered a b p q s → Gathers {T = S} (Err e) b c q m t → Gathers {T = T} (Err f) a c p m whole
+  pub Gathers-second : {a b c : FilesTold} {p q m s t : Bytes} (u whole : Bytes) → s ++ (t ++ u) ≡ whole → Gathered a b p q s → Gathers {T = S} (Err e) b c q m t
+      → Gathers {T = T} (Err f) a c p m whole
   Gathers-second {t = t} u whole is first g = Gathers-err (WriteFailed-second t u whole is first g.err) g.emptied
 
   -- a fault within the third of four parts
-  pub Gathers-third : {a b c d : FilesTold} {p q r m s t u : Bytes} (v whole : Bytes) → s ++ (t ++ (u ++ v)) ≡ whole → Gathered a b p q s → Gathered b c q r t → Gathers {T = S} (Err e) c d r m u → Gathers {T = T} (Err f) a d p m whole
+  pub Gathers-third : {a b c d : FilesTold} {p q r m s t u : Bytes} (v whole : Bytes) → s ++ (t ++ (u ++ v)) ≡ whole → Gathered a b p q s → Gathered b c q r t → Gathers {T = S} (Err e) c d r m u
+      → Gathers {T = T} (Err f) a d p m whole
   Gathers-third {u = u} v whole is first second g = Gathers-err (WriteFailed-third u v whole is first second g.err) g.emptied
 
   -- a fault within the fourth of five parts
-  pub Gathers-fourth : {a b c d e' : FilesTold} {p q r m n s t u v : Bytes} (w whole : Bytes) → s ++ (t ++ (u ++ (v ++ w))) ≡ whole → Gathered a b p q s → Gathered b c q r t → Gathered c d r m u → Gathers {T = S} (Err e) d e' m n v → Gathers {T = T} (Err f) a e' p n whole
+  pub Gathers-fourth : {a b c d e' : FilesTold} {p q r m n s t u v : Bytes} (w whole : Bytes) → s ++ (t ++ (u ++ (v ++ w))) ≡ whole → Gathered a b p q s → Gathered b c q r t → Gathered c d r m u
+      → Gathers {T = S} (Err e) d e' m n v → Gathers {T = T} (Err f) a e' p n whole
   Gathers-fourth {v = v} w whole is first second third g = Gathers-err (WriteFailed-fourth v w whole is first second third g.err) g.emptied
 
   -- the last part of a whole, where a fault is answered on

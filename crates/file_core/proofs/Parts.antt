@@ -21,12 +21,14 @@ flat_map-three f xs i d within =
     ∙ sym (flat_map-append f (take (i + 1) xs) (drop (i + 1) xs)) ∙ ap (flat_map f) (take-append-drop (i + 1) xs)
 
 -- the texts of a list up to an item were gathered, and then its own
-pub Gathered-next : {X : Type 0} {a b c : FilesTold} {p q r text : Bytes} (f : X → Bytes) (xs : List X) (i : ℕ) (d : X) → i < length xs → text ≡ f (get_or xs i d) → Gathered a b p q (flat_map f (take i xs)) → Gathered b c q r text → Gathered a c p r (flat_map f (take (i + 1) xs))
+pub Gathered-next : {X : Type 0} {a b c : FilesTold} {p q r text : Bytes} (f : X → Bytes) (xs : List X) (i : ℕ) (d : X) → i < length xs → text ≡ f (get_or xs i d)
+    → Gathered a b p q (flat_map f (take i xs)) → Gathered b c q r text → Gathered a c p r (flat_map f (take (i + 1) xs))
 Gathered-next {a = a} {c = c} {p = p} {r = r} f xs i d within is before next =
     subst (λ t. Gathered a c p r t) (ap (λ t. flat_map f (take i xs) ++ t) is ∙ sym (flat_map-take_more f xs i d within)) (Gathered-Gathered before next)
 
 -- the texts of a list up to an item were gathered, and a fault came within its own
-pub WriteFailed-next : {X : Type 0} {a b c : FilesTold} {p q text : Bytes} (f : X → Bytes) (xs : List X) (i : ℕ) (d : X) → i < length xs → text ≡ f (get_or xs i d) → Gathered a b p q (flat_map f (take i xs)) → WriteFailed b c (q ++ text) → WriteFailed a c (p ++ flat_map f xs)
+pub WriteFailed-next : {X : Type 0} {a b c : FilesTold} {p q text : Bytes} (f : X → Bytes) (xs : List X) (i : ℕ) (d : X) → i < length xs → text ≡ f (get_or xs i d)
+    → Gathered a b p q (flat_map f (take i xs)) → WriteFailed b c (q ++ text) → WriteFailed a c (p ++ flat_map f xs)
 WriteFailed-next {a = a} {c = c} {p = p} {text = text} f xs i d within is before failed =
     let s = flat_map f (take i xs) in
     let u = flat_map f (drop (i + 1) xs) in
@@ -50,11 +52,13 @@ pub WriteFailed-second : {a b c : FilesTold} {p q s : Bytes} (t u whole : Bytes)
 WriteFailed-second {q = q} t u whole is first failed = WriteFailed-in (t ++ u) whole is first (WriteFailed-longer q t u failed)
 
 -- a fault within the third of four parts
-pub WriteFailed-third : {a b c d : FilesTold} {p q r s t : Bytes} (u v whole : Bytes) → s ++ (t ++ (u ++ v)) ≡ whole → Gathered a b p q s → Gathered b c q r t → WriteFailed c d (r ++ u) → WriteFailed a d (p ++ whole)
+pub WriteFailed-third : {a b c d : FilesTold} {p q r s t : Bytes} (u v whole : Bytes) → s ++ (t ++ (u ++ v)) ≡ whole → Gathered a b p q s → Gathered b c q r t → WriteFailed c d (r ++ u)
+    → WriteFailed a d (p ++ whole)
 WriteFailed-third {t = t} u v whole is first second failed = WriteFailed-in (t ++ (u ++ v)) whole is first (WriteFailed-gathered_longer u v second failed)
 
 -- a fault within the fourth of five parts
-pub WriteFailed-fourth : {a b c d e : FilesTold} {p q r m s t u : Bytes} (v w whole : Bytes) → s ++ (t ++ (u ++ (v ++ w))) ≡ whole → Gathered a b p q s → Gathered b c q r t → Gathered c d r m u → WriteFailed d e (m ++ v) → WriteFailed a e (p ++ whole)
+pub WriteFailed-fourth : {a b c d e : FilesTold} {p q r m s t u : Bytes} (v w whole : Bytes) → s ++ (t ++ (u ++ (v ++ w))) ≡ whole → Gathered a b p q s → Gathered b c q r t → Gathered c d r m u
+    → WriteFailed d e (m ++ v) → WriteFailed a e (p ++ whole)
 WriteFailed-fourth {t = t} {u = u} v w whole is first second third failed =
     WriteFailed-in (t ++ (u ++ (v ++ w))) whole is first (WriteFailed-gathered (u ++ (v ++ w)) second (WriteFailed-gathered_longer v w third failed))
 

@@ -29,12 +29,14 @@ joined-three ps i p within =
     ap (λ x. x ++ joined (drop (i + 1) ps)) (sym (joined-take_more ps i p within)) ∙ joined-parts ps (i + 1)
 
 -- the pieces up to i were gathered, and then the piece at i
-pub Gathered-next_piece : {a b c : FilesTold} {p q r : Bytes} (ps : List (Bor Bytes)) (i : ℕ) (piece : Bor Bytes) → i < length ps → Gathered a b p q (joined (take i ps)) → Gathered b c q r (get_or ps i piece).now → Gathered a c p r (joined (take (i + 1) ps))
+pub Gathered-next_piece : {a b c : FilesTold} {p q r : Bytes} (ps : List (Bor Bytes)) (i : ℕ) (piece : Bor Bytes) → i < length ps → Gathered a b p q (joined (take i ps))
+    → Gathered b c q r (get_or ps i piece).now → Gathered a c p r (joined (take (i + 1) ps))
 Gathered-next_piece {a} {b} {c} {p} {q} {r} ps i piece within before next =
     subst (λ x. Gathered a c p r x) (sym (joined-take_more ps i piece within)) (Gathered-Gathered before next)
 
 -- the pieces up to i were gathered, and the piece at i failed
-pub WriteFailed-gathered_piece : {a b c : FilesTold} {p q : Bytes} (ps : List (Bor Bytes)) (i : ℕ) (piece : Bor Bytes) → i < length ps → Gathered a b p q (joined (take i ps)) → WriteFailed b c (q ++ (get_or ps i piece).now) → WriteFailed a c (p ++ joined ps)
+pub WriteFailed-gathered_piece : {a b c : FilesTold} {p q : Bytes} (ps : List (Bor Bytes)) (i : ℕ) (piece : Bor Bytes) → i < length ps → Gathered a b p q (joined (take i ps))
+    → WriteFailed b c (q ++ (get_or ps i piece).now) → WriteFailed a c (p ++ joined ps)
 WriteFailed-gathered_piece {a} {b} {c} {p} {q} ps i piece within before failed =
     let s = joined (take i ps) in
     let t = (get_or ps i piece).now in

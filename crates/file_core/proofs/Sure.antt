@@ -26,7 +26,8 @@ is_told m a e = (cond_some m.told m.given a e).0
 reading_told : (m : SureValue) (a : Held) (o : Option Place) → held_where m.told m.given ≡ Some a → reading_where m.told o ≡ o
 reading_told m a o e = ap (λ t. reading_where t o) (is_told m a e)
 
-Goes-sure : (m n : SureValue) → ((name : Bytes) → turns_on (sure_told m) name ≤ turns_on (sure_told n) name) → (held_where m.told m.given ≡ None → held_where n.told n.given ≡ None) → Goes (sure_told m) (sure_told n)
+Goes-sure : (m n : SureValue) → ((name : Bytes) → turns_on (sure_told m) name ≤ turns_on (sure_told n) name) → (held_where m.told m.given ≡ None → held_where n.told n.given ≡ None)
+    → Goes (sure_told m) (sure_told n)
 Goes-sure m n turns untold = record { counts = omega arith; turns = turns; untold = untold; steady_read = λ name e. e; steady_write = λ name e. e }
 
 -- a given name was opened
@@ -64,7 +65,8 @@ Opened-sure_missing m n name is missing =
     }
 
 -- `read` gave k bytes
-pub Gave-sure : (m n : SureValue) (k : ℕ) (buffer : Bytes) → n ≡ went_on m (length buffer) k → k ≡ min (length buffer) (left_of m.given m.reading) → IsNextOf m k buffer → Gave (sure_told m) (sure_told n) k buffer
+pub Gave-sure : (m n : SureValue) (k : ℕ) (buffer : Bytes) → n ≡ went_on m (length buffer) k → k ≡ min (length buffer) (left_of m.given m.reading) → IsNextOf m k buffer
+    → Gave (sure_told m) (sure_told n) k buffer
 Gave-sure m n k buffer is count bytes =
     let held : held_where n.told n.given ≡ held_where m.told m.given = ap (λ v. held_where v.told v.given) is in
     let turns : n.turns ≡ turns_after m.opened (length buffer) k m.turns = ap (λ v. v.turns) is in
@@ -80,7 +82,8 @@ Gave-sure m n k buffer is count bytes =
       from_file = λ a place x reads.
           subst (λ z. GaveNext (bytes_of z place.name) place k buffer (reading_where n.told n.reading)) (told_is m a x)
           (let reads_on : m.reading ≡ Some place = sym (reading_told m a m.reading x) ∙ reads in
-          GaveNext-given m.given m.reading (reading_where n.told n.reading) place k (length buffer) buffer reads_on (goes_on ∙ reading_told m a _ x) (λ room. room) (count ∙ ap (λ l. min l (left_of m.given m.reading)) (sym (min_same (length buffer)))) (bytes place reads_on));
+          GaveNext-given m.given m.reading (reading_where n.told n.reading) place k (length buffer) buffer reads_on (goes_on ∙ reading_told m a _ x) (λ room. room)
+          (count ∙ ap (λ l. min l (left_of m.given m.reading)) (sym (min_same (length buffer)))) (bytes place reads_on));
       nothing_open = λ a x none. none_open m.given m.reading k _ (sym (reading_told m a m.reading x) ∙ none) count;
       still_closed = λ a x none.
           goes_on ∙ reading_told m a _ x ∙ ap (moved k) (sym (reading_told m a m.reading x) ∙ none);

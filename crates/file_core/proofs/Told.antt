@@ -111,8 +111,11 @@ WriteFailed-after {a} {b} {c} {s} {t} p q = record {
   not_calm = false_from_ne_true _ (λ yes. both_ways _ q.not_calm (p.calm.write yes));
   held = λ x y at_x at_y.
       let m = held_before b c q.goes y at_y in
-      let part = q.held m.0 y m.1 at_y in
-      (length s + part.0, rw length-append (omega (arith, part.1)), appended_after x m.0 y a.writing b.writing s (take part.0 t) p.writing (p.held x m.0 at_x m.1) part.2 ∙ ap (appended x a.writing) (sym (take-append-add s t part.0)));
+      let part = q.held m.0 y m.1 at_y in (
+        length s + part.0,
+        rw length-append (omega (arith, part.1)),
+        appended_after x m.0 y a.writing b.writing s (take part.0 t) p.writing (p.held x m.0 at_x m.1) part.2 ∙ ap (appended x a.writing) (sym (take-append-add s t part.0)),
+      );
 }
 
 -- what failed within a text failed within a longer one
@@ -133,7 +136,8 @@ part_of s rest n =
     append_assoc s (take n rest) _ ∙ ap (λ x. s ++ x) (ap (λ x. take n rest ++ x) (take_rest rest n) ∙ take-append-drop n rest)
 
 -- a text of which a first part is written, and the rest of which is still to come
-pub Wrote-part : {a b c : FilesTold} (text rest : Bytes) (n : ℕ) → (s : Bytes) × (s ++ rest ≡ text) × Wrote a b s → Wrote b c (take n rest) → (s : Bytes) × (s ++ take (length rest - n) (drop n rest) ≡ text) × Wrote a c s
+pub Wrote-part : {a b c : FilesTold} (text rest : Bytes) (n : ℕ) → (s : Bytes) × (s ++ rest ≡ text) × Wrote a b s → Wrote b c (take n rest)
+    → (s : Bytes) × (s ++ take (length rest - n) (drop n rest) ≡ text) × Wrote a c s
 Wrote-part text rest n before wrote = (before.0 ++ take n rest, part_of before.0 rest n ∙ before.1, Wrote-Wrote before.2 wrote)
 
 -- a first part of a text is written, and then a fault came
@@ -194,7 +198,8 @@ TakeFailed-more {a} {b} {s} t p = record {
 }
 
 -- a text of which a first part is put, and the rest of which is still to come
-pub Took-part : {a b c : SinkTold} (text rest : Bytes) (n : ℕ) → (s : Bytes) × (s ++ rest ≡ text) × Took a b s → Took b c (take n rest) → (s : Bytes) × (s ++ take (length rest - n) (drop n rest) ≡ text) × Took a c s
+pub Took-part : {a b c : SinkTold} (text rest : Bytes) (n : ℕ) → (s : Bytes) × (s ++ rest ≡ text) × Took a b s → Took b c (take n rest)
+    → (s : Bytes) × (s ++ take (length rest - n) (drop n rest) ≡ text) × Took a c s
 Took-part text rest n before took = (before.0 ++ take n rest, part_of before.0 rest n ∙ before.1, Took-Took before.2 took)
 
 -- a first part of a text is put, and then a fault came

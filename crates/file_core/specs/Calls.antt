@@ -1,5 +1,6 @@
 -- A count of calls, and a list of the numbers of those that are to fail.
-use Rattle.std.specs.Prelude.{ℕ, ◌+◌, ◌-◌, ◌^◌, min, Bool, true, false, ◌&&◌, ◌||◌, ◌==◌, nat_le, List, [], ◌∷◌}
+use Rattle.std.specs.Prelude.{ℕ, ◌+◌, ◌-◌, ◌^◌, min, Bool, true, false, ◌&&◌, ◌||◌, ◌==◌, nat_le, List, []}
+use Rattle.std.specs.Prelude.{◌∷◌}
 
 -- one more, in a count that stays at the end of u64
 abbrev pub one_more : ℕ → ℕ

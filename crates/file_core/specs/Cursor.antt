@@ -28,7 +28,8 @@ memory_value entries reading writing reads calls chunk = record {
 }
 
 -- what is open is an entry that counts
-pub record IsMemory (entries : List Entry) (reading : Option Cursor) (writing : Option ℕ) (chunk : ℕ) : Type 0 where
+pub record IsMemory (entries : List Entry) (reading : Option Cursor) (writing : Option ℕ)
+    (chunk : ℕ) : Type 0 where
   pub some_chunk : 0 < chunk
   pub reading_counts : IfSome reading (λ c. IsCounted entries c.file)
   pub writing_counts : IfSome writing (IsCounted entries)

@@ -1,5 +1,6 @@
 -- What files and a sink in memory hold and tell, and what each call on them leaves.
-use Rattle.std.specs.Prelude.{ℕ, ◌+◌, ◌-◌, Bool, false, ◌&&◌, List, [], length, Option, Some, None, option_map, is_some, refl}
+use Rattle.std.specs.Prelude.{ℕ, ◌+◌, ◌-◌, Bool, false, ◌&&◌, List, [], length, Option, Some, None}
+use Rattle.std.specs.Prelude.{option_map, is_some, refl}
 use Rattle.std.specs.Coded.{Coded, code_by, coded×, coded_ℕ, coded_list, coded_option}
 use Rattle.std.specs.FinMap as map
 use Rattle.semantics.specs.Texts.{Bytes}
@@ -7,8 +8,8 @@ use Rattle.outside_semantics.specs.Outside.{Held, Place, FilesTold, bytes_of, tu
 use Rattle.file_core.specs.Calls.{one_more, is_listed, none_left}
 use Rattle.file_core.specs.Entries.{Entry, held_in}
 
--- `opened` and `turns` are what is told of reading, `calls` and `faults` are counts, `failing` the numbers of the calls that fail, and
--- `chunk` the most bytes of one call
+-- `opened` and `turns` are what is told of reading, `calls` and `faults` are counts, `failing` the numbers of
+-- the calls that fail, and `chunk` the most bytes of one call
 pub record MemoryValue : Type 0 where
   pub held : Held
   pub reading : Option Place
@@ -25,15 +26,38 @@ bytes_code = coded_list coded_ℕ
 
 abbrev pub place_code : Coded Place
 place_code =
-    code_by (Bytes × ℕ) (coded× bytes_code coded_ℕ) (λ p. (p.name, p.at)) (λ p. record { name = p.0; at = p.1 }) (λ _. refl)
+    code_by (Bytes × ℕ) (coded× bytes_code coded_ℕ) (λ p. (p.name, p.at))
+    (λ p. record { name = p.0; at = p.1 }) (λ _. refl)
 
 -- a value is stored as the tuple of its fields
 abbrev pub memory_code : Coded MemoryValue
 memory_code =
-    code_by (Held × (Option Place × (Option Bytes × (Option Bytes × (List Bytes × (ℕ × (ℕ × (List ℕ × ℕ))))))))
-    (coded× (map.code bytes_code bytes_code) (coded× (coded_option place_code) (coded× (coded_option bytes_code) (coded× (coded_option bytes_code) (coded× (coded_list bytes_code) (coded× coded_ℕ (coded× coded_ℕ (coded× (coded_list coded_ℕ) coded_ℕ))))))))
-    (λ m. (m.held, (m.reading, (m.writing, (m.opened, (m.turns, (m.faults, (m.calls, (m.failing, m.chunk)))))))))
-    (λ p. record { held = p.0; reading = p.1.0; writing = p.1.1.0; opened = p.1.1.1.0; turns = p.1.1.1.1.0; faults = p.1.1.1.1.1.0; calls = p.1.1.1.1.1.1.0; failing = p.1.1.1.1.1.1.1.0; chunk = p.1.1.1.1.1.1.1.1 })
+    code_by (Held × (Option Place
+    × (Option Bytes × (Option Bytes × (List Bytes × (ℕ × (ℕ × (List ℕ × ℕ))))))))
+    (coded× (map.code bytes_code bytes_code)
+    (coded× (coded_option place_code)
+    (coded× (coded_option bytes_code)
+    (coded× (coded_option bytes_code)
+    (coded× (coded_list bytes_code)
+    (coded× coded_ℕ (coded× coded_ℕ (coded× (coded_list coded_ℕ) coded_ℕ))))))))
+    (λ m. (
+      m.held,
+      (
+        m.reading,
+        (m.writing, (m.opened, (m.turns, (m.faults, (m.calls, (m.failing, m.chunk)))))),
+      ),
+    ))
+    (λ p. record {
+      held = p.0;
+      reading = p.1.0;
+      writing = p.1.1.0;
+      opened = p.1.1.1.0;
+      turns = p.1.1.1.1.0;
+      faults = p.1.1.1.1.1.0;
+      calls = p.1.1.1.1.1.1.0;
+      failing = p.1.1.1.1.1.1.1.0;
+      chunk = p.1.1.1.1.1.1.1.1;
+    })
     (λ _. refl)
 
 -- files before the first call
@@ -93,7 +117,8 @@ moved n reading = option_map (λ p. record { name = p.name; at = p.at + n }) rea
 
 -- after `read` was asked for `asked` bytes and gave n
 abbrev pub read_on : MemoryValue → ℕ → ℕ → MemoryValue
-read_on m asked n = record (counted m) { reading = moved n m.reading; turns = turns_after m.opened asked n m.turns }
+read_on m asked n = record (counted m)
+    { reading = moved n m.reading; turns = turns_after m.opened asked n m.turns }
 
 -- after `create`
 abbrev pub created : MemoryValue → Bytes → MemoryValue

@@ -25,7 +25,8 @@ memory_sink_code =
 
 -- a sink before the first call
 abbrev pub sink_at_first : List ℕ → ℕ → MemorySinkValue
-sink_at_first failing chunk = record { put_bytes = []; faults = 0; calls = 0; failing = failing; chunk = chunk }
+sink_at_first failing chunk
+    = record { put_bytes = []; faults = 0; calls = 0; failing = failing; chunk = chunk }
 
 abbrev pub memory_sink_told : MemorySinkValue → SinkTold
 memory_sink_told m = record { put_bytes = Some m.put_bytes; faults = m.faults }

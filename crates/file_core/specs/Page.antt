@@ -1,4 +1,5 @@
--- Text that is gathered in a page before it is appended, and what a call that gathers or writes a text, or writes files, comes to.
+-- Text that is gathered in a page before it is appended, and what a call that gathers or writes a text, or
+-- writes files, comes to.
 use Rattle.std.specs.Prelude.{◌≡◌, List, [], ◌++◌, Result, OnOk, OnErr}
 use Rattle.semantics.specs.Texts.{Bytes}
 use Rattle.outside_semantics.specs.Outside.{FilesTold, SinkTold, Wrote, WriteFailed, Took, TakeFailed}
@@ -10,8 +11,10 @@ pub record Gathered (old new : FilesTold) (before after text : Bytes) : Type 0 w
   pub wrote : Wrote old new sent
   pub rest : before ++ text ≡ sent ++ after
 
--- The text was gathered behind what the page held; or a fault came, a first part of both was appended, and the page is empty.
-pub record Gathers {T E : Type 0} (result : Result T E) (old new : FilesTold) (before after text : Bytes) : Type 0 where
+-- The text was gathered behind what the page held; or a fault came, a first part of both was appended, and
+-- the page is empty.
+pub record Gathers {T E : Type 0} (result : Result T E) (old new : FilesTold)
+    (before after text : Bytes) : Type 0 where
   pub ok : OnOk result (Gathered old new before after text)
   pub err : OnErr result (WriteFailed old new (before ++ text))
   pub emptied : OnErr result (after ≡ [])
@@ -27,6 +30,7 @@ pub record Puts {T E : Type 0} (result : Result T E) (old new : SinkTold) (text 
   pub err : OnErr result (TakeFailed old new text)
 
 -- the files were written in their order; or a fault came, and the writing was cut short at one of them
-pub record WritesFiles {T E : Type 0} (result : Result T E) (old new : FilesTold) (files : List File) : Type 0 where
+pub record WritesFiles {T E : Type 0} (result : Result T E) (old new : FilesTold)
+    (files : List File) : Type 0 where
   pub ok : OnOk result (FilesWritten old new files)
   pub err : OnErr result (FilesCutShort old new files)

@@ -1,5 +1,6 @@
 -- What files and a sink tell that never fail and keep nothing.
-use Rattle.std.specs.Prelude.{◌≡◌, ℕ, Bool, true, false, List, [], Option, Some, None, refl, take, drop, if◌then◌else◌}
+use Rattle.std.specs.Prelude.{◌≡◌, ℕ, Bool, true, false, List, [], Option, Some, None, refl, take, drop}
+use Rattle.std.specs.Prelude.{if◌then◌else◌}
 use Rattle.std.specs.Coded.{Coded, code_by, coded×, coded_bool, coded_list, coded_option}
 use Rattle.std.specs.FinMap as map
 use Rattle.semantics.specs.Texts.{Bytes}
@@ -18,7 +19,9 @@ pub record SureValue : Type 0 where
 abbrev pub sure_code : Coded SureValue
 sure_code =
     code_by (Held × (Bool × (Option Place × (Option Bytes × List Bytes))))
-    (coded× (map.code bytes_code bytes_code) (coded× coded_bool (coded× (coded_option place_code) (coded× (coded_option bytes_code) (coded_list bytes_code)))))
+    (coded× (map.code bytes_code bytes_code)
+    (coded× coded_bool (coded× (coded_option place_code)
+    (coded× (coded_option bytes_code) (coded_list bytes_code)))))
     (λ s. (s.given, (s.told, (s.reading, (s.opened, s.turns)))))
     (λ p. record { given = p.0; told = p.1.0; reading = p.1.1.0; opened = p.1.1.1.0; turns = p.1.1.1.1 })
     (λ _. refl)
@@ -62,7 +65,8 @@ went_on s asked n = record s { reading = moved n s.reading; turns = turns_after 
 
 -- the buffer begins with the n bytes of the given file from the place on that is read
 abbrev pub IsNextOf : SureValue → ℕ → Bytes → Type 0
-IsNextOf s n buffer = (place : Place) → s.reading ≡ Some place → take n buffer ≡ take n (drop place.at (bytes_of s.given place.name))
+IsNextOf s n buffer = (place : Place) → s.reading ≡ Some place
+    → take n buffer ≡ take n (drop place.at (bytes_of s.given place.name))
 
 abbrev pub sure_sink_told : SinkTold
 sure_sink_told = record { put_bytes = None; faults = 0 }

@@ -1,6 +1,7 @@
 //! A set of files, by what they tell. Real files tell nothing but their count of faults.
 ghost use Rattle.std.specs.Prelude.{◌≤◌, ◌<◌, [], length, take, IfOk, OnOk, OnErr};
-ghost use Rattle.outside_semantics.specs.Outside.{FilesTold, Opened, OpenFailed, Gave, ReadFailed, Created, CreateFailed, Wrote, WriteFailed};
+ghost use Rattle.outside_semantics.specs.Outside.{FilesTold, Opened, OpenFailed, Gave, ReadFailed, Created};
+ghost use Rattle.outside_semantics.specs.Outside.{CreateFailed, Wrote, WriteFailed};
 
 use crate::fault::FileFault;
 

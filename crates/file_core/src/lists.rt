@@ -1,5 +1,6 @@
 //! Lists that say what files in memory hold, and which calls on them fail.
-ghost use Rattle.std.specs.Prelude.{◌≡◌, ◌+◌, ◌<◌, ℕ, List, [], ◌∷◌, ◌++◌, length, slice_set, MatchOption, IsOk, IsErr, IfOk, OnOk, OnErr};
+ghost use Rattle.std.specs.Prelude.{◌≡◌, ◌+◌, ◌<◌, ℕ, List, [], ◌∷◌, ◌++◌, length, slice_set, MatchOption};
+ghost use Rattle.std.specs.Prelude.{IsOk, IsErr, IfOk, OnOk, OnErr};
 ghost use Rattle.file_core.specs.Calls.{is_listed};
 ghost use Rattle.file_core.specs.Entries.{LacksName, IsFirstAt, IsCounted, SetsFile, name_at, bytes_at};
 

@@ -1,8 +1,11 @@
 //! Files in memory, which can be made to fail and to work in small chunks.
-ghost use Rattle.std.specs.Prelude.{◌≡◌, ◌⊎◌, ◌-◌, ◌<◌, ◌≤◌, ◌↔◌, [], Some, None, min, length, take, option_map, IsTrue, IsFalse, IsSome, IsOk, IsErr, IfOk, OnOk, OnErr};
+ghost use Rattle.std.specs.Prelude.{◌≡◌, ◌⊎◌, ◌-◌, ◌<◌, ◌≤◌, ◌↔◌, [], Some, None, min, length, take};
+ghost use Rattle.std.specs.Prelude.{option_map, IsTrue, IsFalse, IsSome, IsOk, IsErr, IfOk, OnOk, OnErr};
 ghost use Rattle.std.specs.FinMap.{get, contains_key};
-ghost use Rattle.outside_semantics.specs.Outside.{Opened, OpenFailed, Gave, ReadFailed, Created, CreateFailed, Wrote, WriteFailed};
-ghost use Rattle.file_core.specs.Memory.{files_at_first, memory_told, fails_next, faulted, opened, not_opened, left_of, read_on, created, not_created, wrote};
+ghost use Rattle.outside_semantics.specs.Outside.{Opened, OpenFailed, Gave, ReadFailed, Created};
+ghost use Rattle.outside_semantics.specs.Outside.{CreateFailed, Wrote, WriteFailed};
+ghost use Rattle.file_core.specs.Memory.{files_at_first, memory_told, fails_next, faulted, opened};
+ghost use Rattle.file_core.specs.Memory.{not_opened, left_of, read_on, created, not_created, wrote};
 
 use crate::calls::Calls;
 use crate::cursor::{Cursor, copy_next};
@@ -13,8 +16,8 @@ use crate::turns::count_read;
 use history::reads::Reads;
 use std::marker::Model;
 
-/// Files in memory. A call fails where its number is listed, where a file to be opened is missing, and where nothing
-/// is open for it. `create` of a name that is not held and `append` fail for want of memory too.
+/// Files in memory. A call fails where its number is listed, where a file to be opened is missing, and where
+/// nothing is open for it. `create` of a name that is not held and `append` fail for want of memory too.
 #[derive(Drop)]
 pub struct MemFiles {
     files: FileList,
@@ -40,7 +43,8 @@ impl Model for MemFiles {
 }
 
 impl MemFiles {
-    /// These files, of which none is open, where the calls with these numbers fail and a call reads or appends at most `chunk` bytes.
+    /// These files, of which none is open, where the calls with these numbers fail and a call reads or
+    /// appends at most `chunk` bytes.
     pub fn new(files: FileList, failing: CallList, chunk: usize) -> MemFiles
         requires { 0 < chunk }
         ensures { result ≡ files_at_first files failing chunk }

@@ -1,7 +1,8 @@
 //! A sink in memory, which can be made to fail and to work in small chunks.
 ghost use Rattle.std.specs.Prelude.{◌≡◌, ◌<◌, ◌≤◌, [], min, length, take, IsTrue, IsErr, IfOk, OnErr};
 ghost use Rattle.outside_semantics.specs.Outside.{Took, TakeFailed};
-ghost use Rattle.file_core.specs.MemorySink.{sink_at_first, memory_sink_told, put_fails_next, took, not_taken};
+ghost use Rattle.file_core.specs.MemorySink.{sink_at_first, memory_sink_told, put_fails_next, took};
+ghost use Rattle.file_core.specs.MemorySink.{not_taken};
 
 use crate::calls::Calls;
 use crate::fault::FileFault;
@@ -39,7 +40,8 @@ impl Model for MemSink {
 }
 
 impl MemSink {
-    /// A sink that holds nothing, where the calls with these numbers fail and a call takes at most `chunk` bytes.
+    /// A sink that holds nothing, where the calls with these numbers fail and a call takes at most `chunk`
+    /// bytes.
     pub fn new(alloc: Global, failing: CallList, chunk: usize) -> MemSink
         requires { 0 < chunk }
         ensures { result ≡ sink_at_first failing chunk }

@@ -1,5 +1,7 @@
-//! Short pieces are gathered in a page of fixed size, so that few calls of `append` are made and nothing is allocated.
-ghost use Rattle.std.specs.Prelude.{◌≡◌, ◌+◌, ◌≤◌, ◌↔◌, ℕ, List, [], ◌++◌, length, take, IsTrue, IsOk, OnOk, OnErr};
+//! Short pieces are gathered in a page of fixed size, so that few calls of `append` are made and nothing is
+//! allocated.
+ghost use Rattle.std.specs.Prelude.{◌≡◌, ◌+◌, ◌≤◌, ◌↔◌, ℕ, List, [], ◌++◌, length, take, IsTrue, IsOk, OnOk};
+ghost use Rattle.std.specs.Prelude.{OnErr};
 ghost use Rattle.file_core.specs.Page.{Gathers, Writes};
 ghost use Rattle.file_core.specs.Pieces.{joined};
 

@@ -1,7 +1,9 @@
 //! Files that never fail and keep nothing that is written.
-ghost use Rattle.std.specs.Prelude.{◌≡◌, ◌<◌, ◌≤◌, [], None, true, false, length, min, take, IsTrue, IsFalse, IsOk, IfOk, OnOk, OnErr};
+ghost use Rattle.std.specs.Prelude.{◌≡◌, ◌<◌, ◌≤◌, [], None, true, false, length, min, take, IsTrue, IsFalse};
+ghost use Rattle.std.specs.Prelude.{IsOk, IfOk, OnOk, OnErr};
 ghost use Rattle.std.specs.FinMap.{contains_key};
-ghost use Rattle.outside_semantics.specs.Outside.{Opened, OpenFailed, Gave, ReadFailed, Created, CreateFailed, Wrote, WriteFailed};
+ghost use Rattle.outside_semantics.specs.Outside.{Opened, OpenFailed, Gave, ReadFailed, Created};
+ghost use Rattle.outside_semantics.specs.Outside.{CreateFailed, Wrote, WriteFailed};
 ghost use Rattle.file_core.specs.Entries.{held_in};
 ghost use Rattle.file_core.specs.Memory.{left_of};
 ghost use Rattle.file_core.specs.Sure.{sure_at_first, sure_told, found, not_found, went_on, IsNextOf};
@@ -14,8 +16,8 @@ use crate::turns::count_read;
 use history::reads::Reads;
 use std::marker::Model;
 
-/// The given files, which are told until a file is created or a name is opened that was not given; from then on
-/// nothing is told. Such a name is read as an empty file, and what is written is forgotten.
+/// The given files, which are told until a file is created or a name is opened that was not given; from then
+/// on nothing is told. Such a name is read as an empty file, and what is written is forgotten.
 #[derive(Drop)]
 pub struct SureFiles {
     files: FileList,

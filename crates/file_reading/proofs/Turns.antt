@@ -109,7 +109,8 @@ FilesStay-later : {old opened before now : FilesTold} {name : Bytes} → Opened 
 FilesStay-later was keeps later = FilesStay-from was (KeepsAtRead-KeepsAtRead keeps later)
 
 -- a turn that was refused ends the reading for the same reason
-pub FileUnread-from : {old opened before : FilesTold} {name : Bytes} (now : FilesTold) (text : Bytes) (reason : Unread) → Opened old opened name → KeepsAtRead opened before → TurnRefused before now reason
+pub FileUnread-from : {old opened before : FilesTold} {name : Bytes} (now : FilesTold) (text : Bytes) (reason : Unread) → Opened old opened name → KeepsAtRead opened before
+    → TurnRefused before now reason
     → FileUnread old now name text reason
 FileUnread-from now text unread.Fault was keeps refused = FileFailed-read was keeps refused
 FileUnread-from now text unread.OutOfMemory was keeps refused = FilesStay-later was keeps refused

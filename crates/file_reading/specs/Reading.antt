@@ -2,7 +2,8 @@
 use Rattle.std.specs.Prelude.{◌≡◌, ◌⊎◌, ℕ, ◌+◌, ◌<◌, ◌≤◌, Bool, false, IsTrue, [], length, take, Some}
 use Rattle.std.specs.FinMap.{contains_key}
 use Rattle.semantics.specs.Texts.{Bytes}
-use Rattle.outside_semantics.specs.Outside.{Held, FilesTold, Goes, Rose, WhereTold, KeepsAtRead, IsReadOut, bytes_of, turns_on, turn_budget}
+use Rattle.outside_semantics.specs.Outside.{Held, FilesTold, Goes, Rose, WhereTold, KeepsAtRead, IsReadOut}
+use Rattle.outside_semantics.specs.Outside.{bytes_of, turns_on, turn_budget}
 
 -- the text is the first part of the file that is being read, up to its place
 pub record HasRead (told : FilesTold) (held : Held) (name text : Bytes) : Type 0 where
@@ -14,16 +15,19 @@ pub record SoFar (opened now : FilesTold) (text : Bytes) (turns : ℕ) : Type 0 
   pub keeps : KeepsAtRead opened now
   pub taken : turns ≤ length text
   pub counted : (name : Bytes) → opened.opened ≡ Some name → turns_on opened name + turns ≤ turns_on now name
-  pub reads : (held : Held) (name : Bytes) → opened.held ≡ Some held → HasRead opened held name [] → HasRead now held name text
+  pub reads : (held : Held) (name : Bytes) → opened.held ≡ Some held → HasRead opened held name []
+      → HasRead now held name text
 
 -- the file has no more bytes
 pub record HasEnded (told : FilesTold) (text : Bytes) : Type 0 where
-  pub ends : (held : Held) (name : Bytes) → told.held ≡ Some held → HasRead told held name text → length (bytes_of held name) ≤ length text
+  pub ends : (held : Held) (name : Bytes) → told.held ≡ Some held → HasRead told held name text
+      → length (bytes_of held name) ≤ length text
 
 -- one turn of reading: bytes came, or none because none are left or wanted
 pub record TurnRead (old new : FilesTold) (before after : Bytes) (room : ℕ) (more : Bool) : Type 0 where
   pub keeps : KeepsAtRead old new
-  pub reads : (held : Held) (name : Bytes) → old.held ≡ Some held → HasRead old held name before → HasRead new held name after
+  pub reads : (held : Held) (name : Bytes) → old.held ≡ Some held → HasRead old held name before
+      → HasRead new held name after
   pub grows : IsTrue more → length before < length after
   pub turn : IsTrue more → (name : Bytes) → old.opened ≡ Some name → turns_on old name < turns_on new name
   pub stops : more ≡ false → (after ≡ before) × ((room ≡ 0) ⊎ HasEnded old before)

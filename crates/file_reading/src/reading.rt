@@ -37,7 +37,8 @@ fn read_turn<F: Files, I: Intake>(
 ) -> Result<bool, Unread>
     requires { length buffer.old ≡ PAGE_BYTES }
     ensures ok { IfOk result
-        (λ more. TurnRead (F.told files.old) (F.told files.new) (I.text intake.old) (I.text intake.new) (I.room intake.new) more) }
+        (λ more. TurnRead (F.told files.old) (F.told files.new) (I.text intake.old) (I.text intake.new)
+        (I.room intake.new) more) }
     ensures aim { OnOk result (I.aim intake.new ≡ I.aim intake.old) }
     ensures err { IfErr result (TurnRefused (F.told files.old) (F.told files.new)) }
 {

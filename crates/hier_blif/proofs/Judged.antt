@@ -30,7 +30,8 @@ wrong-here ended table lines i s w all within is wrong same =
     sym (ap (λ (o : Option Wrong). elim o [ None ↦ rest | Some w ↦ Some (record { line = s.line; wrong = w }) ]) wrong) ∙ sym (ap (first_wrong_in ended table) cut) ∙ same
 
 -- the refusal of the first wrong line
-pub wrong-told : (told : HierRefusal) (ended : Bool) (table : Option OpenTable) (lines : List Statement) (i : ℕ) (s : Statement) (words : Line) (n : ℕ) (w : Wrong) (all : Option WrongLine) → i < length lines → get_or lines i s ≡ s
+pub wrong-told : (told : HierRefusal) (ended : Bool) (table : Option OpenTable) (lines : List Statement) (i : ℕ) (s : Statement) (words : Line) (n : ℕ) (w : Wrong) (all : Option WrongLine)
+    → i < length lines → get_or lines i s ≡ s
     → words ≡ s.words → n ≡ s.line → wrong_at (place_with ended table words) words ≡ Some w → first_wrong_in ended table (drop i lines) ≡ all
     → TellsOne told (Some (line (wrong_line n w))) → TellsOne told (option_map (λ w. line (wrong_line w.line w.wrong)) all)
 wrong-told told ended table lines i s words n w all within is same number wrong so_far tells =

@@ -9,7 +9,8 @@ use Rattle.semantics.specs.Refusals.{has_name, first_doubled_after, first_double
 use Rattle.blif_semantics.specs.Reading.{doubled, no_output, undriven}
 use Rattle.hierarchy_semantics.specs.Models.{Binding, Part, names_part, subckt_part, Subcircuit, BlifModel, Hierarchy, no_model, main_of, model_named, part_uses, uses_of, all_uses}
 use Rattle.hierarchy_semantics.specs.Driven.{bound_outputs, bound_inputs, names_driven, part_reads, names_read}
-use Rattle.hierarchy_semantics.specs.Refusals.{HierRefusal, same_model, no_model_named, recursive, ports, formal, unbound, part, taken, first_found, model_names, first_unknown, first_recursive, is_model_grounded, doubled_port, wrong_formal, formals_of, formal_refusal, unbound_refusal, model_refusal, part_refusal, is_taken, hier_refusal}
+use Rattle.hierarchy_semantics.specs.Refusals.{HierRefusal, same_model, no_model_named, recursive, ports, formal, unbound, part, taken, first_found, model_names, first_unknown, first_recursive}
+use Rattle.hierarchy_semantics.specs.Refusals.{is_model_grounded, doubled_port, wrong_formal, formals_of, formal_refusal, unbound_refusal, model_refusal, part_refusal, is_taken, hier_refusal}
 use Rattle.hier_faults.specs.Named.{IsNamedBinding, IsNamedPart, IsNamedModel, AreNamed, PartTellsName, TellsNames}
 use Rattle.hier_parts.specs.Driven.{part_names}
 use Rattle.hier_parts.proofs.DrivenNames.{driven-same}
@@ -142,7 +143,8 @@ if_unbound h all c named =
 if_fault : (h : Hierarchy) (m : BlifModel) → IsNamedModel m → IfSome (model_refusal h m) PartTellsName
 if_fault h m named =
     let missing : Option Bytes = find (λ name. not (has_name (names_driven h m) name)) (names_read h m) in
-    if_else PartTellsName (first_doubled (names_driven h m)) doubled (cond (length m.outputs == 0) (Some no_output) (option_map undriven missing)) (if_doubled [] (names_driven h m) (driven_named h m named)) (at_test (length m.outputs == 0))
+    if_else PartTellsName (first_doubled (names_driven h m)) doubled (cond (length m.outputs == 0) (Some no_output) (option_map undriven missing))
+    (if_doubled [] (names_driven h m) (driven_named h m named)) (at_test (length m.outputs == 0))
   where
     at_test : (b : Bool) → IfSome (cond b (Some no_output) (option_map undriven (find (λ name. not (has_name (names_driven h m) name)) (names_read h m)))) PartTellsName
     at_test true = tt

@@ -1,5 +1,6 @@
 -- In the models of lines none of which is wrong each word in a name's place is a name.
-use Rattle.std.proofs.Common.{◌≡◌, ◌-◌, ◌<◌, Bool, true, false, not, ◌==◌, ◌&&◌, ◌||◌, cond, List, [], ◌∷◌, map, flat_map, filter, find, length, codes, All, Option, Some, None, refl, ap, sym, subst, ◌∙◌, arith}
+use Rattle.std.proofs.Common.{◌≡◌, ◌-◌, ◌<◌, Bool, true, false, not, ◌==◌, ◌&&◌, ◌||◌, cond, List, [], ◌∷◌, map, flat_map, filter, find, length, codes, All, Option, Some, None, refl, ap, sym, subst}
+use Rattle.std.proofs.Common.{◌∙◌, arith}
 use Rattle.std.specs.List.{list_all}
 use Rattle.std.proofs.lemmas.Bool.{false≢true, and_parts}
 use Rattle.std.proofs.lemmas.List.Elements.{All-nil, All-cons, All-append, All-map, All-head, All-tail, All-take, All-get_or, All-weaker}
@@ -136,7 +137,8 @@ table_named : (k : Kind) (words : Line) (lines : List Line) → NamesIn k words 
 table_named kind.Names words lines h =
     let args : List Bytes = arguments words in
     let name = All-get_or IsName args (length args - 1) [] (omega (arith, h.0)) h.1 in
-    All-cons IsNamedPart (names_part (with_rows (named args) (rows_first lines))) [] (rows_named (named args) (rows_first lines) (name, All-take IsName (length args - 1) args h.1)) (All-nil IsNamedPart)
+    All-cons IsNamedPart (names_part (with_rows (named args) (rows_first lines))) [] (rows_named (named args) (rows_first lines) (name, All-take IsName (length args - 1) args h.1))
+    (All-nil IsNamedPart)
 table_named kind.Model words lines h = All-nil IsNamedPart
 table_named kind.Inputs words lines h = All-nil IsNamedPart
 table_named kind.Outputs words lines h = All-nil IsNamedPart

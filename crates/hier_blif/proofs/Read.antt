@@ -23,7 +23,8 @@ answer h o = elim o [ None ↦ Ok h | Some refusal ↦ Err refusal ]
 lines_of : Bytes → List Statement
 lines_of text = statements (logical_lines text)
 
-by_lines : (h : Hierarchy) (o : Option WrongLine) → elim o [ None ↦ hierarchy_checked h | Some w ↦ Err (line (wrong_line w.line w.wrong)) ] ≡ answer h (or_else o (λ w. line (wrong_line w.line w.wrong)) (hier_refusal h))
+by_lines : (h : Hierarchy) (o : Option WrongLine)
+    → elim o [ None ↦ hierarchy_checked h | Some w ↦ Err (line (wrong_line w.line w.wrong)) ] ≡ answer h (or_else o (λ w. line (wrong_line w.line w.wrong)) (hier_refusal h))
 by_lines h None = refl
 by_lines h (Some w) = refl
 

@@ -10,7 +10,8 @@ use Rattle.hierarchy_semantics.specs.ModelLines.{wrong_at}
 
 -- `ended` says whether the line before was `.end`, and `table` may get rows
 abbrev pub place_with : Bool → Option s.OpenTable → Line → s.Place
-place_with ended table words = record { had_model = false; had_end = ended && not (is_model (kind_of words)); table = table }
+place_with ended table words
+    = record { had_model = false; had_end = ended && not (is_model (kind_of words)); table = table }
 
 abbrev pub place_for : Bool → Option OpenTable → Line → s.Place
 place_for ended table words = place_with ended (table_of table) words

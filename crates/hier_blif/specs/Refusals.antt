@@ -21,7 +21,8 @@ refusal_of h.OutOfMemory = None
 
 -- the answer is this refusal, or the refusal is want of memory
 abbrev pub Tells : {X : Type 0} → HierRefusal → Result X r.HierRefusal → Type 0
-Tells told answer = elim (refusal_of told) [ None ↦ told ≡ h.OutOfMemory | Some refusal ↦ answer ≡ Err refusal ]
+Tells told answer = elim (refusal_of told)
+    [ None ↦ told ≡ h.OutOfMemory | Some refusal ↦ answer ≡ Err refusal ]
 
 -- the place of a refusal in the order of the tests, from 1; want of memory stands last
 abbrev pub number_of : HierRefusal → ℕ
@@ -39,4 +40,5 @@ number_of h.OutOfMemory = 11
 
 -- the refusal is want of memory, or is the one that is told
 abbrev pub TellsOne : HierRefusal → Option r.HierRefusal → Type 0
-TellsOne told answer = elim (refusal_of told) [ None ↦ told ≡ h.OutOfMemory | Some refusal ↦ answer ≡ Some refusal ]
+TellsOne told answer = elim (refusal_of told)
+    [ None ↦ told ≡ h.OutOfMemory | Some refusal ↦ answer ≡ Some refusal ]

@@ -8,4 +8,5 @@ use Rattle.hierarchy_semantics.specs.ModelLines.{first_wrong}
 use Rattle.hierarchy_semantics.specs.Refusals.{HierRefusal, line, hier_refusal}
 
 abbrev pub lines_refusal : List Statement → Option HierRefusal
-lines_refusal lines = or_else (first_wrong lines) (λ w. line (wrong_line w.line w.wrong)) (hier_refusal (hierarchy_of lines))
+lines_refusal lines = or_else (first_wrong lines) (λ w. line (wrong_line w.line w.wrong))
+    (hier_refusal (hierarchy_of lines))

@@ -1,4 +1,5 @@
-//! A hierarchy of models, and its flat net. Source: BLIF's `.subckt`; the names of the tables inside are this tool's own.
+//! A hierarchy of models, and its flat net. Source: BLIF's `.subckt`; the names of the tables inside are this
+//! tool's own.
 ghost use Rattle.std.specs.Prelude.{◌≡◌, Ok, IfOk, IfErr};
 ghost use Rattle.semantics.specs.Net.{IsSound, IsSmall};
 ghost use Rattle.hierarchy_semantics.specs.Models.{hierarchy_of};

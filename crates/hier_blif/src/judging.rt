@@ -18,7 +18,8 @@ use std::alloc::Global;
 /// What is wrong with a line, where `ended` says whether the line before it was `.end`, and `table` may get
 /// rows.
 fn wrong_at(ended: bool, table: Option<OpenTable>, words: &[&[u8]]) -> Option<Wrong>
-    ensures { wrong_if result (texts words.now) ≡ wrong_at (place_for ended table (texts words.now)) (texts words.now) }
+    ensures { wrong_if result (texts words.now)
+        ≡ wrong_at (place_for ended table (texts words.now)) (texts words.now) }
 {
     let kind = kind_of(words);
     if !are_printable(words) {
@@ -35,7 +36,9 @@ fn wrong_at(ended: bool, table: Option<OpenTable>, words: &[&[u8]]) -> Option<Wr
 /// Whether no line is wrong, or else the refusal of the first that is.
 pub fn judge(alloc: Global, lines: &[Statement]) -> Result<(), HierRefusal>
     ensures ok { OnOk result (first_wrong_in false None lines.now ≡ None) }
-    ensures err { IfErr result (λ told. TellsOne told (option_map (λ w. line (wrong_line w.line w.wrong)) (first_wrong_in false None lines.now))) }
+    ensures err { IfErr result
+        (λ told. TellsOne told (option_map (λ w. line (wrong_line w.line w.wrong))
+        (first_wrong_in false None lines.now))) }
 {
     let mut ended = false;
     let mut table = None;

@@ -1,4 +1,5 @@
-//! Why a text of several models gives no flat net. Source: BLIF; what is refused, and in which order, is this tool's own.
+//! Why a text of several models gives no flat net. Source: BLIF; what is refused, and in which order, is this
+//! tool's own.
 ghost use Rattle.std.specs.Prelude.{◌≡◌, Some, Result, Err};
 ghost use Rattle.semantics.specs.Net.{NetValue};
 ghost use Rattle.blif_semantics.specs.Reading as r;

@@ -1,4 +1,5 @@
-//! What keeps the models of a text from being a hierarchy. Source: BLIF's `.model` and `.subckt`; the order of the tests is this tool's own.
+//! What keeps the models of a text from being a hierarchy. Source: BLIF's `.model` and `.subckt`; the order
+//! of the tests is this tool's own.
 ghost use Rattle.std.specs.Prelude.{◌≡◌, None, Some, IfOk, IfErr, OnOk};
 ghost use Rattle.std.specs.Option.{option_map};
 ghost use Rattle.semantics.specs.Net.{IsName};

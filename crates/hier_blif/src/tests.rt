@@ -1,4 +1,5 @@
-//! What texts are read and made flat, and what others are refused for. A full adder of two half adders stands in most, with one line changed.
+//! What texts are read and made flat, and what others are refused for. A full adder of two half adders stands
+//! in most, with one line changed.
 use crate::reading::read_hier;
 use crate::refusal::HierRefusal;
 use blif_text::refusal::BlifRefusal;

@@ -8,7 +8,8 @@ use Rattle.semantics.specs.Refusals.{has_name, first_doubled, or_else}
 use Rattle.blif_semantics.specs.Reading.{doubled, no_output, undriven}
 use Rattle.hierarchy_semantics.specs.Models.{Part, Subcircuit, BlifModel, Hierarchy, main_of, all_uses}
 use Rattle.hierarchy_semantics.specs.Driven.{names_driven, part_reads, names_read}
-use Rattle.hierarchy_semantics.specs.Refusals.{HierRefusal, same_model, no_model_named, recursive, ports, part, taken, first_found, model_names, first_unknown, first_recursive, doubled_port, formal_refusal, unbound_refusal, model_refusal, part_refusal, is_taken, hier_refusal}
+use Rattle.hierarchy_semantics.specs.Refusals.{HierRefusal, same_model, no_model_named, recursive, ports, part, taken, first_found, model_names, first_unknown, first_recursive, doubled_port}
+use Rattle.hierarchy_semantics.specs.Refusals.{formal_refusal, unbound_refusal, model_refusal, part_refusal, is_taken, hier_refusal}
 use Rattle.hier_faults.specs.Faults.{fault_value, doubled_port_in}
 use Rattle.hier_parts.specs.Sets.{with_names}
 use Rattle.hier_faults.specs.Tests.{or_first, names_refusal, ports_refusal, part_fault, whole_refusal, form_refusal}
@@ -90,7 +91,8 @@ names-group h =
     ap
     (λ (o : Option Subcircuit).
     or_first (option_map same_model (first_doubled (model_names h))) (or_first (option_map (λ c. no_model_named c.model) o) (option_map (λ m. recursive m.name) (first_recursive h))))
-    (find-same (λ (c : Subcircuit). not (has_name (with_names [] (model_names h)) c.model)) (λ (c : Subcircuit). not (has_name (model_names h) c.model)) (all_uses h) (λ c. ap not (has-set (model_names h) c.model)))
+    (find-same (λ (c : Subcircuit). not (has_name (with_names [] (model_names h)) c.model)) (λ (c : Subcircuit). not (has_name (model_names h) c.model)) (all_uses h)
+    (λ c. ap not (has-set (model_names h) c.model)))
 
 port-same : (h : Hierarchy) (m : BlifModel) → doubled_port_in (with_names [] (map (λ c. c.model) (all_uses h))) m ≡ doubled_port h m
 port-same h m = ap (λ (b : Bool). cond b (option_map (ports m.name) (first_doubled m.ports)) None) (has-set (map (λ c. c.model) (all_uses h)) m.name)
@@ -161,7 +163,8 @@ pub record IsNamesFault (h : Hierarchy) (o : Option HierRefusal) : Type 0 where
 
 names-answer : (h : Hierarchy) (o : Option HierRefusal) → IsNamesFault h o → o ≡ names_refusal (model_names h) (with_names [] (model_names h)) (all_uses h) h
 names-answer h o a =
-    a.is ∙ ap (λ k. names_refusal a.names k a.uses h) a.known_is ∙ ap (λ n. names_refusal n (with_names [] n) a.uses h) a.names_is ∙ ap (λ u. names_refusal (model_names h) (with_names [] (model_names h)) u h) a.uses_is
+    a.is ∙ ap (λ k. names_refusal a.names k a.uses h) a.known_is ∙ ap (λ n. names_refusal n (with_names [] n) a.uses h) a.names_is ∙ ap
+    (λ u. names_refusal (model_names h) (with_names [] (model_names h)) u h) a.uses_is
 
 pub first-told : (h : Hierarchy) (x : Option Fault) → true ≡ is_some x → IsNamesFault h (option_map fault_value x) → option_map fault_value x ≡ hier_refusal h
 first-told h None some a = absurd (false≢true (sym some))

@@ -28,4 +28,5 @@ uses_value uses = map (λ c. c.now) uses
 
 -- a model whose name is one of those that are used has a name twice among its ports
 abbrev pub doubled_port_in : List Bytes → BlifModel → Option HierRefusal
-doubled_port_in used m = if has_name used m.name then option_map (r.ports m.name) (first_doubled m.ports) else None
+doubled_port_in used m = if has_name used m.name then option_map (r.ports m.name) (first_doubled m.ports)
+    else None

@@ -3,7 +3,8 @@ use Rattle.std.specs.Prelude.{All}
 use Rattle.semantics.specs.Net.{IsName}
 use Rattle.blif_semantics.specs.Reading.{Refusal, doubled, undriven}
 use Rattle.hierarchy_semantics.specs.Models.{Binding, Part, names_part, subckt_part, BlifModel, Hierarchy}
-use Rattle.hierarchy_semantics.specs.Refusals.{HierRefusal, same_model, no_model_named, recursive, ports, formal, unbound, part, taken}
+use Rattle.hierarchy_semantics.specs.Refusals.{HierRefusal, same_model, no_model_named, recursive, ports}
+use Rattle.hierarchy_semantics.specs.Refusals.{formal, unbound, part, taken}
 
 abbrev pub IsNamedBinding : Binding → Type 0
 IsNamedBinding b = IsName b.formal × IsName b.actual

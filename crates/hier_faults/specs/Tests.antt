@@ -4,7 +4,9 @@ use Rattle.std.specs.List.{find}
 use Rattle.semantics.specs.Texts.{Bytes}
 use Rattle.semantics.specs.Refusals.{has_name, first_doubled}
 use Rattle.hierarchy_semantics.specs.Models.{Subcircuit, BlifModel, Hierarchy, main_of}
-use Rattle.hierarchy_semantics.specs.Refusals.{HierRefusal, same_model, no_model_named, recursive, part, taken, first_found, first_recursive, formal_refusal, unbound_refusal, is_taken}
+use Rattle.hierarchy_semantics.specs.Refusals.{HierRefusal, same_model, no_model_named, recursive, part}
+use Rattle.hierarchy_semantics.specs.Refusals.{taken, first_found, first_recursive, formal_refusal}
+use Rattle.hierarchy_semantics.specs.Refusals.{unbound_refusal, is_taken}
 use Rattle.hier_faults.specs.Faults.{doubled_port_in}
 use Rattle.hier_parts.specs.Sets.{with_names}
 use Rattle.hier_parts.specs.Driven.{driven_names}
@@ -19,7 +21,8 @@ or_first (Some r) rest = Some r
 abbrev pub names_refusal : List Bytes → List Bytes → List Subcircuit → Hierarchy → Option HierRefusal
 names_refusal names known uses h =
     or_first (option_map same_model (first_doubled names))
-    (or_first (option_map (λ c. no_model_named c.model) (find (λ c. not (has_name known c.model)) uses)) (option_map (λ m. recursive m.name) (first_recursive h)))
+    (or_first (option_map (λ c. no_model_named c.model) (find (λ c. not (has_name known c.model)) uses))
+    (option_map (λ m. recursive m.name) (first_recursive h)))
 
 -- a port that stands twice, a binding of no port or a second one, or an input that is not bound
 abbrev pub ports_refusal : List Subcircuit → Hierarchy → Option HierRefusal
@@ -32,7 +35,8 @@ part_fault h m = option_map (part m.name) (model_fault h m)
 
 -- a model that is not whole, or a name that is taken
 abbrev pub whole_refusal : Hierarchy → Option HierRefusal
-whole_refusal h = or_first (first_found (part_fault h) h) (option_map taken (find is_taken (driven_names h (main_of h))))
+whole_refusal h = or_first (first_found (part_fault h) h)
+    (option_map taken (find is_taken (driven_names h (main_of h))))
 
 -- the ports, and then the parts
 abbrev pub form_refusal : List Subcircuit → Hierarchy → Option HierRefusal

@@ -13,9 +13,11 @@ use Rattle.hier_parts.specs.Sets.{with_names}
 abbrev pub undriven_in : Hierarchy → List Bytes → List Part → List Bytes → Option Bytes
 undriven_in h driven [] outputs = find (λ name. not (has_name driven name)) outputs
 undriven_in h driven (p ∷ parts) outputs =
-    elim (find (λ name. not (has_name driven name)) (part_reads h p)) [ None ↦ undriven_in h driven parts outputs | Some name ↦ Some name ]
+    elim (find (λ name. not (has_name driven name)) (part_reads h p))
+    [ None ↦ undriven_in h driven parts outputs | Some name ↦ Some name ]
 
 abbrev pub model_fault : Hierarchy → BlifModel → Option Refusal
 model_fault h m =
     or_else (first_doubled (driven_names h m)) doubled
-    (if length m.outputs == 0 then Some no_output else option_map undriven (undriven_in h (with_names [] (driven_names h m)) m.parts m.outputs))
+    (if length m.outputs == 0 then Some no_output
+    else option_map undriven (undriven_in h (with_names [] (driven_names h m)) m.parts m.outputs))

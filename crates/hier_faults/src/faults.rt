@@ -1,12 +1,14 @@
-//! The first fault of the models of a text, with names as slices of it. Source: BLIF's `.model` and `.subckt`; the order of the tests is this
-//! tool's own.
+//! The first fault of the models of a text, with names as slices of it. Source: BLIF's `.model` and
+//! `.subckt`; the order of the tests is this tool's own.
 ghost use Rattle.std.specs.Prelude.{◌≡◌, ◌++◌, [], IfOk, map, not};
 ghost use Rattle.std.specs.Option.{option_map};
 ghost use Rattle.std.specs.List.{find};
 ghost use Rattle.semantics.specs.Refusals.{has_name, first_doubled};
 ghost use Rattle.text_words.specs.Slices.{texts};
 ghost use Rattle.hierarchy_semantics.specs.Models.{uses_of, all_uses};
-ghost use Rattle.hierarchy_semantics.specs.Refusals.{same_model, no_model_named, ports, formal, unbound, first_found, wrong_formal, formals_of, formal_refusal, unbound_refusal};
+ghost use Rattle.hierarchy_semantics.specs.Refusals.{same_model, no_model_named, ports, formal, unbound};
+ghost use Rattle.hierarchy_semantics.specs.Refusals.{first_found, wrong_formal, formals_of, formal_refusal};
+ghost use Rattle.hierarchy_semantics.specs.Refusals.{unbound_refusal};
 ghost use Rattle.hier_faults.specs.Faults.{fault_value, uses_value, doubled_port_in};
 
 use hier_parts::interfaces::{Interface, Interfaces};
@@ -71,7 +73,8 @@ pub fn used_names<'a>(alloc: Global, uses: &[&Subcircuit<'a>]) -> Result<Vec<&'a
 
 /// The first model whose name is that of an earlier model.
 pub fn same_model<'a>(alloc: Global, names: &[&'a [u8]]) -> Result<Option<Fault<'a>>, AllocError>
-    ensures { IfOk result (λ o. option_map fault_value o ≡ option_map same_model (first_doubled (texts names.now))) }
+    ensures { IfOk result (λ o. option_map fault_value o
+        ≡ option_map same_model (first_doubled (texts names.now))) }
 {
     match first_doubled(alloc, names)? {
         Some(name) => Ok(Some(Fault::SameModel(name))),
@@ -82,7 +85,8 @@ pub fn same_model<'a>(alloc: Global, names: &[&'a [u8]]) -> Result<Option<Fault<
 /// The first use of a model whose name is none of these.
 pub fn unknown<'a>(names: &Names, uses: &[&Subcircuit<'a>]) -> Option<Fault<'a>>
     ensures { option_map fault_value result
-        ≡ option_map (λ c. no_model_named c.model) (find (λ c. not (has_name names.now c.model)) (uses_value uses.now)) }
+        ≡ option_map (λ c. no_model_named c.model)
+        (find (λ c. not (has_name names.now c.model)) (uses_value uses.now)) }
 {
     for c in uses {
         if !names.contains(c.model) {
@@ -94,7 +98,8 @@ pub fn unknown<'a>(names: &Names, uses: &[&Subcircuit<'a>]) -> Option<Fault<'a>>
 
 /// The first port of a model that stands twice among its ports.
 fn doubled_port<'a>(alloc: Global, model: &BlifModel<'a>) -> Result<Option<Fault<'a>>, AllocError>
-    ensures { IfOk result (λ o. option_map fault_value o ≡ option_map (ports model.now.name) (first_doubled model.now.ports)) }
+    ensures { IfOk result (λ o. option_map fault_value o
+        ≡ option_map (ports model.now.name) (first_doubled model.now.ports)) }
 {
     match first_doubled(alloc, &model.ports)? {
         Some(name) => Ok(Some(Fault::Ports {
@@ -111,7 +116,8 @@ pub fn doubled_ports<'a>(
     used: &Names,
     models: &[BlifModel<'a>],
 ) -> Result<Option<Fault<'a>>, AllocError>
-    ensures { IfOk result (λ o. option_map fault_value o ≡ first_found (doubled_port_in used.now) models.now) }
+    ensures { IfOk result (λ o. option_map fault_value o
+        ≡ first_found (doubled_port_in used.now) models.now) }
 {
     for model in models {
         if used.contains(model.name) {
@@ -130,7 +136,8 @@ fn wrong_formal<'a>(
     model: &Interface,
     c: &Subcircuit<'a>,
 ) -> Result<Option<Fault<'a>>, AllocError>
-    ensures { IfOk result (λ o. option_map fault_value o ≡ option_map (formal c.now.line) (wrong_formal model.now.ports [] (formals_of c.now))) }
+    ensures { IfOk result (λ o. option_map fault_value o
+        ≡ option_map (formal c.now.line) (wrong_formal model.now.ports [] (formals_of c.now))) }
 {
     let mut earlier = Names::new(alloc);
     for b in &c.bindings {
@@ -157,7 +164,8 @@ fn formals_of<'a>(alloc: Global, c: &Subcircuit<'a>) -> Result<Vec<&'a [u8]>, Al
 
 /// The first of the inputs that is not among the names.
 pub fn first_missing<'a>(names: &Names, inputs: &[&'a [u8]]) -> Option<&'a [u8]>
-    ensures { option_map (λ w. w.now) result ≡ find (λ name. not (has_name names.now name)) (texts inputs.now) }
+    ensures { option_map (λ w. w.now) result
+        ≡ find (λ name. not (has_name names.now name)) (texts inputs.now) }
 {
     for name in inputs {
         if !names.contains(name) {
@@ -174,7 +182,8 @@ fn unbound<'a>(
     c: &Subcircuit<'a>,
 ) -> Result<Option<Fault<'a>>, AllocError>
     ensures { IfOk result (λ o. option_map fault_value o
-        ≡ option_map (unbound c.now.line) (find (λ name. not (has_name (formals_of c.now) name)) model.now.inputs)) }
+        ≡ option_map (unbound c.now.line)
+        (find (λ name. not (has_name (formals_of c.now) name)) model.now.inputs)) }
 {
     let formals = formals_of(alloc, c)?;
     let bound = set_of(alloc, &formals)?;
@@ -191,7 +200,8 @@ pub fn wrong_formals<'a>(
     models: &Interfaces,
     uses: &[&Subcircuit<'a>],
 ) -> Result<Option<Fault<'a>>, AllocError>
-    ensures { IfOk result (λ o. option_map fault_value o ≡ first_found (formal_refusal models.now) (uses_value uses.now)) }
+    ensures { IfOk result (λ o. option_map fault_value o
+        ≡ first_found (formal_refusal models.now) (uses_value uses.now)) }
 {
     for c in uses {
         let fault = wrong_formal(alloc, models.of(c.model), c)?;
@@ -219,7 +229,8 @@ pub fn unbound_inputs<'a>(
     models: &Interfaces<'_, 'a>,
     uses: &[&Subcircuit<'a>],
 ) -> Result<Option<Fault<'a>>, AllocError>
-    ensures { IfOk result (λ o. option_map fault_value o ≡ first_found (unbound_refusal models.now) (uses_value uses.now)) }
+    ensures { IfOk result (λ o. option_map fault_value o
+        ≡ first_found (unbound_refusal models.now) (uses_value uses.now)) }
 {
     for c in uses {
         let fault = unbound_input(alloc, models, c)?;

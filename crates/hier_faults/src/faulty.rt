@@ -1,4 +1,5 @@
-//! The tests of the models of a text, one after another. Source: BLIF's `.model` and `.subckt`; their order is this tool's own.
+//! The tests of the models of a text, one after another. Source: BLIF's `.model` and `.subckt`; their order
+//! is this tool's own.
 ghost use Rattle.std.specs.Prelude.{◌≡◌, [], IfOk};
 ghost use Rattle.std.specs.Option.{option_map};
 ghost use Rattle.std.specs.List.{find};
@@ -8,7 +9,8 @@ ghost use Rattle.hierarchy_semantics.specs.Refusals.{taken, first_found, is_take
 ghost use Rattle.hier_faults.specs.Faults.{fault_value, uses_value};
 ghost use Rattle.hier_faults.specs.Named.{AreNamed};
 ghost use Rattle.hier_parts.specs.Sets.{with_names};
-ghost use Rattle.hier_faults.specs.Tests.{names_refusal, ports_refusal, part_fault, whole_refusal, form_refusal};
+ghost use Rattle.hier_faults.specs.Tests.{names_refusal, ports_refusal, part_fault, whole_refusal};
+ghost use Rattle.hier_faults.specs.Tests.{form_refusal};
 ghost use Rattle.hier_parts.specs.Driven.{driven_names};
 
 use crate::faults::{
@@ -34,7 +36,8 @@ fn names_fault<'a>(
     requires known { known.now ≡ with_names [] (model_names models.now) }
     requires uses { uses_value uses.now ≡ all_uses models.now }
     requires named { AreNamed models.now }
-    ensures { IfOk result (λ o. option_map fault_value o ≡ names_refusal (texts names.now) known.now (uses_value uses.now) models.now) }
+    ensures { IfOk result (λ o. option_map fault_value o
+        ≡ names_refusal (texts names.now) known.now (uses_value uses.now) models.now) }
 {
     let fault = same_model(alloc, names)?;
     if fault.is_some() {
@@ -93,7 +96,8 @@ fn taken_name<'a>(
     found: &Interfaces,
     models: &[BlifModel<'a>],
 ) -> Result<Option<Fault<'a>>, AllocError>
-    ensures { IfOk result (λ o. option_map fault_value o ≡ option_map taken (find is_taken (driven_names found.now (main_of models.now)))) }
+    ensures { IfOk result (λ o. option_map fault_value o
+        ≡ option_map taken (find is_taken (driven_names found.now (main_of models.now)))) }
 {
     let Some(main) = models.first() else {
         return Ok(None);

@@ -20,7 +20,8 @@ pub fn recursive<'a>(
     requires names { names.now ≡ model_names models.now }
     requires named { AreNamed models.now }
     requires known { first_unknown models.now ≡ None }
-    ensures { IfOk result (λ o. option_map fault_value o ≡ option_map (λ m. recursive m.name) (first_recursive models.now)) }
+    ensures { IfOk result (λ o. option_map fault_value o
+        ≡ option_map (λ m. recursive m.name) (first_recursive models.now)) }
 {
     match order_models(alloc, names, models)? {
         Ok(_) => Ok(None),

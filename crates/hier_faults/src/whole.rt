@@ -1,4 +1,5 @@
-//! What keeps a model from being whole: names that are driven twice, or read and not driven. Source: BLIF's `.inputs`, `.names` and `.subckt`.
+//! What keeps a model from being whole: names that are driven twice, or read and not driven. Source: BLIF's
+//! `.inputs`, `.names` and `.subckt`.
 ghost use Rattle.std.specs.Prelude.{◌≡◌, IfOk, map, filter, not};
 ghost use Rattle.std.specs.Option.{option_map};
 ghost use Rattle.std.specs.List.{find, list_all};
@@ -21,7 +22,8 @@ use std::alloc::{AllocError, Global};
 /// The first name that is bound to an input of the model and is not among the driven names.
 fn missing_actual<'a>(driven: &Names, model: &Interface, c: &Subcircuit<'a>) -> Option<&'a [u8]>
     ensures { option_map (λ w. w.now) result
-        ≡ find (λ name. not (has_name driven.now name)) (map (λ b. b.actual) (filter (λ b. has_name model.now.inputs b.formal) c.now.bindings)) }
+        ≡ find (λ name. not (has_name driven.now name))
+        (map (λ b. b.actual) (filter (λ b. has_name model.now.inputs b.formal) c.now.bindings)) }
 {
     for b in &c.bindings {
         if model.has_input(b.formal) && !driven.contains(b.actual) {
@@ -61,7 +63,8 @@ pub fn model_fault<'a>(
     models: &Interfaces,
     m: &BlifModel<'a>,
 ) -> Result<Option<Fault<'a>>, AllocError>
-    ensures { IfOk result (λ o. option_map fault_value o ≡ option_map (part m.now.name) (model_fault models.now m.now)) }
+    ensures { IfOk result (λ o. option_map fault_value o
+        ≡ option_map (part m.now.name) (model_fault models.now m.now)) }
 {
     let names = names_driven(alloc, models, m)?;
     let model = m.name;

@@ -40,13 +40,15 @@ first_at f (d ∷ driven) name =
     at_test true rest = refl
     at_test false rest = let more : 1 + m ≡ suc m = omega arith in ap (λ k. get_or (f d ∷ map f driven) k 0) more ∙ rest
 
-looked_up : (f : Driven → ℕ) (driven : List Driven) (name : Bytes) → signal_in (map (λ d. d.name) driven) (map f driven) name ≡ elim (find (λ d. bytes_eq d.name name) driven) [ None ↦ 0 | Some d ↦ f d ]
+looked_up : (f : Driven → ℕ) (driven : List Driven) (name : Bytes)
+    → signal_in (map (λ d. d.name) driven) (map f driven) name ≡ elim (find (λ d. bytes_eq d.name name) driven) [ None ↦ 0 | Some d ↦ f d ]
 looked_up f driven name =
     at_position (map (λ d. d.name) driven) (map f driven) name (length-map driven f ∙ sym (length-map driven (λ (d : Driven). d.name))) ∙ first_at f driven name
 
 -- ---- a name that nothing drives has no flat table
 
-unplaced_item : (h : Hierarchy) (path : Path) (name : Bytes) (item : FlatItem) → find (λ d. bytes_eq d.name name) (driven_of h (model_at h path)) ≡ None → IsIn item (flat_items h) → is_place path name item ≡ false
+unplaced_item : (h : Hierarchy) (path : Path) (name : Bytes) (item : FlatItem) → find (λ d. bytes_eq d.name name) (driven_of h (model_at h path)) ≡ None → IsIn item (flat_items h)
+    → is_place path name item ≡ false
 unplaced_item h path name item none inside = at_test (is_place path name item) refl
   where
     at_test : (b : Bool) → is_place path name item ≡ b → is_place path name item ≡ false
@@ -107,7 +109,8 @@ framed h path g m inputs first same of_inputs of_parts name =
     ∙ sym (told_place h path g name (source_of h (model_at h path) name) refl)
 
 -- those of a model inside
-bound_inputs_told : (h : Hierarchy) (n : ℕ) (up : Path) (signal : Bytes → ℕ) (c : Subcircuit) (k : ℕ) (names : List Bytes) → use_at (model_at h up) n ≡ c → ((name : Bytes) → signal name ≡ place_signal h up name)
+bound_inputs_told : (h : Hierarchy) (n : ℕ) (up : Path) (signal : Bytes → ℕ) (c : Subcircuit) (k : ℕ) (names : List Bytes) → use_at (model_at h up) n ≡ c
+    → ((name : Bytes) → signal name ≡ place_signal h up name)
     → map (told h (n ∷ up) (λ name i. place_signal h up (actual_of (use_at (model_at h up) n) name))) (inputs_driven k names) ≡ map (λ name. signal (actual_of c name)) names
 bound_inputs_told h n up signal c k [] there same = refl
 bound_inputs_told h n up signal c k (name ∷ names) there same =
@@ -121,7 +124,8 @@ pub used_framed : (h : Hierarchy) (n : ℕ) (up : Path) (signal : Bytes → ℕ)
     → map (λ d. table_signal h (n ∷ up) d.name) (over_parts (part_driven h) 0 (model_named h c.model).parts) ≡ part_signals h first (model_named h c.model).parts
     → (name : Bytes) → used_signal h signal first c name ≡ place_signal h (n ∷ up) name
 used_framed h n up signal c first model there same of_parts name =
-    framed h (n ∷ up) (λ name i. place_signal h up (actual_of (use_at (model_at h up) n) name)) (model_named h c.model) (map (λ name. signal (actual_of c name)) (model_named h c.model).inputs) first model
+    framed h (n ∷ up) (λ name i. place_signal h up (actual_of (use_at (model_at h up) n) name)) (model_named h c.model) (map (λ name. signal (actual_of c name)) (model_named h c.model).inputs) first
+    model
     (bound_inputs_told h n up signal c 0 (model_named h c.model).inputs there same) of_parts name
 
 -- those of the main model

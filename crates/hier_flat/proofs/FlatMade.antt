@@ -63,7 +63,8 @@ from_next h l number path i p parts from =
           ];
     }
 
-stands_inside : (h : Hierarchy) (l number : ℕ) (path : Path) (i : ℕ) (c : Subcircuit) (parts : List Part) → StandsFrom h l number path i (subckt_part c ∷ parts) → Stands h l number (i ∷ path) (model_named h c.model)
+stands_inside : (h : Hierarchy) (l number : ℕ) (path : Path) (i : ℕ) (c : Subcircuit) (parts : List Part) → StandsFrom h l number path i (subckt_part c ∷ parts)
+    → Stands h l number (i ∷ path) (model_named h c.model)
 stands_inside h l number path i c parts from =
     let below : List FlatItem = items_of h l (i ∷ path) (model_named h c.model) in
     let own : List FlatItem = items_at path (part_driven h i (subckt_part c)) in
@@ -203,7 +204,8 @@ reaches_inside h good l number path signal done c parts m same split grounded wi
       grounded = below;
       levels = less;
       stands = stands;
-      signals = used_framed h i path signal c (length (main_of h).inputs + number) model (ap use_of use_is.1) signals (signals_found h good l number (i ∷ path) (model_named h c.model) model below less stands);
+      signals = used_framed h i path signal c (length (main_of h).inputs + number) model (ap use_of use_is.1) signals
+          (signals_found h good l number (i ∷ path) (model_named h c.model) model below less stands);
     }
 
 part_made : (h : Hierarchy) → IsGood h → (l : ℕ) (path : Path) (signal : Bytes → ℕ) (done : List Part) (p : Part) (parts : List Part) (m : BlifModel) (tables : List TableValue)

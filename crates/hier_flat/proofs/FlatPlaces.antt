@@ -1,5 +1,6 @@
 -- Where the flat tables of a model stand in the flat list.
-use Rattle.std.proofs.Common.{◌≡◌, ℕ, zero, suc, ◌+◌, ◌<◌, ◌*◌, ◌&&◌, Bool, true, false, cond, List, [], ◌∷◌, ◌++◌, map, length, bytes_eq, Option, Some, None, append_assoc, refl, ap, sym, subst, ◌∙◌, inl, inr, arith}
+use Rattle.std.proofs.Common.{◌≡◌, ℕ, zero, suc, ◌+◌, ◌<◌, ◌*◌, ◌&&◌, Bool, true, false, cond, List, [], ◌∷◌, ◌++◌, map, length, bytes_eq, Option, Some, None, append_assoc, refl, ap, sym, subst, ◌∙◌}
+use Rattle.std.proofs.Common.{inl, inr, arith}
 use Rattle.std.specs.List.{position_from, range_with_len}
 use Rattle.std.proofs.lemmas.List.{map-append, length-append}
 use Rattle.semantics.specs.Texts.{Bytes}
@@ -132,12 +133,14 @@ own_found : (path : Path) (k : ℕ) (driven : List Driven) (rest : List FlatItem
     → map (found_in_list path k (items_at path driven ++ rest)) driven ≡ map Some (range_with_len k (length driven))
 own_found path k [] rest distinct = refl
 own_found path k (d ∷ driven) rest distinct =
-    let here : found_in_list path k (items_at path (d ∷ driven) ++ rest) d ≡ Some k = ap (λ b. cond b (Some k) (position_from (is_place path d.name) (k + 1) (items_at path driven ++ rest))) (its_place path d) in
+    let here : found_in_list path k (items_at path (d ∷ driven) ++ rest) d ≡ Some k
+    = ap (λ b. cond b (Some k) (position_from (is_place path d.name) (k + 1) (items_at path driven ++ rest))) (its_place path d) in
     let later : map (found_in_list path k (items_at path (d ∷ driven) ++ rest)) driven ≡ map (found_in_list path (k + 1) (items_at path driven ++ rest)) driven =
     map_same_in (found_in_list path k (items_at path (d ∷ driven) ++ rest)) (found_in_list path (k + 1) (items_at path driven ++ rest)) driven
     (λ e inside.
     ap (λ b. cond b (Some k) (position_from (is_place path e.name) (k + 1) (items_at path driven ++ rest)))
-    (other_name path e.name (record { path = path; driven = d }) (λ same. distinct.0 (subst (λ name. IsIn name (map (λ d. d.name) driven)) (sym same) (in_map (λ (d : Driven). d.name) e driven inside))))) in
+    (other_name path e.name (record { path = path; driven = d })
+    (λ same. distinct.0 (subst (λ name. IsIn name (map (λ d. d.name) driven)) (sym same) (in_map (λ (d : Driven). d.name) e driven inside))))) in
     ap (λ o. o ∷ map (found_in_list path k (items_at path (d ∷ driven) ++ rest)) driven) here
     ∙ ap (λ os. Some k ∷ os) (later ∙ own_found path (k + 1) driven rest distinct.1)
 
@@ -185,7 +188,8 @@ later_elsewhere h l path n p name item other inside = by_part p other inside
 abbrev pub HaveSizes : Hierarchy → ℕ → List Part → Type 0
 HaveSizes h l parts = (c : Subcircuit) → IsIn (subckt_part c) parts → model_weight h by_tables l (model_named h c.model) ≡ size_of h (model_named h c.model)
 
-pub part_size_is : (h : Hierarchy) (l : ℕ) (path : Path) (n : ℕ) (p : Part) → ((c : Subcircuit) → p ≡ subckt_part c → model_weight h by_tables l (model_named h c.model) ≡ size_of h (model_named h c.model))
+pub part_size_is : (h : Hierarchy) (l : ℕ) (path : Path) (n : ℕ) (p : Part)
+    → ((c : Subcircuit) → p ≡ subckt_part c → model_weight h by_tables l (model_named h c.model) ≡ size_of h (model_named h c.model))
     → length (part_items h (items_of h l) path n p) ≡ part_size h p
 part_size_is h l path n (names_part t) sizes = refl
 part_size_is h l path n (subckt_part c) sizes =
@@ -241,7 +245,8 @@ map_twice : {X Y Z : Type 0} (f : X → Y) (g : Y → Z) (xs : List X) → map (
 map_twice f g [] = refl
 map_twice f g (x ∷ xs) = ap (λ rest. g (f x) ∷ rest) (map_twice f g xs)
 
-pub model_found : (h : Hierarchy) (l number : ℕ) (path : Path) (m : BlifModel) → Stands h (suc l) number path m → Distinct (map (λ d. d.name) (over_parts (part_driven h) 0 m.parts)) → HaveSizes h l m.parts
+pub model_found : (h : Hierarchy) (l number : ℕ) (path : Path) (m : BlifModel) → Stands h (suc l) number path m → Distinct (map (λ d. d.name) (over_parts (part_driven h) 0 m.parts))
+    → HaveSizes h l m.parts
     → map (λ d. table_signal h path d.name) (over_parts (part_driven h) 0 m.parts) ≡ part_signals h (length (main_of h).inputs + number) m.parts
 model_found h l number path m stands distinct sizes =
     let n : ℕ = length (main_of h).inputs in

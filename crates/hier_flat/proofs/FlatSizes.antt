@@ -33,7 +33,8 @@ all_weaker p q (x ∷ xs) weaker e =
 pub grounded_inside : (h : Hierarchy) (l : ℕ) (m : BlifModel) → is_model_grounded h (suc l) m ≡ true → (c : Subcircuit) → IsIn c (uses_of m) → is_model_grounded h l (model_named h c.model) ≡ true
 grounded_inside h l m grounded c inside = passed_in (λ c. is_model_grounded h l (model_named h c.model)) c (uses_of m) grounded inside
 
-part_steady : (h : Hierarchy) (w : Weight) (f g : BlifModel → ℕ) (m : BlifModel) (p : Part) → IsIn p m.parts → ((c : Subcircuit) → IsIn c (uses_of m) → f (model_named h c.model) ≡ g (model_named h c.model))
+part_steady : (h : Hierarchy) (w : Weight) (f g : BlifModel → ℕ) (m : BlifModel) (p : Part) → IsIn p m.parts
+    → ((c : Subcircuit) → IsIn c (uses_of m) → f (model_named h c.model) ≡ g (model_named h c.model))
     → part_weight h w f p ≡ part_weight h w g p
 part_steady h w f g m (names_part t) inside same = refl
 part_steady h w f g m (subckt_part c) inside same = ap (λ k. k + length (bound_outputs h c) * w.of_buffer) (same c (in_flat_map part_uses (subckt_part c) c m.parts inside (inl refl)))

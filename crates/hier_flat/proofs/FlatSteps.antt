@@ -23,13 +23,15 @@ at_part P f [] i x all within is = absurd (omega (arith, within))
 at_part P f (y ∷ xs) zero x all within is = subst (λ z. P (f z)) is all.0
 at_part P f (y ∷ xs) (suc i) x all within is = at_part P f xs i x all.1 (omega (arith, within)) is
 
-pub part_formed : (xs held : List d.Part) (m : BlifModel) (i : ℕ) (x : d.Part) → xs ≡ held → map part_value held ≡ m.parts → AllByRecursion IsFormedPart m.parts → i < length xs → get_or xs i x ≡ x → IsFormedPart (part_value x)
+pub part_formed : (xs held : List d.Part) (m : BlifModel) (i : ℕ) (x : d.Part) → xs ≡ held → map part_value held ≡ m.parts → AllByRecursion IsFormedPart m.parts → i < length xs → get_or xs i x ≡ x
+    → IsFormedPart (part_value x)
 part_formed xs held m i x same parts all within is = at_part IsFormedPart part_value xs i x (subst (AllByRecursion IsFormedPart) (sym (ap (map part_value) same ∙ parts)) all) within is
 
 abbrev Inner : Type 0
 Inner = (Bytes → ℕ) → BlifModel → List TableValue → List TableValue
 
-pub parts_step : {X : Type 0} (f : X → Part) (h : Hierarchy) (n : ℕ) (inner : Inner) (own : Bool) (signal : Bytes → ℕ) (xs : List X) (i : ℕ) (x : X) (old new all : List TableValue) → i < length xs → get_or xs i x ≡ x
+pub parts_step : {X : Type 0} (f : X → Part) (h : Hierarchy) (n : ℕ) (inner : Inner) (own : Bool) (signal : Bytes → ℕ) (xs : List X) (i : ℕ) (x : X) (old new all : List TableValue) → i < length xs
+    → get_or xs i x ≡ x
     → new ≡ with_part h n inner own signal (f x) old → with_parts h n inner own signal (map f (drop i xs)) old ≡ all → with_parts h n inner own signal (map f (drop (i + 1) xs)) new ≡ all
 parts_step f h n inner own signal xs i x old new all within is made so_far =
     ap (λ ts. with_parts h n inner own signal (map f (drop (i + 1) xs)) ts) (made ∙ ap (λ y. with_part h n inner own signal (f y) old) (sym is))
@@ -40,7 +42,8 @@ pub parts_done : {X : Type 0} (f : X → Part) (h : Hierarchy) (n : ℕ) (inner 
     → with_parts h n inner own signal (map f (drop i xs)) old ≡ all → old ≡ all
 parts_done f h n inner own signal xs i old all within so_far = ap (λ l. with_parts h n inner own signal (map f l) old) (sym (drop_all i xs within)) ∙ so_far
 
-pub use_made : (h : Hierarchy) (n : ℕ) (inner : Inner) (own : Bool) (signal g : Bytes → ℕ) (c : Subcircuit) (p : Part) (m : BlifModel) (first : ℕ) (old below new : List TableValue) → p ≡ subckt_part c → g ≡ used_signal h signal first c → first ≡ n + length old
+pub use_made : (h : Hierarchy) (n : ℕ) (inner : Inner) (own : Bool) (signal g : Bytes → ℕ) (c : Subcircuit) (p : Part) (m : BlifModel) (first : ℕ) (old below new : List TableValue)
+    → p ≡ subckt_part c → g ≡ used_signal h signal first c → first ≡ n + length old
     → m ≡ model_named h c.model → below ≡ inner g m old → new ≡ with_buffers own g (filter (λ b. has_name m.outputs b.formal) c.bindings) below → new ≡ with_part h n inner own signal p old
 use_made h n inner own signal g c p m first old below new part signals number model made added =
     let here : g ≡ used_signal h signal (n + length old) c = signals ∙ ap (λ k. used_signal h signal k c) number in
@@ -67,7 +70,8 @@ buffers_step f own inside xs i x old within is =
     ap (λ l. with_buffers own inside (filter f l) old) (drop_more xs i x within)
     ∙ ap (λ y. with_buffers own inside (cond (f y) (y ∷ filter f (drop (i + 1) xs)) (filter f (drop (i + 1) xs))) old) is
 
-pub names_made : (h : Hierarchy) (n : ℕ) (inner : Inner) (own : Bool) (signal : Bytes → ℕ) (t : NamedTable) (p : Part) (number : ℕ) (made : TableValue) (old new : List TableValue) → p ≡ names_part t → number ≡ length old → made ≡ table_made own signal t number
+pub names_made : (h : Hierarchy) (n : ℕ) (inner : Inner) (own : Bool) (signal : Bytes → ℕ) (t : NamedTable) (p : Part) (number : ℕ) (made : TableValue) (old new : List TableValue) → p ≡ names_part t
+    → number ≡ length old → made ≡ table_made own signal t number
     → new ≡ old ++ made ∷ [] → new ≡ with_part h n inner own signal p old
 names_made h n inner own signal t p number made old new part count is added =
     added ∙ ap (λ x. old ++ x ∷ []) (is ∙ ap (λ k. table_made own signal t k) count) ∙ ap (λ q. with_part h n inner own signal q old) (sym part)
@@ -89,7 +93,8 @@ dollar_name n small =
           name.ending last;
     }
 
-pub pins_next : (f : Bytes → ℕ) (words : List (Bor Bytes)) (i : ℕ) (w : Bor Bytes) (found : List ℕ) (s : ℕ) → i < length words → s ≡ f (get_or words i w).now → found ≡ map f (texts (take i words)) → found ++ s ∷ [] ≡ map f (texts (take (i + 1) words))
+pub pins_next : (f : Bytes → ℕ) (words : List (Bor Bytes)) (i : ℕ) (w : Bor Bytes) (found : List ℕ) (s : ℕ) → i < length words → s ≡ f (get_or words i w).now → found ≡ map f (texts (take i words))
+    → found ++ s ∷ [] ≡ map f (texts (take (i + 1) words))
 pins_next f words i w found s within is so_far =
     ap (λ l. l ++ s ∷ []) so_far
     ∙ ap (λ n. map f (texts (take i words)) ++ n ∷ []) is
@@ -100,4 +105,5 @@ abbrev FrameIs : List Bytes → List Bytes → List ℕ → List ℕ → Type 0
 FrameIs a b s t = let f : FrameValue = record { names = a; signals = s } in let g : FrameValue = record { names = b; signals = t } in f ≡ g
 
 pub frame_is : (a b : List Bytes) (s t : List ℕ) → a ≡ b → s ≡ t → FrameIs a b s t
-frame_is a b s t names signals = ap (λ (k : List Bytes). let f : FrameValue = record { names = k; signals = s } in f) names ∙ ap (λ (k : List ℕ). let f : FrameValue = record { names = b; signals = k } in f) signals
+frame_is a b s t names signals = ap (λ (k : List Bytes). let f : FrameValue = record { names = k; signals = s } in f) names ∙ ap
+    (λ (k : List ℕ). let f : FrameValue = record { names = b; signals = k } in f) signals

@@ -19,7 +19,8 @@ range_pushed old new s e all within added so_far =
     ∙ ap (λ more. old ++ more) (sym (range_next s e within))
     ∙ so_far
 
-pub range_done : (old : List ℕ) (s e first count : ℕ) (start : List ℕ) → e ≤ s → e ≡ first + count → old ++ range_with_len s (e - s) ≡ start ++ range_with_len first (e - first) → old ≡ start ++ range_with_len first count
+pub range_done : (old : List ℕ) (s e first count : ℕ) (start : List ℕ) → e ≤ s → e ≡ first + count → old ++ range_with_len s (e - s) ≡ start ++ range_with_len first (e - first)
+    → old ≡ start ++ range_with_len first count
 range_done old s e first count start within end so_far =
     let none : e - s ≡ 0 = omega (arith, within) in
     let size : e - first ≡ count = omega (arith, end) in
@@ -34,17 +35,20 @@ sum_cut f g xs i x within is =
     ∙ ap (λ y. g (f y) + sum_by g (map f (drop (i + 1) xs))) is
 
 -- the next part has room
-pub room_next : {X : Type 0} (f : X → Part) (h : Hierarchy) (xs : List X) (i : ℕ) (x : X) (next total : ℕ) → i < length xs → get_or xs i x ≡ x → next + sum_by (part_size h) (map f (drop i xs)) ≡ total → total < 2 ^ 31
+pub room_next : {X : Type 0} (f : X → Part) (h : Hierarchy) (xs : List X) (i : ℕ) (x : X) (next total : ℕ) → i < length xs → get_or xs i x ≡ x
+    → next + sum_by (part_size h) (map f (drop i xs)) ≡ total → total < 2 ^ 31
     → next + part_size h (f x) < 2 ^ 31
 room_next f h xs i x next total within is so_far small = let cut = sum_cut f (part_size h) xs i x within is in omega (arith, cut, so_far, small)
 
 -- and what is held of its size is the whole
-pub size_next : {X : Type 0} (f : X → Part) (h : Hierarchy) (xs : List X) (i : ℕ) (x : X) (next total size : ℕ) → i < length xs → get_or xs i x ≡ x → next + sum_by (part_size h) (map f (drop i xs)) ≡ total → total < 2 ^ 31
+pub size_next : {X : Type 0} (f : X → Part) (h : Hierarchy) (xs : List X) (i : ℕ) (x : X) (next total size : ℕ) → i < length xs → get_or xs i x ≡ x
+    → next + sum_by (part_size h) (map f (drop i xs)) ≡ total → total < 2 ^ 31
     → size ≡ capped (part_size h (f x))
     → size ≡ part_size h (f x)
 size_next f h xs i x next total size within is so_far small held = let room = room_next f h xs i x next total within is so_far small in omega (arith, room, held)
 
-pub signals_next : {X : Type 0} (f : X → Part) (h : Hierarchy) (xs : List X) (i : ℕ) (x : X) (next later total size : ℕ) (old new all : List ℕ) → i < length xs → get_or xs i x ≡ x → next + sum_by (part_size h) (map f (drop i xs)) ≡ total → total < 2 ^ 31
+pub signals_next : {X : Type 0} (f : X → Part) (h : Hierarchy) (xs : List X) (i : ℕ) (x : X) (next later total size : ℕ) (old new all : List ℕ) → i < length xs → get_or xs i x ≡ x
+    → next + sum_by (part_size h) (map f (drop i xs)) ≡ total → total < 2 ^ 31
     → size ≡ capped (part_size h (f x))
     → later ≡ next + size → new ≡ old ++ own_signals h next (f x) → old ++ part_signals h next (map f (drop i xs)) ≡ all
     → (new ++ part_signals h later (map f (drop (i + 1) xs)) ≡ all) × (later + sum_by (part_size h) (map f (drop (i + 1) xs)) ≡ total)

@@ -50,19 +50,23 @@ flat_outputs : (h : Hierarchy) → length (main_of h).outputs ≡ length (flat_n
 unfolding flat_net
 flat_outputs h = sym (length-map (main_of h).outputs (place_signal h []))
 
-limits_same : (a b c d e f p q r s t u : Bool) → a ≡ p → b ≡ q → c ≡ r → d ≡ s → e ≡ t → f ≡ u → limit_by (not a) (not b) (not c) (not d) (not e) (not f) ≡ limit_by (not p) (not q) (not r) (not s) (not t) (not u)
+limits_same : (a b c d e f p q r s t u : Bool) → a ≡ p → b ≡ q → c ≡ r → d ≡ s → e ≡ t → f ≡ u
+    → limit_by (not a) (not b) (not c) (not d) (not e) (not f) ≡ limit_by (not p) (not q) (not r) (not s) (not t) (not u)
 limits_same a b c d e f p q r s t u one two three four five six = rw (one, two, three, four, five, six) refl
 
 counted : (h : Hierarchy) (w : Weight) (n most held : ℕ) → most < 2 ^ 64 - 1 → n ≡ flat_weight h w → held ≡ capped (flat_weight h w) → leb held most ≡ leb n most
 counted h w n most held small whole is = ap (λ k. leb k most) is ∙ held_passes (flat_weight h w) most small ∙ ap (λ k. leb k most) (sym whole)
 
-pub limit_counted : (h : Hierarchy) (inputs outputs tables wide pins rows : ℕ) → inputs ≡ length (main_of h).inputs → outputs ≡ length (main_of h).outputs → tables ≡ capped (flat_weight h (weight_of Tables))
+pub limit_counted : (h : Hierarchy) (inputs outputs tables wide pins rows : ℕ) → inputs ≡ length (main_of h).inputs → outputs ≡ length (main_of h).outputs
+    → tables ≡ capped (flat_weight h (weight_of Tables))
     → wide ≡ capped (flat_weight h (weight_of WideTables)) → pins ≡ capped (flat_weight h (weight_of Pins)) → rows ≡ capped (flat_weight h (weight_of Rows))
-    → limit_by (not (leb inputs MOST_INPUTS)) (not (leb outputs MOST_OUTPUTS)) (not (leb tables MOST_TABLES)) (not (leb wide 0)) (not (leb pins MOST_PINS)) (not (leb rows MOST_ROWS)) ≡ first_limit (flat_net h)
+    → limit_by (not (leb inputs MOST_INPUTS)) (not (leb outputs MOST_OUTPUTS)) (not (leb tables MOST_TABLES)) (not (leb wide 0)) (not (leb pins MOST_PINS)) (not (leb rows MOST_ROWS))
+    ≡ first_limit (flat_net h)
 limit_counted h inputs outputs tables wide pins rows inputs_is outputs_is tables_is wide_is pins_is rows_is =
     let N : NetValue = flat_net h in
     limits_same (leb inputs MOST_INPUTS) (leb outputs MOST_OUTPUTS) (leb tables MOST_TABLES) (leb wide 0) (leb pins MOST_PINS) (leb rows MOST_ROWS)
-    (leb (length N.inputs) MOST_INPUTS) (leb (length N.outputs) MOST_OUTPUTS) (leb (length N.tables) MOST_TABLES) (list_all (λ t. leb (length t.pins) MOST_TABLE_PINS) N.tables) (leb (pin_count N) MOST_PINS) (leb (row_count N) MOST_ROWS)
+    (leb (length N.inputs) MOST_INPUTS) (leb (length N.outputs) MOST_OUTPUTS) (leb (length N.tables) MOST_TABLES) (list_all (λ t. leb (length t.pins) MOST_TABLE_PINS) N.tables)
+    (leb (pin_count N) MOST_PINS) (leb (row_count N) MOST_ROWS)
     (ap (λ k. leb k MOST_INPUTS) (inputs_is ∙ flat_inputs h)) (ap (λ k. leb k MOST_OUTPUTS) (outputs_is ∙ flat_outputs h))
     (counted h (weight_of Tables) (length N.tables) MOST_TABLES tables (omega arith) (tables_count h) tables_is)
     (counted h (weight_of WideTables) (sum_by (λ t. cond (not (leb (length t.pins) MOST_TABLE_PINS)) 1 0) N.tables) 0 wide (omega arith) (wide_count h) wide_is ∙ none_wide N.tables)
@@ -72,7 +76,8 @@ limit_counted h inputs outputs tables wide pins rows inputs_is outputs_is tables
 abbrev Passes : Bool → ℕ → ℕ → Type 0
 Passes b n most = b ≡ not (leb n most)
 
-pub limit_told : (h : Hierarchy) (a b c d e f : Bool) (inputs outputs tables wide pins rows : ℕ) (told : Option Which) → told ≡ limit_by a b c d e f → Passes a inputs MOST_INPUTS → Passes b outputs MOST_OUTPUTS → Passes c tables MOST_TABLES → Passes d wide 0 → Passes e pins MOST_PINS → Passes f rows MOST_ROWS
+pub limit_told : (h : Hierarchy) (a b c d e f : Bool) (inputs outputs tables wide pins rows : ℕ) (told : Option Which) → told ≡ limit_by a b c d e f → Passes a inputs MOST_INPUTS
+    → Passes b outputs MOST_OUTPUTS → Passes c tables MOST_TABLES → Passes d wide 0 → Passes e pins MOST_PINS → Passes f rows MOST_ROWS
     → inputs ≡ length (main_of h).inputs → outputs ≡ length (main_of h).outputs → tables ≡ capped (flat_weight h (weight_of Tables))
     → wide ≡ capped (flat_weight h (weight_of WideTables)) → pins ≡ capped (flat_weight h (weight_of Pins)) → rows ≡ capped (flat_weight h (weight_of Rows)) → told ≡ first_limit (flat_net h)
 limit_told h a b c d e f inputs outputs tables wide pins rows told is one two three four five six inputs_is outputs_is tables_is wide_is pins_is rows_is =

@@ -58,7 +58,8 @@ flat_inputs h = refl
 pub few_inputs : (h : Hierarchy) → first_limit (flat_net h) ≡ None → length (main_of h).inputs < 2 ^ 31
 few_inputs h limits = let little = (small (flat_net h) limits).inputs in let same = ap length (flat_inputs h) in omega (arith, little, same)
 
-pub few_signals : (h : Hierarchy) (model : Bytes) (inputs : List Bytes) (tables : List TableValue) (outputs : List ℕ) → first_limit (flat_net h) ≡ None → NetOf model inputs tables outputs ≡ flat_net h → length inputs + length tables < 2 ^ 31
+pub few_signals : (h : Hierarchy) (model : Bytes) (inputs : List Bytes) (tables : List TableValue) (outputs : List ℕ) → first_limit (flat_net h) ≡ None
+    → NetOf model inputs tables outputs ≡ flat_net h → length inputs + length tables < 2 ^ 31
 few_signals h model inputs tables outputs limits same =
     let little : IsSmall (NetOf model inputs tables outputs) = subst IsSmall (sym same) (small (flat_net h) limits) in
     let ins = little.inputs in
@@ -87,7 +88,8 @@ tells_checked told answer one is tells = at_refusal (refusal_of told) tells
     at_refusal None h = h
     at_refusal (Some refusal) h = is ∙ ap Err (same_Some one refusal h)
 
-pub cycle_tells : (N : NetValue) (s : ℕ) (names : List Bytes) (told : BlifRefusal) → first_limit N ≡ None → net_refusal N ≡ Some (cycle s) → names ≡ signal_names N → TellsOne told (Some (r.flat (b.cycle (name_of names s)))) → Tells told (flat_checked N)
+pub cycle_tells : (N : NetValue) (s : ℕ) (names : List Bytes) (told : BlifRefusal) → first_limit N ≡ None → net_refusal N ≡ Some (cycle s) → names ≡ signal_names N
+    → TellsOne told (Some (r.flat (b.cycle (name_of names s)))) → Tells told (flat_checked N)
 cycle_tells N s names told limits refused is tells =
     tells_checked told (flat_checked N) (r.flat (b.cycle (name_of (signal_names N) s))) (checked_cycle N s limits refused) (subst (λ l. TellsOne told (Some (r.flat (b.cycle (name_of l s))))) is tells)
 
@@ -114,7 +116,8 @@ pub first_main : (h : Hierarchy) (m : BlifModel) → slice_get h 0 ≡ Some m �
 first_main [] m e = absurd (none-some m e)
 first_main (k ∷ h) m e = sym (same_Some k m e)
 
-pub net_at : (h s : Hierarchy) (m : BlifModel) (g : Bytes → ℕ) (levels : ℕ) (model : Bytes) (inputs : List Bytes) (tables : List TableValue) (outputs : List ℕ) → IsReading h → s ≡ h → m ≡ main_of h → levels ≡ length h → g ≡ main_signal s
+pub net_at : (h s : Hierarchy) (m : BlifModel) (g : Bytes → ℕ) (levels : ℕ) (model : Bytes) (inputs : List Bytes) (tables : List TableValue) (outputs : List ℕ) → IsReading h → s ≡ h → m ≡ main_of h
+    → levels ≡ length h → g ≡ main_signal s
     → model ≡ m.name → inputs ≡ m.inputs → tables ≡ with_model s (length m.inputs) levels true g m [] → outputs ≡ map g m.outputs → NetOf model inputs tables outputs ≡ flat_net h
 net_at h s m g levels model inputs tables outputs reading same main count signals named listed made given =
     let signal : g ≡ main_signal h = signals ∙ ap main_signal same in

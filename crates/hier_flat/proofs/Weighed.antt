@@ -1,5 +1,6 @@
 -- The weights of models, one level after another.
-use Rattle.std.proofs.Common.{◌≡◌, ℕ, zero, suc, ◌+◌, ◌-◌, ◌*◌, ◌<◌, ◌≤◌, List, [], ◌∷◌, map, length, get_or, sum_by, replicate, take, drop, ◌++◌, bytes_eq, Option, Some, None, refl, ap, sym, subst, ◌∙◌, arith}
+use Rattle.std.proofs.Common.{◌≡◌, ℕ, zero, suc, ◌+◌, ◌-◌, ◌*◌, ◌<◌, ◌≤◌, List, [], ◌∷◌, map, length, get_or, sum_by, replicate, take, drop, ◌++◌, bytes_eq, Option, Some, None, refl, ap, sym, subst}
+use Rattle.std.proofs.Common.{◌∙◌, arith}
 use Rattle.std.specs.List.{position_or_len}
 use Rattle.std.proofs.lemmas.List.{length-map, map-append, drop_more, drop_all, take_more}
 use Rattle.std.proofs.lemmas.List.Sums.{sum_by-cons}
@@ -19,7 +20,8 @@ pub capped_sum : (a b c d : ℕ) → capped a ≡ capped b → capped c ≡ capp
 capped_sum a b c d e f = omega (arith, e, f)
 
 -- one more of what is summed
-pub capped_next : {X : Type 0} (f : X → Part) (g : Part → ℕ) (xs : List X) (i : ℕ) (x : X) (total one next all : ℕ) → i < length xs → get_or xs i x ≡ x → one ≡ capped (g (f x)) → next ≡ capped (total + one)
+pub capped_next : {X : Type 0} (f : X → Part) (g : Part → ℕ) (xs : List X) (i : ℕ) (x : X) (total one next all : ℕ) → i < length xs → get_or xs i x ≡ x → one ≡ capped (g (f x))
+    → next ≡ capped (total + one)
     → capped (total + sum_by g (map f (drop i xs))) ≡ all → capped (next + sum_by g (map f (drop (i + 1) xs))) ≡ all
 capped_next f g xs i x total one next all within is weighs more so_far =
     let cut = drop_more xs i x within in
@@ -68,15 +70,18 @@ no_levels (m ∷ h) w = ap (λ rest. 0 ∷ rest) (each h)
 abbrev Made : Hierarchy → Weight → Hierarchy → List ℕ → List ℕ → Type 0
 Made h w found inside new = (weight : BlifModel → ℕ) → AreWeights found inside weight → new ≡ map (λ m. capped (sum_by (part_weight found w weight) m.parts)) h
 
-pub level_more : (h found : Hierarchy) (w : Weight) (l : ℕ) (old inside new : List ℕ) → found ≡ h → inside ≡ old → old ≡ level_weights h w l → Made h w found inside new → new ≡ level_weights h w (l + 1)
+pub level_more : (h found : Hierarchy) (w : Weight) (l : ℕ) (old inside new : List ℕ) → found ≡ h → inside ≡ old → old ≡ level_weights h w l → Made h w found inside new
+    → new ≡ level_weights h w (l + 1)
 level_more h found w l old inside new same read is made =
     let number : suc l ≡ l + 1 = omega arith in
     let here : Made h w h old new = subst (λ v. Made h w h v new) read (subst (λ f. Made h w f inside new) same made) in
     here (model_weight h w l) (are_weights h w l old is) ∙ ap (λ k. level_weights h w k) number
 
-part_same : (h : Hierarchy) (w : Weight) (f g : BlifModel → ℕ) (p : Part) → ((name : Bytes) → capped (f (model_named h name)) ≡ capped (g (model_named h name))) → capped (part_weight h w f p) ≡ capped (part_weight h w g p)
+part_same : (h : Hierarchy) (w : Weight) (f g : BlifModel → ℕ) (p : Part) → ((name : Bytes) → capped (f (model_named h name)) ≡ capped (g (model_named h name)))
+    → capped (part_weight h w f p) ≡ capped (part_weight h w g p)
 part_same h w f g (names_part t) same = refl
-part_same h w f g (subckt_part c) same = capped_sum (f (model_named h c.model)) (g (model_named h c.model)) (length (bound_outputs h c) * w.of_buffer) (length (bound_outputs h c) * w.of_buffer) (same c.model) refl
+part_same h w f g (subckt_part c) same = capped_sum (f (model_named h c.model)) (g (model_named h c.model)) (length (bound_outputs h c) * w.of_buffer) (length (bound_outputs h c) * w.of_buffer)
+    (same c.model) refl
 
 sums_same : (h : Hierarchy) (w : Weight) (f g : BlifModel → ℕ) (parts : List Part) → ((name : Bytes) → capped (f (model_named h name)) ≡ capped (g (model_named h name)))
     → capped (sum_by (part_weight h w f) parts) ≡ capped (sum_by (part_weight h w g) parts)
@@ -104,7 +109,8 @@ level_stays h w l (suc j) same =
     let number : suc j + l ≡ suc (j + l) = omega arith in
     ap (λ k. level_weights h w k) number ∙ level_same h w (j + l) l (level_stays h w l j same) ∙ same
 
-pub level_last : (h found : Hierarchy) (w : Weight) (l : ℕ) (old inside new : List ℕ) → found ≡ h → inside ≡ old → old ≡ level_weights h w l → Made h w found inside new → new ≡ old → l ≤ length h → old ≡ level_weights h w (length h)
+pub level_last : (h found : Hierarchy) (w : Weight) (l : ℕ) (old inside new : List ℕ) → found ≡ h → inside ≡ old → old ≡ level_weights h w l → Made h w found inside new → new ≡ old → l ≤ length h
+    → old ≡ level_weights h w (length h)
 level_last h found w l old inside new alike read is made same within =
     let next : suc l ≡ l + 1 = omega arith in
     let more : level_weights h w (suc l) ≡ level_weights h w l = ap (λ k. level_weights h w k) next ∙ sym (level_more h found w l old inside new alike read is made) ∙ same ∙ is in
@@ -113,7 +119,8 @@ level_last h found w l old inside new alike read is made same within =
 
 -- ---- loops
 
-pub use_weighs : (h : Hierarchy) (w : Weight) (weight : BlifModel → ℕ) (c : Subcircuit) (p : Part) (inside buffers count total : ℕ) → p ≡ subckt_part c → inside ≡ capped (weight (model_named h c.model)) → buffers ≡ count * w.of_buffer
+pub use_weighs : (h : Hierarchy) (w : Weight) (weight : BlifModel → ℕ) (c : Subcircuit) (p : Part) (inside buffers count total : ℕ) → p ≡ subckt_part c
+    → inside ≡ capped (weight (model_named h c.model)) → buffers ≡ count * w.of_buffer
     → count ≡ length (bound_outputs h c) → total ≡ capped (inside + buffers) → total ≡ capped (part_weight h w weight p)
 use_weighs h w weight c p inside buffers count total is weighs buffered counted sum =
     let more : buffers ≡ length (bound_outputs h c) * w.of_buffer = buffered ∙ ap (λ k. k * w.of_buffer) counted in
@@ -127,7 +134,8 @@ capped_all f g xs i total all within held so_far =
     omega (arith, held, none, so_far)
 
 -- one more is pushed
-pub mapped_next : {X Y : Type 0} (f : X → Y) (xs : List X) (i : ℕ) (x : X) (old new : List Y) (y : Y) → i < length xs → get_or xs i x ≡ x → old ≡ map f (take i xs) → y ≡ f x → new ≡ old ++ y ∷ [] → new ≡ map f (take (i + 1) xs)
+pub mapped_next : {X Y : Type 0} (f : X → Y) (xs : List X) (i : ℕ) (x : X) (old new : List Y) (y : Y) → i < length xs → get_or xs i x ≡ x → old ≡ map f (take i xs) → y ≡ f x → new ≡ old ++ y ∷ []
+    → new ≡ map f (take (i + 1) xs)
 mapped_next f xs i x old new y within is so_far one added =
     added
     ∙ ap (λ l. l ++ y ∷ []) so_far

@@ -1,5 +1,7 @@
--- The flat net as it is made, model by model: each use of a model gets the signals of the names there, and adds its flat tables to those before.
-use Rattle.std.specs.Prelude.{◌≡◌, ℕ, zero, suc, ◌+◌, Bool, true, false, List, [], ◌∷◌, ◌++◌, map, length, codes, decimal, slice_index_or, Some, None, if◌then◌else◌}
+-- The flat net as it is made, model by model: each use of a model gets the signals of the names there, and
+-- adds its flat tables to those before.
+use Rattle.std.specs.Prelude.{◌≡◌, ℕ, zero, suc, ◌+◌, Bool, true, false, List, [], ◌∷◌, ◌++◌, map, length}
+use Rattle.std.specs.Prelude.{codes, decimal, slice_index_or, Some, None, if◌then◌else◌}
 use Rattle.std.specs.List.{range_with_len, AllByRecursion}
 use Rattle.semantics.specs.declared.mark.Mark.TheVariants.{One}
 use Rattle.semantics.specs.Texts.{Bytes}
@@ -8,7 +10,8 @@ use Rattle.semantics.specs.Refusals.{first_doubled}
 use Rattle.blif_semantics.specs.Tables.{NamedTable}
 use Rattle.blif_semantics.specs.Named.{IsNamedTable}
 use Rattle.blif_text.specs.Names.{place_of}
-use Rattle.hierarchy_semantics.specs.Models.{Binding, Subcircuit, Part, names_part, subckt_part, BlifModel, Hierarchy, main_of, model_named}
+use Rattle.hierarchy_semantics.specs.Models.{Binding, Subcircuit, Part, names_part, subckt_part, BlifModel}
+use Rattle.hierarchy_semantics.specs.Models.{Hierarchy, main_of, model_named}
 use Rattle.hierarchy_semantics.specs.Driven.{bound_outputs}
 use Rattle.hierarchy_semantics.specs.Places.{actual_of}
 use Rattle.hierarchy_semantics.specs.Counts.{Weight, part_weight, model_weight}
@@ -28,7 +31,8 @@ part_size h p = part_weight h by_tables (size_of h) p
 -- the signals of what parts drive, where the first flat table has this signal
 abbrev pub own_signals : Hierarchy → ℕ → Part → List ℕ
 own_signals h first (names_part t) = first ∷ []
-own_signals h first (subckt_part c) = range_with_len (first + size_of h (model_named h c.model)) (length (bound_outputs h c))
+own_signals h first (subckt_part c)
+    = range_with_len (first + size_of h (model_named h c.model)) (length (bound_outputs h c))
 
 abbrev pub part_signals : Hierarchy → ℕ → List Part → List ℕ
 part_signals h first [] = []
@@ -45,38 +49,46 @@ model_signal h inputs first m = signal_in (driven_names h m) (inputs ++ part_sig
 -- the signals of the names of the model that is used, where the names around its use have these signals
 abbrev pub used_signal : Hierarchy → (Bytes → ℕ) → ℕ → Subcircuit → Bytes → ℕ
 used_signal h signal first c =
-    model_signal h (map (λ name. signal (actual_of c name)) (model_named h c.model).inputs) first (model_named h c.model)
+    model_signal h (map (λ name. signal (actual_of c name)) (model_named h c.model).inputs) first
+    (model_named h c.model)
 
 abbrev pub main_signal : Hierarchy → Bytes → ℕ
-main_signal h = model_signal h (range_with_len 0 (length (main_of h).inputs)) (length (main_of h).inputs) (main_of h)
+main_signal h = model_signal h (range_with_len 0 (length (main_of h).inputs)) (length (main_of h).inputs)
+    (main_of h)
 
 -- a table of the main model has its own name, and every other one its number
 abbrev pub label : Bool → Bytes → ℕ → Bytes
 label own name number = if own then name else codes "$u" ++ decimal number
 
 abbrev pub table_made : Bool → (Bytes → ℕ) → NamedTable → ℕ → TableValue
-table_made own signal t number = record { name = label own t.name number; pins = map signal t.pins; rows = t.rows; plane = t.plane }
+table_made own signal t number
+    = record { name = label own t.name number; pins = map signal t.pins; rows = t.rows; plane = t.plane }
 
 abbrev pub buffer_made : Bool → ℕ → Bytes → ℕ → TableValue
-buffer_made own pin name number = record { name = label own name number; pins = pin ∷ []; rows = (One ∷ []) ∷ []; plane = true }
+buffer_made own pin name number
+    = record { name = label own name number; pins = pin ∷ []; rows = (One ∷ []) ∷ []; plane = true }
 
 -- the tables before, and a buffer for each binding of an output
 abbrev pub with_buffers : Bool → (Bytes → ℕ) → List Binding → List TableValue → List TableValue
 with_buffers own inside [] tables = tables
 with_buffers own inside (b ∷ bindings) tables =
-    with_buffers own inside bindings (tables ++ buffer_made own (inside b.formal) b.actual (length tables) ∷ [])
+    with_buffers own inside bindings
+    (tables ++ buffer_made own (inside b.formal) b.actual (length tables) ∷ [])
 
 -- the tables before, and the tables of a part; the main model has `inputs` inputs, and `inner` adds the
 -- tables of a model inside
 abbrev pub with_part :
-    Hierarchy → ℕ → ((Bytes → ℕ) → BlifModel → List TableValue → List TableValue) → Bool → (Bytes → ℕ) → Part → List TableValue → List TableValue
-with_part h inputs inner own signal (names_part t) tables = tables ++ table_made own signal t (length tables) ∷ []
+    Hierarchy → ℕ → ((Bytes → ℕ) → BlifModel → List TableValue → List TableValue) → Bool → (Bytes → ℕ) → Part
+    → List TableValue → List TableValue
+with_part h inputs inner own signal (names_part t) tables
+    = tables ++ table_made own signal t (length tables) ∷ []
 with_part h inputs inner own signal (subckt_part c) tables =
     with_buffers own (used_signal h signal (inputs + length tables) c) (bound_outputs h c)
     (inner (used_signal h signal (inputs + length tables) c) (model_named h c.model) tables)
 
 abbrev pub with_parts :
-    Hierarchy → ℕ → ((Bytes → ℕ) → BlifModel → List TableValue → List TableValue) → Bool → (Bytes → ℕ) → List Part → List TableValue → List TableValue
+    Hierarchy → ℕ → ((Bytes → ℕ) → BlifModel → List TableValue → List TableValue) → Bool → (Bytes → ℕ)
+    → List Part → List TableValue → List TableValue
 with_parts h inputs inner own signal [] tables = tables
 with_parts h inputs inner own signal (p ∷ parts) tables =
     with_parts h inputs inner own signal parts (with_part h inputs inner own signal p tables)
@@ -84,7 +96,8 @@ with_parts h inputs inner own signal (p ∷ parts) tables =
 -- the tables before, and the flat tables of a model, over `levels` levels of models
 abbrev pub with_model : Hierarchy → ℕ → ℕ → Bool → (Bytes → ℕ) → BlifModel → List TableValue → List TableValue
 with_model h inputs zero own signal m tables = tables
-with_model h inputs (suc levels) own signal m tables = with_parts h inputs (with_model h inputs levels false) own signal m.parts tables
+with_model h inputs (suc levels) own signal m tables
+    = with_parts h inputs (with_model h inputs levels false) own signal m.parts tables
 
 -- ---- what the code that makes the tables is given
 

@@ -15,4 +15,5 @@ Tells told answer = elim (refusal_of told) [ None ↦ told ≡ OutOfMemory | Som
 
 -- the refusal is want of memory, or is the one that is told
 abbrev pub TellsOne : BlifRefusal → Option HierRefusal → Type 0
-TellsOne told answer = elim (refusal_of told) [ None ↦ told ≡ OutOfMemory | Some refusal ↦ answer ≡ Some refusal ]
+TellsOne told answer = elim (refusal_of told)
+    [ None ↦ told ≡ OutOfMemory | Some refusal ↦ answer ≡ Some refusal ]

@@ -1,5 +1,6 @@
 //! The flat net of models that are a hierarchy. Source: BLIF's `.subckt`.
-ghost use Rattle.std.specs.Prelude.{◌≡◌, ◌+◌, ◌<◌, ◌^◌, ◌++◌, [], true, Ok, None, Some, IfOk, IfErr, length, map};
+ghost use Rattle.std.specs.Prelude.{◌≡◌, ◌+◌, ◌<◌, ◌^◌, ◌++◌, [], true, Ok, None, Some, IfOk, IfErr, length};
+ghost use Rattle.std.specs.Prelude.{map};
 ghost use Rattle.std.specs.List.{range_with_len};
 ghost use Rattle.semantics.specs.Net.{IsSound, IsSmall, name_of};
 ghost use Rattle.semantics.specs.Refusals.{first_limit};
@@ -63,11 +64,15 @@ fn acyclic_net(
     outputs: SignalList,
 ) -> Result<Net, BlifRefusal>
     requires few { length inputs + length tables < 2 ^ 31 }
-    requires limit { first_limit (record { model = model; inputs = inputs; tables = tables; outputs = outputs }) ≡ None }
-    ensures ok { IfOk result (λ n. flat_checked (record { model = model; inputs = inputs; tables = tables; outputs = outputs }) ≡ Ok n) }
+    requires limit { first_limit
+        (record { model = model; inputs = inputs; tables = tables; outputs = outputs }) ≡ None }
+    ensures ok { IfOk result (λ n. flat_checked
+        (record { model = model; inputs = inputs; tables = tables; outputs = outputs }) ≡ Ok n) }
     ensures sound { IfOk result (λ n. IsSound n) }
     ensures small { IfOk result (λ n. IsSmall n) }
-    ensures err { IfErr result (λ told. Tells told (flat_checked (record { model = model; inputs = inputs; tables = tables; outputs = outputs }))) }
+    ensures err { IfErr result
+        (λ told. Tells told (flat_checked
+        (record { model = model; inputs = inputs; tables = tables; outputs = outputs }))) }
 {
     let names = signal_names(alloc, &inputs, &tables)?;
     match Net::from_parts(alloc, model, inputs, tables, outputs) {
@@ -117,7 +122,8 @@ fn main_tables(
 ) -> Result<TableList, AllocError>
     requires all { AreReady sizes.now }
     requires ready { IsReady sizes.now main.now }
-    ensures { IfOk result (λ t. t ≡ with_model sizes.now (length main.now.inputs) levels true (signal_of frame.now) main.now []) }
+    ensures { IfOk result (λ t. t
+        ≡ with_model sizes.now (length main.now.inputs) levels true (signal_of frame.now) main.now []) }
 {
     let mut tables = Items::new(alloc);
     add_model(
@@ -144,7 +150,9 @@ fn main_parts(
     requires all { AreReady sizes.now }
     requires ready { IsReady sizes.now main.now }
     requires few { length main.now.inputs < 2 ^ 31 }
-    ensures tables { IfOk result (λ p. p.0 ≡ with_model sizes.now (length main.now.inputs) levels true (main_signal sizes.now) main.now []) }
+    ensures tables { IfOk result
+        (λ p. p.0 ≡ with_model sizes.now (length main.now.inputs) levels true (main_signal sizes.now)
+        main.now []) }
     ensures outputs { IfOk result (λ p. p.1 ≡ map (main_signal sizes.now) main.now.outputs) }
 {
     let frame = main_frame(alloc, sizes, main)?;
@@ -175,7 +183,8 @@ fn made_net(
     acyclic_net(alloc, model, inputs, tables, outputs)
 }
 
-/// The flat net of models that are found by their names, or the refusal of a limit, which is decided by counting, or else of a cycle.
+/// The flat net of models that are found by their names, or the refusal of a limit, which is decided by
+/// counting, or else of a cycle.
 fn counted_net(
     alloc: Global,
     found: &Interfaces,

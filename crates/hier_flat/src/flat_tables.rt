@@ -1,11 +1,13 @@
-//! The tables of a flat net, model by model. Source: BLIF's `.subckt`; the names of the tables inside are this tool's own.
+//! The tables of a flat net, model by model. Source: BLIF's `.subckt`; the names of the tables inside are
+//! this tool's own.
 ghost use Rattle.std.specs.Prelude.{◌≡◌, ◌+◌, [], ◌∷◌, ◌++◌, codes, decimal, map, filter, length, IfOk, OnOk};
 ghost use Rattle.std.specs.List.{AllByRecursion};
 ghost use Rattle.semantics.specs.Net.{IsName};
 ghost use Rattle.semantics.specs.Refusals.{has_name};
 ghost use Rattle.blif_semantics.specs.Named.{IsNamedTable};
 ghost use Rattle.text_words.specs.Slices.{texts};
-ghost use Rattle.hier_flat.specs.Flattening.{label, table_made, buffer_made, with_buffers, with_model, used_signal, signal_of, IsReady, AreReady};
+ghost use Rattle.hier_flat.specs.Flattening.{label, table_made, buffer_made, with_buffers, with_model};
+ghost use Rattle.hier_flat.specs.Flattening.{used_signal, signal_of, IsReady, AreReady};
 
 use crate::frames::{Frame, Sizes, frame_of, input_signals};
 use blif_text::named_table::NamedTable;
@@ -96,7 +98,8 @@ fn add_buffers(
 ) -> Result<(), AllocError>
     requires { AllByRecursion (λ b. IsName b.actual) c.now.bindings }
     ensures { OnOk result (tables.new
-        ≡ with_buffers own (signal_of inside.now) (filter (λ b. has_name model.now.outputs b.formal) c.now.bindings) tables.old) }
+        ≡ with_buffers own (signal_of inside.now)
+        (filter (λ b. has_name model.now.outputs b.formal) c.now.bindings) tables.old) }
 {
     for b in &c.bindings {
         if model.has_output(b.formal) {
@@ -127,13 +130,15 @@ fn add_table(
     t: &NamedTable,
 ) -> Result<(), AllocError>
     requires { IsNamedTable t.now }
-    ensures { OnOk result (tables.new ≡ tables.old ++ table_made own (signal_of frame.now) t.now (length tables.old) ∷ []) }
+    ensures { OnOk result (tables.new
+        ≡ tables.old ++ table_made own (signal_of frame.now) t.now (length tables.old) ∷ []) }
 {
     let number = tables.len();
     tables.push(table_made(alloc, own, frame, t, number)?)
 }
 
-/// The signals of the names of a model that is used where names have these signals, and whose first flat table has the signal `first`.
+/// The signals of the names of a model that is used where names have these signals, and whose first flat
+/// table has the signal `first`.
 fn used_frame<'a>(
     alloc: Global,
     sizes: &Sizes<'_, '_, 'a>,
@@ -159,14 +164,15 @@ fn next_frame<'a>(
     tables: &TableList,
 ) -> Result<Frame<'a>, AllocError>
     requires { AreReady sizes.now }
-    ensures { IfOk result (λ f. signal_of f ≡ used_signal sizes.now (signal_of outer.now) (inputs + length tables.now) c.now) }
+    ensures { IfOk result (λ f. signal_of f
+        ≡ used_signal sizes.now (signal_of outer.now) (inputs + length tables.now) c.now) }
 {
     let first = first_signal(inputs, tables)?;
     used_frame(alloc, sizes, outer, c, first)
 }
 
-/// Adds the flat tables of a model whose names have these signals, over so many levels of models, where the main model has so many inputs.
-/// The tables of the main model have their own names.
+/// Adds the flat tables of a model whose names have these signals, over so many levels of models, where the
+/// main model has so many inputs. The tables of the main model have their own names.
 pub fn add_model(
     alloc: Global,
     tables: &mut TableList,
@@ -179,7 +185,8 @@ pub fn add_model(
 ) -> Result<(), AllocError>
     requires all { AreReady sizes.now }
     requires ready { IsReady sizes.now m.now }
-    ensures { OnOk result (tables.new ≡ with_model sizes.now inputs levels own (signal_of frame.now) m.now tables.old) }
+    ensures { OnOk result (tables.new
+        ≡ with_model sizes.now inputs levels own (signal_of frame.now) m.now tables.old) }
 {
     if levels == 0 {
         return Ok(());

@@ -144,7 +144,8 @@ fn with_part(
     part: &Part,
 ) -> Result<Vec<Signal>, AllocError>
     requires { first + part_size sizes.now (part_value part.now) < 2 ^ 31 }
-    ensures { IfOk result (λ v. v.items ≡ signals.items ++ own_signals sizes.now first (part_value part.now)) }
+    ensures { IfOk result (λ v. v.items
+        ≡ signals.items ++ own_signals sizes.now first (part_value part.now)) }
 {
     match part {
         Part::Names(_) => {
@@ -158,7 +159,8 @@ fn with_part(
     }
 }
 
-/// These signals, and those of what the parts of a model drive, whose first flat table has the signal `first`.
+/// These signals, and those of what the parts of a model drive, whose first flat table has the signal
+/// `first`.
 fn with_parts(
     mut signals: Vec<Signal>,
     sizes: &Sizes,
@@ -176,8 +178,8 @@ fn with_parts(
     Ok(signals)
 }
 
-/// The signals of the names of a model whose inputs have these, and whose first flat table has the signal `first`. Where these are more
-/// than signals can be numbered there is no memory for them.
+/// The signals of the names of a model whose inputs have these, and whose first flat table has the signal
+/// `first`. Where these are more than signals can be numbered there is no memory for them.
 pub fn frame_of<'a>(
     alloc: Global,
     sizes: &Sizes,
@@ -219,7 +221,8 @@ pub fn input_signals(
     model: &BlifModel,
     c: &Subcircuit,
 ) -> Result<Vec<Signal>, AllocError>
-    ensures { IfOk result (λ v. v.items ≡ map (λ name. signal_of outer.now (actual_of c.now name)) model.now.inputs) }
+    ensures { IfOk result (λ v. v.items
+        ≡ map (λ name. signal_of outer.now (actual_of c.now name)) model.now.inputs) }
 {
     let mut signals = Vec::new(alloc);
     for name in &model.inputs {

@@ -114,7 +114,8 @@ fn next_weights(
     models: &[BlifModel],
 ) -> Result<Vec<u64>, AllocError>
     ensures { IfOk result (λ v. (weight : BlifModel → ℕ) → AreWeights found.now inside.now weight
-        → v.items ≡ map (λ m. capped (sum_by (part_weight found.now (weight_of measure) weight) m.parts)) models.now) }
+        → v.items ≡ map (λ m. capped (sum_by (part_weight found.now (weight_of measure) weight) m.parts))
+        models.now) }
 {
     let mut weights = Vec::new(alloc);
     for m in models {

@@ -1,5 +1,6 @@
 -- The lines of models, cut one after another.
-use Rattle.std.proofs.Common.{◌≡◌, ℕ, zero, suc, ◌+◌, ◌-◌, ◌<◌, ◌==◌, ◌&&◌, not, Bool, true, false, cond, List, [], ◌∷◌, ◌++◌, map, length, take, drop, get_or, append_assoc, refl, ap, sym, subst, ◌∙◌, arith}
+use Rattle.std.proofs.Common.{◌≡◌, ℕ, zero, suc, ◌+◌, ◌-◌, ◌<◌, ◌==◌, ◌&&◌, not, Bool, true, false, cond, List, [], ◌∷◌, ◌++◌, map, length, take, drop, get_or, append_assoc, refl, ap, sym, subst}
+use Rattle.std.proofs.Common.{◌∙◌, arith}
 use Rattle.std.proofs.lemmas.Bool.{ne_eqb, false≢true}
 use Rattle.std.proofs.lemmas.List.{drop_more, drop-drop}
 use Rattle.blif_semantics.specs.Lines.{Statement}
@@ -20,7 +21,8 @@ cut : (t : List Statement) → sections_of t ≡ cut_at (leading t) t
 cut [] = refl
 cut (s ∷ t) = at_test (is_model (kind_of s.words)) refl (cut t)
   where
-    at_test : (b : Bool) → is_model (kind_of s.words) ≡ b → sections_of t ≡ cut_at (leading t) t → cond b (ended s (sections_of t)) (gone_on s (sections_of t)) ≡ cut_at (cond b 0 (suc (leading t))) (s ∷ t)
+    at_test : (b : Bool) → is_model (kind_of s.words) ≡ b → sections_of t ≡ cut_at (leading t) t
+        → cond b (ended s (sections_of t)) (gone_on s (sections_of t)) ≡ cut_at (cond b 0 (suc (leading t))) (s ∷ t)
     at_test true is rest = ap (λ (b : Bool). record { before = []; sections = (cond b (ended s (sections_of t)) (gone_on s (sections_of t))).sections }) (sym is)
     at_test false is rest = ap (gone_on s) rest
 
@@ -76,7 +78,8 @@ no_statement = record { line = 0; words = [] }
 left : (lines : List Statement) (start : ℕ) → drop (section_end lines start) lines ≡ drop (leading (drop (start + 1) lines)) (drop (start + 1) lines)
 left lines start = sym (drop-drop (leading (drop (start + 1) lines)) (start + 1) lines)
 
-models_left : (lines : List Statement) (start : ℕ) → models_from lines (section_end lines start) ≡ map model_from (sections_of (drop (leading (drop (start + 1) lines)) (drop (start + 1) lines))).sections
+models_left : (lines : List Statement) (start : ℕ)
+    → models_from lines (section_end lines start) ≡ map model_from (sections_of (drop (leading (drop (start + 1) lines)) (drop (start + 1) lines))).sections
 models_left lines start = later lines (section_end lines start) (omega arith) ∙ ap (λ l. map model_from (sections_of l).sections) (left lines start)
 
 pub begins-next : (lines : List Statement) (start : ℕ) → Begins lines (section_end lines start)
@@ -127,7 +130,8 @@ some_lines [] e = absurd (false≢true e)
 some_lines (s ∷ t) e = omega arith
 
 -- a model was added
-pub hierarchy-next : (lines : List Statement) (start end : ℕ) (old new : List BlifModel) (m : BlifModel) (all : List BlifModel) → start < length lines → Begins lines start → end ≡ section_end lines start → new ≡ old ++ m ∷ []
+pub hierarchy-next : (lines : List Statement) (start end : ℕ) (old new : List BlifModel) (m : BlifModel) (all : List BlifModel) → start < length lines → Begins lines start
+    → end ≡ section_end lines start → new ≡ old ++ m ∷ []
     → m ≡ model_from (take (end - start) (drop start lines)) → old ++ models_from lines start ≡ all → new ++ models_from lines end ≡ all
 hierarchy-next lines start end old new m all within begins is added made so_far =
     let cut : models_from lines start ≡ model_from (take (end - start) (drop start lines)) ∷ models_from lines end =

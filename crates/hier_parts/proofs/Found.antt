@@ -32,7 +32,8 @@ pub found_at : {X : Type 0} (p : X → Bool) (xs : List X) (d : X) → position_
 found_at p [] d within = absurd (omega (arith, within))
 found_at {X} p (x ∷ xs) d within = at_test (p x) (position_or_len p xs) within (found_at p xs d)
   where
-    at_test : (b : Bool) (m : ℕ) → cond (not b) (1 + m) 0 < suc (length xs) → (m < length xs → find p xs ≡ Some (get_or xs m d)) → cond b (Some x) (find p xs) ≡ Some (get_or (x ∷ xs) (cond (not b) (1 + m) 0) d)
+    at_test : (b : Bool) (m : ℕ) → cond (not b) (1 + m) 0 < suc (length xs) → (m < length xs → find p xs ≡ Some (get_or xs m d))
+        → cond b (Some x) (find p xs) ≡ Some (get_or (x ∷ xs) (cond (not b) (1 + m) 0) d)
     at_test true m small rest = refl
     at_test false m small rest =
         let more : 1 + m ≡ suc m = omega arith in
@@ -67,7 +68,8 @@ none_there : (name : Bytes) (h : Hierarchy) → has_name (model_names h) name �
 none_there name [] e = refl
 none_there name (m ∷ h) e = at_test (bytes_eq name m.name) e (none_there name h)
   where
-    at_test : (b : Bool) → b || has_name (model_names h) name ≡ false → (has_name (model_names h) name ≡ false → find (λ (m : BlifModel). bytes_eq name m.name) h ≡ None) → cond b (Some m) (find (λ (m : BlifModel). bytes_eq name m.name) h) ≡ None
+    at_test : (b : Bool) → b || has_name (model_names h) name ≡ false → (has_name (model_names h) name ≡ false → find (λ (m : BlifModel). bytes_eq name m.name) h ≡ None)
+        → cond b (Some m) (find (λ (m : BlifModel). bytes_eq name m.name) h) ≡ None
     at_test true e rest = absurd (false≢true (sym e))
     at_test false e rest = rest e
 

@@ -1,5 +1,6 @@
 -- Models are grounded as the tables that read the models that they use.
-use Rattle.std.proofs.Common.{◌≡◌, ℕ, zero, suc, ◌+◌, ◌-◌, ◌<◌, Bool, true, false, not, ◌||◌, ◌&&◌, ltb, cond, List, [], ◌∷◌, ◌++◌, map, flat_map, length, get_or, find, bytes_eq, All, Option, Some, None, refl, sym, ap, ◌∙◌, arith}
+use Rattle.std.proofs.Common.{◌≡◌, ℕ, zero, suc, ◌+◌, ◌-◌, ◌<◌, Bool, true, false, not, ◌||◌, ◌&&◌, ltb, cond, List, [], ◌∷◌, ◌++◌, map, flat_map, length, get_or, find, bytes_eq, All, Option, Some}
+use Rattle.std.proofs.Common.{None, refl, sym, ap, ◌∙◌, arith}
 use Rattle.std.specs.List.{list_all, position_or_len}
 use Rattle.std.proofs.lemmas.Bool.{not-false, le-ltb, lt-ltb, false≢true, false_from_ne_true}
 use Rattle.std.proofs.lemmas.List.{length-map, get_or-map}
@@ -71,7 +72,8 @@ placed_model h name there = at_place (place_of (model_names h) name) refl
 pub user_at : (h : Hierarchy) (i : ℕ) → i < length h → table_at (users h) i ≡ user_table (model_names h) (get_or h i no_model)
 user_at h i within = get_or-map (user_table (model_names h)) h i no_model no_table within
 
-same_tests : (p : ℕ → Bool) (q : Subcircuit → Bool) (f : Subcircuit → ℕ) (P : Subcircuit → Type 0) (cs : List Subcircuit) → ((c : Subcircuit) → P c → p (f c) ≡ q c) → All P cs → list_all p (map f cs) ≡ list_all q cs
+same_tests : (p : ℕ → Bool) (q : Subcircuit → Bool) (f : Subcircuit → ℕ) (P : Subcircuit → Type 0) (cs : List Subcircuit) → ((c : Subcircuit) → P c → p (f c) ≡ q c) → All P cs
+    → list_all p (map f cs) ≡ list_all q cs
 same_tests p q f P [] each all = refl
 same_tests p q f P (c ∷ cs) each all =
     ap (λ b. b && list_all p (map f cs)) (each c (All-head P c cs all))
@@ -159,7 +161,8 @@ pins_there h none =
         All-cons (λ s. s < 0 + length (users h)) (signal_named (model_names h) c.model) (map (λ c. signal_named (model_names h) c.model) cs)
         (let at = placed_model h c.model (All-head (IsThere h) c cs all) in let low = at.within in omega (arith, low, size)) (places cs (All-tail (IsThere h) c cs all) size)
 
-    tables : (ms : List BlifModel) → All (λ m. All (IsThere h) (uses_of m)) ms → length (users h) ≡ length h → All (λ t. All (λ s. s < 0 + length (users h)) t.pins) (map (user_table (model_names h)) ms)
+    tables : (ms : List BlifModel) → All (λ m. All (IsThere h) (uses_of m)) ms → length (users h) ≡ length h
+        → All (λ t. All (λ s. s < 0 + length (users h)) t.pins) (map (user_table (model_names h)) ms)
     tables [] all size = All-nil (λ t. All (λ s. s < 0 + length (users h)) t.pins)
     tables (m ∷ ms) all size =
         All-cons (λ t. All (λ s. s < 0 + length (users h)) t.pins) (user_table (model_names h) m) (map (user_table (model_names h)) ms)

@@ -51,7 +51,8 @@ pub has-set : (names : List Bytes) (word : Bytes) → has_name (with_names [] na
 has-set names word = has-with_names [] names word
 
 -- the keys of a set to which a name was added
-pub texts-insert : (keys new : List (Bor Bytes)) (name : Bor Bytes) (old : List Bytes) → new ≡ cond (list_any (λ k. bytes_eq name.now k.now) keys) keys (keys ++ name ∷ []) → texts keys ≡ old → texts new ≡ with_name old name.now
+pub texts-insert : (keys new : List (Bor Bytes)) (name : Bor Bytes) (old : List Bytes) → new ≡ cond (list_any (λ k. bytes_eq name.now k.now) keys) keys (keys ++ name ∷ []) → texts keys ≡ old
+    → texts new ≡ with_name old name.now
 texts-insert keys new name old is same = at_test (list_any (λ k. bytes_eq name.now k.now) keys) refl is
   where
     at_test : (b : Bool) → list_any (λ k. bytes_eq name.now k.now) keys ≡ b → new ≡ cond b keys (keys ++ name ∷ []) → texts new ≡ with_name old name.now

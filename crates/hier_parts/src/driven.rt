@@ -16,7 +16,8 @@ fn with_outputs<'a>(
     c: &Subcircuit<'a>,
 ) -> Result<Vec<&'a [u8]>, AllocError>
     ensures { IfOk result (λ v. texts v.items
-        ≡ texts names.entry.items ++ map (λ b. b.actual) (filter (λ b. has_name model.now.outputs b.formal) c.now.bindings)) }
+        ≡ texts names.entry.items
+        ++ map (λ b. b.actual) (filter (λ b. has_name model.now.outputs b.formal) c.now.bindings)) }
 {
     for b in &c.bindings {
         if model.has_output(b.formal) {
@@ -32,7 +33,8 @@ fn with_part<'a>(
     models: &Interfaces,
     part: &Part<'a>,
 ) -> Result<Vec<&'a [u8]>, AllocError>
-    ensures { IfOk result (λ v. texts v.items ≡ texts names.entry.items ++ part_names models.now (part_value part.now)) }
+    ensures { IfOk result (λ v. texts v.items
+        ≡ texts names.entry.items ++ part_names models.now (part_value part.now)) }
 {
     match part {
         Part::Names(table) => {

@@ -4,7 +4,8 @@ ghost use Rattle.std.specs.Option.{option_map, option_to_list};
 ghost use Rattle.blif_semantics.specs.Reading.{model_of, listed};
 ghost use Rattle.blif_semantics.specs.Tables.{named, with_rows, rows_first};
 ghost use Rattle.text_words.specs.Slices.{texts};
-ghost use Rattle.hierarchy_semantics.specs.Models.{no_model, binding_of, subcircuit_of, part_first, parts_of, model_from, hierarchy_of};
+ghost use Rattle.hierarchy_semantics.specs.Models.{no_model, binding_of, subcircuit_of, part_first, parts_of};
+ghost use Rattle.hierarchy_semantics.specs.Models.{model_from, hierarchy_of};
 ghost use Rattle.hierarchy_semantics.specs.Refusals.{model_names};
 ghost use Rattle.hier_parts.specs.Sections.{words_in, part_value, kinds_of, leading, section_end};
 
@@ -126,7 +127,8 @@ fn part_first<'a>(
     s: &Statement<'a>,
     lines: &[Statement<'a>],
 ) -> Result<Option<Part<'a>>, AllocError>
-    ensures { IfOk result (λ p. option_to_list (option_map part_value p) ≡ part_first s.now (words_in lines.now)) }
+    ensures { IfOk result (λ p. option_to_list (option_map part_value p)
+        ≡ part_first s.now (words_in lines.now)) }
 {
     let words = s.words();
     if is_subckt(words) {

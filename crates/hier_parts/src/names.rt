@@ -11,7 +11,8 @@ use numbered_keys::keys::NumberedKeys;
 use std::alloc::{AllocError, Global};
 use std::marker::Model;
 
-/// Names that differ, in the order in which they were added. A name is found by comparisons with a few of them.
+/// Names that differ, in the order in which they were added. A name is found by comparisons with a few of
+/// them.
 #[derive(Drop)]
 pub struct Names<'a> {
     names: NumberedKeys<&'a [u8]>,
@@ -77,7 +78,8 @@ pub fn first_doubled<'a>(alloc: Global, names: &[&'a [u8]]) -> Result<Option<&'a
 /// The set of these names.
 pub fn set_of<'a>(alloc: Global, names: &[&'a [u8]]) -> Result<Names<'a>, AllocError>
     ensures is { IfOk result (λ all. all ≡ with_names [] (texts names.now)) }
-    ensures holds { IfOk result (λ all. (word : Bytes) → has_name all word ≡ has_name (texts names.now) word) }
+    ensures holds { IfOk result
+        (λ all. (word : Bytes) → has_name all word ≡ has_name (texts names.now) word) }
 {
     let mut all = Names::new(alloc);
     for name in names {

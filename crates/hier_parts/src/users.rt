@@ -74,7 +74,8 @@ pub fn order_models(
     requires named { All (λ m. IsName m.name) models.now }
     requires known { first_unknown models.now ≡ None }
     ensures { IfOk result (λ found. MatchResult found
-        (λ order. IsModelOrder models.now order.items) (λ i. first_ungrounded 0 (users models.now) ≡ Some i)) }
+        (λ order. IsModelOrder models.now order.items)
+        (λ i. first_ungrounded 0 (users models.now) ≡ Some i)) }
 {
     // Each model of a text stands in a line of its own: there is no memory for so many.
     if models.len() >= 1 << 31 {

@@ -1,5 +1,6 @@
 -- What holds of a hierarchy that has no refusal.
-use Rattle.std.proofs.Common.{◌≡◌, ℕ, ◌<◌, Bool, true, false, not, leb, ◌==◌, ◌&&◌, cond, List, [], ◌∷◌, map, length, find, bytes_eq, Option, Some, None, Result, Ok, Err, option_map, refl, ap, sym, subst, ◌∙◌, inl, inr, arith}
+use Rattle.std.proofs.Common.{◌≡◌, ℕ, ◌<◌, Bool, true, false, not, leb, ◌==◌, ◌&&◌, cond, List, [], ◌∷◌, map, length, find, bytes_eq, Option, Some, None, Result, Ok, Err, option_map, refl, ap, sym}
+use Rattle.std.proofs.Common.{subst, ◌∙◌, inl, inr, arith}
 use Rattle.std.proofs.lemmas.Bool.{not-false, eqb-false}
 use Rattle.std.proofs.lemmas.Option.{none-some}
 use Rattle.semantics.specs.Texts.{Bytes}
@@ -12,7 +13,8 @@ use Rattle.blif_semantics.proofs.Looked.{each_there}
 use Rattle.hierarchy_semantics.specs.Models.{BlifModel, Hierarchy, no_model, model_from, sections_of, hierarchy_of, main_of, model_named, uses_of, all_uses}
 use Rattle.hierarchy_semantics.specs.ModelLines.{first_wrong}
 use Rattle.hierarchy_semantics.specs.Driven.{names_driven, names_read}
-use Rattle.hierarchy_semantics.specs.Refusals.{HierRefusal, line, same_model, no_model_named, recursive, part, taken, first_found, model_names, first_unknown, is_model_grounded, first_recursive, doubled_port, formals_of, formal_refusal, unbound_refusal, unbound, model_refusal, part_refusal, is_taken, hier_refusal}
+use Rattle.hierarchy_semantics.specs.Refusals.{HierRefusal, line, same_model, no_model_named, recursive, part, taken, first_found, model_names, first_unknown, is_model_grounded, first_recursive}
+use Rattle.hierarchy_semantics.specs.Refusals.{doubled_port, formals_of, formal_refusal, unbound_refusal, unbound, model_refusal, part_refusal, is_taken, hier_refusal}
 use Rattle.hierarchy_semantics.specs.Reading.{hierarchy_checked, hier_reading}
 use Rattle.hierarchy_semantics.proofs.Members.{IsIn, none_found, found_in, all_in, named_in}
 use Rattle.hierarchy_semantics.proofs.Parts.{in_flat_map}
@@ -85,7 +87,8 @@ fit_model h m none inside =
     let fault = no_fault h m none inside in
     record {
       once = fault.once;
-      reads = λ name read. named_in (names_driven h m) name (all_in (λ word. has_name (names_driven h m) word ≡ true) name (names_read h m) (each_there (names_driven h m) (names_read h m) fault.reads) read);
+      reads = λ name read. named_in (names_driven h m) name
+          (all_in (λ word. has_name (names_driven h m) word ≡ true) name (names_read h m) (each_there (names_driven h m) (names_read h m) fault.reads) read);
       bound = λ c c_in name input.
           let bound : find (λ name. not (has_name (formals_of c) name)) (model_named h c.model).inputs ≡ None =
           none_mapped (unbound c.line) _ (none_first (unbound_refusal h) c (all_uses h) none.bound (in_flat_map uses_of m c h inside c_in)) in

@@ -25,7 +25,8 @@ items_weight w items = sum_by (λ item. source_weight w item.driven.source) item
 
 -- ---- the items of a model
 
-buffers_weight : (w : Weight) (path : Path) (n : ℕ) (bindings : List Binding) → items_weight w (items_at path (map (λ b. record { name = b.actual; source = by_output n b.formal }) bindings)) ≡ length bindings * w.of_buffer
+buffers_weight : (w : Weight) (path : Path) (n : ℕ) (bindings : List Binding)
+    → items_weight w (items_at path (map (λ b. record { name = b.actual; source = by_output n b.formal }) bindings)) ≡ length bindings * w.of_buffer
 buffers_weight w path n [] = omega arith
 buffers_weight w path n (b ∷ bindings) =
     let rest = buffers_weight w path n bindings in
@@ -71,12 +72,14 @@ record Weighs (h : Hierarchy) (g : TableValue → ℕ) (w : Weight) : Type 0 whe
   table : (label : Bytes) (path : Path) (t : NamedTable) → g (flat_table h label path (by_table t)) ≡ w.of_table t
   buffer : (label : Bytes) (path : Path) (n : ℕ) (formal : Bytes) → g (flat_table h label path (by_output n formal)) ≡ w.of_buffer
 
-table_counted : (h : Hierarchy) (g : TableValue → ℕ) (w : Weight) → Weighs h g w → (label : Bytes) (path : Path) (s : Source) → ((i : ℕ) → s ≡ by_input i → ⊥) → g (flat_table h label path s) ≡ source_weight w s
+table_counted : (h : Hierarchy) (g : TableValue → ℕ) (w : Weight) → Weighs h g w → (label : Bytes) (path : Path) (s : Source) → ((i : ℕ) → s ≡ by_input i → ⊥)
+    → g (flat_table h label path s) ≡ source_weight w s
 table_counted h g w is label path (by_input i) none = absurd (none i refl)
 table_counted h g w is label path (by_table t) none = is.table label path t
 table_counted h g w is label path (by_output n formal) none = is.buffer label path n formal
 
-tables_counted : (h : Hierarchy) (g : TableValue → ℕ) (w : Weight) → Weighs h g w → (number : ℕ) (items : List FlatItem) → ((item : FlatItem) → IsIn item items → (i : ℕ) → item.driven.source ≡ by_input i → ⊥)
+tables_counted : (h : Hierarchy) (g : TableValue → ℕ) (w : Weight) → Weighs h g w → (number : ℕ) (items : List FlatItem)
+    → ((item : FlatItem) → IsIn item items → (i : ℕ) → item.driven.source ≡ by_input i → ⊥)
     → sum_by g (tables_from h number items) ≡ items_weight w items
 tables_counted h g w is number [] none = refl
 tables_counted h g w is number (item ∷ items) none =

@@ -41,7 +41,8 @@ own_below n up [] = refl
 own_below n up (d ∷ driven) = own_below n up driven
 
 -- the items of a model inside have no name of the main model
-below_part : (h : Hierarchy) (l n : ℕ) (up : Path) (i : ℕ) (p : Part) → ((m : ℕ) (path : Path) (k : BlifModel) → own_names (items_of h l (m ∷ path) k) ≡ []) → own_names (part_items h (items_of h l) (n ∷ up) i p) ≡ []
+below_part : (h : Hierarchy) (l n : ℕ) (up : Path) (i : ℕ) (p : Part) → ((m : ℕ) (path : Path) (k : BlifModel) → own_names (items_of h l (m ∷ path) k) ≡ [])
+    → own_names (part_items h (items_of h l) (n ∷ up) i p) ≡ []
 below_part h l n up i (names_part t) inner = own_below n up (part_driven h i (names_part t))
 below_part h l n up i (subckt_part c) inner =
     own_append (items_of h l (i ∷ n ∷ up) (model_named h c.model)) (items_at (n ∷ up) (part_driven h i (subckt_part c)))
@@ -179,7 +180,8 @@ apart_from inputs items small free apart name input inside = by_kind (one_of 0 i
     by_kind (its_own h) = apart name input h
     by_kind (by_number k least below is) = false≢true (sym (free name input) ∙ ap is_taken is ∙ taken_numbered k (omega (arith, below, small)))
 
-pub distinct_signals : (inputs : List Bytes) (items : List FlatItem) → length items < 2 ^ 64 → Distinct (inputs ++ own_names items) → NoneTaken (inputs ++ own_names items) → Distinct (inputs ++ names_from 0 items)
+pub distinct_signals : (inputs : List Bytes) (items : List FlatItem) → length items < 2 ^ 64 → Distinct (inputs ++ own_names items) → NoneTaken (inputs ++ own_names items)
+    → Distinct (inputs ++ names_from 0 items)
 distinct_signals inputs items small distinct free =
     distinct_append inputs (names_from 0 items) (distinct_left inputs (own_names items) distinct)
     (distinct_from 0 items (omega (arith, small)) (distinct_right inputs (own_names items) distinct) (λ name inside. free name (in_right name inputs (own_names items) inside)))

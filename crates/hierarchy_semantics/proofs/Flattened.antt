@@ -52,18 +52,21 @@ flat_outputs : (h : Hierarchy) → (flat_net h).outputs ≡ map (place_signal h 
 unfolding flat_net
 flat_outputs h = refl
 
-flat_values : (text : Bytes) (most : ℕ) (h : Hierarchy) (N : NetValue) → IsFlattened text most h N → (x : List Bool) (path : Path) (name : Bytes) → IsPath h path → IsIn name (names_driven h (model_at h path))
+flat_values : (text : Bytes) (most : ℕ) (h : Hierarchy) (N : NetValue) → IsFlattened text most h N → (x : List Bool) (path : Path) (name : Bytes) → IsPath h path
+    → IsIn name (names_driven h (model_at h path))
     → HasValue h x path name (value_of (length N.inputs) N.tables x (place_signal h path name))
 flat_values text most h N is x path name path_is driven =
     let M : NetValue = flat_net h in
     let same : M ≡ N = sym (net_is text most h N is) in
     let good = good_reading text most h (read_parts text most h is.read) in
-    let acyclic : IsAcyclic (length (main_of h).inputs) M.tables = subst (λ names. IsAcyclic (length names) M.tables) (flat_inputs h) (subst (λ K. IsAcyclic (length K.inputs) K.tables) (sym same) (net_acyclic text most h N is)) in
+    let acyclic : IsAcyclic (length (main_of h).inputs) M.tables
+    = subst (λ names. IsAcyclic (length names) M.tables) (flat_inputs h) (subst (λ K. IsAcyclic (length K.inputs) K.tables) (sym same) (net_acyclic text most h N is)) in
     let value : HasValue h x path name (value_of (length M.inputs) M.tables x (place_signal h path name)) =
     subst (λ names. HasValue h x path name (value_of (length names) M.tables x (place_signal h path name))) (sym (flat_inputs h)) (place_values h good x acyclic path name path_is driven) in
     subst (λ K. HasValue h x path name (value_of (length K.inputs) K.tables x (place_signal h path name))) same value
 
-pub net_places : (text : Bytes) (most : ℕ) (h : Hierarchy) (N : NetValue) → IsFlattened text most h N → (x : List Bool) (path : Path) (name : Bytes) → IsPath h path → Contains (names_driven h (model_at h path)) name
+pub net_places : (text : Bytes) (most : ℕ) (h : Hierarchy) (N : NetValue) → IsFlattened text most h N → (x : List Bool) (path : Path) (name : Bytes) → IsPath h path
+    → Contains (names_driven h (model_at h path)) name
     → HasValue h x path name (value_of (length N.inputs) N.tables x (place_signal h path name))
 net_places text most h N is x path name path_is driven =
     flat_values text most h N is x path name path_is (in_get (names_driven h (model_at h path)) driven.0 name name driven.1 driven.2)

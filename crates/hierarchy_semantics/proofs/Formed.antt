@@ -1,5 +1,6 @@
 -- In a text that is read each name is a name, and each table has rows of its width.
-use Rattle.std.proofs.Common.{◌≡◌, Bool, true, false, not, ◌&&◌, ◌==◌, cond, List, [], ◌∷◌, ◌++◌, map, flat_map, filter, find, length, codes, bytes_eq, All, Option, Some, None, refl, ap, sym, subst, ◌∙◌, inl, inr}
+use Rattle.std.proofs.Common.{◌≡◌, Bool, true, false, not, ◌&&◌, ◌==◌, cond, List, [], ◌∷◌, ◌++◌, map, flat_map, filter, find, length, codes, bytes_eq, All, Option, Some, None, refl, ap, sym, subst}
+use Rattle.std.proofs.Common.{◌∙◌, inl, inr}
 use Rattle.std.specs.List.{AllByRecursion, list_all}
 use Rattle.std.proofs.lemmas.Bool.{and_parts}
 use Rattle.std.proofs.lemmas.List.Elements.{recursion_from_All}
@@ -14,7 +15,8 @@ use Rattle.blif_semantics.specs.Reading.{is_inputs, listed, model_of, named_net}
 use Rattle.blif_semantics.specs.Named.{IsNamedTable, IsNamedNet}
 use Rattle.blif_semantics.proofs.Names.{IsName-from_test}
 use Rattle.blif_semantics.proofs.ReadNet.{names_formed}
-use Rattle.hierarchy_semantics.specs.Models.{Binding, Subcircuit, names_part, subckt_part, BlifModel, Hierarchy, no_model, is_subckt, binding_of, subcircuit_of, part_first, parts_of, model_from, Sections, sections_of, hierarchy_of, model_named}
+use Rattle.hierarchy_semantics.specs.Models.{Binding, Subcircuit, names_part, subckt_part, BlifModel, Hierarchy, no_model, is_subckt, binding_of, subcircuit_of, part_first, parts_of, model_from}
+use Rattle.hierarchy_semantics.specs.Models.{Sections, sections_of, hierarchy_of, model_named}
 use Rattle.hierarchy_semantics.specs.ModelLines.{is_binding, is_use, first_wrong}
 use Rattle.hierarchy_semantics.proofs.Members.{IsIn, in_append, from_map, found_in, all_in, passed_in}
 use Rattle.hierarchy_semantics.proofs.PlainLines.{words_in, plain, UsesRight, subckt_kind, IsRightModel, models_right}
@@ -30,7 +32,8 @@ pub record IsFormed (m : BlifModel) : Type 0 where
 abbrev first_model : List Line → Option Line
 first_model lines = find (λ words. is_model (kind_of words)) lines
 
-plain_find-next : (words : Line) (lines : List Line) → first_model (map plain lines) ≡ first_model lines → (t : Bool) → is_subckt words ≡ t → first_model (cond t (codes ".inputs" ∷ []) words ∷ map plain lines) ≡ first_model (words ∷ lines)
+plain_find-next : (words : Line) (lines : List Line) → first_model (map plain lines) ≡ first_model lines → (t : Bool) → is_subckt words ≡ t
+    → first_model (cond t (codes ".inputs" ∷ []) words ∷ map plain lines) ≡ first_model (words ∷ lines)
 plain_find-next words lines rest true is = rest ∙ sym (ap (λ k. cond (is_model k) (Some words) (first_model lines)) (subckt_kind words is))
 plain_find-next words lines rest false is = ap (cond (is_model (kind_of words)) (Some words)) rest
 
@@ -56,7 +59,8 @@ plain_listed : (lines : List Line) → listed is_inputs (map plain lines) ≡ li
 plain_listed [] = refl
 plain_listed (words ∷ lines) = plain_listed-next words lines (plain_listed lines) (is_subckt words) refl
 
-plain_rows-next : (words : Line) (lines : List Line) → rows_first (map plain lines) ≡ rows_first lines → (t : Bool) → is_subckt words ≡ t → rows_first (cond t (codes ".inputs" ∷ []) words ∷ map plain lines) ≡ rows_first (words ∷ lines)
+plain_rows-next : (words : Line) (lines : List Line) → rows_first (map plain lines) ≡ rows_first lines → (t : Bool) → is_subckt words ≡ t
+    → rows_first (cond t (codes ".inputs" ∷ []) words ∷ map plain lines) ≡ rows_first (words ∷ lines)
 plain_rows-next words lines rest true is = sym (ap (λ k. if_row k (words ∷ rows_first lines) []) (subckt_kind words is))
 plain_rows-next words lines rest false is = ap (λ rows. if_row (kind_of words) (words ∷ rows) []) rest
 
@@ -64,7 +68,8 @@ plain_rows : (lines : List Line) → rows_first (map plain lines) ≡ rows_first
 plain_rows [] = refl
 plain_rows (words ∷ lines) = plain_rows-next words lines (plain_rows lines) (is_subckt words) refl
 
-first_in : (k : Kind) (words : Line) (lines more : List Line) (rest : List NamedTable) (t : NamedTable) → rows_first more ≡ rows_first lines → IsIn t (table_first k words lines []) → IsIn t (table_first k words more rest)
+first_in : (k : Kind) (words : Line) (lines more : List Line) (rest : List NamedTable) (t : NamedTable) → rows_first more ≡ rows_first lines → IsIn t (table_first k words lines [])
+    → IsIn t (table_first k words more rest)
 first_in kind.Names words lines more rest t same (inl e) = inl (ap (with_rows (named (arguments words))) same ∙ e)
 first_in kind.Names words lines more rest t same (inr h) = absurd h
 first_in kind.Model words lines more rest t same h = absurd h
@@ -86,7 +91,8 @@ later_in kind.Row words lines rest t h = h
 same_table : (t u : NamedTable) → names_part t ≡ names_part u → t ≡ u
 same_table t u e = cc
 
-here_in : (s : Statement) (lines : List Line) (t : NamedTable) (b : Bool) → is_subckt s.words ≡ b → IsIn (names_part t) (cond b (subckt_part (subcircuit_of s) ∷ []) (map names_part (table_first (kind_of s.words) s.words lines [])))
+here_in : (s : Statement) (lines : List Line) (t : NamedTable) (b : Bool) → is_subckt s.words ≡ b
+    → IsIn (names_part t) (cond b (subckt_part (subcircuit_of s) ∷ []) (map names_part (table_first (kind_of s.words) s.words lines [])))
     → IsIn t (tables_of (cond b (codes ".inputs" ∷ []) s.words ∷ map plain lines))
 here_in s lines t true is (inl e) = cc
 here_in s lines t true is (inr h) = absurd h
@@ -109,7 +115,8 @@ tables_in (s ∷ rest) t h =
 same_use : (c d : Subcircuit) → subckt_part c ≡ subckt_part d → c ≡ d
 same_use c d e = cc
 
-use_in : (s : Statement) (lines : List Line) (c : Subcircuit) (b : Bool) → is_subckt s.words ≡ b → IsIn (subckt_part c) (cond b (subckt_part (subcircuit_of s) ∷ []) (map names_part (table_first (kind_of s.words) s.words lines [])))
+use_in : (s : Statement) (lines : List Line) (c : Subcircuit) (b : Bool) → is_subckt s.words ≡ b
+    → IsIn (subckt_part c) (cond b (subckt_part (subcircuit_of s) ∷ []) (map names_part (table_first (kind_of s.words) s.words lines [])))
     → (is_subckt s.words ≡ true) × (subcircuit_of s ≡ c)
 use_in s lines c true is (inl e) = (is, same_use (subcircuit_of s) c e)
 use_in s lines c true is (inr h) = absurd h
@@ -173,7 +180,8 @@ formed_from sections all m inside =
     let from = from_map model_from m sections inside in
     subst IsFormed from.is (formed_model from.from (all_in IsRightModel from.from sections all from.inside))
 
-formed_all : (before : List Statement) (sections : List (List Statement)) → IsRightModel before → AllByRecursion IsRightModel sections → (t : Bool) → AllFormed (map model_from (cond t sections (before ∷ sections)))
+formed_all : (before : List Statement) (sections : List (List Statement)) → IsRightModel before → AllByRecursion IsRightModel sections → (t : Bool)
+    → AllFormed (map model_from (cond t sections (before ∷ sections)))
 formed_all before sections first all true = formed_from sections all
 formed_all before sections first all false = formed_from (before ∷ sections) (first, all)
 

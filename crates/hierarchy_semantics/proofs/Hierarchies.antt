@@ -1,5 +1,6 @@
 -- The models that have no refusal are the hierarchies.
-use Rattle.std.proofs.Common.{◌≡◌, ◌↔◌, ℕ, zero, suc, Bool, true, false, not, ◌==◌, ◌||◌, cond, List, [], ◌∷◌, ◌++◌, map, length, find, Contains, Option, Some, None, option_map, refl, ap, sym, ◌∙◌, inl, inr, arith}
+use Rattle.std.proofs.Common.{◌≡◌, ◌↔◌, ℕ, zero, suc, Bool, true, false, not, ◌==◌, ◌||◌, cond, List, [], ◌∷◌, ◌++◌, map, length, find, Contains, Option, Some, None, option_map, refl, ap, sym, ◌∙◌}
+use Rattle.std.proofs.Common.{inl, inr, arith}
 use Rattle.std.specs.List.{AllByRecursion, list_all}
 use Rattle.std.proofs.lemmas.Bool.{false≢true, and_parts, and_from, not-false, ne_eqb}
 use Rattle.std.proofs.lemmas.Option.{none-some}
@@ -10,7 +11,8 @@ use Rattle.blif_semantics.specs.Reading.{undriven}
 use Rattle.semantics.proofs.FirstFound.{none_if}
 use Rattle.hierarchy_semantics.specs.Models.{Subcircuit, BlifModel, Hierarchy, main_of, model_named, uses_of, all_uses}
 use Rattle.hierarchy_semantics.specs.Driven.{names_driven, names_read}
-use Rattle.hierarchy_semantics.specs.Refusals.{ports, formal, unbound, part, first_found, model_names, first_unknown, is_model_grounded, first_recursive, doubled_port, wrong_formal, formals_of, formal_refusal, unbound_refusal, model_refusal, part_refusal, is_taken, hier_refusal}
+use Rattle.hierarchy_semantics.specs.Refusals.{ports, formal, unbound, part, first_found, model_names, first_unknown, is_model_grounded, first_recursive, doubled_port, wrong_formal, formals_of}
+use Rattle.hierarchy_semantics.specs.Refusals.{formal_refusal, unbound_refusal, model_refusal, part_refusal, is_taken, hier_refusal}
 use Rattle.hierarchy_semantics.specs.RefusalLaws.{IsModelGrounded, HasPorts, IsBound, IsWholeModel, IsHierarchy}
 use Rattle.hierarchy_semantics.proofs.Members.{IsIn, named_in, in_named}
 use Rattle.hierarchy_semantics.proofs.Parts.{in_get}
@@ -91,11 +93,13 @@ model_grounded h (suc steps) m g =
 
 -- ---- ports and formals
 
-port_parts : (h : Hierarchy) (m : BlifModel) (used : Bool) → has_name (map (λ c. c.model) (all_uses h)) m.name ≡ used → cond used (option_map (ports m.name) (first_doubled m.ports)) None ≡ None → HasPorts h m
+port_parts : (h : Hierarchy) (m : BlifModel) (used : Bool) → has_name (map (λ c. c.model) (all_uses h)) m.name ≡ used → cond used (option_map (ports m.name) (first_doubled m.ports)) None ≡ None
+    → HasPorts h m
 port_parts h m true is e = λ c. undoubled m.ports (none_mapped (ports m.name) (first_doubled m.ports) e)
 port_parts h m false is e = λ c. absurd (false≢true (sym is ∙ is_there (map (λ c. c.model) (all_uses h)) m.name c))
 
-ports_none : (h : Hierarchy) (m : BlifModel) (used : Bool) → has_name (map (λ c. c.model) (all_uses h)) m.name ≡ used → HasPorts h m → cond used (option_map (ports m.name) (first_doubled m.ports)) None ≡ None
+ports_none : (h : Hierarchy) (m : BlifModel) (used : Bool) → has_name (map (λ c. c.model) (all_uses h)) m.name ≡ used → HasPorts h m
+    → cond used (option_map (ports m.name) (first_doubled m.ports)) None ≡ None
 ports_none h m true is p = ap (option_map (ports m.name)) (differ-undoubled m.ports (p (there (map (λ c. c.model) (all_uses h)) m.name is)))
 ports_none h m false is p = refl
 

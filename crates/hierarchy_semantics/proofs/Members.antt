@@ -137,10 +137,12 @@ pub one_of_name : {X : Type 0} (name : X → Bytes) (earlier : List Bytes) (xs :
 one_of_name name earlier [] x y e hx hy same = absurd hx
 one_of_name name earlier (z ∷ xs) x y e (inl ex) (inl ey) same = sym ex ∙ ey
 one_of_name name earlier (z ∷ xs) x y e (inl ex) (inr hy) same =
-    absurd (not_before (earlier ++ name z ∷ []) (map name xs) (name y) (none_if (has_name earlier (name z)) (name z) (first_doubled_after (earlier ++ name z ∷ []) (map name xs)) e).1 (in_map name y xs hy)
+    absurd (not_before (earlier ++ name z ∷ []) (map name xs) (name y) (none_if (has_name earlier (name z)) (name z) (first_doubled_after (earlier ++ name z ∷ []) (map name xs)) e).1
+    (in_map name y xs hy)
     (in_right (name y) earlier (name z ∷ []) (inl (ap name ex ∙ same))))
 one_of_name name earlier (z ∷ xs) x y e (inr hx) (inl ey) same =
-    absurd (not_before (earlier ++ name z ∷ []) (map name xs) (name x) (none_if (has_name earlier (name z)) (name z) (first_doubled_after (earlier ++ name z ∷ []) (map name xs)) e).1 (in_map name x xs hx)
+    absurd (not_before (earlier ++ name z ∷ []) (map name xs) (name x) (none_if (has_name earlier (name z)) (name z) (first_doubled_after (earlier ++ name z ∷ []) (map name xs)) e).1
+    (in_map name x xs hx)
     (in_right (name x) earlier (name z ∷ []) (inl (ap name ey ∙ sym same))))
 one_of_name name earlier (z ∷ xs) x y e (inr hx) (inr hy) same =
     one_of_name name (earlier ++ name z ∷ []) xs x y (none_if (has_name earlier (name z)) (name z) (first_doubled_after (earlier ++ name z ∷ []) (map name xs)) e).1 hx hy same

@@ -1,5 +1,6 @@
 -- No number of steps gives a place another value than its signal has in the flat net.
-use Rattle.std.proofs.Common.{◌≡◌, ℕ, zero, suc, ◌+◌, ◌<◌, Bool, true, false, cond, not, List, [], ◌∷◌, map, length, get_or, Option, Some, None, option_map, bytes_eq, ◌&&◌, ◌||◌, refl, ap, sym, subst, ◌∙◌, inl, inr, arith}
+use Rattle.std.proofs.Common.{◌≡◌, ℕ, zero, suc, ◌+◌, ◌<◌, Bool, true, false, cond, not, List, [], ◌∷◌, map, length, get_or, Option, Some, None, option_map, bytes_eq, ◌&&◌, ◌||◌, refl, ap, sym}
+use Rattle.std.proofs.Common.{subst, ◌∙◌, inl, inr, arith}
 use Rattle.std.proofs.lemmas.Option.{none-some, same_Some}
 use Rattle.semantics.specs.declared.mark.Mark.TheVariants.{One}
 use Rattle.semantics.specs.Texts.{Bytes}
@@ -56,7 +57,8 @@ below_of h path n formal d inside source =
       listed = named_in (model_named h output.c.model).outputs formal output.driven;
     }
 
-pub output_below : (h : Hierarchy) (path : Path) (name : Bytes) (n : ℕ) (formal : Bytes) (d : Driven) → source_of h (model_at h path) name ≡ Some d → d.source ≡ by_output n formal → IsBelow h path n formal
+pub output_below : (h : Hierarchy) (path : Path) (name : Bytes) (n : ℕ) (formal : Bytes) (d : Driven) → source_of h (model_at h path) name ≡ Some d → d.source ≡ by_output n formal
+    → IsBelow h path n formal
 output_below h path name n formal d found source =
     let m : BlifModel = model_at h path in
     below_of h path n formal d

@@ -42,7 +42,8 @@ from_parts f n (p ∷ parts) y h =
           record { i = suc rest.i; part = rest.part; within = omega (arith, rest.within); is = rest.is; inside = subst (λ m. IsIn y (f m rest.part)) same rest.inside }
     ]
 
-pub to_parts : {Y : Type 0} (f : ℕ → Part → List Y) (n : ℕ) (parts : List Part) (i : ℕ) (p : Part) (y : Y) → i < length parts → get_or parts i no_part ≡ p → IsIn y (f (n + i) p) → IsIn y (over_parts f n parts)
+pub to_parts : {Y : Type 0} (f : ℕ → Part → List Y) (n : ℕ) (parts : List Part) (i : ℕ) (p : Part) (y : Y) → i < length parts → get_or parts i no_part ≡ p → IsIn y (f (n + i) p)
+    → IsIn y (over_parts f n parts)
 to_parts f n [] i p y within is h = absurd (omega (arith, within))
 to_parts f n (q ∷ parts) zero p y within is h =
     let same : n + 0 ≡ n = omega arith in

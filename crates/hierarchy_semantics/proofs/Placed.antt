@@ -104,8 +104,10 @@ own_placed : (h : Hierarchy) (path : Path) (m : BlifModel) (i : ℕ) (p : Part) 
 own_placed h path m i p item path_is same within is inside =
     let from = from_map (λ d. record { path = path; driven = d }) item (part_driven h i p) inside in
     let number : i ≡ 0 + i = omega arith in
-    let by_part : IsIn from.from (over_parts (part_driven h) 0 m.parts) = to_parts (part_driven h) 0 m.parts i p from.from within is (subst (λ k. IsIn from.from (part_driven h k p)) number from.inside) in
-    let here : IsPlaced h (record { path = path; driven = from.from }) = record { path = path_is; by_part = subst (λ (k : BlifModel). IsIn from.from (over_parts (part_driven h) 0 k.parts)) same by_part } in
+    let by_part : IsIn from.from (over_parts (part_driven h) 0 m.parts)
+    = to_parts (part_driven h) 0 m.parts i p from.from within is (subst (λ k. IsIn from.from (part_driven h k p)) number from.inside) in
+    let here : IsPlaced h (record { path = path; driven = from.from })
+    = record { path = path_is; by_part = subst (λ (k : BlifModel). IsIn from.from (over_parts (part_driven h) 0 k.parts)) same by_part } in
     subst (IsPlaced h) from.is here
 
 part_placed : (h : Hierarchy) (l : ℕ) (path : Path) (m : BlifModel) (i : ℕ) (p : Part) (item : FlatItem) → IsPath h path → m ≡ model_at h path → i < length m.parts → get_or m.parts i no_part ≡ p

@@ -6,7 +6,8 @@ use Rattle.semantics.specs.Texts.{Line}
 use Rattle.blif_semantics.specs.declared.kind.Kind.{Kind}
 use Rattle.blif_semantics.specs.declared.kind.Kind.TheVariants as kind
 use Rattle.blif_semantics.specs.Lines.{Statement}
-use Rattle.blif_semantics.specs.Statements.{kind_of_word, kind_of, arguments, is_printable, is_model, is_end, had_end, Place, place_after, OpenTable, table_before, table_by, bad_byte, after_end, bad_name, Wrong, unless, wrong_row, wrong_by, wrong}
+use Rattle.blif_semantics.specs.Statements.{kind_of_word, kind_of, arguments, is_printable, is_model, is_end, had_end, Place, place_after, OpenTable, table_before, table_by, bad_byte, after_end}
+use Rattle.blif_semantics.specs.Statements.{bad_name, Wrong, unless, wrong_row, wrong_by, wrong}
 use Rattle.semantics.proofs.FirstFound.{none_if}
 use Rattle.blif_semantics.proofs.RightLines.{good, answer_parts, AllRight}
 use Rattle.hierarchy_semantics.specs.Models.{is_subckt, Sections, sections_of}

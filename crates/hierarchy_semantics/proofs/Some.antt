@@ -31,7 +31,8 @@ values-more before after more (p ∷ pins) bits e =
     let parts = and_value-parts (before p) (values_of before pins) bits e in
     rw (more p parts.0 parts.2, values-more before after more pins parts.1 parts.3) (ap Some parts.4)
 
-mapped-more : (t : NamedTable) (o p : Option (List Bool)) (b : Bool) → ((bits : List Bool) → o ≡ Some bits → p ≡ Some bits) → option_map (value_at_bits t) o ≡ Some b → option_map (value_at_bits t) p ≡ Some b
+mapped-more : (t : NamedTable) (o p : Option (List Bool)) (b : Bool) → ((bits : List Bool) → o ≡ Some bits → p ≡ Some bits) → option_map (value_at_bits t) o ≡ Some b
+    → option_map (value_at_bits t) p ≡ Some b
 mapped-more t None p b more e = absurd (none-some b e)
 mapped-more t (Some bits) p b more e = ap (option_map (value_at_bits t)) (more bits refl) ∙ e
 
@@ -84,11 +85,17 @@ module _ (h : Hierarchy) (x : List Bool) where
       record { steps = first.steps + rest.steps; bits = first.bit ∷ rest.bits; is = rw (here, others) refl }
 
   -- one step more, by what drives the name
-  next_some : (k : ℕ) (path : Path) (name : Bytes) (d : Driven) (s : Source) (b : Bool) → source_of h (model_at h path) name ≡ Some d → d.source ≡ s → source_value h x (place_value h x k) path name s ≡ Some b → HasSome path name
+  next_some : (k : ℕ) (path : Path) (name : Bytes) (d : Driven) (s : Source) (b : Bool) → source_of h (model_at h path) name ≡ Some d → d.source ≡ s
+      → source_value h x (place_value h x k) path name s ≡ Some b → HasSome path name
   unfolding place_value
   next_some k path name d s b found source is =
       let named : d.name ≡ name = same_bytes d.name name (found_in (λ d. bytes_eq d.name name) d (driven_of h (model_at h path)) found).1 in
-      record { steps = suc k; bit = b; is = rw found (subst (λ w. source_value h x (place_value h x k) path w d.source ≡ Some b) (sym named) (subst (λ s. source_value h x (place_value h x k) path name s ≡ Some b) (sym source) is)) }
+      record {
+        steps = suc k;
+        bit = b;
+        is = rw found (subst (λ w. source_value h x (place_value h x k) path w d.source ≡ Some b) (sym named)
+            (subst (λ s. source_value h x (place_value h x k) path name s ≡ Some b) (sym source) is));
+      }
 
 -- ---- places, the inputs of models inside after what is bound to them
 
@@ -101,7 +108,8 @@ actual_found h c name bound input =
     let inside = found_in (λ b. bytes_eq b.formal name) b c.bindings found.1 in
     let formal : b.formal ≡ name = same_bytes b.formal name inside.1 in
     let kept : IsIn b (bound_inputs h c) =
-    in_filter (λ b. has_name (model_named h c.model).inputs b.formal) b c.bindings inside.0 (in_named (model_named h c.model).inputs b.formal (subst (λ w. IsIn w (model_named h c.model).inputs) (sym formal) input)) in
+    in_filter (λ b. has_name (model_named h c.model).inputs b.formal) b c.bindings inside.0
+    (in_named (model_named h c.model).inputs b.formal (subst (λ w. IsIn w (model_named h c.model).inputs) (sym formal) input)) in
     let same : b.actual ≡ actual_of c name = sym (ap (λ o. elim o [ None ↦ [] | Some b ↦ b.actual ]) found.1) in
     subst (λ w. IsIn w (map (λ b. b.actual) (bound_inputs h c))) same (in_map (λ b. b.actual) b (bound_inputs h c) kept)
 
@@ -140,7 +148,8 @@ record IsInductive (h : Hierarchy) (Q : Path → Bytes → Type 0) : Type 0 wher
   table : (path : Path) (name : Bytes) (d : Driven) (t : NamedTable) → IsPath h path → source_of h (model_at h path) name ≡ Some d → d.source ≡ by_table t → Q path name
   output : (path : Path) (name : Bytes) (d : Driven) (n : ℕ) (formal : Bytes) → IsPath h path → source_of h (model_at h path) name ≡ Some d → d.source ≡ by_output n formal → Q path name
 
-by_source : (h : Hierarchy) (Q : Path → Bytes → Type 0) → IsInductive h Q → (path : Path) (name : Bytes) (d : Driven) (s : Source) → IsPath h path → source_of h (model_at h path) name ≡ Some d → d.source ≡ s
+by_source : (h : Hierarchy) (Q : Path → Bytes → Type 0) → IsInductive h Q → (path : Path) (name : Bytes) (d : Driven) (s : Source) → IsPath h path → source_of h (model_at h path) name ≡ Some d
+    → d.source ≡ s
     → ((i : ℕ) → d.source ≡ by_input i → Q path name) → Q path name
 by_source h Q q path name d (by_input i) path_is found source of_input = of_input i source
 by_source h Q q path name d (by_table t) path_is found source of_input = q.table path name d t path_is found source
@@ -262,7 +271,8 @@ module _ (h : Hierarchy) (good : IsGood h) (x : List Bool) where
       let some = settled k (m ∷ path) formal below_is ((fit_at h good (m ∷ path)).reads formal (in_right formal _ (model_at h (m ∷ path)).outputs listed)) inner in
       next_some h x some.steps path name d (by_output m formal) some.bit found source some.is)
 
-pub place_values : (h : Hierarchy) → IsGood h → (x : List Bool) → IsAcyclic (length (main_of h).inputs) (flat_net h).tables → (path : Path) (name : Bytes) → IsPath h path → IsIn name (names_driven h (model_at h path))
+pub place_values : (h : Hierarchy) → IsGood h → (x : List Bool) → IsAcyclic (length (main_of h).inputs) (flat_net h).tables → (path : Path) (name : Bytes) → IsPath h path
+    → IsIn name (names_driven h (model_at h path))
     → HasValue h x path name (value_of (length (main_of h).inputs) (flat_net h).tables x (place_signal h path name))
 unfolding IsSettled
 place_values h good x acyclic path name path_is driven =

@@ -56,13 +56,15 @@ driven_named h m formed n (subckt_part c) d inside driven =
     let bound = (from_filter _ from.from c.bindings from.inside).0 in
     subst (λ (d : Driven). IsName d.name) from.is (formed.actuals c inside from.from bound)
 
-label_named : (number : ℕ) (item : FlatItem) (path : Path) → item.path ≡ path → number < 2 ^ 64 → IsName item.driven.name → IsName (elim path [ [] ↦ item.driven.name | n ∷ up ↦ codes "$u" ++ decimal number ])
+label_named : (number : ℕ) (item : FlatItem) (path : Path) → item.path ≡ path → number < 2 ^ 64 → IsName item.driven.name
+    → IsName (elim path [ [] ↦ item.driven.name | n ∷ up ↦ codes "$u" ++ decimal number ])
 label_named number item [] is small named = named
 label_named number item (n ∷ up) is small named = numbered_is_name number small
 
 -- ---- tables
 
-source_formed : (h : Hierarchy) (m : BlifModel) → HasFormedParts m → (n : ℕ) (p : Part) (s : Source) (label : Bytes) (path : Path) → IsIn p m.parts → PartSource h n p s → IsName label → IsTable (flat_table h label path s)
+source_formed : (h : Hierarchy) (m : BlifModel) → HasFormedParts m → (n : ℕ) (p : Part) (s : Source) (label : Bytes) (path : Path) → IsIn p m.parts → PartSource h n p s → IsName label
+    → IsTable (flat_table h label path s)
 source_formed h m formed n p s label path inside (is_table t) named =
     let table : IsNamedTable t = formed.tables t inside in
     record { named = named; widths = subst (λ k. All (λ marks. length marks ≡ k) t.rows) (sym (length-map t.pins (place_signal h path))) table.widths; plane = table.plane }
@@ -80,7 +82,8 @@ record AreSound (h : Hierarchy) (count number : ℕ) (items : List FlatItem) : T
   formed : All IsTable (tables_from h number items)
   pins : All (λ t. All (λ s. s < count) t.pins) (tables_from h number items)
 
-sound_tables : (h : Hierarchy) (count number : ℕ) (items : List FlatItem) → number + length items < 2 ^ 64 → ((item : FlatItem) → IsIn item items → IsSoundItem h count item) → AreSound h count number items
+sound_tables : (h : Hierarchy) (count number : ℕ) (items : List FlatItem) → number + length items < 2 ^ 64 → ((item : FlatItem) → IsIn item items → IsSoundItem h count item)
+    → AreSound h count number items
 sound_tables h count number [] small each = record { formed = All-nil IsTable; pins = All-nil (λ t. All (λ s. s < count) t.pins) }
 sound_tables h count number (item ∷ items) small each =
     let rest = sound_tables h count (number + 1) items (omega (arith, small)) (λ i inside. each i (inr inside)) in
@@ -100,7 +103,8 @@ signals_of h good path path_is names driven =
     let from = from_map (place_signal h path) s names inside in
     subst (λ s. s < length (main_of h).inputs + length (flat_net h).tables) from.is (signal_within h good path from.from path_is (driven from.from from.inside)))
 
-source_pins : (h : Hierarchy) → IsGood h → (path : Path) → IsPath h path → (n : ℕ) (p : Part) (s : Source) → n < length (model_at h path).parts → get_or (model_at h path).parts n no_part ≡ p → PartSource h n p s → (label : Bytes)
+source_pins : (h : Hierarchy) → IsGood h → (path : Path) → IsPath h path → (n : ℕ) (p : Part) (s : Source) → n < length (model_at h path).parts → get_or (model_at h path).parts n no_part ≡ p
+    → PartSource h n p s → (label : Bytes)
     → All (λ s. s < length (main_of h).inputs + length (flat_net h).tables) (flat_table h label path s).pins
 source_pins h good path path_is n p s within is (is_table t) label =
     let m : BlifModel = model_at h path in
@@ -109,7 +113,8 @@ source_pins h good path path_is n p s within is (is_table t) label =
 source_pins h good path path_is n p s within is (is_output c formal driven) label =
     let use_is : IsUse (model_at h path) n c = (within, is) in
     let inner : IsPath h (n ∷ path) = (path_is, (c, use_is)) in
-    let listed : IsIn formal (model_at h (n ∷ path)).outputs = subst (λ (k : BlifModel). IsIn formal k.outputs) (used_model h path n c use_is) (named_in (model_named h c.model).outputs formal driven) in
+    let listed : IsIn formal (model_at h (n ∷ path)).outputs
+    = subst (λ (k : BlifModel). IsIn formal k.outputs) (used_model h path n c use_is) (named_in (model_named h c.model).outputs formal driven) in
     signals_of h good (n ∷ path) inner (formal ∷ [])
     (λ name inside. elim inside [
       | inl e ↦ subst (λ w. IsIn w (names_driven h (model_at h (n ∷ path)))) e ((fit_at h good (n ∷ path)).reads formal (in_right formal _ (model_at h (n ∷ path)).outputs listed))
@@ -165,7 +170,8 @@ names_differ h none main small no_input =
     pairs_differ (inputs ++ map (λ t. t.name) (tables_from h 0 items))
     (subst (λ names. Distinct (inputs ++ names)) (sym (names_of_tables h 0 items no_input)) (distinct_signals inputs items small distinct free))
 
-flat_sound : (h : Hierarchy) → IsGood h → HasNoRefusal h → IsIn (main_of h) h → ((m : BlifModel) → IsIn m h → IsFormed m) → IsSmall (flat_net h) → IsAcyclic (length (flat_net h).inputs) (flat_net h).tables → IsSound (flat_net h)
+flat_sound : (h : Hierarchy) → IsGood h → HasNoRefusal h → IsIn (main_of h) h → ((m : BlifModel) → IsIn m h → IsFormed m) → IsSmall (flat_net h)
+    → IsAcyclic (length (flat_net h).inputs) (flat_net h).tables → IsSound (flat_net h)
 unfolding flat_net
 flat_sound h good none main all small acyclic =
     let each = sound_item h good main all in
@@ -192,4 +198,5 @@ net_sound text most h N is =
     let all : ((m : BlifModel) → IsIn m h → IsFormed m) = λ m inside. formed lines read.right m (subst (λ l. IsIn m l) (sym read.is) inside) in
     let same = net_is text most h N is in
     subst IsSound (sym same)
-    (flat_sound h good read.none (main_read text most h read) all (subst IsSmall same (net_small text most h N is)) (subst (λ (M : NetValue). IsAcyclic (length M.inputs) M.tables) same (net_acyclic text most h N is)))
+    (flat_sound h good read.none (main_read text most h read) all (subst IsSmall same (net_small text most h N is))
+    (subst (λ (M : NetValue). IsAcyclic (length M.inputs) M.tables) same (net_acyclic text most h N is)))

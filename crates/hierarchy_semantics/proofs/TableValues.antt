@@ -19,7 +19,8 @@ row_matches-agrees : (f : Bytes → ℕ) (v w : Assignment) (marks : List Mark) 
 unfolding AgreesFrom
 row_matches-agrees f v w [] pins k h = refl
 row_matches-agrees f v w (m ∷ marks) [] k h = refl
-row_matches-agrees f v w (m ∷ marks) (p ∷ pins) k h = let rest = row_matches-agrees f v w marks pins (k + 1) h.1 in ap (λ b. mark_matches m b && row_matches marks (map f pins) v) h.0 ∙ ap (λ b. mark_matches m (w k) && b) rest
+row_matches-agrees f v w (m ∷ marks) (p ∷ pins) k h = let rest
+    = row_matches-agrees f v w marks pins (k + 1) h.1 in ap (λ b. mark_matches m b && row_matches marks (map f pins) v) h.0 ∙ ap (λ b. mark_matches m (w k) && b) rest
 
 some_row-agrees : (f : Bytes → ℕ) (v w : Assignment) (rows : List (List Mark)) (pins : List Bytes) → AgreesFrom f v w 0 pins
     → list_any (λ marks. row_matches marks (map f pins) v) rows ≡ list_any (λ marks. row_matches marks (range_with_len 0 (length pins)) w) rows
@@ -41,8 +42,11 @@ agrees f v front (p ∷ pins) =
     let rest : List Bool = map (λ p. v (f p)) pins in
     let next = agrees f v (front ++ b ∷ []) pins in
     let size : length (front ++ b ∷ []) ≡ length front + 1 = length-append front (b ∷ []) in
-    let joined : (front ++ b ∷ []) ++ rest ≡ front ++ b ∷ rest = append_assoc front (b ∷ []) rest in
-    (sym (at_end front b rest), subst (λ bits. AgreesFrom f v (λ s. get_or bits s false) (length front + 1) pins) joined (subst (λ k. AgreesFrom f v (λ s. get_or ((front ++ b ∷ []) ++ rest) s false) k pins) size next))
+    let joined : (front ++ b ∷ []) ++ rest ≡ front ++ b ∷ rest = append_assoc front (b ∷ []) rest in (
+      sym (at_end front b rest),
+      subst (λ bits. AgreesFrom f v (λ s. get_or bits s false) (length front + 1) pins) joined
+          (subst (λ k. AgreesFrom f v (λ s. get_or ((front ++ b ∷ []) ++ rest) s false) k pins) size next),
+    )
 
 pub table_value-pins : (f : Bytes → ℕ) (v : Assignment) (t : NamedTable) (label : Bytes)
     → table_value (record { name = label; pins = map f t.pins; rows = t.rows; plane = t.plane }) v ≡ value_at_bits t (map (λ p. v (f p)) t.pins)

@@ -4,7 +4,8 @@ use Rattle.std.specs.Prelude.{◌≡◌, ℕ, zero, suc, ◌+◌, ◌*◌, not, 
 use Rattle.semantics.specs.declared.limits.TheConstants.{MOST_TABLE_PINS}
 use Rattle.semantics.specs.Net.{pin_count, row_count}
 use Rattle.blif_semantics.specs.Tables.{NamedTable}
-use Rattle.hierarchy_semantics.specs.Models.{Part, names_part, subckt_part, BlifModel, Hierarchy, main_of, model_named}
+use Rattle.hierarchy_semantics.specs.Models.{Part, names_part, subckt_part, BlifModel, Hierarchy, main_of}
+use Rattle.hierarchy_semantics.specs.Models.{model_named}
 use Rattle.hierarchy_semantics.specs.Driven.{bound_outputs}
 use Rattle.hierarchy_semantics.specs.Flat.{flat_net}
 
@@ -15,7 +16,8 @@ pub record Weight : Type 0 where
 
 abbrev pub part_weight : Hierarchy → Weight → (BlifModel → ℕ) → Part → ℕ
 part_weight h w inner (names_part t) = w.of_table t
-part_weight h w inner (subckt_part c) = inner (model_named h c.model) + length (bound_outputs h c) * w.of_buffer
+part_weight h w inner (subckt_part c)
+    = inner (model_named h c.model) + length (bound_outputs h c) * w.of_buffer
 
 -- what a model counts, with the models that it uses down to `levels` levels
 abbrev pub model_weight : Hierarchy → Weight → ℕ → BlifModel → ℕ
@@ -27,8 +29,16 @@ flat_weight h w = model_weight h w (length h) (main_of h)
 
 -- the tables of the flat net, their pins, their rows, and the tables of too many pins
 pub record CountLaw : Type 0 where
-  pub tables : (h : Hierarchy) → length (flat_net h).tables ≡ flat_weight h (record { of_table = λ t. 1; of_buffer = 1 })
-  pub pins : (h : Hierarchy) → pin_count (flat_net h) ≡ flat_weight h (record { of_table = λ t. length t.pins; of_buffer = 1 })
-  pub rows : (h : Hierarchy) → row_count (flat_net h) ≡ flat_weight h (record { of_table = λ t. length t.rows; of_buffer = 1 })
-  pub wide : (h : Hierarchy) → sum_by (λ t. if not (nat_le (length t.pins) MOST_TABLE_PINS) then 1 else 0) (flat_net h).tables
-      ≡ flat_weight h (record { of_table = λ t. if not (nat_le (length t.pins) MOST_TABLE_PINS) then 1 else 0; of_buffer = 0 })
+  pub tables : (h : Hierarchy)
+      → length (flat_net h).tables ≡ flat_weight h (record { of_table = λ t. 1; of_buffer = 1 })
+  pub pins : (h : Hierarchy)
+      → pin_count (flat_net h) ≡ flat_weight h (record { of_table = λ t. length t.pins; of_buffer = 1 })
+  pub rows : (h : Hierarchy)
+      → row_count (flat_net h) ≡ flat_weight h (record { of_table = λ t. length t.rows; of_buffer = 1 })
+  pub wide : (h : Hierarchy)
+      → sum_by (λ t. if not (nat_le (length t.pins) MOST_TABLE_PINS) then 1 else 0) (flat_net h).tables
+      ≡ flat_weight h (record {
+        of_table
+            = λ t. if not (nat_le (length t.pins) MOST_TABLE_PINS) then 1 else 0;
+        of_buffer = 0;
+      })

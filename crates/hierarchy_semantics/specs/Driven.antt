@@ -1,10 +1,12 @@
--- The names that a model drives, each with what drives it, and the names that it reads. Source: BLIF's `.inputs`, `.names` and `.subckt`.
+-- The names that a model drives, each with what drives it, and the names that it reads. Source: BLIF's
+-- `.inputs`, `.names` and `.subckt`.
 use Rattle.std.specs.Prelude.{ℕ, ◌+◌, List, [], ◌∷◌, ◌++◌, map, flat_map, filter, bytes_eq, Option}
 use Rattle.std.specs.List.{find}
 use Rattle.semantics.specs.Texts.{Bytes}
 use Rattle.semantics.specs.Refusals.{has_name}
 use Rattle.blif_semantics.specs.Tables.{NamedTable}
-use Rattle.hierarchy_semantics.specs.Models.{Binding, Subcircuit, Part, names_part, subckt_part, BlifModel, Hierarchy, model_named}
+use Rattle.hierarchy_semantics.specs.Models.{Binding, Subcircuit, Part, names_part, subckt_part, BlifModel}
+use Rattle.hierarchy_semantics.specs.Models.{Hierarchy, model_named}
 
 -- What drives a name: an input, by its number; a table; or the output, with this formal name, of the model
 -- that part n uses.
@@ -33,10 +35,12 @@ abbrev pub inputs_driven : ℕ → List Bytes → List Driven
 inputs_driven i [] = []
 inputs_driven i (name ∷ names) = record { name = name; source = by_input i } ∷ inputs_driven (i + 1) names
 
--- a table drives its name, and the use of a model each name that is bound to an output, in the order of the bindings
+-- a table drives its name, and the use of a model each name that is bound to an output, in the order of the
+-- bindings
 abbrev pub part_driven : Hierarchy → ℕ → Part → List Driven
 part_driven h n (names_part t) = record { name = t.name; source = by_table t } ∷ []
-part_driven h n (subckt_part c) = map (λ b. record { name = b.actual; source = by_output n b.formal }) (bound_outputs h c)
+part_driven h n (subckt_part c)
+    = map (λ b. record { name = b.actual; source = by_output n b.formal }) (bound_outputs h c)
 
 -- the inputs, and then what the parts drive
 abbrev pub driven_of : Hierarchy → BlifModel → List Driven

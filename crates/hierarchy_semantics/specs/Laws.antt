@@ -18,10 +18,14 @@ pub record IsFlattened (text : Bytes) (most : ℕ) (h : Hierarchy) (N : NetValue
 -- of its signal in the flat net; so each output of the main model has a value, and the flat net's output has
 -- the same.
 pub record FlatLaw : Type 0 where
-  pub is_flat : (text : Bytes) (most : ℕ) (h : Hierarchy) (N : NetValue) → IsFlattened text most h N → N ≡ flat_net h
+  pub is_flat : (text : Bytes) (most : ℕ) (h : Hierarchy) (N : NetValue) → IsFlattened text most h N
+      → N ≡ flat_net h
   pub sound : (text : Bytes) (most : ℕ) (h : Hierarchy) (N : NetValue) → IsFlattened text most h N → IsSound N
   pub small : (text : Bytes) (most : ℕ) (h : Hierarchy) (N : NetValue) → IsFlattened text most h N → IsSmall N
-  pub places : (text : Bytes) (most : ℕ) (h : Hierarchy) (N : NetValue) → IsFlattened text most h N → (x : List Bool) (path : Path) (name : Bytes) → IsPath h path
-      → Contains (names_driven h (model_at h path)) name → HasValue h x path name (value_of (length N.inputs) N.tables x (place_signal h path name))
-  pub outputs : (text : Bytes) (most : ℕ) (h : Hierarchy) (N : NetValue) → IsFlattened text most h N → (x : List Bool) (i : ℕ) → i < length (main_of h).outputs
+  pub places : (text : Bytes) (most : ℕ) (h : Hierarchy) (N : NetValue) → IsFlattened text most h N
+      → (x : List Bool) (path : Path) (name : Bytes) → IsPath h path
+      → Contains (names_driven h (model_at h path)) name
+      → HasValue h x path name (value_of (length N.inputs) N.tables x (place_signal h path name))
+  pub outputs : (text : Bytes) (most : ℕ) (h : Hierarchy) (N : NetValue) → IsFlattened text most h N
+      → (x : List Bool) (i : ℕ) → i < length (main_of h).outputs
       → HasValue h x [] (name_of (main_of h).outputs i) (slice_index_or (outputs_of N x) i false)

@@ -1,9 +1,12 @@
--- The first wrong line of a text of several models. Source: BLIF; what is refused, and in which order, is this tool's own.
+-- The first wrong line of a text of several models. Source: BLIF; what is refused, and in which order, is
+-- this tool's own.
 use Rattle.std.specs.Prelude.{Bool, false, not, ◌&&◌, List, [], ◌∷◌, Option, Some, None, if◌then◌else◌}
 use Rattle.std.specs.List.{list_all}
 use Rattle.semantics.specs.Texts.{Bytes, Line}
 use Rattle.blif_semantics.specs.Lines.{Statement}
-use Rattle.blif_semantics.specs.Statements.{kind_of, first_word, arguments, is_printable, is_name, is_model, is_end, Place, table_before, Wrong, bad_byte, after_end, bad_name, unless, wrong_by, WrongLine}
+use Rattle.blif_semantics.specs.Statements.{kind_of, first_word, arguments, is_printable, is_name, is_model}
+use Rattle.blif_semantics.specs.Statements.{is_end, Place, table_before, Wrong, bad_byte, after_end}
+use Rattle.blif_semantics.specs.Statements.{bad_name, unless, wrong_by, WrongLine}
 use Rattle.hierarchy_semantics.specs.Models.{is_subckt, binding_of}
 
 -- the latest line, which stands first, is `.end`
@@ -13,7 +16,11 @@ has_ended (words ∷ earlier) = is_end (kind_of words)
 
 -- After `.end` the next line must be a `.model`, and a `.model` line is never the second one of its model.
 abbrev pub place_of : List Line → Line → Place
-place_of earlier words = record { had_model = false; had_end = has_ended earlier && not (is_model (kind_of words)); table = table_before earlier }
+place_of earlier words = record {
+  had_model = false;
+  had_end = has_ended earlier && not (is_model (kind_of words));
+  table = table_before earlier;
+}
 
 abbrev pub is_binding : Bytes → Bool
 is_binding word = is_name (binding_of word).formal && is_name (binding_of word).actual
@@ -32,7 +39,11 @@ wrong_at place words =
 abbrev pub first_wrong_after : List Line → List Statement → Option WrongLine
 first_wrong_after earlier [] = None
 first_wrong_after earlier (s ∷ rest) =
-    elim (wrong_at (place_of earlier s.words) s.words) [ None ↦ first_wrong_after (s.words ∷ earlier) rest | Some w ↦ Some (record { line = s.line; wrong = w }) ]
+    elim (wrong_at (place_of earlier s.words) s.words) [
+      | None ↦ first_wrong_after (s.words ∷ earlier) rest
+      | Some w ↦ Some
+          (record { line = s.line; wrong = w })
+    ]
 
 -- the first line that is wrong
 unfoldable pub first_wrong : List Statement → Option WrongLine

@@ -1,5 +1,6 @@
 -- The models of a text and their statements. Source: BLIF's `.model` and `.subckt`.
-use Rattle.std.specs.Prelude.{ℕ, ◌+◌, ◌==◌, not, ◌&&◌, ◌||◌, Bool, List, [], ◌∷◌, ◌++◌, map, flat_map, length, take, drop, position, codes, bytes_eq, Some, None, if◌then◌else◌}
+use Rattle.std.specs.Prelude.{ℕ, ◌+◌, ◌==◌, not, ◌&&◌, ◌||◌, Bool, List, [], ◌∷◌, ◌++◌, map, flat_map}
+use Rattle.std.specs.Prelude.{length, take, drop, position, codes, bytes_eq, Some, None, if◌then◌else◌}
 use Rattle.std.specs.List.{find}
 use Rattle.semantics.specs.Texts.{Bytes, Line}
 use Rattle.blif_semantics.specs.declared.kind.Kind.{Kind}
@@ -48,9 +49,14 @@ binding_of word =
     ]
 
 abbrev pub subcircuit_of : Statement → Subcircuit
-subcircuit_of s = record { line = s.line; model = first_word (arguments s.words); bindings = map binding_of (arguments (arguments s.words)) }
+subcircuit_of s = record {
+  line = s.line;
+  model = first_word (arguments s.words);
+  bindings = map binding_of (arguments (arguments s.words));
+}
 
--- a `.names` line is a table with the rows that come right after it, and a `.subckt` line is the use of a model
+-- a `.names` line is a table with the rows that come right after it, and a `.subckt` line is the use of a
+-- model
 abbrev pub part_first : Statement → List Line → List Part
 part_first s lines =
     if is_subckt s.words then subckt_part (subcircuit_of s) ∷ []
@@ -67,7 +73,13 @@ is_port kind = is_inputs kind || is_outputs kind
 abbrev pub model_from : List Statement → BlifModel
 model_from lines =
     let words = map (λ s. s.words) lines in
-    record { name = model_of words; ports = listed is_port words; inputs = listed is_inputs words; outputs = listed is_outputs words; parts = parts_of lines }
+    record {
+      name = model_of words;
+      ports = listed is_port words;
+      inputs = listed is_inputs words;
+      outputs = listed is_outputs words;
+      parts = parts_of lines;
+    }
 
 -- the lines before the first `.model` line, and those of each model from its `.model` line on
 pub record Sections : Type 0 where
@@ -85,7 +97,8 @@ sections_of (s ∷ rest) = with_line s (sections_of rest)
 
 -- lines before any `.model` line are a first model, named `top`; a text without lines is that model alone
 abbrev pub all_sections : Sections → List (List Statement)
-all_sections found = if length found.before == 0 && not (length found.sections == 0) then found.sections else found.before ∷ found.sections
+all_sections found = if length found.before == 0
+    && not (length found.sections == 0) then found.sections else found.before ∷ found.sections
 
 unfoldable pub hierarchy_of : List Statement → Hierarchy
 hierarchy_of lines = map model_from (all_sections (sections_of lines))

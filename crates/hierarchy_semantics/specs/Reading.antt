@@ -1,4 +1,5 @@
--- The reading of a text of several models: its hierarchy, or one refusal. Source: BLIF; the order of the refusals is this tool's own.
+-- The reading of a text of several models: its hierarchy, or one refusal. Source: BLIF; the order of the
+-- refusals is this tool's own.
 use Rattle.std.specs.Prelude.{ℕ, not, nat_le, length, Some, None, Result, Ok, Err, if◌then◌else◌}
 use Rattle.semantics.specs.Texts.{Bytes}
 use Rattle.blif_semantics.specs.Lines.{logical_lines, statements}
@@ -15,4 +16,5 @@ unfoldable pub hier_reading : Bytes → ℕ → Result Hierarchy HierRefusal
 hier_reading text most =
     let lines = statements (logical_lines text) in
     if not (nat_le (length text) most) then Err (line text_long)
-    else elim (first_wrong lines) [ None ↦ hierarchy_checked (hierarchy_of lines) | Some w ↦ Err (line (wrong_line w.line w.wrong)) ]
+    else elim (first_wrong lines)
+    [ None ↦ hierarchy_checked (hierarchy_of lines) | Some w ↦ Err (line (wrong_line w.line w.wrong)) ]

@@ -1,14 +1,16 @@
 -- What is accepted as a hierarchy, in the words of its refusals.
 use Rattle.std.specs.Prelude.{◌≡◌, ◌≢◌, ◌↔◌, ℕ, zero, suc, ◌<◌, false, map, length, None, AllPairs, Contains}
 use Rattle.std.specs.List.{AllByRecursion}
-use Rattle.hierarchy_semantics.specs.Models.{Subcircuit, BlifModel, Hierarchy, main_of, model_named, uses_of, all_uses}
+use Rattle.hierarchy_semantics.specs.Models.{Subcircuit, BlifModel, Hierarchy, main_of, model_named, uses_of}
+use Rattle.hierarchy_semantics.specs.Models.{all_uses}
 use Rattle.hierarchy_semantics.specs.Driven.{names_driven, names_read}
 use Rattle.hierarchy_semantics.specs.Refusals.{model_names, formals_of, is_taken, hier_refusal}
 
 -- `is_model_grounded` as a relation
 abbrev pub IsModelGrounded : Hierarchy → ℕ → BlifModel → Type 0
 IsModelGrounded h zero m = ⊥
-IsModelGrounded h (suc steps) m = AllByRecursion (λ c. IsModelGrounded h steps (model_named h c.model)) (uses_of m)
+IsModelGrounded h (suc steps) m
+    = AllByRecursion (λ c. IsModelGrounded h steps (model_named h c.model)) (uses_of m)
 
 -- a model that is used has ports that differ
 abbrev pub HasPorts : Hierarchy → BlifModel → Type 0

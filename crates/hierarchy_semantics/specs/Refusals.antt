@@ -1,12 +1,15 @@
--- What keeps the models of a text from being a hierarchy, in the order in which it is told. Source: BLIF's `.model` and `.subckt`; the order is
--- this tool's own.
-use Rattle.std.specs.Prelude.{ℕ, zero, suc, ◌==◌, Bool, false, not, ◌||◌, ◌&&◌, List, [], ◌∷◌, ◌++◌, map, length, take, drop, codes, bytes_eq, Option, Some, None, option_map, if◌then◌else◌}
+-- What keeps the models of a text from being a hierarchy, in the order in which it is told. Source: BLIF's
+-- `.model` and `.subckt`; the order is this tool's own.
+use Rattle.std.specs.Prelude.{ℕ, zero, suc, ◌==◌, Bool, false, not, ◌||◌, ◌&&◌, List, [], ◌∷◌, ◌++◌, map}
+use Rattle.std.specs.Prelude.{length, take, drop, codes, bytes_eq, Option, Some, None, option_map}
+use Rattle.std.specs.Prelude.{if◌then◌else◌}
 use Rattle.std.specs.List.{list_all, find}
 use Rattle.semantics.specs.Texts.{Bytes}
 use Rattle.semantics.specs.Decimal.{is_digit}
 use Rattle.semantics.specs.Refusals.{has_name, first_doubled, or_else}
 use Rattle.blif_semantics.specs.Reading.{Refusal, doubled, no_output, undriven}
-use Rattle.hierarchy_semantics.specs.Models.{Subcircuit, BlifModel, Hierarchy, main_of, model_named, uses_of, all_uses}
+use Rattle.hierarchy_semantics.specs.Models.{Subcircuit, BlifModel, Hierarchy, main_of, model_named, uses_of}
+use Rattle.hierarchy_semantics.specs.Models.{all_uses}
 use Rattle.hierarchy_semantics.specs.Driven.{names_driven, names_read}
 
 pub data HierRefusal : Type 0 where
@@ -38,7 +41,8 @@ first_unknown h = find (λ c. not (has_name (model_names h) c.model)) (all_uses 
 -- a model needs one step more than each model that it uses
 abbrev pub is_model_grounded : Hierarchy → ℕ → BlifModel → Bool
 is_model_grounded h zero m = false
-is_model_grounded h (suc steps) m = list_all (λ c. is_model_grounded h steps (model_named h c.model)) (uses_of m)
+is_model_grounded h (suc steps) m
+    = list_all (λ c. is_model_grounded h steps (model_named h c.model)) (uses_of m)
 
 -- a model that is not grounded in `length h` steps
 abbrev pub first_recursive : Hierarchy → Option BlifModel
@@ -46,13 +50,15 @@ first_recursive h = find (λ m. not (is_model_grounded h (length h) m)) h
 
 -- a model that is used has a name twice among its ports
 abbrev pub doubled_port : Hierarchy → BlifModel → Option HierRefusal
-doubled_port h m = if has_name (map (λ c. c.model) (all_uses h)) m.name then option_map (ports m.name) (first_doubled m.ports) else None
+doubled_port h m = if has_name (map (λ c. c.model) (all_uses h)) m.name
+    then option_map (ports m.name) (first_doubled m.ports) else None
 
 -- a formal that is no port, or that is bound a second time
 abbrev pub wrong_formal : List Bytes → List Bytes → List Bytes → Option Bytes
 wrong_formal known earlier [] = None
 wrong_formal known earlier (name ∷ names) =
-    if not (has_name known name) || has_name earlier name then Some name else wrong_formal known (earlier ++ name ∷ []) names
+    if not (has_name known name)
+    || has_name earlier name then Some name else wrong_formal known (earlier ++ name ∷ []) names
 
 abbrev pub formals_of : Subcircuit → List Bytes
 formals_of c = map (λ b. b.formal) c.bindings
@@ -62,7 +68,8 @@ formal_refusal h c = option_map (formal c.line) (wrong_formal (model_named h c.m
 
 -- an input that is not bound
 abbrev pub unbound_refusal : Hierarchy → Subcircuit → Option HierRefusal
-unbound_refusal h c = option_map (unbound c.line) (find (λ name. not (has_name (formals_of c) name)) (model_named h c.model).inputs)
+unbound_refusal h c = option_map (unbound c.line)
+    (find (λ name. not (has_name (formals_of c) name)) (model_named h c.model).inputs)
 
 -- a name that is driven twice, no output, or a name that is read and not driven
 abbrev pub model_refusal : Hierarchy → BlifModel → Option Refusal
@@ -76,7 +83,8 @@ part_refusal h m = option_map (part m.name) (model_refusal h m)
 
 -- `$u` and digits: the names of the flat tables of the models that are used
 abbrev pub is_taken : Bytes → Bool
-is_taken name = bytes_eq (take 2 name) (codes "$u") && not (length (drop 2 name) == 0) && list_all is_digit (drop 2 name)
+is_taken name = bytes_eq (take 2 name) (codes "$u") && not (length (drop 2 name) == 0)
+    && list_all is_digit (drop 2 name)
 
 -- the first refusal that holds of the models
 unfoldable pub hier_refusal : Hierarchy → Option HierRefusal

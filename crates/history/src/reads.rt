@@ -40,7 +40,8 @@ impl Reads {
 
     /// One more turn of the open file, if one is open.
     pub fn turn(&self) -> Reads
-        ensures { (result.opened ≡ self.now.opened) × (result.turns ≡ with_turn self.now.opened self.now.turns) }
+        ensures { (result.opened ≡ self.now.opened)
+            × (result.turns ≡ with_turn self.now.opened self.now.turns) }
     {
         Reads {}
     }

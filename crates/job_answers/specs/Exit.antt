@@ -1,7 +1,9 @@
 -- The exit number of each answer. Source: this tool's own table.
 use Rattle.std.specs.Prelude.{ℕ}
 use Rattle.job_answers.specs.declared.status.Status.{Status}
-use Rattle.job_answers.specs.declared.status.Status.TheVariants.{Done, Verified, Refuted, Usage, Text, NoMemory, Budget, ReadFault, WriteFault, Endless, Hier, Aiger}
+use Rattle.job_answers.specs.declared.status.Status.TheVariants.{Done, Verified, Refuted, Usage, Text}
+use Rattle.job_answers.specs.declared.status.Status.TheVariants.{NoMemory, Budget, ReadFault, WriteFault}
+use Rattle.job_answers.specs.declared.status.Status.TheVariants.{Endless, Hier, Aiger}
 
 abbrev pub exit_number : Status → ℕ
 exit_number Done = 0

@@ -7,7 +7,9 @@ use Rattle.hier_blif.specs.Refusals.{number_of}
 use Rattle.aiger_text.specs.Refusals.{refusal_number}
 use Rattle.command_words.specs.Usage.{usage_line}
 use Rattle.job_answers.specs.declared.status.Status.{Status}
-use Rattle.job_answers.specs.declared.status.Status.TheVariants.{Done, Verified, Refuted, Usage, Text, NoMemory, Budget, ReadFault, WriteFault, Endless, Hier, Aiger}
+use Rattle.job_answers.specs.declared.status.Status.TheVariants.{Done, Verified, Refuted, Usage, Text}
+use Rattle.job_answers.specs.declared.status.Status.TheVariants.{NoMemory, Budget, ReadFault, WriteFault}
+use Rattle.job_answers.specs.declared.status.Status.TheVariants.{Endless, Hier, Aiger}
 
 abbrev pub status_text : Status → Bytes
 status_text Done = codes "done"

@@ -30,13 +30,16 @@ aiger_answer reason = Aiger reason
 
 -- the answer tells this refusal
 abbrev pub TellsBlif : blif.Refusal → Status → Type 0
-TellsBlif refusal answer = (reason : BlifRefusal) × (blif_text.refusal_of reason ≡ Some refusal) × (answer ≡ Text reason)
+TellsBlif refusal answer = (reason : BlifRefusal) × (blif_text.refusal_of reason ≡ Some refusal)
+    × (answer ≡ Text reason)
 
 abbrev pub TellsHier : hierarchy.HierRefusal → Status → Type 0
-TellsHier refusal answer = (reason : HierRefusal) × (hier_blif.refusal_of reason ≡ Some refusal) × (answer ≡ Hier reason)
+TellsHier refusal answer = (reason : HierRefusal) × (hier_blif.refusal_of reason ≡ Some refusal)
+    × (answer ≡ Hier reason)
 
 abbrev pub TellsAiger : aiger.Refusal → Status → Type 0
-TellsAiger refusal answer = (reason : AigerRefusal) × (aiger_text.refusal_of reason ≡ Some refusal) × (answer ≡ Aiger reason)
+TellsAiger refusal answer = (reason : AigerRefusal) × (aiger_text.refusal_of reason ≡ Some refusal)
+    × (answer ≡ Aiger reason)
 
 -- the answer tells a refusal of IN
 abbrev pub IsRefusal : Status → Type 0

@@ -1,4 +1,5 @@
-//! What a run answers: its status, with the exit number and the line on standard error, and the status that tells a refusal.
+//! What a run answers: its status, with the exit number and the line on standard error, and the status that
+//! tells a refusal.
 #![tactic(auto)]
 
 pub mod refused;

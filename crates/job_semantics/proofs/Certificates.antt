@@ -23,7 +23,8 @@ use Rattle.job_semantics.specs.Endings.{bundle_files}
 use Rattle.job_semantics.specs.declared.certificate_clause.Clause.{Clause}
 use Rattle.job_semantics.specs.Report.{Report}
 use Rattle.job_semantics.specs.Bundle.{BundleValue, bundle_report, bundle_text}
-use Rattle.job_semantics.specs.Certificate.{Texts, texts_of, moves_in, IsNetlist, IsReport, AreVectors, IsRefutation, IsShownMinimal, AreCounts, OfNet, OfReport, OfBoth, Holds, Certifies, IsFirstFailing}
+use Rattle.job_semantics.specs.Certificate.{Texts, texts_of, moves_in, IsNetlist, IsReport, AreVectors, IsRefutation, IsShownMinimal, AreCounts, OfNet, OfReport, OfBoth, Holds, Certifies}
+use Rattle.job_semantics.specs.Certificate.{IsFirstFailing}
 use Rattle.job_semantics.specs.CertificateLaws.{IsVerified, VerifiedLaw, IsRightBundle, HeldCertificateLaw, FirstFailingLaw}
 use Rattle.job_semantics.proofs.BundleFiles.{bundle_files-holds}
 use Rattle.job_semantics.proofs.ReportTexts.{AreFew, one_report}

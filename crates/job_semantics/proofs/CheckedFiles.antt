@@ -18,7 +18,8 @@ use Rattle.job_semantics.specs.Input.{IsReadAs, IsRefusedFor}
 use Rattle.job_semantics.specs.Certificate.{Texts, texts_of, Certifies, IsFirstFailing}
 use Rattle.job_semantics.specs.Synthesis.{InputRefused, synth_bundle}
 use Rattle.job_semantics.specs.Bundle.{bundle_text}
-use Rattle.job_semantics.specs.Checking.{AreCheckFilesHeld, IsLeftAlone, CheckRefuted, CheckReadFault, CheckEnd, verified, refuted, refused, out_of_memory, not_read, endless, IsQuietCheck, AreShort, IsVerifiedEnd, IsEndlessEnd, IsVerifiedOrNoMemory, Verifies}
+use Rattle.job_semantics.specs.Checking.{AreCheckFilesHeld, IsLeftAlone, CheckRefuted, CheckReadFault, CheckEnd, verified, refuted, refused, out_of_memory, not_read, endless, IsQuietCheck, AreShort}
+use Rattle.job_semantics.specs.Checking.{IsVerifiedEnd, IsEndlessEnd, IsVerifiedOrNoMemory, Verifies}
 use Rattle.job_semantics.specs.CheckingLaws.{CheckedFilesLaw, JoinedRunsLaw}
 use Rattle.job_semantics.proofs.BundleFiles.{bundle_files-others}
 use Rattle.job_semantics.proofs.Certificates.{first_failing_law}
@@ -131,7 +132,8 @@ other_word false false true is = cc
 other_word false false false is = refl
 
 -- files of a bundle were written, and IN is none of them
-module _ (metric : Metric) (bound : ℕ) (input stem : Bytes) (words : IsTrue (are_file_words input stem)) (a b : Held) (text : Texts) (exact : NetValue) (written : b ≡ with_files a (bundle_files stem text)) where
+module _ (metric : Metric) (bound : ℕ) (input stem : Bytes) (words : IsTrue (are_file_words input stem)) (a b : Held) (text : Texts) (exact : NetValue)
+    (written : b ≡ with_files a (bundle_files stem text)) where
   input_stays : get b input ≡ get a input
   input_stays =
       ap (λ h. get h input) written

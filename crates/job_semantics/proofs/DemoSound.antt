@@ -1,5 +1,6 @@
 -- The demonstration's net is sound and small: its names differ by letter or number, and each table reads what stands before it.
-use Rattle.std.proofs.Common.{◌≡◌, ◌≢◌, ℕ, zero, suc, ◌+◌, ◌-◌, ◌*◌, ◌^◌, ◌<◌, ◌≤◌, ◌==◌, List, [], ◌∷◌, ◌++◌, map, length, drop, get_or, All, AllPairs, decimal, codes, cond, inl, inr, refl, ap, sym, subst, ◌∙◌, arith}
+use Rattle.std.proofs.Common.{◌≡◌, ◌≢◌, ℕ, zero, suc, ◌+◌, ◌-◌, ◌*◌, ◌^◌, ◌<◌, ◌≤◌, ◌==◌, List, [], ◌∷◌, ◌++◌, map, length, drop, get_or, All, AllPairs, decimal, codes, cond, inl, inr, refl, ap, sym}
+use Rattle.std.proofs.Common.{subst, ◌∙◌, arith}
 use Rattle.std.specs.List.{range_with_len}
 use Rattle.std.proofs.lemmas.Bool.{cases_lt}
 use Rattle.std.proofs.lemmas.Fmt.{decimal_injective}
@@ -115,7 +116,8 @@ unfolding demo_net
 demo_model w = record {
   not_empty = omega arith;
   short = omega arith;
-  printable = All-from_recursion IsNameByte (codes "demo") ((omega arith, omega arith, omega arith), ((omega arith, omega arith, omega arith), ((omega arith, omega arith, omega arith), ((omega arith, omega arith, omega arith), tt))));
+  printable = All-from_recursion IsNameByte (codes "demo")
+      ((omega arith, omega arith, omega arith), ((omega arith, omega arith, omega arith), ((omega arith, omega arith, omega arith), ((omega arith, omega arith, omega arith), tt))));
   ending = λ e. omega (arith, e);
 }
 
@@ -160,7 +162,8 @@ all_tables w P h t d within = subst P (sym (get_or_default (demo_net w).tables t
 demo_reads : (w : ℕ) → All (λ t. All (λ s. s < signal_count (demo_net w)) t.pins) (demo_net w).tables
 demo_reads w =
     all_tables w (λ u. All (λ s. s < signal_count (demo_net w)) u.pins)
-    (λ t within. All-weaker (λ s. s < w + w + t) (λ s. s < signal_count (demo_net w)) (λ s below. omega (arith, below, within, demo_inputs w)) (table_at (demo_net w).tables t).pins (demo_in_order w t within))
+    (λ t within. All-weaker (λ s. s < w + w + t) (λ s. s < signal_count (demo_net w)) (λ s below. omega (arith, below, within, demo_inputs w)) (table_at (demo_net w).tables t).pins
+    (demo_in_order w t within))
 
 outputs_below : (w : ℕ) → 1 ≤ w → All (λ s. s < w + w + 2 * w) (demo_net w).outputs
 unfolding demo_net

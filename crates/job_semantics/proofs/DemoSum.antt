@@ -76,7 +76,8 @@ fits_values w x v h = record {
       ap v place ∙ h.table (2 * k + 1) (omega (arith, within, demo_tables w)) ∙ ap (λ t. table_value t v) (carry_table_at w k within);
 }
 
-demo_values : (w : ℕ) (x : List Bool) → outputs_of (demo_net w) x ≡ map (value_of (input_count (demo_net w)) (demo_net w).tables x) (map (sum_signal w) (range_with_len 0 w) ++ carry_signal w (w - 1) ∷ [])
+demo_values : (w : ℕ) (x : List Bool) → outputs_of (demo_net w) x
+    ≡ map (value_of (input_count (demo_net w)) (demo_net w).tables x) (map (sum_signal w) (range_with_len 0 w) ++ carry_signal w (w - 1) ∷ [])
 unfolding outputs_of demo_net
 demo_values w x = refl
 

@@ -41,7 +41,8 @@ unfolding demo_net
 demo_tables w = stages_count w 0 w
 
 -- what holds of each stage's tables at their places holds of every table at its place
-each_from : (w : ℕ) (P : ℕ → TableValue → Type 0) (i n : ℕ) → ((k : ℕ) → k < i + n → P (2 * k) (sum_table w k)) → ((k : ℕ) → k < i + n → P (2 * k + 1) (carry_table w k)) → (t : ℕ) → t < 2 * n → P (2 * i + t) (table_at (stages w i n) t)
+each_from : (w : ℕ) (P : ℕ → TableValue → Type 0) (i n : ℕ) → ((k : ℕ) → k < i + n → P (2 * k) (sum_table w k)) → ((k : ℕ) → k < i + n → P (2 * k + 1) (carry_table w k)) → (t : ℕ) → t < 2 * n
+    → P (2 * i + t) (table_at (stages w i n) t)
 each_from w P i zero sum carry t within = absurd (omega arith)
 each_from w P i (suc n) sum carry zero within = let place : 2 * i ≡ 2 * i + 0 = omega arith in subst (λ p. P p (sum_table w i)) place (sum i (omega arith))
 each_from w P i (suc n) sum carry (suc zero) within = carry i (omega arith)
@@ -50,7 +51,8 @@ each_from w P i (suc n) sum carry (suc (suc t)) within =
     subst (λ p. P p (table_at (stages w (i + 1) n) t)) place
     (each_from w P (i + 1) n (λ k low. sum k (omega arith)) (λ k low. carry k (omega arith)) t (omega arith))
 
-pub each_table : (w : ℕ) (P : ℕ → TableValue → Type 0) → ((k : ℕ) → k < w → P (2 * k) (sum_table w k)) → ((k : ℕ) → k < w → P (2 * k + 1) (carry_table w k)) → (t : ℕ) → t < table_count (demo_net w) → P t (table_at (demo_net w).tables t)
+pub each_table : (w : ℕ) (P : ℕ → TableValue → Type 0) → ((k : ℕ) → k < w → P (2 * k) (sum_table w k)) → ((k : ℕ) → k < w → P (2 * k + 1) (carry_table w k)) → (t : ℕ) → t < table_count (demo_net w)
+    → P t (table_at (demo_net w).tables t)
 unfolding demo_net
 each_table w P sum carry t within =
     let place : 2 * 0 + t ≡ t = omega arith in

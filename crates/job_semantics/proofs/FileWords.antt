@@ -3,7 +3,8 @@ use Rattle.std.proofs.Common.{◌≡◌, Bool, true, false, List, [], ◌∷◌,
 use Rattle.std.specs.Prelude.{IsTrue, IfSome, bytes_eq, codes}
 use Rattle.semantics.specs.Texts.{Bytes}
 use Rattle.semantics.specs.Optional.{◌>>=◌}
-use Rattle.job_semantics.specs.Job.{Job, synth, check, demo, flat, aag, blif, trim, metric_of, bound_of, conflicts_of, width_of, are_file_words, are_conversion_words, are_trim_words, synth_of, check_of, demo_of, conversion_of, trim_of, job_of}
+use Rattle.job_semantics.specs.Job.{Job, synth, check, demo, flat, aag, blif, trim, metric_of, bound_of, conflicts_of, width_of, are_file_words, are_conversion_words, are_trim_words, synth_of}
+use Rattle.job_semantics.specs.Job.{check_of, demo_of, conversion_of, trim_of, job_of}
 use Rattle.job_semantics.specs.CheckingLaws.{FileWordsLaw}
 
 -- the job's files are named as they must be

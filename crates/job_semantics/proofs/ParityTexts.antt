@@ -44,7 +44,8 @@ first_word One = codes "salsa 1"
 first_word Two = codes "salsa 2"
 
 pub all_eight : List (List Bool)
-all_eight = (false ∷ false ∷ false ∷ []) ∷ (true ∷ false ∷ false ∷ []) ∷ (false ∷ true ∷ false ∷ []) ∷ (true ∷ true ∷ false ∷ []) ∷ (false ∷ false ∷ true ∷ []) ∷ (true ∷ false ∷ true ∷ []) ∷ (false ∷ true ∷ true ∷ []) ∷ (true ∷ true ∷ true ∷ []) ∷ []
+all_eight = (false ∷ false ∷ false ∷ []) ∷ (true ∷ false ∷ false ∷ []) ∷ (false ∷ true ∷ false ∷ []) ∷ (true ∷ true ∷ false ∷ []) ∷ (false ∷ false ∷ true ∷ []) ∷ (true ∷ false ∷ true ∷ [])
+    ∷ (false ∷ true ∷ true ∷ []) ∷ (true ∷ true ∷ true ∷ []) ∷ []
 
 pub netlist_read : (first_line formula log : Bytes) → IsNetlist (parity_texts first_line formula log) conjunction_by_parity
 unfolding text_of first_ungrounded logical_lines first_wrong named_net numbered blif_reading
@@ -72,8 +73,103 @@ counts version = record { old_tables = refl; new_tables = refl; old_literals = r
 -- each move of version 1 is broken by some vector
 pub old_moves_break : AreBrokenBySome Abs conjunction_by_parity 0 conjunction_by_parity ((false ∷ false ∷ false ∷ []) ∷ all_eight) (old_moves_of conjunction_by_parity)
 unfolding depends_within old_moves_of after_rounds value_of outputs_of net_error all_eight
-old_moves_break =
-    ((true ∷ true ∷ false ∷ [], (4, omega arith, refl), omega arith), ((false ∷ false ∷ false ∷ [], (1, omega arith, refl), omega arith), ((true ∷ true ∷ false ∷ [], (4, omega arith, refl), omega arith), ((false ∷ true ∷ true ∷ [], (7, omega arith, refl), omega arith), ((true ∷ false ∷ true ∷ [], (6, omega arith, refl), omega arith), ((false ∷ true ∷ false ∷ [], (3, omega arith, refl), omega arith), ((true ∷ false ∷ false ∷ [], (2, omega arith, refl), omega arith), ((true ∷ true ∷ true ∷ [], (8, omega arith, refl), omega arith), ((true ∷ true ∷ true ∷ [], (8, omega arith, refl), omega arith), ((false ∷ false ∷ false ∷ [], (1, omega arith, refl), omega arith), ((true ∷ true ∷ true ∷ [], (8, omega arith, refl), omega arith), ((false ∷ false ∷ false ∷ [], (1, omega arith, refl), omega arith), ((true ∷ false ∷ false ∷ [], (2, omega arith, refl), omega arith), ((false ∷ false ∷ false ∷ [], (1, omega arith, refl), omega arith), ((false ∷ true ∷ false ∷ [], (3, omega arith, refl), omega arith), ((false ∷ false ∷ false ∷ [], (1, omega arith, refl), omega arith), ((true ∷ true ∷ false ∷ [], (4, omega arith, refl), omega arith), ((false ∷ false ∷ false ∷ [], (1, omega arith, refl), omega arith), ((true ∷ true ∷ false ∷ [], (4, omega arith, refl), omega arith), ((false ∷ false ∷ false ∷ [], (1, omega arith, refl), omega arith), ((true ∷ true ∷ true ∷ [], (8, omega arith, refl), omega arith), ((true ∷ true ∷ false ∷ [], (4, omega arith, refl), omega arith), ((false ∷ false ∷ false ∷ [], (1, omega arith, refl), omega arith), ((false ∷ false ∷ true ∷ [], (5, omega arith, refl), omega arith), ((false ∷ false ∷ true ∷ [], (5, omega arith, refl), omega arith), ((false ∷ false ∷ false ∷ [], (1, omega arith, refl), omega arith), ((true ∷ false ∷ false ∷ [], (2, omega arith, refl), omega arith), ((false ∷ false ∷ false ∷ [], (1, omega arith, refl), omega arith), ((false ∷ true ∷ false ∷ [], (3, omega arith, refl), omega arith), ((false ∷ false ∷ false ∷ [], (1, omega arith, refl), omega arith), ((true ∷ true ∷ false ∷ [], (4, omega arith, refl), omega arith), ((false ∷ false ∷ false ∷ [], (1, omega arith, refl), omega arith), ((false ∷ false ∷ true ∷ [], (5, omega arith, refl), omega arith), ((false ∷ false ∷ false ∷ [], (1, omega arith, refl), omega arith), tt))))))))))))))))))))))))))))))))))
+old_moves_break = (
+  (true ∷ true ∷ false ∷ [], (4, omega arith, refl), omega arith),
+  (
+    (false ∷ false ∷ false ∷ [], (1, omega arith, refl), omega arith),
+    (
+      (true ∷ true ∷ false ∷ [], (4, omega arith, refl), omega arith),
+      (
+        (false ∷ true ∷ true ∷ [], (7, omega arith, refl), omega arith),
+        (
+          (true ∷ false ∷ true ∷ [], (6, omega arith, refl), omega arith),
+          (
+            (false ∷ true ∷ false ∷ [], (3, omega arith, refl), omega arith),
+            (
+              (true ∷ false ∷ false ∷ [], (2, omega arith, refl), omega arith),
+              (
+                (true ∷ true ∷ true ∷ [], (8, omega arith, refl), omega arith),
+                (
+                  (true ∷ true ∷ true ∷ [], (8, omega arith, refl), omega arith),
+                  (
+                    (false ∷ false ∷ false ∷ [], (1, omega arith, refl), omega arith),
+                    (
+                      (true ∷ true ∷ true ∷ [], (8, omega arith, refl), omega arith),
+                      (
+                        (false ∷ false ∷ false ∷ [], (1, omega arith, refl), omega arith),
+                        (
+                          (true ∷ false ∷ false ∷ [], (2, omega arith, refl), omega arith),
+                          (
+                            (false ∷ false ∷ false ∷ [], (1, omega arith, refl), omega arith),
+                            (
+                              (false ∷ true ∷ false ∷ [], (3, omega arith, refl), omega arith),
+                              (
+                                (false ∷ false ∷ false ∷ [], (1, omega arith, refl), omega arith),
+                                (
+                                  (true ∷ true ∷ false ∷ [], (4, omega arith, refl), omega arith),
+                                  (
+                                    (false ∷ false ∷ false ∷ [], (1, omega arith, refl), omega arith),
+                                    (
+                                      (true ∷ true ∷ false ∷ [], (4, omega arith, refl), omega arith),
+                                      (
+                                        (false ∷ false ∷ false ∷ [], (1, omega arith, refl), omega arith),
+                                        (
+                                          (true ∷ true ∷ true ∷ [], (8, omega arith, refl), omega arith),
+                                          (
+                                            (true ∷ true ∷ false ∷ [], (4, omega arith, refl), omega arith),
+                                            (
+                                              (false ∷ false ∷ false ∷ [], (1, omega arith, refl), omega arith),
+                                              (
+                                                (false ∷ false ∷ true ∷ [], (5, omega arith, refl), omega arith),
+                                                (
+                                                  (false ∷ false ∷ true ∷ [], (5, omega arith, refl), omega arith),
+                                                  (
+                                                    (false ∷ false ∷ false ∷ [], (1, omega arith, refl), omega arith),
+                                                    (
+                                                      (true ∷ false ∷ false ∷ [], (2, omega arith, refl), omega arith),
+                                                      (
+                                                        (false ∷ false ∷ false ∷ [], (1, omega arith, refl), omega arith),
+                                                        (
+                                                          (false ∷ true ∷ false ∷ [], (3, omega arith, refl), omega arith),
+                                                          (
+                                                            (false ∷ false ∷ false ∷ [], (1, omega arith, refl), omega arith),
+                                                            (
+                                                              (true ∷ true ∷ false ∷ [], (4, omega arith, refl), omega arith),
+                                                              (
+                                                                (false ∷ false ∷ false ∷ [], (1, omega arith, refl), omega arith),
+                                                                ((false ∷ false ∷ true ∷ [], (5, omega arith, refl), omega arith), ((false ∷ false ∷ false ∷ [], (1, omega arith, refl), omega arith), tt)),
+                                                              ),
+                                                            ),
+                                                          ),
+                                                        ),
+                                                      ),
+                                                    ),
+                                                  ),
+                                                ),
+                                              ),
+                                            ),
+                                          ),
+                                        ),
+                                      ),
+                                    ),
+                                  ),
+                                ),
+                              ),
+                            ),
+                          ),
+                        ),
+                      ),
+                    ),
+                  ),
+                ),
+              ),
+            ),
+          ),
+        ),
+      ),
+    ),
+  ),
+)
 
 -- ---- the move to the conjunction of u and v
 

@@ -1,6 +1,7 @@
--- The certificate that the five texts of a bundle are: ten clauses, tested in order. Source: this tool's own bundles; that no error
--- exceeds the maximum is shown by a refuted miter, as in equivalence checking by SAT.
-use Rattle.std.specs.Prelude.{◌≡◌, ℕ, ◌^◌, ◌<◌, ◌≤◌, Bool, IsTrue, nat_le, List, [], ◌∷◌, ◌++◌, length, filter, Contains, Ok}
+-- The certificate that the five texts of a bundle are: ten clauses, tested in order. Source: this tool's own
+-- bundles; that no error exceeds the maximum is shown by a refuted miter, as in equivalence checking by SAT.
+use Rattle.std.specs.Prelude.{◌≡◌, ℕ, ◌^◌, ◌<◌, ◌≤◌, Bool, IsTrue, nat_le, List, [], ◌∷◌, ◌++◌, length}
+use Rattle.std.specs.Prelude.{filter, Contains, Ok}
 use Rattle.std.specs.List.{AllByRecursion}
 use Rattle.std.specs.FinMap.{contains_key}
 use Rattle.semantics.specs.declared.limits.TheConstants.{MOST_BUNDLE_BYTES, LARGEST_ERROR}
@@ -50,10 +51,12 @@ pub record IsReportText (inputs : ℕ) (metric : Metric) (bound : ℕ) (text : B
   pub same_bound : r.bound ≡ bound
   pub maximum : r.maximum ≤ LARGEST_ERROR
   pub witness : length r.witness ≡ inputs
-  pub counts : AllByRecursion (λ count. count < 2 ^ 32) (r.old_tables ∷ r.new_tables ∷ r.old_literals ∷ r.new_literals ∷ [])
+  pub counts : AllByRecursion (λ count. count < 2 ^ 32)
+      (r.old_tables ∷ r.new_tables ∷ r.old_literals ∷ r.new_literals ∷ [])
 
 -- the text is one or more vectors of `inputs` bits, a line each, the witness first
-pub record IsVectorsText (inputs : ℕ) (text : Bytes) (witness : List Bool) (pool : List (List Bool)) : Type 0 where
+pub record IsVectorsText (inputs : ℕ) (text : Bytes) (witness : List Bool)
+    (pool : List (List Bool)) : Type 0 where
   pub spelled : text ≡ vectors_text witness pool
   pub widths : AllByRecursion (λ x. length x ≡ inputs) (witness ∷ pool)
 
@@ -65,7 +68,8 @@ abbrev pub AreVectors : NetValue → Texts → List Bool → List (List Bool) �
 AreVectors exact texts witness pool = IsVectorsText (input_count exact) (texts file.Vectors) witness pool
 
 -- `.lrat` is read to its end as a log that refutes the miter at the maximum
-pub record IsRefutation (exact approx : NetValue) (metric : Metric) (maximum : ℕ) (texts : Texts) (log : List LogItem) : Type 0 where
+pub record IsRefutation (exact approx : NetValue) (metric : Metric) (maximum : ℕ) (texts : Texts)
+    (log : List LogItem) : Type 0 where
   pub read : lrat_items (texts file.Log) ≡ Ok log
   pub refutes : Refutes (miter exact approx metric maximum).clauses log
 
@@ -106,13 +110,22 @@ abbrev pub Holds : NetValue → Metric → ℕ → Texts → Clause → Type 0
 Holds exact metric bound texts clause.Netlist = (M : NetValue) × IsNetlist texts M
 Holds exact metric bound texts clause.Ports = OfNet texts (HasSamePorts exact)
 Holds exact metric bound texts clause.ReportForm = (r : Report) × IsReport exact metric bound texts r
-Holds exact metric bound texts clause.MaximumWithin = OfReport exact metric bound texts (λ r. r.maximum ≤ bound)
-Holds exact metric bound texts clause.Witness = OfReport exact metric bound texts (λ r. (pool : List (List Bool)) × AreVectors exact texts r.witness pool)
-Holds exact metric bound texts clause.Attained = OfBoth exact metric bound texts (λ M r. net_error metric exact M r.witness ≡ r.maximum)
-Holds exact metric bound texts clause.Formula = OfBoth exact metric bound texts (λ M r. texts file.Formula ≡ dimacs_text (miter exact M metric r.maximum))
-Holds exact metric bound texts clause.Log = OfBoth exact metric bound texts (λ M r. (log : List LogItem) × IsRefutation exact M metric r.maximum texts log)
+Holds exact metric bound texts clause.MaximumWithin
+    = OfReport exact metric bound texts (λ r. r.maximum ≤ bound)
+Holds exact metric bound texts clause.Witness
+    = OfReport exact metric bound texts
+    (λ r. (pool : List (List Bool)) × AreVectors exact texts r.witness pool)
+Holds exact metric bound texts clause.Attained
+    = OfBoth exact metric bound texts (λ M r. net_error metric exact M r.witness ≡ r.maximum)
+Holds exact metric bound texts clause.Formula
+    = OfBoth exact metric bound texts
+    (λ M r. texts file.Formula ≡ dimacs_text (miter exact M metric r.maximum))
+Holds exact metric bound texts clause.Log
+    = OfBoth exact metric bound texts
+    (λ M r. (log : List LogItem) × IsRefutation exact M metric r.maximum texts log)
 Holds exact metric bound texts clause.Counts = OfBoth exact metric bound texts (AreCounts exact)
-Holds exact metric bound texts clause.Minimal = OfBoth exact metric bound texts (IsShownMinimal exact metric bound texts)
+Holds exact metric bound texts clause.Minimal
+    = OfBoth exact metric bound texts (IsShownMinimal exact metric bound texts)
 
 abbrev pub certificate_clauses : List Clause
 certificate_clauses =
@@ -124,7 +137,8 @@ abbrev pub Certifies : NetValue → Metric → ℕ → Texts → Type 0
 Certifies exact metric bound texts = AllByRecursion (Holds exact metric bound texts) certificate_clauses
 
 -- the clauses before c hold, and c does not
-pub record IsFirstFailing (exact : NetValue) (metric : Metric) (bound : ℕ) (texts : Texts) (c : Clause) : Type 0 where
+pub record IsFirstFailing (exact : NetValue) (metric : Metric) (bound : ℕ) (texts : Texts)
+    (c : Clause) : Type 0 where
   pub before : List Clause
   pub after : List Clause
   pub order : certificate_clauses ≡ before ++ c ∷ after
@@ -154,13 +168,16 @@ first_needing file.Log = clause.Log
 
 -- a clause needs the files of the clauses before it and its own
 abbrev pub needed_endings : Clause → List Ending
-needed_endings c = filter (λ ending. nat_le (clause_number (first_needing ending)) (clause_number c)) bundle_endings
+needed_endings c = filter (λ ending. nat_le (clause_number (first_needing ending)) (clause_number c))
+    bundle_endings
 
 -- the file is needed for the verdict: where some clause fails first, that clause needs it
 abbrev pub IsNeededFor : NetValue → Metric → ℕ → Texts → Ending → Type 0
-IsNeededFor exact metric bound texts ending = (c : Clause) → IsFirstFailing exact metric bound texts c → Contains (needed_endings c) ending
+IsNeededFor exact metric bound texts ending = (c : Clause) → IsFirstFailing exact metric bound texts c
+    → Contains (needed_endings c) ending
 
 -- each file that is needed for the verdict is held
 abbrev pub AreNeededHeld : NetValue → Metric → ℕ → Bytes → Held → Type 0
 AreNeededHeld exact metric bound stem held =
-    (ending : Ending) → IsNeededFor exact metric bound (texts_of held stem) ending → IsTrue (contains_key held (bundle_name stem ending))
+    (ending : Ending) → IsNeededFor exact metric bound (texts_of held stem) ending
+    → IsTrue (contains_key held (bundle_name stem ending))

@@ -3,7 +3,8 @@ use Rattle.std.specs.Prelude.{◌≡◌, ℕ, ◌^◌, ◌<◌, ◌≤◌, Bool,
 use Rattle.std.specs.List.{AllByRecursion}
 use Rattle.semantics.specs.declared.limits.TheConstants.{LARGEST_ERROR}
 use Rattle.semantics.specs.Texts.{Bytes}
-use Rattle.semantics.specs.Net.{NetValue, input_count, table_count, literal_count, HasSamePorts, IsSound, IsSmall}
+use Rattle.semantics.specs.Net.{NetValue, input_count, table_count, literal_count, HasSamePorts, IsSound}
+use Rattle.semantics.specs.Net.{IsSmall}
 use Rattle.semantics.specs.Error.{net_error, IsWithin}
 use Rattle.semantics.specs.declared.metric.Metric.{Metric}
 use Rattle.chain_semantics.specs.Minimality.{AreBrokenBySome}
@@ -16,12 +17,14 @@ use Rattle.job_semantics.specs.declared.certificate_clause.Clause.{Clause}
 use Rattle.job_semantics.specs.Endings.{bundle_files}
 use Rattle.job_semantics.specs.Report.{Report}
 use Rattle.job_semantics.specs.Bundle.{BundleValue, bundle_text}
-use Rattle.job_semantics.specs.Certificate.{Texts, OfBundle, moves_in, IsNetlist, IsReport, AreVectors, Certifies, IsFirstFailing}
+use Rattle.job_semantics.specs.Certificate.{Texts, OfBundle, moves_in, IsNetlist, IsReport, AreVectors}
+use Rattle.job_semantics.specs.Certificate.{Certifies, IsFirstFailing}
 
 -- On every input the error of the approximate net is at most the report's maximum, which is within the bound
 -- and attained at the witness. The approximate net has no more tables and no more literals than the exact
 -- one. Where the report says so, no move of the approximate net that the report's version knows is allowed.
-pub record IsVerified (exact : NetValue) (metric : Metric) (bound : ℕ) (approx : NetValue) (r : Report) : Type 0 where
+pub record IsVerified (exact : NetValue) (metric : Metric) (bound : ℕ) (approx : NetValue)
+    (r : Report) : Type 0 where
   pub ports : HasSamePorts exact approx
   pub safe : IsWithin metric exact r.maximum approx
   pub within : r.maximum ≤ bound
@@ -29,19 +32,24 @@ pub record IsVerified (exact : NetValue) (metric : Metric) (bound : ℕ) (approx
   pub attained : net_error metric exact approx r.witness ≡ r.maximum
   pub tables : table_count approx ≤ table_count exact
   pub literals : literal_count approx ≤ literal_count exact
-  pub minimal : IsTrue r.minimal → AllByRecursion (λ m. ¬ IsAllowedMove metric exact bound approx m) (moves_in r.version approx)
+  pub minimal : IsTrue r.minimal
+      → AllByRecursion (λ m. ¬ IsAllowedMove metric exact bound approx m) (moves_in r.version approx)
 
--- The verified-bundle theorem: the texts of a certificate have one net, one report and one list of vectors, and these are verified.
+-- The verified-bundle theorem: the texts of a certificate have one net, one report and one list of vectors,
+-- and these are verified.
 pub record VerifiedLaw : Type 0 where
-  pub read : (exact : NetValue) (metric : Metric) (bound : ℕ) (texts : Texts) → Certifies exact metric bound texts
+  pub read : (exact : NetValue) (metric : Metric) (bound : ℕ) (texts : Texts)
+      → Certifies exact metric bound texts
       → (approx : NetValue) × (r : Report) × IsNetlist texts approx × IsReport exact metric bound texts r
   pub one_net : (texts : Texts) (N M : NetValue) → IsNetlist texts N → IsNetlist texts M → N ≡ M
   pub one_report : (exact : NetValue) (metric : Metric) (bound : ℕ) (texts : Texts) (r s : Report)
       → IsReport exact metric bound texts r → IsReport exact metric bound texts s → r ≡ s
   pub one_pool : (exact : NetValue) (texts : Texts) (witness : List Bool) (pool others : List (List Bool))
       → AreVectors exact texts witness pool → AreVectors exact texts witness others → pool ≡ others
-  pub verified : (exact : NetValue) (metric : Metric) (bound : ℕ) (texts : Texts) → IsSound exact → Certifies exact metric bound texts
-      → (approx : NetValue) (r : Report) → IsNetlist texts approx → IsReport exact metric bound texts r → IsVerified exact metric bound approx r
+  pub verified : (exact : NetValue) (metric : Metric) (bound : ℕ) (texts : Texts) → IsSound exact
+      → Certifies exact metric bound texts
+      → (approx : NetValue) (r : Report) → IsNetlist texts approx → IsReport exact metric bound texts r
+      → IsVerified exact metric bound approx r
 
 -- a bundle of small nets that holds what it says
 pub record IsRightBundle (b : BundleValue) : Type 0 where
@@ -61,11 +69,13 @@ pub record IsRightBundle (b : BundleValue) : Type 0 where
   pub derivation : IsDerivation b.goal b.log
   pub tables : table_count b.approx ≤ table_count b.exact
   pub literals : literal_count b.approx ≤ literal_count b.exact
-  pub minimal : IsTrue b.minimal → AreBrokenBySome b.metric b.exact b.bound b.approx (b.witness ∷ b.pool) (moves_in b.version b.approx)
+  pub minimal : IsTrue b.minimal
+      → AreBrokenBySome b.metric b.exact b.bound b.approx (b.witness ∷ b.pool) (moves_in b.version b.approx)
 
 -- the texts of such a bundle are a certificate
 abbrev pub WrittenCertificateLaw : Type 0
-WrittenCertificateLaw = (b : BundleValue) → IsRightBundle b → Certifies b.exact b.metric b.bound (bundle_text b)
+WrittenCertificateLaw = (b : BundleValue) → IsRightBundle b
+    → Certifies b.exact b.metric b.bound (bundle_text b)
 
 -- texts with a clause that fails first are no certificate, and no other clause is the first that fails
 pub record FirstFailingLaw : Type 0 where
@@ -74,7 +84,9 @@ pub record FirstFailingLaw : Type 0 where
   pub only : (exact : NetValue) (metric : Metric) (bound : ℕ) (texts : Texts) (c d : Clause)
       → IsFirstFailing exact metric bound texts c → IsFirstFailing exact metric bound texts d → c ≡ d
 
--- The written-bundle theorem: once the files of such a bundle were written, the files that are held are a certificate.
+-- The written-bundle theorem: once the files of such a bundle were written, the files that are held are a
+-- certificate.
 abbrev pub HeldCertificateLaw : Type 0
-HeldCertificateLaw = (b : BundleValue) → IsRightBundle b → (stem : Bytes) (old new : FilesTold) → FilesWritten old new (bundle_files stem (bundle_text b))
+HeldCertificateLaw = (b : BundleValue) → IsRightBundle b → (stem : Bytes) (old new : FilesTold)
+    → FilesWritten old new (bundle_files stem (bundle_text b))
     → OfBundle old new stem (Certifies b.exact b.metric b.bound)

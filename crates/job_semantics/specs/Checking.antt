@@ -6,10 +6,12 @@ use Rattle.semantics.specs.Texts.{Bytes}
 use Rattle.semantics.specs.Net.{NetValue}
 use Rattle.semantics.specs.declared.metric.Metric.{Metric}
 use Rattle.blif_semantics.specs.Reading.{Refusal}
-use Rattle.outside_semantics.specs.Outside.{Held, FilesTold, SinkTold, Goes, Rose, WhereTold, IsReadOut, turn_budget, bytes_of}
+use Rattle.outside_semantics.specs.Outside.{Held, FilesTold, SinkTold, Goes, Rose, WhereTold, IsReadOut}
+use Rattle.outside_semantics.specs.Outside.{turn_budget, bytes_of}
 use Rattle.job_semantics.specs.declared.certificate_clause.Clause.{Clause}
 use Rattle.job_semantics.specs.declared.ending.Ending.{Ending}
-use Rattle.job_semantics.specs.Certificate.{Texts, texts_of, OfBundle, IsNetlist, IsReport, Certifies, IsFirstFailing, IsNeededFor, AreNeededHeld}
+use Rattle.job_semantics.specs.Certificate.{Texts, texts_of, OfBundle, IsNetlist, IsReport, Certifies}
+use Rattle.job_semantics.specs.Certificate.{IsFirstFailing, IsNeededFor, AreNeededHeld}
 use Rattle.job_semantics.specs.CertificateLaws.{IsVerified}
 use Rattle.job_semantics.specs.Endings.{bundle_name}
 use Rattle.job_semantics.specs.Input.{IsReadAs, IsRefusedFor}
@@ -20,14 +22,17 @@ use Rattle.job_semantics.specs.Synthesis.{OfInput, InputRefused, IsQuiet}
 -- verdict
 pub record AreCheckFilesHeld (metric : Metric) (bound : ℕ) (input stem : Bytes) (held : Held) : Type 0 where
   pub input_held : IsTrue (contains_key held input)
-  pub bundle_held : (exact : NetValue) → IsReadAs (bytes_of held input) exact → AreNeededHeld exact metric bound stem held
+  pub bundle_held : (exact : NetValue) → IsReadAs (bytes_of held input) exact
+      → AreNeededHeld exact metric bound stem held
 
 -- No file changed, no count of faults fell, no steady name was lost, and the sink tells what it told. Where
 -- the files that are needed are held, what was told is still told.
-pub record IsLeftAlone (metric : Metric) (bound : ℕ) (input stem : Bytes) (old new : FilesTold) (said says : SinkTold) : Type 0 where
+pub record IsLeftAlone (metric : Metric) (bound : ℕ) (input stem : Bytes) (old new : FilesTold)
+    (said says : SinkTold) : Type 0 where
   pub goes : Goes old new
   pub files : WhereTold old new (λ a b. b ≡ a)
-  pub still_told : (a : Held) → old.held ≡ Some a → AreCheckFilesHeld metric bound input stem a → new.held ≡ Some a
+  pub still_told : (a : Held) → old.held ≡ Some a → AreCheckFilesHeld metric bound input stem a
+      → new.held ≡ Some a
   pub sink : says ≡ said
 
 -- on every input the error of the bundle's net against the original is at most the report's maximum, which is
@@ -41,7 +46,8 @@ pub record ShowsItsBound (exact : NetValue) (metric : Metric) (bound : ℕ) (tex
   pub verified : IsVerified exact metric bound approx report
 
 -- verified: the texts are a certificate, and this is what it shows
-pub record CheckVerified (metric : Metric) (bound : ℕ) (input stem : Bytes) (old new : FilesTold) (said says : SinkTold) : Type 0 where
+pub record CheckVerified (metric : Metric) (bound : ℕ) (input stem : Bytes) (old new : FilesTold)
+    (said says : SinkTold) : Type 0 where
   pub untouched : IsLeftAlone metric bound input stem old new said says
   pub exact : NetValue
   pub read : OfInput old new input (λ text. IsReadAs text exact)
@@ -49,30 +55,35 @@ pub record CheckVerified (metric : Metric) (bound : ℕ) (input stem : Bytes) (o
   pub shows : OfBundle old new stem (ShowsItsBound exact metric bound)
 
 -- refuted: this clause is the first that fails
-pub record CheckRefuted (c : Clause) (metric : Metric) (bound : ℕ) (input stem : Bytes) (old new : FilesTold) (said says : SinkTold) : Type 0 where
+pub record CheckRefuted (c : Clause) (metric : Metric) (bound : ℕ) (input stem : Bytes) (old new : FilesTold)
+    (said says : SinkTold) : Type 0 where
   pub untouched : IsLeftAlone metric bound input stem old new said says
   pub exact : NetValue
   pub read : OfInput old new input (λ text. IsReadAs text exact)
   pub failing : OfBundle old new stem (λ texts. IsFirstFailing exact metric bound texts c)
 
--- A check job needs the file of this ending: IN is accepted, and the file is needed for the verdict. Where the files are not told both at
--- entry and at exit, IN counts as accepted and no clause as failing.
+-- A check job needs the file of this ending: IN is accepted, and the file is needed for the verdict. Where
+-- the files are not told both at entry and at exit, IN counts as accepted and no clause as failing.
 abbrev pub IsNeeded : Metric → ℕ → Bytes → Bytes → FilesTold → FilesTold → Ending → Type 0
 IsNeeded metric bound input stem old new ending =
-    WhereTold old new (λ a b. (exact : NetValue) × IsReadAs (bytes_of a input) exact × IsNeededFor exact metric bound (texts_of b stem) ending)
+    WhereTold old new (λ a b. (exact : NetValue) × IsReadAs (bytes_of a input) exact
+    × IsNeededFor exact metric bound (texts_of b stem) ending)
 
 -- a fault came while a needed file was read, and that file is not steady
-pub record CheckReadFault (metric : Metric) (bound : ℕ) (input stem : Bytes) (old new : FilesTold) (said says : SinkTold) : Type 0 where
+pub record CheckReadFault (metric : Metric) (bound : ℕ) (input stem : Bytes) (old new : FilesTold)
+    (said says : SinkTold) : Type 0 where
   pub untouched : IsLeftAlone metric bound input stem old new said says
   pub rose : Rose old.faults new.faults
   pub not_steady :
       (old.steady_read input ≡ false)
-      ⊎ ((ending : Ending) × IsNeeded metric bound input stem old new ending × (old.steady_read (bundle_name stem ending) ≡ false))
+      ⊎ ((ending : Ending) × IsNeeded metric bound input stem old new ending
+      × (old.steady_read (bundle_name stem ending) ≡ false))
 
 -- A needed file goes on past the budget of turns: in this call there were at least `turn_budget` read turns
 -- on the file, each of which asked for at most 65,536 bytes and gave at least one. So, where the files are
 -- told, the file has at least `turn_budget` bytes.
-pub record CheckEndless (metric : Metric) (bound : ℕ) (input stem : Bytes) (old new : FilesTold) (said says : SinkTold) : Type 0 where
+pub record CheckEndless (metric : Metric) (bound : ℕ) (input stem : Bytes) (old new : FilesTold)
+    (said says : SinkTold) : Type 0 where
   pub untouched : IsLeftAlone metric bound input stem old new said says
   pub exact : NetValue
   pub read : OfInput old new input (λ text. IsReadAs text exact)
@@ -82,27 +93,38 @@ pub record CheckEndless (metric : Metric) (bound : ℕ) (input stem : Bytes) (ol
   pub long : OfBundle old new stem (λ texts. turn_budget ≤ length (texts ending))
 
 -- the files that a check job needs can be read
-pub record AreCheckFilesSteady (metric : Metric) (bound : ℕ) (input stem : Bytes) (old new : FilesTold) : Type 0 where
+pub record AreCheckFilesSteady (metric : Metric) (bound : ℕ) (input stem : Bytes)
+    (old new : FilesTold) : Type 0 where
   pub read : IsTrue (old.steady_read input)
-  pub bundle : (ending : Ending) → IsNeeded metric bound input stem old new ending → IsTrue (old.steady_read (bundle_name stem ending))
+  pub bundle : (ending : Ending) → IsNeeded metric bound input stem old new ending
+      → IsTrue (old.steady_read (bundle_name stem ending))
 
 abbrev pub IsQuietCheck : Metric → ℕ → Bytes → Bytes → FilesTold → FilesTold → SinkTold → SinkTold → Type 0
-IsQuietCheck metric bound input stem old new said says = IsQuiet (AreCheckFilesSteady metric bound input stem old new) old new said says
+IsQuietCheck metric bound input stem old new said says
+    = IsQuiet (AreCheckFilesSteady metric bound input stem old new) old new said says
 
 -- The answers of a check job, each with what it says.
-pub data CheckEnd (metric : Metric) (bound : ℕ) (input stem : Bytes) (old new : FilesTold) (said says : SinkTold) : Type 0 where
-  verified : CheckVerified metric bound input stem old new said says → CheckEnd metric bound input stem old new said says
-  refuted : (c : Clause) → CheckRefuted c metric bound input stem old new said says → CheckEnd metric bound input stem old new said says
-  refused : (refusal : Refusal) → InputRefused (λ text. IsRefusedFor text refusal) input old new said says → CheckEnd metric bound input stem old new said says
-  out_of_memory : IsLeftAlone metric bound input stem old new said says → CheckEnd metric bound input stem old new said says
-  not_read : CheckReadFault metric bound input stem old new said says → CheckEnd metric bound input stem old new said says
-  endless : CheckEndless metric bound input stem old new said says → CheckEnd metric bound input stem old new said says
+pub data CheckEnd (metric : Metric) (bound : ℕ) (input stem : Bytes) (old new : FilesTold)
+    (said says : SinkTold) : Type 0 where
+  verified : CheckVerified metric bound input stem old new said says
+      → CheckEnd metric bound input stem old new said says
+  refuted : (c : Clause) → CheckRefuted c metric bound input stem old new said says
+      → CheckEnd metric bound input stem old new said says
+  refused : (refusal : Refusal) → InputRefused (λ text. IsRefusedFor text refusal) input old new said says
+      → CheckEnd metric bound input stem old new said says
+  out_of_memory : IsLeftAlone metric bound input stem old new said says
+      → CheckEnd metric bound input stem old new said says
+  not_read : CheckReadFault metric bound input stem old new said says
+      → CheckEnd metric bound input stem old new said says
+  endless : CheckEndless metric bound input stem old new said says
+      → CheckEnd metric bound input stem old new said says
 
 -- each file of the bundle has fewer than 2^40 bytes
 abbrev pub AreShort : Bytes → Held → Type 0
 AreShort stem held = (ending : Ending) → length (texts_of held stem ending) < turn_budget
 
-abbrev pub IsVerifiedEnd : {metric : Metric} {bound : ℕ} {input stem : Bytes} {old new : FilesTold} {said says : SinkTold}
+abbrev pub IsVerifiedEnd : {metric : Metric} {bound : ℕ} {input stem : Bytes} {old new : FilesTold}
+    {said says : SinkTold}
     → CheckEnd metric bound input stem old new said says → Type 0
 IsVerifiedEnd (verified v) = Unit {0}
 IsVerifiedEnd (refuted c r) = ⊥
@@ -111,7 +133,8 @@ IsVerifiedEnd (out_of_memory left) = ⊥
 IsVerifiedEnd (not_read fault) = ⊥
 IsVerifiedEnd (endless e) = ⊥
 
-abbrev pub IsEndlessEnd : {metric : Metric} {bound : ℕ} {input stem : Bytes} {old new : FilesTold} {said says : SinkTold}
+abbrev pub IsEndlessEnd : {metric : Metric} {bound : ℕ} {input stem : Bytes} {old new : FilesTold}
+    {said says : SinkTold}
     → CheckEnd metric bound input stem old new said says → Type 0
 IsEndlessEnd (verified v) = ⊥
 IsEndlessEnd (refuted c r) = ⊥
@@ -121,7 +144,8 @@ IsEndlessEnd (not_read fault) = ⊥
 IsEndlessEnd (endless e) = Unit {0}
 
 -- verified, unless memory is wanting
-abbrev pub IsVerifiedOrNoMemory : {metric : Metric} {bound : ℕ} {input stem : Bytes} {old new : FilesTold} {said says : SinkTold}
+abbrev pub IsVerifiedOrNoMemory : {metric : Metric} {bound : ℕ} {input stem : Bytes} {old new : FilesTold}
+    {said says : SinkTold}
     → CheckEnd metric bound input stem old new said says → Type 0
 IsVerifiedOrNoMemory (verified v) = Unit {0}
 IsVerifiedOrNoMemory (refuted c r) = ⊥
@@ -133,5 +157,7 @@ IsVerifiedOrNoMemory (endless e) = ⊥
 -- A bundle that verifies: where each file of the bundle has fewer than 2^40 bytes, each quiet check of these
 -- files is verified, unless memory is wanting.
 abbrev pub Verifies : Metric → ℕ → Bytes → Bytes → Held → Type 0
-Verifies metric bound input stem held = (old new : FilesTold) (said says : SinkTold) → old.held ≡ Some held → AreShort stem held
-    → IsQuietCheck metric bound input stem old new said says → (end : CheckEnd metric bound input stem old new said says) → IsVerifiedOrNoMemory end
+Verifies metric bound input stem held = (old new : FilesTold) (said says : SinkTold) → old.held ≡ Some held
+    → AreShort stem held
+    → IsQuietCheck metric bound input stem old new said says
+    → (end : CheckEnd metric bound input stem old new said says) → IsVerifiedOrNoMemory end

@@ -1,7 +1,9 @@
--- The net of the demonstration: an adder of two words of w bits. Source: the ripple-carry adder, a half adder and then full adders.
--- The inputs are `a0`, `a1` and so on, and then `b0`, `b1` and so on. Stage i has two tables: its bit `si` of the sum, and its carry, which
--- is named for the next stage: `c1` is the carry of stage 0. So input `ai` is signal i, input `bi` is signal w + i, and table t is signal 2 * w + t.
-use Rattle.std.specs.Prelude.{◌≡◌, ℕ, zero, suc, ◌+◌, ◌-◌, ◌*◌, true, Bool, List, [], ◌∷◌, ◌++◌, map, flat_map, length, take, drop, decimal, codes}
+-- The net of the demonstration: an adder of two words of w bits. Source: the ripple-carry adder, a half adder
+-- and then full adders. The inputs are `a0`, `a1` and so on, and then `b0`, `b1` and so on. Stage i has two
+-- tables: its bit `si` of the sum, and its carry, which is named for the next stage: `c1` is the carry of
+-- stage 0. So input `ai` is signal i, input `bi` is signal w + i, and table t is signal 2 * w + t.
+use Rattle.std.specs.Prelude.{◌≡◌, ℕ, zero, suc, ◌+◌, ◌-◌, ◌*◌, true, Bool, List, [], ◌∷◌, ◌++◌, map}
+use Rattle.std.specs.Prelude.{flat_map, length, take, drop, decimal, codes}
 use Rattle.std.specs.List.{range_with_len}
 use Rattle.semantics.specs.Texts.{Bytes}
 use Rattle.semantics.specs.Net.{TableValue, NetValue}
@@ -34,17 +36,20 @@ abbrev pub demo_table : Bytes → Form → TableValue
 demo_table name f = record { name = name; pins = f.pins; rows = f.rows; plane = true }
 
 abbrev pub stage_tables : ℕ → ℕ → List TableValue
-stage_tables w i = demo_table (demo_name (codes "s") i) (sum_form w i) ∷ demo_table (demo_name (codes "c") (i + 1)) (carry_form w i) ∷ []
+stage_tables w i = demo_table (demo_name (codes "s") i) (sum_form w i)
+    ∷ demo_table (demo_name (codes "c") (i + 1)) (carry_form w i) ∷ []
 
 -- The outputs are the bits of the sum, and then the last carry.
 unfoldable pub demo_net : ℕ → NetValue
 demo_net w = record {
   model = codes "demo";
-  inputs = map (demo_name (codes "a")) (range_with_len 0 w) ++ map (demo_name (codes "b")) (range_with_len 0 w);
+  inputs = map (demo_name (codes "a")) (range_with_len 0 w)
+      ++ map (demo_name (codes "b")) (range_with_len 0 w);
   tables = flat_map (stage_tables w) (range_with_len 0 w);
   outputs = map (sum_signal w) (range_with_len 0 w) ++ carry_signal w (w - 1) ∷ [];
 }
 
 -- the net's output number is the sum of its two words
 abbrev pub Adds : ℕ → NetValue → Type 0
-Adds w N = (x : List Bool) → length x ≡ w + w → number_of (outputs_of N x) ≡ number_of (take w x) + number_of (drop w x)
+Adds w N = (x : List Bool) → length x ≡ w + w
+    → number_of (outputs_of N x) ≡ number_of (take w x) + number_of (drop w x)

@@ -26,8 +26,10 @@ is_bundle_name stem name = list_any (λ ending. bytes_eq name (bundle_name stem 
 
 -- the files in the order in which they are written, each with its text
 abbrev pub bundle_files : Bytes → (Ending → Bytes) → List File
-bundle_files stem text = map (λ ending. record { name = bundle_name stem ending; text = text ending }) bundle_endings
+bundle_files stem text = map (λ ending. record { name = bundle_name stem ending; text = text ending })
+    bundle_endings
 
 -- all five names can be written
 abbrev pub are_bundle_names_steady : FilesTold → Bytes → Bool
-are_bundle_names_steady told stem = list_all (λ ending. told.steady_write (bundle_name stem ending)) bundle_endings
+are_bundle_names_steady told stem
+    = list_all (λ ending. told.steady_write (bundle_name stem ending)) bundle_endings

@@ -42,28 +42,38 @@ trim_words input stem output = codes "trim" ∷ codes "sabs" ∷ codes "7" ∷ i
 pub record JobExamples : Type 0 where
   pub no_words : job_of [] ≡ None
   pub other_word : job_of (codes "--help" ∷ []) ≡ None
-  pub leading_zero : job_of (synth_words (codes "abs") (codes "01") (codes "1") (codes "a") (codes "b")) ≡ None
-  pub large_bound : job_of (synth_words (codes "abs") (codes "19342813113834066795298816") (codes "1") (codes "a") (codes "b")) ≡ None
+  pub leading_zero : job_of (synth_words (codes "abs") (codes "01") (codes "1") (codes "a") (codes "b"))
+      ≡ None
+  pub large_bound : job_of (synth_words (codes "abs") (codes "19342813113834066795298816") (codes "1")
+      (codes "a") (codes "b")) ≡ None
   pub largest_bound :
-      job_of (synth_words (codes "abs") (codes "19342813113834066795298815") (codes "1") (codes "a") (codes "b"))
+      job_of (synth_words (codes "abs") (codes "19342813113834066795298815") (codes "1") (codes "a")
+      (codes "b"))
       ≡ Some (synth Abs (2 ^ 84 - 1) 1 (codes "a") (codes "b"))
   pub no_conflicts : job_of (synth_words (codes "abs") (codes "1") (codes "0") (codes "a") (codes "b")) ≡ None
-  pub many_conflicts : job_of (synth_words (codes "abs") (codes "1") (codes "100001") (codes "a") (codes "b")) ≡ None
+  pub many_conflicts : job_of
+      (synth_words (codes "abs") (codes "1") (codes "100001") (codes "a") (codes "b")) ≡ None
   pub other_metric : job_of (synth_words (codes "max") (codes "1") (codes "1") (codes "a") (codes "b")) ≡ None
-  pub bundle_name : job_of (synth_words (codes "abs") (codes "1") (codes "1") (codes "b.cnf") (codes "b")) ≡ None
+  pub bundle_name : job_of (synth_words (codes "abs") (codes "1") (codes "1") (codes "b.cnf") (codes "b"))
+      ≡ None
   pub wide : job_of (codes "demo" ∷ codes "33" ∷ codes "1" ∷ codes "1" ∷ []) ≡ None
   pub no_width : job_of (codes "demo" ∷ codes "0" ∷ codes "1" ∷ codes "1" ∷ []) ≡ None
   pub a_demo : job_of (codes "demo" ∷ codes "32" ∷ codes "0" ∷ codes "100000" ∷ []) ≡ Some (demo 32 0 100000)
-  pub a_check : job_of (codes "check" ∷ codes "ham" ∷ codes "7" ∷ codes "a" ∷ codes "b" ∷ []) ≡ Some (check Ham 7 (codes "a") (codes "b"))
-  pub a_synth : job_of (synth_words (codes "rel") (codes "10") (codes "1000") (codes "a.blif") (codes "b")) ≡ Some (synth Rel 10 1000 (codes "a.blif") (codes "b"))
-  pub a_signed_synth : job_of (synth_words (codes "sabs") (codes "3") (codes "1") (codes "a.blif") (codes "b")) ≡ Some (synth Sabs 3 1 (codes "a.blif") (codes "b"))
+  pub a_check : job_of (codes "check" ∷ codes "ham" ∷ codes "7" ∷ codes "a" ∷ codes "b" ∷ [])
+      ≡ Some (check Ham 7 (codes "a") (codes "b"))
+  pub a_synth : job_of (synth_words (codes "rel") (codes "10") (codes "1000") (codes "a.blif") (codes "b"))
+      ≡ Some (synth Rel 10 1000 (codes "a.blif") (codes "b"))
+  pub a_signed_synth : job_of
+      (synth_words (codes "sabs") (codes "3") (codes "1") (codes "a.blif") (codes "b"))
+      ≡ Some (synth Sabs 3 1 (codes "a.blif") (codes "b"))
   pub empty_input : job_of (synth_words (codes "abs") (codes "1") (codes "1") [] (codes "b")) ≡ None
   pub empty_stem : job_of (synth_words (codes "abs") (codes "1") (codes "1") (codes "a") []) ≡ None
   pub sign : job_of (synth_words (codes "abs") (codes "-1") (codes "1") (codes "a") (codes "b")) ≡ None
   pub a_flat : job_of (codes "flat" ∷ codes "a" ∷ codes "b" ∷ []) ≡ Some (flat (codes "a") (codes "b"))
   pub an_aag : job_of (codes "aag" ∷ codes "a" ∷ codes "b" ∷ []) ≡ Some (aag (codes "a") (codes "b"))
   pub a_blif : job_of (codes "blif" ∷ codes "a" ∷ codes "b" ∷ []) ≡ Some (blif (codes "a") (codes "b"))
-  pub a_trim : job_of (trim_words (codes "a") (codes "b") (codes "c")) ≡ Some (trim Sabs 7 (codes "a") (codes "b") (codes "c"))
+  pub a_trim : job_of (trim_words (codes "a") (codes "b") (codes "c"))
+      ≡ Some (trim Sabs 7 (codes "a") (codes "b") (codes "c"))
   pub onto_itself : job_of (codes "aag" ∷ codes "a" ∷ codes "a" ∷ []) ≡ None
   pub flattened_onto_itself : job_of (codes "flat" ∷ codes "a" ∷ codes "a" ∷ []) ≡ None
   pub read_back_onto_itself : job_of (codes "blif" ∷ codes "a" ∷ codes "a" ∷ []) ≡ None

@@ -1,9 +1,10 @@
--- The promise of the program as sentences about one run: the job, what was answered, and what files and sink told at entry and at exit.
--- Source: this tool's own promise.
+-- The promise of the program as sentences about one run: the job, what was answered, and what files and sink
+-- told at entry and at exit. Source: this tool's own promise.
 --
--- When `check` verifies a bundle, on every input the approximate circuit's error against the original is at most the stated maximum, which is
--- within the bound and attained at the witness, and the circuit has no more tables or literals; unless the stated conflicts were spent, every
--- netlist that `synth` accepts gets a bundle that verifies and admits no further single simplification.
+-- When `check` verifies a bundle, on every input the approximate circuit's error against the original is at
+-- most the stated maximum, which is within the bound and attained at the witness, and the circuit has no more
+-- tables or literals; unless the stated conflicts were spent, every netlist that `synth` accepts gets a
+-- bundle that verifies and admits no further single simplification.
 use Rattle.std.specs.Prelude.{◌≡◌, ◌⊎◌, ℕ, ◌≤◌, Bool, Option, Some, None, List, length, Contains}
 use Rattle.semantics.specs.Texts.{Bytes}
 use Rattle.semantics.specs.Net.{NetValue, input_count, table_count, literal_count, HasSamePorts}
@@ -21,24 +22,27 @@ use Rattle.job_semantics.specs.Certificate.{Texts, texts_of, IsNetlist, IsReport
 use Rattle.job_semantics.specs.Synthesis.{OfInput, IsQuietSynth}
 use Rattle.job_semantics.specs.Checking.{Verifies}
 
--- The texts name one circuit, which has the original's inputs and outputs by their names, and state one maximum with a witness; on every input
--- the circuit's error is at most that maximum.
+-- The texts name one circuit, which has the original's inputs and outputs by their names, and state one
+-- maximum with a witness; on every input the circuit's error is at most that maximum.
 pub record KeepsItsPromise (metric : Metric) (bound : ℕ) (exact : NetValue) (texts : Texts) : Type 0 where
   pub approx : NetValue
   pub report : Report
   pub netlist : IsNetlist texts approx
   pub reported : IsReport exact metric bound texts report
   pub the_same_ports : HasSamePorts exact approx
-  pub on_every_input : (x : List Bool) → length x ≡ input_count exact → net_error metric exact approx x ≤ report.maximum
+  pub on_every_input : (x : List Bool) → length x ≡ input_count exact
+      → net_error metric exact approx x ≤ report.maximum
   pub within_the_bound : report.maximum ≤ bound
   pub attained_at_the_witness : net_error metric exact approx report.witness ≡ report.maximum
   pub no_more_tables : table_count approx ≤ table_count exact
   pub no_more_literals : literal_count approx ≤ literal_count exact
 
--- The files hold a bundle that verifies: its texts are a certificate, and each quiet check of these files is verified, where each of the five has
--- fewer than 2^40 bytes, unless memory is wanting. Its circuit has the original's inputs and outputs by their names, and is the end of the chain
--- of simplifications: no single move of it keeps the bound.
-pub record AdmitsNoMore (metric : Metric) (bound : ℕ) (input stem : Bytes) (exact : NetValue) (held : Held) : Type 0 where
+-- The files hold a bundle that verifies: its texts are a certificate, and each quiet check of these files is
+-- verified, where each of the five has fewer than 2^40 bytes, unless memory is wanting. Its circuit has the
+-- original's inputs and outputs by their names, and is the end of the chain of simplifications: no single
+-- move of it keeps the bound.
+pub record AdmitsNoMore (metric : Metric) (bound : ℕ) (input stem : Bytes) (exact : NetValue)
+    (held : Held) : Type 0 where
   pub certificate : Certifies exact metric bound (texts_of held stem)
   pub verifies : Verifies metric bound input stem held
   pub approx : NetValue
@@ -55,7 +59,8 @@ pub record IsOfTheChain (metric : Metric) (exact : NetValue) (bound : ℕ) (N : 
 -- The stated conflicts were spent on the question whether the error of such a net exceeds a level within the
 -- bound: the log is a chain of exactly `conflicts` conflicts over the miter of that question, and `conflicts`
 -- conflicts are not enough for the inputs.
-pub record AreSpentOn (metric : Metric) (exact : NetValue) (bound conflicts : ℕ) (q : SpentValue) : Type 0 where
+pub record AreSpentOn (metric : Metric) (exact : NetValue) (bound conflicts : ℕ)
+    (q : SpentValue) : Type 0 where
   pub level : q.k ≤ bound
   pub net : IsOfTheChain metric exact bound q.net
   pub query : IsSpentQuery metric exact conflicts q
@@ -63,12 +68,19 @@ pub record AreSpentOn (metric : Metric) (exact : NetValue) (bound conflicts : �
 -- `Verified`, `Done` and `NoMemory` say that this was answered; `spent` and `level` are the queries that were
 -- spent, on a move and on a level of the maximum. The files are told at entry and at exit; memory was there,
 -- and no call on the files or the sink that the job needs failed.
-pub record Headline (words : List Bytes) (Verified Done NoMemory : Type 0) (spent level : Option SpentValue) (old new : FilesTold) (said says : SinkTold) : Type 0 where
-  pub when_check_verifies : (metric : Metric) (bound : ℕ) (input stem : Bytes) → job_of words ≡ Some (check metric bound input stem) → Verified
-      → WhereTold old new (λ a b. (exact : NetValue) × IsReadAs (bytes_of a input) exact × KeepsItsPromise metric bound exact (texts_of b stem))
-  pub unless_conflicts_were_spent : (metric : Metric) (bound conflicts : ℕ) (input stem : Bytes) → job_of words ≡ Some (synth metric bound conflicts input stem)
+pub record Headline (words : List Bytes) (Verified Done NoMemory : Type 0) (spent level : Option SpentValue)
+    (old new : FilesTold) (said says : SinkTold) : Type 0 where
+  pub when_check_verifies : (metric : Metric) (bound : ℕ) (input stem : Bytes)
+      → job_of words ≡ Some (check metric bound input stem) → Verified
+      → WhereTold old new (λ a b. (exact : NetValue) × IsReadAs (bytes_of a input) exact
+      × KeepsItsPromise metric bound exact (texts_of b stem))
+  pub unless_conflicts_were_spent : (metric : Metric) (bound conflicts : ℕ) (input stem : Bytes)
+      → job_of words ≡ Some (synth metric bound conflicts input stem)
       → IsQuietSynth input stem old new said says → ¬ NoMemory → spent ≡ None → level ≡ None
-      → WhereTold old new (λ a b. (exact : NetValue) → IsReadAs (bytes_of a input) exact → Done × AdmitsNoMore metric bound input stem exact b)
-  pub the_conflicts_that_were_spent : (metric : Metric) (bound conflicts : ℕ) (input stem : Bytes) → job_of words ≡ Some (synth metric bound conflicts input stem)
+      → WhereTold old new (λ a b. (exact : NetValue) → IsReadAs (bytes_of a input) exact
+      → Done × AdmitsNoMore metric bound input stem exact b)
+  pub the_conflicts_that_were_spent : (metric : Metric) (bound conflicts : ℕ) (input stem : Bytes)
+      → job_of words ≡ Some (synth metric bound conflicts input stem)
       → (q : SpentValue) → (spent ≡ Some q) ⊎ (level ≡ Some q)
-      → (exact : NetValue) × OfInput old new input (λ text. IsReadAs text exact) × AreSpentOn metric exact bound conflicts q
+      → (exact : NetValue) × OfInput old new input (λ text. IsReadAs text exact)
+      × AreSpentOn metric exact bound conflicts q

@@ -1,5 +1,6 @@
 -- The job that the words of the command line name. Source: this tool's own table of commands.
-use Rattle.std.specs.Prelude.{ℕ, Bool, true, false, not, ◌&&◌, List, [], ◌∷◌, codes, nat_le, bytes_eq, Option, Some, None, if◌then◌else◌}
+use Rattle.std.specs.Prelude.{ℕ, Bool, true, false, not, ◌&&◌, List, [], ◌∷◌, codes, nat_le, bytes_eq}
+use Rattle.std.specs.Prelude.{Option, Some, None, if◌then◌else◌}
 use Rattle.semantics.specs.Texts.{Bytes}
 use Rattle.semantics.specs.Optional.{◌>>=◌}
 use Rattle.semantics.specs.Decimal.{digits_number, is_decimal}
@@ -51,7 +52,8 @@ is_empty_word (c ∷ cs) = false
 
 -- IN and STEM are not empty, and IN is no file of the bundle
 abbrev pub are_file_words : Bytes → Bytes → Bool
-are_file_words input stem = not (is_empty_word input) && (not (is_empty_word stem) && not (is_bundle_name stem input))
+are_file_words input stem = not (is_empty_word input)
+    && (not (is_empty_word stem) && not (is_bundle_name stem input))
 
 -- OUT is not empty, and is not IN
 abbrev pub is_output_word : Bytes → Bytes → Bool
@@ -63,7 +65,8 @@ are_conversion_words input output = not (is_empty_word input) && is_output_word 
 
 -- IN, STEM and OUT of a trim job: OUT is no file of the bundle either
 abbrev pub are_trim_words : Bytes → Bytes → Bytes → Bool
-are_trim_words input stem output = are_file_words input stem && (is_output_word input output && not (is_bundle_name stem output))
+are_trim_words input stem output
+    = are_file_words input stem && (is_output_word input output && not (is_bundle_name stem output))
 
 abbrev pub synth_of : List Bytes → Option Job
 synth_of (m ∷ b ∷ c ∷ input ∷ stem ∷ []) = do
@@ -89,7 +92,8 @@ demo_of (w ∷ b ∷ c ∷ []) = do
 demo_of _ = None
 
 abbrev pub conversion_of : (Bytes → Bytes → Job) → List Bytes → Option Job
-conversion_of job (input ∷ output ∷ []) = if are_conversion_words input output then Some (job input output) else None
+conversion_of job (input ∷ output ∷ [])
+    = if are_conversion_words input output then Some (job input output) else None
 conversion_of job _ = None
 
 abbrev pub trim_of : List Bytes → Option Job

@@ -11,15 +11,18 @@ use Rattle.job_semantics.specs.Job.{metric_of}
 use Rattle.job_semantics.specs.Report.{metric_word}
 use Rattle.job_semantics.specs.Endings.{bundle_endings, bundle_name, bundle_files}
 
--- one stem with two endings makes two names; once the files of a bundle were written, each is held with its text, and every
--- other name is held as before
+-- one stem with two endings makes two names; once the files of a bundle were written, each is held with its
+-- text, and every other name is held as before
 pub record BundleFilesLaw : Type 0 where
   pub differ : (stem : Bytes) (a b : Ending) → a ≢ b → bundle_name stem a ≢ bundle_name stem b
   pub holds : (held : Held) (stem : Bytes) (text : Ending → Bytes)
-      → AllByRecursion (λ e. get (with_files held (bundle_files stem text)) (bundle_name stem e) ≡ Some (text e)) bundle_endings
+      → AllByRecursion (λ e. get (with_files held (bundle_files stem text)) (bundle_name stem e)
+      ≡ Some (text e)) bundle_endings
   pub others : (held : Held) (stem : Bytes) (text : Ending → Bytes) (name : Bytes)
-      → AllByRecursion (λ e. bundle_name stem e ≢ name) bundle_endings → get (with_files held (bundle_files stem text)) name ≡ get held name
+      → AllByRecursion (λ e. bundle_name stem e ≢ name) bundle_endings
+      → get (with_files held (bundle_files stem text)) name ≡ get held name
 
 -- a word names a metric exactly where it is the word by which a report names that metric
 abbrev pub MetricWordLaw : Type 0
-MetricWordLaw = (word : Bytes) (metric : Metric) → (metric_of word ≡ Some metric) ↔ (word ≡ metric_word metric)
+MetricWordLaw = (word : Bytes) (metric : Metric)
+    → (metric_of word ≡ Some metric) ↔ (word ≡ metric_word metric)

@@ -1,6 +1,7 @@
--- What the search along the chain of simplifications comes to within a limit of conflicts for each query. Source: SALSA; the limit and the
--- vectors that are kept are this tool's own.
-use Rattle.std.specs.Prelude.{◌≡◌, ◌≢◌, ℕ, ◌<◌, ◌≤◌, Bool, Option, MatchOption, List, [], ◌∷◌, ◌++◌, length, slice_index_or}
+-- What the search along the chain of simplifications comes to within a limit of conflicts for each query.
+-- Source: SALSA; the limit and the vectors that are kept are this tool's own.
+use Rattle.std.specs.Prelude.{◌≡◌, ◌≢◌, ℕ, ◌<◌, ◌≤◌, Bool, Option, MatchOption, List, [], ◌∷◌, ◌++◌, length}
+use Rattle.std.specs.Prelude.{slice_index_or}
 use Rattle.std.specs.List.{AllByRecursion}
 use Rattle.semantics.specs.Net.{NetValue, input_count}
 use Rattle.semantics.specs.declared.metric.Metric.{Metric}
@@ -20,11 +21,13 @@ pub record Shrinking : Type 0 where
 
 -- no vector stands in the list twice
 abbrev pub AreApart : List (List Bool) → Type 0
-AreApart vectors = (i j : ℕ) → i < j → j < length vectors → slice_index_or vectors i [] ≢ slice_index_or vectors j []
+AreApart vectors = (i j : ℕ) → i < j → j < length vectors
+    → slice_index_or vectors i [] ≢ slice_index_or vectors j []
 
 -- the query whether a move of the net keeps the bound was spent; each move before that move is broken by a
 -- vector
-pub record IsSpentMove (metric : Metric) (exact : NetValue) (bound limit : ℕ) (N : NetValue) (pool : List (List Bool)) (q : SpentValue) : Type 0 where
+pub record IsSpentMove (metric : Metric) (exact : NetValue) (bound limit : ℕ) (N : NetValue)
+    (pool : List (List Bool)) (q : SpentValue) : Type 0 where
   pub query : IsSpentQuery metric exact limit q
   pub level : q.k ≡ bound
   pub before : List Move
@@ -35,15 +38,17 @@ pub record IsSpentMove (metric : Metric) (exact : NetValue) (bound limit : ℕ) 
   pub broken : AreBrokenBySome metric exact bound N pool before
 
 -- the end of the chain, each move of which is broken by a vector
-pub record IsShownEnd (metric : Metric) (exact : NetValue) (bound : ℕ) (N : NetValue) (pool : List (List Bool)) : Type 0 where
+pub record IsShownEnd (metric : Metric) (exact : NetValue) (bound : ℕ) (N : NetValue)
+    (pool : List (List Bool)) : Type 0 where
   pub end : IsSimplificationEnd metric exact bound N
   pub minimal : IsMinimalBy metric exact bound N pool
 
--- The net is a member of the chain, and its end unless a query was spent. The vectors are of the inputs' width and differ pairwise; with at
--- most eight inputs they are all vectors in counting order.
+-- The net is a member of the chain, and its end unless a query was spent. The vectors are of the inputs'
+-- width and differ pairwise; with at most eight inputs they are all vectors in counting order.
 pub record IsShrinking (metric : Metric) (exact : NetValue) (bound limit : ℕ) (s : Shrinking) : Type 0 where
   pub member : IsInSimplification metric exact bound s.net
-  pub outcome : MatchOption s.spent (IsShownEnd metric exact bound s.net s.pool) (IsSpentMove metric exact bound limit s.net s.pool)
+  pub outcome : MatchOption s.spent (IsShownEnd metric exact bound s.net s.pool)
+      (IsSpentMove metric exact bound limit s.net s.pool)
   pub widths : AllByRecursion (λ x. length x ≡ input_count exact) s.pool
   pub apart : AreApart s.pool
   pub counting : input_count exact ≤ FEW_INPUTS → s.pool ≡ all_vectors (input_count exact)

@@ -1,4 +1,5 @@
--- What a synth or a demo job comes to, by its answer. Source: SALSA, simplification within a bound on the error.
+-- What a synth or a demo job comes to, by its answer. Source: SALSA, simplification within a bound on the
+-- error.
 use Rattle.std.specs.Prelude.{◌≡◌, ◌⊎◌, ℕ, ◌≤◌, Bool, false, IsTrue, Option, Some, is_none, List}
 use Rattle.std.specs.FinMap.{contains_key}
 use Rattle.semantics.specs.Texts.{Bytes}
@@ -9,7 +10,8 @@ use Rattle.proof_semantics.specs.Formula.{Formula}
 use Rattle.proof_semantics.specs.Miter.{miter}
 use Rattle.proof_semantics.specs.Logs.{LogItem, Refutes, IsDerivation}
 use Rattle.proof_semantics.specs.Queries.{SpentValue, IsMaximum, IsSpentLevel}
-use Rattle.outside_semantics.specs.Outside.{Held, FilesTold, SinkTold, Goes, Rose, WhereTold, Took, TakeFailed, bytes_of}
+use Rattle.outside_semantics.specs.Outside.{Held, FilesTold, SinkTold, Goes, Rose, WhereTold, Took}
+use Rattle.outside_semantics.specs.Outside.{TakeFailed, bytes_of}
 use Rattle.outside_semantics.specs.WrittenFiles.{File, FilesWritten, FilesCutShort}
 use Rattle.job_semantics.specs.declared.ending.Ending.TheVariants.{Report}
 use Rattle.job_semantics.specs.declared.version.Version.TheVariants.{Two}
@@ -35,7 +37,8 @@ shrinking_of s = record { net = s.net; pool = s.pool; spent = s.spent }
 -- The net is a member of the chain, and the end of the chain unless a query was spent. The maximum is the
 -- greatest error, is attained at the witness and is within the bound; the log shows that no error exceeds the
 -- maximum; no count of the net grew.
-pub record IsSimplifiedFrom (exact : NetValue) (metric : Metric) (bound limit : ℕ) (s : Simplified) (log : List LogItem) : Type 0 where
+pub record IsSimplifiedFrom (exact : NetValue) (metric : Metric) (bound limit : ℕ) (s : Simplified)
+    (log : List LogItem) : Type 0 where
   pub search : IsShrinking metric exact bound limit (shrinking_of s)
   pub most : IsMaximum metric exact s.net s.maximum s.witness log
   pub within : s.maximum ≤ bound
@@ -68,7 +71,8 @@ synth_bundle exact metric bound s log = record {
 
 -- the files of a synth job in the order in which they are written
 abbrev pub synth_files : NetValue → Metric → ℕ → Bytes → Simplified → List LogItem → List File
-synth_files exact metric bound stem s log = bundle_files stem (bundle_text (synth_bundle exact metric bound s log))
+synth_files exact metric bound stem s log
+    = bundle_files stem (bundle_text (synth_bundle exact metric bound s log))
 
 abbrev pub synth_report : NetValue → Metric → ℕ → Simplified → List LogItem → Bytes
 synth_report exact metric bound s log = bundle_text (synth_bundle exact metric bound s log) Report
@@ -93,7 +97,8 @@ pub record IsUntouched (input : Bytes) (old new : FilesTold) (said says : SinkTo
 
 -- The net was simplified, the files were written, and then the report was put to the sink; the texts of the
 -- files are a certificate, and their report is of version 2.
-pub record BundleWritten (metric : Metric) (bound limit : ℕ) (exact : NetValue) (stem : Bytes) (spent : Option SpentValue) (old new : FilesTold) (said says : SinkTold) : Type 0 where
+pub record BundleWritten (metric : Metric) (bound limit : ℕ) (exact : NetValue) (stem : Bytes)
+    (spent : Option SpentValue) (old new : FilesTold) (said says : SinkTold) : Type 0 where
   pub result : Simplified
   pub log : List LogItem
   pub right : IsSimplifiedFrom exact metric bound limit result log
@@ -107,39 +112,45 @@ pub record BundleWritten (metric : Metric) (bound limit : ℕ) (exact : NetValue
 
 -- The net was simplified. Either a file could not be written whole, and nothing was put to the sink; or all
 -- files were written, and a first part of the report was put.
-pub record BundleCutShort (metric : Metric) (bound limit : ℕ) (exact : NetValue) (stem : Bytes) (old new : FilesTold) (said says : SinkTold) : Type 0 where
+pub record BundleCutShort (metric : Metric) (bound limit : ℕ) (exact : NetValue) (stem : Bytes)
+    (old new : FilesTold) (said says : SinkTold) : Type 0 where
   pub result : Simplified
   pub log : List LogItem
   pub right : IsSimplifiedFrom exact metric bound limit result log
   pub refuted : IsRefutedBy (miter exact result.net metric result.maximum) log
   pub left :
       (FilesCutShort old new (synth_files exact metric bound stem result log) × (says ≡ said))
-      ⊎ (FilesWritten old new (synth_files exact metric bound stem result log) × TakeFailed said says (synth_report exact metric bound result log))
+      ⊎ (FilesWritten old new (synth_files exact metric bound stem result log)
+      × TakeFailed said says (synth_report exact metric bound result log))
 
 -- A member of the chain was reached, and the search for its maximum was spent at a level within the bound.
 -- `spent` is the query on a move that was spent before, where one was.
-pub record MaximumSpent (metric : Metric) (bound limit : ℕ) (exact : NetValue) (spent : Option SpentValue) (level : SpentValue) : Type 0 where
+pub record MaximumSpent (metric : Metric) (bound limit : ℕ) (exact : NetValue) (spent : Option SpentValue)
+    (level : SpentValue) : Type 0 where
   pub result : Shrinking
   pub search : IsShrinking metric exact bound limit result
   pub is_spent : spent ≡ result.spent
   pub query : IsSpentLevel metric exact result.net bound limit level
 
 -- done: IN was read as the exact net, whose bundle was written
-pub record SynthDone (metric : Metric) (bound limit : ℕ) (input stem : Bytes) (spent : Option SpentValue) (old new : FilesTold) (said says : SinkTold) : Type 0 where
+pub record SynthDone (metric : Metric) (bound limit : ℕ) (input stem : Bytes) (spent : Option SpentValue)
+    (old new : FilesTold) (said says : SinkTold) : Type 0 where
   pub exact : NetValue
   pub read : OfInput old new input (λ text. IsReadAs text exact)
   pub written : BundleWritten metric bound limit exact stem spent old new said says
 
 -- conflicts spent: IN was read as the exact net, the search for the maximum was spent, and nothing was
 -- touched
-pub record SynthBudget (metric : Metric) (bound limit : ℕ) (input : Bytes) (spent : Option SpentValue) (level : SpentValue) (old new : FilesTold) (said says : SinkTold) : Type 0 where
+pub record SynthBudget (metric : Metric) (bound limit : ℕ) (input : Bytes) (spent : Option SpentValue)
+    (level : SpentValue) (old new : FilesTold) (said says : SinkTold) : Type 0 where
   pub untouched : IsUntouched input old new said says
   pub exact : NetValue
   pub read : OfInput old new input (λ text. IsReadAs text exact)
   pub search : MaximumSpent metric bound limit exact spent level
 
 -- IN is held and is refused
-pub record InputRefused (IsRefused : Bytes → Type 0) (input : Bytes) (old new : FilesTold) (said says : SinkTold) : Type 0 where
+pub record InputRefused (IsRefused : Bytes → Type 0) (input : Bytes) (old new : FilesTold)
+    (said says : SinkTold) : Type 0 where
   pub untouched : IsUntouched input old new said says
   pub held : WhereTold old new (λ a b. IsTrue (contains_key a input))
   pub refused : OfInput old new input IsRefused
@@ -151,7 +162,8 @@ pub record InputReadFault (input : Bytes) (old new : FilesTold) (said says : Sin
   pub not_steady : old.steady_read input ≡ false
 
 -- a file or the report could not be written
-pub record SynthWriteFault (metric : Metric) (bound limit : ℕ) (input stem : Bytes) (old new : FilesTold) (said says : SinkTold) : Type 0 where
+pub record SynthWriteFault (metric : Metric) (bound limit : ℕ) (input stem : Bytes) (old new : FilesTold)
+    (said says : SinkTold) : Type 0 where
   pub exact : NetValue
   pub read : OfInput old new input (λ text. IsReadAs text exact)
   pub left : BundleCutShort metric bound limit exact stem old new said says
@@ -162,7 +174,8 @@ CountsAs IsAcceptable old new input = WhereTold old new (λ a b. IsAcceptable (b
 
 -- The files that are needed by a job that turns IN into files are steady at entry: IN for reading and, where
 -- IN is accepted, the files that the job writes for writing.
-pub record AreFilesSteady (IsAcceptable : Bytes → Type 0) (AreWrittenSteady : Type 0) (old new : FilesTold) (input : Bytes) : Type 0 where
+pub record AreFilesSteady (IsAcceptable : Bytes → Type 0) (AreWrittenSteady : Type 0) (old new : FilesTold)
+    (input : Bytes) : Type 0 where
   pub read : IsTrue (old.steady_read input)
   pub written : CountsAs IsAcceptable old new input → AreWrittenSteady
 
@@ -173,4 +186,6 @@ pub record IsQuiet (NeededAreSteady : Type 0) (old new : FilesTold) (said says :
   pub sink : ¬ Rose said.faults says.faults
 
 abbrev pub IsQuietSynth : Bytes → Bytes → FilesTold → FilesTold → SinkTold → SinkTold → Type 0
-IsQuietSynth input stem old new said says = IsQuiet (AreFilesSteady IsAccepted (IsTrue (are_bundle_names_steady old stem)) old new input) old new said says
+IsQuietSynth input stem old new said says
+    = IsQuiet (AreFilesSteady IsAccepted (IsTrue (are_bundle_names_steady old stem)) old new input) old new
+    said says

@@ -16,7 +16,8 @@ use Rattle.job_semantics.specs.Checking.{CheckEnd, IsVerifiedEnd, AreCheckFilesS
 use Rattle.job_semantics.specs.Conversion.{OutputWritten, OutputCutShort}
 
 -- the text is that of the trimmed log of `.lrat`, and the trimmed log refutes the miter at the maximum too
-pub record IsTrimmedText (exact approx : NetValue) (metric : Metric) (maximum : ℕ) (texts : Texts) (text : Bytes) : Type 0 where
+pub record IsTrimmedText (exact approx : NetValue) (metric : Metric) (maximum : ℕ) (texts : Texts)
+    (text : Bytes) : Type 0 where
   pub log : List LogItem
   pub refuted : IsRefutation exact approx metric maximum texts log
   pub short : List LogItem
@@ -25,12 +26,14 @@ pub record IsTrimmedText (exact approx : NetValue) (metric : Metric) (maximum : 
   pub is : text ≡ lrat_text short
 
 -- the texts of the bundle are a certificate, and the text is that of its log, trimmed
-pub record IsTrimmedBundle (exact : NetValue) (metric : Metric) (bound : ℕ) (text : Bytes) (texts : Texts) : Type 0 where
+pub record IsTrimmedBundle (exact : NetValue) (metric : Metric) (bound : ℕ) (text : Bytes)
+    (texts : Texts) : Type 0 where
   pub certificate : Certifies exact metric bound texts
   pub trimmed : OfBoth exact metric bound texts (λ M r. IsTrimmedText exact M metric r.maximum texts text)
 
 -- done: the certificate stands, and its trimmed log was written
-pub record Trimmed (metric : Metric) (bound : ℕ) (input stem output : Bytes) (old new : FilesTold) (said says : SinkTold) : Type 0 where
+pub record Trimmed (metric : Metric) (bound : ℕ) (input stem output : Bytes) (old new : FilesTold)
+    (said says : SinkTold) : Type 0 where
   pub exact : NetValue
   pub read : OfInput old new input (λ text. IsReadAs text exact)
   pub text : Bytes
@@ -38,7 +41,8 @@ pub record Trimmed (metric : Metric) (bound : ℕ) (input stem output : Bytes) (
   pub written : OutputWritten output text old new said says
 
 -- the certificate stands, and its trimmed log could not be written
-pub record TrimCutShort (metric : Metric) (bound : ℕ) (input stem output : Bytes) (old new : FilesTold) (said says : SinkTold) : Type 0 where
+pub record TrimCutShort (metric : Metric) (bound : ℕ) (input stem output : Bytes) (old new : FilesTold)
+    (said says : SinkTold) : Type 0 where
   pub exact : NetValue
   pub read : OfInput old new input (λ text. IsReadAs text exact)
   pub text : Bytes
@@ -47,22 +51,30 @@ pub record TrimCutShort (metric : Metric) (bound : ℕ) (input stem output : Byt
 
 -- The answers of a trim job, each with what it says. Where nothing was to be written, the job ends as a check
 -- that is not verified.
-pub data TrimEnd (metric : Metric) (bound : ℕ) (input stem output : Bytes) (old new : FilesTold) (said says : SinkTold) : Type 0 where
-  done : Trimmed metric bound input stem output old new said says → TrimEnd metric bound input stem output old new said says
-  not_written : TrimCutShort metric bound input stem output old new said says → TrimEnd metric bound input stem output old new said says
-  not_verified : (end : CheckEnd metric bound input stem old new said says) → ¬ IsVerifiedEnd end → TrimEnd metric bound input stem output old new said says
+pub data TrimEnd (metric : Metric) (bound : ℕ) (input stem output : Bytes) (old new : FilesTold)
+    (said says : SinkTold) : Type 0 where
+  done : Trimmed metric bound input stem output old new said says
+      → TrimEnd metric bound input stem output old new said says
+  not_written : TrimCutShort metric bound input stem output old new said says
+      → TrimEnd metric bound input stem output old new said says
+  not_verified : (end : CheckEnd metric bound input stem old new said says) → ¬ IsVerifiedEnd end
+      → TrimEnd metric bound input stem output old new said says
 
 -- IN is accepted and no clause fails; where the files are not told both at entry and at exit, this counts as
 -- true
 abbrev pub CountsAsCertified : Metric → ℕ → Bytes → Bytes → FilesTold → FilesTold → Type 0
 CountsAsCertified metric bound input stem old new =
-    WhereTold old new (λ a b. (exact : NetValue) × IsReadAs (bytes_of a input) exact × Certifies exact metric bound (texts_of b stem))
+    WhereTold old new (λ a b. (exact : NetValue) × IsReadAs (bytes_of a input) exact
+    × Certifies exact metric bound (texts_of b stem))
 
 -- a trim job needs the files of the check for reading and, where no clause fails, OUT for writing; each of
 -- these is steady
-pub record AreTrimFilesSteady (metric : Metric) (bound : ℕ) (input stem output : Bytes) (old new : FilesTold) : Type 0 where
+pub record AreTrimFilesSteady (metric : Metric) (bound : ℕ) (input stem output : Bytes)
+    (old new : FilesTold) : Type 0 where
   pub read : AreCheckFilesSteady metric bound input stem old new
   pub written : CountsAsCertified metric bound input stem old new → IsTrue (old.steady_write output)
 
-abbrev pub IsQuietTrim : Metric → ℕ → Bytes → Bytes → Bytes → FilesTold → FilesTold → SinkTold → SinkTold → Type 0
-IsQuietTrim metric bound input stem output old new said says = IsQuiet (AreTrimFilesSteady metric bound input stem output old new) old new said says
+abbrev pub IsQuietTrim : Metric → ℕ → Bytes → Bytes → Bytes → FilesTold → FilesTold → SinkTold → SinkTold
+    → Type 0
+IsQuietTrim metric bound input stem output old new said says
+    = IsQuiet (AreTrimFilesSteady metric bound input stem output old new) old new said says

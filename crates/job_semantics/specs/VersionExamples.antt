@@ -22,7 +22,12 @@ conjunction_by_parity = record {
         rows = (One ∷ One ∷ Zero ∷ []) ∷ (Zero ∷ Dash ∷ One ∷ []) ∷ (Dash ∷ Zero ∷ One ∷ []) ∷ [];
         plane = true;
       }
-      ∷ record { name = codes "y"; pins = 2 ∷ 3 ∷ []; rows = (One ∷ Zero ∷ []) ∷ (Zero ∷ One ∷ []) ∷ []; plane = true }
+      ∷ record {
+        name = codes "y";
+        pins = 2 ∷ 3 ∷ [];
+        rows = (One ∷ Zero ∷ []) ∷ (Zero ∷ One ∷ []) ∷ [];
+        plane = true;
+      }
       ∷ [];
   outputs = 3 ∷ 4 ∷ [];
 }
@@ -30,7 +35,8 @@ conjunction_by_parity = record {
 abbrev pub parity_netlist : Bytes
 parity_netlist =
     text (
-    codes ".model p" ∷ codes ".inputs u v w" ∷ codes ".outputs q y" ∷ codes ".names u v w q" ∷ codes "110 1" ∷ codes "0-1 1" ∷ codes "-01 1"
+    codes ".model p" ∷ codes ".inputs u v w" ∷ codes ".outputs q y" ∷ codes ".names u v w q" ∷ codes "110 1"
+    ∷ codes "0-1 1" ∷ codes "-01 1"
     ∷ codes ".names w q y" ∷ codes "10 1" ∷ codes "01 1" ∷ codes ".end" ∷ []
     )
 
@@ -38,14 +44,16 @@ parity_netlist =
 abbrev pub parity_vectors : Bytes
 parity_vectors =
     text (
-    codes "000" ∷ codes "000" ∷ codes "100" ∷ codes "010" ∷ codes "110" ∷ codes "001" ∷ codes "101" ∷ codes "011" ∷ codes "111" ∷ []
+    codes "000" ∷ codes "000" ∷ codes "100" ∷ codes "010" ∷ codes "110" ∷ codes "001" ∷ codes "101"
+    ∷ codes "011" ∷ codes "111" ∷ []
     )
 
 -- the report of the net with itself, which says that no further move is allowed
 abbrev pub parity_report : Bytes → Bytes
 parity_report first_line =
     text (
-    first_line ∷ codes "metric abs" ∷ codes "bound 0" ∷ codes "maximum 0" ∷ codes "witness 000" ∷ codes "tables 2 2" ∷ codes "literals 11 11"
+    first_line ∷ codes "metric abs" ∷ codes "bound 0" ∷ codes "maximum 0" ∷ codes "witness 000"
+    ∷ codes "tables 2 2" ∷ codes "literals 11 11"
     ∷ codes "minimal yes" ∷ []
     )
 

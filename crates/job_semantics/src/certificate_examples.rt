@@ -1,5 +1,6 @@
 //! Worked examples of certificates, computed by the checker: each function's contract is its examples.
-ghost use Rattle.job_semantics.specs.CertificateExamples.{CertificateClauseExamples, HoldingExamples, FailingExamples, MinimalExamples};
+ghost use Rattle.job_semantics.specs.CertificateExamples.{CertificateClauseExamples, HoldingExamples};
+ghost use Rattle.job_semantics.specs.CertificateExamples.{FailingExamples, MinimalExamples};
 
 /// The numbers of the clauses, and the files that they need.
 pub fn clauses()

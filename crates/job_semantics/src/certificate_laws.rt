@@ -1,5 +1,6 @@
 //! The laws about certificates: each function's contract is a law.
-ghost use Rattle.job_semantics.specs.CertificateLaws.{VerifiedLaw, WrittenCertificateLaw, HeldCertificateLaw, FirstFailingLaw};
+ghost use Rattle.job_semantics.specs.CertificateLaws.{VerifiedLaw, WrittenCertificateLaw, HeldCertificateLaw};
+ghost use Rattle.job_semantics.specs.CertificateLaws.{FirstFailingLaw};
 
 /// What a certificate shows.
 pub fn verified()

@@ -1,4 +1,5 @@
-//! Worked examples of the net of the demonstration, computed by the checker: the function's contract is its examples.
+//! Worked examples of the net of the demonstration, computed by the checker: the function's contract is its
+//! examples.
 ghost use Rattle.job_semantics.specs.DemoExamples.{DemoNetExamples};
 
 /// The nets of one, two and sixteen bits.

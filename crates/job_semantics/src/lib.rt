@@ -1,4 +1,5 @@
-//! Jobs, reports, certificates, and what each answer of a run says. It has no code but the types `Ending`, `Clause` and `Version`.
+//! Jobs, reports, certificates, and what each answer of a run says. It has no code but the types `Ending`,
+//! `Clause` and `Version`.
 #![tactic(auto)]
 
 pub mod certificate_clause;

@@ -53,7 +53,8 @@ end_reached metric exact bound limit N pool (Some q) is h = cc
 same_ports : {exact : NetValue} {metric : Metric} {bound : ℕ} (texts : Texts) (approx : NetValue) → Certifies exact metric bound texts → IsNetlist texts approx → HasSamePorts exact approx
 same_ports {exact} texts approx certified reads = subst (HasSamePorts exact) (verified_law.one_net texts certified.1.0.0 approx certified.1.0.1 reads) certified.1.0.2
 
-module _ (metric : Metric) (bound limit : ℕ) (input stem : Bytes) (files_named : IsTrue (are_file_words input stem)) (old new : FilesTold) (said says : SinkTold) (spent level : Option SpentValue) where
+module _ (metric : Metric) (bound limit : ℕ) (input stem : Bytes) (files_named : IsTrue (are_file_words input stem)) (old new : FilesTold) (said says : SinkTold)
+    (spent level : Option SpentValue) where
   admits : (a b : Held) (d : SynthDone metric bound limit input stem spent old new said says) → spent ≡ None → old.held ≡ Some a → new.held ≡ Some b
       → AdmitsNoMore metric bound input stem d.exact b
   admits a b d none told tells =

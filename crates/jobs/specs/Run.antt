@@ -10,7 +10,9 @@ use Rattle.proof_semantics.specs.Conflicts.{IsEnough}
 use Rattle.proof_semantics.specs.Queries.{SpentValue}
 use Rattle.job_semantics.specs.Job.{Job, synth, check, demo, flat, aag, blif, trim, job_of}
 use Rattle.job_semantics.specs.Input.{input_reading, IsRefusedFor}
-use Rattle.job_semantics.specs.Synthesis.{IsUntouched, InputRefused, InputReadFault, BundleWritten, BundleCutShort, MaximumSpent, SynthDone, SynthBudget, SynthWriteFault, IsQuietSynth}
+use Rattle.job_semantics.specs.Synthesis.{IsUntouched, InputRefused, InputReadFault, BundleWritten}
+use Rattle.job_semantics.specs.Synthesis.{BundleCutShort, MaximumSpent, SynthDone, SynthBudget}
+use Rattle.job_semantics.specs.Synthesis.{SynthWriteFault, IsQuietSynth}
 use Rattle.job_semantics.specs.Checking.{IsQuietCheck}
 use Rattle.job_semantics.specs.Conversion.{IsQuietConversion}
 use Rattle.job_semantics.specs.Trimming.{IsQuietTrim}
@@ -19,7 +21,8 @@ use Rattle.job_semantics.specs.Demonstration.{demo_stem, IsQuietDemo}
 use Rattle.blif_text.specs.Refusals.{refusal_of}
 use Rattle.blif_text.specs.declared.refusal.BlifRefusal.{BlifRefusal}
 use Rattle.job_answers.specs.declared.status.Status.{Status}
-use Rattle.job_answers.specs.declared.status.Status.TheVariants.{Done, Usage, Text, NoMemory, Budget, ReadFault, WriteFault}
+use Rattle.job_answers.specs.declared.status.Status.TheVariants.{Done, Usage, Text, NoMemory, Budget}
+use Rattle.job_answers.specs.declared.status.Status.TheVariants.{ReadFault, WriteFault}
 use Rattle.job_answers.specs.Refused.{TellsBlif, TellsHier, TellsAiger}
 use Rattle.job_answers.specs.Ends.{EndsWell}
 use Rattle.check_jobs.specs.Answers.{CheckAnswer, TrimAnswer, Refuses, IsCheckAnswerTo, IsTrimAnswerTo}
@@ -32,36 +35,52 @@ use Rattle.jobs.specs.Outcome.{NothingSpent, SpendsAsTold}
 -- IN is refused for the reason that is told, which is not want of memory
 abbrev pub IsToldRefused : BlifRefusal → Bytes → FilesTold → FilesTold → SinkTold → SinkTold → Type 0
 IsToldRefused reason input old new said says =
-    (refusal : Refusal) × (refusal_of reason ≡ Some refusal) × InputRefused (λ text. IsRefusedFor text refusal) input old new said says
+    (refusal : Refusal) × (refusal_of reason ≡ Some refusal)
+    × InputRefused (λ text. IsRefusedFor text refusal) input old new said says
 
 -- what a synth job comes to, by its answer and the queries that are told as spent
-abbrev pub SynthAnswerAt : Metric → ℕ → ℕ → Bytes → Bytes → FilesTold → FilesTold → SinkTold → SinkTold → Option SpentValue → Option SpentValue → Status → Type 0
-SynthAnswerAt metric bound limit input stem old new said says spent level Done = SynthDone metric bound limit input stem spent old new said says × (level ≡ None)
+abbrev pub SynthAnswerAt : Metric → ℕ → ℕ → Bytes → Bytes → FilesTold → FilesTold → SinkTold → SinkTold
+    → Option SpentValue → Option SpentValue → Status → Type 0
+SynthAnswerAt metric bound limit input stem old new said says spent level Done
+    = SynthDone metric bound limit input stem spent old new said says × (level ≡ None)
 SynthAnswerAt metric bound limit input stem old new said says spent level Budget =
     (q : SpentValue) × (level ≡ Some q) × SynthBudget metric bound limit input spent q old new said says
-SynthAnswerAt metric bound limit input stem old new said says spent level (Text reason) = IsToldRefused reason input old new said says × NothingSpent spent level
-SynthAnswerAt metric bound limit input stem old new said says spent level NoMemory = IsUntouched input old new said says × NothingSpent spent level
-SynthAnswerAt metric bound limit input stem old new said says spent level ReadFault = InputReadFault input old new said says × NothingSpent spent level
-SynthAnswerAt metric bound limit input stem old new said says spent level WriteFault = SynthWriteFault metric bound limit input stem old new said says × NothingSpent spent level
+SynthAnswerAt metric bound limit input stem old new said says spent level (Text reason)
+    = IsToldRefused reason input old new said says × NothingSpent spent level
+SynthAnswerAt metric bound limit input stem old new said says spent level NoMemory
+    = IsUntouched input old new said says × NothingSpent spent level
+SynthAnswerAt metric bound limit input stem old new said says spent level ReadFault
+    = InputReadFault input old new said says × NothingSpent spent level
+SynthAnswerAt metric bound limit input stem old new said says spent level WriteFault
+    = SynthWriteFault metric bound limit input stem old new said says × NothingSpent spent level
 SynthAnswerAt metric bound limit input stem old new said says spent level _ = ⊥
 
-abbrev pub SynthAnswer : Metric → ℕ → ℕ → Bytes → Bytes → FilesTold → FilesTold → SinkTold → SinkTold → Outcome → Type 0
+abbrev pub SynthAnswer : Metric → ℕ → ℕ → Bytes → Bytes → FilesTold → FilesTold → SinkTold → SinkTold
+    → Outcome → Type 0
 SynthAnswer metric bound limit input stem old new said says o =
-    SynthAnswerAt metric bound limit input stem old new said says (told_query o.spent) (told_query o.level) o.status
+    SynthAnswerAt metric bound limit input stem old new said says (told_query o.spent) (told_query o.level)
+    o.status
 
 -- what a job on a net that was read or generated comes to: nothing was touched, or the net's bundle was
 -- written under the stem, whole or in part
-abbrev pub BundleAnswerAt : Metric → ℕ → ℕ → NetValue → Bytes → FilesTold → FilesTold → SinkTold → SinkTold → Option SpentValue → Option SpentValue → Status → Type 0
-BundleAnswerAt metric bound limit exact stem old new said says spent level Done = BundleWritten metric bound limit exact stem spent old new said says × (level ≡ None)
+abbrev pub BundleAnswerAt : Metric → ℕ → ℕ → NetValue → Bytes → FilesTold → FilesTold → SinkTold → SinkTold
+    → Option SpentValue → Option SpentValue → Status → Type 0
+BundleAnswerAt metric bound limit exact stem old new said says spent level Done
+    = BundleWritten metric bound limit exact stem spent old new said says × (level ≡ None)
 BundleAnswerAt metric bound limit exact stem old new said says spent level Budget =
-    (new ≡ old) × (says ≡ said) × (q : SpentValue) × (level ≡ Some q) × MaximumSpent metric bound limit exact spent q
-BundleAnswerAt metric bound limit exact stem old new said says spent level NoMemory = (new ≡ old) × (says ≡ said) × NothingSpent spent level
-BundleAnswerAt metric bound limit exact stem old new said says spent level WriteFault = BundleCutShort metric bound limit exact stem old new said says × NothingSpent spent level
+    (new ≡ old) × (says ≡ said) × (q : SpentValue) × (level ≡ Some q)
+    × MaximumSpent metric bound limit exact spent q
+BundleAnswerAt metric bound limit exact stem old new said says spent level NoMemory = (new ≡ old)
+    × (says ≡ said) × NothingSpent spent level
+BundleAnswerAt metric bound limit exact stem old new said says spent level WriteFault
+    = BundleCutShort metric bound limit exact stem old new said says × NothingSpent spent level
 BundleAnswerAt metric bound limit exact stem old new said says spent level _ = ⊥
 
-abbrev pub BundleAnswer : Metric → ℕ → ℕ → NetValue → Bytes → FilesTold → FilesTold → SinkTold → SinkTold → Outcome → Type 0
+abbrev pub BundleAnswer : Metric → ℕ → ℕ → NetValue → Bytes → FilesTold → FilesTold → SinkTold → SinkTold
+    → Outcome → Type 0
 BundleAnswer metric bound limit exact stem old new said says o =
-    BundleAnswerAt metric bound limit exact stem old new said says (told_query o.spent) (told_query o.level) o.status
+    BundleAnswerAt metric bound limit exact stem old new said says (told_query o.spent) (told_query o.level)
+    o.status
 
 -- Where `limit` conflicts are enough for `inputs` inputs, a bundle is written and no query is spent.
 abbrev pub IsWorkOf : ℕ → ℕ → Option SpentValue → Status → Type 0
@@ -88,13 +107,20 @@ AsksNoQuery o = NothingSpent (told_query o.spent) (told_query o.level)
 
 -- what the answer to a job says
 abbrev pub JobAnswer : Job → FilesTold → FilesTold → SinkTold → SinkTold → Outcome → Type 0
-JobAnswer (synth metric bound conflicts input stem) old new said says o = SynthAnswer metric bound conflicts input stem old new said says o
-JobAnswer (check metric bound input stem) old new said says o = CheckAnswer metric bound input stem old new said says o.status
-JobAnswer (demo width bound conflicts) old new said says o = BundleAnswer Abs bound conflicts (demo_net width) demo_stem old new said says o
-JobAnswer (flat input output) old new said says o = ConversionAnswer flat_text TellsHier input output old new said says o.status × AsksNoQuery o
-JobAnswer (aag input output) old new said says o = ConversionAnswer aag_text TellsBlif input output old new said says o.status × AsksNoQuery o
-JobAnswer (blif input output) old new said says o = ConversionAnswer netlist_text TellsAiger input output old new said says o.status × AsksNoQuery o
-JobAnswer (trim metric bound input stem output) old new said says o = TrimAnswer metric bound input stem output old new said says o.status × AsksNoQuery o
+JobAnswer (synth metric bound conflicts input stem) old new said says o
+    = SynthAnswer metric bound conflicts input stem old new said says o
+JobAnswer (check metric bound input stem) old new said says o
+    = CheckAnswer metric bound input stem old new said says o.status
+JobAnswer (demo width bound conflicts) old new said says o
+    = BundleAnswer Abs bound conflicts (demo_net width) demo_stem old new said says o
+JobAnswer (flat input output) old new said says o
+    = ConversionAnswer flat_text TellsHier input output old new said says o.status × AsksNoQuery o
+JobAnswer (aag input output) old new said says o
+    = ConversionAnswer aag_text TellsBlif input output old new said says o.status × AsksNoQuery o
+JobAnswer (blif input output) old new said says o
+    = ConversionAnswer netlist_text TellsAiger input output old new said says o.status × AsksNoQuery o
+JobAnswer (trim metric bound input stem output) old new said says o
+    = TrimAnswer metric bound input stem output old new said says o.status × AsksNoQuery o
 
 -- the job is done with files alone: no net is simplified, and no report is put
 abbrev pub IsOnFiles : Job → Type 0
@@ -106,27 +132,35 @@ IsOnFiles job = Unit {0}
 -- that are no job, and no other words, are answered `Usage`. A spent query is told with `Budget` and with
 -- `Done` alone, and one of the search for the greatest error exactly with `Budget`. The answer to a job says
 -- what the job comes to.
-pub record RunSays (words : List Bytes) (old new : FilesTold) (said says : SinkTold) (o : Outcome) : Type 0 where
+pub record RunSays (words : List Bytes) (old new : FilesTold) (said says : SinkTold)
+    (o : Outcome) : Type 0 where
   pub usage : (o.status ≡ Usage) ↔ (job_of words ≡ None)
   pub spent : SpendsAsTold o
   pub answer : (job : Job) → job_of words ≡ Some job → JobAnswer job old new said says o
 
 -- no call on the files or the sink that the job needs failed
 abbrev pub IsQuietJob : Job → FilesTold → FilesTold → SinkTold → SinkTold → Type 0
-IsQuietJob (synth metric bound conflicts input stem) old new said says = IsQuietSynth input stem old new said says
-IsQuietJob (check metric bound input stem) old new said says = IsQuietCheck metric bound input stem old new said says
+IsQuietJob (synth metric bound conflicts input stem) old new said says
+    = IsQuietSynth input stem old new said says
+IsQuietJob (check metric bound input stem) old new said says
+    = IsQuietCheck metric bound input stem old new said says
 IsQuietJob (demo width bound conflicts) old new said says = IsQuietDemo old new said says
 IsQuietJob (flat input output) old new said says = IsQuietConversion flat_text input output old new said says
 IsQuietJob (aag input output) old new said says = IsQuietConversion aag_text input output old new said says
-IsQuietJob (blif input output) old new said says = IsQuietConversion netlist_text input output old new said says
-IsQuietJob (trim metric bound input stem output) old new said says = IsQuietTrim metric bound input stem output old new said says
+IsQuietJob (blif input output) old new said says
+    = IsQuietConversion netlist_text input output old new said says
+IsQuietJob (trim metric bound input stem output) old new said says
+    = IsQuietTrim metric bound input stem output old new said says
 
 -- the job ends without a fault, and as the reading of IN and the conflicts ask, unless memory is wanting
 abbrev pub EndsAsAsked : Job → FilesTold → Outcome → Type 0
-EndsAsAsked (synth metric bound conflicts input stem) old o = EndsWell input_reading (IsAnswerTo conflicts (told_query o.spent)) input old o.status
+EndsAsAsked (synth metric bound conflicts input stem) old o
+    = EndsWell input_reading (IsAnswerTo conflicts (told_query o.spent)) input old o.status
 EndsAsAsked (check metric bound input stem) old o = EndsWell input_reading IsCheckAnswerTo input old o.status
-EndsAsAsked (demo width bound conflicts) old o = IsWorkOf conflicts (input_count (demo_net width)) (told_query o.spent) o.status
+EndsAsAsked (demo width bound conflicts) old o
+    = IsWorkOf conflicts (input_count (demo_net width)) (told_query o.spent) o.status
 EndsAsAsked (flat input output) old o = EndsWell flat_text (IsConvertedAs TellsHier) input old o.status
 EndsAsAsked (aag input output) old o = EndsWell aag_text (IsConvertedAs TellsBlif) input old o.status
 EndsAsAsked (blif input output) old o = EndsWell netlist_text (IsConvertedAs TellsAiger) input old o.status
-EndsAsAsked (trim metric bound input stem output) old o = EndsWell input_reading IsTrimAnswerTo input old o.status
+EndsAsAsked (trim metric bound input stem output) old o
+    = EndsWell input_reading IsTrimAnswerTo input old o.status

@@ -62,8 +62,10 @@ pub fn carry_out<F: Files, K: Sink, P: Progress>(
     say: &mut K,
     progress: &mut P,
 ) -> Outcome
-    ensures says { RunSays words.now (F.told files.old) (F.told files.new) (K.told say.old) (K.told say.new) result }
-    ensures usage_touches_nothing { result.status ≡ Status.Usage → (files.new ≡ files.old) × (say.new ≡ say.old) }
+    ensures says { RunSays words.now (F.told files.old) (F.told files.new) (K.told say.old) (K.told say.new)
+        result }
+    ensures usage_touches_nothing { result.status ≡ Status.Usage
+        → (files.new ≡ files.old) × (say.new ≡ say.old) }
 {
     let Some(command) = command_named(words) else {
         return only(Status::Usage);

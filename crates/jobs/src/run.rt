@@ -27,7 +27,8 @@ use std::alloc::Global;
 
 /// Carries out the job that the words name.
 pub fn run<F: Files, K: Sink>(alloc: Global, words: &[Word], files: &mut F, say: &mut K) -> Outcome
-    // When `check` verifies a bundle it keeps its promise; unless conflicts were spent, an accepted netlist gets a bundle that verifies.
+    // When `check` verifies a bundle it keeps its promise; unless conflicts were spent, an accepted netlist
+    // gets a bundle that verifies.
     ensures headline { Headline
         words.now
         (result.status ≡ Status.Verified)
@@ -41,10 +42,13 @@ pub fn run<F: Files, K: Sink>(alloc: Global, words: &[Word], files: &mut F, say:
         (K.told say.new) }
 
     // What each answer says.
-    ensures says { RunSays words.now (F.told files.old) (F.told files.new) (K.told say.old) (K.told say.new) result }
-    ensures usage_touches_nothing { result.status ≡ Status.Usage → (files.new ≡ files.old) × (say.new ≡ say.old) }
+    ensures says { RunSays words.now (F.told files.old) (F.told files.new) (K.told say.old) (K.told say.new)
+        result }
+    ensures usage_touches_nothing { result.status ≡ Status.Usage
+        → (files.new ≡ files.old) × (say.new ≡ say.old) }
 
-    // A quiet call has no fault, and ends as the reading of IN and the conflicts ask, unless memory is wanting.
+    // A quiet call has no fault, and ends as the reading of IN and the conflicts ask, unless memory is
+    // wanting.
     ensures complete { (job : Job) → job_of words.now ≡ Some job
         → IsQuietJob job (F.told files.old) (F.told files.new) (K.told say.old) (K.told say.new)
         → EndsAsAsked job (F.told files.old) result }
@@ -61,7 +65,8 @@ pub fn run_followed<F: Files, K: Sink, P: Progress>(
     say: &mut K,
     progress: &mut P,
 ) -> Outcome
-    // When `check` verifies a bundle it keeps its promise; unless conflicts were spent, an accepted netlist gets a bundle that verifies.
+    // When `check` verifies a bundle it keeps its promise; unless conflicts were spent, an accepted netlist
+    // gets a bundle that verifies.
     ensures headline { Headline
         words.now
         (result.status ≡ Status.Verified)
@@ -75,10 +80,13 @@ pub fn run_followed<F: Files, K: Sink, P: Progress>(
         (K.told say.new) }
 
     // What each answer says.
-    ensures says { RunSays words.now (F.told files.old) (F.told files.new) (K.told say.old) (K.told say.new) result }
-    ensures usage_touches_nothing { result.status ≡ Status.Usage → (files.new ≡ files.old) × (say.new ≡ say.old) }
+    ensures says { RunSays words.now (F.told files.old) (F.told files.new) (K.told say.old) (K.told say.new)
+        result }
+    ensures usage_touches_nothing { result.status ≡ Status.Usage
+        → (files.new ≡ files.old) × (say.new ≡ say.old) }
 
-    // A quiet call has no fault, and ends as the reading of IN and the conflicts ask, unless memory is wanting.
+    // A quiet call has no fault, and ends as the reading of IN and the conflicts ask, unless memory is
+    // wanting.
     ensures complete { (job : Job) → job_of words.now ≡ Some job
         → IsQuietJob job (F.told files.old) (F.told files.new) (K.told say.old) (K.told say.new)
         → EndsAsAsked job (F.told files.old) result }
@@ -105,14 +113,17 @@ pub fn run_surely(
         (sure_told files.new)
         sure_sink_told
         sure_sink_told }
-    ensures says { RunSays words.now (sure_told files.old) (sure_told files.new) sure_sink_told sure_sink_told result }
-    ensures usage_touches_nothing { result.status ≡ Status.Usage → (files.new ≡ files.old) × (say.new ≡ say.old) }
+    ensures says { RunSays words.now (sure_told files.old) (sure_told files.new) sure_sink_told
+        sure_sink_told result }
+    ensures usage_touches_nothing { result.status ≡ Status.Usage
+        → (files.new ≡ files.old) × (say.new ≡ say.old) }
     ensures read { result.status ≢ Status.ReadFault }
     ensures write { result.status ≢ Status.WriteFault }
     ensures answers { (metric : Metric) (bound conflicts : ℕ) (input stem : Bytes)
         → job_of words.now ≡ Some (synth metric bound conflicts input stem)
         → files.old.told ≡ true → IsTrue (contains_key files.old.given input)
-        → IsAnswerTo conflicts (told_query result.spent) (blif_reading (bytes_of files.old.given input) MOST_INPUT_BYTES) result.status }
+        → IsAnswerTo conflicts (told_query result.spent)
+        (blif_reading (bytes_of files.old.given input) MOST_INPUT_BYTES) result.status }
     ensures check_answers { (metric : Metric) (bound : ℕ) (input stem : Bytes)
         → job_of words.now ≡ Some (check metric bound input stem)
         → files.old.told ≡ true → IsTrue (contains_key files.old.given input)
@@ -122,7 +133,8 @@ pub fn run_surely(
         → IsWorkOf conflicts (input_count (demo_net width)) (told_query result.spent) result.status }
 
     // Every job ends as the reading of IN and the conflicts ask, unless memory is wanting.
-    ensures complete { (job : Job) → job_of words.now ≡ Some job → EndsAsAsked job (sure_told files.old) result }
+    ensures complete { (job : Job) → job_of words.now ≡ Some job
+        → EndsAsAsked job (sure_told files.old) result }
 {
     run(alloc, words, files, say)
 }

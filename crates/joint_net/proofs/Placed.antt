@@ -69,8 +69,10 @@ placed_quality N M read first same er ef =
     rw (er, ef) (ap (λ n. moved (λ i. get_or (both_outputs N M) i 0) n (input_count N + table_count N + table_count M)) (length-both N M same))
 
 pub are_copies : (N M : NetValue) (more : List TableValue) (inputs read : List ℕ) (tables₀ tables₁ tables₂ tables₃ : List TableValue) (own first last : ℕ)
-    → length N.outputs ≡ length M.outputs → inputs ≡ range_with_len 0 (input_count N) → own ≡ input_count N → first ≡ input_count N + table_count N → read ≡ both_outputs N M → last ≡ input_count N + table_count N + table_count M
-    → tables₀ ≡ [] → tables₁ ≡ tables₀ ++ copied 101 (placed inputs own) N.tables → tables₂ ≡ tables₁ ++ copied 97 (placed inputs first) M.tables → tables₃ ≡ tables₂ ++ copied 113 (placed read last) more
+    → length N.outputs ≡ length M.outputs → inputs ≡ range_with_len 0 (input_count N) → own ≡ input_count N → first ≡ input_count N + table_count N → read ≡ both_outputs N M
+    → last ≡ input_count N + table_count N + table_count M
+    → tables₀ ≡ [] → tables₁ ≡ tables₀ ++ copied 101 (placed inputs own) N.tables → tables₂ ≡ tables₁ ++ copied 97 (placed inputs first) M.tables
+    → tables₃ ≡ tables₂ ++ copied 113 (placed read last) more
     → tables₃ ≡ all_copies N M more
 are_copies N M more inputs read tables₀ tables₁ tables₂ tables₃ own first last same ei eo ef er el e₀ e₁ e₂ e₃ =
     rw (e₃, placed_quality N M read last same er el, e₂, e₁, e₀, ei, eo, ef, placed_own (input_count N), placed_range (input_count N) (input_count N + table_count N))

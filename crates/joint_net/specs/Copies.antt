@@ -1,5 +1,6 @@
 -- The parts of a joint net as this crate makes them.
-use Rattle.std.specs.Prelude.{◌≡◌, ℕ, ◌+◌, ◌<◌, ◌^◌, nat_lt, Bool, List, [], ◌∷◌, ◌++◌, map, length, slice_index_or, codes}
+use Rattle.std.specs.Prelude.{◌≡◌, ℕ, ◌+◌, ◌<◌, ◌^◌, nat_lt, Bool, List, [], ◌∷◌, ◌++◌, map, length}
+use Rattle.std.specs.Prelude.{slice_index_or, codes}
 use Rattle.std.specs.List.{range_with_len}
 use Rattle.semantics.specs.Net.{TableValue, NetValue, input_count, table_count, signal_count, IsAcyclic}
 use Rattle.semantics.specs.Value.{outputs_of}
@@ -20,7 +21,9 @@ copy_at i letter f t = record t { name = numbered_name letter i; pins = map f t.
 -- the tables of the joint net, where those of the quality network are these
 abbrev pub all_copies : NetValue → NetValue → List TableValue → List TableValue
 all_copies exact approx tables =
-    copied 101 (λ s. s) exact.tables ++ (copied 97 (approximate_signal exact) approx.tables ++ copied 113 (quality_signal exact approx) tables)
+    copied 101 (λ s. s) exact.tables
+    ++ (copied 97 (approximate_signal exact) approx.tables
+    ++ copied 113 (quality_signal exact approx) tables)
 
 -- the net of two nets and a quality network over their outputs
 unfoldable pub joined : NetValue → NetValue → NetValue → NetValue
@@ -40,4 +43,5 @@ pub record IsJoinable (exact approx quality : NetValue) : Type 0 where
 
 -- the one output is 1 exactly where the error exceeds the level
 abbrev pub TellsError : Metric → NetValue → NetValue → ℕ → NetValue → Type 0
-TellsError metric exact approx k N = (x : List Bool) → outputs_of N x ≡ nat_lt k (net_error metric exact approx x) ∷ []
+TellsError metric exact approx k N = (x : List Bool)
+    → outputs_of N x ≡ nat_lt k (net_error metric exact approx x) ∷ []

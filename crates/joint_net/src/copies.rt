@@ -102,7 +102,8 @@ pub fn push_copies(
 ) -> Result<(), AllocError>
     requires letter { IsNameByte letter }
     requires room { first < 2 ^ 31 }
-    ensures { OnOk result (tables.new ≡ tables.old ++ copied letter (placed inputs.now first) net.now.tables) }
+    ensures { OnOk result (tables.new
+        ≡ tables.old ++ copied letter (placed inputs.now first) net.now.tables) }
 {
     for t in 0..net.tables() {
         let copy = copied_table(alloc, letter, t, inputs, first, net.table(t))?;

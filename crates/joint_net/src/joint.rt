@@ -1,8 +1,9 @@
-//! The joint net: two nets over the same inputs, and a quality network over their outputs.
-//! Source: SALSA's quality function circuit, which the outputs of the exact and of the approximate circuit feed.
+//! The joint net: two nets over the same inputs, and a quality network over their outputs. Source: SALSA's
+//! quality function circuit, which the outputs of the exact and of the approximate circuit feed.
 ghost use Rattle.std.specs.Prelude.{◌≡◌, ◌↔◌, ℕ, ◌+◌, ◌<◌, ◌≤◌, ◌^◌, map, length, codes, IfOk, IsTrue};
 ghost use Rattle.std.specs.List.{range_with_len};
-ghost use Rattle.semantics.specs.Net.{input_count, table_count, signal_count, row_count, HasSamePorts, IsSmall, IsSound, NetValue};
+ghost use Rattle.semantics.specs.Net.{input_count, table_count, signal_count, row_count, HasSamePorts};
+ghost use Rattle.semantics.specs.Net.{IsSmall, IsSound, NetValue};
 ghost use Rattle.quality_semantics.specs.Quality.{quality_net};
 ghost use Rattle.quality_semantics.specs.Joint.{numbered_name, both_outputs, quality_signal, joint_net};
 ghost use Rattle.joint_net.specs.Copies.{all_copies, joined, IsJoinable, TellsError};
@@ -31,7 +32,8 @@ fn quality(alloc: Global, metric: Metric, width: u32, k: u128) -> Result<Net, Al
     }
 }
 
-/// The signals that the quality network reads: the outputs of the exact net, and then those of the approximate one.
+/// The signals that the quality network reads: the outputs of the exact net, and then those of the
+/// approximate one.
 fn signals_read(
     alloc: Global,
     inputs: &[Signal],
@@ -82,7 +84,8 @@ fn joint_outputs(
     requires read { read.now ≡ both_outputs exact.now approx.now }
     requires outputs { length exact.now.outputs ≡ length approx.now.outputs }
     requires room { signal_count exact.now + table_count approx.now < 2 ^ 31 }
-    ensures { IfOk result (λ outputs. outputs ≡ map (quality_signal exact.now approx.now) quality.now.outputs) }
+    ensures { IfOk result (λ outputs. outputs
+        ≡ map (quality_signal exact.now approx.now) quality.now.outputs) }
 {
     let last = exact.signals() + approx.tables();
     let mut outputs = SignalList::new(alloc);
@@ -158,9 +161,11 @@ fn joint_parts(alloc: Global, exact: &Net, approx: &Net, quality: &Net) -> Resul
     requires outputs { length exact.now.outputs ≡ length approx.now.outputs }
     requires room { signal_count exact.now + table_count approx.now < 2 ^ 31 }
     ensures model { IfOk result (λ p. p.model ≡ codes "joint") }
-    ensures inputs { IfOk result (λ p. p.inputs ≡ map (numbered_name 120) (range_with_len 0 (input_count exact.now))) }
+    ensures inputs { IfOk result
+        (λ p. p.inputs ≡ map (numbered_name 120) (range_with_len 0 (input_count exact.now))) }
     ensures tables { IfOk result (λ p. p.tables ≡ all_copies exact.now approx.now quality.now.tables) }
-    ensures outputs { IfOk result (λ p. p.outputs ≡ map (quality_signal exact.now approx.now) quality.now.outputs) }
+    ensures outputs { IfOk result
+        (λ p. p.outputs ≡ map (quality_signal exact.now approx.now) quality.now.outputs) }
 {
     let (tables, outputs) = wired_parts(alloc, exact, approx, quality)?;
     let model = model_name(alloc)?;
@@ -220,7 +225,8 @@ fn with_room(net: Net) -> Result<Net, AllocError>
 /// The joint net of two nets and a quality network for them, if its signals are few.
 fn join_few(alloc: Global, exact: &Net, approx: &Net, quality: &Net) -> Result<Net, AllocError>
     requires ports { HasSamePorts exact.now approx.now }
-    requires quality { (metric : Metric) × (k : ℕ) × (quality.now ≡ quality_net metric (length exact.now.outputs) k) }
+    requires quality { (metric : Metric) × (k : ℕ)
+        × (quality.now ≡ quality_net metric (length exact.now.outputs) k) }
     ensures net { IfOk result (λ n. n ≡ joined exact.now approx.now quality.now) }
     ensures exact_sound { IsSound exact.now }
     ensures approximate_sound { IsSound approx.now }
@@ -240,7 +246,8 @@ fn join_with_room(
     quality: &Net,
 ) -> Result<Net, AllocError>
     requires ports { HasSamePorts exact.now approx.now }
-    requires quality { (metric : Metric) × (k : ℕ) × (quality.now ≡ quality_net metric (length exact.now.outputs) k) }
+    requires quality { (metric : Metric) × (k : ℕ)
+        × (quality.now ≡ quality_net metric (length exact.now.outputs) k) }
     ensures net { IfOk result (λ n. n ≡ joined exact.now approx.now quality.now) }
     ensures room { IfOk result (λ n. signal_count n + row_count n < 2 ^ 31) }
     ensures exact_sound { IsSound exact.now }

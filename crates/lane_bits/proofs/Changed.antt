@@ -1,5 +1,6 @@
 -- Words that are changed one by one, or eight at a time.
-use Rattle.std.proofs.Common.{◌≡◌, ◌≢◌, ℕ, zero, suc, ◌+◌, ◌*◌, ◌/◌, ◌%◌, ◌-◌, ◌<◌, ◌≤◌, ◌==◌, false, List, [], ◌∷◌, length, get_or, set, replicate, refl, ap, sym, subst, ◌∙◌, inl, inr, arith, get_or-set_same, get_or-set_other}
+use Rattle.std.proofs.Common.{◌≡◌, ◌≢◌, ℕ, zero, suc, ◌+◌, ◌*◌, ◌/◌, ◌%◌, ◌-◌, ◌<◌, ◌≤◌, ◌==◌, false, List, [], ◌∷◌, length, get_or, set, replicate, refl, ap, sym, subst, ◌∙◌, inl, inr, arith}
+use Rattle.std.proofs.Common.{get_or-set_same, get_or-set_other}
 use Rattle.std.specs.Prelude.{bit_and, bit_or, bit_xor}
 use Rattle.std.specs.Int.{bit_at}
 use Rattle.std.specs.Simd.Lanes.{zip2, chunk, put_chunk, fold_l}
@@ -16,7 +17,8 @@ pub changed_until : (f : ℕ → ℕ → ℕ) (from k to : ℕ) (old new : List 
 changed_until f from k to old new same are = subst (λ n. AreChanged f from n old new) same are
 
 -- first the words up to a place, then those from there on
-pub changed_joined : (f : ℕ → ℕ → ℕ) (from place to : ℕ) (old row new : List ℕ) → from ≤ place → place ≤ to → AreChanged f from place old row → AreChanged f place to row new → AreChanged f from to old new
+pub changed_joined : (f : ℕ → ℕ → ℕ) (from place to : ℕ) (old row new : List ℕ) → from ≤ place → place ≤ to → AreChanged f from place old row → AreChanged f place to row new
+    → AreChanged f from to old new
 changed_joined f from place to old row new left right first second = record {
   changed = λ k low high. elim (cases_lt k place) [
     | inl early ↦ second.before k early ∙ first.changed k low early
@@ -27,7 +29,8 @@ changed_joined f from place to old row new left right first second = record {
 }
 
 -- one more word
-pub changed_more : (f : ℕ → ℕ → ℕ) (from k word : ℕ) (old row : List ℕ) → from ≤ k → k < length row → word ≡ f k (get_or row k 0) → AreChanged f from k old row → AreChanged f from (k + 1) old (set row k word)
+pub changed_more : (f : ℕ → ℕ → ℕ) (from k word : ℕ) (old row : List ℕ) → from ≤ k → k < length row → word ≡ f k (get_or row k 0) → AreChanged f from k old row
+    → AreChanged f from (k + 1) old (set row k word)
 changed_more f from k word old row low within is before =
     changed_joined f from k (k + 1) old row (set row k word) low (omega arith) before
     (record {

@@ -14,4 +14,5 @@ pub record RowExamples : Type 0 where
 -- the rows of two inputs whose vectors are the counting order, and the bits of the second input
 pub record PatternExamples : Type 0 where
   pub counting : vectors_in ((10 ∷ []) ∷ (12 ∷ []) ∷ []) 4 ≡ all_vectors 2
-  pub bits : map (pattern_bit (all_vectors 2) 1) (0 ∷ 1 ∷ 2 ∷ 3 ∷ 4 ∷ []) ≡ false ∷ false ∷ true ∷ true ∷ false ∷ []
+  pub bits : map (pattern_bit (all_vectors 2) 1) (0 ∷ 1 ∷ 2 ∷ 3 ∷ 4 ∷ [])
+      ≡ false ∷ false ∷ true ∷ true ∷ false ∷ []

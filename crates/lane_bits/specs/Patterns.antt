@@ -1,5 +1,5 @@
--- Sets of input vectors, and the rows of bits that hold them. Source: bit-parallel simulation: one row for each input, one bit for
--- each vector.
+-- Sets of input vectors, and the rows of bits that hold them. Source: bit-parallel simulation: one row for
+-- each input, one bit for each vector.
 use Rattle.std.specs.Prelude.{◌≡◌, ℕ, ◌≤◌, Bool, false, List, [], map, length, slice_index_or}
 use Rattle.std.specs.List.{AllByRecursion, range_with_len}
 use Rattle.semantics.specs.declared.limits.TheConstants.{MOST_INPUTS}

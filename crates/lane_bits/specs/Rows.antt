@@ -1,4 +1,5 @@
--- Rows of bits: bit p of a row is bit p % 64 of its word p / 64. Source: bit-parallel simulation, 64 patterns a word.
+-- Rows of bits: bit p of a row is bit p % 64 of its word p / 64. Source: bit-parallel simulation, 64 patterns
+-- a word.
 use Rattle.std.specs.Prelude.{◌≡◌, ℕ, ◌/◌, ◌%◌, ◌<◌, ◌==◌, Bool, true, false, not, List, slice_index}
 use Rattle.std.specs.Int.{bit_at}
 use Rattle.semantics.specs.Error.{rounded_up}

@@ -1,5 +1,6 @@
 -- How rows of bits hold a set of vectors, and how they change when a vector is added.
-use Rattle.std.specs.Prelude.{◌≡◌, ◌⊎◌, ℕ, ◌<◌, ◌≤◌, ◌==◌, ◌||◌, ◌&&◌, Bool, false, List, [], length, slice_index_or, All}
+use Rattle.std.specs.Prelude.{◌≡◌, ◌⊎◌, ℕ, ◌<◌, ◌≤◌, ◌==◌, ◌||◌, ◌&&◌, Bool, false, List, [], length}
+use Rattle.std.specs.Prelude.{slice_index_or, All}
 use Rattle.semantics.specs.declared.limits.TheConstants.{MOST_INPUTS}
 use Rattle.lane_bits.specs.Rows.{row_bit, word_count}
 

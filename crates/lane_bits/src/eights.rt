@@ -1,5 +1,6 @@
 //! Eight words of rows at a time. Nothing here takes memory.
-ghost use Rattle.std.specs.Prelude.{◌≡◌, ◌+◌, ◌<◌, ◌≤◌, ℕ, length, slice_index, IsTrue, bit_and, bit_or, bit_xor};
+ghost use Rattle.std.specs.Prelude.{◌≡◌, ◌+◌, ◌<◌, ◌≤◌, ℕ, length, slice_index, IsTrue, bit_and, bit_or};
+ghost use Rattle.std.specs.Prelude.{bit_xor};
 ghost use Rattle.lane_bits.specs.Changed.{AreChanged};
 
 use std::simd::u64x8;
@@ -18,7 +19,8 @@ pub(crate) fn and_eight(
     requires dst { at + 8 ≤ length dst.old }
     requires a { at + 8 ≤ length a.now }
     requires b { at + 8 ≤ length b.now }
-    ensures { AreChanged (λ k w. bit_and (bit_xor (slice_index a.now k) flips_a) (bit_xor (slice_index b.now k) flips_b))
+    ensures { AreChanged (λ k w. bit_and (bit_xor (slice_index a.now k) flips_a)
+        (bit_xor (slice_index b.now k) flips_b))
         at (at + 8) dst.old dst.new }
 {
     let left = u64x8::from_slice(&a[at..]) ^ u64x8::splat(flips_a);
@@ -32,7 +34,8 @@ pub(crate) fn and_eight(
 pub(crate) fn keep_eight(dst: &mut [u64], a: &[u64], flips_a: u64, at: usize)
     requires dst { at + 8 ≤ length dst.old }
     requires a { at + 8 ≤ length a.now }
-    ensures { AreChanged (λ k w. bit_and w (bit_xor (slice_index a.now k) flips_a)) at (at + 8) dst.old dst.new }
+    ensures { AreChanged (λ k w. bit_and w (bit_xor (slice_index a.now k) flips_a)) at (at + 8) dst.old
+        dst.new }
 {
     let right = u64x8::from_slice(&a[at..]) ^ u64x8::splat(flips_a);
     let words = u64x8::from_slice(&dst[at..]) & right;

@@ -1,5 +1,6 @@
 //! Kernels on rows of bits: eight words at a time, and the rest word by word. They take no memory.
-ghost use Rattle.std.specs.Prelude.{◌≡◌, ◌*◌, ◌-◌, ◌^◌, ◌<◌, ◌≤◌, ℕ, length, slice_index, false, ◌&&◌, ◌||◌, MatchOption, if◌then◌else◌, bit_and, bit_or, bit_xor};
+ghost use Rattle.std.specs.Prelude.{◌≡◌, ◌*◌, ◌-◌, ◌^◌, ◌<◌, ◌≤◌, ℕ, length, slice_index, false, ◌&&◌, ◌||◌};
+ghost use Rattle.std.specs.Prelude.{MatchOption, if◌then◌else◌, bit_and, bit_or, bit_xor};
 ghost use Rattle.lane_bits.specs.Rows.{row_bit, turned, word_count, HasNoneSet, IsFirstSet};
 ghost use Rattle.lane_bits.specs.Changed.{AreChanged};
 
@@ -25,7 +26,8 @@ fn and_rest(dst: &mut [u64], a: &[u64], flips_a: u64, b: &[u64], flips_b: u64, f
     requires from { from ≤ length dst.old }
     requires a_length { length a.now ≡ length dst.old }
     requires b_length { length b.now ≡ length dst.old }
-    ensures { AreChanged (λ k w. bit_and (bit_xor (slice_index a.now k) flips_a) (bit_xor (slice_index b.now k) flips_b))
+    ensures { AreChanged (λ k w. bit_and (bit_xor (slice_index a.now k) flips_a)
+        (bit_xor (slice_index b.now k) flips_b))
         from (length dst.old) dst.old dst.new }
 {
     for k in from..dst.len() {
@@ -33,7 +35,8 @@ fn and_rest(dst: &mut [u64], a: &[u64], flips_a: u64, b: &[u64], flips_b: u64, f
     }
 }
 
-/// Each bit of `dst` becomes the conjunction of the bits of `a` and `b`, each turned over where its flag says so.
+/// Each bit of `dst` becomes the conjunction of the bits of `a` and `b`, each turned over where its flag says
+/// so.
 pub fn and_rows(dst: &mut [u64], a: &[u64], flip_a: bool, b: &[u64], flip_b: bool)
     requires a_length { length a.now ≡ length dst.old }
     requires b_length { length b.now ≡ length dst.old }
@@ -53,7 +56,8 @@ pub fn and_rows(dst: &mut [u64], a: &[u64], flip_a: bool, b: &[u64], flip_b: boo
 fn keep_rest(dst: &mut [u64], a: &[u64], flips_a: u64, from: usize)
     requires from { from ≤ length dst.old }
     requires a_length { length a.now ≡ length dst.old }
-    ensures { AreChanged (λ k w. bit_and w (bit_xor (slice_index a.now k) flips_a)) from (length dst.old) dst.old dst.new }
+    ensures { AreChanged (λ k w. bit_and w (bit_xor (slice_index a.now k) flips_a)) from (length dst.old)
+        dst.old dst.new }
 {
     for k in from..dst.len() {
         dst[k] &= a[k] ^ flips_a;
@@ -63,7 +67,8 @@ fn keep_rest(dst: &mut [u64], a: &[u64], flips_a: u64, from: usize)
 /// Each bit of `dst` stays 1 only where the bit of `a`, turned over if `flip_a`, is 1 too.
 pub fn keep_rows(dst: &mut [u64], a: &[u64], flip_a: bool)
     requires { length a.now ≡ length dst.old }
-    ensures { (p : ℕ) → p < 64 * length dst.old → row_bit dst.new p ≡ (row_bit dst.old p && turned flip_a (row_bit a.now p)) }
+    ensures { (p : ℕ) → p < 64 * length dst.old
+        → row_bit dst.new p ≡ (row_bit dst.old p && turned flip_a (row_bit a.now p)) }
 {
     let flips_a = flip_word(flip_a);
     let eights = dst.len() / 8;

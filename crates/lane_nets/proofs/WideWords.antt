@@ -1,5 +1,6 @@
 -- Wide words lane by lane.
-use Rattle.std.proofs.Common.{◌≡◌, ℕ, zero, suc, ◌+◌, ◌-◌, ◌*◌, ◌/◌, ◌%◌, ◌<◌, ◌≤◌, Bool, true, false, not, cond, ◌&&◌, Fits, w64, List, [], ◌∷◌, length, map, get_or, set, take, drop, replicate, refl, ap, sym, subst, ◌∙◌, inl, inr, arith, get_or-set_same, get_or-set_other}
+use Rattle.std.proofs.Common.{◌≡◌, ℕ, zero, suc, ◌+◌, ◌-◌, ◌*◌, ◌/◌, ◌%◌, ◌<◌, ◌≤◌, Bool, true, false, not, cond, ◌&&◌, Fits, w64, List, [], ◌∷◌, length, map, get_or, set, take, drop, replicate}
+use Rattle.std.proofs.Common.{refl, ap, sym, subst, ◌∙◌, inl, inr, arith, get_or-set_same, get_or-set_other}
 use Rattle.std.specs.Int.{bit_not}
 use Rattle.std.specs.Prelude.{bit_and}
 use Rattle.std.proofs.lemmas.Bool.{cases_eq}
@@ -62,11 +63,13 @@ wide_row_step marks pins wides j i b all pin d low widths here before =
     (here ∙ ap (λ w. mark_matches (get_or marks i d) (word_bit w b)) (sym (lane_words_get wides j (get_or pins i 0)))) before
 
 -- eight words of a row
-pub wide_part : (row : List ℕ) (from j : ℕ) → 8 ≤ length (take (length row - from) (drop from row)) → j < 8 → get_or (chunk 0 8 (take (length row - from) (drop from row))) j 0 ≡ get_or row (from + j) 0
+pub wide_part : (row : List ℕ) (from j : ℕ) → 8 ≤ length (take (length row - from) (drop from row)) → j < 8
+    → get_or (chunk 0 8 (take (length row - from) (drop from row))) j 0 ≡ get_or row (from + j) 0
 wide_part row from j long lane =
     let rest : List ℕ = take (length row - from) (drop from row) in
     let at : 0 + j ≡ j = omega arith in
-    get_or-chunk 0 8 rest j 0 lane ∙ ap (λ n. get_or rest n 0) at ∙ get_or-take (length row - from) (drop from row) j 0 (omega (arith, long, lane, length-take (length row - from) (drop from row))) ∙ get_or-drop from row j 0
+    get_or-chunk 0 8 rest j 0 lane ∙ ap (λ n. get_or rest n 0) at ∙ get_or-take (length row - from) (drop from row) j 0 (omega (arith, long, lane, length-take (length row - from) (drop from row))) ∙
+    get_or-drop from row j 0
 
 -- ---- table after table
 

@@ -6,7 +6,8 @@ use Rattle.semantics.specs.Error.{net_error}
 use Rattle.lane_nets.specs.Blocks.{vector_at}
 
 -- p is the first pattern whose error exceeds the level
-pub record IsFirstOver (metric : Metric) (exact approx : NetValue) (level : ℕ) (vectors : List (List Bool)) (p : ℕ) : Type 0 where
+pub record IsFirstOver (metric : Metric) (exact approx : NetValue) (level : ℕ) (vectors : List (List Bool))
+    (p : ℕ) : Type 0 where
   pub within : p < length vectors
   pub over : level < net_error metric exact approx (vector_at vectors p)
   pub first : (q : ℕ) → q < p → net_error metric exact approx (vector_at vectors q) ≤ level
@@ -14,7 +15,8 @@ pub record IsFirstOver (metric : Metric) (exact approx : NetValue) (level : ℕ)
 -- p is the first pattern whose error exceeds the level; there is no p where the error of no pattern does
 abbrev pub FindsFirstOver : Metric → NetValue → NetValue → ℕ → List (List Bool) → Option ℕ → Type 0
 FindsFirstOver metric exact approx level vectors found =
-    MatchOption found ((p : ℕ) → p < length vectors → net_error metric exact approx (vector_at vectors p) ≤ level)
+    MatchOption found ((p : ℕ) → p < length vectors
+    → net_error metric exact approx (vector_at vectors p) ≤ level)
     (IsFirstOver metric exact approx level vectors)
 
 -- `most` is the greatest of the first `count` values of f, and p the first place that has it

@@ -1,4 +1,5 @@
--- Lists of bits at 64 patterns at a time: one word for each bit of the list, one lane for each pattern. Source: bit-parallel simulation.
+-- Lists of bits at 64 patterns at a time: one word for each bit of the list, one lane for each pattern.
+-- Source: bit-parallel simulation.
 use Rattle.std.specs.Prelude.{◌≡◌, ◌↔◌, ℕ, ◌+◌, ◌*◌, ◌<◌, nat_lt, Bool, List, map, length, slice_index}
 use Rattle.semantics.specs.Net.{NetValue}
 use Rattle.semantics.specs.Value.{outputs_of}
@@ -35,10 +36,12 @@ pub record IsOutputBlock (N : NetValue) (vectors : List (List Bool)) (k : ℕ) (
   pub lanes : (b : ℕ) → b < 64 → lane_at words b ≡ outputs_of N (vector_at vectors (64 * k + b))
 
 -- the net's outputs at each pattern, in blocks of 64
-pub record AreOutputWordsOf (N : NetValue) (vectors : List (List Bool)) (blocks : List (List ℕ)) : Type 0 where
+pub record AreOutputWordsOf (N : NetValue) (vectors : List (List Bool))
+    (blocks : List (List ℕ)) : Type 0 where
   pub count : length blocks ≡ word_count (length vectors)
   pub widths : (k : ℕ) → k < length blocks → length (row_at blocks k) ≡ length N.outputs
-  pub are : (k b : ℕ) → k < length blocks → b < 64 → lane_at (row_at blocks k) b ≡ outputs_of N (vector_at vectors (64 * k + b))
+  pub are : (k b : ℕ) → k < length blocks → b < 64
+      → lane_at (row_at blocks k) b ≡ outputs_of N (vector_at vectors (64 * k + b))
 
 -- an exact net and a set of patterns
 pub record ReferenceValue : Type 0 where

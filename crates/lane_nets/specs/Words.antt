@@ -1,4 +1,5 @@
--- Words of 64 patterns: one word for each signal, whose bit b is the signal's value at pattern b. Source: bit-parallel simulation.
+-- Words of 64 patterns: one word for each signal, whose bit b is the signal's value at pattern b. Source:
+-- bit-parallel simulation.
 use Rattle.std.specs.Prelude.{◌≡◌, ◌==◌, ℕ, ◌<◌, Bool, false, List, slice_index, slice_index_or}
 use Rattle.std.specs.Int.{bit_at}
 use Rattle.semantics.specs.Net.{NetValue, input_count, signal_count}
@@ -17,4 +18,5 @@ HasInputs N words b x = (s : ℕ) → s < input_count N → values_at words b s 
 
 -- at pattern b each signal has its value at x
 abbrev pub HasValues : NetValue → List ℕ → ℕ → List Bool → Type 0
-HasValues N words b x = (s : ℕ) → s < signal_count N → values_at words b s ≡ value_of (input_count N) N.tables x s
+HasValues N words b x = (s : ℕ) → s < signal_count N
+    → values_at words b s ≡ value_of (input_count N) N.tables x s

@@ -1,4 +1,5 @@
-//! Errors at 64 patterns at a time: outputs are a word each, the first for bit 0 of a number, and lane b has the outputs at pattern b.
+//! Errors at 64 patterns at a time: outputs are a word each, the first for bit 0 of a number, and lane b has
+//! the outputs at pattern b.
 ghost use Rattle.std.specs.Prelude.{◌≡◌, ◌↔◌, ◌+◌, ◌<◌, ◌≤◌, ℕ, false, length, IsTrue};
 ghost use Rattle.semantics.specs.Error.{bit_number, number_of, sign_flipped, distance, differing, error_of};
 ghost use Rattle.semantics.specs.declared.metric.Metric.TheVariants.{Rel, Sabs};
@@ -21,7 +22,8 @@ struct Comparison {
 /// The comparison after one more bit of both numbers and of the constant that is added to the lower number.
 fn compare_bit(low: u64, high: u64, one: bool, so_far: Comparison) -> Comparison
     ensures { (b : ℕ) → b < 64 → GoesOn (lane_number low b) (lane_number high b) (bit_number one)
-        (lane_number so_far.carry b) (lane_number so_far.above b) (lane_number result.carry b) (lane_number result.above b) }
+        (lane_number so_far.carry b) (lane_number so_far.above b) (lane_number result.carry b)
+        (lane_number result.above b) }
 {
     let constant = if one { u64::MAX } else { 0 };
     let half = low ^ constant;
@@ -36,7 +38,8 @@ fn compare_bit(low: u64, high: u64, one: bool, so_far: Comparison) -> Comparison
 fn above_word(low: &[u64], high: &[u64], level: u128) -> u64
     requires { length low.now ≡ length high.now }
     ensures { (b : ℕ) → b < 64
-        → IsTrue (word_bit result b) ↔ (number_of (lane_at low.now b) + level < number_of (lane_at high.now b)) }
+        → IsTrue (word_bit result b)
+        ↔ (number_of (lane_at low.now b) + level < number_of (lane_at high.now b)) }
 {
     let mut rest = level;
     let mut so_far = Comparison { carry: 0, above: 0 };
@@ -128,7 +131,8 @@ pub(crate) fn lane_error(metric: Metric, exact: &[u64], approx: &[u64], b: u32) 
 
 /// Counts one more output: word j of `reached` tells where more than j outputs differ.
 fn count_differing(reached: &mut [u64], differs: u64)
-    ensures { (b n : ℕ) → b < 64 → HasReached reached.old b n → HasReached reached.new b (n + lane_number differs b) }
+    ensures { (b n : ℕ) → b < 64 → HasReached reached.old b n
+        → HasReached reached.new b (n + lane_number differs b) }
 {
     let mut below = u64::MAX;
     for j in 0..reached.len() {
@@ -206,7 +210,8 @@ fn single_errors(metric: Metric, level: u128, exact: &[u64], approx: &[u64]) -> 
     requires same { length exact.now ≡ length approx.now }
     requires few { length exact.now ≤ MOST_OUTPUTS }
     ensures { (b : ℕ) → b < 64
-        → IsTrue (word_bit result b) ↔ (level < error_of metric (lane_at exact.now b) (lane_at approx.now b)) }
+        → IsTrue (word_bit result b)
+        ↔ (level < error_of metric (lane_at exact.now b) (lane_at approx.now b)) }
 {
     let unequal = unequal_word(exact, approx);
     let mut over = 0;
@@ -223,7 +228,8 @@ pub fn over_word(metric: Metric, level: u128, exact: &[u64], approx: &[u64]) -> 
     requires same { length exact.now ≡ length approx.now }
     requires few { length exact.now ≤ MOST_OUTPUTS }
     ensures { (b : ℕ) → b < 64
-        → IsTrue (word_bit result b) ↔ (level < error_of metric (lane_at exact.now b) (lane_at approx.now b)) }
+        → IsTrue (word_bit result b)
+        ↔ (level < error_of metric (lane_at exact.now b) (lane_at approx.now b)) }
 {
     match metric {
         Metric::Abs => apart_word(exact, approx, level),

@@ -33,7 +33,8 @@ impl<'a> Model for Reference<'a> {
 
     ghost view = { λ r. record { exact = r.exact.now; patterns = r.patterns } };
 
-    ghost invariant = { λ r. (r.patterns.inputs ≡ input_count r.exact.now) × AreOutputWordsOf r.exact.now r.patterns.vectors r.outputs };
+    ghost invariant = { λ r. (r.patterns.inputs ≡ input_count r.exact.now)
+        × AreOutputWordsOf r.exact.now r.patterns.vectors r.outputs };
 }
 
 impl<'a> Reference<'a> {
@@ -71,7 +72,8 @@ impl<'a> Reference<'a> {
         level: u128,
     ) -> Result<Option<u64>, AllocError>
         requires { IsCandidate self.now.exact approx.now }
-        ensures { IfOk result (FindsFirstOver metric self.now.exact approx.now level self.now.patterns.vectors) }
+        ensures { IfOk result (FindsFirstOver metric self.now.exact approx.now level
+            self.now.patterns.vectors) }
     {
         let mut wides = vec![in alloc; u64x8::splat(0); approx.signals() as usize]?;
         Ok(first_over(

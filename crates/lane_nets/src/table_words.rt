@@ -1,5 +1,6 @@
 //! The values of tables at 64 patterns at a time.
-ghost use Rattle.std.specs.Prelude.{◌≡◌, ◌<◌, ◌||◌, ℕ, true, false, length, slice_index, All, if◌then◌else◌, not};
+ghost use Rattle.std.specs.Prelude.{◌≡◌, ◌<◌, ◌||◌, ℕ, true, false, length, slice_index, All, if◌then◌else◌};
+ghost use Rattle.std.specs.Prelude.{not};
 ghost use Rattle.std.specs.List.{list_any};
 ghost use Rattle.semantics.specs.Value.{mark_matches, row_matches, table_value};
 ghost use Rattle.lane_nets.specs.Words.{word_bit, values_at};
@@ -38,7 +39,8 @@ pub fn rows_word(rows: &[Row], pins: &[Signal], words: &[u64]) -> u64
     requires widths { All (λ marks. length marks ≡ length pins.now) rows.now }
     requires pins_in { All (λ s. s < length words.now) pins.now }
     ensures { (b : ℕ) → b < 64
-        → word_bit result b ≡ list_any (λ marks. row_matches marks pins.now (values_at words.now b)) rows.now }
+        → word_bit result b ≡ list_any (λ marks. row_matches marks pins.now (values_at words.now b))
+        rows.now }
 {
     let mut any = 0;
     for row in rows {

@@ -38,7 +38,8 @@ fn block_over(
     requires exact { length exact.now ≡ length nets.now.exact.outputs }
     requires wides { length wides.now ≡ signal_count nets.now.approx }
     ensures { (b : ℕ) → b < 64 → IsTrue (word_bit result b)
-        ↔ (level < error_of metric (lane_at exact.now b) (map (values_at (lane_words wides.now j) b) nets.now.approx.outputs)) }
+        ↔ (level < error_of metric (lane_at exact.now b)
+        (map (values_at (lane_words wides.now j) b) nets.now.approx.outputs)) }
 {
     let mut room = [0; MOST_OUTPUTS];
     let approx = nets.approx();
@@ -86,7 +87,8 @@ fn greater(so_far: Greatest, error: u128, at: u64) -> Greatest
     }
 }
 
-/// The greatest error up to the first `count` patterns of one of the eight blocks, which begins at pattern `from`.
+/// The greatest error up to the first `count` patterns of one of the eight blocks, which begins at pattern
+/// `from`.
 fn greatest_in_block(
     nets: &Compared,
     metric: Metric,
@@ -103,8 +105,10 @@ fn greatest_in_block(
     requires few { count ≤ 64 }
     requires room { from + count < 2 ^ 64 }
     ensures { (f : ℕ → ℕ) → ((b : ℕ) → b < 64 → f (from + b)
-        ≡ error_of metric (lane_at exact.now b) (map (values_at (lane_words wides.now j) b) nets.now.approx.outputs))
-        → IsGreatestSoFar f from so_far.at so_far.error → IsGreatestSoFar f (from + count) result.at result.error }
+        ≡ error_of metric (lane_at exact.now b)
+        (map (values_at (lane_words wides.now j) b) nets.now.approx.outputs))
+        → IsGreatestSoFar f from so_far.at so_far.error
+        → IsGreatestSoFar f (from + count) result.at result.error }
 {
     let mut room = [0; MOST_OUTPUTS];
     let approx = nets.approx();
@@ -134,7 +138,8 @@ pub(crate) fn greatest_error(
     requires some { 0 < length patterns.now.vectors }
     requires outputs { AreOutputWordsOf nets.now.exact patterns.now.vectors outputs.now }
     requires wides { length wides.old ≡ signal_count nets.now.approx }
-    ensures { IsFirstGreatest metric nets.now.exact nets.now.approx patterns.now.vectors result.error result.at }
+    ensures { IsFirstGreatest metric nets.now.exact nets.now.approx patterns.now.vectors result.error
+        result.at }
 {
     let count = patterns.count();
     let mut greatest = Greatest { error: 0, at: 0 };

@@ -9,7 +9,8 @@ use net_core::net::Net;
 /// Finds the words of the tables from those of the inputs, which stay.
 pub fn eval_words(net: &Net, words: &mut [u64])
     requires { length words.old ≡ signal_count net.now }
-    ensures { (b : ℕ) (x : List Bool) → b < 64 → HasInputs net.now words.old b x → HasValues net.now words.new b x }
+    ensures { (b : ℕ) (x : List Bool) → b < 64 → HasInputs net.now words.old b x
+        → HasValues net.now words.new b x }
 {
     let inputs = net.inputs() as usize;
     for i in net.order() {

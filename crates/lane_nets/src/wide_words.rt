@@ -1,5 +1,7 @@
-//! The values of tables and of all signals at 512 patterns at a time: eight words side by side, each with 64 patterns.
-ghost use Rattle.std.specs.Prelude.{◌≡◌, ◌<◌, ℕ, List, Bool, true, false, length, slice_index, All, if◌then◌else◌, not, bit_and, bit_or};
+//! The values of tables and of all signals at 512 patterns at a time: eight words side by side, each with 64
+//! patterns.
+ghost use Rattle.std.specs.Prelude.{◌≡◌, ◌<◌, ℕ, List, Bool, true, false, length, slice_index, All};
+ghost use Rattle.std.specs.Prelude.{if◌then◌else◌, not, bit_and, bit_or};
 ghost use Rattle.std.specs.List.{list_any};
 ghost use Rattle.semantics.specs.Net.{signal_count};
 ghost use Rattle.semantics.specs.Value.{mark_matches, row_matches, table_value};
@@ -39,7 +41,8 @@ fn equal_words(word: u64) -> u64x8
 
 /// The lanes where a pin's value is as the mark asks.
 fn mark_wide(mark: Mark, wide: u64x8) -> u64x8
-    ensures { (j b : ℕ) → j < 8 → b < 64 → word_bit (slice_index result j) b ≡ mark_matches mark (word_bit (slice_index wide j) b) }
+    ensures { (j b : ℕ) → j < 8 → b < 64
+        → word_bit (slice_index result j) b ≡ mark_matches mark (word_bit (slice_index wide j) b) }
 {
     match mark {
         Mark::Zero => !wide,
@@ -53,7 +56,8 @@ fn row_wide(marks: &[Mark], pins: &[Signal], wides: &[u64x8]) -> u64x8
     requires widths { length marks.now ≡ length pins.now }
     requires pins_in { All (λ s. s < length wides.now) pins.now }
     ensures { (j b : ℕ) → j < 8 → b < 64
-        → word_bit (slice_index result j) b ≡ row_matches marks.now pins.now (values_at (lane_words wides.now j) b) }
+        → word_bit (slice_index result j) b
+        ≡ row_matches marks.now pins.now (values_at (lane_words wides.now j) b) }
 {
     let mut all = equal_words(u64::MAX);
     for (i, mark) in marks.iter().enumerate() {

@@ -57,7 +57,8 @@ found (e ∷ es) (suc i) d q rising within is =
     let before : e.id < (get_or es i d).id = rising 0 (suc i) d (omega arith) within in
     skip e.id e.clause (held_entries es) q (λ same. omega (arith, before, same, is)) ∙ found es i d q (later e es rising) (omega (arith, within)) is
 
-found_other : (es : List Entry) (i : ℕ) (d x : Entry) (q : ℕ) → i < length es → x.id ≡ (get_or es i d).id → (x.id ≡ q → ⊥) → find nat_cmp q (held_entries (set es i x)) ≡ find nat_cmp q (held_entries es)
+found_other : (es : List Entry) (i : ℕ) (d x : Entry) (q : ℕ) → i < length es → x.id ≡ (get_or es i d).id → (x.id ≡ q → ⊥)
+    → find nat_cmp q (held_entries (set es i x)) ≡ find nat_cmp q (held_entries es)
 found_other [] i d x q within same differ = absurd (omega (arith, within))
 found_other (e ∷ es) zero d x q within same differ =
     skip x.id x.clause (held_entries es) q differ ∙ sym (skip e.id e.clause (held_entries es) q (λ is. differ (same ∙ is)))
@@ -121,7 +122,8 @@ module _ (es : List Entry) (last id place : ℕ) (d : Entry) (order : AreInOrder
   pub removed_found : held_in without ≡ map.remove (held_in es) id
   removed_found = same_map nat_cmp_total nat_cmp-IsAntisymmetric (held_in without) (map.remove (held_in es) id) (λ q.
       changed (held_in es) (held_in without) id None
-      (held_in-get without id ∙ found without place d id order_without.rising (omega (arith, is_place.0, long)) (same_id place d is_place.0 ∙ is_place.1 d) ∙ ap (λ (e : Entry). e.clause) (get_or-set_same es place left d is_place.0))
+      (held_in-get without id ∙ found without place d id order_without.rising (omega (arith, is_place.0, long)) (same_id place d is_place.0 ∙ is_place.1 d) ∙ ap (λ (e : Entry). e.clause)
+      (get_or-set_same es place left d is_place.0))
       (λ k differ. held_in-get without k ∙ found_other es place d left k is_place.0 refl (λ e. differ (sym (is_place.1 d) ∙ e)) ∙ sym (held_in-get es k))
       q
       ∙ sym (get-remove nat_cmp_total (held_in es) id q))

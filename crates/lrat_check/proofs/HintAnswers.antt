@@ -1,5 +1,6 @@
 -- What the literals found so far say of a hint, whatever follows.
-use Rattle.std.proofs.Common.{◌≡◌, ℕ, Bool, true, false, cond, List, [], ◌∷◌, ◌++◌, length, get_or, drop, suc, not, ◌<◌, ◌+◌, ◌-◌, eqb, eq-eqb, length-drop, add-one, arith, ◌||◌, refl, ap, sym, ◌∙◌, drop-cons, ℤ, pos, neg_ℤ, Option, None, Some, Ok, Err}
+use Rattle.std.proofs.Common.{◌≡◌, ℕ, Bool, true, false, cond, List, [], ◌∷◌, ◌++◌, length, get_or, drop, suc, not, ◌<◌, ◌+◌, ◌-◌, eqb, eq-eqb, length-drop, add-one, arith, ◌||◌, refl, ap, sym, ◌∙◌}
+use Rattle.std.proofs.Common.{drop-cons, ℤ, pos, neg_ℤ, Option, None, Some, Ok, Err}
 use Rattle.std.specs.Prelude.{filter}
 use Rattle.std.specs.Ordering.{int_eq}
 use Rattle.std.specs.FinSet as literals
@@ -21,7 +22,8 @@ no_conflict hint l found (x ∷ literals) = by_test (has_literal (l ∷ found) x
 pub not_unit : (hint : ℕ) (l m : ℤ) (found literals : List ℤ) → hint_answer hint false (with_literals (l ∷ m ∷ found) literals) ≡ Err (NotUnit hint)
 not_unit hint l m found [] = refl
 not_unit hint l m found (x ∷ literals) = by_test (has_literal (l ∷ m ∷ found) x) (not_unit hint l m found literals) (not_unit hint l m (found ++ (x ∷ [])) literals) where
-  by_test : (t : Bool) → hint_answer hint false (with_literals (l ∷ m ∷ found) literals) ≡ Err (NotUnit hint) → hint_answer hint false (with_literals (l ∷ m ∷ (found ++ (x ∷ []))) literals) ≡ Err (NotUnit hint)
+  by_test : (t : Bool) → hint_answer hint false (with_literals (l ∷ m ∷ found) literals) ≡ Err (NotUnit hint)
+      → hint_answer hint false (with_literals (l ∷ m ∷ (found ++ (x ∷ []))) literals) ≡ Err (NotUnit hint)
       → hint_answer hint false (with_literals (cond t (l ∷ m ∷ found) ((l ∷ m ∷ found) ++ (x ∷ []))) literals) ≡ Err (NotUnit hint)
   by_test true h k = h
   by_test false h k = k
@@ -39,7 +41,8 @@ pub stops_last : (set : LiteralSet) (clause : List ℤ) (i hint : ℕ) (last : B
 stops_last set clause i hint last found l within is h at none e =
     let next = next_open set clause i l within is h in
     let rest : List ℤ = filter (λ x. not (is_false_in set x)) (drop (suc i) clause) in
-    let all : with_literals (l ∷ []) rest ≡ open_literals set clause = ap (with_literals []) (sym next) ∙ ap (λ f. with_literals (at_most_one f) (filter (λ x. not (is_false_in set x)) (drop i clause))) (sym none) ∙ e in
+    let all : with_literals (l ∷ []) rest ≡ open_literals set clause
+    = ap (with_literals []) (sym next) ∙ ap (λ f. with_literals (at_most_one f) (filter (λ x. not (is_false_in set x)) (drop i clause))) (sym none) ∙ e in
     let stops = no_conflict hint l [] rest in
     sym (ap (λ t. hint_answer hint t (open_literals set clause)) at ∙ ap (hint_answer hint true) (sym all) ∙ stops)
 

@@ -1,5 +1,6 @@
 -- Clauses in the order of their ids, of which some were removed.
-use Rattle.std.specs.Prelude.{◌≡◌, ◌≢◌, ℕ, ◌<◌, ◌≤◌, List, [], ◌∷◌, length, slice_index_or, Option, None, Some, refl}
+use Rattle.std.specs.Prelude.{◌≡◌, ◌≢◌, ℕ, ◌<◌, ◌≤◌, List, [], ◌∷◌, length, slice_index_or, Option, None}
+use Rattle.std.specs.Prelude.{Some, refl}
 use Rattle.std.specs.List.{All, AllPairs}
 use Rattle.std.specs.FinMap as map
 use Rattle.std.specs.Coded.{Coded, code_by, coded×, coded_ℕ, coded_ℤ, coded_list}
@@ -13,7 +14,8 @@ pub record HeldValue : Type 0 where
   pub last : ℕ
 
 abbrev pub held_code : Coded HeldValue
-held_code = code_by (Held × ℕ) (coded× (map.code coded_ℕ (coded_list coded_ℤ)) coded_ℕ) (λ h. (h.held, h.last)) (λ p. record { held = p.0; last = p.1 }) (λ _. refl)
+held_code = code_by (Held × ℕ) (coded× (map.code coded_ℕ (coded_list coded_ℤ)) coded_ℕ)
+    (λ h. (h.held, h.last)) (λ p. record { held = p.0; last = p.1 }) (λ _. refl)
 
 abbrev pub nothing_held : HeldValue
 nothing_held = record { held = map.empty; last = 0 }
@@ -44,4 +46,5 @@ pub record AreInOrder (entries : List Entry) (last : ℕ) : Type 0 where
 -- the place at which the id stands, if it does
 abbrev pub IsPlaceOf : List Entry → ℕ → Option ℕ → Type 0
 IsPlaceOf entries id None = (i : ℕ) (d : Entry) → i < length entries → (slice_index_or entries i d).id ≢ id
-IsPlaceOf entries id (Some place) = (place < length entries) × ((d : Entry) → (slice_index_or entries place d).id ≡ id)
+IsPlaceOf entries id (Some place) = (place < length entries)
+    × ((d : Entry) → (slice_index_or entries place d).id ≡ id)

@@ -1,5 +1,6 @@
 -- Literals that are marked in place.
-use Rattle.std.specs.Prelude.{◌≡◌, ℕ, ◌+◌, ◌*◌, Bool, true, false, List, length, slice_index_or, nat_lt, nat_abs, int_lt, if◌then◌else◌, ℤ, pos, All}
+use Rattle.std.specs.Prelude.{◌≡◌, ℕ, ◌+◌, ◌*◌, Bool, true, false, List, length, slice_index_or, nat_lt}
+use Rattle.std.specs.Prelude.{nat_abs, int_lt, if◌then◌else◌, ℤ, pos, All}
 
 -- where the mark of a literal stands: the two of a variable side by side
 abbrev pub index_of : ℤ → ℕ

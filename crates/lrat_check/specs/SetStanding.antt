@@ -7,7 +7,8 @@ use Rattle.lrat_check.specs.Marks.{is_marked}
 use Rattle.lrat_check.specs.declared.literal_set.LiteralSet.TheInside.{Inside}
 
 -- the members are the literals that are marked, and those that have no mark and are in the set apart
-pub record AreMarked {S : Type 0} (members : List ℤ) (marks : List Bool) (apart : hash.HashSet ℤ S) : Type 0 where
+pub record AreMarked {S : Type 0} (members : List ℤ) (marks : List Bool)
+    (apart : hash.HashSet ℤ S) : Type 0 where
   pub same : (l : ℤ) → is_marked marks (hash.contains int_eq apart l) l ≡ list_any (int_eq l) members
 
 abbrev pub Stands : Inside → Type 0

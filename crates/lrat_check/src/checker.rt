@@ -1,5 +1,6 @@
 //! The checker of steps. Source: LRAT with positive hints.
-ghost use Rattle.std.specs.Prelude.{◌≡◌, ◌⊎◌, ◌↔◌, ◌<◌, length, true, [], ◌∷◌, ◌++◌, List, Some, IfOk, OnOk, OnErr};
+ghost use Rattle.std.specs.Prelude.{◌≡◌, ◌⊎◌, ◌↔◌, ◌<◌, length, true, [], ◌∷◌, ◌++◌, List, Some, IfOk, OnOk};
+ghost use Rattle.std.specs.Prelude.{OnErr};
 ghost use Rattle.proof_semantics.specs.declared.item.Item.TheVariants.{Add, Remove};
 ghost use Rattle.proof_semantics.specs.Clauses.{Clause, IsUnsatisfiable};
 ghost use Rattle.proof_semantics.specs.Logs.{LogItem, held_of, step_answer, last_added};

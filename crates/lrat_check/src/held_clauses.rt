@@ -1,9 +1,11 @@
 //! The clauses that are held, by their ids.
-ghost use Rattle.std.specs.Prelude.{◌≡◌, ◌<◌, length, slice_index_or, slice_set, filter, is_some, OnOk, OnErr, option_map};
+ghost use Rattle.std.specs.Prelude.{◌≡◌, ◌<◌, length, slice_index_or, slice_set, filter, is_some, OnOk};
+ghost use Rattle.std.specs.Prelude.{OnErr, option_map};
 ghost use Rattle.std.specs.List.{AllPairs};
 ghost use Rattle.std.specs.FinMap as map;
 ghost use Rattle.proof_semantics.specs.Logs.{removed_from};
-ghost use Rattle.lrat_check.specs.HeldEntries.{nothing_held, without_clause, IsBefore, IsPlaceOf, held_entries};
+ghost use Rattle.lrat_check.specs.HeldEntries.{nothing_held, without_clause, IsBefore, IsPlaceOf};
+ghost use Rattle.lrat_check.specs.HeldEntries.{held_entries};
 
 use proof_parts::clause::Lits;
 use std::alloc::{AllocError, Global};
@@ -132,7 +134,8 @@ impl HeldClauses {
     /// Holds a clause under a new id.
     pub fn insert(&mut self, id: u64, clause: Lits) -> Result<(), AllocError>
         requires { self.old.last < id }
-        ensures ok { OnOk result (self.new ≡ record { held = map.insert self.old.held id clause; last = id }) }
+        ensures ok { OnOk result
+            (self.new ≡ record { held = map.insert self.old.held id clause; last = id }) }
         ensures err { OnErr result (self.new ≡ self.old) }
     {
         self.sweep();

@@ -61,7 +61,8 @@ fn hint_gives(
 
 /// Takes the hints in order; the literal that a hint gives joins the set.
 pub fn follow(held: &HeldClauses, set: &mut LiteralSet, hints: &[u64]) -> Result<(), StepRefusal>
-    ensures { (result ≡ Err StepRefusal.OutOfMemory) ⊎ (result ≡ hints_answer (get held.now.held) set.old hints.now) }
+    ensures { (result ≡ Err StepRefusal.OutOfMemory)
+        ⊎ (result ≡ hints_answer (get held.now.held) set.old hints.now) }
 {
     for (i, hint) in hints.iter().enumerate() {
         let last = i + 1 == hints.len();

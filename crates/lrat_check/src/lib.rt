@@ -1,4 +1,5 @@
-//! The checker of logs: what it accepts derives, and where it ends with the empty clause the formula is unsatisfiable.
+//! The checker of logs: what it accepts derives, and where it ends with the empty clause the formula is
+//! unsatisfiable.
 #![tactic(auto)]
 
 pub mod checker;

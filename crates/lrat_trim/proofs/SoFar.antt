@@ -26,13 +26,15 @@ none_in ids e id = ap (λ keys. list_any (λ other. id == other) keys) e
 
 -- ---- the root
 
-pub first_kept : (log : List LogItem) (root : ℕ) (s : StepValue) (ids : List ℕ) (old new : ℕ → Bool) (items : List LogItem) → position adds_empty_clause log ≡ Some root → Add s ≡ get_or log root (Add s)
+pub first_kept : (log : List LogItem) (root : ℕ) (s : StepValue) (ids : List ℕ) (old new : ℕ → Bool) (items : List LogItem) → position adds_empty_clause log ≡ Some root
+    → Add s ≡ get_or log root (Add s)
     → ((id : ℕ) → old id ≡ false) → ((id : ℕ) → new id ≡ (has_id s.hints id || old id)) → items ≡ Add s ∷ [] → IsSoFar ids (kept_steps (drop root log)) new items
 first_kept log root s ids old new items is here none names e =
     let found = position-Some adds_empty_clause log root (Add s) is in
     let front : drop root log ≡ Add s ∷ drop (suc root) log = drop-cons log root (Add s) found.0 ∙ ap (λ item. item ∷ drop (suc root) log) (sym here) in
     let empty : is_empty_clause s.literals ≡ true = ap adds_empty_clause here ∙ found.1 in
-    let steps : kept_steps (drop root log) ≡ s ∷ [] = ap kept_steps front ∙ ap (λ t. cond t (s ∷ []) (cond (is_named (kept_steps (drop (suc root) log)) s.id) (s ∷ kept_steps (drop (suc root) log)) (kept_steps (drop (suc root) log)))) empty in
+    let steps : kept_steps (drop root log) ≡ s ∷ [] = ap kept_steps front ∙ ap
+    (λ t. cond t (s ∷ []) (cond (is_named (kept_steps (drop (suc root) log)) s.id) (s ∷ kept_steps (drop (suc root) log)) (kept_steps (drop (suc root) log)))) empty in
     subst (λ steps. IsSoFar ids steps new items) (sym steps) (record {
       named = λ id. names id ∙ ap (λ t. has_id s.hints id || t) (none id);
       kept = ap reverse e;

@@ -1,5 +1,7 @@
--- What a pass from the root to the front of a log does at each item. Source: backward checking of clausal proofs.
-use Rattle.std.specs.Prelude.{◌≡◌, ◌↔◌, ℕ, ◌<◌, Bool, true, false, not, ◌&&◌, ◌||◌, ◌==◌, nat_lt, List, [], ◌∷◌, ◌++◌}
+-- What a pass from the root to the front of a log does at each item. Source: backward checking of clausal
+-- proofs.
+use Rattle.std.specs.Prelude.{◌≡◌, ◌↔◌, ℕ, ◌<◌, Bool, true, false, not, ◌&&◌, ◌||◌, ◌==◌, nat_lt, List, []}
+use Rattle.std.specs.Prelude.{◌∷◌, ◌++◌}
 use Rattle.std.specs.Bool.{MatchBool}
 use Rattle.std.specs.List.{Contains, AllPairs}
 use Rattle.std.specs.HashSet.{HashSet, contains}
@@ -27,18 +29,22 @@ pub record AreFresh (clauses : ℕ) (hints : List ℕ) (named : ℕ → Bool) (i
 
 -- The step is kept: the removal of what it is the last to name, and its addition, join the kept items, which
 -- are held in reverse.
-pub record KeptStep (clauses : ℕ) (s : StepValue) (old_named : ℕ → Bool) (old_kept : List LogItem) (new_named : ℕ → Bool) (new_kept : List LogItem) : Type 0 where
+pub record KeptStep (clauses : ℕ) (s : StepValue) (old_named : ℕ → Bool) (old_kept : List LogItem)
+    (new_named : ℕ → Bool) (new_kept : List LogItem) : Type 0 where
   pub ids : List ℕ
   pub fresh : AreFresh clauses s.hints old_named ids
   pub named : (id : ℕ) → new_named id ≡ (has_id s.hints id || old_named id)
   pub kept : new_kept ≡ (old_kept ++ removal_of ids) ++ Add s ∷ []
 
-pub record Passed (old_named : ℕ → Bool) (old_kept : List LogItem) (new_named : ℕ → Bool) (new_kept : List LogItem) : Type 0 where
+pub record Passed (old_named : ℕ → Bool) (old_kept : List LogItem) (new_named : ℕ → Bool)
+    (new_kept : List LogItem) : Type 0 where
   pub named : (id : ℕ) → new_named id ≡ old_named id
   pub kept : new_kept ≡ old_kept
 
 -- an addition is kept where it is named
 abbrev pub Visited : ℕ → LogItem → (ℕ → Bool) → List LogItem → (ℕ → Bool) → List LogItem → Type 0
 Visited clauses (Add s) old_named old_kept new_named new_kept =
-    MatchBool (old_named s.id) (KeptStep clauses s old_named old_kept new_named new_kept) (Passed old_named old_kept new_named new_kept)
-Visited clauses (Remove ids) old_named old_kept new_named new_kept = Passed old_named old_kept new_named new_kept
+    MatchBool (old_named s.id) (KeptStep clauses s old_named old_kept new_named new_kept)
+    (Passed old_named old_kept new_named new_kept)
+Visited clauses (Remove ids) old_named old_kept new_named new_kept
+    = Passed old_named old_kept new_named new_kept

@@ -27,7 +27,8 @@ pub(crate) fn keep(
     named: &mut HashSet<u64>,
     kept: &mut Vec<Item>,
 ) -> Result<(), AllocError>
-    ensures named { OnOk result ((id : ℕ) → is_in named.new id ≡ (has_id s.now.hints id || is_in named.old id)) }
+    ensures named { OnOk result
+        ((id : ℕ) → is_in named.new id ≡ (has_id s.now.hints id || is_in named.old id)) }
     ensures kept { OnOk result (kept.new.items ≡ kept.old.items ++ Add s.now ∷ []) }
 {
     name_all(named, s.hints().as_slice())?;
@@ -44,7 +45,8 @@ fn end_fresh(
     kept: &mut Vec<Item>,
 ) -> Result<(), AllocError>
     ensures { OnOk result ((ids : List ℕ)
-        × AreFresh clauses s.now.hints (is_in named.now) ids × (kept.new.items ≡ kept.old.items ++ removal_of ids)) }
+        × AreFresh clauses s.now.hints (is_in named.now) ids
+        × (kept.new.items ≡ kept.old.items ++ removal_of ids)) }
 {
     let ids = fresh_ids(alloc, clauses, s.hints().as_slice(), named)?;
     if !ids.is_empty() {
@@ -61,7 +63,8 @@ pub(crate) fn visit(
     named: &mut HashSet<u64>,
     kept: &mut Vec<Item>,
 ) -> Result<(), AllocError>
-    ensures { OnOk result (Visited clauses item.now (is_in named.old) kept.old.items (is_in named.new) kept.new.items) }
+    ensures { OnOk result (Visited clauses item.now (is_in named.old) kept.old.items (is_in named.new)
+        kept.new.items) }
 {
     if let Item::Add(s) = item {
         if named.contains(&s.id()) {

@@ -49,9 +49,9 @@ fn turned(alloc: Global, items: Vec<Item>) -> Result<Log, AllocError>
     Ok(log)
 }
 
-/// Of a log that refutes the goal the additions that its first empty clause is reached from through hints, each removed
-/// as soon as no further one names it. It goes from that clause to the front of the log, and looks each id up
-/// by its hash; it fails only where there is no memory.
+/// Of a log that refutes the goal the additions that its first empty clause is reached from through hints,
+/// each removed as soon as no further one names it. It goes from that clause to the front of the log, and
+/// looks each id up by its hash; it fails only where there is no memory.
 pub fn trim(alloc: Global, goal: &Cnf, log: &Log) -> Result<Log, AllocError>
     requires { Refutes goal.now.clauses log.now }
     ensures value { IfOk result (λ short. short ≡ trimmed log.now) }

@@ -11,6 +11,8 @@ bundle_names = map (λ name. name.now) NAMES
 abbrev pub with_bytes : Held → List (List ℕ) → List (List ℕ × List ℕ)
 with_bytes held names = map (λ name. (name, bytes_of held name)) names
 
--- One file with its text, and then the bundle that is held and the half adder. Of two files with one name the first counts.
+-- One file with its text, and then the bundle that is held and the half adder. Of two files with one name the
+-- first counts.
 abbrev pub changed_bundle : Held → List ℕ → List ℕ → List (List ℕ × List ℕ)
-changed_bundle held name text = (name, text) ∷ with_bytes held bundle_names ++ (codes "ha.blif", HALF_ADDER.now) ∷ []
+changed_bundle held name text
+    = (name, text) ∷ with_bytes held bundle_names ++ (codes "ha.blif", HALF_ADDER.now) ∷ []

@@ -36,7 +36,8 @@ pub fn with_file(
 
 /// Whether the files hold each of the names as the whole bundle does.
 pub fn are_whole(files: &MemFiles, names: &[&[u8]], whole: &MemFiles) -> bool
-    ensures { IsTrue result ↔ All (λ name. get files.now.held name.now ≡ get whole.now.held name.now) names.now }
+    ensures { IsTrue result ↔ All (λ name. get files.now.held name.now ≡ get whole.now.held name.now)
+        names.now }
 {
     for name in names {
         if !holds(files, name, whole.bytes(name)) {

@@ -1,5 +1,6 @@
 //! Words and files in memory: how they are made, and what is held.
-ghost use Rattle.std.specs.Prelude.{◌≡◌, ◌↔◌, IsTrue, MatchOption, ⊤, [], ◌∷◌, ◌++◌, length, take, codes, option_map, IfOk, OnOk, OnErr};
+ghost use Rattle.std.specs.Prelude.{◌≡◌, ◌↔◌, IsTrue, MatchOption, ⊤, [], ◌∷◌, ◌++◌, length, take, codes};
+ghost use Rattle.std.specs.Prelude.{option_map, IfOk, OnOk, OnErr};
 ghost use Rattle.std.specs.FinMap.{get};
 ghost use Rattle.outside_semantics.specs.Outside.{bytes_of};
 ghost use Rattle.memory_runs.specs.Words.{words_of};
@@ -74,7 +75,8 @@ pub fn holds(files: &MemFiles, name: &[u8], wanted: Option<&[u8]>) -> bool
 
 /// Whether the name is not held, or is held with a first part of the text.
 pub fn holds_at_most(files: &MemFiles, name: &[u8], text: &[u8]) -> bool
-    ensures { IsTrue result ↔ MatchOption (get files.now.held name.now) ⊤ (λ bytes. take (length bytes) text.now ≡ bytes) }
+    ensures { IsTrue result ↔ MatchOption (get files.now.held name.now) ⊤
+        (λ bytes. take (length bytes) text.now ≡ bytes) }
 {
     match files.bytes(name) {
         Some(bytes) => bytes.len() <= text.len() && bytes == &text[..bytes.len()],
@@ -84,7 +86,8 @@ pub fn holds_at_most(files: &MemFiles, name: &[u8], text: &[u8]) -> bool
 
 /// Whether the name is held with a text that begins with these bytes.
 pub fn begins(files: &MemFiles, name: &[u8], front: &[u8]) -> bool
-    ensures { IsTrue result ↔ MatchOption (get files.now.held name.now) ⊥ (λ bytes. take (length front.now) bytes ≡ front.now) }
+    ensures { IsTrue result ↔ MatchOption (get files.now.held name.now) ⊥
+        (λ bytes. take (length front.now) bytes ≡ front.now) }
 {
     match files.bytes(name) {
         Some(bytes) => front.len() <= bytes.len() && front == &bytes[..front.len()],

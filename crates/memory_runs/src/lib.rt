@@ -1,4 +1,5 @@
-//! Runs over files and a sink in memory, for the tests of whole runs: their words, what they find and what they leave.
+//! Runs over files and a sink in memory, for the tests of whole runs: their words, what they find and what
+//! they leave.
 #![tactic(auto)]
 
 pub mod bundles;

@@ -135,7 +135,8 @@ module _ (held : ℕ → Option Clause) (start : LiteralSet) where
   pub chain-implied : (c : ChainValue) (id : ℕ) (l : ℤ) → IsChain c → Implies c id l → IsChain (implied c id l)
   unfolding more
   chain-implied c id l h i = by_test (c.ended || has_literal c.literals l) refl where
-    by_test : (t : Bool) → (c.ended || has_literal c.literals l) ≡ t → IsChain (cond t c (record { hints = c.hints ++ id ∷ []; literals = c.literals ++ l ∷ []; ended = has_literal c.literals (neg_ℤ l) }))
+    by_test : (t : Bool) → (c.ended || has_literal c.literals l) ≡ t
+        → IsChain (cond t c (record { hints = c.hints ++ id ∷ []; literals = c.literals ++ l ∷ []; ended = has_literal c.literals (neg_ℤ l) }))
     by_test true e = h
     by_test false e = chain-more c id l (or_parts c.ended (has_literal c.literals l) e).0 h i
 
@@ -151,7 +152,8 @@ module _ (held : ℕ → Option Clause) (start : LiteralSet) where
 
 pub knows-kept : (c : ChainValue) (id : ℕ) (l m : ℤ) → Knows c m → Knows (implied c id l) m
 knows-kept c id l m h = by_test (c.ended || has_literal c.literals l) refl where
-  by_test : (t : Bool) → (c.ended || has_literal c.literals l) ≡ t → Knows (cond t c (record { hints = c.hints ++ id ∷ []; literals = c.literals ++ l ∷ []; ended = has_literal c.literals (neg_ℤ l) })) m
+  by_test : (t : Bool) → (c.ended || has_literal c.literals l) ≡ t
+      → Knows (cond t c (record { hints = c.hints ++ id ∷ []; literals = c.literals ++ l ∷ []; ended = has_literal c.literals (neg_ℤ l) })) m
   by_test true e = h
   by_test false e = λ calm. has-more c.literals l m (h (or_parts c.ended (has_literal c.literals l) e).0)
 
@@ -161,7 +163,8 @@ knows-implied c id l = by_test (c.ended || has_literal c.literals l) refl where
   held_before true h t f = cc
   held_before false h t f = t
 
-  by_test : (t : Bool) → (c.ended || has_literal c.literals l) ≡ t → Knows (cond t c (record { hints = c.hints ++ id ∷ []; literals = c.literals ++ l ∷ []; ended = has_literal c.literals (neg_ℤ l) })) l
+  by_test : (t : Bool) → (c.ended || has_literal c.literals l) ≡ t
+      → Knows (cond t c (record { hints = c.hints ++ id ∷ []; literals = c.literals ++ l ∷ []; ended = has_literal c.literals (neg_ℤ l) })) l
   by_test true e = held_before c.ended (has_literal c.literals l) e
   by_test false e = λ calm. has-itself c.literals l
 

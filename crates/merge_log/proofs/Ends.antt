@@ -61,7 +61,8 @@ merging_passed N levels level t g other h =
     )) h
 
 -- a whole level is taken
-pub merging_level : (N : NetValue) (levels : List ℕ) (level t : ℕ) (g : MergingValue) → AreLevels (input_count N) N.tables levels → table_count N ≤ t → IsMerging N levels level t g → IsMerging N levels (level + 1) 0 g
+pub merging_level : (N : NetValue) (levels : List ℕ) (level t : ℕ) (g : MergingValue) → AreLevels (input_count N) N.tables levels → table_count N ≤ t → IsMerging N levels level t g
+    → IsMerging N levels (level + 1) 0 g
 merging_level N levels level t g are all h =
     merging_same N levels level t (level + 1) 0 g
     (λ s done. (done.0, elim done.1 [ inl lower ↦ inl (omega (arith, lower)) | inr before ↦ inl (omega (arith, before.0)) ]))
@@ -133,7 +134,8 @@ merging_ended N levels depth g most h = record {
         let both = h.merged s other in
         let past = h.behind s other in
         record {
-          forth = contains_added (goal_of N).clauses (added_clauses g.log) (get_or g.merged.ids s 0) _ past (subst (λ v. HasId (clauses_with (goal_of N).clauses g.log) (get_or g.merged.ids s 0) (forth s v)) is both.0);
+          forth = contains_added (goal_of N).clauses (added_clauses g.log) (get_or g.merged.ids s 0) _ past
+              (subst (λ v. HasId (clauses_with (goal_of N).clauses g.log) (get_or g.merged.ids s 0) (forth s v)) is both.0);
           back = contains_added (goal_of N).clauses (added_clauses g.log) (suc (get_or g.merged.ids s 0)) _ (omega (arith, past))
               (subst (λ v. HasId (clauses_with (goal_of N).clauses g.log) (suc (get_or g.merged.ids s 0)) (back s v)) is both.1);
         }

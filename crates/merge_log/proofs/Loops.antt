@@ -39,7 +39,8 @@ module _ (m : MergedValue) (marks : List Mark) (pins others : List ℕ) (k next 
       → row_chain m (next + 1) (drop (k + 1) marks) (drop (k + 1) pins) (drop (k + 1) others) two ≡ whole
   row_some sign one two some first second =
       let id : next + 1 ≡ suc next = omega arith in
-      let step : row_chain m (suc next) (drop (k + 1) marks) (drop (k + 1) pins) (drop (k + 1) others) (carried (implied c next (literal_at (get_or pins k 0) sign)) m (get_or pins k 0) (get_or others k 0) sign) ≡ whole =
+      let step : row_chain m (suc next) (drop (k + 1) marks) (drop (k + 1) pins) (drop (k + 1) others)
+      (carried (implied c next (literal_at (get_or pins k 0) sign)) m (get_or pins k 0) (get_or others k 0) sign) ≡ whole =
       rw (some, row_chain) at opened in
       ap (λ i. row_chain m i (drop (k + 1) marks) (drop (k + 1) pins) (drop (k + 1) others) two) id
       ∙ ap (λ e. row_chain m (suc next) (drop (k + 1) marks) (drop (k + 1) pins) (drop (k + 1) others) e) (second ∙ ap (λ e. carried e m (get_or pins k 0) (get_or others k 0) sign) first) ∙ step

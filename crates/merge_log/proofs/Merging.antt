@@ -1,5 +1,6 @@
 -- One table more, in the order of levels.
-use Rattle.std.proofs.Common.{◌≡◌, ℕ, zero, suc, ◌+◌, ◌-◌, ◌<◌, ◌≤◌, List, [], ◌∷◌, ◌++◌, length, get_or, set, map, refl, ap, subst, sym, ◌∙◌, inl, inr, ◌⊎◌, arith, length-append, get_or-set_same, get_or-set_other, Some}
+use Rattle.std.proofs.Common.{◌≡◌, ℕ, zero, suc, ◌+◌, ◌-◌, ◌<◌, ◌≤◌, List, [], ◌∷◌, ◌++◌, length, get_or, set, map, refl, ap, subst, sym, ◌∙◌, inl, inr, ◌⊎◌, arith, length-append, get_or-set_same}
+use Rattle.std.proofs.Common.{get_or-set_other, Some}
 use Rattle.std.specs.Prelude.{All, Contains, slice_get}
 use Rattle.std.specs.List.{AllZip, AllByRecursion}
 use Rattle.std.proofs.lemmas.Bool.{cases_lt, cases_eq}
@@ -394,7 +395,8 @@ module _ (N : NetValue) (acyclic : IsAcyclic (input_count N) N.tables) (levels :
                 | inl old ↦ elim (taken_next u done_u) [
                   | inl old_u ↦ old_done s old ∙ h.same s u old old_u like ∙ sym (old_done u old_u)
                   | inr is ↦
-                      sym (like_old s old (subst (λ x. IsAlike (input_count N) N.tables x s) is.0 (alike-turned (input_count N) N.tables s u like))) ∙ sym own_first ∙ ap (first_of later.merged) (sym is.0)
+                      sym (like_old s old (subst (λ x. IsAlike (input_count N) N.tables x s) is.0 (alike-turned (input_count N) N.tables s u like))) ∙ sym own_first ∙ ap (first_of later.merged)
+                      (sym is.0)
                 ]
                 | inr is ↦ elim (taken_next u done_u) [
                   | inl old_u ↦ ap (first_of later.merged) is.0 ∙ own_first ∙ like_old u old_u (subst (λ x. IsAlike (input_count N) N.tables x u) is.0 like)

@@ -1,6 +1,7 @@
--- Hints of a step, as unit propagation along them goes on. Source: LRAT: each hint before the last makes one literal true, and the last one ends
--- in a conflict.
-use Rattle.std.specs.Prelude.{ℕ, zero, suc, ◌+◌, Bool, true, false, ◌||◌, ◌==◌, if◌then◌else◌, List, [], ◌∷◌, ◌++◌, slice_index_or, ℤ, neg_ℤ, Option, None, Some}
+-- Hints of a step, as unit propagation along them goes on. Source: LRAT: each hint before the last makes one
+-- literal true, and the last one ends in a conflict.
+use Rattle.std.specs.Prelude.{ℕ, zero, suc, ◌+◌, Bool, true, false, ◌||◌, ◌==◌, if◌then◌else◌, List, [], ◌∷◌}
+use Rattle.std.specs.Prelude.{◌++◌, slice_index_or, ℤ, neg_ℤ, Option, None, Some}
 use Rattle.semantics.specs.declared.mark.Mark.{Mark}
 use Rattle.semantics.specs.declared.mark.Mark.TheVariants.{Zero, One, Dash}
 use Rattle.proof_semantics.specs.Clauses.{has_literal}
@@ -22,7 +23,11 @@ abbrev pub implied : ChainValue → ℕ → ℤ → ChainValue
 implied c id l =
     if c.ended || has_literal c.literals l
     then c
-    else record { hints = c.hints ++ id ∷ []; literals = c.literals ++ l ∷ []; ended = has_literal c.literals (neg_ℤ l) }
+    else record {
+      hints = c.hints ++ id ∷ [];
+      literals = c.literals ++ l ∷ [];
+      ended = has_literal c.literals (neg_ℤ l);
+    }
 
 -- the clause with this id ends in a conflict, if no conflict came before
 abbrev pub ended_with : ChainValue → ℕ → List ℕ
@@ -43,11 +48,13 @@ id_of m s = slice_index_or m.ids s 0
 
 -- signal p has the value `sign`, so the first signal to which it was made equal has this value
 abbrev pub to_first : ChainValue → MergedValue → ℕ → Bool → ChainValue
-to_first c m p sign = if first_of m p == p then c else implied c (id_of m p + (if sign then 0 else 1)) (literal_at (first_of m p) sign)
+to_first c m p sign = if first_of m p == p then c
+    else implied c (id_of m p + (if sign then 0 else 1)) (literal_at (first_of m p) sign)
 
 -- the first signal has the value, so signal q has it
 abbrev pub from_first : ChainValue → MergedValue → ℕ → Bool → ChainValue
-from_first c m q sign = if first_of m q == q then c else implied c (id_of m q + (if sign then 1 else 0)) (literal_at q sign)
+from_first c m q sign = if first_of m q == q then c
+    else implied c (id_of m q + (if sign then 1 else 0)) (literal_at q sign)
 
 -- signal p has the value, so signal q has it
 abbrev pub carried : ChainValue → MergedValue → ℕ → ℕ → Bool → ChainValue

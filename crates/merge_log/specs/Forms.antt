@@ -1,5 +1,6 @@
 -- The forms of tables: what two tables that are to be made equal have in common.
-use Rattle.std.specs.Prelude.{◌≡◌, ◌⊎◌, ℕ, ◌<◌, Bool, List, [], ◌∷◌, ◌++◌, map, flat_map, length, slice_get, Option, Some, Contains}
+use Rattle.std.specs.Prelude.{◌≡◌, ◌⊎◌, ℕ, ◌<◌, Bool, List, [], ◌∷◌, ◌++◌, map, flat_map, length, slice_get}
+use Rattle.std.specs.Prelude.{Option, Some, Contains}
 use Rattle.semantics.specs.Net.{TableValue}
 use Rattle.merge_log.specs.declared.form.Form.{Form}
 use Rattle.merge_log.specs.Chains.{MergedValue, first_of, asked}
@@ -16,7 +17,12 @@ abbrev pub form_value : Form → FormValue
 form_value f = record { plane = f.plane; rows = f.rows; marks = f.marks.items; pins = f.pins.items }
 
 abbrev pub form_of : MergedValue → TableValue → FormValue
-form_of m t = record { plane = t.plane; rows = length t.rows; marks = flat_map (map asked) t.rows; pins = map (first_of m) t.pins }
+form_of m t = record {
+  plane = t.plane;
+  rows = length t.rows;
+  marks = flat_map (map asked) t.rows;
+  pins = map (first_of m) t.pins;
+}
 
 -- the form stands at place k: it stood there before, or is the last one now
 abbrev pub IsNumbered : List FormValue → List FormValue → FormValue → ℕ → Type 0

@@ -8,7 +8,8 @@ use Rattle.merge_log.specs.Chains.{MergedValue, first_of, id_of}
 
 -- the clause has the id
 abbrev pub HasId : List Clause → ℕ → Clause → Type 0
-HasId clauses id clause = (place : ℕ) × (id ≡ suc place) × (place < length clauses) × (clause_at clauses place ≡ clause)
+HasId clauses id clause = (place : ℕ) × (id ≡ suc place) × (place < length clauses)
+    × (clause_at clauses place ≡ clause)
 
 -- these clauses have the ids from `id` on
 abbrev pub HaveIds : List Clause → ℕ → List Clause → Type 0
@@ -24,4 +25,6 @@ back s u = literal_at s true ∷ literal_at u false ∷ []
 
 -- each signal that was made equal to another has its two clauses
 abbrev pub AreMerged : List Clause → MergedValue → Type 0
-AreMerged clauses m = (s : ℕ) → first_of m s ≢ s → HasId clauses (id_of m s) (forth s (first_of m s)) × HasId clauses (suc (id_of m s)) (back s (first_of m s))
+AreMerged clauses m = (s : ℕ) → first_of m s ≢ s
+    → HasId clauses (id_of m s) (forth s (first_of m s))
+    × HasId clauses (suc (id_of m s)) (back s (first_of m s))

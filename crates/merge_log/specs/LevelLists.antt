@@ -2,7 +2,8 @@
 -- table of its level.
 use Rattle.std.specs.Prelude.{◌≡◌, ◌≢◌, ℕ, ◌+◌, ◌<◌, ◌≤◌, List, length, slice_index_or}
 
--- Of the tables from `from` on, behind n inputs, `first` is the first of this level; where none has it, `first` is their number.
+-- Of the tables from `from` on, behind n inputs, `first` is the first of this level; where none has it,
+-- `first` is their number.
 pub record IsFirstFrom (n count : ℕ) (levels : List ℕ) (level from first : ℕ) : Type 0 where
   pub since : from ≤ first
   pub within : first ≤ count
@@ -14,5 +15,7 @@ pub record IsFirstFrom (n count : ℕ) (levels : List ℕ) (level from first : �
 pub record AreLevelLists (n count : ℕ) (levels : List ℕ) (from : ℕ) (firsts nexts : List ℕ) : Type 0 where
   pub within : from ≤ count
   pub nexts_count : length nexts ≡ count
-  pub firsts_are : (level : ℕ) → level < length firsts → IsFirstFrom n count levels level from (slice_index_or firsts level 0)
-  pub nexts_are : (t : ℕ) → from ≤ t → t < count → IsFirstFrom n count levels (slice_index_or levels (n + t) 0) (t + 1) (slice_index_or nexts t 0)
+  pub firsts_are : (level : ℕ) → level < length firsts
+      → IsFirstFrom n count levels level from (slice_index_or firsts level 0)
+  pub nexts_are : (t : ℕ) → from ≤ t → t < count
+      → IsFirstFrom n count levels (slice_index_or levels (n + t) 0) (t + 1) (slice_index_or nexts t 0)

@@ -1,5 +1,5 @@
--- The level of a signal: 0 for an input, and for a table one more than the greatest level of its pins, which is the least number of steps in
--- which it is grounded.
+-- The level of a signal: 0 for an input, and for a table one more than the greatest level of its pins, which
+-- is the least number of steps in which it is grounded.
 use Rattle.std.specs.Prelude.{◌≡◌, ◌⊎◌, ℕ, ◌+◌, ◌<◌, ◌≤◌, List, [], ◌∷◌, length, max, slice_index_or}
 use Rattle.semantics.specs.Net.{TableValue, IsGroundedIn}
 
@@ -18,4 +18,5 @@ highest levels (s ∷ signals) = max (slice_index_or levels s 0) (highest levels
 -- table s is taken before the table at signal t: it has a lower level, or has the same level and stands
 -- earlier
 abbrev pub IsTaken : List ℕ → ℕ → ℕ → ℕ → Type 0
-IsTaken levels level t s = (slice_index_or levels s 0 < level) ⊎ ((slice_index_or levels s 0 ≡ level) × (s < t))
+IsTaken levels level t s = (slice_index_or levels s 0 < level)
+    ⊎ ((slice_index_or levels s 0 ≡ level) × (s < t))

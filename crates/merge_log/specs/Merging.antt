@@ -11,7 +11,8 @@ use Rattle.merge_log.specs.Ids.{AreMerged}
 use Rattle.merge_log.specs.Forms.{FormValue, form_of}
 use Rattle.merge_log.specs.Levels.{AreLevels, IsTaken}
 
--- the log so far, what it made equal, the forms of the tables that are the first of their kind, and these tables
+-- the log so far, what it made equal, the forms of the tables that are the first of their kind, and these
+-- tables
 pub record MergingValue : Type 0 where
   pub log : List LogItem
   pub merged : MergedValue
@@ -26,7 +27,8 @@ module _ (N : NetValue) (levels : List ℕ) (level t : ℕ) where
   pub record IsFirstOfKind (g : MergingValue) (k : ℕ) : Type 0 where
     pub table : slice_index_or g.tables k 0 < table_count N
     pub done : IsDone (input_count N + slice_index_or g.tables k 0)
-    pub alone : first_of g.merged (input_count N + slice_index_or g.tables k 0) ≡ input_count N + slice_index_or g.tables k 0
+    pub alone : first_of g.merged (input_count N + slice_index_or g.tables k 0)
+        ≡ input_count N + slice_index_or g.tables k 0
     pub form : slice_get g.forms k ≡ Some (form_of g.merged (table_at N.tables (slice_index_or g.tables k 0)))
 
   pub record IsMerging (g : MergingValue) : Type 0 where
@@ -38,10 +40,12 @@ module _ (N : NetValue) (levels : List ℕ) (level t : ℕ) where
     pub alone : (s : ℕ) → (IsDone s → ⊥) → first_of g.merged s ≡ s
     pub earlier : (s : ℕ) → IsDone s → first_of g.merged s ≤ s
     pub alike : (s : ℕ) → IsDone s → IsAlike (input_count N) N.tables s (first_of g.merged s)
-    pub same : (s u : ℕ) → IsDone s → IsDone u → IsAlike (input_count N) N.tables s u → first_of g.merged s ≡ first_of g.merged u
+    pub same : (s u : ℕ) → IsDone s → IsDone u → IsAlike (input_count N) N.tables s u
+        → first_of g.merged s ≡ first_of g.merged u
     pub forms_count : length g.forms ≡ length g.tables
     pub kinds : (k : ℕ) → k < length g.tables → IsFirstOfKind g k
-    pub all : (i : ℕ) → i < table_count N → IsDone (input_count N + i) → first_of g.merged (input_count N + i) ≡ input_count N + i
+    pub all : (i : ℕ) → i < table_count N → IsDone (input_count N + i)
+        → first_of g.merged (input_count N + i) ≡ input_count N + i
         → (k : ℕ) × (k < length g.tables) × (slice_index_or g.tables k 0 ≡ i)
 
 -- table t, which is next, has the form of the table at place `kind` among the tables that are the first of

@@ -1,5 +1,6 @@
 -- The steps that make rows and tables equal.
-use Rattle.std.specs.Prelude.{◌≡◌, ℕ, zero, suc, ◌+◌, ◌<◌, ◌^◌, List, [], ◌∷◌, ◌++◌, take, length, sum_by, All}
+use Rattle.std.specs.Prelude.{◌≡◌, ℕ, zero, suc, ◌+◌, ◌<◌, ◌^◌, List, [], ◌∷◌, ◌++◌, take, length, sum_by}
+use Rattle.std.specs.Prelude.{All}
 use Rattle.semantics.specs.declared.mark.Mark.{Mark}
 use Rattle.semantics.specs.Net.{TableValue}
 use Rattle.proof_semantics.specs.Clauses.{Clause}
@@ -14,7 +15,8 @@ use Rattle.merge_log.specs.declared.steps.Place.{Place}
 
 -- A row of these marks over these pins stands in the formula at this place: its variable, and its clauses by
 -- their ids; and its pins are signals of `m`.
-pub record IsRowAt (f : Formula) (m : MergedValue) (marks : List Mark) (pins : List ℕ) (at : Place) : Type 0 where
+pub record IsRowAt (f : Formula) (m : MergedValue) (marks : List Mark) (pins : List ℕ)
+    (at : Place) : Type 0 where
   pub width : length marks ≡ length pins
   pub pins_in : All (λ s. s < length m.firsts) pins
   pub clauses : HaveIds f.clauses at.clause (row_clauses at.row (literals_of_row marks pins))

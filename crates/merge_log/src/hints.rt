@@ -41,7 +41,8 @@ pub(crate) fn row_hints(
     requires ids { id < 2 ^ 62 }
     requires behind { behind < 2 ^ 62 }
     ensures { IfOk result (λ hints. hints
-        ≡ ended_with (row_chain merged.now id marks.now pins.now others.now chain) (behind + row_literals marks.now)) }
+        ≡ ended_with (row_chain merged.now id marks.now pins.now others.now chain)
+        (behind + row_literals marks.now)) }
 {
     let mut next = id;
     for (i, mark) in marks.iter().enumerate() {
@@ -70,7 +71,8 @@ pub(crate) fn table_hints(
     requires own_places { own + rows < 2 ^ 31 }
     requires ids { implication < 2 ^ 62 }
     requires equal_ids { equal < 2 ^ 62 }
-    ensures { IfOk result (λ hints. hints ≡ ended_with (table_chain row own implication equal rows chain) last) }
+    ensures { IfOk result (λ hints. hints
+        ≡ ended_with (table_chain row own implication equal rows chain) last) }
 {
     for j in 0..rows {
         chain.imply(implication + u64::from(j), row + j, false)?;

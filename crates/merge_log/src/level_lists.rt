@@ -34,8 +34,11 @@ pub(crate) fn level_lists(
 ) -> Result<LevelLists, AllocError>
     requires { length levels.items ≡ signal_count net.now }
     ensures levels { IfOk result (λ lists. lists.levels.items ≡ levels.items) }
-    ensures deepest { IfOk result (λ lists. (s : ℕ) → slice_index_or lists.levels.items s 0 < length lists.firsts.items) }
-    ensures lists { IfOk result (λ lists. AreLevelLists (input_count net.now) (table_count net.now) lists.levels.items 0 lists.firsts.items lists.nexts.items) }
+    ensures deepest { IfOk result
+        (λ lists. (s : ℕ) → slice_index_or lists.levels.items s 0 < length lists.firsts.items) }
+    ensures lists { IfOk result
+        (λ lists. AreLevelLists (input_count net.now) (table_count net.now) lists.levels.items 0
+        lists.firsts.items lists.nexts.items) }
 {
     let (inputs, tables) = (net.inputs() as usize, net.tables());
     let mut firsts = no_tables(alloc, tables, depth(&levels) as usize + 1)?;

@@ -1,4 +1,5 @@
-//! The level of each signal of a net: 0 for an input, and for a table one more than the greatest level of its pins.
+//! The level of each signal of a net: 0 for an input, and for a table one more than the greatest level of its
+//! pins.
 ghost use Rattle.std.specs.Prelude.{◌≡◌, ◌<◌, ◌≤◌, ℕ, length, replicate, slice_index_or, All, IfOk};
 ghost use Rattle.semantics.specs.Net.{input_count, signal_count};
 ghost use Rattle.merge_log.specs.Levels.{AreLevels, highest};

@@ -67,7 +67,8 @@ impl Merged {
         requires s_within { s < length self.old.firsts }
         requires u_within { u < length self.old.firsts }
         requires few { id < 2 ^ 62 }
-        ensures merged { self.new ≡ record { firsts = slice_set self.old.firsts s u; ids = slice_set self.old.ids s id } }
+        ensures merged { self.new
+            ≡ record { firsts = slice_set self.old.firsts s u; ids = slice_set self.old.ids s id } }
         ensures room { length self.old.ids ≡ length self.old.firsts }
     {
         self.firsts[s as usize] = u;
@@ -146,7 +147,8 @@ impl Merged {
     ) -> Result<(), AllocError>
         requires p_within { p < length self.now.firsts }
         requires q_within { q < length self.now.firsts }
-        ensures { OnOk result (chain.new ≡ carried (implied chain.old id (literal_at p sign)) self.now p q sign) }
+        ensures { OnOk result (chain.new
+            ≡ carried (implied chain.old id (literal_at p sign)) self.now p q sign) }
     {
         self.imply(chain, id, p, sign)?;
         self.carry(chain, p, q, sign)

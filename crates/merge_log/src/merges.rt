@@ -5,7 +5,8 @@
 //! equal to others before the table is taken, and of alike tables, which all have one level, the first is
 //! taken first. A table is alike to a table that was taken exactly where both have the same form, which a set
 //! of forms tells.
-ghost use Rattle.std.specs.Prelude.{◌≡◌, ◌+◌, ◌<◌, ◌≤◌, ◌^◌, ℕ, List, length, sum_by, slice_index_or, IfOk, OnOk};
+ghost use Rattle.std.specs.Prelude.{◌≡◌, ◌+◌, ◌<◌, ◌≤◌, ◌^◌, ℕ, List, length, sum_by, slice_index_or, IfOk};
+ghost use Rattle.std.specs.Prelude.{OnOk};
 ghost use Rattle.semantics.specs.Net.{input_count, table_count};
 ghost use Rattle.net_core.specs.Built.{IsBuilt};
 ghost use Rattle.proof_semantics.specs.Formula.{goal_of};
@@ -30,7 +31,8 @@ use proof_parts::log::Log;
 use std::alloc::{AllocError, Global};
 use std::marker::Model;
 
-/// The log so far, what it made equal, the forms of the tables that are the first of their kind, and these tables.
+/// The log so far, what it made equal, the forms of the tables that are the first of their kind, and these
+/// tables.
 #[derive(Drop)]
 struct Merging {
     log: Log,
@@ -61,7 +63,8 @@ fn merge_found(
     requires places { IsPlaceList (input_count net.now) net.now.tables (table_count net.now) places.now }
     requires clauses { sum_by table_clause_count net.now.tables < 2 ^ 60 }
     requires found { (levels : List ℕ) × (level : ℕ) × IsFound net.now levels level t merging.old kind }
-    ensures { OnOk result ((levels : List ℕ) (level : ℕ) → IsFound net.now levels level t merging.old kind → IsMerging net.now levels level (t + 1) merging.new) }
+    ensures { OnOk result ((levels : List ℕ) (level : ℕ) → IsFound net.now levels level t merging.old kind
+        → IsMerging net.now levels level (t + 1) merging.new) }
 {
     let first = merging.tables[kind];
     let inputs = net.inputs();
@@ -95,9 +98,12 @@ fn take_table(
     requires clauses { sum_by table_clause_count net.now.tables < 2 ^ 60 }
     requires table { t < table_count net.now }
     requires merging { (levels : List ℕ) × (level : ℕ) × AreLevels (input_count net.now) net.now.tables levels
-        × (slice_index_or levels (input_count net.now + t) 0 ≡ level) × IsMerging net.now levels level t merging.old }
-    ensures { OnOk result ((levels : List ℕ) (level : ℕ) → AreLevels (input_count net.now) net.now.tables levels
-        → slice_index_or levels (input_count net.now + t) 0 ≡ level → IsMerging net.now levels level t merging.old → IsMerging net.now levels level (t + 1) merging.new) }
+        × (slice_index_or levels (input_count net.now + t) 0 ≡ level)
+        × IsMerging net.now levels level t merging.old }
+    ensures { OnOk result ((levels : List ℕ) (level : ℕ)
+        → AreLevels (input_count net.now) net.now.tables levels
+        → slice_index_or levels (input_count net.now + t) 0 ≡ level
+        → IsMerging net.now levels level t merging.old → IsMerging net.now levels level (t + 1) merging.new) }
 {
     let form = form_of(alloc, &merging.merged, net.table(t))?;
     let kind = merging.forms.number(form)?;
@@ -123,7 +129,8 @@ fn take_level(
     requires places { IsPlaceList (input_count net.now) net.now.tables (table_count net.now) places.now }
     requires clauses { sum_by table_clause_count net.now.tables < 2 ^ 60 }
     requires levels { AreLevels (input_count net.now) net.now.tables lists.now.levels.items }
-    requires lists { AreLevelLists (input_count net.now) (table_count net.now) lists.now.levels.items 0 lists.now.firsts.items lists.now.nexts.items }
+    requires lists { AreLevelLists (input_count net.now) (table_count net.now) lists.now.levels.items 0
+        lists.now.firsts.items lists.now.nexts.items }
     requires level { level < length lists.now.firsts.items }
     requires merging { IsMerging net.now lists.now.levels.items level 0 merging.old }
     ensures { OnOk result (IsMerging net.now lists.now.levels.items (level + 1) 0 merging.new) }
@@ -159,7 +166,8 @@ fn see_few(net: &Net, goal: &Cnf)
 /// The state before any table is taken.
 fn start(alloc: Global, net: &Net) -> Result<Merging, AllocError>
     requires { length (goal_of net.now).clauses < 2 ^ 61 }
-    ensures { IfOk result (λ merging. (levels : List ℕ) → AreLevels (input_count net.now) net.now.tables levels → IsMerging net.now levels 1 0 merging) }
+    ensures { IfOk result (λ merging. (levels : List ℕ)
+        → AreLevels (input_count net.now) net.now.tables levels → IsMerging net.now levels 1 0 merging) }
 {
     let merged = Merged::new(alloc, net.signals())?;
     Ok(Merging {
@@ -172,9 +180,13 @@ fn start(alloc: Global, net: &Net) -> Result<Merging, AllocError>
 
 /// The tables of each level of a net.
 fn lists_of(alloc: Global, net: &Net) -> Result<LevelLists, AllocError>
-    ensures levels { IfOk result (λ lists. AreLevels (input_count net.now) net.now.tables lists.levels.items) }
-    ensures deepest { IfOk result (λ lists. (s : ℕ) → slice_index_or lists.levels.items s 0 < length lists.firsts.items) }
-    ensures lists { IfOk result (λ lists. AreLevelLists (input_count net.now) (table_count net.now) lists.levels.items 0 lists.firsts.items lists.nexts.items) }
+    ensures levels { IfOk result
+        (λ lists. AreLevels (input_count net.now) net.now.tables lists.levels.items) }
+    ensures deepest { IfOk result
+        (λ lists. (s : ℕ) → slice_index_or lists.levels.items s 0 < length lists.firsts.items) }
+    ensures lists { IfOk result
+        (λ lists. AreLevelLists (input_count net.now) (table_count net.now) lists.levels.items 0
+        lists.firsts.items lists.nexts.items) }
 {
     let levels = levels(alloc, net)?;
     level_lists(alloc, net, levels)
@@ -194,7 +206,8 @@ fn merge_levels(
     requires clauses { sum_by table_clause_count net.now.tables < 2 ^ 60 }
     requires levels { AreLevels (input_count net.now) net.now.tables lists.now.levels.items }
     requires deepest { (s : ℕ) → slice_index_or lists.now.levels.items s 0 < length lists.now.firsts.items }
-    requires lists { AreLevelLists (input_count net.now) (table_count net.now) lists.now.levels.items 0 lists.now.firsts.items lists.now.nexts.items }
+    requires lists { AreLevelLists (input_count net.now) (table_count net.now) lists.now.levels.items 0
+        lists.now.firsts.items lists.now.nexts.items }
     ensures { IfOk result (IsMergeLog net.now) }
 {
     let mut merging = start(alloc, net)?;

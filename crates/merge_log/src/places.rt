@@ -22,7 +22,8 @@ fn clause_count(table: &Table) -> u64
 pub(crate) fn places(alloc: Global, net: &Net) -> Result<Vec<Place>, AllocError>
     requires variables { variable_count (input_count net.now) net.now.tables < 2 ^ 31 }
     requires clauses { sum_by table_clause_count net.now.tables < 2 ^ 60 }
-    ensures { IfOk result (λ places. IsPlaceList (input_count net.now) net.now.tables (table_count net.now) places.items) }
+    ensures { IfOk result (λ places. IsPlaceList (input_count net.now) net.now.tables (table_count net.now)
+        places.items) }
 {
     let mut places = Vec::new(alloc);
     let mut place = Place {

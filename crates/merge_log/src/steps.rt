@@ -52,7 +52,11 @@ pub(crate) fn push_pair(
     requires s { s + 1 < 2 ^ 31 }
     requires u { u + 1 < 2 ^ 31 }
     ensures pushed { OnOk result (log.new ≡ log.old
-        ++ Add (record { id = length goal.now.clauses + length log.old + 1; literals = literal_at s (not sign) ∷ literal_at u sign ∷ []; hints = hints }) ∷ []) }
+        ++ Add (record {
+          id = length goal.now.clauses + length log.old + 1;
+          literals = literal_at s (not sign) ∷ literal_at u sign ∷ [];
+          hints = hints;
+        }) ∷ []) }
     ensures few { length goal.now.clauses + length log.old + 1 < 2 ^ 61 }
 {
     let id = next_id(goal, log);
@@ -130,7 +134,8 @@ fn merge_row(
     requires row { IsRowAt goal.now merged.now marks.now pins.now at }
     requires other_row { IsRowAt goal.now merged.now marks.now others.now other }
     requires same { AllZip (λ p q. first_of merged.now p ≡ first_of merged.now q) pins.now others.now }
-    ensures { OnOk result (Adds goal.now log.old log.new (forth at.row other.row ∷ back at.row other.row ∷ [])) }
+    ensures { OnOk result (Adds goal.now log.old log.new
+        (forth at.row other.row ∷ back at.row other.row ∷ [])) }
 {
     push_row_forth(alloc, goal, log, merged, marks, at, pins, other, others)?;
     push_row_back(alloc, goal, log, merged, marks, at, pins, other, others)
@@ -156,7 +161,8 @@ pub(crate) fn merge_rows(
     requires others { All (λ s. s < length merged.now.firsts) others.now }
     requires same { AllZip (λ p q. first_of merged.now p ≡ first_of merged.now q) pins.now others.now }
     requires clauses { HaveIds goal.now.clauses at.clause (rows_clauses at.row pins.now rows.now) }
-    requires other_clauses { HaveIds goal.now.clauses other.clause (rows_clauses other.row others.now rows.now) }
+    requires other_clauses { HaveIds goal.now.clauses other.clause
+        (rows_clauses other.row others.now rows.now) }
     requires row { at.row + length rows.now ≤ goal.now.variables }
     requires other_row { other.row + length rows.now ≤ goal.now.variables }
     requires few { at.clause + sum_by (λ marks. row_literals marks + 1) rows.now < 2 ^ 61 }

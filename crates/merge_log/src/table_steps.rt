@@ -1,5 +1,6 @@
 //! The steps that make a table equal to another: its rows, and then the table itself.
-ghost use Rattle.std.specs.Prelude.{◌≡◌, ◌+◌, ◌*◌, ◌<◌, ◌≤◌, ◌^◌, [], ◌∷◌, ◌++◌, Bool, true, false, not, length, suc, All, IfOk, OnOk};
+ghost use Rattle.std.specs.Prelude.{◌≡◌, ◌+◌, ◌*◌, ◌<◌, ◌≤◌, ◌^◌, [], ◌∷◌, ◌++◌, Bool, true, false, not};
+ghost use Rattle.std.specs.Prelude.{length, suc, All, IfOk, OnOk};
 ghost use Rattle.std.specs.List.{AllZip};
 ghost use Rattle.proof_semantics.specs.NetClauses.{literal_at, implications, variables_from, table_clauses};
 ghost use Rattle.proof_semantics.specs.Variables.{table_clause_count};
@@ -38,9 +39,11 @@ fn push_table(
     requires derivation { IsDerivation goal.now log.old }
     requires equal { HaveIds (clauses_with goal.now.clauses log.old) equal (row_pairs at.row other.row rows) }
     requires clauses { HaveIds goal.now.clauses at.clause
-        (implications at.row rows (literal_at s plane) ++ (literal_at s (not plane) ∷ variables_from at.row rows) ∷ []) }
+        (implications at.row rows (literal_at s plane)
+        ++ (literal_at s (not plane) ∷ variables_from at.row rows) ∷ []) }
     requires other_clauses { HaveIds goal.now.clauses other.clause
-        (implications other.row rows (literal_at u plane) ++ (literal_at u (not plane) ∷ variables_from other.row rows) ∷ []) }
+        (implications other.row rows (literal_at u plane)
+        ++ (literal_at u (not plane) ∷ variables_from other.row rows) ∷ []) }
     requires s { s < goal.now.variables }
     requires u { u < goal.now.variables }
     requires row { at.row + rows ≤ goal.now.variables }
@@ -48,7 +51,8 @@ fn push_table(
     requires few { at.clause < 2 ^ 61 }
     requires other_few { other.clause < 2 ^ 61 }
     requires equal_few { equal < 2 ^ 61 }
-    ensures { OnOk result (Adds goal.now log.old log.new ((literal_at s (not sign) ∷ literal_at u sign ∷ []) ∷ [])) }
+    ensures { OnOk result (Adds goal.now log.old log.new
+        ((literal_at s (not sign) ∷ literal_at u sign ∷ []) ∷ [])) }
 {
     let _variables = goal.vars();
     let chain = Chain::new(alloc, s, u, sign)?;
@@ -110,7 +114,8 @@ pub(crate) fn merge_tables(
     requires rows { table.now.rows ≡ first.now.rows }
     requires pins { All (λ p. p < length merged.now.firsts) table.now.pins }
     requires others { All (λ p. p < length merged.now.firsts) first.now.pins }
-    requires same { AllZip (λ p q. first_of merged.now p ≡ first_of merged.now q) table.now.pins first.now.pins }
+    requires same { AllZip (λ p q. first_of merged.now p ≡ first_of merged.now q) table.now.pins
+        first.now.pins }
     requires clauses { HaveIds goal.now.clauses at.clause (table_clauses s at.row table.now) }
     requires other_clauses { HaveIds goal.now.clauses other.clause (table_clauses u other.row first.now) }
     requires s { s < goal.now.variables }
@@ -119,8 +124,11 @@ pub(crate) fn merge_tables(
     requires other_row { other.row + length first.now.rows ≤ goal.now.variables }
     requires few { at.clause + table_clause_count table.now < 2 ^ 61 }
     requires other_few { other.clause + table_clause_count first.now < 2 ^ 61 }
-    ensures adds { OnOk result (Adds goal.now log.old log.new (row_pairs at.row other.row (length table.now.rows) ++ forth s u ∷ back s u ∷ [])) }
-    ensures id { IfOk result (λ id. id ≡ length goal.now.clauses + length log.old + 2 * length table.now.rows + 1) }
+    ensures adds { OnOk result
+        (Adds goal.now log.old log.new
+        (row_pairs at.row other.row (length table.now.rows) ++ forth s u ∷ back s u ∷ [])) }
+    ensures id { IfOk result (λ id. id
+        ≡ length goal.now.clauses + length log.old + 2 * length table.now.rows + 1) }
     ensures few { IfOk result (λ id. id < 2 ^ 61) }
 {
     let _variables = goal.vars();

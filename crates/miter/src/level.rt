@@ -1,4 +1,5 @@
-//! The joint net of two nets at an error level, and the formula that its output is true. Source: miters, as in equivalence checking by SAT.
+//! The joint net of two nets at an error level, and the formula that its output is true. Source: miters, as
+//! in equivalence checking by SAT.
 ghost use Rattle.std.specs.Prelude.{◌≡◌, ◌<◌, ◌≤◌, ◌^◌, length, IfOk};
 ghost use Rattle.semantics.specs.Net.{IsSound};
 ghost use Rattle.semantics.specs.Error.{IsCandidate};

@@ -15,7 +15,8 @@ use Rattle.net_core.proofs.InOrder.{HoldsBefore, next_at, holds_none, holds_more
 pub acyclic-pins : (n : ℕ) (tables : List TableValue) → IsAcyclic n tables → All (λ (t : TableValue). All (λ s. s < n + length tables) t.pins) tables
 acyclic-pins n tables acyclic i d within =
     let pins : All (λ s. s < n + length tables) (table_at tables i).pins =
-    All-weaker (Contains (table_at tables i).pins) (λ s. s < n + length tables) (λ s c. pin_is_signal n tables i s acyclic within c) (table_at tables i).pins (All-contains_itself (table_at tables i).pins) in
+    All-weaker (Contains (table_at tables i).pins) (λ s. s < n + length tables) (λ s c. pin_is_signal n tables i s acyclic within c) (table_at tables i).pins
+    (All-contains_itself (table_at tables i).pins) in
     subst (λ (t : TableValue). All (λ s. s < n + length tables) t.pins) (get_or_default tables i no_table d within) pins
 
 -- the inputs and the first k tables of the order have their values
@@ -39,7 +40,8 @@ module _ (tables : List TableValue) (order : List ℕ) (x : List Bool) (is : IsO
   -- a table that was read in turn has its pins among the signals
   pub pins_in : (i : ℕ) (t : TableValue) (m : ℕ) → i < length tables → t ≡ get_or tables i t → m ≡ length x + length tables → All (λ s. s < m) t.pins
   pins_in i t m within read same =
-      let pins : All (λ s. s < length x + length tables) t.pins = subst (λ (u : TableValue). All (λ s. s < length x + length tables) u.pins) (sym read) (acyclic-pins (length x) tables acyclic i t within) in
+      let pins : All (λ s. s < length x + length tables) t.pins
+      = subst (λ (u : TableValue). All (λ s. s < length x + length tables) u.pins) (sym read) (acyclic-pins (length x) tables acyclic i t within) in
       λ k d inside. omega (arith, pins k d inside)
 
   -- one more table has its value

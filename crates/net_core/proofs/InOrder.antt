@@ -1,5 +1,6 @@
 -- What is found for one table after another, in an order of the tables.
-use Rattle.std.proofs.Common.{ℕ, zero, suc, ◌+◌, ◌-◌, ◌≡◌, ◌<◌, ◌≤◌, List, [], ◌∷◌, ◌++◌, length, get_or, set, take, Contains, inl, inr, sym, ap, subst, ◌∙◌, append_assoc, arith, get_or-set_same, get_or-set_other}
+use Rattle.std.proofs.Common.{ℕ, zero, suc, ◌+◌, ◌-◌, ◌≡◌, ◌<◌, ◌≤◌, List, [], ◌∷◌, ◌++◌, length, get_or, set, take, Contains, inl, inr, sym, ap, subst, ◌∙◌, append_assoc, arith, get_or-set_same}
+use Rattle.std.proofs.Common.{get_or-set_other}
 use Rattle.std.proofs.lemmas.Bool.{cases_eq, cases_lt}
 use Rattle.std.proofs.lemmas.List.{append-nil, take_all, take_more}
 use Rattle.std.proofs.lemmas.List.Elements.{Contains-push_cases}
@@ -7,7 +8,8 @@ use Rattle.semantics.specs.Net.{TableValue}
 use Rattle.semantics.specs.Order.{IsKnown, IsNext, IsOrderAfter, IsOrderOf}
 
 -- each member of an order stands next after those before it
-pub member-next : (n : ℕ) (tables : List TableValue) (before order : List ℕ) (k d : ℕ) → IsOrderAfter n tables before order → k < length order → IsNext n tables (before ++ take k order) (get_or order k d)
+pub member-next : (n : ℕ) (tables : List TableValue) (before order : List ℕ) (k d : ℕ) → IsOrderAfter n tables before order → k < length order
+    → IsNext n tables (before ++ take k order) (get_or order k d)
 member-next n tables before [] k d h low = absurd (omega arith)
 member-next n tables before (i ∷ order) zero d h low = rw append-nil h.0
 member-next n tables before (i ∷ order) (suc k) d h low =

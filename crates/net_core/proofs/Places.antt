@@ -1,5 +1,6 @@
 -- What stands before a table in an order, and orders that still serve where one table is replaced.
-use Rattle.std.proofs.Common.{◌≡◌, ℕ, zero, suc, ◌+◌, ◌<◌, ◌≤◌, List, [], ◌∷◌, ◌++◌, length, get_or, set, take, All, Contains, refl, sym, ap, subst, ◌∙◌, inl, inr, append_assoc, arith, get_or-take, get_or-set_same, length-set}
+use Rattle.std.proofs.Common.{◌≡◌, ℕ, zero, suc, ◌+◌, ◌<◌, ◌≤◌, List, [], ◌∷◌, ◌++◌, length, get_or, set, take, All, Contains, refl, sym, ap, subst, ◌∙◌, inl, inr, append_assoc, arith, get_or-take}
+use Rattle.std.proofs.Common.{get_or-set_same, length-set}
 use Rattle.std.specs.List.{AllByRecursion}
 use Rattle.std.proofs.lemmas.Bool.{cases_eq, cases_lt}
 use Rattle.std.proofs.lemmas.List.{append-nil, length-take, set-set, set-get_or}

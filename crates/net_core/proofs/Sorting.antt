@@ -1,5 +1,6 @@
 -- What each step of sorting keeps, and what it comes to.
-use Rattle.std.proofs.Common.{◌≡◌, ◌≢◌, ◌↔◌, IsTrue, Some, inl, inr, ℕ, zero, suc, ◌+◌, ◌-◌, ◌<◌, ◌≤◌, Bool, true, false, List, [], ◌∷◌, ◌++◌, length, get_or, take, set, replicate, All, Contains, refl, sym, ap, subst, ◌∙◌, true≢false, arith}
+use Rattle.std.proofs.Common.{◌≡◌, ◌≢◌, ◌↔◌, IsTrue, Some, inl, inr, ℕ, zero, suc, ◌+◌, ◌-◌, ◌<◌, ◌≤◌, Bool, true, false, List, [], ◌∷◌, ◌++◌, length, get_or, take, set, replicate, All, Contains}
+use Rattle.std.proofs.Common.{refl, sym, ap, subst, ◌∙◌, true≢false, arith}
 use Rattle.std.proofs.lemmas.Bool.{cases_eq, cases_lt}
 use Rattle.std.proofs.lemmas.List.{get_or-set_same, get_or-set_other, length-set, length_push, get_or_append_left, set_past, get_or_past, get_or_read, get_or-replicate, length-replicate}
 use Rattle.std.proofs.lemmas.List.Elements.{All-from_recursion, recursion_from_All, All-push, All-weaker, All-contains, Contains-push, Contains-push_cases, Contains-append_left, Contains-get_or}
@@ -57,7 +58,8 @@ IsSorting-placed n tables S i h within new ready = record {
 -- ---- lists of those that wait
 
 -- one list replaced
-IsSorting-listed : (n : ℕ) (tables : List TableValue) (S : Sorting) (t : ℕ) (w : List ℕ) → All (λ i. i < length tables) w → IsSorting n tables S → IsSorting n tables (record S { waiters = set S.waiters t w })
+IsSorting-listed : (n : ℕ) (tables : List TableValue) (S : Sorting) (t : ℕ) (w : List ℕ) → All (λ i. i < length tables) w → IsSorting n tables S
+    → IsSorting n tables (record S { waiters = set S.waiters t w })
 IsSorting-listed n tables S t w small h = record {
   size = length-set S.waiters t w ∙ h.size;
   in_turn = h.in_turn;
@@ -125,7 +127,8 @@ waiters-kept S t i ready on j h =
     ]
 
 IsSettled-waiting : (n : ℕ) (tables : List TableValue) (S : Sorting) (t i ready head : ℕ) (rest : List ℕ)
-    → IsSorting n tables S → t < length tables → (¬ Contains S.order t) → Contains (table_at tables i).pins (n + t) → IsSettled n tables S head (i ∷ rest) → IsSettled n tables (waiting_for S t i ready) head rest
+    → IsSorting n tables S → t < length tables → (¬ Contains S.order t) → Contains (table_at tables i).pins (n + t) → IsSettled n tables S head (i ∷ rest)
+    → IsSettled n tables (waiting_for S t i ready) head rest
 IsSettled-waiting n tables S t i ready head rest h within unplaced read s =
     let inside : t < length S.waiters = omega (arith, h.size) in
     record {
@@ -149,8 +152,10 @@ IsSettled-waiting n tables S t i ready head rest h within unplaced read s =
     }
 
 -- a table waits for the table of its first pin that is not known
-pub IsSettled-unknown : (n : ℕ) (tables : List TableValue) (S : Sorting) (i k : ℕ) (pins : List ℕ) → All (λ t. All (λ s. s < n + length tables) t.pins) tables → i < length tables → pins ≡ (table_at tables i).pins
-    → IsSorting n tables S → IsFirstUnknown n S.order pins k → (head : ℕ) (rest : List ℕ) → IsSettled n tables S head (i ∷ rest) → IsSettled n tables (waiting_for S (get_or pins k 0 - n) i k) head rest
+pub IsSettled-unknown : (n : ℕ) (tables : List TableValue) (S : Sorting) (i k : ℕ) (pins : List ℕ) → All (λ t. All (λ s. s < n + length tables) t.pins) tables → i < length tables
+    → pins ≡ (table_at tables i).pins
+    → IsSorting n tables S → IsFirstUnknown n S.order pins k → (head : ℕ) (rest : List ℕ) → IsSettled n tables S head (i ∷ rest)
+    → IsSettled n tables (waiting_for S (get_or pins k 0 - n) i k) head rest
 IsSettled-unknown n tables S i k pins all within e h f head rest s =
     let pin = get_or pins k 0 in
     let low : pin < n + length tables = subst (λ (ps : List ℕ). All (λ s. s < n + length tables) ps) (sym e) (all i no_table within) k 0 f.within in
@@ -241,7 +246,8 @@ waits_for_free n tables S s i w placed =
     let short : w.listed.0 < length (waiters_of S w.on) = w.listed.1 in
     absurd (omega (arith, ap length empty, short))
 
-not_grounded : (n : ℕ) (tables : List TableValue) (S : Sorting) → IsSettled n tables S (length S.order) [] → (steps i : ℕ) → i < length tables → (¬ Contains S.order i) → ¬ IsGroundedIn n tables steps (n + i)
+not_grounded : (n : ℕ) (tables : List TableValue) (S : Sorting) → IsSettled n tables S (length S.order) [] → (steps i : ℕ) → i < length tables → (¬ Contains S.order i)
+    → ¬ IsGroundedIn n tables steps (n + i)
 not_grounded n tables S s zero i within free g = omega (arith, g)
 not_grounded n tables S s (suc steps) i within free (inl low) = omega (arith, low)
 not_grounded n tables S s (suc steps) i within free (inr (bound, pins)) =

@@ -3,7 +3,8 @@ use Rattle.std.specs.Prelude.{◌≡◌, Some}
 use Rattle.semantics.specs.Net.{NetValue}
 use Rattle.semantics.specs.Refusals.{net_refusal, doubled, no_output, undriven, cycle, limit}
 use Rattle.net_core.specs.declared.refusal.NetRefusal.{NetRefusal}
-use Rattle.net_core.specs.declared.refusal.NetRefusal.TheVariants.{Doubled, NoOutput, Undriven, Cycle, Limit, OutOfMemory}
+use Rattle.net_core.specs.declared.refusal.NetRefusal.TheVariants.{Doubled, NoOutput, Undriven, Cycle, Limit}
+use Rattle.net_core.specs.declared.refusal.NetRefusal.TheVariants.{OutOfMemory}
 
 -- each refusal but want of memory is the one that the definitions tell of the parts
 abbrev pub IsRefusalOf : NetValue → NetRefusal → Type 0

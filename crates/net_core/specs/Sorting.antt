@@ -1,5 +1,6 @@
 -- Tables on their way into an order: each table that has no place in it yet waits for a table that it reads.
-use Rattle.std.specs.Prelude.{◌≡◌, ◌⊎◌, ◌↔◌, ℕ, ◌+◌, ◌<◌, ◌≤◌, Bool, true, false, List, [], ◌∷◌, ◌++◌, length, take, slice_index, slice_index_or, slice_set, All, Contains}
+use Rattle.std.specs.Prelude.{◌≡◌, ◌⊎◌, ◌↔◌, ℕ, ◌+◌, ◌<◌, ◌≤◌, Bool, true, false, List, [], ◌∷◌, ◌++◌}
+use Rattle.std.specs.Prelude.{length, take, slice_index, slice_index_or, slice_set, All, Contains}
 use Rattle.semantics.specs.Net.{TableValue, table_at}
 use Rattle.semantics.specs.Order.{IsKnown, IsOrderAfter}
 
@@ -23,7 +24,8 @@ placed_at_end S i = record S { order = S.order ++ i ∷ [] }
 
 -- table i, whose first `ready` pins are ready, waits for table t
 abbrev pub waiting_for : Sorting → ℕ → ℕ → ℕ → Sorting
-waiting_for S t i ready = record S { waiters = slice_set S.waiters t (waiters_of S t ++ i ∷ []); checked = slice_set S.checked i ready }
+waiting_for S t i ready = record S
+    { waiters = slice_set S.waiters t (waiters_of S t ++ i ∷ []); checked = slice_set S.checked i ready }
 
 abbrev pub without_waiters : Sorting → ℕ → Sorting
 without_waiters S t = record S { waiters = slice_set S.waiters t [] }
@@ -50,7 +52,8 @@ pub record Waits (n : ℕ) (tables : List TableValue) (S : Sorting) (i : ℕ) : 
 
 -- each table without a place waits or is in hand, and no table waits for one of the first `head` tables of
 -- the order
-pub record IsSettled (n : ℕ) (tables : List TableValue) (S : Sorting) (head : ℕ) (in_hand : List ℕ) : Type 0 where
+pub record IsSettled (n : ℕ) (tables : List TableValue) (S : Sorting) (head : ℕ)
+    (in_hand : List ℕ) : Type 0 where
   pub so_far : head ≤ length S.order
   pub settled : (i : ℕ) → i < length tables → (¬ Contains S.order i) → Waits n tables S i ⊎ Contains in_hand i
   pub emptied : (k : ℕ) → k < head → waiters_of S (slice_index S.order k) ≡ []

@@ -1,6 +1,7 @@
 //! Which signals depend on a table. One pass along the order of the tables finds this for all signals: a
 //! table depends on what its pins depend on, and the pins are marked before it.
-ghost use Rattle.std.specs.Prelude.{◌≡◌, ◌==◌, ◌↔◌, ◌||◌, ◌<◌, ℕ, false, length, slice_index_or, IsTrue, IfOk, All};
+ghost use Rattle.std.specs.Prelude.{◌≡◌, ◌==◌, ◌↔◌, ◌||◌, ◌<◌, ℕ, false, length, slice_index_or, IsTrue};
+ghost use Rattle.std.specs.Prelude.{IfOk, All};
 ghost use Rattle.std.specs.List.{list_any};
 ghost use Rattle.semantics.specs.Net.{input_count, table_count, signal_count};
 ghost use Rattle.semantics.specs.Dependence.{DependsOn};

@@ -49,7 +49,9 @@ fn have_few_rows(tables: &[Table]) -> bool
 
 /// The first limit that these parts pass. The count takes no memory, and stops where a limit is passed.
 pub fn first_limit(inputs: &NameList, tables: &TableList, outputs: &SignalList) -> Option<Which>
-    ensures { (model : List ℕ) → result ≡ first_limit (record { model = model; inputs = inputs.now; tables = tables.now; outputs = outputs.now }) }
+    ensures { (model : List ℕ)
+        → result ≡ first_limit (record
+        { model = model; inputs = inputs.now; tables = tables.now; outputs = outputs.now }) }
 {
     if inputs.len() > MOST_INPUTS {
         return Some(Which::Inputs);

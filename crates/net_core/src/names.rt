@@ -1,5 +1,6 @@
 //! The names of signals, and the first that stands a second time.
-ghost use Rattle.std.specs.Prelude.{◌≡◌, ◌<◌, ◌+◌, ◌^◌, true, not, [], ◌∷◌, ◌++◌, map, length, slice_index_or, None, Some, IfOk, MatchOption};
+ghost use Rattle.std.specs.Prelude.{◌≡◌, ◌<◌, ◌+◌, ◌^◌, true, not, [], ◌∷◌, ◌++◌, map, length};
+ghost use Rattle.std.specs.Prelude.{slice_index_or, None, Some, IfOk, MatchOption};
 ghost use Rattle.semantics.specs.Refusals.{has_name, first_doubled};
 
 use net_parts::items::{NameList, TableList};

@@ -1,6 +1,9 @@
 //! Nets: sound, with an order of their tables, and of a size that fits their numbers.
-ghost use Rattle.std.specs.Prelude.{◌≡◌, ℕ, ◌+◌, ◌<◌, ◌^◌, false, length, slice_index, slice_index_or, sum_by, All, None, IfOk, IfErr, OnOk, OnErr};
-ghost use Rattle.semantics.specs.Net.{IsName, IsTable, IsAcyclic, IsSound, input_count, table_count, signal_count, literal_count, signal_names, name_of, table_at, table_literals};
+ghost use Rattle.std.specs.Prelude.{◌≡◌, ℕ, ◌+◌, ◌<◌, ◌^◌, false, length, slice_index, slice_index_or};
+ghost use Rattle.std.specs.Prelude.{sum_by, All, None, IfOk, IfErr, OnOk, OnErr};
+ghost use Rattle.semantics.specs.Net.{IsName, IsTable, IsAcyclic, IsSound, input_count, table_count};
+ghost use Rattle.semantics.specs.Net.{signal_count, literal_count, signal_names, name_of, table_at};
+ghost use Rattle.semantics.specs.Net.{table_literals};
 ghost use Rattle.semantics.specs.Value.{value_of};
 ghost use Rattle.semantics.specs.Order.{IsOrderOf};
 ghost use Rattle.semantics.specs.Refusals.{net_refusal};
@@ -45,7 +48,8 @@ impl Model for Net {
       outputs = a.outputs;
     } };
 
-    ghost invariant = { λ a. IsBuilt (record { model = a.model; inputs = a.inputs; tables = a.tables; outputs = a.outputs })
+    ghost invariant = { λ a. IsBuilt
+        (record { model = a.model; inputs = a.inputs; tables = a.tables; outputs = a.outputs })
         × IsOrderOf (length a.inputs) a.tables a.order.items };
 }
 
@@ -79,7 +83,8 @@ fn literal_count(tables: &[Table]) -> u64
     count
 }
 
-/// Sets `vals[s]` to the value of each signal `s` at the input vector `x`, in one pass over the tables in their order.
+/// Sets `vals[s]` to the value of each signal `s` at the input vector `x`, in one pass over the tables in
+/// their order.
 fn eval_tables(tables: &[Table], order: &[u32], x: &[bool], vals: &mut [bool])
     requires order { IsOrderOf (length x.now) tables.now order.now }
     requires room { length vals.old ≡ length x.now + length tables.now }
@@ -104,7 +109,8 @@ impl Net {
         outputs: SignalList,
         order: Vec<u32>,
     ) -> Net
-        requires wired { IsWired (record { model = model; inputs = inputs; tables = tables; outputs = outputs }) }
+        requires wired { IsWired
+            (record { model = model; inputs = inputs; tables = tables; outputs = outputs }) }
         requires order { IsOrderOf (length inputs) tables order.items }
         ensures { result ≡ record { model = model; inputs = inputs; tables = tables; outputs = outputs } }
     {
@@ -129,7 +135,8 @@ impl Net {
         tables: TableList,
         outputs: SignalList,
     ) -> Result<Net, AllocError>
-        requires wired { IsWired (record { model = model; inputs = inputs; tables = tables; outputs = outputs }) }
+        requires wired { IsWired
+            (record { model = model; inputs = inputs; tables = tables; outputs = outputs }) }
         requires acyclic { IsAcyclic (length inputs) tables }
         ensures { IfOk result
             (λ n. n ≡ record { model = model; inputs = inputs; tables = tables; outputs = outputs }) }
@@ -151,7 +158,8 @@ impl Net {
         ensures ok { IfOk result
             (λ n. n ≡ record { model = model; inputs = inputs; tables = tables; outputs = outputs }) }
         ensures accepted { OnOk result
-            (net_refusal (record { model = model; inputs = inputs; tables = tables; outputs = outputs }) ≡ None) }
+            (net_refusal (record { model = model; inputs = inputs; tables = tables; outputs = outputs })
+            ≡ None) }
         ensures refused { IfErr result
             (IsRefusalOf (record { model = model; inputs = inputs; tables = tables; outputs = outputs })) }
     {

@@ -2,12 +2,15 @@
 //! order. Source: Kahn's topological sorting. A table waits for one table at a time, the first that it reads
 //! and that has no place yet; once that table has its place, the search goes on from there. So each pin is
 //! passed once, and no counts of pins are kept.
-ghost use Rattle.std.specs.Prelude.{◌≡◌, ◌↔◌, ◌<◌, ◌+◌, ◌^◌, ℕ, List, [], ◌∷◌, take, replicate, length, slice_index, IsTrue, IfOk, OnOk, IfSome, MatchResult, MatchOption, All, Contains, Some};
+ghost use Rattle.std.specs.Prelude.{◌≡◌, ◌↔◌, ◌<◌, ◌+◌, ◌^◌, ℕ, List, [], ◌∷◌, take, replicate, length};
+ghost use Rattle.std.specs.Prelude.{slice_index, IsTrue, IfOk, OnOk, IfSome, MatchResult, MatchOption, All};
+ghost use Rattle.std.specs.Prelude.{Contains, Some};
 ghost use Rattle.semantics.specs.Net.{IsAcyclic};
 ghost use Rattle.semantics.specs.Order.{IsKnown, IsOrderOf};
 ghost use Rattle.semantics.specs.Refusals.{first_ungrounded};
 ghost use Rattle.net_core.specs.Places.{IsKnownAt};
-ghost use Rattle.net_core.specs.Sorting.{waiters_of, placed_at_end, waiting_for, without_waiters, IsFirstUnknown, IsSorting, IsSettled};
+ghost use Rattle.net_core.specs.Sorting.{waiters_of, placed_at_end, waiting_for, without_waiters};
+ghost use Rattle.net_core.specs.Sorting.{IsFirstUnknown, IsSorting, IsSettled};
 
 use net_parts::items::Signal;
 use net_parts::table::Table;
@@ -39,7 +42,8 @@ impl Model for Sorting {
     } };
 
     ghost invariant = { λ a. IsMarked a.order.items a.placed.items
-        × (length a.placed.items ≡ length a.waiters.items) × (length a.checked.items ≡ length a.waiters.items) };
+        × (length a.placed.items ≡ length a.waiters.items)
+        × (length a.checked.items ≡ length a.waiters.items) };
 }
 
 impl Sorting {
@@ -140,7 +144,8 @@ impl Sorting {
         requires pins { All (λ t. All (λ s. s < inputs + length tables.now) t.pins) tables.now }
         ensures sorting { OnOk result (IsSorting inputs tables.now self.new) }
         ensures settled { OnOk result ((head : ℕ) (rest : List ℕ)
-            → IsSettled inputs tables.now self.old head (i ∷ rest) → IsSettled inputs tables.now self.new head rest) }
+            → IsSettled inputs tables.now self.old head (i ∷ rest)
+            → IsSettled inputs tables.now self.new head rest) }
     {
         if self.has_place(i) {
             return Ok(());
@@ -159,7 +164,8 @@ impl Sorting {
         requires pins { All (λ t. All (λ s. s < inputs + length tables.now) t.pins) tables.now }
         ensures sorting { OnOk result (IsSorting inputs tables.now self.new) }
         ensures settled { OnOk result ((head : ℕ)
-            → IsSettled inputs tables.now self.old head list.now → IsSettled inputs tables.now self.new head []) }
+            → IsSettled inputs tables.now self.old head list.now
+            → IsSettled inputs tables.now self.new head []) }
     {
         for i in list {
             self.visit(inputs, tables, *i)?;
@@ -200,7 +206,8 @@ impl Sorting {
     fn first_without_place(&self, count: u32) -> Option<u32>
         requires { count ≡ length self.now.waiters }
         ensures { MatchOption result ((j : ℕ) → j < count → Contains self.now.order j)
-            (λ i. (i < count) × (¬ Contains self.now.order i) × ((j : ℕ) → j < i → Contains self.now.order j)) }
+            (λ i. (i < count) × (¬ Contains self.now.order i)
+            × ((j : ℕ) → j < i → Contains self.now.order j)) }
     {
         for i in 0..count {
             if !self.has_place(i) {
@@ -258,7 +265,8 @@ pub fn order_of(
     requires few_signals { inputs + length tables.now < 2 ^ 31 }
     requires pins { All (λ t. All (λ s. s < inputs + length tables.now) t.pins) tables.now }
     ensures { IfOk result (λ found. MatchResult found
-        (λ order. IsOrderOf inputs tables.now order.items) (λ i. first_ungrounded inputs tables.now ≡ Some i)) }
+        (λ order. IsOrderOf inputs tables.now order.items)
+        (λ i. first_ungrounded inputs tables.now ≡ Some i)) }
 {
     let count = tables.len() as u32;
     let sorting = settle(alloc, inputs, tables, count)?;
@@ -286,7 +294,8 @@ pub(crate) fn order_of_acyclic(
 
 /// Whether table `i` stands before table `t` in an order.
 fn stands_before(order: &[u32], t: u32, i: u32) -> bool
-    ensures { IsTrue result → (k : ℕ) → k < length order.now → slice_index order.now k ≡ t → Contains (take k order.now) i }
+    ensures { IsTrue result → (k : ℕ) → k < length order.now → slice_index order.now k ≡ t
+        → Contains (take k order.now) i }
 {
     for j in order {
         if *j == t {

@@ -35,6 +35,7 @@ pub apart_at : (xs ys : List Bytes) (i : ℕ) (a b : Bytes) (r : Bool) → a ≡
 apart_at xs ys i a b r ea eb e differ = ((λ h. absurd cc), λ same. absurd (told_apart a b r e differ (ea ∙ ap (λ zs. get_or zs i []) same ∙ sym eb)))
 
 -- one more name that is the same
-pub same_more : (xs ys : List Bytes) (i : ℕ) (a b : Bytes) (r : Bool) → i < length xs → length xs ≡ length ys → a ≡ get_or xs i [] → b ≡ get_or ys i [] → r ≡ not (bytes_eq a b) → r ≡ false → take i xs ≡ take i ys → take (i + 1) xs ≡ take (i + 1) ys
+pub same_more : (xs ys : List Bytes) (i : ℕ) (a b : Bytes) (r : Bool) → i < length xs → length xs ≡ length ys → a ≡ get_or xs i [] → b ≡ get_or ys i [] → r ≡ not (bytes_eq a b) → r ≡ false
+    → take i xs ≡ take i ys → take (i + 1) xs ≡ take (i + 1) ys
 same_more xs ys i a b r within same ea eb e equal before =
     take_more_same xs ys i [] within (omega (arith, within, same)) before (sym ea ∙ told_same a b r e equal ∙ eb)

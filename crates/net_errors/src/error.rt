@@ -1,6 +1,7 @@
 //! The error of one pair of output words. The first output is bit 0.
 ghost use Rattle.std.specs.Prelude.{◌≡◌, ◌≤◌, ◌<◌, ◌+◌, ◌*◌, length};
-ghost use Rattle.semantics.specs.Error.{number_of, signed_number_of, rounded_up, distance, differing, error_of};
+ghost use Rattle.semantics.specs.Error.{number_of, signed_number_of, rounded_up, distance, differing};
+ghost use Rattle.semantics.specs.Error.{error_of};
 
 use semantics::limits::MOST_OUTPUTS;
 use semantics::metric::Metric;

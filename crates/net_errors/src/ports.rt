@@ -22,7 +22,8 @@ fn same_inputs(n: &Net, m: &Net) -> bool
 /// Whether the names of the outputs are the same, in the same order.
 fn same_outputs(n: &Net, m: &Net) -> bool
     ensures { IsTrue result
-        ↔ (map (name_of (signal_names n.now)) n.now.outputs ≡ map (name_of (signal_names m.now)) m.now.outputs) }
+        ↔ (map (name_of (signal_names n.now)) n.now.outputs
+        ≡ map (name_of (signal_names m.now)) m.now.outputs) }
 {
     if n.outputs() != m.outputs() {
         return false;

@@ -19,12 +19,14 @@ rows-more t row end low = let left : end - row ≡ suc (end - (row + 1)) = omega
 pub rows-end : (t row end : ℕ) → end ≤ row → rows_left t row end ≡ []
 rows-end t row end past = let none : end - row ≡ 0 = omega arith in rw none refl
 
-pins-at : (marks : List Mark) (p : ℕ) (m : Mark) → p < length marks → m ≡ get_or marks p m → literal_pins p (drop p marks) ≡ cond (is_literal m) (p ∷ literal_pins (p + 1) (drop (p + 1) marks)) (literal_pins (p + 1) (drop (p + 1) marks))
+pins-at : (marks : List Mark) (p : ℕ) (m : Mark) → p < length marks → m ≡ get_or marks p m
+    → literal_pins p (drop p marks) ≡ cond (is_literal m) (p ∷ literal_pins (p + 1) (drop (p + 1) marks)) (literal_pins (p + 1) (drop (p + 1) marks))
 pins-at marks p m low read =
     ap (literal_pins p) (drop_more marks p m low)
     ∙ ap (λ (n : Mark). cond (is_literal n) (p ∷ literal_pins (p + 1) (drop (p + 1) marks)) (literal_pins (p + 1) (drop (p + 1) marks))) (sym read)
 
-pub pins-literal : (marks : List Mark) (p : ℕ) (m : Mark) → p < length marks → m ≡ get_or marks p m → is_literal m ≡ true → literal_pins p (drop p marks) ≡ p ∷ literal_pins (p + 1) (drop (p + 1) marks)
+pub pins-literal : (marks : List Mark) (p : ℕ) (m : Mark) → p < length marks → m ≡ get_or marks p m → is_literal m ≡ true
+    → literal_pins p (drop p marks) ≡ p ∷ literal_pins (p + 1) (drop (p + 1) marks)
 pins-literal marks p m low read literal = pins-at marks p m low read ∙ cond-true (is_literal m) _ _ literal
 
 pub pins-dash : (marks : List Mark) (p : ℕ) (m : Mark) → p < length marks → m ≡ get_or marks p m → is_literal m ≡ false → literal_pins p (drop p marks) ≡ literal_pins (p + 1) (drop (p + 1) marks)

@@ -1,5 +1,7 @@
 -- What is left of lists of moves that are given one after another.
-use Rattle.std.specs.Prelude.{◌≡◌, ◌==◌, ℕ, ◌+◌, ◌-◌, ◌<◌, ◌≤◌, ◌^◌, Bool, true, false, ◌||◌, if◌then◌else◌, Option, Some, None, MatchOption, List, [], ◌∷◌, ◌++◌, map, flat_map, take, drop, length, slice_index, All}
+use Rattle.std.specs.Prelude.{◌≡◌, ◌==◌, ℕ, ◌+◌, ◌-◌, ◌<◌, ◌≤◌, ◌^◌, Bool, true, false, ◌||◌, if◌then◌else◌}
+use Rattle.std.specs.Prelude.{Option, Some, None, MatchOption, List, [], ◌∷◌, ◌++◌, map, flat_map, take}
+use Rattle.std.specs.Prelude.{drop, length, slice_index, All}
 use Rattle.std.specs.List.{range_with_len}
 use Rattle.semantics.specs.declared.mark.Mark.{Mark}
 use Rattle.semantics.specs.Net.{TableValue, NetValue}
@@ -7,7 +9,8 @@ use Rattle.chain_semantics.specs.declared.moves.Move.{Move}
 use Rattle.chain_semantics.specs.declared.moves.Move.TheVariants.{Const, DropRow, DropLiteral, Signal}
 use Rattle.chain_semantics.specs.declared.moves.TheConstants.{MOST_NEAR_SIGNALS}
 use Rattle.chain_semantics.specs.TidyRules.{has}
-use Rattle.chain_semantics.specs.Moves.{literal_pins, literal_moves, copies_of, each_once, pairs_of, flips_of, old_moves_of_table, moves_of_table}
+use Rattle.chain_semantics.specs.Moves.{literal_pins, literal_moves, copies_of, each_once, pairs_of}
+use Rattle.chain_semantics.specs.Moves.{flips_of, old_moves_of_table, moves_of_table}
 
 -- the first of a list is given, with the rest, or None of the empty list
 abbrev pub GivesFirst : List Move → Option Move → List Move → Type 0
@@ -26,7 +29,8 @@ rows_left t r end = map (DropRow t) (range_with_len r (end - r))
 -- the literals from pin p of the first of these rows on, which is row r
 abbrev pub literals_left : ℕ → ℕ → ℕ → List (List Mark) → List Move
 literals_left t r p [] = []
-literals_left t r p (marks ∷ rows) = map (DropLiteral t r) (literal_pins p (drop p marks)) ++ literal_moves t (r + 1) rows
+literals_left t r p (marks ∷ rows)
+    = map (DropLiteral t r) (literal_pins p (drop p marks)) ++ literal_moves t (r + 1) rows
 
 -- rows and pins that are few enough for their numbers
 pub record AreCountable (rows : List (List Mark)) : Type 0 where

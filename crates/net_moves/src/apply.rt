@@ -1,6 +1,7 @@
 //! The net after a move: the moved table is made anew. The other tables are copied into a new net, or the
 //! move is made in the net itself and can be taken back.
-ghost use Rattle.std.specs.Prelude.{◌≡◌, ◌<◌, [], ◌∷◌, true, false, not, length, slice_index_or, remove, slice_set, IfOk, OnOk, OnErr, All, Contains};
+ghost use Rattle.std.specs.Prelude.{◌≡◌, ◌<◌, [], ◌∷◌, true, false, not, length, slice_index_or, remove};
+ghost use Rattle.std.specs.Prelude.{slice_set, IfOk, OnOk, OnErr, All, Contains};
 ghost use Rattle.semantics.specs.declared.mark.Mark.TheVariants.{Dash};
 ghost use Rattle.chain_semantics.specs.Moves.{moves_of, table_of, moved_table, moved, copy_mark, row_at};
 ghost use Rattle.semantics.specs.Net.{NetValue, table_at};
@@ -68,7 +69,8 @@ fn pair_table(
         (λ t. t ≡ record {
           name = name;
           pins = signals;
-          rows = (copy_mark (slice_index_or flips 0 false) ∷ copy_mark (slice_index_or flips 1 false) ∷ []) ∷ [];
+          rows = (copy_mark (slice_index_or flips 0 false) ∷ copy_mark (slice_index_or flips 1 false) ∷ [])
+              ∷ [];
           plane = not flip;
         }) }
 {

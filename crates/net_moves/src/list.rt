@@ -25,7 +25,8 @@ impl<'a> Model for Moves<'a> {
 
     ghost Value = { List Move };
 
-    ghost view = { λ a. a.moves.left ++ moves_from (offered a.pairs a.net.now) a.table (drop a.table a.net.now.tables) };
+    ghost view = { λ a. a.moves.left
+        ++ moves_from (offered a.pairs a.net.now) a.table (drop a.table a.net.now.tables) };
 
     ghost invariant = { λ a. IsSmall a.net.now × (a.moves.room ≡ signal_count a.net.now) };
 }

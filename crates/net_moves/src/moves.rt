@@ -22,8 +22,8 @@ fn moves_with(alloc: Global, net: &Net, pairs: bool) -> Result<Moves<'_>, AllocE
     })
 }
 
-/// All moves of a net, in order: table by table, and in each table the constants, the rows, the literals, the signals and the
-/// pairs of signals.
+/// All moves of a net, in order: table by table, and in each table the constants, the rows, the literals, the
+/// signals and the pairs of signals.
 pub fn moves(alloc: Global, net: &Net) -> Result<Moves<'_>, AllocError>
     requires { IsSmall net.now }
     ensures { IfOk result (λ moves. moves ≡ moves_of net.now) }

@@ -77,7 +77,8 @@ impl NearSignals {
 
     /// Adds these signals behind those that were added before.
     fn add_all(&mut self, signals: &[Signal])
-        ensures { (before : List ℕ) → self.old ≡ first_once before → self.new ≡ first_once (before ++ signals.now) }
+        ensures { (before : List ℕ) → self.old ≡ first_once before
+            → self.new ≡ first_once (before ++ signals.now) }
     {
         for s in signals {
             self.add(*s);

@@ -40,7 +40,8 @@ impl Model for PairMoves {
 /// The move to two signals with this number, from 0 to 7.
 fn pair_move(t: u32, s: Signal, u: Signal, flips: u32) -> Move
     requires { flips < 8 }
-    ensures { (rest : List Move) → drop flips (flips_of t s u ++ rest) ≡ result ∷ drop (flips + 1) (flips_of t s u ++ rest) }
+    ensures { (rest : List Move)
+        → drop flips (flips_of t s u ++ rest) ≡ result ∷ drop (flips + 1) (flips_of t s u ++ rest) }
 {
     Move::Pair {
         t,
@@ -78,7 +79,8 @@ impl PairMoves {
     /// Starts again with the pairs of the signals near a table.
     pub(crate) fn start(&mut self, net: &Net, t: u32)
         requires { t < table_count net.now }
-        ensures { self.new ≡ flat_map (flips_of_pair t) (pairs_of (near_signals net.now (table_at net.now.tables t))) }
+        ensures { self.new ≡ flat_map (flips_of_pair t)
+            (pairs_of (near_signals net.now (table_at net.now.tables t))) }
     {
         self.near.find(net, t);
         self.t = t;

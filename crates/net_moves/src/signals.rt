@@ -27,9 +27,13 @@ impl Model for SignalMoves {
 
     ghost Value = { RoomAndMoves };
 
-    ghost view = { λ a. record { room = length a.marks.items; left = signals_left a.t a.signal a.flip a.marks.items } };
+    ghost view = { λ a. record {
+      room = length a.marks.items;
+      left = signals_left a.t a.signal a.flip a.marks.items;
+    } };
 
-    ghost invariant = { λ a. length a.marks.items < 2 ^ 31 × (a.signal ≤ length a.marks.items) × (a.flip ≡ true → a.signal < length a.marks.items) };
+    ghost invariant = { λ a. length a.marks.items < 2 ^ 31 × (a.signal ≤ length a.marks.items)
+        × (a.flip ≡ true → a.signal < length a.marks.items) };
 }
 
 impl SignalMoves {
@@ -58,7 +62,8 @@ impl SignalMoves {
     pub(crate) fn start(&mut self, net: &Net, t: u32)
         requires room { self.old.room ≡ signal_count net.now }
         requires table { t < table_count net.now }
-        ensures { self.new ≡ record self.old { left = flat_map (copies_of t) (independent_signals net.now t) } }
+        ensures { self.new ≡ record
+            self.old { left = flat_map (copies_of t) (independent_signals net.now t) } }
     {
         net.mark_dependents(t, &mut self.marks);
         self.t = t;

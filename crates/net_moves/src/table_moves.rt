@@ -29,7 +29,10 @@ impl<'a> Model for TableMoves<'a> {
 
     ghost Value = { RoomAndMoves };
 
-    ghost view = { λ a. record { room = a.signals.room; left = a.constants ++ a.rows ++ a.literals ++ a.signals.left ++ a.pairs } };
+    ghost view = { λ a. record {
+      room = a.signals.room;
+      left = a.constants ++ a.rows ++ a.literals ++ a.signals.left ++ a.pairs;
+    } };
 }
 
 impl<'a> TableMoves<'a> {

@@ -20,7 +20,8 @@ pub trait Assemble: Drop {
         tables: TableList,
         outputs: SignalList,
     ) -> Result<Self, AllocError>
-        requires sound { IsSound (record { model = model; inputs = inputs; tables = tables; outputs = outputs }) }
+        requires sound { IsSound
+            (record { model = model; inputs = inputs; tables = tables; outputs = outputs }) }
         requires few_signals { length inputs + length tables < 2 ^ 31 }
         requires few_outputs { length outputs < 2 ^ 31 }
         ensures { IfOk result

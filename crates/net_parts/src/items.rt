@@ -1,5 +1,6 @@
 //! A list of one kind of item, in the order in which they were pushed.
-ghost use Rattle.std.specs.Prelude.{◌≡◌, ℕ, ◌<◌, ◌≤◌, ◌==◌, [], ◌∷◌, ◌++◌, length, take, slice_index_or, slice_set, IfOk, OnOk, OnErr};
+ghost use Rattle.std.specs.Prelude.{◌≡◌, ℕ, ◌<◌, ◌≤◌, ◌==◌, [], ◌∷◌, ◌++◌, length, take, slice_index_or};
+ghost use Rattle.std.specs.Prelude.{slice_set, IfOk, OnOk, OnErr};
 
 use crate::name::Name;
 use crate::row::Row;
@@ -139,7 +140,8 @@ impl<T: Duplicate> Items<T> {
     /// added.
     pub fn push_copies(&mut self, more: &[T]) -> Result<(), AllocError>
         ensures ok { OnOk result (self.new ≡ self.old ++ more.now) }
-        ensures err { OnErr result ((n : ℕ) × (n ≤ length more.now) × (self.new ≡ self.old ++ take n more.now)) }
+        ensures err { OnErr result
+            ((n : ℕ) × (n ≤ length more.now) × (self.new ≡ self.old ++ take n more.now)) }
     {
         self.items.reserve(more.len())?;
         for item in more {

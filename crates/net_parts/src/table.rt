@@ -28,7 +28,8 @@ impl Model for Table {
 
     ghost view = { λ a. record { name = a.name; pins = a.pins; rows = a.rows; plane = a.plane } };
 
-    ghost invariant = { λ a. IsTable (record { name = a.name; pins = a.pins; rows = a.rows; plane = a.plane }) };
+    ghost invariant = { λ a. IsTable
+        (record { name = a.name; pins = a.pins; rows = a.rows; plane = a.plane }) };
 }
 
 /// Whether a mark asks for a value.

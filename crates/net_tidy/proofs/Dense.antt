@@ -10,7 +10,8 @@ use Rattle.semantics.specs.Net.{TableValue, no_table, table_at, input_count, tab
 use Rattle.semantics.specs.Value.{mark_matches}
 use Rattle.semantics.specs.Replaced.{with_table}
 use Rattle.semantics.specs.Renamed.{renamed, redirect, lowered, raised, without}
-use Rattle.chain_semantics.specs.TidyRules.{is_empty, has, is_read, is_constant_signal, mark_at, without_pin, settled, settled_rows, with_pin_fixed, first_place_of, clash, with_marks_joined, with_pins_joined, opposite, with_marks_turned, reading_past}
+use Rattle.chain_semantics.specs.TidyRules.{is_empty, has, is_read, is_constant_signal, mark_at, without_pin, settled, settled_rows, with_pin_fixed, first_place_of, clash, with_marks_joined}
+use Rattle.chain_semantics.specs.TidyRules.{with_pins_joined, opposite, with_marks_turned, reading_past}
 use Rattle.chain_semantics.specs.Tidy.{IsTidy}
 use Rattle.chain_semantics.proofs.TidyMapped.{map-remove}
 use Rattle.chain_semantics.proofs.TidyUnread.{raised-lowered}
@@ -21,7 +22,8 @@ use Rattle.net_tidy.specs.Flags.{IsFirstRule}
 use Rattle.net_tidy.specs.Places.{DraftValue, kept, rank, signals_gone, dense, Stays, emptied, drafted, IsAtRest, IsFirstRuleIn}
 use Rattle.net_tidy.proofs.Likeness.{IsLike, like-rule, has-map, empty-map, eqb_map}
 use Rattle.net_tidy.proofs.Stepping.{tidy_by_rules}
-use Rattle.net_tidy.proofs.Ranks.{place, rank_place, place_distinct, place_less, place_rank, StandsIn, stands_in, rank_within, kept_set, kept_gone, kept_map, place_gone, place_input, place_table, rank_table, signals_gone_set, stays_table, length_signals}
+use Rattle.net_tidy.proofs.Ranks.{place, rank_place, place_distinct, place_less, place_rank, StandsIn, stands_in, rank_within, kept_set, kept_gone, kept_map, place_gone, place_input, place_table}
+use Rattle.net_tidy.proofs.Ranks.{rank_table, signals_gone_set, stays_table, length_signals}
 
 -- ---- renaming there and back
 
@@ -91,7 +93,8 @@ pub fixed_renamed : (f : ℕ → ℕ) (q : ℕ) (v : Bool) (t : TableValue) → 
 fixed_renamed f q v t =
     let cut : TableValue = record t { rows = filter (λ marks. mark_matches (mark_at marks q) v) t.rows } in
     ap settled (without_renamed f q (record t { rows = filter (λ marks. mark_matches (mark_at marks q) v) t.rows }))
-    ∙ settled_renamed f (without_pin q (record t { rows = filter (λ marks. mark_matches (mark_at marks q) v) t.rows })).rows (without_pin q (record t { rows = filter (λ marks. mark_matches (mark_at marks q) v) t.rows }))
+    ∙ settled_renamed f (without_pin q (record t { rows = filter (λ marks. mark_matches (mark_at marks q) v) t.rows })).rows
+    (without_pin q (record t { rows = filter (λ marks. mark_matches (mark_at marks q) v) t.rows }))
 
 pub joined_renamed : (f : ℕ → ℕ) (p q : ℕ) (t : TableValue) → with_pins_joined p q (renamed f t) ≡ renamed f (with_pins_joined p q t)
 joined_renamed f p q t =

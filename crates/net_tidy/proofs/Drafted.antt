@@ -8,7 +8,8 @@ use Rattle.semantics.specs.Net.{TableValue, NetValue, no_table, table_at, input_
 use Rattle.semantics.specs.Value.{table_value}
 use Rattle.semantics.specs.Replaced.{with_table}
 use Rattle.semantics.specs.Renamed.{renamed}
-use Rattle.chain_semantics.specs.TidyRules.{is_empty, has, is_read, is_constant_signal, constant_pin, constant_value, dashed_pin, repeated_pin, is_constant, is_bypassed, is_unread, is_inverter, has_one_literal, pin_at, without_pin, with_pin_fixed, first_place_of, with_pins_joined, made_canonical, reading_past}
+use Rattle.chain_semantics.specs.TidyRules.{is_empty, has, is_read, is_constant_signal, constant_pin, constant_value, dashed_pin, repeated_pin, is_constant, is_bypassed, is_unread, is_inverter}
+use Rattle.chain_semantics.specs.TidyRules.{has_one_literal, pin_at, without_pin, with_pin_fixed, first_place_of, with_pins_joined, made_canonical, reading_past}
 use Rattle.chain_semantics.proofs.TidyRows.{first_place}
 use Rattle.chain_semantics.proofs.TidyTables.{fixed-narrower, dashed-narrower, joined-narrower, canonical-narrower, constant-narrower}
 use Rattle.chain_semantics.proofs.TidyReplacing.{replaced-sound}
@@ -20,7 +21,8 @@ use Rattle.net_tidy.specs.Flags.{IsFirstRule}
 use Rattle.net_tidy.specs.Places.{DraftValue, rank, signals_gone, dense, Stays, emptied, drafted, IsFirstRuleIn}
 use Rattle.net_tidy.proofs.Stepping.{constant_pin_found, dashed_pin_found, repeated_pin_found}
 use Rattle.net_tidy.proofs.Ranks.{place, place_distinct, place_rank, place_table}
-use Rattle.net_tidy.proofs.Dense.{IsPacked, at_stays, at_place, first_packed, packed_set, packed_past, packed_removed, dense_is, fixed_renamed, joined_renamed, without_renamed, constant_renamed, place_of_renamed, none_of_pins, set_same}
+use Rattle.net_tidy.proofs.Dense.{IsPacked, at_stays, at_place, first_packed, packed_set, packed_past, packed_removed, dense_is, fixed_renamed, joined_renamed, without_renamed, constant_renamed}
+use Rattle.net_tidy.proofs.Dense.{place_of_renamed, none_of_pins, set_same}
 
 -- the condition of the rule that was found
 is_constant_rule : (a b c : Option ℕ) (d e f : Bool) → first_rule a b c d e f ≡ Some Constant → d ≡ true
@@ -52,15 +54,18 @@ is_removal_rule None None None false false false h = cc
 
 constant_found : (N : NetValue) (i : ℕ) → rule_at N i ≡ Some Constant → is_constant (table_at N.tables i) ≡ true
 constant_found N i e =
-    is_constant_rule (constant_pin (input_count N) N.tables (table_at N.tables i)) (dashed_pin (table_at N.tables i)) (repeated_pin (table_at N.tables i)) (is_constant (table_at N.tables i)) (is_bypassed N i) (is_unread N i) e
+    is_constant_rule (constant_pin (input_count N) N.tables (table_at N.tables i)) (dashed_pin (table_at N.tables i)) (repeated_pin (table_at N.tables i)) (is_constant (table_at N.tables i))
+    (is_bypassed N i) (is_unread N i) e
 
 bypass_found : (N : NetValue) (i : ℕ) → rule_at N i ≡ Some Bypass → is_bypassed N i ≡ true
 bypass_found N i e =
-    is_bypass_rule (constant_pin (input_count N) N.tables (table_at N.tables i)) (dashed_pin (table_at N.tables i)) (repeated_pin (table_at N.tables i)) (is_constant (table_at N.tables i)) (is_bypassed N i) (is_unread N i) e
+    is_bypass_rule (constant_pin (input_count N) N.tables (table_at N.tables i)) (dashed_pin (table_at N.tables i)) (repeated_pin (table_at N.tables i)) (is_constant (table_at N.tables i))
+    (is_bypassed N i) (is_unread N i) e
 
 removal_found : (N : NetValue) (i : ℕ) → rule_at N i ≡ Some Removal → is_unread N i ≡ true
 removal_found N i e =
-    is_removal_rule (constant_pin (input_count N) N.tables (table_at N.tables i)) (dashed_pin (table_at N.tables i)) (repeated_pin (table_at N.tables i)) (is_constant (table_at N.tables i)) (is_bypassed N i) (is_unread N i) e
+    is_removal_rule (constant_pin (input_count N) N.tables (table_at N.tables i)) (dashed_pin (table_at N.tables i)) (repeated_pin (table_at N.tables i)) (is_constant (table_at N.tables i))
+    (is_bypassed N i) (is_unread N i) e
 
 -- ---- a draft stays sound
 
@@ -149,7 +154,8 @@ module _ (D : DraftValue) (ts : List TableValue) (os : List ℕ) (h : IsPacked D
         let first : first_place_of (table_at D.net.tables i).pins (pin_at (table_at D.net.tables i) q) ≡ first_place_of (table_at ts (rank D.gone i)).pins (pin_at (table_at ts (rank D.gone i)) q) =
         ap (first_place_of (table_at D.net.tables i).pins) (same_pin i q within stays found.0)
         ∙ ap (λ (t : TableValue). first_place_of t.pins (place (signals_gone (input_count D.net) D.gone) (pin_at (table_at ts (rank D.gone i)) q))) (at_stays D ts os h i within stays)
-        ∙ place_of_renamed (place (signals_gone (input_count D.net) D.gone)) (place_distinct (signals_gone (input_count D.net) D.gone)) (table_at ts (rank D.gone i)).pins (pin_at (table_at ts (rank D.gone i)) q) in
+        ∙ place_of_renamed (place (signals_gone (input_count D.net) D.gone)) (place_distinct (signals_gone (input_count D.net) D.gone)) (table_at ts (rank D.gone i)).pins
+        (pin_at (table_at ts (rank D.gone i)) q) in
         packed_set D ts os h i within stays (with_pins_joined (first_place_of (table_at D.net.tables i).pins (pin_at (table_at D.net.tables i) q)) q (table_at D.net.tables i))
         (with_pins_joined (first_place_of (table_at ts (rank D.gone i)).pins (pin_at (table_at ts (rank D.gone i)) q)) q (table_at ts (rank D.gone i)))
         (ap (λ p. with_pins_joined p q (table_at D.net.tables i)) first
@@ -158,7 +164,8 @@ module _ (D : DraftValue) (ts : List TableValue) (os : List ℕ) (h : IsPacked D
     packed_step Constant e =
         packed_set D ts os h i within stays (made_canonical (table_at D.net.tables i)) (made_canonical (table_at ts (rank D.gone i)))
         (ap made_canonical (at_stays D ts os h i within stays)
-        ∙ constant_renamed (place (signals_gone (input_count D.net) D.gone)) (table_at ts (rank D.gone i)).name (not (is_empty (table_at ts (rank D.gone i)).rows) && (table_at ts (rank D.gone i)).plane))
+        ∙ constant_renamed (place (signals_gone (input_count D.net) D.gone)) (table_at ts (rank D.gone i)).name
+        (not (is_empty (table_at ts (rank D.gone i)).rows) && (table_at ts (rank D.gone i)).plane))
     packed_step Bypass e =
         let rule = bypass_found (record { model = D.net.model; inputs = D.net.inputs; tables = ts; outputs = os }) (rank D.gone i) e in
         let one : has_one_literal (table_at ts (rank D.gone i)) ≡ true =

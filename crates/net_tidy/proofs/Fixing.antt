@@ -8,7 +8,8 @@ use Rattle.semantics.specs.declared.mark.Mark.{Mark}
 use Rattle.semantics.specs.Net.{TableValue, NetValue, no_table, table_at, input_count, table_count, constant_table}
 use Rattle.semantics.specs.Value.{Assignment, mark_matches, row_matches}
 use Rattle.semantics.specs.Replaced.{with_table}
-use Rattle.chain_semantics.specs.TidyRules.{is_empty, pin_at, mark_at, is_constant_signal, constant_value, without_pin, settled, settled_rows, with_pin_fixed, first_place_of, clash, with_marks_joined, with_pins_joined}
+use Rattle.chain_semantics.specs.TidyRules.{is_empty, pin_at, mark_at, is_constant_signal, constant_value, without_pin, settled, settled_rows, with_pin_fixed, first_place_of, clash}
+use Rattle.chain_semantics.specs.TidyRules.{with_marks_joined, with_pins_joined}
 use Rattle.chain_semantics.proofs.TidyTables.{map_none}
 use Rattle.chain_semantics.proofs.TidyTriples.{no_elements}
 use Rattle.net_tidy.specs.declared.rule.Rule.TheVariants.{ConstantPin, RepeatedPin}

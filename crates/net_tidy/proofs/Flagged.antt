@@ -45,7 +45,8 @@ pub record IsApart (N : NetValue) (t : ℕ) (new : TableValue) (flags : List Boo
   pub reads : has new.pins (input_count N + j) ≡ has (table_at N.tables t).pins (input_count N + j)
   pub seen : (is_empty new.pins ≡ is_empty (table_at N.tables t).pins) ⊎ (has (table_at N.tables j).pins (input_count N + t) ≡ false)
 
-pub flagged-replaced : (N : NetValue) (gone : List Bool) (t : ℕ) (new : TableValue) (old flags : List Bool) → IsFlaggedIn (record { net = N; gone = gone }) old → t < table_count N → length flags ≡ length old
+pub flagged-replaced : (N : NetValue) (gone : List Bool) (t : ℕ) (new : TableValue) (old flags : List Bool) → IsFlaggedIn (record { net = N; gone = gone }) old → t < table_count N
+    → length flags ≡ length old
     → ((j : ℕ) → j < table_count N → IsDown flags j → IsApart N t new old j) → IsFlaggedIn (record { net = with_table N t new; gone = gone }) flags
 flagged-replaced N gone t new old flags h within same apart = record {
   count = same ∙ h.count ∙ sym (length-set N.tables t new);
@@ -76,7 +77,8 @@ seen_cases false true c f g = inl (f refl)
 seen_cases false false c f g = inl refl
 
 -- pins are taken out: the flags of the tables that they read are raised, and then those about the table itself
-pub flagged-edited : (N : NetValue) (gone : List Bool) (n t : ℕ) (new : TableValue) (tables : List TableValue) (old mid flags : List Bool) → IsFlaggedIn (record { net = N; gone = gone }) old → n ≡ input_count N → t < table_count N
+pub flagged-edited : (N : NetValue) (gone : List Bool) (n t : ℕ) (new : TableValue) (tables : List TableValue) (old mid flags : List Bool) → IsFlaggedIn (record { net = N; gone = gone }) old
+    → n ≡ input_count N → t < table_count N
     → tables ≡ set N.tables t new → length mid ≡ length old → length flags ≡ length mid
     → ((j : ℕ) → IsDown mid j → IsDown old j × (has new.pins (n + j) ≡ has (table_at N.tables t).pins (n + j)))
     → ((j : ℕ) → j < length tables → IsDown flags j → IsLeft n tables t mid j)
@@ -109,7 +111,8 @@ empty-remove [] zero e = refl
 empty-remove [] (suc q) e = refl
 empty-remove (p ∷ pins) q e = absurd (false≢true e)
 
-pub flagged-remove_pin : (N : NetValue) (gone : List Bool) (n t q signal : ℕ) (element new : TableValue) (tables : List TableValue) (old mid flags : List Bool) → IsFlaggedIn (record { net = N; gone = gone }) old → n ≡ input_count N
+pub flagged-remove_pin : (N : NetValue) (gone : List Bool) (n t q signal : ℕ) (element new : TableValue) (tables : List TableValue) (old mid flags : List Bool)
+    → IsFlaggedIn (record { net = N; gone = gone }) old → n ≡ input_count N
     → t < table_count N → element ≡ get_or N.tables t element → new ≡ without_pin q element → signal ≡ pin_at (table_at N.tables t) q → tables ≡ set N.tables t new
     → length mid ≡ length old → ((j : ℕ) → IsDown mid j → IsDown old j × (n + j ≢ signal))
     → length flags ≡ length mid → ((j : ℕ) → j < length tables → IsDown flags j → IsLeft n tables t mid j) → IsFlaggedIn (record { net = with_table N t new; gone = gone }) flags
@@ -126,7 +129,8 @@ pub constant-pins : (name : List ℕ) (value : Bool) → (constant_table name va
 constant-pins name true = refl
 constant-pins name false = refl
 
-pub flagged-make_constant : (N : NetValue) (gone : List Bool) (n t : ℕ) (value : Bool) (element new : TableValue) (pins : List ℕ) (tables : List TableValue) (old mid flags : List Bool) → IsFlaggedIn (record { net = N; gone = gone }) old
+pub flagged-make_constant : (N : NetValue) (gone : List Bool) (n t : ℕ) (value : Bool) (element new : TableValue) (pins : List ℕ) (tables : List TableValue) (old mid flags : List Bool)
+    → IsFlaggedIn (record { net = N; gone = gone }) old
     → n ≡ input_count N → t < table_count N → new ≡ constant_table element.name value → pins ≡ (table_at N.tables t).pins → tables ≡ set N.tables t new
     → length mid ≡ length old → ((j : ℕ) → IsDown mid j → IsDown old j × (has pins (n + j) ≡ false))
     → length flags ≡ length mid → ((j : ℕ) → j < length tables → IsDown flags j → IsLeft n tables t mid j) → IsFlaggedIn (record { net = with_table N t new; gone = gone }) flags

@@ -9,7 +9,8 @@ use Rattle.semantics.specs.declared.mark.Mark.{Mark}
 use Rattle.semantics.specs.Net.{TableValue, NetValue, no_table, table_at, input_count, table_count, row_literals}
 use Rattle.semantics.specs.Replaced.{replaced, with_table}
 use Rattle.semantics.proofs.Depends.{table_at-other}
-use Rattle.chain_semantics.specs.TidyRules.{is_empty, has, first_from, pin_at, mark_at, is_constant_signal, constant_pin, is_dash, dashed_pin, repeated_pin, is_canonical_rows, is_constant, is_one_literal, has_one_literal, is_output, is_read, is_bypassed, is_unread}
+use Rattle.chain_semantics.specs.TidyRules.{is_empty, has, first_from, pin_at, mark_at, is_constant_signal, constant_pin, is_dash, dashed_pin, repeated_pin, is_canonical_rows, is_constant}
+use Rattle.chain_semantics.specs.TidyRules.{is_one_literal, has_one_literal, is_output, is_read, is_bypassed, is_unread}
 use Rattle.chain_semantics.proofs.TidyReading.{Contains-has}
 use Rattle.net_tidy.specs.Rule.{first_rule, rule_at}
 use Rattle.net_tidy.proofs.Stepping.{six_same}
@@ -141,7 +142,8 @@ replaced-like N t j new within other reads seen =
                   ∙ empty ∙ ap (λ (k : ℕ). is_empty (table_at N.tables k).pins) (sym same)
               | inr unread ↦
                   let is : s ≡ input_count N + t = omega arith in
-                  absurd (both_ways (has (table_at N.tables j).pins (input_count N + t)) unread (Contains-has (table_at N.tables j).pins (input_count N + t) (subst (Contains (table_at N.tables j).pins) is c)))
+                  absurd (both_ways (has (table_at N.tables j).pins (input_count N + t)) unread
+                  (Contains-has (table_at N.tables j).pins (input_count N + t) (subst (Contains (table_at N.tables j).pins) is c)))
             ]
             | inr differs ↦ ap (λ (v : TableValue). is_empty v.pins) (table_at-other N.tables t (s - input_count N) new differs)
           ]);

@@ -58,7 +58,8 @@ module _ (N : NetValue) (t : ℕ) (sound : IsSound N) (within : t < table_count 
   past : TableValue → TableValue
   past = reading_past (input_count N + t) (pin_at (table_at N.tables t) 0) (is_inverter (table_at N.tables t))
 
-  at_past : (j : ℕ) → j < table_count N → table_at (with_bypass N t).tables j ≡ reading_past (input_count N + t) (pin_at (table_at N.tables t) 0) (is_inverter (table_at N.tables t)) (table_at N.tables j)
+  at_past : (j : ℕ) → j < table_count N → table_at (with_bypass N t).tables j
+      ≡ reading_past (input_count N + t) (pin_at (table_at N.tables t) 0) (is_inverter (table_at N.tables t)) (table_at N.tables j)
   at_past j h = get_or-map (reading_past (input_count N + t) (pin_at (table_at N.tables t) 0) (is_inverter (table_at N.tables t))) N.tables j no_table no_table h
 
   read_after : (s : ℕ) → (s ≡ input_count N + t → ⊥) → is_read N.tables s ≡ true → is_read (with_bypass N t).tables s ≡ true
@@ -77,7 +78,8 @@ module _ (N : NetValue) (t : ℕ) (sound : IsSound N) (within : t < table_count 
   -- the pin of a table is not the table itself
   pub other_pin : pin_at (table_at N.tables t) 0 ≡ input_count N + t → ⊥
   other_pin =
-      let rule = and_parts (has_one_literal (table_at N.tables t) && not (is_output N (input_count N + t))) (is_read N.tables (input_count N + t)) (and_three (has_one_literal (table_at N.tables t)) (not (is_output N (input_count N + t))) (is_read N.tables (input_count N + t)) e) in
+      let rule = and_parts (has_one_literal (table_at N.tables t) && not (is_output N (input_count N + t))) (is_read N.tables (input_count N + t))
+      (and_three (has_one_literal (table_at N.tables t)) (not (is_output N (input_count N + t))) (is_read N.tables (input_count N + t)) e) in
       let by : IsReadBy N.tables (input_count N + t) = read-by N.tables (input_count N + t) rule.1 in
       let to : redirect (input_count N + t) (pin_at (table_at N.tables t) 0) (input_count N + t) ≡ pin_at (table_at N.tables t) 0 =
       ap (λ b. cond b (pin_at (table_at N.tables t) 0) (input_count N + t)) (eq-eqb (input_count N + t) (input_count N + t) refl) in
@@ -102,7 +104,8 @@ module _ (N : NetValue) (t : ℕ) (sound : IsSound N) (within : t < table_count 
             and_same (nat_le (input_count N) s) (is_empty (table_at (with_bypass N t).tables (s - input_count N)).pins) (is_empty (table_at N.tables (s - input_count N)).pins)
             (λ low.
             let from : input_count N ≤ s = leb-true (input_count N) s low in
-            let signal : s < signal_count N = All-contains (λ p. p < signal_count N) (table_at N.tables j).pins s (All-get_or (λ (v : TableValue). All (λ p. p < signal_count N) v.pins) N.tables j no_table inside sound.pins_are_signals) c in
+            let signal : s < signal_count N = All-contains (λ p. p < signal_count N) (table_at N.tables j).pins s
+            (All-get_or (λ (v : TableValue). All (λ p. p < signal_count N) v.pins) N.tables j no_table inside sound.pins_are_signals) c in
             ap (λ (v : TableValue). is_empty v.pins) (at_past (s - input_count N) (omega arith))
             ∙ empty-map (redirect (input_count N + t) (pin_at (table_at N.tables t) 0)) (table_at N.tables (s - input_count N)).pins);
         output = refl;

@@ -101,7 +101,8 @@ suc_raised : (g k : ℕ) → suc (raised g k) ≡ raised (suc g) (suc k)
 suc_raised g k =
     elim (cases_lt k g) [
       | inl low ↦ ap suc (ap (λ b. cond b k (k + 1)) (lt-ltb k g low)) ∙ sym (ap (λ b. cond b (suc k) (suc k + 1)) (lt-ltb (suc k) (suc g) (omega arith)))
-      | inr high ↦ ap suc (ap (λ b. cond b k (k + 1)) (le-ltb k g high)) ∙ (let on : suc (k + 1) ≡ suc k + 1 = omega arith in on) ∙ sym (ap (λ b. cond b (suc k) (suc k + 1)) (le-ltb (suc k) (suc g) (omega arith)))
+      | inr high ↦ ap suc (ap (λ b. cond b k (k + 1)) (le-ltb k g high)) ∙ (let on : suc (k + 1) ≡ suc k + 1 = omega arith in on) ∙ sym
+          (ap (λ b. cond b (suc k) (suc k + 1)) (le-ltb (suc k) (suc g) (omega arith)))
     ]
 
 -- one more has gone

@@ -1,5 +1,6 @@
 -- Readers of a signal that read another in its place, one after another.
-use Rattle.std.proofs.Common.{◌≡◌, ℕ, zero, suc, ◌+◌, ◌-◌, ◌<◌, ◌≤◌, Bool, true, false, ◌||◌, cond, eqb, List, [], ◌∷◌, ◌++◌, map, length, get_or, set, take, refl, ap, sym, subst, ◌∙◌, inl, inr, arith}
+use Rattle.std.proofs.Common.{◌≡◌, ℕ, zero, suc, ◌+◌, ◌-◌, ◌<◌, ◌≤◌, Bool, true, false, ◌||◌, cond, eqb, List, [], ◌∷◌, ◌++◌, map, length, get_or, set, take, refl, ap, sym, subst, ◌∙◌, inl, inr}
+use Rattle.std.proofs.Common.{arith}
 use Rattle.std.specs.Prelude.{◌⊎◌, All, Contains}
 use Rattle.std.specs.List.{filter, remove}
 use Rattle.std.proofs.lemmas.Bool.{cases_eq, cases_lt, eq-eqb, ne_eqb, false≢true, both_ways}
@@ -47,7 +48,8 @@ turned_wide s pins rows n h =
     (All-weaker (λ marks. length marks ≡ n) (λ marks. length (with_marks_turned s pins marks) ≡ n) (λ marks w. length-turned s pins marks ∙ w) rows h)
 
 past_wide : (from to : ℕ) (inverted : Bool) (t : TableValue) → IsWide t → IsWide (reading_past from to inverted t)
-past_wide from to true t h = subst (λ n. All (λ marks. length marks ≡ n) (map (with_marks_turned from t.pins) t.rows)) (sym (length-map t.pins (redirect from to))) (turned_wide from t.pins t.rows (length t.pins) h)
+past_wide from to true t h = subst (λ n. All (λ marks. length marks ≡ n) (map (with_marks_turned from t.pins) t.rows)) (sym (length-map t.pins (redirect from to)))
+    (turned_wide from t.pins t.rows (length t.pins) h)
 past_wide from to false t h = subst (λ n. All (λ marks. length marks ≡ n) t.rows) (sym (length-map t.pins (redirect from to))) h
 
 has_more : (met : List ℕ) (i j d : ℕ) → i < length met → has (take (i + 1) met) j ≡ (has (take i met) j || (eqb j (get_or met i d) || false))
@@ -130,7 +132,8 @@ module _ (from to : ℕ) (inverted : Bool) (old : List TableValue) (places : Lis
       (λ j below.
       elim (h.each j) [
         | inl stood ↦
-            stood.0 ∙ sym (past_aside from to inverted (table_at old j) (unread_there (table_at old j).pins places from j (has (table_at old j).pins from) refl (listed j) (sym (ap (λ l. has l j) (take_all i places high)) ∙ stood.1)))
+            stood.0 ∙ sym (past_aside from to inverted (table_at old j)
+            (unread_there (table_at old j).pins places from j (has (table_at old j).pins from) refl (listed j) (sym (ap (λ l. has l j) (take_all i places high)) ∙ stood.1)))
             ∙ sym (get_or-map (reading_past from to inverted) old j no_table no_table (omega (arith, below, h.count)))
         | inr past ↦ past.0 ∙ sym (get_or-map (reading_past from to inverted) old j no_table no_table (omega (arith, below, h.count)))
       ])

@@ -7,7 +7,8 @@ use Rattle.std.proofs.lemmas.List.{map-id}
 use Rattle.semantics.specs.declared.mark.Mark.{Mark}
 use Rattle.semantics.specs.Net.{NetValue, table_at, input_count, table_count, row_literals}
 use Rattle.semantics.specs.Replaced.{with_table}
-use Rattle.chain_semantics.specs.TidyRules.{is_empty, has, is_read, is_constant_signal, is_dash, mark_at, pin_at, constant_pin, constant_value, with_pin_fixed, dashed_pin, without_pin, repeated_pin, first_place_of, with_pins_joined, is_canonical_rows, is_constant, made_canonical, is_one_literal, is_bypassed, with_bypass, is_unread, without_table}
+use Rattle.chain_semantics.specs.TidyRules.{is_empty, has, is_read, is_constant_signal, is_dash, mark_at, pin_at, constant_pin, constant_value, with_pin_fixed, dashed_pin, without_pin, repeated_pin}
+use Rattle.chain_semantics.specs.TidyRules.{first_place_of, with_pins_joined, is_canonical_rows, is_constant, made_canonical, is_one_literal, is_bypassed, with_bypass, is_unread, without_table}
 use Rattle.chain_semantics.specs.Tidy.{some_if, first_some, step_at, tidy_step, IsTidy}
 use Rattle.chain_semantics.proofs.TidySteps.{first_from-found}
 use Rattle.chain_semantics.proofs.TidyNets.{none-at, none-anywhere, step-first}

@@ -1,5 +1,6 @@
 -- A table whose flag is down has no rule that applies.
-use Rattle.std.specs.Prelude.{◌≡◌, ◌≢◌, ℕ, ◌+◌, ◌<◌, Bool, true, false, None, Some, List, length, slice_index_or}
+use Rattle.std.specs.Prelude.{◌≡◌, ◌≢◌, ℕ, ◌+◌, ◌<◌, Bool, true, false, None, Some, List, length}
+use Rattle.std.specs.Prelude.{slice_index_or}
 use Rattle.semantics.specs.Net.{TableValue, NetValue, table_at, table_count}
 use Rattle.chain_semantics.specs.TidyRules.{is_empty, has}
 use Rattle.net_tidy.specs.declared.rule.Rule.{Rule}

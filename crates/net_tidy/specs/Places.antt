@@ -1,5 +1,6 @@
 -- A net that is edited in place: each table keeps its place, also where others have gone.
-use Rattle.std.specs.Prelude.{◌≡◌, ℕ, zero, suc, ◌<◌, Bool, true, false, None, Some, List, [], ◌∷◌, ◌++◌, map, length, replicate, slice_index_or, slice_set, if◌then◌else◌}
+use Rattle.std.specs.Prelude.{◌≡◌, ℕ, zero, suc, ◌<◌, Bool, true, false, None, Some, List, [], ◌∷◌, ◌++◌}
+use Rattle.std.specs.Prelude.{map, length, replicate, slice_index_or, slice_set, if◌then◌else◌}
 use Rattle.semantics.specs.Net.{TableValue, NetValue, table_at, input_count, table_count, constant_table}
 use Rattle.semantics.specs.Replaced.{with_table}
 use Rattle.semantics.specs.Renamed.{renamed}
@@ -48,7 +49,8 @@ emptied t = if is_empty t.pins then t else constant_table t.name false
 
 -- what a rule at place i makes
 abbrev pub drafted : DraftValue → ℕ → Rule → DraftValue
-drafted D i Removal = record { net = with_table D.net i (emptied (table_at D.net.tables i)); gone = slice_set D.gone i true }
+drafted D i Removal = record
+    { net = with_table D.net i (emptied (table_at D.net.tables i)); gone = slice_set D.gone i true }
 drafted D i rule = record D { net = made_by D.net i rule }
 
 -- one flag for each place, which is down only where the table has gone or no rule applies at it

@@ -17,7 +17,8 @@ use std::alloc::{AllocError, Global};
 /// Marks these signals.
 fn mark(signals: &[Signal], marks: &mut [bool])
     requires { All (λ s. s < length marks.old) signals.now }
-    ensures { (s : ℕ) → slice_index_or marks.new s false ≡ (has signals.now s || slice_index_or marks.old s false) }
+    ensures { (s : ℕ) → slice_index_or marks.new s false
+        ≡ (has signals.now s || slice_index_or marks.old s false) }
 {
     for signal in signals {
         marks[*signal as usize] = true;

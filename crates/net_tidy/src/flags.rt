@@ -1,5 +1,6 @@
 //! A flag for each table, raised where a rule may apply.
-ghost use Rattle.std.specs.Prelude.{◌≡◌, ◌≢◌, ◌<◌, ◌≤◌, ◌^◌, ◌+◌, ℕ, true, false, not, length, replicate, slice_index_or, slice_set, All, IfOk};
+ghost use Rattle.std.specs.Prelude.{◌≡◌, ◌≢◌, ◌<◌, ◌≤◌, ◌^◌, ◌+◌, ℕ, true, false, not, length, replicate};
+ghost use Rattle.std.specs.Prelude.{slice_index_or, slice_set, All, IfOk};
 ghost use Rattle.std.specs.List.{list_any};
 ghost use Rattle.semantics.specs.Net.{table_at};
 ghost use Rattle.chain_semantics.specs.TidyRules.{has};
@@ -26,7 +27,8 @@ impl Model for Flags {
 
     ghost view = { λ a. a.flags.items };
 
-    ghost invariant = { λ a. (a.first ≤ length a.flags.items) × ((j : ℕ) → j < a.first → IsDown a.flags.items j) };
+    ghost invariant = { λ a. (a.first ≤ length a.flags.items)
+        × ((j : ℕ) → j < a.first → IsDown a.flags.items j) };
 }
 
 impl Flags {
@@ -130,7 +132,8 @@ impl Flags {
     pub(crate) fn raise_signals(&mut self, inputs: u32, signals: &[Signal])
         requires { All (λ s. s < inputs + length self.old) signals.now }
         ensures count { length self.new ≡ length self.old }
-        ensures others { (j : ℕ) → IsDown self.new j → IsDown self.old j × (has signals.now (inputs + j) ≡ false) }
+        ensures others { (j : ℕ) → IsDown self.new j
+            → IsDown self.old j × (has signals.now (inputs + j) ≡ false) }
     {
         for signal in signals {
             self.raise_signal(inputs, *signal);
@@ -164,7 +167,8 @@ impl Flags {
         requires count { length self.old ≡ length tables.now }
         requires few { inputs + length tables.now < 2 ^ 31 }
         ensures count { length self.new ≡ length self.old }
-        ensures others { (j : ℕ) → j < length tables.now → IsDown self.new j → IsLeft inputs tables.now t self.old j }
+        ensures others { (j : ℕ) → j < length tables.now → IsDown self.new j
+            → IsLeft inputs tables.now t self.old j }
     {
         self.raise(t);
         if tables.as_slice()[t as usize].pins().is_empty() {

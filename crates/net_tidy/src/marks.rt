@@ -2,7 +2,8 @@
 ghost use Rattle.std.specs.Prelude.{◌≡◌, ◌<◌, ◌==◌, if◌then◌else◌, List, [], length, IfOk};
 ghost use Rattle.std.specs.List.{remove};
 ghost use Rattle.semantics.specs.declared.mark.Mark.{Mark};
-ghost use Rattle.chain_semantics.specs.TidyRules.{mark_at, clash, joined, opposite, with_marks_joined, with_marks_turned};
+ghost use Rattle.chain_semantics.specs.TidyRules.{mark_at, clash, joined, opposite, with_marks_joined};
+ghost use Rattle.chain_semantics.specs.TidyRules.{with_marks_turned};
 
 use net_core::items::Signal;
 use net_core::mark::Mark;

@@ -1,16 +1,22 @@
 //! A net that is edited in place, table by table; each table keeps its place, also where others have gone. A
 //! flag for each table says where a rule may apply, so that after a step only the tables that it concerns are
 //! tried again.
-ghost use Rattle.std.specs.Prelude.{◌≡◌, ◌<◌, ◌≤◌, ◌^◌, ◌+◌, ◌++◌, ◌∷◌, [], if◌then◌else◌, ℕ, true, false, not, take, length, map, replicate, slice_set, All, IfOk, OnOk, None, Some, MatchOption};
+ghost use Rattle.std.specs.Prelude.{◌≡◌, ◌<◌, ◌≤◌, ◌^◌, ◌+◌, ◌++◌, ◌∷◌, [], if◌then◌else◌, ℕ, true, false};
+ghost use Rattle.std.specs.Prelude.{not, take, length, map, replicate, slice_set, All, IfOk, OnOk, None};
+ghost use Rattle.std.specs.Prelude.{Some, MatchOption};
 ghost use Rattle.std.specs.List.{filter};
-ghost use Rattle.semantics.specs.Net.{input_count, table_count, signal_count, table_at, constant_table, IsTable, IsSound};
+ghost use Rattle.semantics.specs.Net.{input_count, table_count, signal_count, table_at, constant_table};
+ghost use Rattle.semantics.specs.Net.{IsTable, IsSound};
 ghost use Rattle.semantics.specs.Value.{mark_matches};
 ghost use Rattle.semantics.specs.Replaced.{with_table};
-ghost use Rattle.chain_semantics.specs.TidyRules.{has, mark_at, clash, pin_at, is_read, is_constant_signal, constant_pin, constant_value, without_pin, with_marks_joined, is_bypassed, with_bypass};
+ghost use Rattle.chain_semantics.specs.TidyRules.{has, mark_at, clash, pin_at, is_read, is_constant_signal};
+ghost use Rattle.chain_semantics.specs.TidyRules.{constant_pin, constant_value, without_pin};
+ghost use Rattle.chain_semantics.specs.TidyRules.{with_marks_joined, is_bypassed, with_bypass};
 ghost use Rattle.net_core.specs.Built.{IsBuilt};
 ghost use Rattle.net_tidy.specs.Rule.{rule_at, made_by};
 ghost use Rattle.net_tidy.specs.Flags.{IsFlagged};
-ghost use Rattle.net_tidy.specs.Places.{kept, rank, signals_gone, dense, Stays, emptied, drafted, IsAtRest, IsFirstRuleIn, number_at};
+ghost use Rattle.net_tidy.specs.Places.{kept, rank, signals_gone, dense, Stays, emptied, drafted, IsAtRest};
+ghost use Rattle.net_tidy.specs.Places.{IsFirstRuleIn, number_at};
 
 use crate::flags::Flags;
 use crate::rule::Rule;
@@ -162,7 +168,8 @@ impl NetDraft {
     /// A copy of a net, with these flags.
     pub(crate) fn from_net(alloc: Global, net: &Net, flags: Flags) -> Result<NetDraft, AllocError>
         requires { IsFlagged net.now flags }
-        ensures ok { IfOk result (λ d. d ≡ record { net = net.now; gone = replicate (table_count net.now) false }) }
+        ensures ok { IfOk result
+            (λ d. d ≡ record { net = net.now; gone = replicate (table_count net.now) false }) }
         ensures built { OnOk result (IsBuilt net.now) }
     {
         Ok(NetDraft {
@@ -260,7 +267,8 @@ impl NetDraft {
         self.rule_at(t)
     }
 
-    /// The first rule that applies at a table that stays, where its flag is raised. Where there is none, the flag is taken down.
+    /// The first rule that applies at a table that stays, where its flag is raised. Where there is none, the
+    /// flag is taken down.
     fn seek_at(&mut self, t: u32) -> Option<Rule>
         requires sound { IsSound self.old.net }
         requires within { t < table_count self.old.net }
@@ -291,7 +299,8 @@ impl NetDraft {
         requires { from ≤ table_count self.now.net }
         ensures from { from ≤ result }
         ensures within { result ≤ table_count self.now.net }
-        ensures none { (j : ℕ) → from ≤ j → j < result → Stays self.now.gone j → rule_at self.now.net j ≡ None }
+        ensures none { (j : ℕ) → from ≤ j → j < result → Stays self.now.gone j
+            → rule_at self.now.net j ≡ None }
     {
         self.flags.next(from as usize) as u32
     }
@@ -318,7 +327,8 @@ impl NetDraft {
         requires within { t < table_count self.old.net }
         ensures { self.new ≡ record self.old {
           net = with_table self.old.net t (record (table_at self.old.net.tables t) {
-            rows = filter (λ marks. mark_matches (mark_at marks q) value) (table_at self.old.net.tables t).rows;
+            rows = filter (λ marks. mark_matches (mark_at marks q) value)
+                (table_at self.old.net.tables t).rows;
           });
         } }
     {
@@ -331,10 +341,13 @@ impl NetDraft {
     fn join_rows(&mut self, t: u32, p: usize, q: usize)
         requires within { t < table_count self.old.net }
         requires pin { p < length (table_at self.old.net.tables t).pins }
-        requires widths { All (λ marks. length marks ≡ length (table_at self.old.net.tables t).pins) (table_at self.old.net.tables t).rows }
+        requires widths { All (λ marks. length marks ≡ length (table_at self.old.net.tables t).pins)
+            (table_at self.old.net.tables t).rows }
         ensures { self.new ≡ record self.old {
           net = with_table self.old.net t (record (table_at self.old.net.tables t) {
-            rows = map (with_marks_joined p q) (filter (λ marks. not (clash (mark_at marks p) (mark_at marks q))) (table_at self.old.net.tables t).rows);
+            rows = map (with_marks_joined p q)
+                (filter (λ marks. not (clash (mark_at marks p) (mark_at marks q)))
+                (table_at self.old.net.tables t).rows);
           });
         } }
     {
@@ -347,8 +360,10 @@ impl NetDraft {
         requires within { t < table_count self.old.net }
         requires pin { q < length (table_at self.old.net.tables t).pins }
         requires pins_in { All (λ s. s < signal_count self.old.net) (table_at self.old.net.tables t).pins }
-        requires widths { All (λ marks. length marks ≡ length (table_at self.old.net.tables t).pins) (table_at self.old.net.tables t).rows }
-        ensures { self.new ≡ record self.old { net = with_table self.old.net t (without_pin q (table_at self.old.net.tables t)) } }
+        requires widths { All (λ marks. length marks ≡ length (table_at self.old.net.tables t).pins)
+            (table_at self.old.net.tables t).rows }
+        ensures { self.new ≡ record
+            self.old { net = with_table self.old.net t (without_pin q (table_at self.old.net.tables t)) } }
     {
         let inputs = self.inputs();
         let signal = self.tables.pins(t)[q];
@@ -362,7 +377,11 @@ impl NetDraft {
         requires within { t < table_count self.old.net }
         requires pins_in { All (λ s. s < signal_count self.old.net) (table_at self.old.net.tables t).pins }
         requires row { value ≡ true → 0 < length (table_at self.old.net.tables t).rows }
-        ensures { self.new ≡ record self.old { net = with_table self.old.net t (constant_table (table_at self.old.net.tables t).name value) } }
+        ensures { self.new ≡ record
+            self.old {
+              net = with_table self.old.net t
+                  (constant_table (table_at self.old.net.tables t).name value);
+            } }
     {
         let inputs = self.inputs();
         self.flags.raise_signals(inputs, self.tables.pins(t));
@@ -376,7 +395,8 @@ impl NetDraft {
         requires within { t < table_count self.old.net }
         ensures { self.new ≡ record self.old {
           net = with_table self.old.net t
-              (constant_table (table_at self.old.net.tables t).name (not (table_at self.old.net.tables t).plane));
+              (constant_table (table_at self.old.net.tables t).name
+              (not (table_at self.old.net.tables t).plane));
         } }
     {
         let plane = self.table(t).plane();
@@ -388,7 +408,8 @@ impl NetDraft {
         requires sound { IsSound self.old.net }
         requires within { t < table_count self.old.net }
         requires pin { q < length (table_at self.old.net.tables t).pins }
-        requires constant { is_constant_signal (input_count self.old.net) self.old.net.tables (pin_at (table_at self.old.net.tables t) q) ≡ true }
+        requires constant { is_constant_signal (input_count self.old.net) self.old.net.tables
+            (pin_at (table_at self.old.net.tables t) q) ≡ true }
         ensures { self.new ≡ record self.old { net = made_by self.old.net t (Rule.ConstantPin q) } }
     {
         let table = self.table(t);
@@ -407,7 +428,8 @@ impl NetDraft {
         requires sound { IsSound self.old.net }
         requires within { t < table_count self.old.net }
         requires pin { q < length (table_at self.old.net.tables t).pins }
-        requires repeated { has (take q (table_at self.old.net.tables t).pins) (pin_at (table_at self.old.net.tables t) q) ≡ true }
+        requires repeated { has (take q (table_at self.old.net.tables t).pins)
+            (pin_at (table_at self.old.net.tables t) q) ≡ true }
         ensures { self.new ≡ record self.old { net = made_by self.old.net t (Rule.RepeatedPin q) } }
     {
         let table = self.table(t);
@@ -451,7 +473,8 @@ impl NetDraft {
     fn empty(&mut self, t: u32)
         requires sound { IsSound self.old.net }
         requires within { t < table_count self.old.net }
-        ensures { self.new ≡ record self.old { net = with_table self.old.net t (emptied (table_at self.old.net.tables t)) } }
+        ensures { self.new ≡ record
+            self.old { net = with_table self.old.net t (emptied (table_at self.old.net.tables t)) } }
     {
         if !self.table(t).pins().is_empty() {
             self.make_constant(t, false);

@@ -1,6 +1,7 @@
 //! Which tables read each signal, by their places. A place may stay listed after its table has ceased to read
 //! the signal.
-ghost use Rattle.std.specs.Prelude.{◌≡◌, ◌≢◌, ◌<◌, ◌-◌, ◌++◌, ◌∷◌, [], ℕ, true, length, take, slice_set, All, MatchOption, IfOk, OnOk, OnErr};
+ghost use Rattle.std.specs.Prelude.{◌≡◌, ◌≢◌, ◌<◌, ◌-◌, ◌++◌, ◌∷◌, [], ℕ, true, length, take, slice_set, All};
+ghost use Rattle.std.specs.Prelude.{MatchOption, IfOk, OnOk, OnErr};
 ghost use Rattle.std.specs.List.{filter};
 ghost use Rattle.semantics.specs.Net.{table_at};
 ghost use Rattle.chain_semantics.specs.TidyRules.{has};
@@ -150,7 +151,8 @@ impl Readers {
         requires { All (λ s. s < length self.old) signals.now }
         ensures count { OnOk result (length self.new ≡ length self.old) }
         ensures wider { OnOk result (IsWider self.old self.new) }
-        ensures listed { OnOk result ((s : ℕ) → has signals.now s ≡ true → has (list_at self.new s) place ≡ true) }
+        ensures listed { OnOk result
+            ((s : ℕ) → has signals.now s ≡ true → has (list_at self.new s) place ≡ true) }
     {
         for signal in signals {
             self.add(*signal, place)?;
@@ -163,7 +165,8 @@ impl Readers {
         requires from { from < length self.old }
         requires to { to < length self.old }
         requires differ { from ≢ to }
-        ensures ok { OnOk result (self.new ≡ slice_set self.old to (list_at self.old to ++ list_at self.old from)) }
+        ensures ok { OnOk result
+            (self.new ≡ slice_set self.old to (list_at self.old to ++ list_at self.old from)) }
         ensures err { OnErr result (self.new ≡ self.old) }
     {
         let alloc = *self.lists.allocator();
@@ -177,7 +180,8 @@ impl Readers {
     pub(crate) fn keep_readers(&mut self, tables: &[TableDraft], s: Signal)
         requires { s < length self.old }
         ensures { self.new
-            ≡ slice_set self.old s (filter (λ place. has (table_at tables.now place).pins s) (list_at self.old s)) }
+            ≡ slice_set self.old s (filter (λ place. has (table_at tables.now place).pins s)
+            (list_at self.old s)) }
     {
         self.lists[s as usize].keep_readers(tables, s);
     }
@@ -185,7 +189,8 @@ impl Readers {
     /// Takes out the last place of a signal's list.
     pub(crate) fn pop(&mut self, s: Signal)
         requires { s < length self.old }
-        ensures { self.new ≡ slice_set self.old s (take (length (list_at self.old s) - 1) (list_at self.old s)) }
+        ensures { self.new ≡ slice_set self.old s
+            (take (length (list_at self.old s) - 1) (list_at self.old s)) }
     {
         self.lists[s as usize].pop();
     }

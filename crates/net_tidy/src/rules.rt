@@ -2,7 +2,8 @@
 ghost use Rattle.std.specs.Prelude.{◌≡◌, ◌==◌, ◌&&◌, ◌||◌, not, map, length, take, slice_index};
 ghost use Rattle.std.specs.List.{list_any, list_all};
 ghost use Rattle.semantics.specs.Net.{row_literals};
-ghost use Rattle.chain_semantics.specs.TidyRules.{is_empty, has, first_from, mark_at, is_dash, first_place_of, is_canonical_rows, is_one_literal};
+ghost use Rattle.chain_semantics.specs.TidyRules.{is_empty, has, first_from, mark_at, is_dash};
+ghost use Rattle.chain_semantics.specs.TidyRules.{first_place_of, is_canonical_rows, is_one_literal};
 ghost use Rattle.net_tidy.specs.Rule.{is_alone, rule_by};
 
 use crate::marks::{Marked, mark_at};
@@ -28,7 +29,8 @@ fn all_dashes<R: Marked>(rows: &[R], q: usize) -> bool
 /// Whether there is a row, and each row has a dash at pin `q`.
 #[tactic(auto, using(crate::proofs::First::is_empty_length))]
 fn is_dashed<R: Marked>(rows: &[R], q: usize) -> bool
-    ensures { result ≡ (not (is_empty rows.now) && list_all (λ row. is_dash (mark_at (R.marks row) q)) rows.now) }
+    ensures { result ≡ (not (is_empty rows.now)
+        && list_all (λ row. is_dash (mark_at (R.marks row) q)) rows.now) }
 {
     !rows.is_empty() && all_dashes(rows, q)
 }
@@ -36,7 +38,8 @@ fn is_dashed<R: Marked>(rows: &[R], q: usize) -> bool
 /// The first of `pins` pins that has a dash in every row, where there is a row.
 pub(crate) fn dashed_pin<R: Marked>(pins: usize, rows: &[R]) -> Option<usize>
     ensures { result
-        ≡ first_from (λ q. not (is_empty rows.now) && list_all (λ row. is_dash (mark_at (R.marks row) q)) rows.now) 0 pins }
+        ≡ first_from (λ q. not (is_empty rows.now)
+        && list_all (λ row. is_dash (mark_at (R.marks row) q)) rows.now) 0 pins }
 {
     for q in 0..pins {
         if is_dashed(rows, q) {

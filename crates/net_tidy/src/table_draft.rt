@@ -5,7 +5,9 @@ ghost use Rattle.semantics.specs.Net.{IsTable, constant_table};
 ghost use Rattle.semantics.specs.Value.{mark_matches};
 ghost use Rattle.semantics.specs.Renamed.{renamed, redirect};
 ghost use Rattle.net_tidy.specs.Places.{number_at};
-ghost use Rattle.chain_semantics.specs.TidyRules.{has, mark_at, clash, pin_at, without_pin, with_pin_fixed, with_pins_joined, with_marks_joined, with_marks_turned, is_inverter, reading_past};
+ghost use Rattle.chain_semantics.specs.TidyRules.{has, mark_at, clash, pin_at, without_pin, with_pin_fixed};
+ghost use Rattle.chain_semantics.specs.TidyRules.{with_pins_joined, with_marks_joined, with_marks_turned};
+ghost use Rattle.chain_semantics.specs.TidyRules.{is_inverter, reading_past};
 
 use crate::marks::{Marked, Marks, clash, mark_at};
 use crate::rules::has;
@@ -64,7 +66,8 @@ fn keep_rows(rows: &mut Vec<Marks>, q: usize, value: bool)
 
 /// Takes out the rows that ask the pins at `p` and `q` for both values.
 fn keep_agreeing(rows: &mut Vec<Marks>, p: usize, q: usize)
-    ensures { rows.new.items ≡ filter (λ marks. not (clash (mark_at marks p) (mark_at marks q))) rows.old.items }
+    ensures { rows.new.items ≡ filter (λ marks. not (clash (mark_at marks p) (mark_at marks q)))
+        rows.old.items }
 {
     rows.retain(|row| !clash(mark_at(row.marks(), p), mark_at(row.marks(), q)));
 }
@@ -184,7 +187,10 @@ impl TableDraft {
     /// Takes out the rows that ask the pin at `q` for the other value.
     pub(crate) fn keep_rows(&mut self, q: usize, value: bool)
         ensures { self.new
-            ≡ record self.old { rows = filter (λ marks. mark_matches (mark_at marks q) value) self.old.rows } }
+            ≡ record self.old {
+              rows
+                  = filter (λ marks. mark_matches (mark_at marks q) value) self.old.rows;
+            } }
     {
         keep_rows(&mut self.rows, q, value);
     }
@@ -202,7 +208,8 @@ impl TableDraft {
         requires within { p < length self.old.pins }
         requires widths { All (λ marks. length marks ≡ length self.old.pins) self.old.rows }
         ensures { self.new ≡ record self.old {
-          rows = map (with_marks_joined p q) (filter (λ marks. not (clash (mark_at marks p) (mark_at marks q))) self.old.rows);
+          rows = map (with_marks_joined p q)
+              (filter (λ marks. not (clash (mark_at marks p) (mark_at marks q))) self.old.rows);
         } }
     {
         keep_agreeing(&mut self.rows, p, q);

@@ -1,10 +1,12 @@
 //! Tables that are edited in place, and which of them read each signal.
-ghost use Rattle.std.specs.Prelude.{◌≡◌, ◌≢◌, ◌<◌, ℕ, true, false, not, length, map, slice_set, All, IfOk, OnOk, OnErr};
+ghost use Rattle.std.specs.Prelude.{◌≡◌, ◌≢◌, ◌<◌, ℕ, true, false, not, length, map, slice_set, All, IfOk};
+ghost use Rattle.std.specs.Prelude.{OnOk, OnErr};
 ghost use Rattle.std.specs.List.{filter};
 ghost use Rattle.semantics.specs.Net.{table_at, constant_table};
 ghost use Rattle.semantics.specs.Renamed.{renamed};
 ghost use Rattle.semantics.specs.Value.{mark_matches};
-ghost use Rattle.chain_semantics.specs.TidyRules.{has, mark_at, clash, is_read, without_pin, with_marks_joined, reading_past};
+ghost use Rattle.chain_semantics.specs.TidyRules.{has, mark_at, clash, is_read, without_pin};
+ghost use Rattle.chain_semantics.specs.TidyRules.{with_marks_joined, reading_past};
 ghost use Rattle.net_tidy.specs.Flags.{IsDown};
 ghost use Rattle.net_tidy.specs.Places.{number_at};
 ghost use Rattle.net_tidy.specs.Readers.{IsListed};
@@ -177,9 +179,11 @@ impl Tables {
     pub(crate) fn join_rows(&mut self, t: u32, p: usize, q: usize)
         requires within { t < length self.old }
         requires pin { p < length (table_at self.old t).pins }
-        requires widths { All (λ marks. length marks ≡ length (table_at self.old t).pins) (table_at self.old t).rows }
+        requires widths { All (λ marks. length marks ≡ length (table_at self.old t).pins)
+            (table_at self.old t).rows }
         ensures { self.new ≡ slice_set self.old t (record (table_at self.old t) {
-          rows = map (with_marks_joined p q) (filter (λ marks. not (clash (mark_at marks p) (mark_at marks q))) (table_at self.old t).rows);
+          rows = map (with_marks_joined p q)
+              (filter (λ marks. not (clash (mark_at marks p) (mark_at marks q))) (table_at self.old t).rows);
         }) }
     {
         self.tables[t as usize].join_rows(p, q);
@@ -189,7 +193,8 @@ impl Tables {
     pub(crate) fn remove_pin(&mut self, t: u32, q: usize)
         requires within { t < length self.old }
         requires pin { q < length (table_at self.old t).pins }
-        requires widths { All (λ marks. length marks ≡ length (table_at self.old t).pins) (table_at self.old t).rows }
+        requires widths { All (λ marks. length marks ≡ length (table_at self.old t).pins)
+            (table_at self.old t).rows }
         ensures { self.new ≡ slice_set self.old t (without_pin q (table_at self.old t)) }
     {
         self.tables[t as usize].remove_pin(q);

@@ -32,8 +32,8 @@ told_turns turns = record {
 abbrev pub a_turn_on_b : List Bytes
 a_turn_on_b = codes "b" ∷ []
 
--- A read is a turn of the open file where it asked for 65,536 bytes or fewer and gave some; the turns on a name are counted, and one
--- turn does not read a file out.
+-- A read is a turn of the open file where it asked for 65,536 bytes or fewer and gave some; the turns on a
+-- name are counted, and one turn does not read a file out.
 pub record TurnExamples : Type 0 where
   pub least_given : turns_after (Some (codes "a")) 65536 1 a_turn_on_b ≡ codes "a" ∷ codes "b" ∷ []
   pub most_given : turns_after (Some (codes "b")) 10 10 a_turn_on_b ≡ codes "b" ∷ codes "b" ∷ []
@@ -58,7 +58,8 @@ three = only (file (codes "a") (codes "one") ∷ [])
 abbrev pub after_append : Option Bytes → Bytes → Option Bytes
 after_append writing name = get (appended three writing (codes "!")) name
 
--- a text comes behind what the file holds, a file that is not held is not made, and with nothing written all stays
+-- a text comes behind what the file holds, a file that is not held is not made, and with nothing written all
+-- stays
 pub record AppendExamples : Type 0 where
   pub behind : after_append (Some (codes "a")) (codes "a") ≡ Some (codes "one!")
   pub not_made : after_append (Some (codes "b")) (codes "b") ≡ None
@@ -66,7 +67,8 @@ pub record AppendExamples : Type 0 where
   pub closed : after_append None (codes "a") ≡ Some (codes "one")
 
 abbrev pub after_four : Bytes → Option Bytes
-after_four name = get (with_files three (file (codes "b") (codes "x") ∷ file (codes "c") (codes "y") ∷ file (codes "b") (codes "z") ∷ [])) name
+after_four name = get (with_files three
+    (file (codes "b") (codes "x") ∷ file (codes "c") (codes "y") ∷ file (codes "b") (codes "z") ∷ [])) name
 
 -- of two files with the same name the later one counts, and a name that is not written keeps its bytes
 pub record WrittenExamples : Type 0 where
@@ -77,7 +79,8 @@ pub record WrittenExamples : Type 0 where
 
 -- two files were to be written, and a fault left these
 abbrev pub fault_leaves : List File → Type 0
-fault_leaves files = IsCutShort three (with_files three files) (file (codes "b") (codes "xy") ∷ file (codes "c") (codes "z") ∷ [])
+fault_leaves files = IsCutShort three (with_files three files)
+    (file (codes "b") (codes "xy") ∷ file (codes "c") (codes "z") ∷ [])
 
 -- The file that failed is untouched, empty or a first part; it is no other part, and no file stands after it.
 pub record CutExamples : Type 0 where

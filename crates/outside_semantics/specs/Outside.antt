@@ -1,5 +1,8 @@
--- What a set of files and a sink tell, and what each call on them may do. Source: this tool's own interface to the outside.
-use Rattle.std.specs.Prelude.{◌≡◌, ℕ, ◌+◌, ◌-◌, ◌^◌, ◌<◌, ◌≤◌, min, Bool, false, ◌&&◌, nat_lt, nat_le, IsTrue, List, [], ◌∷◌, ◌++◌, length, take, drop, count_by, bytes_eq, Option, Some, None, unwrap_or, if◌then◌else◌}
+-- What a set of files and a sink tell, and what each call on them may do. Source: this tool's own interface
+-- to the outside.
+use Rattle.std.specs.Prelude.{◌≡◌, ℕ, ◌+◌, ◌-◌, ◌^◌, ◌<◌, ◌≤◌, min, Bool, false, ◌&&◌, nat_lt, nat_le}
+use Rattle.std.specs.Prelude.{IsTrue, List, [], ◌∷◌, ◌++◌, length, take, drop, count_by, bytes_eq, Option}
+use Rattle.std.specs.Prelude.{Some, None, unwrap_or, if◌then◌else◌}
 use Rattle.std.specs.Ordering.{nat_cmp}
 use Rattle.std.specs.Cmp.Lexicographic.{slice_cmp}
 use Rattle.std.specs.FinMap.{FinMap, get, insert, contains_key}
@@ -118,8 +121,10 @@ pub record KeepsAtRead (old new : FilesTold) : Type 0 where
   pub calm : StaysCalm old new
   pub stays : (a : Held) → old.held ≡ Some a → new.held ≡ Some a
 
--- the next n bytes of the file stand at the front of the buffer; none come only at the file's end or for an empty buffer
-pub record GaveNext (content : Bytes) (place : Place) (n : ℕ) (buffer : Bytes) (reading : Option Place) : Type 0 where
+-- the next n bytes of the file stand at the front of the buffer; none come only at the file's end or for an
+-- empty buffer
+pub record GaveNext (content : Bytes) (place : Place) (n : ℕ) (buffer : Bytes)
+    (reading : Option Place) : Type 0 where
   pub bytes : take n buffer ≡ take n (drop place.at content)
   pub moves : reading ≡ Some (record place { at = place.at + n })
   pub inside : n ≤ length content - place.at
@@ -128,7 +133,8 @@ pub record GaveNext (content : Bytes) (place : Place) (n : ℕ) (buffer : Bytes)
 pub record Gave (old new : FilesTold) (n : ℕ) (buffer : Bytes) : Type 0 where
   pub keeps : KeepsAtRead old new
   pub turns : new.turns ≡ turns_after old.opened (length buffer) n old.turns
-  pub from_file : (a : Held) (place : Place) → old.held ≡ Some a → old.reading ≡ Some place → GaveNext (bytes_of a place.name) place n buffer new.reading
+  pub from_file : (a : Held) (place : Place) → old.held ≡ Some a → old.reading ≡ Some place
+      → GaveNext (bytes_of a place.name) place n buffer new.reading
   pub nothing_open : (a : Held) → old.held ≡ Some a → old.reading ≡ None → n ≡ 0
   pub still_closed : (a : Held) → old.held ≡ Some a → old.reading ≡ None → new.reading ≡ None
 
@@ -155,8 +161,8 @@ pub record CreateFailed (old new : FilesTold) (name : Bytes) : Type 0 where
   pub stays : WhereTold old new (λ a b. b ≡ a)
   pub closed : new.writing ≡ None
 
--- The files after the text was added to the file that is being written. A file that is written is held, since `create` makes it;
--- without one nothing is added.
+-- The files after the text was added to the file that is being written. A file that is written is held, since
+-- `create` makes it; without one nothing is added.
 abbrev pub added_to : Option Bytes → Held → Bytes → Bytes → Held
 added_to None held name text = held
 added_to (Some bytes) held name text = insert held name (bytes ++ text)
@@ -180,7 +186,8 @@ pub record WriteFailed (old new : FilesTold) (text : Bytes) : Type 0 where
   pub calm : StaysCalm old new
   pub rose : Rose old.faults new.faults
   pub not_calm : old.calm_write ≡ false
-  pub held : WhereTold old new (λ a b. (n : ℕ) × (n ≤ length text) × (b ≡ appended a old.writing (take n text)))
+  pub held : WhereTold old new
+      (λ a b. (n : ℕ) × (n ≤ length text) × (b ≡ appended a old.writing (take n text)))
 
 -- what every call on the sink keeps
 pub record SinkGoes (old new : SinkTold) : Type 0 where
@@ -194,4 +201,5 @@ pub record Took (old new : SinkTold) (text : Bytes) : Type 0 where
 pub record TakeFailed (old new : SinkTold) (text : Bytes) : Type 0 where
   pub goes : SinkGoes old new
   pub rose : Rose old.faults new.faults
-  pub put : (a b : Bytes) → old.put_bytes ≡ Some a → new.put_bytes ≡ Some b → (n : ℕ) × (n ≤ length text) × (b ≡ a ++ take n text)
+  pub put : (a b : Bytes) → old.put_bytes ≡ Some a → new.put_bytes ≡ Some b
+      → (n : ℕ) × (n ≤ length text) × (b ≡ a ++ take n text)

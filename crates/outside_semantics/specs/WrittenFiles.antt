@@ -1,5 +1,5 @@
--- The files that a run writes, one after another, and what is on the disk when one of them could not be written.
--- Source: this tool's own bundles.
+-- The files that a run writes, one after another, and what is on the disk when one of them could not be
+-- written. Source: this tool's own bundles.
 use Rattle.std.specs.Prelude.{◌≡◌, ◌⊎◌, ℕ, ◌≤◌, Bool, false, List, [], ◌∷◌, ◌++◌, length, take}
 use Rattle.std.specs.List.{list_all}
 use Rattle.std.specs.FinMap.{insert}
@@ -26,7 +26,8 @@ pub record FilesWritten (old new : FilesTold) (files : List File) : Type 0 where
 -- A file that could not be created is untouched; one that was created is empty or holds a first part of its
 -- text.
 abbrev pub IsCutAt : Held → File → Held → Type 0
-IsCutAt before file now = (now ≡ before) ⊎ ((n : ℕ) × (n ≤ length file.text) × (now ≡ insert before file.name (take n file.text)))
+IsCutAt before file now = (now ≡ before)
+    ⊎ ((n : ℕ) × (n ≤ length file.text) × (now ≡ insert before file.name (take n file.text)))
 
 -- The files before the one that failed are whole, and the later ones untouched.
 pub record IsCutShort (before now : Held) (files : List File) : Type 0 where

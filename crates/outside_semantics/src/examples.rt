@@ -1,5 +1,6 @@
 //! Worked examples of the definitions, computed by the checker: each function's contract is its examples.
-ghost use Rattle.outside_semantics.specs.Examples.{CountExamples, TurnExamples, AppendExamples, WrittenExamples, CutExamples};
+ghost use Rattle.outside_semantics.specs.Examples.{CountExamples, TurnExamples, AppendExamples};
+ghost use Rattle.outside_semantics.specs.Examples.{WrittenExamples, CutExamples};
 
 /// A count of faults that rose, also at its end.
 pub fn counts()

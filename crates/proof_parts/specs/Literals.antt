@@ -1,4 +1,5 @@
--- The literals that an `i32` holds together with their negations. Source: DIMACS; 2 ^ 31 - 1 is the greatest variable.
+-- The literals that an `i32` holds together with their negations. Source: DIMACS; 2 ^ 31 - 1 is the greatest
+-- variable.
 use Rattle.std.specs.Prelude.{List, ℤ, All}
 use Rattle.proof_semantics.specs.Clauses.{IsLiteralOf}
 

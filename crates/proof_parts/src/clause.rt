@@ -1,5 +1,6 @@
 //! Clauses and lists of clauses.
-ghost use Rattle.std.specs.Prelude.{◌≡◌, ◌<◌, ◌==◌, [], ◌∷◌, ◌++◌, length, slice_index_or, if◌then◌else◌, IfOk, OnOk, OnErr};
+ghost use Rattle.std.specs.Prelude.{◌≡◌, ◌<◌, ◌==◌, [], ◌∷◌, ◌++◌, length, slice_index_or, if◌then◌else◌};
+ghost use Rattle.std.specs.Prelude.{IfOk, OnOk, OnErr};
 ghost use Rattle.proof_semantics.specs.Clauses.{has_literal};
 ghost use Rattle.proof_parts.specs.Literals.{IsLiteral, AreLiterals};
 

@@ -7,7 +7,8 @@ use Rattle.semantics.specs.declared.mark.Mark.{Mark}
 use Rattle.semantics.specs.declared.mark.Mark.TheVariants.{Zero, One, Dash}
 use Rattle.semantics.specs.Net.{TableValue, IsAcyclic}
 use Rattle.proof_semantics.specs.Clauses.{Clause, IsLiteralOf, AreClausesOf, has_literal, with_literals}
-use Rattle.proof_semantics.specs.NetClauses.{literal_at, literals_of_row, implication, row_clauses, rows_clauses, implications, variables_from, table_clauses, tables_clauses, net_clauses, goal_clauses}
+use Rattle.proof_semantics.specs.NetClauses.{literal_at, literals_of_row, implication, row_clauses, rows_clauses, implications, variables_from, table_clauses, tables_clauses, net_clauses}
+use Rattle.proof_semantics.specs.NetClauses.{goal_clauses}
 use Rattle.proof_semantics.specs.Variables.{variable_count}
 use Rattle.proof_semantics.proofs.NetValues.{each_pin}
 

@@ -6,7 +6,8 @@ use Rattle.std.proofs.lemmas.List.Sums.{sum_by-cons}
 use Rattle.semantics.specs.declared.mark.Mark.{Mark}
 use Rattle.semantics.specs.declared.mark.Mark.TheVariants.{Zero, One, Dash}
 use Rattle.semantics.specs.Net.{TableValue, NetValue, input_count, IsSmall, is_literal, row_literals}
-use Rattle.proof_semantics.specs.NetClauses.{literal_at, literals_of_row, implication, row_clauses, rows_clauses, implications, variables_from, table_clauses, tables_clauses, net_clauses, goal_clauses}
+use Rattle.proof_semantics.specs.NetClauses.{literal_at, literals_of_row, implication, row_clauses, rows_clauses, implications, variables_from, table_clauses, tables_clauses, net_clauses}
+use Rattle.proof_semantics.specs.NetClauses.{goal_clauses}
 use Rattle.proof_semantics.specs.Variables.{variable_count, table_clause_count}
 
 -- a row asks as often as it has marks 0 and 1

@@ -8,7 +8,8 @@ use Rattle.proof_semantics.specs.declared.lrat_word.LratWord.TheVariants.{Letter
 use Rattle.proof_semantics.specs.Logs.{LogItem}
 use Rattle.proof_semantics.specs.LratTokens.{Token, token_word}
 use Rattle.proof_semantics.specs.LratMatching.{Stage, Outside, Begun, Literals, Hints, Deletion, stage_after, item_given, stage_after_all, items_given}
-use Rattle.proof_semantics.specs.LratGrammar.{SignedNumber, signed_word, plain_word, SpelledItem, addition, deletion, item_words, spelled_item, literal_of, AreLiteralSizes, ArePositive, IsSpelled, AreSpelled, token_words}
+use Rattle.proof_semantics.specs.LratGrammar.{SignedNumber, signed_word, plain_word, SpelledItem, addition, deletion, item_words, spelled_item, literal_of, AreLiteralSizes, ArePositive, IsSpelled}
+use Rattle.proof_semantics.specs.LratGrammar.{AreSpelled, token_words}
 
 -- some tokens lead from one stage to another, with these items, and the words of the rest are these
 record Leads (st : Stage) (ts : List Token) (next : Stage) (items : List LogItem) (rest : List LratWord) : Type 0 where
@@ -18,7 +19,8 @@ record Leads (st : Stage) (ts : List Token) (next : Stage) (items : List LogItem
   given : items_given st ts ≡ items ++ items_given next after
 
 -- one token
-one : (st next : Stage) (ts : List Token) (w : LratWord) (items : List LogItem) (rest : List LratWord) → token_words ts ≡ w ∷ rest → ((place : ℕ) → stage_after st w place ≡ next) → item_given st w ≡ items → Leads st ts next items rest
+one : (st next : Stage) (ts : List Token) (w : LratWord) (items : List LogItem) (rest : List LratWord) → token_words ts ≡ w ∷ rest → ((place : ℕ) → stage_after st w place ≡ next)
+    → item_given st w ≡ items → Leads st ts next items rest
 one st next [] w items rest e s g = cc
 one st next (t ∷ ts) w items rest e s g =
     let h : token_word t.bytes ≡ w = cc in
@@ -32,7 +34,8 @@ one st next (t ∷ ts) w items rest e s g =
     }
 
 -- one run after another, where the first gives no item
-joins : (st mid next : Stage) (ts : List Token) (items : List LogItem) (rest more : List LratWord) → Leads st ts mid [] rest → ((us : List Token) → token_words us ≡ rest → Leads mid us next items more) → Leads st ts next items more
+joins : (st mid next : Stage) (ts : List Token) (items : List LogItem) (rest more : List LratWord) → Leads st ts mid [] rest
+    → ((us : List Token) → token_words us ≡ rest → Leads mid us next items more) → Leads st ts next items more
 joins st mid next ts items rest more a b =
     let c = b a.after a.words_are in
     record { after = c.after; words_are = c.words_are; stage = a.stage ∙ c.stage; given = a.given ∙ c.given }
@@ -44,7 +47,8 @@ not_zero : (n : ℕ) → 0 < n → (n == 0) ≡ false
 not_zero zero h = absurd (omega arith)
 not_zero (suc n) h = eqb-suc-zero n
 
-run_literals : (id : ℕ) (xs : List SignedNumber) (acc : List ℤ) (ts : List Token) (rest : List LratWord) → AreLiteralSizes xs → token_words ts ≡ map signed_word xs ++ rest → Leads (Literals id acc) ts (Literals id (acc ++ map literal_of xs)) [] rest
+run_literals : (id : ℕ) (xs : List SignedNumber) (acc : List ℤ) (ts : List Token) (rest : List LratWord) → AreLiteralSizes xs → token_words ts ≡ map signed_word xs ++ rest
+    → Leads (Literals id acc) ts (Literals id (acc ++ map literal_of xs)) [] rest
 run_literals id [] acc ts rest p e = subst (λ (ys : List ℤ). Leads (Literals id acc) ts (Literals id ys) [] rest) (sym (append-nil acc)) (none (Literals id acc) ts rest e)
 run_literals id (x ∷ xs) acc ts rest p e =
     let v = literal_of x in
@@ -58,7 +62,8 @@ run_literals id (x ∷ xs) acc ts rest p e =
 abbrev hinted : ℕ → List ℤ → List ℕ → Stage
 hinted id literals hints = Hints id literals hints
 
-run_hints : (id : ℕ) (literals : List ℤ) (xs acc : List ℕ) (ts : List Token) (rest : List LratWord) → ArePositive xs → token_words ts ≡ map plain_word xs ++ rest → Leads (hinted id literals acc) ts (hinted id literals (acc ++ xs)) [] rest
+run_hints : (id : ℕ) (literals : List ℤ) (xs acc : List ℕ) (ts : List Token) (rest : List LratWord) → ArePositive xs → token_words ts ≡ map plain_word xs ++ rest
+    → Leads (hinted id literals acc) ts (hinted id literals (acc ++ xs)) [] rest
 run_hints id literals [] acc ts rest p e = subst (λ (ys : List ℕ). Leads (hinted id literals acc) ts (hinted id literals ys) [] rest) (sym (append-nil acc)) (none (hinted id literals acc) ts rest e)
 run_hints id literals (x ∷ xs) acc ts rest p e =
     let more = acc ++ x ∷ [] in
@@ -77,7 +82,8 @@ run_ids (x ∷ xs) acc ts rest p e =
     (joins (Deletion acc) (Deletion more) (Deletion (more ++ xs)) ts [] (map plain_word xs ++ rest) rest first (λ us h. run_ids xs more us rest p.1 h))
 
 -- after the id of an addition a number is taken as after no literals
-begun : (id : ℕ) (ts : List Token) (negative : Bool) (size : ℕ) (rest ws : List LratWord) (next : Stage) (items : List LogItem) → 0 < id → token_words ts ≡ Number negative size ∷ ws → Leads (Literals id []) ts next items rest → Leads (Begun id) ts next items rest
+begun : (id : ℕ) (ts : List Token) (negative : Bool) (size : ℕ) (rest ws : List LratWord) (next : Stage) (items : List LogItem) → 0 < id → token_words ts ≡ Number negative size ∷ ws
+    → Leads (Literals id []) ts next items rest → Leads (Begun id) ts next items rest
 begun id [] negative size rest ws next items p e l = cc
 begun id (t ∷ ts) negative size rest ws next items p e l =
     let h : token_word t.bytes ≡ Number negative size = cc in
@@ -90,26 +96,34 @@ begun id (t ∷ ts) negative size rest ws next items p e l =
       given = ap (λ (u : Stage). items_given u ts) s ∙ l.given;
     }
 
-begun_literals : (id : ℕ) (literals : List SignedNumber) (first_end : Bool) (ts : List Token) (rest ws : List LratWord) (next : Stage) (items : List LogItem) → 0 < id → token_words ts ≡ map signed_word literals ++ (Number first_end 0 ∷ ws) → Leads (Literals id []) ts next items rest → Leads (Begun id) ts next items rest
+begun_literals : (id : ℕ) (literals : List SignedNumber) (first_end : Bool) (ts : List Token) (rest ws : List LratWord) (next : Stage) (items : List LogItem) → 0 < id
+    → token_words ts ≡ map signed_word literals ++ (Number first_end 0 ∷ ws) → Leads (Literals id []) ts next items rest → Leads (Begun id) ts next items rest
 begun_literals id [] first_end ts rest ws next items p e l = begun id ts first_end 0 rest ws next items p e l
 begun_literals id (x ∷ xs) first_end ts rest ws next items p e l = begun id ts x.negative x.size rest (map signed_word xs ++ (Number first_end 0 ∷ ws)) next items p e l
 
-addition_leads : (id : ℕ) (literals : List SignedNumber) (first_end : Bool) (hints : List ℕ) (last_end : Bool) (ts : List Token) (rest : List LratWord) → IsSpelled (addition id literals first_end hints last_end) → token_words ts ≡ item_words (addition id literals first_end hints last_end) ++ rest → Leads Outside ts Outside (spelled_item (addition id literals first_end hints last_end) ∷ []) rest
+addition_leads : (id : ℕ) (literals : List SignedNumber) (first_end : Bool) (hints : List ℕ) (last_end : Bool) (ts : List Token) (rest : List LratWord)
+    → IsSpelled (addition id literals first_end hints last_end) → token_words ts ≡ item_words (addition id literals first_end hints last_end) ++ rest
+    → Leads Outside ts Outside (spelled_item (addition id literals first_end hints last_end) ∷ []) rest
 addition_leads id literals first_end hints last_end ts rest p e =
     let last = Number last_end 0 ∷ rest in
     let tail = Number first_end 0 ∷ (map plain_word hints ++ last) in
     let values = map literal_of literals in
     let item = spelled_item (addition id literals first_end hints last_end) ∷ [] in
     let flat : item_words (addition id literals first_end hints last_end) ++ rest ≡ Number false id ∷ (map signed_word literals ++ tail) =
-    ap (λ (ws : List LratWord). Number false id ∷ ws) (append_assoc (map signed_word literals) (Number first_end 0 ∷ (map plain_word hints ++ Number last_end 0 ∷ [])) rest ∙ ap (λ (ws : List LratWord). map signed_word literals ++ (Number first_end 0 ∷ ws)) (append_assoc (map plain_word hints) (Number last_end 0 ∷ []) rest)) in
-    joins Outside (Begun id) Outside ts item (map signed_word literals ++ tail) rest (one Outside (Begun id) ts (Number false id) [] (map signed_word literals ++ tail) (e ∙ flat) (λ place. refl) refl) (λ us h.
+    ap (λ (ws : List LratWord). Number false id ∷ ws)
+    (append_assoc (map signed_word literals) (Number first_end 0 ∷ (map plain_word hints ++ Number last_end 0 ∷ [])) rest ∙ ap
+    (λ (ws : List LratWord). map signed_word literals ++ (Number first_end 0 ∷ ws)) (append_assoc (map plain_word hints) (Number last_end 0 ∷ []) rest)) in
+    joins Outside (Begun id) Outside ts item (map signed_word literals ++ tail) rest
+    (one Outside (Begun id) ts (Number false id) [] (map signed_word literals ++ tail) (e ∙ flat) (λ place. refl) refl) (λ us h.
     begun_literals id literals first_end us rest (map plain_word hints ++ last) Outside item p.0 h (
     joins (Literals id []) (Literals id values) Outside us item tail rest (run_literals id literals [] us tail p.1 h) (λ vs i.
-    joins (Literals id values) (hinted id values []) Outside vs item (map plain_word hints ++ last) rest (one (Literals id values) (hinted id values []) vs (Number first_end 0) [] (map plain_word hints ++ last) i (λ place. refl) refl) (λ ws j.
+    joins (Literals id values) (hinted id values []) Outside vs item (map plain_word hints ++ last) rest
+    (one (Literals id values) (hinted id values []) vs (Number first_end 0) [] (map plain_word hints ++ last) i (λ place. refl) refl) (λ ws j.
     joins (hinted id values []) (hinted id values hints) Outside ws item last rest (run_hints id values hints [] ws last p.2 j) (λ xs k.
     one (hinted id values hints) Outside xs (Number last_end 0) item rest k (λ place. refl) refl)))))
 
-deletion_leads : (lead : SignedNumber) (ids : List ℕ) (last_end : Bool) (ts : List Token) (rest : List LratWord) → IsSpelled (deletion lead ids last_end) → token_words ts ≡ item_words (deletion lead ids last_end) ++ rest → Leads Outside ts Outside (spelled_item (deletion lead ids last_end) ∷ []) rest
+deletion_leads : (lead : SignedNumber) (ids : List ℕ) (last_end : Bool) (ts : List Token) (rest : List LratWord) → IsSpelled (deletion lead ids last_end)
+    → token_words ts ≡ item_words (deletion lead ids last_end) ++ rest → Leads Outside ts Outside (spelled_item (deletion lead ids last_end) ∷ []) rest
 deletion_leads lead ids last_end ts rest p e =
     let last = Number last_end 0 ∷ rest in
     let tail = map plain_word ids ++ last in

@@ -23,10 +23,11 @@ IsHeldBelow-empty id clause e = let none = get-empty {X = Clause} nat_cmp id in 
 
 IsHeldBelow-insert : (next id : ℕ) (held : Held) (clause : Clause) → 0 < id → next ≤ id → IsHeldBelow next held → IsHeldBelow (suc id) (insert held id clause)
 unfolding IsHeldBelow
-IsHeldBelow-insert next id held clause p above h q c e = at_test (q == id) refl (sym (get-insert nat_cmp_total held id clause q ∙ ap (λ b. cond b (Some clause) (get held q)) (unsigned_tied q id)) ∙ e) where
-  at_test : (t : Bool) → (q == id) ≡ t → cond t (Some clause) (get held q) ≡ Some c → (0 < q) × (q < suc id)
-  at_test true same f = let is = eqb-true q id same in (omega (arith, is), omega (arith, is))
-  at_test false same f = let below = h q c f in (below.0, omega (arith, below.1))
+IsHeldBelow-insert next id held clause p above h q c e
+    = at_test (q == id) refl (sym (get-insert nat_cmp_total held id clause q ∙ ap (λ b. cond b (Some clause) (get held q)) (unsigned_tied q id)) ∙ e) where
+      at_test : (t : Bool) → (q == id) ≡ t → cond t (Some clause) (get held q) ≡ Some c → (0 < q) × (q < suc id)
+      at_test true same f = let is = eqb-true q id same in (omega (arith, is), omega (arith, is))
+      at_test false same f = let below = h q c f in (below.0, omega (arith, below.1))
 
 IsHeldBelow-from : (clauses : List Clause) (held : Held) (next : ℕ) → 0 < next → IsHeldBelow next held → IsHeldBelow (next + length clauses) (held_from held next clauses)
 IsHeldBelow-from [] held next p h = let same : next + 0 ≡ next = omega arith in subst (λ n. IsHeldBelow n held) (sym same) h
@@ -47,7 +48,8 @@ hints_held next held (hint ∷ more ∷ hints) set n h (clause, l, is, unit, res
 narrow : (variables : ℕ) (l : ℤ) → variables < 2 ^ 31 → IsLiteralOf variables l → IsLiteralOf 2147483647 l
 narrow variables l v h = record { not_zero = h.not_zero; within = omega (arith, h.within) }
 
-writable : (variables last : ℕ) (held : Held) (log : List LogItem) → variables < 2 ^ 31 → last + length log < 2 ^ 63 → IsHeldBelow (suc last) held → AddsInTurn variables last log → IsSoundFrom held last log
+writable : (variables last : ℕ) (held : Held) (log : List LogItem) → variables < 2 ^ 31 → last + length log < 2 ^ 63 → IsHeldBelow (suc last) held → AddsInTurn variables last log
+    → IsSoundFrom held last log
     → All IsWritable log
 writable variables last held [] v short h adds sound = All-nil IsWritable
 writable variables last held (Remove ids ∷ log) v short h adds sound = absurd adds

@@ -10,7 +10,8 @@ use Rattle.proof_semantics.specs.declared.lrat_word.LratWord.TheVariants.{Letter
 use Rattle.proof_semantics.specs.Logs.{LogItem}
 use Rattle.proof_semantics.specs.LratTokens.{Token, token_word}
 use Rattle.proof_semantics.specs.LratMatching.{Stage, Outside, Begun, Literals, Hints, Deletion, Refused, signed, bad_number, stage_after, item_given, after_literals, stage_after_all, items_given}
-use Rattle.proof_semantics.specs.LratGrammar.{SignedNumber, signed_word, plain_word, SpelledItem, addition, deletion, item_words, spelled_item, literal_of, AreLiteralSizes, ArePositive, AreSpelled, token_words}
+use Rattle.proof_semantics.specs.LratGrammar.{SignedNumber, signed_word, plain_word, SpelledItem, addition, deletion, item_words, spelled_item, literal_of, AreLiteralSizes, ArePositive, AreSpelled}
+use Rattle.proof_semantics.specs.LratGrammar.{token_words}
 
 -- tokens whose words spell items, and that give these items
 pub record Reads (ts : List Token) : Type 0 where
@@ -69,7 +70,8 @@ Sound (Hints id literals hints) ts = Hinted id literals hints ts
 Sound (Deletion acc) ts = Removed acc ts
 Sound (Refused refusal) ts = ⊥
 
-took : (st next : Stage) (t : Token) (ts : List Token) (w : LratWord) (items : List LogItem) → token_word t.bytes ≡ w → stage_after st w t.place ≡ next → item_given st w ≡ items → items_given st (t ∷ ts) ≡ items ++ items_given next ts
+took : (st next : Stage) (t : Token) (ts : List Token) (w : LratWord) (items : List LogItem) → token_word t.bytes ≡ w → stage_after st w t.place ≡ next → item_given st w ≡ items
+    → items_given st (t ∷ ts) ≡ items ++ items_given next ts
 took st next t ts w items h s g =
     let m : stage_after st (token_word t.bytes) t.place ≡ next = ap (λ (u : LratWord). stage_after st u t.place) h ∙ s in
     ap (λ (xs : List LogItem). xs ++ items_given (stage_after st (token_word t.bytes) t.place) ts) (ap (item_given st) h ∙ g) ∙ ap (λ (u : Stage). items ++ items_given u ts) m
@@ -85,7 +87,8 @@ positive_from : (n : ℕ) → (n == 0) ≡ false → 0 < n
 positive_from zero e = cc
 positive_from (suc n) e = omega arith
 
-hints_number : (id : ℕ) (literals : List ℤ) (acc : List ℕ) (t : Token) (ts : List Token) (negative : Bool) (size : ℕ) → token_word t.bytes ≡ Number negative size → (b : Bool) → (size == 0) ≡ b → Sound (if b then Outside else (if negative then Refused (Negative id) else Hints id literals (acc ++ size ∷ []))) ts → Hinted id literals acc (t ∷ ts)
+hints_number : (id : ℕ) (literals : List ℤ) (acc : List ℕ) (t : Token) (ts : List Token) (negative : Bool) (size : ℕ) → token_word t.bytes ≡ Number negative size → (b : Bool) → (size == 0) ≡ b
+    → Sound (if b then Outside else (if negative then Refused (Negative id) else Hints id literals (acc ++ size ∷ []))) ts → Hinted id literals acc (t ∷ ts)
 hints_number id literals acc t ts negative size h true b r =
     let st : Stage = Hints id literals acc in
     let k : Number negative size ≡ Number negative 0 = ap (λ n. Number negative n) (zero_from size b) in
@@ -112,7 +115,8 @@ hints_number id literals acc t ts false size h false b r =
       items_are = took st next t ts (Number false size) [] h (rw b refl) (rw b refl) ∙ r.items_are ∙ rw (append_assoc acc (size ∷ []) r.hints) refl;
     }
 
-ids_number : (acc : List ℕ) (t : Token) (ts : List Token) (negative : Bool) (size : ℕ) → token_word t.bytes ≡ Number negative size → (b : Bool) → (size == 0) ≡ b → Sound (if b then Outside else (if negative then bad_number t.place else Deletion (acc ++ size ∷ []))) ts → Removed acc (t ∷ ts)
+ids_number : (acc : List ℕ) (t : Token) (ts : List Token) (negative : Bool) (size : ℕ) → token_word t.bytes ≡ Number negative size → (b : Bool) → (size == 0) ≡ b
+    → Sound (if b then Outside else (if negative then bad_number t.place else Deletion (acc ++ size ∷ []))) ts → Removed acc (t ∷ ts)
 ids_number acc t ts negative size h true b r =
     let k : Number negative size ≡ Number negative 0 = ap (λ n. Number negative n) (zero_from size b) in
     record {
@@ -137,7 +141,9 @@ ids_number acc t ts false size h false b r =
     }
 
 -- a number after the literals so far, from a stage that takes it as they do
-literals_number : (st : Stage) (id : ℕ) (acc : List ℤ) (t : Token) (ts : List Token) (negative : Bool) (size : ℕ) → token_word t.bytes ≡ Number negative size → stage_after st (Number negative size) t.place ≡ after_literals id acc (Number negative size) t.place → item_given st (Number negative size) ≡ [] → (b l : Bool) → (size == 0) ≡ b → nat_lt size (2 ^ 31) ≡ l → Sound (if b then Hints id acc [] else (if l then Literals id (acc ++ signed negative size ∷ []) else bad_number t.place)) ts → Added st id acc (t ∷ ts)
+literals_number : (st : Stage) (id : ℕ) (acc : List ℤ) (t : Token) (ts : List Token) (negative : Bool) (size : ℕ) → token_word t.bytes ≡ Number negative size
+    → stage_after st (Number negative size) t.place ≡ after_literals id acc (Number negative size) t.place → item_given st (Number negative size) ≡ [] → (b l : Bool) → (size == 0) ≡ b
+    → nat_lt size (2 ^ 31) ≡ l → Sound (if b then Hints id acc [] else (if l then Literals id (acc ++ signed negative size ∷ []) else bad_number t.place)) ts → Added st id acc (t ∷ ts)
 literals_number st id acc t ts negative size h s g true l b m r =
     let k : Number negative size ≡ Number negative 0 = ap (λ n. Number negative n) (zero_from size b) in
     record {
@@ -168,7 +174,8 @@ literals_number st id acc t ts negative size h s g false true b m r =
       items_are = took st (Literals id (acc ++ v ∷ [])) t ts (Number negative size) [] h (s ∙ rw (b, m) refl) g ∙ r.items_are ∙ rw (append_assoc acc (v ∷ []) (map literal_of r.literals)) refl;
     }
 
-begun_number : (id : ℕ) (t : Token) (ts : List Token) (negative : Bool) (size : ℕ) → token_word t.bytes ≡ Number negative size → (c : Bool) → (id == 0) ≡ c → Sound (if c then bad_number t.place else after_literals id [] (Number negative size) t.place) ts → (0 < id) × Added (Begun id) id [] (t ∷ ts)
+begun_number : (id : ℕ) (t : Token) (ts : List Token) (negative : Bool) (size : ℕ) → token_word t.bytes ≡ Number negative size → (c : Bool) → (id == 0) ≡ c
+    → Sound (if c then bad_number t.place else after_literals id [] (Number negative size) t.place) ts → (0 < id) × Added (Begun id) id [] (t ∷ ts)
 begun_number id t ts negative size h true c r = absurd r
 begun_number id t ts negative size h false c r = (positive_from id c, literals_number (Begun id) id [] t ts negative size h (rw c refl) refl (size == 0) (nat_lt size (2 ^ 31)) refl refl r)
 
@@ -182,21 +189,27 @@ outside_deleted negative size t ts h b r =
     record {
       items = deletion lead r.ids r.last_end ∷ r.items;
       are_spelled = ((b, r.positive), r.later);
-      words_are = said t ts (Number negative size) _ h r.words_are ∙ sym (ap (λ (ws : List LratWord). signed_word lead ∷ (Letter ∷ ws)) (append_assoc (map plain_word r.ids) (Number r.last_end 0 ∷ []) (later_words r.items)));
+      words_are = said t ts (Number negative size) _ h r.words_are ∙ sym
+          (ap (λ (ws : List LratWord). signed_word lead ∷ (Letter ∷ ws)) (append_assoc (map plain_word r.ids) (Number r.last_end 0 ∷ []) (later_words r.items)));
       items_are = took Outside (Begun size) t ts (Number negative size) [] h (rw b refl) refl ∙ r.items_are;
     }
 
-outside_added : (negative : Bool) (size : ℕ) (t : Token) (ts : List Token) → token_word t.bytes ≡ Number negative size → (negative && nat_lt 0 size) ≡ false → 0 < size → Added (Begun size) size [] ts → Reads (t ∷ ts)
+outside_added : (negative : Bool) (size : ℕ) (t : Token) (ts : List Token) → token_word t.bytes ≡ Number negative size → (negative && nat_lt 0 size) ≡ false → 0 < size → Added (Begun size) size [] ts
+    → Reads (t ∷ ts)
 outside_added true size t ts h b p r = let f = lt-ltb 0 size p in cc
 outside_added false size t ts h b p r =
     record {
       items = addition size r.literals r.first_end r.hints r.last_end ∷ r.items;
       are_spelled = ((p, r.sizes, r.positive), r.later);
-      words_are = said t ts (Number false size) _ h r.words_are ∙ sym (ap (λ (ws : List LratWord). Number false size ∷ ws) (append_assoc (map signed_word r.literals) (Number r.first_end 0 ∷ (map plain_word r.hints ++ Number r.last_end 0 ∷ [])) (later_words r.items) ∙ ap (λ (ws : List LratWord). map signed_word r.literals ++ (Number r.first_end 0 ∷ ws)) (append_assoc (map plain_word r.hints) (Number r.last_end 0 ∷ []) (later_words r.items))));
+      words_are = said t ts (Number false size) _ h r.words_are ∙ sym
+          (ap (λ (ws : List LratWord). Number false size ∷ ws)
+          (append_assoc (map signed_word r.literals) (Number r.first_end 0 ∷ (map plain_word r.hints ++ Number r.last_end 0 ∷ [])) (later_words r.items) ∙ ap
+          (λ (ws : List LratWord). map signed_word r.literals ++ (Number r.first_end 0 ∷ ws)) (append_assoc (map plain_word r.hints) (Number r.last_end 0 ∷ []) (later_words r.items))));
       items_are = took Outside (Begun size) t ts (Number false size) [] h refl refl ∙ r.items_are;
     }
 
-outside_number : (negative : Bool) (size : ℕ) (t : Token) (ts : List Token) → token_word t.bytes ≡ Number negative size → (b : Bool) → (negative && nat_lt 0 size) ≡ b → Sound (if b then bad_number t.place else Begun size) ts → Reads (t ∷ ts)
+outside_number : (negative : Bool) (size : ℕ) (t : Token) (ts : List Token) → token_word t.bytes ≡ Number negative size → (b : Bool) → (negative && nat_lt 0 size) ≡ b
+    → Sound (if b then bad_number t.place else Begun size) ts → Reads (t ∷ ts)
 outside_number negative size t ts h true b r = absurd r
 outside_number negative size t ts h false b (inl r) = outside_deleted negative size t ts h b r
 outside_number negative size t ts h false b (inr r) = outside_added negative size t ts h b r.0 r.1

@@ -74,7 +74,8 @@ told_at_end (Literals id literals) refusal h e = inl cc
 told_at_end (Hints id literals hints) refusal h e = inl cc
 told_at_end (Deletion ids) refusal h e = inl cc
 
-refusal_from : (end : Option LratRefusal) (items : List LogItem) (refusal : LratRefusal) → (elim end as (λ _. Result (List LogItem) LratRefusal) [ None ↦ Ok items | Some r ↦ Err r ]) ≡ Err refusal → end ≡ Some refusal
+refusal_from : (end : Option LratRefusal) (items : List LogItem) (refusal : LratRefusal) → (elim end as (λ _. Result (List LogItem) LratRefusal) [ None ↦ Ok items | Some r ↦ Err r ]) ≡ Err refusal
+    → end ≡ Some refusal
 refusal_from None items refusal h = cc
 refusal_from (Some other) items refusal h = cc
 

@@ -18,7 +18,8 @@ use Rattle.proof_semantics.specs.Logs.{StepValue, LogItem}
 use Rattle.proof_semantics.specs.Lrat.{addition_line, removal_line, item_line, greatest_with, log_lines, lrat_text}
 use Rattle.proof_semantics.specs.LratTokens.{is_blank, is_log_byte, Token, token_at, ended, ended_tokens, digits_word, token_word}
 use Rattle.proof_semantics.specs.LratReading.{with_end}
-use Rattle.proof_semantics.specs.LratGrammar.{SignedNumber, signed_word, plain_word, literal_of, SpelledItem, addition, deletion, item_words, spelled_item, AreLiteralSizes, ArePositive, IsSpelled, AreSpelled, token_words}
+use Rattle.proof_semantics.specs.LratGrammar.{SignedNumber, signed_word, plain_word, literal_of, SpelledItem, addition, deletion, item_words, spelled_item, AreLiteralSizes, ArePositive, IsSpelled}
+use Rattle.proof_semantics.specs.LratGrammar.{AreSpelled, token_words}
 use Rattle.proof_semantics.specs.LratLaws.{Spells, IsId, IsWritable, RoundTripLaw}
 use Rattle.proof_semantics.proofs.LratTexts.{grammar_law}
 

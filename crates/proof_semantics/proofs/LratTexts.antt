@@ -87,11 +87,13 @@ good_from_outside text h false b =
     let parts = outside_parts (stage_after_all Outside (ended_tokens (good_part text))) (length (good_part text)) (length text) h in
     absurd (false≢true (sym parts.1 ∙ lt-ltb (length (good_part text)) (length text) (good_short text b)))
 
-pub items_from : (end : Option LratRefusal) (items log : List LogItem) → (elim end as (λ _. Result (List LogItem) LratRefusal) [ None ↦ Ok items | Some refusal ↦ Err refusal ]) ≡ Ok log → (end ≡ None) × (log ≡ items)
+pub items_from : (end : Option LratRefusal) (items log : List LogItem) → (elim end as (λ _. Result (List LogItem) LratRefusal) [ None ↦ Ok items | Some refusal ↦ Err refusal ]) ≡ Ok log
+    → (end ≡ None) × (log ≡ items)
 items_from None items log h = (refl, cc)
 items_from (Some refusal) items log h = cc
 
-pub items_at_end : (end : Option LratRefusal) (items log : List LogItem) → end ≡ None → items ≡ log → (elim end as (λ _. Result (List LogItem) LratRefusal) [ None ↦ Ok items | Some refusal ↦ Err refusal ]) ≡ Ok log
+pub items_at_end : (end : Option LratRefusal) (items log : List LogItem) → end ≡ None → items ≡ log
+    → (elim end as (λ _. Result (List LogItem) LratRefusal) [ None ↦ Ok items | Some refusal ↦ Err refusal ]) ≡ Ok log
 items_at_end None items log e same = ap (λ xs. Ok xs) same
 items_at_end (Some refusal) items log e same = cc
 

@@ -7,7 +7,8 @@ use Rattle.semantics.specs.declared.metric.Metric.{Metric}
 use Rattle.semantics.specs.Error.{net_error, IsWithin}
 use Rattle.quality_semantics.specs.Quality.{quality}
 use Rattle.quality_semantics.specs.Joint.{approximate_signal, quality_signal, joint_net, AreComparable}
-use Rattle.quality_semantics.proofs.Joint.{joint_inputs, joint_outputs, joint_acyclic, joint_exact, joint_approximate, joint_output as output_tells, outputs_are, quality_below, approximate_below, length-both_copies, whole_length}
+use Rattle.quality_semantics.proofs.Joint.{joint_inputs, joint_outputs, joint_acyclic, joint_exact, joint_approximate, joint_output as output_tells, outputs_are, quality_below, approximate_below}
+use Rattle.quality_semantics.proofs.Joint.{length-both_copies, whole_length}
 use Rattle.quality_semantics.proofs.Quality.{quality_output}
 use Rattle.proof_semantics.specs.Clauses.{Satisfies, IsUnsatisfiable}
 use Rattle.proof_semantics.specs.NetClauses.{goal_clauses}

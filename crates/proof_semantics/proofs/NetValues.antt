@@ -1,5 +1,6 @@
 -- The clauses of a net are satisfied exactly where each variable has the value of what it stands for.
-use Rattle.std.proofs.Common.{◌≡◌, ℕ, zero, suc, ◌+◌, ◌-◌, ◌<◌, ◌≤◌, Bool, true, false, ◌&&◌, ◌||◌, List, [], ◌∷◌, length, get_or, map, refl, ap, subst, sym, ◌∙◌, inl, inr, arith, sum_by, length-append}
+use Rattle.std.proofs.Common.{◌≡◌, ℕ, zero, suc, ◌+◌, ◌-◌, ◌<◌, ◌≤◌, Bool, true, false, ◌&&◌, ◌||◌, List, [], ◌∷◌, length, get_or, map, refl, ap, subst, sym, ◌∙◌, inl, inr, arith, sum_by}
+use Rattle.std.proofs.Common.{length-append}
 use Rattle.std.specs.List.{AllByRecursion}
 use Rattle.std.proofs.Math.ListN.{length-map}
 use Rattle.std.proofs.lemmas.List.{get_or-map}
@@ -163,7 +164,8 @@ goal_clauses-value n tables signal a =
     list_all-append (clause_value a) (net_clauses n tables) ((literal_at signal true ∷ []) ∷ [])
     ∙ ap (λ b. clauses_value a (net_clauses n tables) && b) (and_end (a (suc signal) || false) ∙ or_false (a (suc signal)))
 
-pub at_signal : (n : ℕ) (tables : List TableValue) (x : List Bool) (a : Assignment) (signal : ℕ) → signal < n + length tables → HasPlaceValues n tables x a → a (suc signal) ≡ value_of n tables x signal
+pub at_signal : (n : ℕ) (tables : List TableValue) (x : List Bool) (a : Assignment) (signal : ℕ) → signal < n + length tables → HasPlaceValues n tables x a
+    → a (suc signal) ≡ value_of n tables x signal
 at_signal n tables x a signal within v = rw (lt-ltb signal (n + length tables) within) at (v signal (omega arith))
 
 goal_vector : (n : ℕ) (tables : List TableValue) (signal : ℕ) → IsAcyclic n tables → signal < n + length tables → (a : Assignment) → clauses_value a (goal_clauses n tables signal) ≡ true

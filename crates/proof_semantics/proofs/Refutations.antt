@@ -13,7 +13,8 @@ use Rattle.semantics.specs.Value.{Assignment}
 use Rattle.proof_semantics.specs.declared.item.Item.TheVariants.{Add, Remove}
 use Rattle.proof_semantics.specs.Clauses.{Clause, literal_value, clause_value, Satisfies, IsUnsatisfiable}
 use Rattle.proof_semantics.specs.NetClauses.{goal_clauses}
-use Rattle.proof_semantics.specs.Logs.{Held, LiteralSet, with_negations, is_false_in, open_literals, EndsInConflict, Derives, step_answer, StepValue, LogItem, removed_from, IsSoundFrom, IsSoundLog, last_added_after, last_added, held_from, held_of, Refutes}
+use Rattle.proof_semantics.specs.Logs.{Held, LiteralSet, with_negations, is_false_in, open_literals, EndsInConflict, Derives, step_answer, StepValue, LogItem, removed_from, IsSoundFrom, IsSoundLog}
+use Rattle.proof_semantics.specs.Logs.{last_added_after, last_added, held_from, held_of, Refutes}
 use Rattle.proof_semantics.specs.Laws.{AllHeldTrue, RefutationLaw}
 use Rattle.proof_semantics.proofs.TruthValues.{or_false}
 use Rattle.proof_semantics.proofs.Hints.{accepted-from, conflict-from}
@@ -74,7 +75,8 @@ none-fails a q e = let none = contains-empty int_cmp q in cc
 
 pub derives_sound : (a : Assignment) (held : Held) (s : StepValue) → AllHeldTrue a held
     → Derives held s → clause_value a s.literals ≡ true
-derives_sound a held s all d = true_from_ne_false _ (λ fails. no_conflict a (get held) all s.hints (with_negations literals.empty s.literals) (negations-fail a s.literals literals.empty (none-fails a) fails) d)
+derives_sound a held s all d = true_from_ne_false _
+    (λ fails. no_conflict a (get held) all s.hints (with_negations literals.empty s.literals) (negations-fail a s.literals literals.empty (none-fails a) fails) d)
 
 AllHeldTrue-insert : (a : Assignment) (held : Held) (id : ℕ) (clause : Clause) → AllHeldTrue a held → clause_value a clause ≡ true → AllHeldTrue a (insert held id clause)
 AllHeldTrue-insert a held id clause h k q c e = at_test (eq_by_cmp nat_cmp q id) (sym (get-insert nat_cmp_total held id clause q) ∙ e) where
@@ -109,7 +111,8 @@ sound-true a (Add s ∷ log) held last before h k sound clause e =
 sound-true a (Remove ids ∷ log) held last before h k sound clause e =
     sound-true a log (removed_from held ids) last before (AllHeldTrue-removed_from a ids held h) k sound clause e
 
-pub added_true : (a : Assignment) (formula : List Clause) (log : List LogItem) (clause : Clause) → Satisfies a formula → IsSoundLog formula log → last_added log ≡ Some clause → clause_value a clause ≡ true
+pub added_true : (a : Assignment) (formula : List Clause) (log : List LogItem) (clause : Clause) → Satisfies a formula → IsSoundLog formula log → last_added log ≡ Some clause
+    → clause_value a clause ≡ true
 added_true a formula log clause all sound e =
     let start : AllHeldTrue a empty = λ id clause e. let none = get-empty {X = Clause} nat_cmp id in cc in
     let held = AllHeldTrue-from a formula empty 1 start all in

@@ -12,7 +12,8 @@ use Rattle.semantics.specs.Value.{Assignment, row_matches, table_value}
 use Rattle.proof_semantics.specs.Clauses.{Clause, literal_value, clause_value, clauses_value, has_literal, with_literals}
 use Rattle.proof_semantics.specs.NetClauses.{literal_at, literals_of_row, implication, row_clauses, rows_clauses, implications, variables_from, table_clauses}
 use Rattle.proof_semantics.proofs.Agreement.{AgreesFrom}
-use Rattle.proof_semantics.proofs.TruthValues.{or_assoc, or_end, or_here, or_there, each_then, some_then, not_and, not_not_and, not_not, same_from, if_same, only_same, signed, value_from_signed, signed_from_value, and_end, or_false, or_true, or_swap}
+use Rattle.proof_semantics.proofs.TruthValues.{or_assoc, or_end, or_here, or_there, each_then, some_then, not_and, not_not_and, not_not, same_from, if_same, only_same, signed, value_from_signed}
+use Rattle.proof_semantics.proofs.TruthValues.{signed_from_value, and_end, or_false, or_true, or_swap}
 
 -- a literal that stands in a clause already adds nothing to it
 has_literal-value : (a : Assignment) (l : ℤ) (clause : Clause) → has_literal clause l ≡ true → (clause_value a clause || literal_value a l) ≡ clause_value a clause

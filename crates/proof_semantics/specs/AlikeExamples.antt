@@ -6,11 +6,14 @@ use Rattle.semantics.specs.Examples.{half_adder}
 use Rattle.proof_semantics.specs.Examples.{table}
 use Rattle.proof_semantics.specs.Alike.{IsAlike, IsFirstAlike}
 
--- two half adders over the same two inputs, and an inverter behind each of their sums: the sums are the signals 2 and 4, the carries 3 and 5
+-- two half adders over the same two inputs, and an inverter behind each of their sums: the sums are the
+-- signals 2 and 4, the carries 3 and 5
 abbrev pub two_half_adders : List TableValue
-two_half_adders = half_adder.tables ++ half_adder.tables ++ table (2 ∷ []) ((Zero ∷ []) ∷ []) ∷ table (4 ∷ []) ((Zero ∷ []) ∷ []) ∷ []
+two_half_adders = half_adder.tables ++ half_adder.tables ++ table (2 ∷ []) ((Zero ∷ []) ∷ [])
+    ∷ table (4 ∷ []) ((Zero ∷ []) ∷ []) ∷ []
 
--- the first input without the second, from signal 2 on; then with plane 0, with the pins exchanged, and with the marks exchanged
+-- the first input without the second, from signal 2 on; then with plane 0, with the pins exchanged, and with
+-- the marks exchanged
 abbrev pub one_gate : List TableValue
 one_gate =
     table (0 ∷ 1 ∷ []) ((One ∷ Zero ∷ []) ∷ [])

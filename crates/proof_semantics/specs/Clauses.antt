@@ -1,6 +1,7 @@
--- Literals, clauses, and the assignments that satisfy them. Source: DIMACS: variables are numbered from 1, a literal is a
--- variable's number or its negative, and 0 is no literal.
-use Rattle.std.specs.Prelude.{◌≡◌, ℕ, zero, suc, ◌≤◌, Bool, true, false, not, if◌then◌else◌, List, [], ◌∷◌, ◌++◌, ℤ, pos, negsuc, nat_abs, All}
+-- Literals, clauses, and the assignments that satisfy them. Source: DIMACS: variables are numbered from 1, a
+-- literal is a variable's number or its negative, and 0 is no literal.
+use Rattle.std.specs.Prelude.{◌≡◌, ℕ, zero, suc, ◌≤◌, Bool, true, false, not, if◌then◌else◌, List, [], ◌∷◌}
+use Rattle.std.specs.Prelude.{◌++◌, ℤ, pos, negsuc, nat_abs, All}
 use Rattle.std.specs.List.{list_any, list_all}
 use Rattle.std.specs.Ordering.{int_eq}
 use Rattle.semantics.specs.Value.{Assignment}
@@ -44,4 +45,5 @@ has_literal clause l = list_any (λ other. int_eq other l) clause
 -- the literals behind the clause, without those that the clause has already
 abbrev pub with_literals : Clause → List ℤ → Clause
 with_literals clause [] = clause
-with_literals clause (l ∷ literals) = with_literals (if has_literal clause l then clause else clause ++ l ∷ []) literals
+with_literals clause (l ∷ literals)
+    = with_literals (if has_literal clause l then clause else clause ++ l ∷ []) literals

@@ -2,7 +2,8 @@
 -- already; and which number of conflicts is enough for the inputs of a net. Source: clause learning by first
 -- unique implication points after complete propagation, whose clauses are such; nothing here speaks of
 -- decisions, levels or watches.
-use Rattle.std.specs.Prelude.{◌≡◌, ◌⊎◌, ℕ, ◌+◌, ◌^◌, ◌<◌, ◌≤◌, List, [], ◌∷◌, ◌++◌, take, length, slice_index_or, ℤ, neg_ℤ, All}
+use Rattle.std.specs.Prelude.{◌≡◌, ◌⊎◌, ℕ, ◌+◌, ◌^◌, ◌<◌, ◌≤◌, List, [], ◌∷◌, ◌++◌, take, length}
+use Rattle.std.specs.Prelude.{slice_index_or, ℤ, neg_ℤ, All}
 use Rattle.std.specs.List.{Contains}
 use Rattle.semantics.specs.declared.limits.TheConstants.{FEW_INPUTS, TRIED_INPUTS}
 use Rattle.proof_semantics.specs.declared.item.Item.TheVariants.{Add, Remove}
@@ -38,7 +39,8 @@ clauses_with formula log = formula ++ added_clauses log
 pub record IsConflictChain (f : Formula) (merged conflicts : ℕ) (log : List LogItem) : Type 0 where
   pub derivation : IsDerivation f log
   pub count : length log ≡ merged + conflicts
-  pub new : (k : ℕ) → merged ≤ k → k < merged + conflicts → IsNew (f.clauses ++ take k (added_clauses log)) (clause_at (added_clauses log) k)
+  pub new : (k : ℕ) → merged ≤ k → k < merged + conflicts
+      → IsNew (f.clauses ++ take k (added_clauses log)) (clause_at (added_clauses log) k)
 
 -- `limit` conflicts are enough for `inputs` inputs: the inputs are few, or there are two conflicts for each
 -- input vector

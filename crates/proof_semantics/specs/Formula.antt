@@ -1,4 +1,5 @@
--- Formulas and their text. Source: DIMACS, as this tool writes it: no comment line, single blanks, each line ended by LF.
+-- Formulas and their text. Source: DIMACS, as this tool writes it: no comment line, single blanks, each line
+-- ended by LF.
 use Rattle.std.specs.Prelude.{ℕ, List, [], ◌∷◌, ◌++◌, map, length, slice_index_or, codes}
 use Rattle.std.specs.Fmt.{decimal, signed_decimal}
 use Rattle.semantics.specs.Texts.{Bytes, Line, text_of}

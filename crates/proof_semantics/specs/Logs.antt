@@ -1,12 +1,16 @@
--- Logs of steps, when a step derives its clause, and when a log refutes a formula. Source: LRAT with positive hints.
-use Rattle.std.specs.Prelude.{◌≡◌, ℕ, suc, ◌+◌, ◌^◌, ◌<◌, Bool, true, false, not, if◌then◌else◌, List, [], ◌∷◌, filter, length, ℤ, neg_ℤ, nat_le, Option, None, Some, Result, Ok, Err, ⊤, All}
+-- Logs of steps, when a step derives its clause, and when a log refutes a formula. Source: LRAT with positive
+-- hints.
+use Rattle.std.specs.Prelude.{◌≡◌, ℕ, suc, ◌+◌, ◌^◌, ◌<◌, Bool, true, false, not, if◌then◌else◌, List, []}
+use Rattle.std.specs.Prelude.{◌∷◌, filter, length, ℤ, neg_ℤ, nat_le, Option, None, Some, Result, Ok, Err, ⊤}
+use Rattle.std.specs.Prelude.{All}
 use Rattle.std.specs.Ordering.{nat_cmp, int_cmp}
 use Rattle.std.specs.FinSet as literals
 use Rattle.std.specs.FinMap.{FinMap, get, insert, remove, empty}
 use Rattle.proof_semantics.specs.declared.item.Item.{Item}
 use Rattle.proof_semantics.specs.declared.item.Item.TheVariants.{Add, Remove}
 use Rattle.proof_semantics.specs.declared.step_refusal.StepRefusal.{StepRefusal}
-use Rattle.proof_semantics.specs.declared.step_refusal.StepRefusal.TheVariants.{NotRising, UnknownId, NotUnit, NoConflict}
+use Rattle.proof_semantics.specs.declared.step_refusal.StepRefusal.TheVariants.{NotRising, UnknownId}
+use Rattle.proof_semantics.specs.declared.step_refusal.StepRefusal.TheVariants.{NotUnit, NoConflict}
 use Rattle.proof_semantics.specs.Clauses.{Clause, IsLiteralOf, with_literals}
 use Rattle.proof_semantics.specs.Formula.{Formula}
 
@@ -40,13 +44,15 @@ is_false_in set l = literals.contains set (neg_ℤ l)
 abbrev pub open_literals : LiteralSet → Clause → List ℤ
 open_literals set clause = with_literals [] (filter (λ l. not (is_false_in set l)) clause)
 
--- Unit propagation along the hints ends in a conflict: each hint before the last has one open literal, which joins the set,
--- and the last has none.
+-- Unit propagation along the hints ends in a conflict: each hint before the last has one open literal, which
+-- joins the set, and the last has none.
 abbrev pub EndsInConflict : (ℕ → Option Clause) → LiteralSet → List ℕ → Type 0
 EndsInConflict held set [] = ⊥
-EndsInConflict held set (hint ∷ []) = (clause : Clause) × (held hint ≡ Some clause) × (open_literals set clause ≡ [])
+EndsInConflict held set (hint ∷ []) = (clause : Clause) × (held hint ≡ Some clause)
+    × (open_literals set clause ≡ [])
 EndsInConflict held set (hint ∷ next ∷ hints) =
-    (clause : Clause) × (l : ℤ) × (held hint ≡ Some clause) × (open_literals set clause ≡ l ∷ []) × EndsInConflict held (literals.insert set l) (next ∷ hints)
+    (clause : Clause) × (l : ℤ) × (held hint ≡ Some clause) × (open_literals set clause ≡ l ∷ [])
+    × EndsInConflict held (literals.insert set l) (next ∷ hints)
 
 -- the step's clause follows from what is held
 abbrev pub Derives : Held → StepValue → Type 0
@@ -81,7 +87,8 @@ hints_answer held set (hint ∷ hints) = elim (held_answer set hint (is_empty hi
 -- whether a step is accepted behind the id `last`, or the first reason why not
 abbrev pub step_answer : Held → ℕ → StepValue → Result ⊤ StepRefusal
 step_answer held last s =
-    if nat_le s.id last then Err (NotRising s.id) else hints_answer (get held) (with_negations literals.empty s.literals) s.hints
+    if nat_le s.id last then Err (NotRising s.id)
+    else hints_answer (get held) (with_negations literals.empty s.literals) s.hints
 
 -- these ids are no longer held; an id that is not held means nothing
 abbrev pub removed_from : Held → List ℕ → Held
@@ -91,7 +98,8 @@ removed_from held (id ∷ ids) = removed_from (remove held id) ids
 -- ids rise, and each addition derives from what is held at its place
 abbrev pub IsSoundFrom : Held → ℕ → List LogItem → Type 0
 IsSoundFrom held last [] = Unit {0}
-IsSoundFrom held last (Add s ∷ log) = (last < s.id) × Derives held s × IsSoundFrom (insert held s.id s.literals) s.id log
+IsSoundFrom held last (Add s ∷ log) = (last < s.id) × Derives held s
+    × IsSoundFrom (insert held s.id s.literals) s.id log
 IsSoundFrom held last (Remove ids ∷ log) = IsSoundFrom (removed_from held ids) last log
 
 -- the clauses are held from the id `next` on
@@ -122,7 +130,8 @@ pub record Refutes (formula : List Clause) (log : List LogItem) : Type 0 where
 -- additions alone, with the ids after `last` in turn, each of literals of the first `variables` variables
 abbrev pub AddsInTurn : ℕ → ℕ → List LogItem → Type 0
 AddsInTurn variables last [] = Unit {0}
-AddsInTurn variables last (Add s ∷ log) = (s.id ≡ last + 1) × All (IsLiteralOf variables) s.literals × AddsInTurn variables s.id log
+AddsInTurn variables last (Add s ∷ log) = (s.id ≡ last + 1) × All (IsLiteralOf variables) s.literals
+    × AddsInTurn variables s.id log
 AddsInTurn variables last (Remove ids ∷ log) = ⊥
 
 pub record IsDerivation (f : Formula) (log : List LogItem) : Type 0 where

@@ -7,7 +7,8 @@ use Rattle.proof_semantics.specs.Logs.{StepValue, LogItem}
 
 -- the id, the literals, `0`, the hints and `0`
 abbrev pub addition_line : StepValue → Line
-addition_line s = decimal s.id ∷ (map signed_decimal s.literals ++ codes "0" ∷ (map decimal s.hints ++ codes "0" ∷ []))
+addition_line s = decimal s.id
+    ∷ (map signed_decimal s.literals ++ codes "0" ∷ (map decimal s.hints ++ codes "0" ∷ []))
 
 -- the greatest id of the additions before, `d`, the ids and `0`
 abbrev pub removal_line : ℕ → List ℕ → Line

@@ -1,7 +1,8 @@
 -- Worked examples of reading logs, computed from the definitions.
 use Rattle.std.specs.Prelude.{◌≡◌, ℕ, List, [], ◌∷◌, ◌++◌, codes, pos, Some, None, Ok, Err}
 use Rattle.proof_semantics.specs.declared.item.Item.TheVariants.{Add, Remove}
-use Rattle.proof_semantics.specs.declared.lrat_refusal.LratRefusal.TheVariants.{BadByte, BadNumber, Negative, Cut}
+use Rattle.proof_semantics.specs.declared.lrat_refusal.LratRefusal.TheVariants.{BadByte, BadNumber, Negative}
+use Rattle.proof_semantics.specs.declared.lrat_refusal.LratRefusal.TheVariants.{Cut}
 use Rattle.proof_semantics.specs.Logs.{LogItem}
 use Rattle.proof_semantics.specs.LratReading.{whole_items, lrat_refusal, lrat_items}
 use Rattle.semantics.specs.Examples.{minus}
@@ -15,13 +16,15 @@ pub record LratReadingExamples : Type 0 where
   pub no_text : lrat_items [] ≡ Ok []
   pub addition : lrat_items (codes "4 0 1 2 3 0") ≡ Ok (empty_clause 4 (1 ∷ 2 ∷ 3 ∷ []) ∷ [])
   pub no_hints : lrat_items (codes "4 0 0") ≡ Ok (empty_clause 4 [] ∷ [])
-  pub deletion : lrat_items (codes "3 d 1 0 4 0 1 2 3 0") ≡ Ok (Remove (1 ∷ []) ∷ empty_clause 4 (1 ∷ 2 ∷ 3 ∷ []) ∷ [])
+  pub deletion : lrat_items (codes "3 d 1 0 4 0 1 2 3 0")
+      ≡ Ok (Remove (1 ∷ []) ∷ empty_clause 4 (1 ∷ 2 ∷ 3 ∷ []) ∷ [])
   pub deletion_of_none : lrat_items (codes "5 d 0") ≡ Ok (Remove [] ∷ [])
   pub deletion_from_zero : lrat_items (codes "-0 d 7 0") ≡ Ok (Remove (7 ∷ []) ∷ [])
   -- blanks of each kind, leading zeros, zeros with a minus
   pub spelling : lrat_items (9 ∷ codes "007  -3 002147483647 -0" ++ 13 ∷ 10 ∷ codes "05 -0" ++ 10 ∷ 10 ∷ [])
       ≡ Ok (Add (step 7 (minus 3 ∷ pos 2147483647 ∷ []) (5 ∷ [])) ∷ [])
-  pub greatest : lrat_items (codes "9223372036854775807 0 9223372036854775807 0") ≡ Ok (empty_clause 9223372036854775807 (9223372036854775807 ∷ []) ∷ [])
+  pub greatest : lrat_items (codes "9223372036854775807 0 9223372036854775807 0")
+      ≡ Ok (empty_clause 9223372036854775807 (9223372036854775807 ∷ []) ∷ [])
   pub negative : lrat_items (codes "4 0 -1 2 0") ≡ Err (Negative 4)
   pub cut : lrat_items (codes "4 0 1 2") ≡ Err Cut
   pub bad_byte : lrat_items (codes "4 0 1 x 0") ≡ Err (BadByte 6)

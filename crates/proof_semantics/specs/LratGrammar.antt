@@ -15,7 +15,8 @@ pub record SignedNumber : Type 0 where
 
 -- an item as it may be spelled: a zero may have a minus, as may the 0 that begins a deletion
 pub data SpelledItem : Type 0 where
-  addition : (id : ℕ) → (literals : List SignedNumber) → (first_end : Bool) → (hints : List ℕ) → (last_end : Bool) → SpelledItem
+  addition : (id : ℕ) → (literals : List SignedNumber) → (first_end : Bool) → (hints : List ℕ)
+      → (last_end : Bool) → SpelledItem
   deletion : (lead : SignedNumber) → (ids : List ℕ) → (last_end : Bool) → SpelledItem
 
 abbrev pub signed_word : SignedNumber → LratWord
@@ -26,15 +27,18 @@ plain_word n = Number false n
 
 abbrev pub item_words : SpelledItem → List LratWord
 item_words (addition id literals first_end hints last_end) =
-    plain_word id ∷ (map signed_word literals ++ (Number first_end 0 ∷ (map plain_word hints ++ Number last_end 0 ∷ [])))
-item_words (deletion lead ids last_end) = signed_word lead ∷ (Letter ∷ (map plain_word ids ++ Number last_end 0 ∷ []))
+    plain_word id ∷ (map signed_word literals
+    ++ (Number first_end 0 ∷ (map plain_word hints ++ Number last_end 0 ∷ [])))
+item_words (deletion lead ids last_end)
+    = signed_word lead ∷ (Letter ∷ (map plain_word ids ++ Number last_end 0 ∷ []))
 
 abbrev pub literal_of : SignedNumber → ℤ
 literal_of x = signed x.negative x.size
 
 -- what a spelled item says; the number that begins a deletion means nothing
 abbrev pub spelled_item : SpelledItem → LogItem
-spelled_item (addition id literals first_end hints last_end) = Add (record { id = id; literals = map literal_of literals; hints = hints })
+spelled_item (addition id literals first_end hints last_end)
+    = Add (record { id = id; literals = map literal_of literals; hints = hints })
 spelled_item (deletion lead ids last_end) = Remove ids
 
 abbrev pub AreLiteralSizes : List SignedNumber → Type 0
@@ -46,7 +50,8 @@ ArePositive [] = Unit {0}
 ArePositive (n ∷ ns) = (0 < n) × ArePositive ns
 
 abbrev pub IsSpelled : SpelledItem → Type 0
-IsSpelled (addition id literals first_end hints last_end) = (0 < id) × AreLiteralSizes literals × ArePositive hints
+IsSpelled (addition id literals first_end hints last_end) = (0 < id) × AreLiteralSizes literals
+    × ArePositive hints
 IsSpelled (deletion lead ids last_end) = ((lead.negative && nat_lt 0 lead.size) ≡ false) × ArePositive ids
 
 abbrev pub AreSpelled : List SpelledItem → Type 0

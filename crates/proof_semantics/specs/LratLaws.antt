@@ -1,10 +1,12 @@
 -- The laws about reading logs, each the contract of a function without parameters.
-use Rattle.std.specs.Prelude.{◌≡◌, ℕ, ◌^◌, ◌<◌, true, List, ◌++◌, map, flat_map, All, Some, None, Ok, Err, ◌⊎◌}
+use Rattle.std.specs.Prelude.{◌≡◌, ℕ, ◌^◌, ◌<◌, true, List, ◌++◌, map, flat_map, All, Some, None, Ok, Err}
+use Rattle.std.specs.Prelude.{◌⊎◌}
 use Rattle.std.specs.List.{list_all}
 use Rattle.semantics.specs.Texts.{Bytes}
 use Rattle.proof_semantics.specs.declared.item.Item.TheVariants.{Add, Remove}
 use Rattle.proof_semantics.specs.declared.lrat_refusal.LratRefusal.{LratRefusal}
-use Rattle.proof_semantics.specs.declared.lrat_refusal.LratRefusal.TheVariants.{BadByte, BadNumber, Negative, Cut, OutOfMemory}
+use Rattle.proof_semantics.specs.declared.lrat_refusal.LratRefusal.TheVariants.{BadByte, BadNumber, Negative}
+use Rattle.proof_semantics.specs.declared.lrat_refusal.LratRefusal.TheVariants.{Cut, OutOfMemory}
 use Rattle.proof_semantics.specs.Clauses.{IsLiteralOf}
 use Rattle.proof_semantics.specs.Formula.{Formula}
 use Rattle.proof_semantics.specs.Logs.{LogItem, IsDerivation}
@@ -22,14 +24,17 @@ pub record Spells (text : Bytes) (items : List SpelledItem) : Type 0 where
 
 -- a text that spells items is read as their log, and no other text is read
 pub record GrammarLaw : Type 0 where
-  pub accepted : (text : Bytes) (items : List SpelledItem) → Spells text items → lrat_items text ≡ Ok (map spelled_item items)
-  pub only : (text : Bytes) (log : List LogItem) → lrat_items text ≡ Ok log → (items : List SpelledItem) × Spells text items × (log ≡ map spelled_item items)
+  pub accepted : (text : Bytes) (items : List SpelledItem) → Spells text items
+      → lrat_items text ≡ Ok (map spelled_item items)
+  pub only : (text : Bytes) (log : List LogItem) → lrat_items text ≡ Ok log
+      → (items : List SpelledItem) × Spells text items × (log ≡ map spelled_item items)
 
 -- However a text goes on, what is whole in it stays whole and in its place, and a refusal stays. So where a
 -- longer text is read to its end, no part with which it begins is refused, and each such part has the first
 -- of its items.
 pub record GrowthLaw : Type 0 where
-  pub items : (text more : Bytes) → (later : List LogItem) × (whole_items (text ++ more) ≡ whole_items text ++ later)
+  pub items : (text more : Bytes)
+      → (later : List LogItem) × (whole_items (text ++ more) ≡ whole_items text ++ later)
   pub refused : (text more : Bytes) (refusal : LratRefusal) → lrat_refusal text ≡ Some refusal
       → (lrat_refusal (text ++ more) ≡ Some refusal) × (whole_items (text ++ more) ≡ whole_items text)
   pub read : (text more : Bytes) (log : List LogItem) → lrat_items (text ++ more) ≡ Ok log
@@ -45,8 +50,10 @@ IsWithinText OutOfMemory = ⊥
 
 -- `Cut` is told at the end alone, and `OutOfMemory` by no definition
 pub record LratRefusalLaw : Type 0 where
-  pub within : (text : Bytes) (refusal : LratRefusal) → lrat_refusal text ≡ Some refusal → IsWithinText refusal
-  pub at_end : (text : Bytes) (refusal : LratRefusal) → lrat_items text ≡ Err refusal → (refusal ≡ Cut) ⊎ IsWithinText refusal
+  pub within : (text : Bytes) (refusal : LratRefusal) → lrat_refusal text ≡ Some refusal
+      → IsWithinText refusal
+  pub at_end : (text : Bytes) (refusal : LratRefusal) → lrat_items text ≡ Err refusal
+      → (refusal ≡ Cut) ⊎ IsWithinText refusal
 
 abbrev pub IsId : ℕ → Type 0
 IsId n = (0 < n) × (n < 2 ^ 63)
@@ -62,4 +69,5 @@ RoundTripLaw = (log : List LogItem) → All IsWritable log → lrat_items (lrat_
 
 -- the text of a derivation over fewer than 2 ^ 31 variables is read as that derivation
 abbrev pub DerivationTextLaw : Type 0
-DerivationTextLaw = (f : Formula) (log : List LogItem) → f.variables < 2 ^ 31 → IsDerivation f log → lrat_items (lrat_text log) ≡ Ok log
+DerivationTextLaw = (f : Formula) (log : List LogItem) → f.variables < 2 ^ 31 → IsDerivation f log
+    → lrat_items (lrat_text log) ≡ Ok log

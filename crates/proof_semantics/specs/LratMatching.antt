@@ -1,6 +1,7 @@
--- The grammar of logs, token by token; the laws say which lists of tokens it accepts. Source: LRAT: an addition is an id, literals, 0, hints, 0;
--- a deletion is a number, the letter d, ids, 0.
-use Rattle.std.specs.Prelude.{ℕ, ℤ, pos, neg_ℤ, ◌^◌, Bool, false, ◌&&◌, ◌==◌, List, [], ◌∷◌, ◌++◌, nat_lt, if◌then◌else◌}
+-- The grammar of logs, token by token; the laws say which lists of tokens it accepts. Source: LRAT: an
+-- addition is an id, literals, 0, hints, 0; a deletion is a number, the letter d, ids, 0.
+use Rattle.std.specs.Prelude.{ℕ, ℤ, pos, neg_ℤ, ◌^◌, Bool, false, ◌&&◌, ◌==◌, List, [], ◌∷◌, ◌++◌, nat_lt}
+use Rattle.std.specs.Prelude.{if◌then◌else◌}
 use Rattle.proof_semantics.specs.declared.item.Item.TheVariants.{Add, Remove}
 use Rattle.proof_semantics.specs.declared.lrat_refusal.LratRefusal.{LratRefusal}
 use Rattle.proof_semantics.specs.declared.lrat_refusal.LratRefusal.TheVariants.{BadNumber, Negative}
@@ -29,14 +30,16 @@ bad_number place = Refused (BadNumber place)
 
 -- an item begins with a number that is not negative; `-0` is 0
 abbrev pub after_outside : LratWord → ℕ → Stage
-after_outside (Number negative size) place = if negative && nat_lt 0 size then bad_number place else Begun size
+after_outside (Number negative size) place
+    = if negative && nat_lt 0 size then bad_number place else Begun size
 after_outside _ place = bad_number place
 
 -- a literal is below 2 ^ 31 in size
 abbrev pub after_literals : ℕ → Clause → LratWord → ℕ → Stage
 after_literals id literals (Number negative size) place =
     if size == 0 then Hints id literals []
-    else (if nat_lt size (2 ^ 31) then Literals id (literals ++ signed negative size ∷ []) else bad_number place)
+    else (if nat_lt size (2 ^ 31) then Literals id (literals ++ signed negative size ∷ [])
+    else bad_number place)
 after_literals id literals _ place = bad_number place
 
 -- behind 0 only the letter d has a place, since the id of an addition is positive
@@ -71,7 +74,8 @@ is_zero _ = false
 
 -- the item that ends with the token
 abbrev pub item_given : Stage → LratWord → List LogItem
-item_given (Hints id literals hints) word = if is_zero word then Add (record { id = id; literals = literals; hints = hints }) ∷ [] else []
+item_given (Hints id literals hints) word
+    = if is_zero word then Add (record { id = id; literals = literals; hints = hints }) ∷ [] else []
 item_given (Deletion ids) word = if is_zero word then Remove ids ∷ [] else []
 item_given _ word = []
 
@@ -82,4 +86,6 @@ stage_after_all stage (t ∷ tokens) = stage_after_all (stage_after stage (token
 
 abbrev pub items_given : Stage → List Token → List LogItem
 items_given stage [] = []
-items_given stage (t ∷ tokens) = item_given stage (token_word t.bytes) ++ items_given (stage_after stage (token_word t.bytes) t.place) tokens
+items_given stage (t ∷ tokens)
+    = item_given stage (token_word t.bytes)
+    ++ items_given (stage_after stage (token_word t.bytes) t.place) tokens

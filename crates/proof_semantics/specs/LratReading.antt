@@ -1,6 +1,7 @@
--- What a log's text says: the items that are whole in it, the refusal that is decided first, and the log of a text that is read to its end.
--- Source: LRAT, as this tool reads it.
-use Rattle.std.specs.Prelude.{ℕ, Bool, true, false, List, [], ◌∷◌, ◌++◌, length, nat_lt, Option, Some, None, Result, Ok, Err, if◌then◌else◌}
+-- What a log's text says: the items that are whole in it, the refusal that is decided first, and the log of a
+-- text that is read to its end. Source: LRAT, as this tool reads it.
+use Rattle.std.specs.Prelude.{ℕ, Bool, true, false, List, [], ◌∷◌, ◌++◌, length, nat_lt, Option, Some, None}
+use Rattle.std.specs.Prelude.{Result, Ok, Err, if◌then◌else◌}
 use Rattle.std.specs.List.{take_while}
 use Rattle.semantics.specs.Texts.{Bytes}
 use Rattle.proof_semantics.specs.declared.lrat_refusal.LratRefusal.{LratRefusal}
@@ -24,11 +25,13 @@ is_refused _ = false
 -- A token is decided where it ends, and a bad byte at its own place: a token before a bad byte may be refused
 -- first, but not the token in which the bad byte stands.
 abbrev pub stage_with_byte : Stage → ℕ → ℕ → Stage
-stage_with_byte stage bad size = if is_refused stage then stage else (if nat_lt bad size then Refused (BadByte bad) else stage)
+stage_with_byte stage bad size
+    = if is_refused stage then stage else (if nat_lt bad size then Refused (BadByte bad) else stage)
 
 -- the stage at the end of the text
 unfoldable pub stage_of : Bytes → Stage
-stage_of text = stage_with_byte (stage_after_all Outside (ended_tokens (good_part text))) (length (good_part text)) (length text)
+stage_of text = stage_with_byte (stage_after_all Outside (ended_tokens (good_part text)))
+    (length (good_part text)) (length text)
 
 abbrev pub refusal_at : Stage → Option LratRefusal
 refusal_at (Refused refusal) = Some refusal
@@ -53,4 +56,5 @@ lrat_end_refusal text = refusal_at_end (stage_of (with_end text))
 
 -- the log of a text that is read to its end, or the refusal that is decided first
 abbrev pub lrat_items : Bytes → Result (List LogItem) LratRefusal
-lrat_items text = elim (lrat_end_refusal text) [ None ↦ Ok (whole_items (with_end text)) | Some refusal ↦ Err refusal ]
+lrat_items text = elim (lrat_end_refusal text)
+    [ None ↦ Ok (whole_items (with_end text)) | Some refusal ↦ Err refusal ]

@@ -1,6 +1,8 @@
--- The tokens of a log's text. Source: LRAT: a token is a run of bytes between blanks, and is the letter d or a number. As this tool reads it,
--- blanks are space, tab, CR and LF, a number may have leading zeros, and its size is below 2 ^ 63.
-use Rattle.std.specs.Prelude.{ℕ, ◌+◌, ◌^◌, Bool, true, false, ◌==◌, ◌||◌, List, [], ◌∷◌, ◌++◌, length, nat_lt, if◌then◌else◌}
+-- The tokens of a log's text. Source: LRAT: a token is a run of bytes between blanks, and is the letter d or
+-- a number. As this tool reads it, blanks are space, tab, CR and LF, a number may have leading zeros, and its
+-- size is below 2 ^ 63.
+use Rattle.std.specs.Prelude.{ℕ, ◌+◌, ◌^◌, Bool, true, false, ◌==◌, ◌||◌, List, [], ◌∷◌, ◌++◌, length}
+use Rattle.std.specs.Prelude.{nat_lt, if◌then◌else◌}
 use Rattle.std.specs.List.{list_all, slice_split}
 use Rattle.semantics.specs.Texts.{Bytes}
 use Rattle.semantics.specs.Decimal.{is_digit, digits_number}
@@ -40,7 +42,8 @@ number_word negative size = if nat_lt size (2 ^ 63) then Number negative size el
 -- digits behind a minus, or without one
 abbrev pub digits_word : Bool → Bytes → LratWord
 digits_word negative [] = Malformed
-digits_word negative (c ∷ cs) = if list_all is_digit (c ∷ cs) then number_word negative (digits_number (c ∷ cs)) else Malformed
+digits_word negative (c ∷ cs)
+    = if list_all is_digit (c ∷ cs) then number_word negative (digits_number (c ∷ cs)) else Malformed
 
 -- what follows the letter d
 abbrev pub letter_word : Bytes → LratWord
@@ -50,4 +53,5 @@ letter_word (c ∷ cs) = Malformed
 -- what a token is, going by its bytes
 abbrev pub token_word : Bytes → LratWord
 token_word [] = Malformed
-token_word (c ∷ cs) = if c == 100 then letter_word cs else (if c == 45 then digits_word true cs else digits_word false (c ∷ cs))
+token_word (c ∷ cs) = if c == 100 then letter_word cs
+    else (if c == 45 then digits_word true cs else digits_word false (c ∷ cs))

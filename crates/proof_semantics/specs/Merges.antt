@@ -1,4 +1,5 @@
--- Logs that make alike tables of a net equal before a search. Source: structural merges, as in SAT sweeping, here as steps of a log.
+-- Logs that make alike tables of a net equal before a search. Source: structural merges, as in SAT sweeping,
+-- here as steps of a log.
 use Rattle.std.specs.Prelude.{◌≡◌, ◌≢◌, ℕ, true, false, List, [], ◌∷◌, take, ℤ, nat_abs, All, Contains}
 use Rattle.semantics.specs.Net.{NetValue, input_count}
 use Rattle.proof_semantics.specs.Alike.{IsFirstAlike}

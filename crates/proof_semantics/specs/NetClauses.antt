@@ -1,7 +1,8 @@
--- The clauses of a net: each row is the conjunction of its literals, and each table, or its negation where its plane is 0, the
--- disjunction of its rows. Source: Tseitin's encoding.
--- Variable k + 1 belongs to place k. Signal s stands at place s; behind the signals stand the rows of all tables, in order.
-use Rattle.std.specs.Prelude.{ℕ, zero, suc, ◌+◌, Bool, true, false, not, List, [], ◌∷◌, ◌++◌, map, length, ℤ, pos, negsuc, neg_ℤ}
+-- The clauses of a net: each row is the conjunction of its literals, and each table, or its negation where
+-- its plane is 0, the disjunction of its rows. Source: Tseitin's encoding. Variable k + 1 belongs to place k.
+-- Signal s stands at place s; behind the signals stand the rows of all tables, in order.
+use Rattle.std.specs.Prelude.{ℕ, zero, suc, ◌+◌, Bool, true, false, not, List, [], ◌∷◌, ◌++◌, map, length, ℤ}
+use Rattle.std.specs.Prelude.{pos, negsuc, neg_ℤ}
 use Rattle.semantics.specs.declared.mark.Mark.{Mark}
 use Rattle.semantics.specs.declared.mark.Mark.TheVariants.{Zero, One, Dash}
 use Rattle.semantics.specs.Net.{TableValue}
@@ -31,12 +32,14 @@ implication place l = literal_at place false ∷ l ∷ []
 -- The row at this place is the conjunction of the literals. Of all clauses only the last one of a row can
 -- have a literal twice, where a pin stands twice.
 abbrev pub row_clauses : ℕ → List ℤ → List Clause
-row_clauses place literals = map (implication place) literals ++ with_literals (literal_at place true ∷ []) (map neg_ℤ literals) ∷ []
+row_clauses place literals
+    = map (implication place) literals ++ with_literals (literal_at place true ∷ []) (map neg_ℤ literals) ∷ []
 
 -- the rows stand from this place on
 abbrev pub rows_clauses : ℕ → List ℕ → List (List Mark) → List Clause
 rows_clauses first pins [] = []
-rows_clauses first pins (marks ∷ rows) = row_clauses first (literals_of_row marks pins) ++ rows_clauses (suc first) pins rows
+rows_clauses first pins (marks ∷ rows)
+    = row_clauses first (literals_of_row marks pins) ++ rows_clauses (suc first) pins rows
 
 -- each of `count` rows, from the place `first` on, implies the literal
 abbrev pub implications : ℕ → ℕ → ℤ → List Clause
@@ -57,7 +60,8 @@ table_clauses place first t =
 
 abbrev pub tables_clauses : ℕ → ℕ → List TableValue → List Clause
 tables_clauses place first [] = []
-tables_clauses place first (t ∷ tables) = table_clauses place first t ++ tables_clauses (suc place) (first + length t.rows) tables
+tables_clauses place first (t ∷ tables)
+    = table_clauses place first t ++ tables_clauses (suc place) (first + length t.rows) tables
 
 -- the clauses of the tables over n inputs
 unfoldable pub net_clauses : ℕ → List TableValue → List Clause

@@ -17,7 +17,8 @@ use Rattle.proof_semantics.specs.Merges.{IsMergeLog, BeginsWithMerges}
 pub record IsOver (metric : Metric) (exact approx : NetValue) (k : ℕ) (x : List Bool) : Type 0 where
   pub width : length x ≡ input_count exact
   pub exceeds : k < net_error metric exact approx x
-  pub first : input_count exact ≤ FEW_INPUTS → (y : List Bool) → length y ≡ input_count exact → number_of y < number_of x → net_error metric exact approx y ≤ k
+  pub first : input_count exact ≤ FEW_INPUTS → (y : List Bool) → length y ≡ input_count exact
+      → number_of y < number_of x → net_error metric exact approx y ≤ k
 
 -- The log refutes the miter, so no input's error exceeds the level. Where the inputs are too many to be
 -- answered by all cases, the log begins with the merges of the joint net.
@@ -44,14 +45,17 @@ pub record IsSpentQuery (metric : Metric) (exact : NetValue) (limit : ℕ) (s : 
 
 -- The greatest error over all inputs, an input that has this error, and a log that refutes the miter at this
 -- error; with few inputs the input is the first such input in counting order.
-pub record IsMaximum (metric : Metric) (exact approx : NetValue) (most : ℕ) (witness : List Bool) (log : List LogItem) : Type 0 where
+pub record IsMaximum (metric : Metric) (exact approx : NetValue) (most : ℕ) (witness : List Bool)
+    (log : List LogItem) : Type 0 where
   pub width : length witness ≡ input_count exact
   pub attained : net_error metric exact approx witness ≡ most
   pub never : IsNever metric exact approx most log
-  pub first : input_count exact ≤ FEW_INPUTS → IsFirstGreatestAt (input_count exact) (net_error metric exact approx) most witness
+  pub first : input_count exact ≤ FEW_INPUTS
+      → IsFirstGreatestAt (input_count exact) (net_error metric exact approx) most witness
 
 -- the search for the greatest error was spent at a level within the bound
-pub record IsSpentLevel (metric : Metric) (exact approx : NetValue) (bound limit : ℕ) (s : SpentValue) : Type 0 where
+pub record IsSpentLevel (metric : Metric) (exact approx : NetValue) (bound limit : ℕ)
+    (s : SpentValue) : Type 0 where
   pub query : IsSpentQuery metric exact limit s
   pub net : s.net ≡ approx
   pub level : s.k ≤ bound

@@ -15,6 +15,9 @@ pub record QueryExamples : Type 0 where
   pub too_short : ¬ IsOver Abs half_adder constant_sum 0 (true ∷ [])
   pub few_inputs : (s : SpentValue) → ¬ IsSpentQuery Abs half_adder 1 s
   pub greatest : IsFirstGreatestAt 2 (net_error Abs half_adder constant_sum) 1 (true ∷ false ∷ [])
-  pub not_the_first_greatest : (log : List LogItem) → ¬ IsMaximum Abs half_adder constant_sum 1 (false ∷ true ∷ []) log
-  pub maximum_too_low : (log : List LogItem) → ¬ IsMaximum Abs half_adder constant_sum 0 (false ∷ false ∷ []) log
-  pub maximum_too_high : (log : List LogItem) → ¬ IsMaximum Abs half_adder constant_sum 2 (true ∷ false ∷ []) log
+  pub not_the_first_greatest : (log : List LogItem)
+      → ¬ IsMaximum Abs half_adder constant_sum 1 (false ∷ true ∷ []) log
+  pub maximum_too_low : (log : List LogItem)
+      → ¬ IsMaximum Abs half_adder constant_sum 0 (false ∷ false ∷ []) log
+  pub maximum_too_high : (log : List LogItem)
+      → ¬ IsMaximum Abs half_adder constant_sum 2 (true ∷ false ∷ []) log

@@ -1,5 +1,6 @@
 -- What the variables of a net's clauses stand for, and how many variables and clauses there are.
-use Rattle.std.specs.Prelude.{◌≡◌, ℕ, zero, suc, ◌+◌, ◌-◌, ◌<◌, Bool, false, if◌then◌else◌, List, [], ◌∷◌, ◌++◌, map, length, sum_by, slice_index_or, nat_lt}
+use Rattle.std.specs.Prelude.{◌≡◌, ℕ, zero, suc, ◌+◌, ◌-◌, ◌<◌, Bool, false, if◌then◌else◌, List, [], ◌∷◌}
+use Rattle.std.specs.Prelude.{◌++◌, map, length, sum_by, slice_index_or, nat_lt}
 use Rattle.semantics.specs.Net.{TableValue, row_literals}
 use Rattle.semantics.specs.Value.{Assignment, row_matches, value_of}
 use Rattle.proof_semantics.specs.Clauses.{Satisfies}
@@ -9,7 +10,8 @@ use Rattle.proof_semantics.specs.NetClauses.{net_clauses}
 abbrev pub variable_count : ℕ → List TableValue → ℕ
 variable_count n tables = n + length tables + sum_by (λ t. length t.rows) tables
 
--- each row has a clause for each literal and one more; each row implies its table's value, and one clause goes back
+-- each row has a clause for each literal and one more; each row implies its table's value, and one clause
+-- goes back
 abbrev pub table_clause_count : TableValue → ℕ
 table_clause_count t = sum_by (λ marks. row_literals marks + 1) t.rows + length t.rows + 1
 

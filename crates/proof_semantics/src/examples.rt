@@ -1,5 +1,6 @@
 //! Worked examples of the definitions, computed by the checker: each function's contract is its examples.
-ghost use Rattle.proof_semantics.specs.Examples.{ClauseExamples, DimacsExamples, LogExamples, LratExamples, MiterExamples};
+ghost use Rattle.proof_semantics.specs.Examples.{ClauseExamples, DimacsExamples, LogExamples, LratExamples};
+ghost use Rattle.proof_semantics.specs.Examples.{MiterExamples};
 
 /// The clauses of small nets.
 pub fn clauses()

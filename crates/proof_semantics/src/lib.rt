@@ -1,5 +1,5 @@
-//! Clauses of nets, logs that refute them, their texts, and the laws about them. It has no code but enums that
-//! definitions and code share.
+//! Clauses of nets, logs that refute them, their texts, and the laws about them. It has no code but enums
+//! that definitions and code share.
 #![tactic(auto)]
 
 pub mod alike_examples;

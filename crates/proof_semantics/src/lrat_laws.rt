@@ -1,5 +1,6 @@
 //! The laws about reading logs: each function's contract is a law.
-ghost use Rattle.proof_semantics.specs.LratLaws.{DerivationTextLaw, GrammarLaw, GrowthLaw, LratRefusalLaw, RoundTripLaw};
+ghost use Rattle.proof_semantics.specs.LratLaws.{DerivationTextLaw, GrammarLaw, GrowthLaw, LratRefusalLaw};
+ghost use Rattle.proof_semantics.specs.LratLaws.{RoundTripLaw};
 
 /// Which texts are logs, and of which items.
 pub fn grammar()

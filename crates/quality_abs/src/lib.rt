@@ -1,4 +1,5 @@
-//! The quality networks of the absolute error, of unsigned and of signed words. Source: SALSA's quality function circuit.
+//! The quality networks of the absolute error, of unsigned and of signed words. Source: SALSA's quality
+//! function circuit.
 #![tactic(auto)]
 
 ghost use Rattle.std.specs.Prelude.{◌≡◌, ◌+◌, ◌-◌, ◌^◌, ◌≤◌, ◌<◌, [], ◌∷◌, IfOk, OnOk};

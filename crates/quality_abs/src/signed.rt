@@ -1,4 +1,5 @@
-//! The quality network of the absolute error of two's complement words: turning over both signs makes signed order unsigned order.
+//! The quality network of the absolute error of two's complement words: turning over both signs makes signed
+//! order unsigned order.
 ghost use Rattle.std.specs.Prelude.{◌≡◌, ◌+◌, ◌-◌, ◌^◌, ◌≤◌, ◌<◌, [], ◌∷◌, IfOk, OnOk};
 ghost use Rattle.semantics.specs.declared.metric.Metric.TheVariants.{Sabs};
 ghost use Rattle.quality_semantics.specs.WordNets.{started, signals};

@@ -6,7 +6,8 @@ use Rattle.quality_semantics.specs.Buses.{differ, at_least}
 use Rattle.quality_semantics.specs.Quality.{exact_bus, approximate_bus, differing_excess, no_excess, quality}
 use Rattle.quality_semantics.proofs.Quality.{quality_zero, quality_excess}
 
-pub differing_from : (w k : ℕ) (W V : WordNetValue) (e a d : List ℕ) → W ≡ started (w + w) → e ≡ exact_bus w → a ≡ approximate_bus w → V ≡ (differ W e a).net → d ≡ (differ W e a).bus → at_least V d (k + 1) ≡ differing_excess w k
+pub differing_from : (w k : ℕ) (W V : WordNetValue) (e a d : List ℕ) → W ≡ started (w + w) → e ≡ exact_bus w → a ≡ approximate_bus w → V ≡ (differ W e a).net → d ≡ (differ W e a).bus
+    → at_least V d (k + 1) ≡ differing_excess w k
 differing_from w k W V e a d hW he ha hV hd = let next : k + 1 ≡ suc k = omega arith in rw (next, hd, hV, he, ha, hW) refl
 
 pub no_excess_from : (w k : ℕ) → w ≤ k → quality Ham w k ≡ no_excess w

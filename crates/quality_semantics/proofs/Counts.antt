@@ -1,5 +1,6 @@
 -- Counts of the bits that are 1.
-use Rattle.std.proofs.Common.{◌≡◌, ℕ, zero, suc, ◌+◌, ◌<◌, leb, replicate, count_by, cond, get_or, Bool, true, false, List, [], ◌∷◌, ◌||◌, ◌&&◌, length, map, add-zero, zero-add, refl, ap, sym, subst, ◌∙◌, arith}
+use Rattle.std.proofs.Common.{◌≡◌, ℕ, zero, suc, ◌+◌, ◌<◌, leb, replicate, count_by, cond, get_or, Bool, true, false, List, [], ◌∷◌, ◌||◌, ◌&&◌, length, map, add-zero, zero-add, refl, ap, sym, subst}
+use Rattle.std.proofs.Common.{◌∙◌, arith}
 use Rattle.std.proofs.lemmas.List.{length-replicate}
 use Rattle.std.proofs.lemmas.List.Sums.{sum_by-cons}
 use Rattle.std.proofs.lemmas.Bool.{lt-leb}
@@ -21,7 +22,8 @@ one_or_none false = refl
 count_more : (v : Assignment) (d : ℕ) (ds : List ℕ) → count_by v (d ∷ ds) ≡ bit_number (v d) + count_by v ds
 count_more v d ds = sum_by-cons (λ s. cond (v s) 1 0) d ds ∙ ap (λ n. n + count_by v ds) (one_or_none (v d))
 
-differences_count : (v : Assignment) (W : WordNetValue) (z : ℕ) (x y : List ℕ) → length x ≡ length y → Fits v (differences W (places z x y)).net → count_by v (differences W (places z x y)).bus ≡ differing (map v x) (map v y)
+differences_count : (v : Assignment) (W : WordNetValue) (z : ℕ) (x y : List ℕ) → length x ≡ length y → Fits v (differences W (places z x y)).net
+    → count_by v (differences W (places z x y)).bus ≡ differing (map v x) (map v y)
 differences_count v W z [] [] e h = refl
 differences_count v W z [] (b ∷ y) e h = absurd (omega arith)
 differences_count v W z (a ∷ x) [] e h = absurd (omega arith)
@@ -49,7 +51,8 @@ grow_step : (d : Bool) (j c : ℕ) → (leb (suc j) c || (d && leb j c)) ≡ leb
 grow_step true j c = grind (arith, nat_tests)
 grow_step false j c = grind (arith, nat_tests)
 
-growers_count : (v : Assignment) (W : WordNetValue) (d q j c : ℕ) (ps : List ℕ) → v q ≡ leb j c → IsCount v (suc j) c ps → Fits v (growers W d q ps).net → IsCount v (suc j) (c + bit_number (v d)) (growers W d q ps).bus
+growers_count : (v : Assignment) (W : WordNetValue) (d q j c : ℕ) (ps : List ℕ) → v q ≡ leb j c → IsCount v (suc j) c ps → Fits v (growers W d q ps).net
+    → IsCount v (suc j) (c + bit_number (v d)) (growers W d q ps).bus
 unfolding IsCount
 growers_count v W d q j c [] eq h g = tt
 growers_count v W d q j c (p ∷ ps) eq h g =

@@ -9,8 +9,10 @@ use Rattle.semantics.specs.declared.mark.Mark.TheVariants.{Zero, Dash}
 use Rattle.semantics.specs.Net.{TableValue, no_table, table_at}
 use Rattle.quality_semantics.specs.Forms.{Form, form, or2, xor2, xor3, maj, gt, grow, low}
 use Rattle.quality_semantics.specs.WordNets.{WordNetValue, signals, table_of, appended, started, AreSignalsOf, IsWordTable, IsWordNet}
-use Rattle.quality_semantics.specs.Buses.{WithBus, WithSignal, places, adders, add, comparators, greater, exceed, binary, constant, times_bits, times, not_zero_low, differences, differ, growers, count_rows, at_least}
-use Rattle.quality_semantics.proofs.Growth.{begins_signals, signals_kept, begins_appended, begins_adders, begins_add, begins_greater, begins_times, begins_differences, begins_growers, begins_count_rows, get_or_newest}
+use Rattle.quality_semantics.specs.Buses.{WithBus, WithSignal, places, adders, add, comparators, greater, exceed, binary, constant, times_bits, times, not_zero_low, differences, differ, growers}
+use Rattle.quality_semantics.specs.Buses.{count_rows, at_least}
+use Rattle.quality_semantics.proofs.Growth.{begins_signals, signals_kept, begins_appended, begins_adders, begins_add, begins_greater, begins_times, begins_differences, begins_growers}
+use Rattle.quality_semantics.proofs.Growth.{begins_count_rows, get_or_newest}
 use Rattle.quality_semantics.proofs.Counts.{length-count_rows}
 
 pub record HasBus (r : WithBus) : Type 0 where
@@ -34,7 +36,8 @@ started_tables n (suc (suc i)) h = absurd (omega arith)
 pub IsWordNet-started : (n : ℕ) → IsWordNet (started n)
 IsWordNet-started n = record { room = omega arith; in_order = λ i within. started_pins n _ i within; formed = started_tables n }
 
-pub IsWordNet-appended : (W : WordNetValue) (pins : List ℕ) (rows : List (List Mark)) → IsWordNet W → AreSignalsOf W pins → All (λ marks. length marks ≡ length pins) rows → IsWordNet (appended W (form pins rows))
+pub IsWordNet-appended : (W : WordNetValue) (pins : List ℕ) (rows : List (List Mark)) → IsWordNet W → AreSignalsOf W pins → All (λ marks. length marks ≡ length pins) rows
+    → IsWordNet (appended W (form pins rows))
 IsWordNet-appended W pins rows h pins_in widths =
     let newest : TableValue = table_of (length W.tables) (form pins rows) in
     record {
@@ -61,19 +64,24 @@ three_in : (n a b c : ℕ) → a < n → b < n → c < n → All (λ s. s < n) (
 three_in n a b c ha hb hc = All-from_recursion (λ s. s < n) (a ∷ b ∷ c ∷ []) (ha, (hb, (hc, tt)))
 
 IsWordNet-xor3 : (W : WordNetValue) (x y c : ℕ) → IsWordNet W → x < signals W → y < signals W → c < signals W → IsWordNet (appended W (xor3 x y c))
-IsWordNet-xor3 W x y c h hx hy hc = IsWordNet-appended W (xor3 x y c).pins (xor3 x y c).rows h (three_in _ x y c hx hy hc) (All-from_recursion (λ (marks : List Mark). length marks ≡ 3) (xor3 x y c).rows (refl, (refl, (refl, (refl, tt)))))
+IsWordNet-xor3 W x y c h hx hy hc = IsWordNet-appended W (xor3 x y c).pins (xor3 x y c).rows h (three_in _ x y c hx hy hc)
+    (All-from_recursion (λ (marks : List Mark). length marks ≡ 3) (xor3 x y c).rows (refl, (refl, (refl, (refl, tt)))))
 
 IsWordNet-maj : (W : WordNetValue) (x y c : ℕ) → IsWordNet W → x < signals W → y < signals W → c < signals W → IsWordNet (appended W (maj x y c))
-IsWordNet-maj W x y c h hx hy hc = IsWordNet-appended W (maj x y c).pins (maj x y c).rows h (three_in _ x y c hx hy hc) (All-from_recursion (λ (marks : List Mark). length marks ≡ 3) (maj x y c).rows (refl, (refl, (refl, tt))))
+IsWordNet-maj W x y c h hx hy hc = IsWordNet-appended W (maj x y c).pins (maj x y c).rows h (three_in _ x y c hx hy hc)
+    (All-from_recursion (λ (marks : List Mark). length marks ≡ 3) (maj x y c).rows (refl, (refl, (refl, tt))))
 
 IsWordNet-gt : (W : WordNetValue) (x y g : ℕ) → IsWordNet W → x < signals W → y < signals W → g < signals W → IsWordNet (appended W (gt x y g))
-IsWordNet-gt W x y g h hx hy hg = IsWordNet-appended W (gt x y g).pins (gt x y g).rows h (three_in _ x y g hx hy hg) (All-from_recursion (λ (marks : List Mark). length marks ≡ 3) (gt x y g).rows (refl, (refl, (refl, tt))))
+IsWordNet-gt W x y g h hx hy hg = IsWordNet-appended W (gt x y g).pins (gt x y g).rows h (three_in _ x y g hx hy hg)
+    (All-from_recursion (λ (marks : List Mark). length marks ≡ 3) (gt x y g).rows (refl, (refl, (refl, tt))))
 
 IsWordNet-grow : (W : WordNetValue) (p d q : ℕ) → IsWordNet W → p < signals W → d < signals W → q < signals W → IsWordNet (appended W (grow p d q))
-IsWordNet-grow W p d q h hp hd hq = IsWordNet-appended W (grow p d q).pins (grow p d q).rows h (three_in _ p d q hp hd hq) (All-from_recursion (λ (marks : List Mark). length marks ≡ 3) (grow p d q).rows (refl, (refl, tt)))
+IsWordNet-grow W p d q h hp hd hq = IsWordNet-appended W (grow p d q).pins (grow p d q).rows h (three_in _ p d q hp hd hq)
+    (All-from_recursion (λ (marks : List Mark). length marks ≡ 3) (grow p d q).rows (refl, (refl, tt)))
 
 IsWordNet-xor2 : (W : WordNetValue) (x y : ℕ) → IsWordNet W → x < signals W → y < signals W → IsWordNet (appended W (xor2 x y))
-IsWordNet-xor2 W x y h hx hy = IsWordNet-appended W (xor2 x y).pins (xor2 x y).rows h (two_in _ x y hx hy) (All-from_recursion (λ (marks : List Mark). length marks ≡ 2) (xor2 x y).rows (refl, (refl, tt)))
+IsWordNet-xor2 W x y h hx hy = IsWordNet-appended W (xor2 x y).pins (xor2 x y).rows h (two_in _ x y hx hy)
+    (All-from_recursion (λ (marks : List Mark). length marks ≡ 2) (xor2 x y).rows (refl, (refl, tt)))
 
 IsWordNet-or2 : (W : WordNetValue) (x y : ℕ) → IsWordNet W → x < signals W → y < signals W → IsWordNet (appended W (or2 x y))
 IsWordNet-or2 W x y h hx hy = IsWordNet-appended W (or2 x y).pins (or2 x y).rows h (two_in _ x y hx hy) (All-from_recursion (λ (marks : List Mark). length marks ≡ 2) (or2 x y).rows (refl, (refl, tt)))
@@ -175,7 +183,8 @@ times_bits_formed W x (false ∷ (d ∷ bits)) h hx =
 times_bits_formed W x (true ∷ (d ∷ bits)) h hx =
     let half = times_bits W x (d ∷ bits) in
     let rest = times_bits_formed W x (d ∷ bits) h hx in
-    add_formed half.net (half.net.inputs ∷ half.bus) x rest.net (All-cons (λ s. s < signals half.net) half.net.inputs half.bus (zero_below half.net rest.net) rest.bus) (signals_kept W half.net x (begins_times W x (d ∷ bits)) hx)
+    add_formed half.net (half.net.inputs ∷ half.bus) x rest.net (All-cons (λ s. s < signals half.net) half.net.inputs half.bus (zero_below half.net rest.net) rest.bus)
+    (signals_kept W half.net x (begins_times W x (d ∷ bits)) hx)
 
 pub times_formed : (W : WordNetValue) (x : List ℕ) (k : ℕ) → IsWordNet W → AreSignalsOf W x → HasBus (times W x k)
 times_formed W x k h hx = times_bits_formed W x (binary k) h hx
@@ -210,7 +219,8 @@ growers_formed W d q (p ∷ ps) h hd hq hps =
     let next = appended W (grow p d q) in
     let one = signals-appended W (grow p d q) in
     let hp : p < signals W = All-head (λ s. s < signals W) p ps hps in
-    let rest = growers_formed next d p ps (IsWordNet-grow W p d q h hp hd hq) (omega (arith, one, hd)) (omega (arith, one, hp)) (signals_kept W next ps (begins_appended W (grow p d q)) (All-tail (λ s. s < signals W) p ps hps)) in
+    let rest = growers_formed next d p ps (IsWordNet-grow W p d q h hp hd hq) (omega (arith, one, hd)) (omega (arith, one, hp))
+    (signals_kept W next ps (begins_appended W (grow p d q)) (All-tail (λ s. s < signals W) p ps hps)) in
     let last = growers next d p ps in
     let more = begins_signals next last.net (begins_growers next d p ps) in
     record { net = rest.net; bus = All-cons (λ s. s < signals last.net) (signals W) last.bus (omega (arith, one, more)) rest.bus }

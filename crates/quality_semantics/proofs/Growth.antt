@@ -89,7 +89,8 @@ begins_exceed W x y z =
     let t = add p.net x z in
     let q = greater t.net y t.bus in
     let last = begins_appended q.net (or2 p.signal q.signal) in
-    begins_after W s.net _ (begins_after s.net p.net _ (begins_after p.net t.net _ (begins_after t.net q.net _ last (begins_greater t.net y t.bus)) (begins_add p.net x z)) (begins_greater s.net x s.bus)) (begins_add W y z)
+    begins_after W s.net _ (begins_after s.net p.net _ (begins_after p.net t.net _ (begins_after t.net q.net _ last (begins_greater t.net y t.bus)) (begins_add p.net x z))
+    (begins_greater s.net x s.bus)) (begins_add W y z)
 
 pub begins_at_least : (W : WordNetValue) (ds : List ℕ) (k : ℕ) → BeginsWith (at_least W ds k).net W
 begins_at_least W ds k = begins_count_rows W (replicate k W.inputs) ds

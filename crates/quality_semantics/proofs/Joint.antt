@@ -41,7 +41,8 @@ table_at-copied_from i letter f (t ∷ tables) (suc j) within =
 pub table_at-copied : (letter : ℕ) (f : ℕ → ℕ) (tables : List TableValue) (j : ℕ) → j < length tables → table_at (copied letter f tables) j ≡ copy_of j letter f (table_at tables j)
 table_at-copied letter f tables j within = let place : 0 + j ≡ j = omega arith in table_at-copied_from 0 letter f tables j within ∙ ap (λ p. copy_of p letter f (table_at tables j)) place
 
-copied_behind : (m : ℕ) (before : List TableValue) (n letter : ℕ) (f : ℕ → ℕ) (tables : List TableValue) → ((s : ℕ) → s < n → f s < m + length before) → ((i : ℕ) → i < length tables → f (n + i) ≡ m + (length before + i)) → IsCopiedBehind m before n tables (copied letter f tables) f
+copied_behind : (m : ℕ) (before : List TableValue) (n letter : ℕ) (f : ℕ → ℕ) (tables : List TableValue) → ((s : ℕ) → s < n → f s < m + length before)
+    → ((i : ℕ) → i < length tables → f (n + i) ≡ m + (length before + i)) → IsCopiedBehind m before n tables (copied letter f tables) f
 copied_behind m before n letter f tables input table = record {
   count = length-copied letter f tables;
   input = input;
@@ -124,12 +125,14 @@ exact_alone N acyclic x s within =
     copied-values (input_count N) [] (input_count N) N.tables (exact_copies N) (λ p. p) (no_cycle_alone (input_count N)) acyclic (exact_copied N) x x
     (λ i low. sym ((value_law (input_count N) [] x (no_cycle_alone (input_count N))).consistent.input i low)) s within
 
-exact_values : (N : NetValue) (more : List TableValue) → IsAcyclic (input_count N) N.tables → IsAcyclic (input_count N) (exact_copies N ++ more) → (x : List Bool) (s : ℕ) → s < signal_count N → value_of (input_count N) (exact_copies N ++ more) x s ≡ value_of (input_count N) N.tables x s
+exact_values : (N : NetValue) (more : List TableValue) → IsAcyclic (input_count N) N.tables → IsAcyclic (input_count N) (exact_copies N ++ more) → (x : List Bool) (s : ℕ) → s < signal_count N
+    → value_of (input_count N) (exact_copies N ++ more) x s ≡ value_of (input_count N) N.tables x s
 exact_values N more acyclic whole x s within =
     appended-values (input_count N) (exact_copies N) more x (exact_acyclic N acyclic) whole s (omega (arith, within, length-copied 101 (λ p. p) N.tables))
     ∙ exact_alone N acyclic x s within
 
-approximate_alone : (N M : NetValue) → AreComparable N M → (x : List Bool) (s : ℕ) → s < signal_count M → value_of (input_count N) (both_copies N M) x (approximate_signal N s) ≡ value_of (input_count M) M.tables x s
+approximate_alone : (N M : NetValue) → AreComparable N M → (x : List Bool) (s : ℕ) → s < signal_count M
+    → value_of (input_count N) (both_copies N M) x (approximate_signal N s) ≡ value_of (input_count M) M.tables x s
 approximate_alone N M h x s within =
     let n : ℕ = input_count N in
     let before : IsAcyclic n (exact_copies N) = exact_acyclic N h.exact_sound.acyclic in
@@ -164,7 +167,8 @@ outputs_below N M h =
     let below : ℕ → Type 0 = λ s. s < input_count N + length (both_copies N M) in
     All-append below N.outputs (map (approximate_signal N) M.outputs)
     (All-weaker (λ s. s < signal_count N) below (λ s inside. omega (arith, inside, length-both_copies N M)) N.outputs h.exact_sound.outputs_are_signals)
-    (All-map below (approximate_signal N) M.outputs (All-weaker (λ s. s < signal_count M) (λ s. below (approximate_signal N s)) (approximate_below N M h.inputs) M.outputs h.approximate_sound.outputs_are_signals))
+    (All-map below (approximate_signal N) M.outputs (All-weaker (λ s. s < signal_count M) (λ s. below (approximate_signal N s)) (approximate_below N M h.inputs) M.outputs
+    h.approximate_sound.outputs_are_signals))
 
 length-both_outputs : (N M : NetValue) → length N.outputs ≡ length M.outputs → length (both_outputs N M) ≡ length N.outputs + length N.outputs
 length-both_outputs N M same = omega (arith, same, length-append N.outputs (map (approximate_signal N) M.outputs), length-map M.outputs (approximate_signal N))
@@ -181,7 +185,8 @@ outputs_values N M h x =
     map-append v N.outputs (map (approximate_signal N) M.outputs) ∙ rw (map-after v (approximate_signal N) M.outputs, first, second) refl
 
 -- where a signal of the quality network stands
-pub quality_below : (N M : NetValue) (metric : Metric) (k : ℕ) → AreComparable N M → (s : ℕ) → s < signals (quality metric (length N.outputs) k).net → quality_signal N M s < signal_count (joint_net N M metric k)
+pub quality_below : (N M : NetValue) (metric : Metric) (k : ℕ) → AreComparable N M → (s : ℕ) → s < signals (quality metric (length N.outputs) k).net
+    → quality_signal N M s < signal_count (joint_net N M metric k)
 quality_below N M metric k h s within = at_side (cases_lt s (w + w))
   where
     w : ℕ
@@ -228,7 +233,8 @@ pub joint_approximate : (N M : NetValue) (metric : Metric) (k : ℕ) → AreComp
     → value_of (input_count N) (joint_net N M metric k).tables x (approximate_signal N s) ≡ value_of (input_count M) M.tables x s
 joint_approximate N M metric k h x s within =
     rw (joint_tables N M metric k)
-    (appended-values (input_count N) (both_copies N M) (quality_copies N M metric k) x (both_acyclic N M h) (whole_acyclic N M metric k h) (approximate_signal N s) (approximate_below N M h.inputs s within)
+    (appended-values (input_count N) (both_copies N M) (quality_copies N M metric k) x (both_acyclic N M h) (whole_acyclic N M metric k h) (approximate_signal N s)
+    (approximate_below N M h.inputs s within)
     ∙ approximate_alone N M h x s within)
 
 pub joint_quality : (N M : NetValue) (metric : Metric) (k : ℕ) → AreComparable N M → (x : List Bool) (s : ℕ) → let Q = quality metric (length N.outputs) k in
@@ -252,7 +258,8 @@ length-outputs_of : (N : NetValue) (x : List Bool) → length (outputs_of N x) �
 unfolding outputs_of
 length-outputs_of N x = length-map N.outputs (value_of (input_count N) N.tables x)
 
-pub outputs_are : (N M : NetValue) (metric : Metric) (k : ℕ) (x : List Bool) → outputs_of (joint_net N M metric k) x ≡ value_of (input_count N) (joint_net N M metric k).tables x (quality_signal N M (quality metric (length N.outputs) k).signal) ∷ []
+pub outputs_are : (N M : NetValue) (metric : Metric) (k : ℕ) (x : List Bool)
+    → outputs_of (joint_net N M metric k) x ≡ value_of (input_count N) (joint_net N M metric k).tables x (quality_signal N M (quality metric (length N.outputs) k).signal) ∷ []
 unfolding outputs_of
 outputs_are N M metric k x =
     let J : NetValue = joint_net N M metric k in

@@ -14,7 +14,8 @@ use Rattle.quality_semantics.specs.Quality.{quality}
 use Rattle.quality_semantics.specs.Joint.{numbered_name, copied_from, copied, approximate_signal, quality_signal, joint_net, AreComparable}
 use Rattle.quality_semantics.proofs.Quality.{quality_formed, quality_output}
 use Rattle.semantics.proofs.NumberedNames.{IsName-numbered}
-use Rattle.quality_semantics.proofs.Joint.{length-copied, copy_of, table_at-copied, exact_copies, approximate_copies, quality_copies, both_copies, joint_tables, joint_inputs, joint_outputs, whole_length, length-both_copies, approximate_below, quality_below, joint_acyclic}
+use Rattle.quality_semantics.proofs.Joint.{length-copied, copy_of, table_at-copied, exact_copies, approximate_copies, quality_copies, both_copies, joint_tables, joint_inputs, joint_outputs}
+use Rattle.quality_semantics.proofs.Joint.{whole_length, length-both_copies, approximate_below, quality_below, joint_acyclic}
 
 -- ---- names
 
@@ -97,7 +98,13 @@ IsName-joint : IsName (codes "joint")
 IsName-joint = record {
   not_empty = omega arith;
   short = omega arith;
-  printable = All-from_recursion IsNameByte (codes "joint") ((omega arith, omega arith, omega arith), ((omega arith, omega arith, omega arith), ((omega arith, omega arith, omega arith), ((omega arith, omega arith, omega arith), ((omega arith, omega arith, omega arith), tt)))));
+  printable = All-from_recursion IsNameByte (codes "joint") (
+    (omega arith, omega arith, omega arith),
+    (
+      (omega arith, omega arith, omega arith),
+      ((omega arith, omega arith, omega arith), ((omega arith, omega arith, omega arith), ((omega arith, omega arith, omega arith), tt))),
+    ),
+  );
   ending = λ e. omega (arith, e);
 }
 
@@ -120,13 +127,15 @@ each_copy P letter f tables h i d within =
     let inside : i < length tables = omega (arith, within, length-copied letter f tables) in
     subst P (sym (get_or_default (copied letter f tables) i d no_table within ∙ table_at-copied letter f tables i inside)) (h i inside)
 
-copies_formed : (letter : ℕ) (f : ℕ → ℕ) (tables : List TableValue) → IsNameByte letter → length tables ≤ 2 ^ 31 → ((i : ℕ) → i < length tables → IsShaped (table_at tables i)) → All IsTable (copied letter f tables)
+copies_formed : (letter : ℕ) (f : ℕ → ℕ) (tables : List TableValue) → IsNameByte letter → length tables ≤ 2 ^ 31 → ((i : ℕ) → i < length tables → IsShaped (table_at tables i))
+    → All IsTable (copied letter f tables)
 copies_formed letter f tables byte few h = each_copy IsTable letter f tables (λ i within. copy_formed i letter f (table_at tables i) byte (omega (arith, within, few)) (h i within))
 
 abbrev ReadsBelow : ℕ → TableValue → Type 0
 ReadsBelow n t = All (λ s. s < n) t.pins
 
-copies_read : (letter : ℕ) (f : ℕ → ℕ) (tables : List TableValue) (n total : ℕ) → ((s : ℕ) → s < n → f s < total) → ((i : ℕ) → i < length tables → ReadsBelow n (table_at tables i)) → All (ReadsBelow total) (copied letter f tables)
+copies_read : (letter : ℕ) (f : ℕ → ℕ) (tables : List TableValue) (n total : ℕ) → ((s : ℕ) → s < n → f s < total) → ((i : ℕ) → i < length tables → ReadsBelow n (table_at tables i))
+    → All (ReadsBelow total) (copied letter f tables)
 copies_read letter f tables n total below h =
     each_copy (ReadsBelow total) letter f tables
     (λ i within. All-map (λ s. s < total) f (table_at tables i).pins (All-weaker (λ s. s < n) (λ s. f s < total) below (table_at tables i).pins (h i within)))
@@ -184,10 +193,12 @@ joint_sound N M metric k h few =
     let last = length-copied 113 (quality_signal N M) Q.net.tables in
     record {
       model_named = joint_model N M metric k;
-      inputs_named = rw (joint_input_names N M metric k) (each_name IsName 120 (input_count N) (λ i within. IsName-numbered 120 i (omega arith, omega arith, λ e. omega (arith, e)) (omega (arith, within, few, total))));
+      inputs_named = rw (joint_input_names N M metric k)
+          (each_name IsName 120 (input_count N) (λ i within. IsName-numbered 120 i (omega arith, omega arith, λ e. omega (arith, e)) (omega (arith, within, few, total))));
       tables_formed = joint_formed N M metric k h few;
       names_differ = rw (joint_names N M metric k)
-          (four_differ (input_count N) (table_count N) (table_count M) (length Q.net.tables) (omega (arith, few, total)) (omega (arith, few, total, both)) (omega (arith, few, total, both)) (omega (arith, few, total, last)));
+          (four_differ (input_count N) (table_count N) (table_count M) (length Q.net.tables) (omega (arith, few, total)) (omega (arith, few, total, both)) (omega (arith, few, total, both))
+          (omega (arith, few, total, last)));
       has_output = rw (joint_outputs N M metric k) (omega arith);
       outputs_are_signals = subst (All (λ s. s < signal_count J)) (sym (joint_outputs N M metric k))
           (All-from_recursion (λ s. s < signal_count J) (quality_signal N M Q.signal ∷ []) (quality_below N M metric k h Q.signal (quality_output metric (length N.outputs) k), tt));

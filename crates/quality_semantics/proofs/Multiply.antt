@@ -87,7 +87,8 @@ doubled v z (suc j) row low = let rest = doubled v z j row low in rw (low, rest)
 later_weight : (s p q m n : ℕ) → q ≡ 2 * p → s + p * m + q * n ≡ s + p * (m + 2 * n)
 later_weight s p q m n e = rw e (grind arith)
 
-sum_rows_number : (v : Assignment) (W : WordNetValue) (p : List ℕ) (j : ℕ) (rows : List (List ℕ)) → Fits v (sum_rows W p j rows).net → number v (sum_rows W p j rows).bus ≡ number v p + 2 ^ j * rows_number v rows
+sum_rows_number : (v : Assignment) (W : WordNetValue) (p : List ℕ) (j : ℕ) (rows : List (List ℕ)) → Fits v (sum_rows W p j rows).net
+    → number v (sum_rows W p j rows).bus ≡ number v p + 2 ^ j * rows_number v rows
 unfolding rows_number
 sum_rows_number v W p j [] h = omega arith
 sum_rows_number v W p j (row ∷ rows) h =
@@ -129,7 +130,8 @@ products_formed W b [] h hb hxs = record { net = h; bus = All-nil _ }
 products_formed W b (x ∷ xs) h hb hxs =
     let next = appended W (and2 x b) in
     let one = signals-appended W (and2 x b) in
-    let at_next = IsWordNet-appended W (and2 x b).pins (and2 x b).rows h (two_in _ x b (All-head (λ s. s < signals W) x xs hxs) hb) (All-from_recursion (λ (marks : List Mark). length marks ≡ 2) (and2 x b).rows (refl, tt)) in
+    let at_next = IsWordNet-appended W (and2 x b).pins (and2 x b).rows h (two_in _ x b (All-head (λ s. s < signals W) x xs hxs) hb)
+    (All-from_recursion (λ (marks : List Mark). length marks ≡ 2) (and2 x b).rows (refl, tt)) in
     let rest = products_formed next b xs at_next (omega (arith, one, hb)) (signals_kept W next xs (begins_appended W (and2 x b)) (All-tail (λ s. s < signals W) x xs hxs)) in
     let last = products next b xs in
     let more = begins_signals next last.net (begins_products next b xs) in

@@ -34,7 +34,8 @@ seconds v z (x ∷ xs) [] low = let rest = seconds v z xs [] low in rw (low, res
 seconds v z (x ∷ xs) (y ∷ ys) low = let rest = seconds v z xs ys low in ap (λ n. bit_number (v y) + 2 * n) rest
 
 -- the sums and the carry out have the number of both buses and the carry in
-adders_number : (v : Assignment) (W : WordNetValue) (c : ℕ) (ps : List (ℕ × ℕ)) → Fits v (adders W c ps).net → number v (adders W c ps).bus ≡ number_of (map (λ p. v p.0) ps) + number_of (map (λ p. v p.1) ps) + bit_number (v c)
+adders_number : (v : Assignment) (W : WordNetValue) (c : ℕ) (ps : List (ℕ × ℕ)) → Fits v (adders W c ps).net
+    → number v (adders W c ps).bus ≡ number_of (map (λ p. v p.0) ps) + number_of (map (λ p. v p.1) ps) + bit_number (v c)
 adders_number v W c [] h = omega arith
 adders_number v W c (p ∷ ps) h =
     let half = appended W (xor3 p.0 p.1 c) in
@@ -57,7 +58,8 @@ compare_step false true false m n = grind (arith, nat_tests)
 compare_step false false true m n = grind (arith, nat_tests)
 compare_step false false false m n = grind (arith, nat_tests)
 
-comparators_value : (v : Assignment) (W : WordNetValue) (g : ℕ) (ps : List (ℕ × ℕ)) → Fits v (comparators W g ps).net → v (comparators W g ps).signal ≡ ltb (number_of (map (λ p. v p.1) ps)) (number_of (map (λ p. v p.0) ps) + bit_number (v g))
+comparators_value : (v : Assignment) (W : WordNetValue) (g : ℕ) (ps : List (ℕ × ℕ)) → Fits v (comparators W g ps).net
+    → v (comparators W g ps).signal ≡ ltb (number_of (map (λ p. v p.1) ps)) (number_of (map (λ p. v p.0) ps) + bit_number (v g))
 comparators_value v W g [] h = elim (v g) as (λ b. b ≡ ltb 0 (0 + bit_number b)) [ true ↦ refl | false ↦ refl ]
 comparators_value v W g (p ∷ ps) h =
     let next = appended W (gt p.0 p.1 g) in
@@ -123,7 +125,8 @@ pub not_zero_number : (v : Assignment) (W : WordNetValue) (x : List ℕ) → 0 <
 not_zero_number v W [] some h = absurd (omega arith)
 not_zero_number v W (x ∷ xs) some h = let here = Fits-newest v W (low x xs) h in rw here (low_number v x xs)
 
-inputs_bits : (v : Assignment) (x : List Bool) (from width : ℕ) → ((s : ℕ) → s < length x → v s ≡ get_or x s false) → from + width ≤ length x → map v (range_with_len from width) ≡ take width (drop from x)
+inputs_bits : (v : Assignment) (x : List Bool) (from width : ℕ) → ((s : ℕ) → s < length x → v s ≡ get_or x s false) → from + width ≤ length x
+    → map v (range_with_len from width) ≡ take width (drop from x)
 inputs_bits v x from zero h few = refl
 inputs_bits v x from (suc width) h few =
     let here : v from ≡ get_or x from false = h from (omega arith) in
@@ -133,7 +136,8 @@ inputs_bits v x from (suc width) h few =
     rw (step, here, rest, next) refl
 
 -- the bits of an input bus
-pub input_bits : (W : WordNetValue) (x : List Bool) (from width : ℕ) → IsWordNet W → length x ≡ W.inputs → from + width ≤ W.inputs → map (value_of W.inputs W.tables x) (range_with_len from width) ≡ take width (drop from x)
+pub input_bits : (W : WordNetValue) (x : List Bool) (from width : ℕ) → IsWordNet W → length x ≡ W.inputs → from + width ≤ W.inputs
+    → map (value_of W.inputs W.tables x) (range_with_len from width) ≡ take width (drop from x)
 input_bits W x from width h e few =
     let one = value_law W.inputs W.tables x (IsAcyclic-in_order W.inputs W.tables h.in_order) in
     inputs_bits (value_of W.inputs W.tables x) x from width (λ s low. one.consistent.input s (omega arith)) (omega arith)

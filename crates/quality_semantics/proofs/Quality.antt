@@ -114,7 +114,8 @@ relative_is w k some =
           let divisor = not_zero_number v start e (let width = length-range_with_len 0 w in omega (arith, width, some)) fits_m in
           let level = times_number v y.net m.bus k at_end in
           exceed_value v z.net x.bus y.bus z.bus h
-          ∙ rw (exact, approximate, level, divisor, scaled (number v e) (number v a)) (sym (rounded_up_exceeds (distance (number v e) (number v a) * 1000000) (max 1 (number v e)) k (one_or_more (number v e))));
+          ∙ rw (exact, approximate, level, divisor, scaled (number v e) (number v a))
+          (sym (rounded_up_exceeds (distance (number v e) (number v a) * 1000000) (max 1 (number v e)) k (one_or_more (number v e))));
     }
 
 signed_is : (w k : ℕ) → 0 < w → IsExcess Sabs w k (signed_excess w k)
@@ -193,7 +194,8 @@ quality_acyclic metric w k =
     let Q = quality metric w k in
     subst (λ n. IsAcyclic n Q.net.tables) (quality_inputs metric w k) (IsAcyclic-in_order Q.net.inputs Q.net.tables (quality_formed metric w k).in_order)
 
-pub quality_value : (metric : Metric) (w k : ℕ) (x : List Bool) → length x ≡ w + w → value_of (w + w) (quality metric w k).net.tables x (quality metric w k).signal ≡ ltb k (error_of metric (take w x) (drop w x))
+pub quality_value : (metric : Metric) (w k : ℕ) (x : List Bool) → length x ≡ w + w
+    → value_of (w + w) (quality metric w k).net.tables x (quality metric w k).signal ≡ ltb k (error_of metric (take w x) (drop w x))
 quality_value metric w k x width =
     let Q = quality metric w k in
     let is = quality_is metric w k in

@@ -1,5 +1,6 @@
 -- How large the networks are: tables and rows together.
-use Rattle.std.proofs.Common.{◌≡◌, ℕ, zero, suc, ◌+◌, ◌-◌, ◌*◌, ◌/◌, ◌^◌, ◌<◌, ◌≤◌, max, cond, Bool, true, false, List, [], ◌∷◌, length, map, get_or, replicate, inl, inr, refl, ap, ◌∙◌, arith, length-append, sum_by}
+use Rattle.std.proofs.Common.{◌≡◌, ℕ, zero, suc, ◌+◌, ◌-◌, ◌*◌, ◌/◌, ◌^◌, ◌<◌, ◌≤◌, max, cond, Bool, true, false, List, [], ◌∷◌, length, map, get_or, replicate, inl, inr, refl, ap, ◌∙◌, arith}
+use Rattle.std.proofs.Common.{length-append, sum_by}
 use Rattle.std.proofs.Math.Nat.{pow-succ'}
 use Rattle.std.proofs.Math.Pow.{pow_mono}
 use Rattle.std.proofs.lemmas.Bool.{cases_lt}
@@ -13,7 +14,8 @@ use Rattle.semantics.specs.Net.{TableValue, NetValue, signal_count, row_count, I
 use Rattle.semantics.specs.Error.{greatest_error}
 use Rattle.quality_semantics.specs.Forms.{Form, inv, or2, xor2, xor3, maj, gt, grow, low}
 use Rattle.quality_semantics.specs.WordNets.{WordNetValue, signals, table_of, appended, started}
-use Rattle.quality_semantics.specs.Buses.{WithBus, places, adders, add, comparators, greater, exceed, binary, constant, times_bits, times, flip_top, not_zero_low, differences, differ, growers, count_rows}
+use Rattle.quality_semantics.specs.Buses.{WithBus, places, adders, add, comparators, greater, exceed, binary, constant, times_bits, times, flip_top, not_zero_low, differences, differ, growers}
+use Rattle.quality_semantics.specs.Buses.{count_rows}
 use Rattle.quality_semantics.specs.Quality.{exact_bus, approximate_bus, absolute_excess, relative_excess, differing_excess, signed_excess, excess, quality}
 use Rattle.quality_semantics.specs.Joint.{copied_from, copied, approximate_signal, quality_signal, numbered_name, joint_net}
 use Rattle.quality_semantics.specs.Sizes.{tables_and_rows}

@@ -19,7 +19,8 @@ pub IsName-word : IsName (codes "word")
 IsName-word = record {
   not_empty = omega arith;
   short = omega arith;
-  printable = All-from_recursion IsNameByte (codes "word") ((omega arith, omega arith, omega arith), ((omega arith, omega arith, omega arith), ((omega arith, omega arith, omega arith), ((omega arith, omega arith, omega arith), tt))));
+  printable = All-from_recursion IsNameByte (codes "word")
+      ((omega arith, omega arith, omega arith), ((omega arith, omega arith, omega arith), ((omega arith, omega arith, omega arith), ((omega arith, omega arith, omega arith), tt))));
   ending = λ e. omega (arith, e);
 }
 
@@ -34,7 +35,8 @@ name_at-differs n s t below small =
       | inl t_in ↦ rw (lt-ltb t n t_in, lt-ltb s n (omega arith)) (λ e. let same : decimal s ≡ decimal t = cc in let equal = decimal_injective s t (omega arith) (omega arith) same in omega arith)
       | inr t_out ↦ elim (cases_lt s n) [
         | inl s_in ↦ rw (le-ltb t n t_out, lt-ltb s n s_in) (λ e. let heads : ◌≡◌ {A = ℕ} 120 116 = ap (λ (name : List ℕ). get_or name 0 0) e in omega arith)
-        | inr s_out ↦ rw (le-ltb t n t_out, le-ltb s n s_out) (λ e. let same : decimal (s - n) ≡ decimal (t - n) = cc in let equal = decimal_injective (s - n) (t - n) (omega arith) (omega arith) same in omega arith)
+        | inr s_out ↦ rw (le-ltb t n t_out, le-ltb s n s_out)
+            (λ e. let same : decimal (s - n) ≡ decimal (t - n) = cc in let equal = decimal_injective (s - n) (t - n) (omega arith) (omega arith) same in omega arith)
       ]
     ]
 
@@ -44,9 +46,14 @@ names_at W outputs h s d within =
     let inputs : List (List ℕ) = map (λ i. 120 ∷ decimal i) (range_with_len 0 W.inputs) in
     let width : length inputs ≡ W.inputs = length-map-range_with_len (λ i. 120 ∷ decimal i) 0 W.inputs in
     elim (cases_lt s W.inputs) [
-      | inl low ↦ rw (lt-ltb s W.inputs low, get_or_append_left inputs (map (λ t. t.name) W.tables) d s (omega arith)) (get_or-map-range_with_len (λ i. 120 ∷ decimal i) 0 W.inputs s s d low (omega arith))
+      | inl low ↦ rw (lt-ltb s W.inputs low, get_or_append_left inputs (map (λ t. t.name) W.tables) d s (omega arith))
+          (get_or-map-range_with_len (λ i. 120 ∷ decimal i) 0 W.inputs s s d low (omega arith))
       | inr high ↦
-          rw (le-ltb s W.inputs high, get_or-append_right inputs (map (λ t. t.name) W.tables) W.inputs s d width high, get_or-map (λ (t : TableValue). t.name) W.tables (s - W.inputs) no_table d (omega arith))
+          rw (
+            le-ltb s W.inputs high,
+            get_or-append_right inputs (map (λ t. t.name) W.tables) W.inputs s d width high,
+            get_or-map (λ (t : TableValue). t.name) W.tables (s - W.inputs) no_table d (omega arith),
+          )
           (h.formed (s - W.inputs) (omega arith)).name
     ]
 
@@ -65,9 +72,12 @@ IsSound-net_of W outputs h few some outputs_in =
     let width = input_count-net_of W outputs in
     record {
       model_named = IsName-word;
-      inputs_named = λ k d within. let low : k < W.inputs = rw (← width) within in rw (get_or-map-range_with_len (λ i. 120 ∷ decimal i) 0 W.inputs k k d low (omega arith)) (IsName-numbered 120 k (omega arith, omega arith, omega arith) (omega (arith, few)));
+      inputs_named = λ k d within. let low : k < W.inputs
+          = rw (← width) within in rw (get_or-map-range_with_len (λ i. 120 ∷ decimal i) 0 W.inputs k k d low (omega arith))
+          (IsName-numbered 120 k (omega arith, omega arith, omega arith) (omega (arith, few)));
       tables_formed = λ k d within. rw (get_or_default W.tables k d no_table within) (IsTable-formed k _ (omega (arith, few)) (h.formed k within));
-      names_differ = λ i j d below within. let j_in : j < signals W = rw (← names_count W outputs) within in rw (names_at W outputs h i d (omega arith), names_at W outputs h j d j_in) (name_at-differs W.inputs i j below (omega (arith, few)));
+      names_differ = λ i j d below within. let j_in : j < signals W
+          = rw (← names_count W outputs) within in rw (names_at W outputs h i d (omega arith), names_at W outputs h j d j_in) (name_at-differs W.inputs i j below (omega (arith, few)));
       has_output = some;
       outputs_are_signals = rw width outputs_in;
       pins_are_signals = λ k d within. rw (get_or_default W.tables k d no_table within, width) (λ p e inside. let before = h.in_order k within p e inside in omega arith);
@@ -86,7 +96,8 @@ quality_tells metric w k x width =
     rw (input_count-net_of Q.net (Q.signal ∷ []), quality_inputs metric w k) (ap (λ bit. bit ∷ []) (quality_value metric w k x width))
 
 -- a net that was finished from the network with its output
-pub TellsExcess-made : (metric : Metric) (w k : ℕ) (W : WordNetValue) (s : ℕ) (N : NetValue) → W ≡ (quality metric w k).net → s ≡ (quality metric w k).signal → N ≡ net_of W (s ∷ []) → TellsExcess metric w k N
+pub TellsExcess-made : (metric : Metric) (w k : ℕ) (W : WordNetValue) (s : ℕ) (N : NetValue) → W ≡ (quality metric w k).net → s ≡ (quality metric w k).signal → N ≡ net_of W (s ∷ [])
+    → TellsExcess metric w k N
 TellsExcess-made metric w k W s N net signal e =
     let is : N ≡ quality_net metric w k = rw (e, net, signal) refl in
     subst (λ M. TellsExcess metric w k M) (sym is) (quality_tells metric w k)

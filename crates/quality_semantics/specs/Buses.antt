@@ -1,6 +1,8 @@
--- Networks on buses. A bus is a list of signals, bit 0 first; past its width it has the signal of 0. Each call appends tables to a network, in
--- the order in which they stand here. Source: ripple-carry adders and comparators, multiplication by double-and-add, threshold counters.
-use Rattle.std.specs.Prelude.{ℕ, zero, suc, ◌-◌, ◌/◌, ◌%◌, ◌==◌, Bool, true, false, cond, replicate, slice_index_or, slice_set, List, [], ◌∷◌, length, map}
+-- Networks on buses. A bus is a list of signals, bit 0 first; past its width it has the signal of 0. Each
+-- call appends tables to a network, in the order in which they stand here. Source: ripple-carry adders and
+-- comparators, multiplication by double-and-add, threshold counters.
+use Rattle.std.specs.Prelude.{ℕ, zero, suc, ◌-◌, ◌/◌, ◌%◌, ◌==◌, Bool, true, false, cond, replicate}
+use Rattle.std.specs.Prelude.{slice_index_or, slice_set, List, [], ◌∷◌, length, map}
 use Rattle.quality_semantics.specs.Forms.{inv, or2, xor2, xor3, maj, gt, grow, low}
 use Rattle.quality_semantics.specs.WordNets.{WordNetValue, signals, appended}
 

@@ -7,7 +7,8 @@ use Rattle.semantics.specs.Net.{TableValue, table_at, row_count}
 use Rattle.semantics.specs.declared.metric.Metric.TheVariants.{Abs, Rel, Ham, Sabs}
 use Rattle.semantics.specs.Blif.{blif_text}
 use Rattle.semantics.specs.Examples.{text, half_adder, constant_sum, wire}
-use Rattle.quality_semantics.specs.Forms.{Form, form, zero_form, one_form, or2, xor2, xor3, maj, gt, grow, low, inv, and2}
+use Rattle.quality_semantics.specs.Forms.{Form, form, zero_form, one_form, or2, xor2, xor3, maj, gt, grow}
+use Rattle.quality_semantics.specs.Forms.{low, inv, and2}
 use Rattle.quality_semantics.specs.WordNets.{table_of, started}
 use Rattle.quality_semantics.specs.Buses.{binary, constant, add, times, not_zero_low, flip_top, at_least}
 use Rattle.quality_semantics.specs.Multiply.{product_rows, sum_of_rows, multiplier, multiplier_net}
@@ -30,48 +31,63 @@ pub record AbsoluteExamples : Type 0 where
   -- over the inputs e, 0, and a, 1: the tables stand from signal 2 on
   pub one_bit :
       (quality Abs 1 0).net.tables
-      ≡ numbered 0 (zero_form ∷ one_form ∷ xor3 1 2 2 ∷ maj 1 2 2 ∷ gt 0 4 2 ∷ gt 2 5 6 ∷ xor3 0 2 2 ∷ maj 0 2 2 ∷ gt 1 8 2 ∷ gt 2 9 10 ∷ or2 7 11 ∷ [])
+      ≡ numbered 0 (zero_form ∷ one_form ∷ xor3 1 2 2 ∷ maj 1 2 2 ∷ gt 0 4 2 ∷ gt 2 5 6 ∷ xor3 0 2 2
+      ∷ maj 0 2 2 ∷ gt 1 8 2 ∷ gt 2 9 10 ∷ or2 7 11 ∷ [])
   pub one_bit_output : (quality_net Abs 1 0).outputs ≡ 12 ∷ []
   pub one_bit_rows : row_count (quality_net Abs 1 0) ≡ 29
-  pub two_bits : (length (quality Abs 2 1).net.tables ≡ 17) × (row_count (quality_net Abs 2 1) ≡ 49) × ((quality Abs 2 1).signal ≡ 20)
+  pub two_bits : (length (quality Abs 2 1).net.tables ≡ 17) × (row_count (quality_net Abs 2 1) ≡ 49)
+      × ((quality Abs 2 1).signal ≡ 20)
   pub never : quality Abs 2 3 ≡ record { net = started 4; signal = 4 }
   pub million : length (binary 1000000) ≡ 20
   pub constants : (constant (started 4) 0 ≡ []) × (constant (started 4) 6 ≡ 4 ∷ 5 ∷ 5 ∷ [])
   pub empty_sum : (add (started 4) [] []).bus ≡ 4 ∷ []
-  pub names : map (λ t. t.name) (drop 8 (quality Abs 1 0).net.tables) ≡ codes "t8" ∷ codes "t9" ∷ codes "t10" ∷ []
+  pub names : map (λ t. t.name) (drop 8 (quality Abs 1 0).net.tables)
+      ≡ codes "t8" ∷ codes "t9" ∷ codes "t10" ∷ []
   pub never_text :
       blif_text (quality_net Abs 1 1)
-      ≡ text (codes ".model word" ∷ codes ".inputs x0 x1" ∷ codes ".outputs t0" ∷ codes ".names t0" ∷ codes ".names t1" ∷ codes "1" ∷ codes ".end" ∷ [])
+      ≡ text (codes ".model word" ∷ codes ".inputs x0 x1" ∷ codes ".outputs t0" ∷ codes ".names t0"
+      ∷ codes ".names t1" ∷ codes "1" ∷ codes ".end" ∷ [])
 
 pub record OtherExamples : Type 0 where
   -- whether the bits 0 and 1 differ, and whether at least one bit differed
-  pub differing_bit : (quality Ham 1 0).net.tables ≡ numbered 0 (zero_form ∷ one_form ∷ xor2 0 1 ∷ grow 2 4 3 ∷ [])
+  pub differing_bit : (quality Ham 1 0).net.tables
+      ≡ numbered 0 (zero_form ∷ one_form ∷ xor2 0 1 ∷ grow 2 4 3 ∷ [])
   pub differing_output : (quality_net Ham 1 0).outputs ≡ 5 ∷ []
   pub differing_text :
       blif_text (quality_net Ham 1 0)
-      ≡ text (codes ".model word" ∷ codes ".inputs x0 x1" ∷ codes ".outputs t3" ∷ codes ".names t0" ∷ codes ".names t1" ∷ codes "1"
-      ∷ codes ".names x0 x1 t2" ∷ codes "10 1" ∷ codes "01 1" ∷ codes ".names t0 t2 t1 t3" ∷ codes "1-- 1" ∷ codes "-11 1" ∷ codes ".end" ∷ [])
+      ≡ text (codes ".model word" ∷ codes ".inputs x0 x1" ∷ codes ".outputs t3" ∷ codes ".names t0"
+      ∷ codes ".names t1" ∷ codes "1"
+      ∷ codes ".names x0 x1 t2" ∷ codes "10 1" ∷ codes "01 1" ∷ codes ".names t0 t2 t1 t3" ∷ codes "1-- 1"
+      ∷ codes "-11 1" ∷ codes ".end" ∷ [])
   pub two_differing_bits :
       (quality Ham 2 1).net.tables
-      ≡ numbered 0 (zero_form ∷ one_form ∷ xor2 0 2 ∷ xor2 1 3 ∷ grow 4 6 5 ∷ grow 4 6 4 ∷ grow 8 7 5 ∷ grow 9 7 8 ∷ [])
+      ≡ numbered 0 (zero_form ∷ one_form ∷ xor2 0 2 ∷ xor2 1 3 ∷ grow 4 6 5 ∷ grow 4 6 4 ∷ grow 8 7 5
+      ∷ grow 9 7 8 ∷ [])
   pub two_differing_output : (quality Ham 2 1).signal ≡ 11
   pub at_least_none : at_least (started 4) (0 ∷ 1 ∷ []) 0 ≡ record { net = started 4; signal = 5 }
   pub never_differing : quality Ham 2 2 ≡ record { net = started 4; signal = 4 }
-  pub relative_begins : take 5 (quality Rel 1 0).net.tables ≡ numbered 0 (zero_form ∷ one_form ∷ low 0 [] ∷ xor3 2 0 2 ∷ maj 2 0 2 ∷ [])
+  pub relative_begins : take 5 (quality Rel 1 0).net.tables
+      ≡ numbered 0 (zero_form ∷ one_form ∷ low 0 [] ∷ xor3 2 0 2 ∷ maj 2 0 2 ∷ [])
   pub relative_tables : (length (quality Rel 1 0).net.tables ≡ 382) × ((quality Rel 1 0).signal ≡ 383)
   pub relative_rows : row_count (quality_net Rel 1 0) ≡ 1301
-  pub relative_half : (length (quality Rel 1 500000).net.tables ≡ 492) × (row_count (quality_net Rel 1 500000) ≡ 1686)
-  -- At level 3, over the inputs e, 0, and a, 1, with the constants 2 and 3: table 2, signal 4, is e, or 1 where e is 0; then e a million times, whose
-  -- bit 6 is signal 77; a a million times, whose bit 6 is signal 187; table 2 three times; and at bit 6 of the last step each sum and
-  -- comparison with its operands in order.
+  pub relative_half : (length (quality Rel 1 500000).net.tables ≡ 492)
+      × (row_count (quality_net Rel 1 500000) ≡ 1686)
+  -- At level 3, over the inputs e, 0, and a, 1, with the constants 2 and 3: table 2, signal 4, is e, or 1
+  -- where e is 0; then e a million times, whose bit 6 is signal 77; a a million times, whose bit 6 is signal
+  -- 187; table 2 three times; and at bit 6 of the last step each sum and comparison with its operands in
+  -- order.
   pub relative_operands :
-      chosen (quality Rel 1 3).net.tables (2 ∷ 3 ∷ 5 ∷ 75 ∷ 113 ∷ 115 ∷ 185 ∷ 223 ∷ 225 ∷ 227 ∷ 239 ∷ 285 ∷ 318 ∷ 364 ∷ 385 ∷ [])
-      ≡ placed ((2, low 0 []) ∷ (3, xor3 2 0 2) ∷ (5, xor3 0 2 6) ∷ (75, xor3 2 0 2) ∷ (113, xor3 2 1 2) ∷ (115, xor3 1 2 116) ∷ (185, xor3 2 1 2)
-      ∷ (223, xor3 2 4 2) ∷ (225, xor3 4 2 226) ∷ (227, xor3 2 225 2) ∷ (239, xor3 187 2 240) ∷ (285, gt 77 241 286) ∷ (318, xor3 77 2 319)
+      chosen (quality Rel 1 3).net.tables
+      (2 ∷ 3 ∷ 5 ∷ 75 ∷ 113 ∷ 115 ∷ 185 ∷ 223 ∷ 225 ∷ 227 ∷ 239 ∷ 285 ∷ 318 ∷ 364 ∷ 385 ∷ [])
+      ≡ placed ((2, low 0 []) ∷ (3, xor3 2 0 2) ∷ (5, xor3 0 2 6) ∷ (75, xor3 2 0 2) ∷ (113, xor3 2 1 2)
+      ∷ (115, xor3 1 2 116) ∷ (185, xor3 2 1 2)
+      ∷ (223, xor3 2 4 2) ∷ (225, xor3 4 2 226) ∷ (227, xor3 2 225 2) ∷ (239, xor3 187 2 240)
+      ∷ (285, gt 77 241 286) ∷ (318, xor3 77 2 319)
       ∷ (364, gt 187 320 365) ∷ (385, or2 307 386) ∷ [])
   pub relative_counts : (length (quality Rel 1 3).net.tables ≡ 386) × (row_count (quality_net Rel 1 3) ≡ 1315)
   pub never_relative : quality Rel 1 1000000 ≡ record { net = started 2; signal = 2 }
-  pub low_of_three : low 0 (1 ∷ 2 ∷ []) ≡ form (0 ∷ 1 ∷ 2 ∷ []) ((One ∷ Dash ∷ Dash ∷ []) ∷ (Zero ∷ Zero ∷ Zero ∷ []) ∷ [])
+  pub low_of_three : low 0 (1 ∷ 2 ∷ [])
+      ≡ form (0 ∷ 1 ∷ 2 ∷ []) ((One ∷ Dash ∷ Dash ∷ []) ∷ (Zero ∷ Zero ∷ Zero ∷ []) ∷ [])
   pub not_zero : (not_zero_low (started 4) (0 ∷ 1 ∷ [])).bus ≡ 6 ∷ 1 ∷ []
   pub tripled : (times (started 4) (0 ∷ 1 ∷ []) 3).bus ≡ 6 ∷ 8 ∷ 10 ∷ 11 ∷ []
 
@@ -81,12 +97,14 @@ pub record SignedExamples : Type 0 where
       (quality Sabs 2 1).net.tables
       ≡ numbered 0 (zero_form ∷ one_form ∷ inv 1 ∷ inv 3
       ∷ xor3 2 5 4 ∷ maj 2 5 4 ∷ xor3 7 4 9 ∷ maj 7 4 9 ∷ gt 0 8 4 ∷ gt 6 10 12 ∷ gt 4 11 13
-      ∷ xor3 0 5 4 ∷ maj 0 5 4 ∷ xor3 6 4 16 ∷ maj 6 4 16 ∷ gt 2 15 4 ∷ gt 7 17 19 ∷ gt 4 18 20 ∷ or2 14 21 ∷ [])
+      ∷ xor3 0 5 4 ∷ maj 0 5 4 ∷ xor3 6 4 16 ∷ maj 6 4 16 ∷ gt 2 15 4 ∷ gt 7 17 19 ∷ gt 4 18 20 ∷ or2 14 21
+      ∷ [])
   pub two_bits_output : (quality_net Sabs 2 1).outputs ≡ 22 ∷ []
   pub two_bits_rows : row_count (quality_net Sabs 2 1) ≡ 51
   -- at width 1 both words are signs
   pub one_bit : take 4 (quality Sabs 1 0).net.tables ≡ numbered 0 (zero_form ∷ one_form ∷ inv 0 ∷ inv 1 ∷ [])
-  pub one_bit_counts : (length (quality Sabs 1 0).net.tables ≡ 13) × (row_count (quality_net Sabs 1 0) ≡ 31) × ((quality Sabs 1 0).signal ≡ 14)
+  pub one_bit_counts : (length (quality Sabs 1 0).net.tables ≡ 13) × (row_count (quality_net Sabs 1 0) ≡ 31)
+      × ((quality Sabs 1 0).signal ≡ 14)
   pub one_bit_begins : quality Sabs 1 1 ≡ record { net = started 2; signal = 2 }
   pub never : quality Sabs 2 3 ≡ record { net = started 4; signal = 4 }
   pub flipped : (flip_top (started 6) (0 ∷ 1 ∷ 2 ∷ [])).bus ≡ 0 ∷ 1 ∷ 8 ∷ []
@@ -98,9 +116,12 @@ sum_width w k =
     length (sum_of_rows partial.net (take k partial.rows)).bus
 
 pub record MultiplierExamples : Type 0 where
-  pub tables : (length (multiplier 1).net.tables ≡ 3) × (length (multiplier 2).net.tables ≡ 12) × (length (multiplier 4).net.tables ≡ 54)
-  pub bits : (length (multiplier 1).bus ≡ 1) × (length (multiplier 2).bus ≡ 4) × (length (multiplier 4).bus ≡ 8)
-  -- over the inputs 0 and 1, the first word, and 2 and 3, the second: a row of products for each bit of the second, and their sum
+  pub tables : (length (multiplier 1).net.tables ≡ 3) × (length (multiplier 2).net.tables ≡ 12)
+      × (length (multiplier 4).net.tables ≡ 54)
+  pub bits : (length (multiplier 1).bus ≡ 1) × (length (multiplier 2).bus ≡ 4)
+      × (length (multiplier 4).bus ≡ 8)
+  -- over the inputs 0 and 1, the first word, and 2 and 3, the second: a row of products for each bit of the
+  -- second, and their sum
   pub two_bits :
       (multiplier 2).net.tables
       ≡ numbered 0 (zero_form ∷ one_form ∷ and2 0 2 ∷ and2 1 2 ∷ and2 0 3 ∷ and2 1 3
@@ -108,7 +129,8 @@ pub record MultiplierExamples : Type 0 where
   pub outputs : (multiplier_net 2).outputs ≡ 10 ∷ 12 ∷ 14 ∷ 15 ∷ []
   pub one_bit_text :
       blif_text (multiplier_net 1)
-      ≡ text (codes ".model word" ∷ codes ".inputs x0 x1" ∷ codes ".outputs t2" ∷ codes ".names t0" ∷ codes ".names t1" ∷ codes "1"
+      ≡ text (codes ".model word" ∷ codes ".inputs x0 x1" ∷ codes ".outputs t2" ∷ codes ".names t0"
+      ∷ codes ".names t1" ∷ codes "1"
       ∷ codes ".names x0 x1 t2" ∷ codes "11 1" ∷ codes ".end" ∷ [])
   pub widths_of_four : map (sum_width 4) (1 ∷ 2 ∷ 3 ∷ 4 ∷ []) ≡ 4 ∷ 6 ∷ 7 ∷ 8 ∷ []
   pub widths_of_five : map (sum_width 5) (1 ∷ 2 ∷ 3 ∷ 4 ∷ 5 ∷ []) ≡ 5 ∷ 7 ∷ 8 ∷ 9 ∷ 10 ∷ []
@@ -117,7 +139,8 @@ pub record JointExamples : Type 0 where
   -- an output that is an input: the quality network's tables alone, over one signal twice
   pub of_wires :
       blif_text (joint_net wire wire Abs 0)
-      ≡ text (codes ".model joint" ∷ codes ".inputs x0" ∷ codes ".outputs q10" ∷ codes ".names q0" ∷ codes ".names q1" ∷ codes "1"
+      ≡ text (codes ".model joint" ∷ codes ".inputs x0" ∷ codes ".outputs q10" ∷ codes ".names q0"
+      ∷ codes ".names q1" ∷ codes "1"
       ∷ codes ".names x0 q0 q0 q2" ∷ codes "100 1" ∷ codes "010 1" ∷ codes "001 1" ∷ codes "111 1"
       ∷ codes ".names x0 q0 q0 q3" ∷ codes "11- 1" ∷ codes "1-1 1" ∷ codes "-11 1"
       ∷ codes ".names x0 q2 q0 q4" ∷ codes "10- 1" ∷ codes "1-1 1" ∷ codes "-01 1"

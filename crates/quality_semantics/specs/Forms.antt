@@ -1,4 +1,5 @@
--- The forms of tables from which arithmetic networks are made: pins and rows; each has plane 1. Source: the gates of ripple-carry arithmetic.
+-- The forms of tables from which arithmetic networks are made: pins and rows; each has plane 1. Source: the
+-- gates of ripple-carry arithmetic.
 use Rattle.std.specs.Prelude.{ℕ, List, [], ◌∷◌, length, replicate}
 use Rattle.semantics.specs.declared.mark.Mark.{Mark}
 use Rattle.semantics.specs.declared.mark.Mark.TheVariants.{Zero, One, Dash}
@@ -33,15 +34,18 @@ xor2 x y = form (x ∷ y ∷ []) ((One ∷ Zero ∷ []) ∷ (Zero ∷ One ∷ []
 -- the sum's bit of a full adder
 abbrev pub xor3 : ℕ → ℕ → ℕ → Form
 xor3 x y c = form (x ∷ y ∷ c ∷ [])
-    ((One ∷ Zero ∷ Zero ∷ []) ∷ (Zero ∷ One ∷ Zero ∷ []) ∷ (Zero ∷ Zero ∷ One ∷ []) ∷ (One ∷ One ∷ One ∷ []) ∷ [])
+    ((One ∷ Zero ∷ Zero ∷ []) ∷ (Zero ∷ One ∷ Zero ∷ []) ∷ (Zero ∷ Zero ∷ One ∷ []) ∷ (One ∷ One ∷ One ∷ [])
+    ∷ [])
 
 -- the majority of three bits, the carry of a full adder
 abbrev pub maj : ℕ → ℕ → ℕ → Form
-maj x y c = form (x ∷ y ∷ c ∷ []) ((One ∷ One ∷ Dash ∷ []) ∷ (One ∷ Dash ∷ One ∷ []) ∷ (Dash ∷ One ∷ One ∷ []) ∷ [])
+maj x y c = form (x ∷ y ∷ c ∷ [])
+    ((One ∷ One ∷ Dash ∷ []) ∷ (One ∷ Dash ∷ One ∷ []) ∷ (Dash ∷ One ∷ One ∷ []) ∷ [])
 
 -- a comparator's bit: x is greater than y, or they are equal and g
 abbrev pub gt : ℕ → ℕ → ℕ → Form
-gt x y g = form (x ∷ y ∷ g ∷ []) ((One ∷ Zero ∷ Dash ∷ []) ∷ (One ∷ Dash ∷ One ∷ []) ∷ (Dash ∷ Zero ∷ One ∷ []) ∷ [])
+gt x y g = form (x ∷ y ∷ g ∷ [])
+    ((One ∷ Zero ∷ Dash ∷ []) ∷ (One ∷ Dash ∷ One ∷ []) ∷ (Dash ∷ Zero ∷ One ∷ []) ∷ [])
 
 -- a counter's bit: the count was reached already (p), or the next bit d is 1 and the count before was reached
 -- (q)

@@ -1,6 +1,8 @@
--- The joint net: two nets over the same inputs, and a quality network over their outputs, so that one output says whether the error
--- exceeds a level. Source: SALSA's quality function circuit, which the outputs of the exact and of the approximate circuit feed.
-use Rattle.std.specs.Prelude.{◌≡◌, ℕ, ◌+◌, ◌-◌, nat_lt, if◌then◌else◌, List, [], ◌∷◌, ◌++◌, map, length, slice_index_or, decimal, codes}
+-- The joint net: two nets over the same inputs, and a quality network over their outputs, so that one output
+-- says whether the error exceeds a level. Source: SALSA's quality function circuit, which the outputs of the
+-- exact and of the approximate circuit feed.
+use Rattle.std.specs.Prelude.{◌≡◌, ℕ, ◌+◌, ◌-◌, nat_lt, if◌then◌else◌, List, [], ◌∷◌, ◌++◌, map, length}
+use Rattle.std.specs.Prelude.{slice_index_or, decimal, codes}
 use Rattle.std.specs.List.{range_with_len}
 use Rattle.semantics.specs.Texts.{Bytes}
 use Rattle.semantics.specs.Net.{TableValue, NetValue, input_count, table_count, IsSound}
@@ -14,12 +16,14 @@ numbered_name letter i = letter ∷ decimal i
 -- the tables with their pins renamed by f, named by the letter and their numbers from i on
 abbrev pub copied_from : ℕ → ℕ → (ℕ → ℕ) → List TableValue → List TableValue
 copied_from i letter f [] = []
-copied_from i letter f (t ∷ tables) = record t { name = numbered_name letter i; pins = map f t.pins } ∷ copied_from (i + 1) letter f tables
+copied_from i letter f (t ∷ tables)
+    = record t { name = numbered_name letter i; pins = map f t.pins } ∷ copied_from (i + 1) letter f tables
 
 abbrev pub copied : ℕ → (ℕ → ℕ) → List TableValue → List TableValue
 copied letter f tables = copied_from 0 letter f tables
 
--- where the signals of a net over n inputs stand in a larger one: its inputs by `input`, and its tables from signal `first` on
+-- where the signals of a net over n inputs stand in a larger one: its inputs by `input`, and its tables from
+-- signal `first` on
 abbrev pub moved : (ℕ → ℕ) → ℕ → ℕ → ℕ → ℕ
 moved input n first s = if nat_lt s n then input s else first + (s - n)
 
@@ -37,8 +41,8 @@ quality_signal exact approx s =
     moved (λ i. slice_index_or (both_outputs exact approx) i 0) (length exact.outputs + length exact.outputs)
     (input_count exact + table_count exact + table_count approx) s
 
--- Inputs `x0`, `x1` and so on; then the exact net's tables `e0`, `e1` and so on, the approximate net's tables `a0` and so on, and the
--- quality network's tables `q0` and so on, whose output is the one output.
+-- Inputs `x0`, `x1` and so on; then the exact net's tables `e0`, `e1` and so on, the approximate net's tables
+-- `a0` and so on, and the quality network's tables `q0` and so on, whose output is the one output.
 unfoldable pub joint_net : NetValue → NetValue → Metric → ℕ → NetValue
 joint_net exact approx metric k =
     let q = quality metric (length exact.outputs) k in

@@ -1,4 +1,5 @@
--- The array multiplier: all partial products, and then their sum, row after row. Source: the array multiplier with ripple-carry rows.
+-- The array multiplier: all partial products, and then their sum, row after row. Source: the array multiplier
+-- with ripple-carry rows.
 use Rattle.std.specs.Prelude.{◌≡◌, ℕ, suc, ◌+◌, ◌*◌, replicate, List, [], ◌∷◌, ◌++◌, Bool, length, take, drop}
 use Rattle.std.specs.List.{range_with_len}
 use Rattle.semantics.specs.Net.{NetValue}
@@ -53,4 +54,5 @@ multiplier_net w = net_of (multiplier w).net (multiplier w).bus
 
 -- the net's output number is the product of its two words
 abbrev pub Multiplies : ℕ → NetValue → Type 0
-Multiplies w N = (x : List Bool) → length x ≡ w + w → number_of (outputs_of N x) ≡ number_of (take w x) * number_of (drop w x)
+Multiplies w N = (x : List Bool) → length x ≡ w + w
+    → number_of (outputs_of N x) ≡ number_of (take w x) * number_of (drop w x)

@@ -1,6 +1,8 @@
--- The quality network of a metric: 2 * w inputs, the exact word and then the approximate one, and one output that says whether the error
--- exceeds k. It depends on the metric, the width and k alone. Source: SALSA's quality function circuit.
-use Rattle.std.specs.Prelude.{◌≡◌, ℕ, suc, ◌+◌, nat_lt, nat_le, if◌then◌else◌, Bool, List, [], ◌∷◌, length, take, drop}
+-- The quality network of a metric: 2 * w inputs, the exact word and then the approximate one, and one output
+-- that says whether the error exceeds k. It depends on the metric, the width and k alone. Source: SALSA's
+-- quality function circuit.
+use Rattle.std.specs.Prelude.{◌≡◌, ℕ, suc, ◌+◌, nat_lt, nat_le, if◌then◌else◌, Bool, List, [], ◌∷◌, length}
+use Rattle.std.specs.Prelude.{take, drop}
 use Rattle.std.specs.List.{range_with_len}
 use Rattle.semantics.specs.Net.{NetValue}
 use Rattle.semantics.specs.Value.{outputs_of}
@@ -8,7 +10,8 @@ use Rattle.semantics.specs.declared.metric.Metric.{Metric}
 use Rattle.semantics.specs.declared.metric.Metric.TheVariants.{Abs, Rel, Ham, Sabs}
 use Rattle.semantics.specs.Error.{error_of, greatest_error}
 use Rattle.quality_semantics.specs.WordNets.{started, net_of}
-use Rattle.quality_semantics.specs.Buses.{WithSignal, exceed, constant, times, not_zero_low, flip_top, differ, at_least}
+use Rattle.quality_semantics.specs.Buses.{WithSignal, exceed, constant, times, not_zero_low, flip_top}
+use Rattle.quality_semantics.specs.Buses.{differ, at_least}
 
 -- the exact word and the approximate one, in a network of w + w inputs
 abbrev pub exact_bus : ℕ → List ℕ
@@ -65,4 +68,5 @@ quality_net metric w k = net_of (quality metric w k).net ((quality metric w k).s
 
 -- the net's one output says whether the error of the second word against the first exceeds k
 abbrev pub TellsExcess : Metric → ℕ → ℕ → NetValue → Type 0
-TellsExcess metric w k N = (x : List Bool) → length x ≡ w + w → outputs_of N x ≡ nat_lt k (error_of metric (take w x) (drop w x)) ∷ []
+TellsExcess metric w k N = (x : List Bool) → length x ≡ w + w
+    → outputs_of N x ≡ nat_lt k (error_of metric (take w x) (drop w x)) ∷ []

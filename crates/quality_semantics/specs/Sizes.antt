@@ -13,6 +13,7 @@ tables_and_rows tables = length tables + sum_by (λ t. length t.rows) tables
 -- at every metric and level: the quality network for two words of at most as many bits as a net that is read
 -- has outputs, and the joint net of two nets that are read
 pub record RoomLaw : Type 0 where
-  pub quality : (metric : Metric) (w k : ℕ) → w ≤ MOST_OUTPUTS → tables_and_rows (quality metric w k).net.tables ≤ 150000
+  pub quality : (metric : Metric) (w k : ℕ) → w ≤ MOST_OUTPUTS
+      → tables_and_rows (quality metric w k).net.tables ≤ 150000
   pub joint : (N M : NetValue) (metric : Metric) (k : ℕ) → IsSmall N → IsSmall M
       → signal_count (joint_net N M metric k) + row_count (joint_net N M metric k) < 2 ^ 18

@@ -1,5 +1,6 @@
 -- An arithmetic network under construction, and what holds of it after each table.
-use Rattle.std.specs.Prelude.{◌≡◌, ℕ, ◌+◌, ◌<◌, true, List, [], ◌∷◌, ◌++◌, map, length, take, All, decimal, codes}
+use Rattle.std.specs.Prelude.{◌≡◌, ℕ, ◌+◌, ◌<◌, true, List, [], ◌∷◌, ◌++◌, map, length, take, All, decimal}
+use Rattle.std.specs.Prelude.{codes}
 use Rattle.std.specs.List.{range_with_len}
 use Rattle.semantics.specs.Net.{TableValue, NetValue, table_at, IsInOrder}
 use Rattle.quality_semantics.specs.Forms.{Form, zero_form, one_form}

@@ -1,5 +1,6 @@
 //! Worked examples of the definitions, computed by the checker: each function's contract is its examples.
-ghost use Rattle.quality_semantics.specs.Examples.{AbsoluteExamples, SignedExamples, OtherExamples, MultiplierExamples, JointExamples};
+ghost use Rattle.quality_semantics.specs.Examples.{AbsoluteExamples, SignedExamples, OtherExamples};
+ghost use Rattle.quality_semantics.specs.Examples.{MultiplierExamples, JointExamples};
 
 /// Networks of the absolute error.
 pub fn absolute()

@@ -1,5 +1,6 @@
 //! The laws about the networks: each function's contract is a law.
-ghost use Rattle.quality_semantics.specs.Laws.{BusLaw, FitsLaw, RoundingLaw, MultiplierLaw, QualityLaw, JointLaw, BinaryLaw};
+ghost use Rattle.quality_semantics.specs.Laws.{BusLaw, FitsLaw, RoundingLaw, MultiplierLaw, QualityLaw};
+ghost use Rattle.quality_semantics.specs.Laws.{JointLaw, BinaryLaw};
 ghost use Rattle.quality_semantics.specs.Sizes.{RoomLaw};
 
 /// What the buses' numbers are.

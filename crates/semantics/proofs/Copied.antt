@@ -50,7 +50,8 @@ copied-embedded m before n tables copies f h = record {
       };
 }
 
-pub copied-acyclic : (m : ℕ) (before : List TableValue) (n : ℕ) (tables copies : List TableValue) (f : ℕ → ℕ) → IsAcyclic m before → IsAcyclic n tables → IsCopiedBehind m before n tables copies f → IsAcyclic m (before ++ copies)
+pub copied-acyclic : (m : ℕ) (before : List TableValue) (n : ℕ) (tables copies : List TableValue) (f : ℕ → ℕ) → IsAcyclic m before → IsAcyclic n tables → IsCopiedBehind m before n tables copies f
+    → IsAcyclic m (before ++ copies)
 copied-acyclic m before n tables copies f acyclic acyclic' h =
     acyclic_from_steps m (before ++ copies)
     (λ i within. elim (cases_lt i (length before)) [
@@ -64,7 +65,8 @@ copied-acyclic m before n tables copies f acyclic acyclic' h =
           (length tables + (length before + 0), subst (IsGroundedIn m (before ++ copies) (length tables + (length before + 0))) place there)
     ])
 
-pub copied-values : (m : ℕ) (before : List TableValue) (n : ℕ) (tables copies : List TableValue) (f : ℕ → ℕ) → IsAcyclic m before → IsAcyclic n tables → IsCopiedBehind m before n tables copies f → (x y : List Bool) → ((i : ℕ) → i < n → get_or y i false ≡ value_of m before x (f i)) → (s : ℕ) → s < n + length tables → value_of m (before ++ copies) x (f s) ≡ value_of n tables y s
+pub copied-values : (m : ℕ) (before : List TableValue) (n : ℕ) (tables copies : List TableValue) (f : ℕ → ℕ) → IsAcyclic m before → IsAcyclic n tables → IsCopiedBehind m before n tables copies f
+    → (x y : List Bool) → ((i : ℕ) → i < n → get_or y i false ≡ value_of m before x (f i)) → (s : ℕ) → s < n + length tables → value_of m (before ++ copies) x (f s) ≡ value_of n tables y s
 copied-values m before n tables copies f acyclic acyclic' h x y inputs =
     let whole : IsAcyclic m (before ++ copies) = copied-acyclic m before n tables copies f acyclic acyclic' h in
     embedded-values n tables m (before ++ copies) f x y acyclic' whole (copied-embedded m before n tables copies f h)

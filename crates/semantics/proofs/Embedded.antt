@@ -13,7 +13,8 @@ row_matches-map [] f pins v = refl
 row_matches-map (m ∷ marks) f [] v = refl
 row_matches-map (m ∷ marks) f (s ∷ pins) v = let rest = row_matches-map marks f pins v in cc
 
-some_row-map : (rows : List (List Mark)) (f : ℕ → ℕ) (pins : List ℕ) (v : Assignment) → list_any (λ marks. row_matches marks (map f pins) v) rows ≡ list_any (λ marks. row_matches marks pins (λ s. v (f s))) rows
+some_row-map : (rows : List (List Mark)) (f : ℕ → ℕ) (pins : List ℕ) (v : Assignment)
+    → list_any (λ marks. row_matches marks (map f pins) v) rows ≡ list_any (λ marks. row_matches marks pins (λ s. v (f s))) rows
 some_row-map [] f pins v = refl
 some_row-map (marks ∷ rows) f pins v = let here = row_matches-map marks f pins v in let rest = some_row-map rows f pins v in cc
 
@@ -21,7 +22,8 @@ pub table_value-renamed : (f : ℕ → ℕ) (t u : TableValue) (v : Assignment) 
 table_value-renamed f t u v pins rows plane =
     rw (pins, rows, plane) (ap (λ b. cond b t.plane (not t.plane)) (some_row-map t.rows f t.pins v))
 
-pub embedded-values : (n : ℕ) (tables : List TableValue) (m : ℕ) (larger : List TableValue) (f : ℕ → ℕ) (x y : List Bool) → IsAcyclic n tables → IsAcyclic m larger → IsEmbedded n tables m larger f → ((i : ℕ) → i < n → get_or y i false ≡ value_of m larger x (f i)) → (s : ℕ) → s < n + length tables → value_of m larger x (f s) ≡ value_of n tables y s
+pub embedded-values : (n : ℕ) (tables : List TableValue) (m : ℕ) (larger : List TableValue) (f : ℕ → ℕ) (x y : List Bool) → IsAcyclic n tables → IsAcyclic m larger → IsEmbedded n tables m larger f
+    → ((i : ℕ) → i < n → get_or y i false ≡ value_of m larger x (f i)) → (s : ℕ) → s < n + length tables → value_of m larger x (f s) ≡ value_of n tables y s
 embedded-values n tables m larger f x y acyclic acyclic' e inputs =
     let v : Assignment = value_of m larger x in
     (value_law n tables y acyclic).only (λ s. v (f s)) (record {
@@ -48,7 +50,8 @@ appended-embedded n tables more = record {
       };
 }
 
-pub appended-values : (n : ℕ) (tables more : List TableValue) (x : List Bool) → IsAcyclic n tables → IsAcyclic n (tables ++ more) → (s : ℕ) → s < n + length tables → value_of n (tables ++ more) x s ≡ value_of n tables x s
+pub appended-values : (n : ℕ) (tables more : List TableValue) (x : List Bool) → IsAcyclic n tables → IsAcyclic n (tables ++ more) → (s : ℕ) → s < n + length tables
+    → value_of n (tables ++ more) x s ≡ value_of n tables x s
 appended-values n tables more x acyclic acyclic' =
     embedded-values n tables n (tables ++ more) (λ s. s) x x acyclic acyclic' (appended-embedded n tables more)
     (λ i low. sym ((value_law n (tables ++ more) x acyclic').consistent.input i low))

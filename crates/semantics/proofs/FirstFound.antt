@@ -52,7 +52,8 @@ doubled_after earlier (n ∷ names) name e = at_test (has_name earlier n) refl e
           again = ap (λ ns. has_name ns name) (sym (append_assoc earlier (n ∷ []) h.before)) ∙ h.again;
         }
 
-doubled_from : (earlier before : List Bytes) (name : Bytes) (after : List Bytes) → first_doubled_after earlier before ≡ None → has_name (earlier ++ before) name ≡ true → first_doubled_after earlier (before ++ name ∷ after) ≡ Some name
+doubled_from : (earlier before : List Bytes) (name : Bytes) (after : List Bytes) → first_doubled_after earlier before ≡ None → has_name (earlier ++ before) name ≡ true
+    → first_doubled_after earlier (before ++ name ∷ after) ≡ Some name
 doubled_from earlier [] name after none again =
     ap (λ t. cond t (Some name) (first_doubled_after (earlier ++ name ∷ []) after)) (ap (λ ns. has_name ns name) (sym (append-nil earlier)) ∙ again)
 doubled_from earlier (n ∷ before) name after none again =

@@ -43,7 +43,8 @@ apart-grounded n tables t new (suc k) s (inr h) apart =
     ]
 
 -- once table t is grounded, so is every signal
-replaced-grounded : (n : ℕ) (tables : List TableValue) (t : ℕ) (new : TableValue) (m : ℕ) → IsGroundedIn n (replaced tables t new) m (n + t) → (k s : ℕ) → IsGroundedIn n tables k s → IsGroundedIn n (replaced tables t new) (k + m) s
+replaced-grounded : (n : ℕ) (tables : List TableValue) (t : ℕ) (new : TableValue) (m : ℕ) → IsGroundedIn n (replaced tables t new) m (n + t) → (k s : ℕ) → IsGroundedIn n tables k s
+    → IsGroundedIn n (replaced tables t new) (k + m) s
 replaced-grounded n tables t new m g zero s h = IsGroundedIn-input n (replaced tables t new) (0 + m) s h
 replaced-grounded n tables t new m g (suc k) s (inl h) = IsGroundedIn-input n (replaced tables t new) (suc k + m) s h
 replaced-grounded n tables t new m g (suc k) s (inr h) =
@@ -64,7 +65,8 @@ replaced-grounded n tables t new m g (suc k) s (inr h) =
       ]
     ]
 
-pub replaced-acyclic : (n : ℕ) (tables : List TableValue) (t : ℕ) (new : TableValue) → IsAcyclic n tables → t < length tables → AllByRecursion (λ s. (s < n + length tables) × (¬ DependsOn n tables t s)) new.pins → IsAcyclic n (replaced tables t new)
+pub replaced-acyclic : (n : ℕ) (tables : List TableValue) (t : ℕ) (new : TableValue) → IsAcyclic n tables → t < length tables
+    → AllByRecursion (λ s. (s < n + length tables) × (¬ DependsOn n tables t s)) new.pins → IsAcyclic n (replaced tables t new)
 replaced-acyclic n tables t new acyclic within reads =
     let inside : t < length (replaced tables t new) = omega (arith, length-set tables t new) in
     let pins : AllByRecursion (IsGroundedIn n (replaced tables t new) (length tables)) new.pins =
@@ -76,13 +78,15 @@ replaced-acyclic n tables t new acyclic within reads =
     acyclic_from_steps n (replaced tables t new)
     (λ i below. (length tables + suc (length tables), replaced-grounded n tables t new (suc (length tables)) here (length tables) (n + i) (acyclic i (omega (arith, length-set tables t new)))))
 
-pub narrower-acyclic : (n : ℕ) (tables : List TableValue) (t : ℕ) (new : TableValue) → IsAcyclic n tables → t < length tables → AllByRecursion (Contains (table_at tables t).pins) new.pins → IsAcyclic n (replaced tables t new)
+pub narrower-acyclic : (n : ℕ) (tables : List TableValue) (t : ℕ) (new : TableValue) → IsAcyclic n tables → t < length tables → AllByRecursion (Contains (table_at tables t).pins) new.pins
+    → IsAcyclic n (replaced tables t new)
 narrower-acyclic n tables t new acyclic within narrow =
     replaced-acyclic n tables t new acyclic within
     (each_weaker (Contains (table_at tables t).pins) (λ s. (s < n + length tables) × (¬ DependsOn n tables t s)) new.pins
     (λ s c. (pin_is_signal n tables t s acyclic within c, no_cycle n tables t acyclic within s c)) narrow)
 
-pub replaced-reads : (n : ℕ) (tables : List TableValue) (t : ℕ) (new : TableValue) → t < length tables → IsAcyclic n (replaced tables t new) → AllByRecursion (λ s. (s < n + length tables) × (¬ DependsOn n tables t s)) new.pins
+pub replaced-reads : (n : ℕ) (tables : List TableValue) (t : ℕ) (new : TableValue) → t < length tables → IsAcyclic n (replaced tables t new)
+    → AllByRecursion (λ s. (s < n + length tables) × (¬ DependsOn n tables t s)) new.pins
 replaced-reads n tables t new within acyclic' = each_member (λ s. (s < n + length tables) × (¬ DependsOn n tables t s)) new.pins (new-pins-apart n tables t new acyclic' within)
 
 pub pins_of_map : (P : ℕ → Type 0) (f : ℕ → ℕ) (pins : List ℕ) → AllByRecursion (λ s. P (f s)) pins → AllByRecursion P (map f pins)
@@ -90,7 +94,8 @@ pins_of_map P f [] h = tt
 pins_of_map P f (s ∷ pins) h = (h.0, pins_of_map P f pins h.1)
 
 -- an embedded signal needs as many steps more as the inputs do
-pub embedded-grounded : (n : ℕ) (tables : List TableValue) (m : ℕ) (larger : List TableValue) (f : ℕ → ℕ) → IsEmbedded n tables m larger f → (j : ℕ) → ((i : ℕ) → i < n → IsGroundedIn m larger j (f i)) → (k s : ℕ) → IsGroundedIn n tables k s → IsGroundedIn m larger (k + j) (f s)
+pub embedded-grounded : (n : ℕ) (tables : List TableValue) (m : ℕ) (larger : List TableValue) (f : ℕ → ℕ) → IsEmbedded n tables m larger f → (j : ℕ)
+    → ((i : ℕ) → i < n → IsGroundedIn m larger j (f i)) → (k s : ℕ) → IsGroundedIn n tables k s → IsGroundedIn m larger (k + j) (f s)
 embedded-grounded n tables m larger f e j g zero s h = IsGroundedIn-later m larger 0 j (f s) (g s h)
 embedded-grounded n tables m larger f e j g (suc k) s (inl h) = IsGroundedIn-later m larger (suc k) j (f s) (g s h)
 embedded-grounded n tables m larger f e j g (suc k) s (inr h) =
@@ -109,7 +114,8 @@ embedded-grounded n tables m larger f e j g (suc k) s (inr h) =
           subst (λ i. IsGroundedIn m larger i (f s)) sum (subst (IsGroundedIn m larger (suc (k + j))) place there)
     ]
 
-pub next-value : (n : ℕ) (tables : List TableValue) (x : List Bool) (before : List ℕ) (i : ℕ) (v : Assignment) → IsAcyclic n tables → IsNext n tables before i → ((s : ℕ) → IsKnown n before s → v s ≡ value_of n tables x s) → table_value (table_at tables i) v ≡ value_of n tables x (n + i)
+pub next-value : (n : ℕ) (tables : List TableValue) (x : List Bool) (before : List ℕ) (i : ℕ) (v : Assignment) → IsAcyclic n tables → IsNext n tables before i
+    → ((s : ℕ) → IsKnown n before s → v s ≡ value_of n tables x s) → table_value (table_at tables i) v ≡ value_of n tables x (n + i)
 next-value n tables x before i v acyclic next known =
     table_value-same (table_at tables i) v (value_of n tables x)
     (each_weaker (IsKnown n before) (λ s. v s ≡ value_of n tables x s) (table_at tables i).pins known next.reads)

@@ -1,5 +1,6 @@
 -- Decimal numbers below 10 ^ 64: the word that is written is the one that reads as the number.
-use Rattle.std.proofs.Common.{◌≡◌, ◌≢◌, ℕ, ◌+◌, ◌-◌, ◌*◌, ◌/◌, ◌%◌, ◌^◌, ◌<◌, ◌≤◌, true, ◌==◌, not, ◌&&◌, [], ◌∷◌, ◌++◌, length, get_or, fold, decimal, refl, ap, sym, subst, ◌∙◌, append_assoc, append-nil, lt_of_le_of_lt, leb, arith}
+use Rattle.std.proofs.Common.{◌≡◌, ◌≢◌, ℕ, ◌+◌, ◌-◌, ◌*◌, ◌/◌, ◌%◌, ◌^◌, ◌<◌, ◌≤◌, true, ◌==◌, not, ◌&&◌, [], ◌∷◌, ◌++◌, length, get_or, fold, decimal, refl, ap, sym, subst, ◌∙◌, append_assoc}
+use Rattle.std.proofs.Common.{append-nil, lt_of_le_of_lt, leb, arith}
 use Rattle.std.specs.List.{list_all}
 use Rattle.std.proofs.lemmas.Bool.{false≢true, leb-true, le-leb, ne_eqb, eqb-false, not-true, and_parts, and_from, not_from_false}
 use Rattle.std.proofs.lemmas.List.{length_push, get_or_append_left}

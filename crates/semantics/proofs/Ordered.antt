@@ -23,7 +23,8 @@ cases_Contains xs q =
       | inr missed ↦ inr (λ c. let found = is_listed xs q c in cc)
     ]
 
-pub order-next : (n : ℕ) (tables : List TableValue) (before order : List ℕ) (i : ℕ) → IsOrderAfter n tables before order → IsNext n tables (before ++ order) i → IsOrderAfter n tables before (order ++ i ∷ [])
+pub order-next : (n : ℕ) (tables : List TableValue) (before order : List ℕ) (i : ℕ) → IsOrderAfter n tables before order → IsNext n tables (before ++ order) i
+    → IsOrderAfter n tables before (order ++ i ∷ [])
 order-next n tables before [] i h next = (rw append-nil at next, tt)
 order-next n tables before (j ∷ order) i h next =
     (h.0, order-next n tables (before ++ j ∷ []) order i h.1 (subst (λ l. IsNext n tables l i) (sym (append_assoc before (j ∷ []) order)) next))
@@ -70,7 +71,8 @@ known-grounded n tables before k s g (inr c) =
       | inr high ↦ let place : n + (s - n) ≡ s = omega arith in subst (IsGroundedIn n tables k) place (g (s - n) c)
     ]
 
-pub order-grounded : (n : ℕ) (tables : List TableValue) (before order : List ℕ) (k : ℕ) → IsOrderAfter n tables before order → ((j : ℕ) → Contains before j → IsGroundedIn n tables k (n + j)) → (j : ℕ) → Contains (before ++ order) j → IsGroundedIn n tables (k + length order) (n + j)
+pub order-grounded : (n : ℕ) (tables : List TableValue) (before order : List ℕ) (k : ℕ) → IsOrderAfter n tables before order → ((j : ℕ) → Contains before j → IsGroundedIn n tables k (n + j))
+    → (j : ℕ) → Contains (before ++ order) j → IsGroundedIn n tables (k + length order) (n + j)
 order-grounded n tables before [] k h g j c = let same : k ≡ k + 0 = omega arith in subst (λ m. IsGroundedIn n tables m (n + j)) same (g j (rw append-nil at c))
 order-grounded n tables before (i ∷ order) k h g j c =
     let place : i ≡ (n + i) - n = omega arith in
@@ -104,7 +106,8 @@ known-keeps n old now s keeps (inl low) = inl low
 known-keeps n old now s keeps (inr c) = inr (keeps (s - n) c)
 
 -- pins one after another
-grown-pins : (n : ℕ) (tables : List TableValue) (Q : ℕ → Type 0) (pins : List ℕ) → ((p : ℕ) → Q p → (old : List ℕ) → IsOrderAfter n tables [] old → Grown n tables old (λ l. IsKnown n l p)) → AllByRecursion Q pins → (old : List ℕ) → IsOrderAfter n tables [] old → Grown n tables old (λ l. AllByRecursion (IsKnown n l) pins)
+grown-pins : (n : ℕ) (tables : List TableValue) (Q : ℕ → Type 0) (pins : List ℕ) → ((p : ℕ) → Q p → (old : List ℕ) → IsOrderAfter n tables [] old → Grown n tables old (λ l. IsKnown n l p))
+    → AllByRecursion Q pins → (old : List ℕ) → IsOrderAfter n tables [] old → Grown n tables old (λ l. AllByRecursion (IsKnown n l) pins)
 grown-pins n tables Q [] f h old o = record { now = old; in_turn = o; keeps = λ j c. c; holds = tt }
 grown-pins n tables Q (p ∷ pins) f h old o =
     let first : Grown n tables old (λ l. IsKnown n l p) = f p h.0 old o in
@@ -117,7 +120,8 @@ grown-pins n tables Q (p ∷ pins) f h old o =
     }
 
 -- the table whose pins are known joins, unless it stands there
-grown-table : (n : ℕ) (tables : List TableValue) (s : ℕ) → s < n + length tables → (old : List ℕ) → Grown n tables old (λ l. AllByRecursion (IsKnown n l) (table_at tables (s - n)).pins) → Grown n tables old (λ l. IsKnown n l s)
+grown-table : (n : ℕ) (tables : List TableValue) (s : ℕ) → s < n + length tables → (old : List ℕ) → Grown n tables old (λ l. AllByRecursion (IsKnown n l) (table_at tables (s - n)).pins)
+    → Grown n tables old (λ l. IsKnown n l s)
 grown-table n tables s within old g =
     elim (cases_lt s n) [
       | inl low ↦ record { now = g.now; in_turn = g.in_turn; keeps = g.keeps; holds = inl low }
@@ -139,7 +143,8 @@ grown-signal n tables (suc k) s (inr h) old o =
     grown-table n tables s h.0 old (grown-pins n tables (IsGroundedIn n tables k) (table_at tables (s - n)).pins (grown-signal n tables k) h.1 old o)
 
 -- the first m tables
-grown-tables : (n : ℕ) (tables : List TableValue) → ((i : ℕ) → i < length tables → (steps : ℕ) × IsGroundedIn n tables steps (n + i)) → (m : ℕ) → m ≤ length tables → Grown n tables [] (λ l. (i : ℕ) → i < m → Contains l i)
+grown-tables : (n : ℕ) (tables : List TableValue) → ((i : ℕ) → i < length tables → (steps : ℕ) × IsGroundedIn n tables steps (n + i)) → (m : ℕ) → m ≤ length tables
+    → Grown n tables [] (λ l. (i : ℕ) → i < m → Contains l i)
 grown-tables n tables h zero within = record { now = []; in_turn = tt; keeps = λ j c. c; holds = λ i l. absurd (omega arith) }
 grown-tables n tables h (suc m) within =
     let first : Grown n tables [] (λ l. (i : ℕ) → i < m → Contains l i) = grown-tables n tables h m (omega arith) in

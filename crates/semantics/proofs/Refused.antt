@@ -1,5 +1,6 @@
 -- Each refusal of parts is absent exactly where what it refuses is.
-use Rattle.std.proofs.Common.{◌≡◌, ◌≢◌, ℕ, zero, suc, ◌+◌, ◌-◌, ◌<◌, ◌≤◌, Bool, true, false, cond, not, ltb, leb, eqb, List, [], ◌∷◌, ◌++◌, flat_map, length, get_or, find, All, AllPairs, Option, Some, None, Decides, ne_eqb, refl, ap, sym, subst, ◌∙◌, append_assoc, append-nil, true≢false, arith}
+use Rattle.std.proofs.Common.{◌≡◌, ◌≢◌, ℕ, zero, suc, ◌+◌, ◌-◌, ◌<◌, ◌≤◌, Bool, true, false, cond, not, ltb, leb, eqb, List, [], ◌∷◌, ◌++◌, flat_map, length, get_or, find, All, AllPairs, Option}
+use Rattle.std.proofs.Common.{Some, None, Decides, ne_eqb, refl, ap, sym, subst, ◌∙◌, append_assoc, append-nil, true≢false, arith}
 use Rattle.std.specs.Str.{bytes_eq}
 use Rattle.std.specs.List.{list_all, list_any, AllByRecursion, HoldsAt, position_or_len, range_with_len}
 use Rattle.std.proofs.lemmas.Bool.{not-false, eqb-false, lt-ltb, ltb-true, ltb-false, le-ltb, le-leb, leb-true, false_from_ne_true}
@@ -14,7 +15,8 @@ use Rattle.std.proofs.lemmas.Slice.Eq.{bytes_eq-Decides}
 use Rattle.semantics.specs.declared.limits.TheConstants.{MOST_INPUTS, MOST_OUTPUTS, MOST_TABLES, MOST_TABLE_PINS, MOST_PINS, MOST_ROWS}
 use Rattle.semantics.specs.Texts.{Bytes}
 use Rattle.semantics.specs.Net.{TableValue, NetValue, table_at, input_count, signal_count, signal_names, pin_count, row_count, IsName, IsTable, IsGroundedIn, IsAcyclic, IsSound, IsSmall}
-use Rattle.semantics.specs.Refusals.{has_name, first_doubled_after, first_doubled, signals_read, first_undriven, is_grounded_in, is_ungrounded, first_ungrounded, IsFirstUngrounded, first_limit, or_else, net_refusal}
+use Rattle.semantics.specs.Refusals.{has_name, first_doubled_after, first_doubled, signals_read, first_undriven, is_grounded_in, is_ungrounded, first_ungrounded, IsFirstUngrounded, first_limit}
+use Rattle.semantics.specs.Refusals.{or_else, net_refusal}
 
 -- ---- no answer
 
@@ -174,7 +176,8 @@ first-ungrounded n tables i f =
     let m = length tables in
     let size = length-range_with_len 0 m in
     let place = position_or_len_is (is_ungrounded n tables) (range_with_len 0 m) i 0 (omega (arith, size, f.within))
-    (λ k low. at_place n tables k (omega (arith, f.within, low)) ∙ fails_if_grounded n tables k (f.before k low)) (λ _. at_place n tables i f.within ∙ (Decides-ungrounded n tables i).1 f.ungrounded) in
+    (λ k low. at_place n tables k (omega (arith, f.within, low)) ∙ fails_if_grounded n tables k (f.before k low)) (λ _. at_place n tables i f.within ∙ (Decides-ungrounded n tables i).1 f.ungrounded)
+    in
     rw (place, size, lt-ltb i m f.within) refl
 
 -- ---- limits
@@ -185,7 +188,8 @@ not_passed kept refused rest none = let here = none_if (not kept) refused rest n
 
 pub Decides-narrow : (tables : List TableValue) → Decides (list_all (λ t. leb (length t.pins) MOST_TABLE_PINS) tables) (All (λ t. length t.pins ≤ MOST_TABLE_PINS) tables)
 Decides-narrow tables =
-    Decides-by_and (λ t. leb (length t.pins) MOST_TABLE_PINS) (λ t. length t.pins ≤ MOST_TABLE_PINS) (list_all (λ t. leb (length t.pins) MOST_TABLE_PINS)) (λ t. (leb-true (length t.pins) MOST_TABLE_PINS, le-leb (length t.pins) MOST_TABLE_PINS)) refl (λ t ts. refl) tables
+    Decides-by_and (λ t. leb (length t.pins) MOST_TABLE_PINS) (λ t. length t.pins ≤ MOST_TABLE_PINS) (list_all (λ t. leb (length t.pins) MOST_TABLE_PINS))
+    (λ t. (leb-true (length t.pins) MOST_TABLE_PINS, le-leb (length t.pins) MOST_TABLE_PINS)) refl (λ t ts. refl) tables
 
 pub small : (N : NetValue) → first_limit N ≡ None → IsSmall N
 small N none =

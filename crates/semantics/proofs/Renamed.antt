@@ -14,7 +14,8 @@ use Rattle.semantics.proofs.Grounding.{pins_of_map}
 table_at-renamed : (f : ℕ → ℕ) (tables : List TableValue) (i : ℕ) → i < length tables → table_at (map (renamed f) tables) i ≡ renamed f (table_at tables i)
 table_at-renamed f tables i within = get_or-map (renamed f) tables i no_table no_table within
 
-pub renamed-values : (n : ℕ) (tables : List TableValue) (f : ℕ → ℕ) (x : List Bool) → IsAcyclic n tables → IsAcyclic n (map (renamed f) tables) → ((s : ℕ) → s < n + length tables → value_of n tables x (f s) ≡ value_of n tables x s) → (s : ℕ) → s < n + length tables → value_of n (map (renamed f) tables) x s ≡ value_of n tables x s
+pub renamed-values : (n : ℕ) (tables : List TableValue) (f : ℕ → ℕ) (x : List Bool) → IsAcyclic n tables → IsAcyclic n (map (renamed f) tables)
+    → ((s : ℕ) → s < n + length tables → value_of n tables x (f s) ≡ value_of n tables x s) → (s : ℕ) → s < n + length tables → value_of n (map (renamed f) tables) x s ≡ value_of n tables x s
 renamed-values n tables f x acyclic acyclic' same s within =
     let v : Assignment = value_of n tables x in
     let law : IsConsistent n tables x v = (value_law n tables x acyclic).consistent in
@@ -31,7 +32,8 @@ renamed-values n tables f x acyclic acyclic' same s within =
     }) s (rw (length-map tables (renamed f)) within))
 
 -- what is renamed to signals that are grounded no later
-renamed-grounded : (n : ℕ) (tables : List TableValue) (f : ℕ → ℕ) → ((k s : ℕ) → IsGroundedIn n tables k s → IsGroundedIn n tables k (f s)) → (k s : ℕ) → IsGroundedIn n tables k s → IsGroundedIn n (map (renamed f) tables) k s
+renamed-grounded : (n : ℕ) (tables : List TableValue) (f : ℕ → ℕ) → ((k s : ℕ) → IsGroundedIn n tables k s → IsGroundedIn n tables k (f s)) → (k s : ℕ) → IsGroundedIn n tables k s
+    → IsGroundedIn n (map (renamed f) tables) k s
 renamed-grounded n tables f g zero s h = h
 renamed-grounded n tables f g (suc k) s (inl h) = inl h
 renamed-grounded n tables f g (suc k) s (inr h) =

@@ -21,13 +21,15 @@ pub record IsConsistentBut (n : ℕ) (tables : List TableValue) (x : List Bool) 
 pub IsConsistentBut-weaker : (n : ℕ) (tables : List TableValue) (x : List Bool) (t : ℕ) (v : Assignment) → IsConsistent n tables x v → IsConsistentBut n tables x t v
 IsConsistentBut-weaker n tables x t v h = record { input = h.input; others = λ i within ne. h.table i within }
 
-pub IsConsistentBut-replaced : (n : ℕ) (tables : List TableValue) (x : List Bool) (t : ℕ) (new : TableValue) (v : Assignment) → IsConsistent n (replaced tables t new) x v → IsConsistentBut n tables x t v
+pub IsConsistentBut-replaced : (n : ℕ) (tables : List TableValue) (x : List Bool) (t : ℕ) (new : TableValue) (v : Assignment) → IsConsistent n (replaced tables t new) x v
+    → IsConsistentBut n tables x t v
 IsConsistentBut-replaced n tables x t new v h = record {
   input = h.input;
   others = λ i within ne. h.table i (rw (length-set tables t new) within) ∙ ap (λ u. table_value u v) (table_at-other tables t i new ne);
 }
 
-pub IsConsistent-replaced : (n : ℕ) (tables : List TableValue) (x : List Bool) (t : ℕ) (new : TableValue) (v : Assignment) → IsConsistentBut n tables x t v → v (n + t) ≡ table_value new v → IsConsistent n (replaced tables t new) x v
+pub IsConsistent-replaced : (n : ℕ) (tables : List TableValue) (x : List Bool) (t : ℕ) (new : TableValue) (v : Assignment) → IsConsistentBut n tables x t v → v (n + t) ≡ table_value new v
+    → IsConsistent n (replaced tables t new) x v
 IsConsistent-replaced n tables x t new v h e = record {
   input = h.input;
   table = λ i within.
@@ -41,7 +43,8 @@ IsConsistent-replaced n tables x t new v h e = record {
 }
 
 -- two assignments that are consistent with every table but t agree on what does not depend on t
-apart-same : (n : ℕ) (tables : List TableValue) (x : List Bool) (t : ℕ) (v w : Assignment) → IsConsistentBut n tables x t v → IsConsistentBut n tables x t w → (k s : ℕ) → IsGroundedIn n tables k s → ¬ DependsOn n tables t s → v s ≡ w s
+apart-same : (n : ℕ) (tables : List TableValue) (x : List Bool) (t : ℕ) (v w : Assignment) → IsConsistentBut n tables x t v → IsConsistentBut n tables x t w → (k s : ℕ) → IsGroundedIn n tables k s
+    → ¬ DependsOn n tables t s → v s ≡ w s
 apart-same n tables x t v w cv cw zero s h apart = cv.input s h ∙ sym (cw.input s h)
 apart-same n tables x t v w cv cw (suc k) s (inl h) apart = cv.input s h ∙ sym (cw.input s h)
 apart-same n tables x t v w cv cw (suc k) s (inr h) apart =
@@ -59,11 +62,13 @@ apart-same n tables x t v w cv cw (suc k) s (inr h) apart =
           ∙ ap w (sym place)
     ]
 
-pub apart-agree : (n : ℕ) (tables : List TableValue) (x : List Bool) (t : ℕ) (v w : Assignment) → IsAcyclic n tables → IsConsistentBut n tables x t v → IsConsistentBut n tables x t w → (s : ℕ) → s < n + length tables → ¬ DependsOn n tables t s → v s ≡ w s
+pub apart-agree : (n : ℕ) (tables : List TableValue) (x : List Bool) (t : ℕ) (v w : Assignment) → IsAcyclic n tables → IsConsistentBut n tables x t v → IsConsistentBut n tables x t w → (s : ℕ)
+    → s < n + length tables → ¬ DependsOn n tables t s → v s ≡ w s
 apart-agree n tables x t v w acyclic cv cw s within apart =
     apart-same n tables x t v w cv cw (length tables) s (IsGroundedIn-signal n tables acyclic s within) apart
 
-pub replaced-apart : (n : ℕ) (tables : List TableValue) (t : ℕ) (new : TableValue) (x : List Bool) → IsAcyclic n tables → IsAcyclic n (replaced tables t new) → (s : ℕ) → s < n + length tables → ¬ DependsOn n tables t s → value_of n (replaced tables t new) x s ≡ value_of n tables x s
+pub replaced-apart : (n : ℕ) (tables : List TableValue) (t : ℕ) (new : TableValue) (x : List Bool) → IsAcyclic n tables → IsAcyclic n (replaced tables t new) → (s : ℕ) → s < n + length tables
+    → ¬ DependsOn n tables t s → value_of n (replaced tables t new) x s ≡ value_of n tables x s
 replaced-apart n tables t new x acyclic acyclic' s within apart =
     apart-agree n tables x t (value_of n (replaced tables t new) x) (value_of n tables x) acyclic
     (IsConsistentBut-replaced n tables x t new (value_of n (replaced tables t new) x) (value_law n (replaced tables t new) x acyclic').consistent)
@@ -71,17 +76,20 @@ replaced-apart n tables t new x acyclic acyclic' s within apart =
     s within apart
 
 -- the values of the replaced list are the one assignment that is consistent with the other tables and has the new table's value
-pub replaced-only : (n : ℕ) (tables : List TableValue) (t : ℕ) (new : TableValue) (x : List Bool) (v : Assignment) → IsAcyclic n (replaced tables t new) → IsConsistentBut n tables x t v → v (n + t) ≡ table_value new v → (s : ℕ) → s < n + length tables → v s ≡ value_of n (replaced tables t new) x s
+pub replaced-only : (n : ℕ) (tables : List TableValue) (t : ℕ) (new : TableValue) (x : List Bool) (v : Assignment) → IsAcyclic n (replaced tables t new) → IsConsistentBut n tables x t v
+    → v (n + t) ≡ table_value new v → (s : ℕ) → s < n + length tables → v s ≡ value_of n (replaced tables t new) x s
 replaced-only n tables t new x v acyclic' h e s within =
     (value_law n (replaced tables t new) x acyclic').only v (IsConsistent-replaced n tables x t new v h e) s (rw (length-set tables t new) within)
 
-pub replaced-same : (n : ℕ) (tables : List TableValue) (t : ℕ) (new : TableValue) (x : List Bool) → IsAcyclic n tables → IsAcyclic n (replaced tables t new) → table_value new (value_of n tables x) ≡ value_of n tables x (n + t) → (s : ℕ) → s < n + length tables → value_of n (replaced tables t new) x s ≡ value_of n tables x s
+pub replaced-same : (n : ℕ) (tables : List TableValue) (t : ℕ) (new : TableValue) (x : List Bool) → IsAcyclic n tables → IsAcyclic n (replaced tables t new)
+    → table_value new (value_of n tables x) ≡ value_of n tables x (n + t) → (s : ℕ) → s < n + length tables → value_of n (replaced tables t new) x s ≡ value_of n tables x s
 replaced-same n tables t new x acyclic acyclic' e s within =
     sym (replaced-only n tables t new x (value_of n tables x) acyclic'
     (IsConsistentBut-weaker n tables x t (value_of n tables x) (value_law n tables x acyclic).consistent) (sym e) s within)
 
 -- no signal that the new table reads depends on it
-pub new-pins-apart : (n : ℕ) (tables : List TableValue) (t : ℕ) (new : TableValue) → IsAcyclic n (replaced tables t new) → t < length tables → (p : ℕ) → Contains new.pins p → (p < n + length tables) × (¬ DependsOn n tables t p)
+pub new-pins-apart : (n : ℕ) (tables : List TableValue) (t : ℕ) (new : TableValue) → IsAcyclic n (replaced tables t new) → t < length tables → (p : ℕ) → Contains new.pins p
+    → (p < n + length tables) × (¬ DependsOn n tables t p)
 new-pins-apart n tables t new acyclic' within p c =
     let inside : t < length (replaced tables t new) = rw (length-set tables t new) within in
     let c' : Contains (table_at (replaced tables t new) t).pins p = subst (λ u. Contains u.pins p) (sym (get_or-set_same tables t new no_table within)) c in (
@@ -90,12 +98,14 @@ new-pins-apart n tables t new acyclic' within p c =
     )
 
 -- the new table has the same value under two assignments that are consistent with every other table
-pub new-value-same : (n : ℕ) (tables : List TableValue) (t : ℕ) (new : TableValue) (x : List Bool) (v w : Assignment) → IsAcyclic n tables → IsAcyclic n (replaced tables t new) → t < length tables → IsConsistentBut n tables x t v → IsConsistentBut n tables x t w → table_value new v ≡ table_value new w
+pub new-value-same : (n : ℕ) (tables : List TableValue) (t : ℕ) (new : TableValue) (x : List Bool) (v w : Assignment) → IsAcyclic n tables → IsAcyclic n (replaced tables t new) → t < length tables
+    → IsConsistentBut n tables x t v → IsConsistentBut n tables x t w → table_value new v ≡ table_value new w
 new-value-same n tables t new x v w acyclic acyclic' within cv cw =
     table_value-same new v w (each_member (λ p. v p ≡ w p) new.pins
     (λ p c. let apart = new-pins-apart n tables t new acyclic' within p c in apart-agree n tables x t v w acyclic cv cw p apart.0 apart.1))
 
-pub replaced-new : (n : ℕ) (tables : List TableValue) (t : ℕ) (new : TableValue) (x : List Bool) → IsAcyclic n tables → IsAcyclic n (replaced tables t new) → t < length tables → value_of n (replaced tables t new) x (n + t) ≡ table_value new (value_of n tables x)
+pub replaced-new : (n : ℕ) (tables : List TableValue) (t : ℕ) (new : TableValue) (x : List Bool) → IsAcyclic n tables → IsAcyclic n (replaced tables t new) → t < length tables
+    → value_of n (replaced tables t new) x (n + t) ≡ table_value new (value_of n tables x)
 replaced-new n tables t new x acyclic acyclic' within =
     let after : Assignment = value_of n (replaced tables t new) x in
     let before : Assignment = value_of n tables x in

@@ -1,5 +1,6 @@
 -- How large the errors of two words are.
-use Rattle.std.proofs.Common.{◌≡◌, ℕ, zero, suc, ◌+◌, ◌-◌, ◌*◌, ◌/◌, ◌^◌, ◌<◌, ◌≤◌, max, Bool, true, false, not, List, [], ◌∷◌, map, length, get_or, replicate, refl, ap, sym, ◌∙◌, div-add-mod', div-one, le-mul_of_pos_right, arith}
+use Rattle.std.proofs.Common.{◌≡◌, ℕ, zero, suc, ◌+◌, ◌-◌, ◌*◌, ◌/◌, ◌^◌, ◌<◌, ◌≤◌, max, Bool, true, false, not, List, [], ◌∷◌, map, length, get_or, replicate, refl, ap, sym, ◌∙◌, div-add-mod'}
+use Rattle.std.proofs.Common.{div-one, le-mul_of_pos_right, arith}
 use Rattle.std.proofs.Math.Nat.{pow-succ'}
 use Rattle.std.proofs.Math.Pow.{pow_mono}
 use Rattle.std.proofs.lemmas.List.{length-map, length-replicate, get_or-replicate}

@@ -13,7 +13,8 @@ row_matches-same [] pins v w h = refl
 row_matches-same (m ∷ marks) [] v w h = refl
 row_matches-same (m ∷ marks) (s ∷ pins) v w h = let rest = row_matches-same marks pins v w h.1 in cc (h.0, rest)
 
-some_row-same : (rows : List (List Mark)) (pins : List ℕ) (v w : Assignment) → AllByRecursion (λ s. v s ≡ w s) pins → list_any (λ marks. row_matches marks pins v) rows ≡ list_any (λ marks. row_matches marks pins w) rows
+some_row-same : (rows : List (List Mark)) (pins : List ℕ) (v w : Assignment) → AllByRecursion (λ s. v s ≡ w s) pins
+    → list_any (λ marks. row_matches marks pins v) rows ≡ list_any (λ marks. row_matches marks pins w) rows
 some_row-same [] pins v w h = refl
 some_row-same (marks ∷ rows) pins v w h =
     let here = row_matches-same marks pins v w h in
@@ -29,7 +30,8 @@ round-input : (n : ℕ) (tables : List TableValue) (x : List Bool) (v w : Assign
 round-input n tables x v w s h = rw (lt-ltb s n h) refl
 
 -- a round from two assignments that agree at the pins
-round-same : (n : ℕ) (tables : List TableValue) (x : List Bool) (v w : Assignment) (s : ℕ) → AllByRecursion (λ p. v p ≡ w p) (table_at tables (s - n)).pins → round n tables x v s ≡ round n tables x w s
+round-same : (n : ℕ) (tables : List TableValue) (x : List Bool) (v w : Assignment) (s : ℕ) → AllByRecursion (λ p. v p ≡ w p) (table_at tables (s - n)).pins
+    → round n tables x v s ≡ round n tables x w s
 round-same n tables x v w s h = ap (λ b. cond (ltb s n) (get_or x s false) b) (table_value-same (table_at tables (s - n)) v w h)
 
 -- v is one round after w, as far as there are signals

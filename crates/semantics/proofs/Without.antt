@@ -50,7 +50,8 @@ module _ (n : ℕ) (tables : List TableValue) (t : ℕ) (inside : t < length tab
   after-gone : (j : ℕ) → t ≤ j → j + 1 < length tables → table_at (without n tables t) j ≡ renamed (lowered (n + t)) (table_at tables (j + 1))
   after-gone j h within = table_at-without j (omega (arith, length-without)) ∙ ap (renamed (lowered (n + t))) (get_or-remove_above tables t no_table j h inside)
 
-  stands : (j i : ℕ) → i < length tables → (¬ Contains (table_at tables i).pins (n + t)) → raised (n + t) (n + j) ≡ n + i → table_at (without n tables t) j ≡ renamed (lowered (n + t)) (table_at tables i) → StandsAt (raised (n + t)) (table_at (without n tables t) j) n tables (raised (n + t) (n + j))
+  stands : (j i : ℕ) → i < length tables → (¬ Contains (table_at tables i).pins (n + t)) → raised (n + t) (n + j) ≡ n + i
+      → table_at (without n tables t) j ≡ renamed (lowered (n + t)) (table_at tables i) → StandsAt (raised (n + t)) (table_at (without n tables t) j) n tables (raised (n + t) (n + j))
   stands j i within unread is e =
       let old : TableValue = table_at tables i in
       let others : AllByRecursion (λ s. s ≡ n + t → ⊥) (table_at tables i).pins =

@@ -1,6 +1,8 @@
--- The number of a list of bits, and the four errors. Source: SALSA's quality functions; the relative error is in parts per million, rounded
--- up; signed words are in two's complement.
-use Rattle.std.specs.Prelude.{◌≡◌, ℕ, ◌+◌, ◌-◌, ◌*◌, ◌/◌, ◌%◌, ◌^◌, ◌≤◌, min, max, ℤ, pos, ◌-ℤ◌, unsigned_abs, Bool, true, false, not, List, [], ◌∷◌, length, slice_index_or, slice_set}
+-- The number of a list of bits, and the four errors. Source: SALSA's quality functions; the relative error is
+-- in parts per million, rounded up; signed words are in two's complement.
+use Rattle.std.specs.Prelude.{◌≡◌, ℕ, ◌+◌, ◌-◌, ◌*◌, ◌/◌, ◌%◌, ◌^◌, ◌≤◌, min, max, ℤ, pos, ◌-ℤ◌}
+use Rattle.std.specs.Prelude.{unsigned_abs, Bool, true, false, not, List, [], ◌∷◌, length, slice_index_or}
+use Rattle.std.specs.Prelude.{slice_set}
 use Rattle.semantics.specs.declared.metric.Metric.{Metric}
 use Rattle.semantics.specs.declared.metric.Metric.TheVariants.{Abs, Rel, Ham, Sabs}
 use Rattle.semantics.specs.declared.limits.TheConstants.{MOST_OUTPUTS, LARGEST_ERROR}
@@ -69,7 +71,8 @@ net_error metric exact approx x = error_of metric (outputs_of exact x) (outputs_
 
 -- on every input vector the error is at most the level
 abbrev pub IsWithin : Metric → NetValue → ℕ → NetValue → Type 0
-IsWithin metric exact level approx = (x : List Bool) → length x ≡ input_count exact → net_error metric exact approx x ≤ level
+IsWithin metric exact level approx = (x : List Bool) → length x ≡ input_count exact
+    → net_error metric exact approx x ≤ level
 
 -- the approximate net may be judged against the exact one: the ports agree, and the outputs are few enough
 -- that every error is a number of at most 84 bits

@@ -1,16 +1,19 @@
 -- Worked examples, computed from the definitions.
-use Rattle.std.specs.Prelude.{◌≡◌, ℕ, true, false, List, [], ◌∷◌, ◌++◌, map, flat_map, length, replicate, slice_index_or, ◌^◌, ◌-◌, ℤ, pos, neg_ℤ, codes, Contains, Some, None}
+use Rattle.std.specs.Prelude.{◌≡◌, ℕ, true, false, List, [], ◌∷◌, ◌++◌, map, flat_map, length, replicate}
+use Rattle.std.specs.Prelude.{slice_index_or, ◌^◌, ◌-◌, ℤ, pos, neg_ℤ, codes, Contains, Some, None}
 use Rattle.semantics.specs.declared.mark.Mark.TheVariants.{Zero, One, Dash}
 use Rattle.semantics.specs.declared.which.Which.TheVariants as which
 use Rattle.semantics.specs.Texts.{Bytes, bits_word}
-use Rattle.semantics.specs.Net.{TableValue, NetValue, table_at, table_count, literal_count, constant_table, IsName, IsAcyclic}
+use Rattle.semantics.specs.Net.{TableValue, NetValue, table_at, table_count, literal_count, constant_table}
+use Rattle.semantics.specs.Net.{IsName, IsAcyclic}
 use Rattle.semantics.specs.Value.{value_of, outputs_of}
 use Rattle.semantics.specs.Replaced.{replaced, with_table}
 use Rattle.semantics.specs.Dependence.{DependsOn}
 use Rattle.semantics.specs.Embedding.{IsEmbedded}
 use Rattle.semantics.specs.Copies.{IsCopiedBehind}
 use Rattle.semantics.specs.Renamed.{renamed, redirect, without}
-use Rattle.semantics.specs.Refusals.{first_doubled, first_ungrounded, first_limit, doubled, no_output, undriven, cycle, limit, net_refusal}
+use Rattle.semantics.specs.Refusals.{first_doubled, first_ungrounded, first_limit, doubled, no_output}
+use Rattle.semantics.specs.Refusals.{undriven, cycle, limit, net_refusal}
 use Rattle.semantics.specs.declared.metric.Metric.TheVariants.{Abs, Rel, Ham, Sabs}
 use Rattle.semantics.specs.declared.limits.TheConstants.{LARGEST_ERROR}
 use Rattle.semantics.specs.Error.{signed_number_of, sign_flipped, error_of, net_error, greatest_error}
@@ -26,7 +29,12 @@ half_adder = record {
   model = codes "ha";
   inputs = codes "a" ∷ codes "b" ∷ [];
   tables =
-      record { name = codes "s"; pins = 0 ∷ 1 ∷ []; rows = (One ∷ Zero ∷ []) ∷ (Zero ∷ One ∷ []) ∷ []; plane = true }
+      record {
+        name = codes "s";
+        pins = 0 ∷ 1 ∷ [];
+        rows = (One ∷ Zero ∷ []) ∷ (Zero ∷ One ∷ []) ∷ [];
+        plane = true;
+      }
       ∷ record { name = codes "c"; pins = 0 ∷ 1 ∷ []; rows = (One ∷ One ∷ []) ∷ []; plane = true }
       ∷ [];
   outputs = 2 ∷ 3 ∷ [];
@@ -71,7 +79,12 @@ or_twice first = record {
   inputs = codes "a" ∷ codes "b" ∷ [];
   tables =
       first
-      ∷ record { name = codes "z"; pins = 0 ∷ 1 ∷ []; rows = (One ∷ Dash ∷ []) ∷ (Dash ∷ One ∷ []) ∷ []; plane = true }
+      ∷ record {
+        name = codes "z";
+        pins = 0 ∷ 1 ∷ [];
+        rows = (One ∷ Dash ∷ []) ∷ (Dash ∷ One ∷ []) ∷ [];
+        plane = true;
+      }
       ∷ [];
   outputs = 2 ∷ 3 ∷ [];
 }
@@ -86,11 +99,13 @@ pub record ValueExamples : Type 0 where
   pub half_adder_values :
       map (outputs_of half_adder) (all_vectors 2)
       ≡ (false ∷ false ∷ []) ∷ (true ∷ false ∷ []) ∷ (true ∷ false ∷ []) ∷ (false ∷ true ∷ []) ∷ []
-  pub out_of_order_values : map (outputs_of out_of_order) (all_vectors 1) ≡ (false ∷ true ∷ false ∷ []) ∷ (true ∷ false ∷ true ∷ []) ∷ []
+  pub out_of_order_values : map (outputs_of out_of_order) (all_vectors 1)
+      ≡ (false ∷ true ∷ false ∷ []) ∷ (true ∷ false ∷ true ∷ []) ∷ []
   pub wire_values : map (outputs_of wire) (all_vectors 1) ≡ (false ∷ []) ∷ (true ∷ []) ∷ []
   pub constant_values : map (outputs_of constant_one) (all_vectors 0) ≡ (true ∷ []) ∷ []
   pub counts : (table_count half_adder ≡ 2) × (literal_count half_adder ≡ 6)
-  pub counts_after : (literal_count constant_sum ≡ 2) × (literal_count both_constant ≡ 0) × (table_count both_constant ≡ 2)
+  pub counts_after : (literal_count constant_sum ≡ 2) × (literal_count both_constant ≡ 0)
+      × (table_count both_constant ≡ 2)
   pub or_literals : (literal_count (or_twice by_zeros) ≡ 4) × (literal_count (or_twice by_copy) ≡ 3)
 
 pub record ErrorExamples : Type 0 where
@@ -111,7 +126,8 @@ pub record ErrorExamples : Type 0 where
       × (error_of Ham (replicate 64 false) (replicate 64 true) ≡ 64)
       × (error_of Rel (replicate 64 false) (replicate 64 true) ≡ 18446744073709551615000000)
   pub unchanged : map (net_error Abs half_adder half_adder) (all_vectors 2) ≡ 0 ∷ 0 ∷ 0 ∷ 0 ∷ []
-  pub same_or : map (net_error Abs (or_twice by_zeros) (or_twice by_copy)) (all_vectors 2) ≡ 0 ∷ 0 ∷ 0 ∷ 0 ∷ []
+  pub same_or : map (net_error Abs (or_twice by_zeros) (or_twice by_copy)) (all_vectors 2)
+      ≡ 0 ∷ 0 ∷ 0 ∷ 0 ∷ []
   pub other_metrics :
       (map (net_error Ham half_adder both_constant) (all_vectors 2) ≡ 0 ∷ 1 ∷ 1 ∷ 1 ∷ [])
       × (map (net_error Rel half_adder both_constant) (all_vectors 2) ≡ 0 ∷ 1000000 ∷ 1000000 ∷ 1000000 ∷ [])
@@ -119,7 +135,8 @@ pub record ErrorExamples : Type 0 where
   pub carry_too :
       map (net_error Abs half_adder both_constant) (all_vectors 2) ≡ 0 ∷ 1 ∷ 1 ∷ 2 ∷ []
   pub carry_to_one :
-      map (net_error Abs half_adder (with_table constant_sum 1 (constant_table (codes "c") true))) (all_vectors 2)
+      map (net_error Abs half_adder (with_table constant_sum 1 (constant_table (codes "c") true)))
+      (all_vectors 2)
       ≡ 2 ∷ 1 ∷ 1 ∷ 0 ∷ []
 
 abbrev pub buffer : Bytes → ℕ → TableValue
@@ -134,36 +151,46 @@ pub record SignedExamples : Type 0 where
   pub one_bit : map signed_number_of (all_vectors 1) ≡ pos 0 ∷ minus 1 ∷ []
   -- the outputs 00, 10, 01 and 11, bit 0 first
   pub two_bits : map signed_number_of (all_vectors 2) ≡ pos 0 ∷ pos 1 ∷ minus 2 ∷ minus 1 ∷ []
-  pub ends : (signed_number_of (replicate 7 true ++ false ∷ []) ≡ pos 127) × (signed_number_of (replicate 7 false ++ true ∷ []) ≡ minus 128)
-  pub flipped : map sign_flipped (all_vectors 2) ≡ (false ∷ true ∷ []) ∷ (true ∷ true ∷ []) ∷ (false ∷ false ∷ []) ∷ (true ∷ false ∷ []) ∷ []
+  pub ends : (signed_number_of (replicate 7 true ++ false ∷ []) ≡ pos 127)
+      × (signed_number_of (replicate 7 false ++ true ∷ []) ≡ minus 128)
+  pub flipped : map sign_flipped (all_vectors 2)
+      ≡ (false ∷ true ∷ []) ∷ (true ∷ true ∷ []) ∷ (false ∷ false ∷ []) ∷ (true ∷ false ∷ []) ∷ []
   pub flipped_none : sign_flipped [] ≡ []
   -- -2 for 1, and 0 for -1
   pub two_against_one : error_of Sabs (false ∷ true ∷ []) (true ∷ false ∷ []) ≡ 3
   pub one_against_none : error_of Sabs (true ∷ []) (false ∷ []) ≡ 1
   pub no_bits : error_of Sabs [] [] ≡ 0
-  pub largest : error_of Sabs (replicate 63 true ++ false ∷ []) (replicate 63 false ++ true ∷ []) ≡ 18446744073709551615
+  pub largest : error_of Sabs (replicate 63 true ++ false ∷ []) (replicate 63 false ++ true ∷ [])
+      ≡ 18446744073709551615
   pub sum_is_constant : map (net_error Sabs half_adder constant_sum) (all_vectors 2) ≡ 0 ∷ 1 ∷ 1 ∷ 0 ∷ []
   pub carry_too : map (net_error Sabs half_adder both_constant) (all_vectors 2) ≡ 0 ∷ 1 ∷ 1 ∷ 2 ∷ []
   pub carry_to_one :
-      map (net_error Sabs half_adder (with_table half_adder 1 (constant_table (codes "c") true))) (all_vectors 2) ≡ 2 ∷ 2 ∷ 2 ∷ 0 ∷ []
+      map (net_error Sabs half_adder (with_table half_adder 1 (constant_table (codes "c") true)))
+      (all_vectors 2) ≡ 2 ∷ 2 ∷ 2 ∷ 0 ∷ []
   -- the sum 0, and the carry as b or as a, which is -2 in the place of 1
-  pub carry_as_b : map (net_error Sabs half_adder (with_table constant_sum 1 (buffer (codes "c") 1))) (all_vectors 2) ≡ 0 ∷ 1 ∷ 3 ∷ 0 ∷ []
-  pub carry_as_a : map (net_error Sabs half_adder (with_table constant_sum 1 (buffer (codes "c") 0))) (all_vectors 2) ≡ 0 ∷ 3 ∷ 1 ∷ 0 ∷ []
+  pub carry_as_b : map (net_error Sabs half_adder (with_table constant_sum 1 (buffer (codes "c") 1)))
+      (all_vectors 2) ≡ 0 ∷ 1 ∷ 3 ∷ 0 ∷ []
+  pub carry_as_a : map (net_error Sabs half_adder (with_table constant_sum 1 (buffer (codes "c") 0)))
+      (all_vectors 2) ≡ 0 ∷ 3 ∷ 1 ∷ 0 ∷ []
 
 pub record TextExamples : Type 0 where
   pub half_adder_text :
       blif_text half_adder
-      ≡ text (codes ".model ha" ∷ codes ".inputs a b" ∷ codes ".outputs s c" ∷ codes ".names a b s" ∷ codes "10 1"
+      ≡ text (codes ".model ha" ∷ codes ".inputs a b" ∷ codes ".outputs s c" ∷ codes ".names a b s"
+      ∷ codes "10 1"
       ∷ codes "01 1" ∷ codes ".names a b c" ∷ codes "11 1" ∷ codes ".end" ∷ [])
   pub half_adder_length : length (blif_text half_adder) ≡ 81
   pub lengths : (length (blif_text both_constant) ≡ 58) × (length (blif_text constant_sum) ≡ 67)
   pub both_constant_text :
       blif_text both_constant
-      ≡ text (codes ".model ha" ∷ codes ".inputs a b" ∷ codes ".outputs s c" ∷ codes ".names s" ∷ codes ".names c" ∷ codes ".end" ∷ [])
-  pub wire_text : blif_text wire ≡ text (codes ".model w" ∷ codes ".inputs a" ∷ codes ".outputs a" ∷ codes ".end" ∷ [])
+      ≡ text (codes ".model ha" ∷ codes ".inputs a b" ∷ codes ".outputs s c" ∷ codes ".names s"
+      ∷ codes ".names c" ∷ codes ".end" ∷ [])
+  pub wire_text : blif_text wire
+      ≡ text (codes ".model w" ∷ codes ".inputs a" ∷ codes ".outputs a" ∷ codes ".end" ∷ [])
   pub constant_text :
       blif_text constant_one
-      ≡ text (codes ".model k" ∷ codes ".inputs" ∷ codes ".outputs y" ∷ codes ".names y" ∷ codes "1" ∷ codes ".end" ∷ [])
+      ≡ text (codes ".model k" ∷ codes ".inputs" ∷ codes ".outputs y" ∷ codes ".names y" ∷ codes "1"
+      ∷ codes ".end" ∷ [])
   pub planes :
       blif_text out_of_order
       ≡ text (codes ".model k" ∷ codes ".inputs a" ∷ codes ".outputs z y a" ∷ codes ".names y z" ∷ codes "0 1"
@@ -179,7 +206,12 @@ abbrev pub half_adder_within : List TableValue
 half_adder_within =
     record { name = codes "q"; pins = 2 ∷ 0 ∷ []; rows = (One ∷ One ∷ []) ∷ []; plane = true }
     ∷ record { name = codes "r"; pins = 3 ∷ []; rows = (Zero ∷ []) ∷ []; plane = true }
-    ∷ record { name = codes "p"; pins = 2 ∷ 0 ∷ []; rows = (One ∷ Zero ∷ []) ∷ (Zero ∷ One ∷ []) ∷ []; plane = true }
+    ∷ record {
+      name = codes "p";
+      pins = 2 ∷ 0 ∷ [];
+      rows = (One ∷ Zero ∷ []) ∷ (Zero ∷ One ∷ []) ∷ [];
+      plane = true;
+    }
     ∷ []
 
 abbrev pub place_within : ℕ → ℕ
@@ -193,7 +225,8 @@ name_behind s = slice_index_or (3 ∷ 2 ∷ 5 ∷ 6 ∷ []) s 0
 abbrev pub half_adder_behind : List TableValue
 half_adder_behind = map (renamed name_behind) half_adder.tables
 
--- a buffer, an inverter of it and a reader of the inverter; then each reader of the buffer reads the input; and then the buffer is left out
+-- a buffer, an inverter of it and a reader of the inverter; then each reader of the buffer reads the input;
+-- and then the buffer is left out
 abbrev pub buffered : List TableValue
 buffered =
     buffer (codes "y") 0
@@ -213,8 +246,10 @@ feedback = buffer (codes "b") 0 ∷ buffer (codes "r") 3 ∷ buffer (codes "p") 
 
 pub record ChangeExamples : Type 0 where
   pub embedded : IsEmbedded 2 half_adder.tables 3 half_adder_within place_within
-  pub embedded_sum : (truth_table 2 half_adder.tables 2 ≡ codes "0110") × (truth_table 3 half_adder_within 5 ≡ codes "01011010")
-  pub embedded_carry : (truth_table 2 half_adder.tables 3 ≡ codes "0001") × (truth_table 3 half_adder_within 3 ≡ codes "00000101")
+  pub embedded_sum : (truth_table 2 half_adder.tables 2 ≡ codes "0110")
+      × (truth_table 3 half_adder_within 5 ≡ codes "01011010")
+  pub embedded_carry : (truth_table 2 half_adder.tables 3 ≡ codes "0001")
+      × (truth_table 3 half_adder_within 3 ≡ codes "00000101")
   pub copied : IsCopiedBehind 3 half_adder.tables 2 half_adder.tables half_adder_behind name_behind
   pub copied_values :
       (truth_table 3 (half_adder.tables ++ half_adder_behind) 5 ≡ codes "01101001")
@@ -226,10 +261,13 @@ pub record ChangeExamples : Type 0 where
   pub depends : DependsOn 1 out_of_order.tables 1 1 × (¬ DependsOn 1 out_of_order.tables 0 2)
   pub redirected : map (λ t. t.pins) past_buffer ≡ (0 ∷ []) ∷ (0 ∷ []) ∷ (2 ∷ 0 ∷ []) ∷ []
   pub redirected_values : (truth_table 1 buffered 2 ≡ codes "10") × (truth_table 1 past_buffer 2 ≡ codes "10")
-  pub left_out : (map (λ t. t.name) without_buffer ≡ codes "z" ∷ codes "w" ∷ []) × (map (λ t. t.pins) without_buffer ≡ (0 ∷ []) ∷ (1 ∷ 0 ∷ []) ∷ [])
-  pub left_out_values : (truth_table 1 past_buffer 3 ≡ codes "01") × (truth_table 1 without_buffer 2 ≡ codes "01")
+  pub left_out : (map (λ t. t.name) without_buffer ≡ codes "z" ∷ codes "w" ∷ [])
+      × (map (λ t. t.pins) without_buffer ≡ (0 ∷ []) ∷ (1 ∷ 0 ∷ []) ∷ [])
+  pub left_out_values : (truth_table 1 past_buffer 3 ≡ codes "01")
+      × (truth_table 1 without_buffer 2 ≡ codes "01")
 
--- three tables over the input a; what may be wrong: the first one's name and number of pins, the pins of the others, and the outputs
+-- three tables over the input a; what may be wrong: the first one's name and number of pins, the pins of the
+-- others, and the outputs
 abbrev pub faulty : Bytes → List ℕ → ℕ → ℕ → ℕ → NetValue
 faulty name outputs second third pins = record {
   model = codes "m";
@@ -248,7 +286,8 @@ abbrev pub sized : (inputs outputs tables pins rows : ℕ) → List TableValue �
 sized inputs outputs tables pins rows more = record {
   model = codes "m";
   inputs = replicate inputs (codes "a");
-  tables = replicate tables (record { name = codes "t"; pins = replicate pins 0; rows = replicate rows []; plane = true }) ++ more;
+  tables = replicate tables (record
+      { name = codes "t"; pins = replicate pins 0; rows = replicate rows []; plane = true }) ++ more;
   outputs = replicate outputs 0;
 }
 
@@ -261,7 +300,8 @@ pub record RefusalExamples : Type 0 where
   pub then_cycle : net_refusal (faulty (codes "x") (1 ∷ []) 0 3 257) ≡ Some (cycle 3)
   pub then_limit : net_refusal (faulty (codes "x") (1 ∷ []) 0 2 257) ≡ Some (limit which.Pins)
   pub then_none : net_refusal (faulty (codes "x") (1 ∷ []) 0 2 256) ≡ None
-  pub second_of_a_name : first_doubled (codes "a" ∷ codes "b" ∷ codes "c" ∷ codes "b" ∷ codes "a" ∷ []) ≡ Some (codes "b")
+  pub second_of_a_name : first_doubled (codes "a" ∷ codes "b" ∷ codes "c" ∷ codes "b" ∷ codes "a" ∷ [])
+      ≡ Some (codes "b")
   pub empty_names : first_doubled [] ≡ None
   pub first_of_feedback : first_ungrounded 1 feedback ≡ Some 1
   pub feedback_depends : Contains (table_at feedback 2).pins 4 × DependsOn 1 feedback 2 4
@@ -272,12 +312,18 @@ pub record RefusalExamples : Type 0 where
 
 -- the largest allowed value of each number, and the next one, which is told before the limits that come later
 pub record LimitExamples : Type 0 where
-  pub inputs : (first_limit (sized 256 1 1 1 1 []) ≡ None) × (first_limit (sized 257 65 1 257 1 []) ≡ Some which.Inputs)
-  pub outputs : (first_limit (sized 1 64 1 1 1 []) ≡ None) × (first_limit (sized 1 65 1 257 1 []) ≡ Some which.Outputs)
-  pub tables : (first_limit (sized 1 1 4096 1 1 []) ≡ None) × (first_limit (sized 1 1 4097 257 1 []) ≡ Some which.Tables)
-  pub pins : (first_limit (sized 1 1 1 256 1 []) ≡ None) × (first_limit (sized 1 1 513 257 1 []) ≡ Some which.Pins)
-  pub all_pins : (first_limit (sized 1 1 512 256 0 []) ≡ None) × (first_limit (sized 1 1 512 256 65 (buffer (codes "y") 0 ∷ [])) ≡ Some which.AllPins)
-  pub rows : (first_limit (sized 1 1 512 0 64 []) ≡ None) × (first_limit (sized 1 1 512 0 64 (buffer (codes "y") 0 ∷ [])) ≡ Some which.Rows)
+  pub inputs : (first_limit (sized 256 1 1 1 1 []) ≡ None)
+      × (first_limit (sized 257 65 1 257 1 []) ≡ Some which.Inputs)
+  pub outputs : (first_limit (sized 1 64 1 1 1 []) ≡ None)
+      × (first_limit (sized 1 65 1 257 1 []) ≡ Some which.Outputs)
+  pub tables : (first_limit (sized 1 1 4096 1 1 []) ≡ None)
+      × (first_limit (sized 1 1 4097 257 1 []) ≡ Some which.Tables)
+  pub pins : (first_limit (sized 1 1 1 256 1 []) ≡ None)
+      × (first_limit (sized 1 1 513 257 1 []) ≡ Some which.Pins)
+  pub all_pins : (first_limit (sized 1 1 512 256 0 []) ≡ None)
+      × (first_limit (sized 1 1 512 256 65 (buffer (codes "y") 0 ∷ [])) ≡ Some which.AllPins)
+  pub rows : (first_limit (sized 1 1 512 0 64 []) ≡ None)
+      × (first_limit (sized 1 1 512 0 64 (buffer (codes "y") 0 ∷ [])) ≡ Some which.Rows)
   pub all_together : first_limit (sized 256 64 4096 32 8 []) ≡ None
   pub largest_error : (LARGEST_ERROR ≡ 2 ^ 84 - 1) × (greatest_error Rel 64 ≡ 18446744073709551615000000)
 

@@ -1,21 +1,26 @@
 -- The laws about the definitions, each the contract of a function without parameters.
-use Rattle.std.specs.Prelude.{◌≡◌, ◌≢◌, ◌↔◌, ℕ, ◌+◌, ◌-◌, ◌^◌, ◌<◌, ◌≤◌, pos, neg_ℤ, ◌+ℤ◌, ◌≤ℤ◌, ◌<ℤ◌, Bool, true, false, List, [], ◌∷◌, ◌++◌, map, length, replicate, slice_get, slice_index_or, Some, None, decimal, All, AllPairs, Contains}
+use Rattle.std.specs.Prelude.{◌≡◌, ◌≢◌, ◌↔◌, ℕ, ◌+◌, ◌-◌, ◌^◌, ◌<◌, ◌≤◌, pos, neg_ℤ, ◌+ℤ◌, ◌≤ℤ◌, ◌<ℤ◌, Bool}
+use Rattle.std.specs.Prelude.{true, false, List, [], ◌∷◌, ◌++◌, map, length, replicate, slice_get}
+use Rattle.std.specs.Prelude.{slice_index_or, Some, None, decimal, All, AllPairs, Contains}
 use Rattle.std.specs.List.{AllByRecursion}
 use Rattle.semantics.specs.Texts.{Bytes}
-use Rattle.semantics.specs.Net.{TableValue, NetValue, table_at, signal_count, IsName, IsTable, IsGroundedIn, IsAcyclic, IsSound, IsSmall}
+use Rattle.semantics.specs.Net.{TableValue, NetValue, table_at, signal_count, IsName, IsTable, IsGroundedIn}
+use Rattle.semantics.specs.Net.{IsAcyclic, IsSound, IsSmall}
 use Rattle.semantics.specs.Replaced.{replaced}
 use Rattle.semantics.specs.Dependence.{DependsOn}
 use Rattle.semantics.specs.Embedding.{IsEmbedded}
 use Rattle.semantics.specs.Order.{IsKnown, IsNext, IsOrderAfter, IsOrderOf}
 use Rattle.semantics.specs.Copies.{IsCopiedBehind}
 use Rattle.semantics.specs.Renamed.{renamed, redirect, raised, without}
-use Rattle.semantics.specs.Refusals.{first_doubled, first_undriven, first_ungrounded, IsFirstUngrounded, first_limit, NetRefused, net_refusal}
+use Rattle.semantics.specs.Refusals.{first_doubled, first_undriven, first_ungrounded, IsFirstUngrounded}
+use Rattle.semantics.specs.Refusals.{first_limit, NetRefused, net_refusal}
 use Rattle.semantics.specs.RefusalOrder.{IsTold}
 use Rattle.semantics.specs.Value.{Assignment, table_value, value_of, HasOneValue}
 use Rattle.semantics.specs.declared.metric.Metric.{Metric}
 use Rattle.semantics.specs.declared.metric.Metric.TheVariants.{Abs, Rel, Ham, Sabs}
 use Rattle.semantics.specs.declared.limits.TheConstants.{MOST_OUTPUTS, LARGEST_ERROR}
-use Rattle.semantics.specs.Error.{number_of, sign_weight, signed_number_of, sign_flipped, distance, error_of, greatest_error, errors_below, net_error, IsCandidate}
+use Rattle.semantics.specs.Error.{number_of, sign_weight, signed_number_of, sign_flipped, distance, error_of}
+use Rattle.semantics.specs.Error.{greatest_error, errors_below, net_error, IsCandidate}
 use Rattle.semantics.specs.Vectors.{bits_of, all_vectors}
 use Rattle.semantics.specs.Decimal.{digits_number, is_decimal}
 
@@ -23,7 +28,8 @@ use Rattle.semantics.specs.Decimal.{digits_number, is_decimal}
 abbrev pub ValueLaw : Type 0
 ValueLaw = (n : ℕ) (tables : List TableValue) (x : List Bool) → IsAcyclic n tables → HasOneValue n tables x
 
--- there are 2 ^ n vectors of n bits: vector j stands at place j, and each vector stands at the place of its number
+-- there are 2 ^ n vectors of n bits: vector j stands at place j, and each vector stands at the place of its
+-- number
 pub record VectorLaw : Type 0 where
   pub count : (n : ℕ) → length (all_vectors n) ≡ 2 ^ n
   pub at : (n j : ℕ) → j < 2 ^ n → slice_get (all_vectors n) j ≡ Some (bits_of n j)
@@ -44,116 +50,156 @@ ones width = replicate width true
 -- at most 64 bits are numbers of 64, 84, 7 and 64 bits, and none is above the largest error.
 pub record SizeLaw : Type 0 where
   pub number : (bits : List Bool) → number_of bits < 2 ^ length bits
-  pub at_most : (metric : Metric) (width : ℕ) (e a : List Bool) → length e ≡ width → length a ≡ width → error_of metric e a ≤ greatest_error metric width
+  pub at_most : (metric : Metric) (width : ℕ) (e a : List Bool) → length e ≡ width → length a ≡ width
+      → error_of metric e a ≤ greatest_error metric width
   pub attained_abs : (width : ℕ) → error_of Abs (zeros width) (ones width) ≡ greatest_error Abs width
   pub attained_rel : (width : ℕ) → error_of Rel (zeros width) (ones width) ≡ greatest_error Rel width
   pub attained_ham : (width : ℕ) → error_of Ham (zeros width) (ones width) ≡ greatest_error Ham width
-  pub attained_sabs : (width : ℕ) → error_of Sabs (sign_flipped (zeros width)) (sign_flipped (ones width)) ≡ greatest_error Sabs width
-  pub below : (metric : Metric) (e a : List Bool) → length e ≡ length a → length e ≤ MOST_OUTPUTS → error_of metric e a < errors_below metric
-  pub largest : (metric : Metric) (exact approx : NetValue) → IsCandidate exact approx → (x : List Bool) → net_error metric exact approx x ≤ LARGEST_ERROR
+  pub attained_sabs : (width : ℕ)
+      → error_of Sabs (sign_flipped (zeros width)) (sign_flipped (ones width)) ≡ greatest_error Sabs width
+  pub below : (metric : Metric) (e a : List Bool) → length e ≡ length a → length e ≤ MOST_OUTPUTS
+      → error_of metric e a < errors_below metric
+  pub largest : (metric : Metric) (exact approx : NetValue) → IsCandidate exact approx → (x : List Bool)
+      → net_error metric exact approx x ≤ LARGEST_ERROR
 
 -- In two's complement a word of one or more bits has a number from -2 ^ (width - 1) to 2 ^ (width - 1) - 1.
 -- Turning its sign over adds 2 ^ (width - 1), so words whose signs are turned over are as far apart as their
 -- numbers in two's complement were. The signed error is the distance of two natural numbers: the number of
 -- each word and, added to it, what two's complement takes off the other word.
 pub record SignedLaw : Type 0 where
-  pub least : (bits : List Bool) → 0 < length bits → neg_ℤ (pos (2 ^ (length bits - 1))) ≤ℤ signed_number_of bits
+  pub least : (bits : List Bool) → 0 < length bits
+      → neg_ℤ (pos (2 ^ (length bits - 1))) ≤ℤ signed_number_of bits
   pub greatest : (bits : List Bool) → 0 < length bits → signed_number_of bits <ℤ pos (2 ^ (length bits - 1))
-  pub flipped : (bits : List Bool) → 0 < length bits → pos (number_of (sign_flipped bits)) ≡ signed_number_of bits +ℤ pos (2 ^ (length bits - 1))
-  pub flipped_error : (e a : List Bool) → length e ≡ length a → error_of Sabs e a ≡ error_of Abs (sign_flipped e) (sign_flipped a)
-  pub naturals : (e a : List Bool) → error_of Sabs e a ≡ distance (number_of e + sign_weight a) (number_of a + sign_weight e)
+  pub flipped : (bits : List Bool) → 0 < length bits
+      → pos (number_of (sign_flipped bits)) ≡ signed_number_of bits +ℤ pos (2 ^ (length bits - 1))
+  pub flipped_error : (e a : List Bool) → length e ≡ length a
+      → error_of Sabs e a ≡ error_of Abs (sign_flipped e) (sign_flipped a)
+  pub naturals : (e a : List Bool)
+      → error_of Sabs e a ≡ distance (number_of e + sign_weight a) (number_of a + sign_weight e)
 
--- a number of at most 64 digits is written as one decimal word, and no other decimal word reads as that number
+-- a number of at most 64 digits is written as one decimal word, and no other decimal word reads as that
+-- number
 pub record NumeralLaw : Type 0 where
   pub decimal_word : (n : ℕ) → n < 10 ^ 64 → is_decimal (decimal n) ≡ true
   pub number : (n : ℕ) → n < 10 ^ 64 → digits_number (decimal n) ≡ n
-  pub only : (word : Bytes) (n : ℕ) → n < 10 ^ 64 → is_decimal word ≡ true → digits_number word ≡ n → word ≡ decimal n
+  pub only : (word : Bytes) (n : ℕ) → n < 10 ^ 64 → is_decimal word ≡ true → digits_number word ≡ n
+      → word ≡ decimal n
 
 -- where the inputs agree through f, so does every signal; tables that are appended change no value
 pub record EmbeddingLaw : Type 0 where
-  pub values : (n : ℕ) (tables : List TableValue) (m : ℕ) (larger : List TableValue) (f : ℕ → ℕ) (x y : List Bool)
+  pub values : (n : ℕ) (tables : List TableValue) (m : ℕ) (larger : List TableValue) (f : ℕ → ℕ)
+      (x y : List Bool)
       → IsAcyclic n tables → IsAcyclic m larger → IsEmbedded n tables m larger f
       → ((i : ℕ) → i < n → slice_index_or y i false ≡ value_of m larger x (f i))
       → (s : ℕ) → s < n + length tables → value_of m larger x (f s) ≡ value_of n tables y s
-  pub appended : (n : ℕ) (tables more : List TableValue) (x : List Bool) → IsAcyclic n tables → IsAcyclic n (tables ++ more)
+  pub appended : (n : ℕ) (tables more : List TableValue) (x : List Bool) → IsAcyclic n tables
+      → IsAcyclic n (tables ++ more)
       → (s : ℕ) → s < n + length tables → value_of n (tables ++ more) x s ≡ value_of n tables x s
 
 -- one table of a list replaced, both lists acyclic
 pub record ReplacedLaw : Type 0 where
-  pub apart : (n : ℕ) (tables : List TableValue) (t : ℕ) (new : TableValue) (x : List Bool) → IsAcyclic n tables → IsAcyclic n (replaced tables t new)
-      → (s : ℕ) → s < n + length tables → ¬ DependsOn n tables t s → value_of n (replaced tables t new) x s ≡ value_of n tables x s
-  pub same : (n : ℕ) (tables : List TableValue) (t : ℕ) (new : TableValue) (x : List Bool) → IsAcyclic n tables → IsAcyclic n (replaced tables t new)
+  pub apart : (n : ℕ) (tables : List TableValue) (t : ℕ) (new : TableValue) (x : List Bool)
+      → IsAcyclic n tables → IsAcyclic n (replaced tables t new)
+      → (s : ℕ) → s < n + length tables → ¬ DependsOn n tables t s
+      → value_of n (replaced tables t new) x s ≡ value_of n tables x s
+  pub same : (n : ℕ) (tables : List TableValue) (t : ℕ) (new : TableValue) (x : List Bool)
+      → IsAcyclic n tables → IsAcyclic n (replaced tables t new)
       → table_value new (value_of n tables x) ≡ value_of n tables x (n + t)
       → (s : ℕ) → s < n + length tables → value_of n (replaced tables t new) x s ≡ value_of n tables x s
-  pub new : (n : ℕ) (tables : List TableValue) (t : ℕ) (new : TableValue) (x : List Bool) → IsAcyclic n tables → IsAcyclic n (replaced tables t new)
-      → t < length tables → value_of n (replaced tables t new) x (n + t) ≡ table_value new (value_of n tables x)
+  pub new : (n : ℕ) (tables : List TableValue) (t : ℕ) (new : TableValue) (x : List Bool)
+      → IsAcyclic n tables → IsAcyclic n (replaced tables t new)
+      → t < length tables → value_of n (replaced tables t new) x (n + t)
+      ≡ table_value new (value_of n tables x)
 
 -- no pin of a table depends on that table, and what depends on a table depends on any table that stands in
 -- its place
 pub record DependenceLaw : Type 0 where
   pub no_cycle : (n : ℕ) (tables : List TableValue) (t : ℕ) → IsAcyclic n tables → t < length tables
       → (p : ℕ) → Contains (table_at tables t).pins p → ¬ DependsOn n tables t p
-  pub to_replaced : (n : ℕ) (tables : List TableValue) (t : ℕ) (new : TableValue) (s : ℕ) → DependsOn n tables t s → DependsOn n (replaced tables t new) t s
-  pub from_replaced : (n : ℕ) (tables : List TableValue) (t : ℕ) (new : TableValue) (s : ℕ) → DependsOn n (replaced tables t new) t s → DependsOn n tables t s
+  pub to_replaced : (n : ℕ) (tables : List TableValue) (t : ℕ) (new : TableValue) (s : ℕ)
+      → DependsOn n tables t s → DependsOn n (replaced tables t new) t s
+  pub from_replaced : (n : ℕ) (tables : List TableValue) (t : ℕ) (new : TableValue) (s : ℕ)
+      → DependsOn n (replaced tables t new) t s → DependsOn n tables t s
 
 -- tables have an order exactly where they are acyclic; an order grows by any table that may stand next; an
 -- order has as many places as there are tables
 pub record OrderLaw : Type 0 where
-  pub exists : (n : ℕ) (tables : List TableValue) → IsAcyclic n tables → (order : List ℕ) × IsOrderOf n tables order
-  pub acyclic : (n : ℕ) (tables : List TableValue) (order : List ℕ) → IsOrderOf n tables order → IsAcyclic n tables
-  pub count : (n : ℕ) (tables : List TableValue) (order : List ℕ) → IsOrderOf n tables order → length order ≡ length tables
-  pub next : (n : ℕ) (tables : List TableValue) (order : List ℕ) (i : ℕ) → IsOrderAfter n tables [] order → IsNext n tables order i
+  pub exists : (n : ℕ) (tables : List TableValue) → IsAcyclic n tables
+      → (order : List ℕ) × IsOrderOf n tables order
+  pub acyclic : (n : ℕ) (tables : List TableValue) (order : List ℕ) → IsOrderOf n tables order
+      → IsAcyclic n tables
+  pub count : (n : ℕ) (tables : List TableValue) (order : List ℕ) → IsOrderOf n tables order
+      → length order ≡ length tables
+  pub next : (n : ℕ) (tables : List TableValue) (order : List ℕ) (i : ℕ) → IsOrderAfter n tables [] order
+      → IsNext n tables order i
       → IsOrderAfter n tables [] (order ++ i ∷ [])
 
 -- where each table is grounded in some number of steps, the tables are acyclic
 abbrev pub GroundedLaw : Type 0
-GroundedLaw = (n : ℕ) (tables : List TableValue) → ((i : ℕ) → i < length tables → (steps : ℕ) × IsGroundedIn n tables steps (n + i)) → IsAcyclic n tables
+GroundedLaw = (n : ℕ) (tables : List TableValue)
+    → ((i : ℕ) → i < length tables → (steps : ℕ) × IsGroundedIn n tables steps (n + i)) → IsAcyclic n tables
 
 -- acyclic tables that are copied behind acyclic tables stand there embedded, and the whole is acyclic
 pub record CopyLaw : Type 0 where
   pub embedded : (m : ℕ) (before : List TableValue) (n : ℕ) (tables copies : List TableValue) (f : ℕ → ℕ)
       → IsCopiedBehind m before n tables copies f → IsEmbedded n tables m (before ++ copies) f
-  pub acyclic : (m : ℕ) (before : List TableValue) (n : ℕ) (tables copies : List TableValue) (f : ℕ → ℕ) → IsAcyclic m before → IsAcyclic n tables
+  pub acyclic : (m : ℕ) (before : List TableValue) (n : ℕ) (tables copies : List TableValue) (f : ℕ → ℕ)
+      → IsAcyclic m before → IsAcyclic n tables
       → IsCopiedBehind m before n tables copies f → IsAcyclic m (before ++ copies)
-  pub values : (m : ℕ) (before : List TableValue) (n : ℕ) (tables copies : List TableValue) (f : ℕ → ℕ) → IsAcyclic m before → IsAcyclic n tables
-      → IsCopiedBehind m before n tables copies f → (x y : List Bool) → ((i : ℕ) → i < n → slice_index_or y i false ≡ value_of m before x (f i))
+  pub values : (m : ℕ) (before : List TableValue) (n : ℕ) (tables copies : List TableValue) (f : ℕ → ℕ)
+      → IsAcyclic m before → IsAcyclic n tables
+      → IsCopiedBehind m before n tables copies f → (x y : List Bool)
+      → ((i : ℕ) → i < n → slice_index_or y i false ≡ value_of m before x (f i))
       → (s : ℕ) → s < n + length tables → value_of m (before ++ copies) x (f s) ≡ value_of n tables y s
 
 -- A table that reads signals of acyclic tables is appended, and the whole is acyclic. One table is replaced,
 -- and the whole is acyclic exactly where the new table reads signals that do not depend on the old one; so it
 -- is where the new table reads no signals but those that the old one reads.
 pub record AcyclicLaw : Type 0 where
-  pub appended : (n : ℕ) (tables : List TableValue) (new : TableValue) → IsAcyclic n tables → AllByRecursion (λ s. s < n + length tables) new.pins
+  pub appended : (n : ℕ) (tables : List TableValue) (new : TableValue) → IsAcyclic n tables
+      → AllByRecursion (λ s. s < n + length tables) new.pins
       → IsAcyclic n (tables ++ new ∷ [])
-  pub replaced_from : (n : ℕ) (tables : List TableValue) (t : ℕ) (new : TableValue) → IsAcyclic n tables → t < length tables
-      → AllByRecursion (λ s. (s < n + length tables) × (¬ DependsOn n tables t s)) new.pins → IsAcyclic n (replaced tables t new)
-  pub narrower : (n : ℕ) (tables : List TableValue) (t : ℕ) (new : TableValue) → IsAcyclic n tables → t < length tables
+  pub replaced_from : (n : ℕ) (tables : List TableValue) (t : ℕ) (new : TableValue) → IsAcyclic n tables
+      → t < length tables
+      → AllByRecursion (λ s. (s < n + length tables) × (¬ DependsOn n tables t s)) new.pins
+      → IsAcyclic n (replaced tables t new)
+  pub narrower : (n : ℕ) (tables : List TableValue) (t : ℕ) (new : TableValue) → IsAcyclic n tables
+      → t < length tables
       → AllByRecursion (Contains (table_at tables t).pins) new.pins → IsAcyclic n (replaced tables t new)
-  pub replaced_reads : (n : ℕ) (tables : List TableValue) (t : ℕ) (new : TableValue) → t < length tables → IsAcyclic n (replaced tables t new)
+  pub replaced_reads : (n : ℕ) (tables : List TableValue) (t : ℕ) (new : TableValue) → t < length tables
+      → IsAcyclic n (replaced tables t new)
       → AllByRecursion (λ s. (s < n + length tables) × (¬ DependsOn n tables t s)) new.pins
 
 -- the next table of an order, evaluated from what is known, has its value
 abbrev pub EvaluationLaw : Type 0
-EvaluationLaw = (n : ℕ) (tables : List TableValue) (x : List Bool) (before : List ℕ) (i : ℕ) (v : Assignment) → IsAcyclic n tables → IsNext n tables before i
-    → ((s : ℕ) → IsKnown n before s → v s ≡ value_of n tables x s) → table_value (table_at tables i) v ≡ value_of n tables x (n + i)
+EvaluationLaw = (n : ℕ) (tables : List TableValue) (x : List Bool) (before : List ℕ) (i : ℕ) (v : Assignment)
+    → IsAcyclic n tables → IsNext n tables before i
+    → ((s : ℕ) → IsKnown n before s → v s ≡ value_of n tables x s)
+    → table_value (table_at tables i) v ≡ value_of n tables x (n + i)
 
--- pins that are renamed to signals of the same value change no value; to read a pin of table t in the place of table t makes no cycle
+-- pins that are renamed to signals of the same value change no value; to read a pin of table t in the place
+-- of table t makes no cycle
 pub record RenamedLaw : Type 0 where
-  pub values : (n : ℕ) (tables : List TableValue) (f : ℕ → ℕ) (x : List Bool) → IsAcyclic n tables → IsAcyclic n (map (renamed f) tables)
+  pub values : (n : ℕ) (tables : List TableValue) (f : ℕ → ℕ) (x : List Bool) → IsAcyclic n tables
+      → IsAcyclic n (map (renamed f) tables)
       → ((s : ℕ) → s < n + length tables → value_of n tables x (f s) ≡ value_of n tables x s)
       → (s : ℕ) → s < n + length tables → value_of n (map (renamed f) tables) x s ≡ value_of n tables x s
-  pub acyclic : (n : ℕ) (tables : List TableValue) (t p : ℕ) → IsAcyclic n tables → Contains (table_at tables t).pins p
+  pub acyclic : (n : ℕ) (tables : List TableValue) (t p : ℕ) → IsAcyclic n tables
+      → Contains (table_at tables t).pins p
       → IsAcyclic n (map (renamed (redirect (n + t) p)) tables)
 
 -- a table that no table reads is left out: the others stay acyclic and keep their values
 pub record WithoutLaw : Type 0 where
   pub embedded : (n : ℕ) (tables : List TableValue) (t : ℕ) → t < length tables
-      → ((i : ℕ) → i < length tables → ¬ Contains (table_at tables i).pins (n + t)) → IsEmbedded n (without n tables t) n tables (raised (n + t))
+      → ((i : ℕ) → i < length tables → ¬ Contains (table_at tables i).pins (n + t))
+      → IsEmbedded n (without n tables t) n tables (raised (n + t))
   pub acyclic : (n : ℕ) (tables : List TableValue) (t : ℕ) → t < length tables → IsAcyclic n tables
-      → ((i : ℕ) → i < length tables → ¬ Contains (table_at tables i).pins (n + t)) → IsAcyclic n (without n tables t)
+      → ((i : ℕ) → i < length tables → ¬ Contains (table_at tables i).pins (n + t))
+      → IsAcyclic n (without n tables t)
   pub values : (n : ℕ) (tables : List TableValue) (t : ℕ) → t < length tables → IsAcyclic n tables
       → ((i : ℕ) → i < length tables → ¬ Contains (table_at tables i).pins (n + t))
-      → (x : List Bool) (s : ℕ) → s + 1 < n + length tables → value_of n tables x (raised (n + t) s) ≡ value_of n (without n tables t) x s
+      → (x : List Bool) (s : ℕ) → s + 1 < n + length tables
+      → value_of n tables x (raised (n + t) s) ≡ value_of n (without n tables t) x s
 
 -- Each refusal is absent exactly where no part has the fault that it names, and all of them are absent
 -- exactly where well-formed parts are a small sound net. The refusal that is told is the one that holds where
@@ -161,9 +207,13 @@ pub record WithoutLaw : Type 0 where
 pub record RefusalLaw : Type 0 where
   pub undoubled : (names : List Bytes) → (first_doubled names ≡ None) ↔ AllPairs ◌≢◌ names
   pub driven : (N : NetValue)
-      → (first_undriven N ≡ None) ↔ (All (λ t. All (λ s. s < signal_count N) t.pins) N.tables × All (λ s. s < signal_count N) N.outputs)
+      → (first_undriven N ≡ None)
+      ↔ (All (λ t. All (λ s. s < signal_count N) t.pins) N.tables
+      × All (λ s. s < signal_count N) N.outputs)
   pub grounded : (n : ℕ) (tables : List TableValue) → (first_ungrounded n tables ≡ None) ↔ IsAcyclic n tables
-  pub ungrounded : (n : ℕ) (tables : List TableValue) (i : ℕ) → (first_ungrounded n tables ≡ Some i) ↔ IsFirstUngrounded n tables i
+  pub ungrounded : (n : ℕ) (tables : List TableValue) (i : ℕ)
+      → (first_ungrounded n tables ≡ Some i) ↔ IsFirstUngrounded n tables i
   pub small : (N : NetValue) → (first_limit N ≡ None) ↔ IsSmall N
   pub told : (N : NetValue) (r : NetRefused) → (net_refusal N ≡ Some r) ↔ IsTold N r
-  pub whole : (N : NetValue) → IsName N.model → All IsName N.inputs → All IsTable N.tables → (net_refusal N ≡ None) ↔ (IsSound N × IsSmall N)
+  pub whole : (N : NetValue) → IsName N.model → All IsName N.inputs → All IsTable N.tables
+      → (net_refusal N ≡ None) ↔ (IsSound N × IsSmall N)

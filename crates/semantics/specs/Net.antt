@@ -1,13 +1,17 @@
--- Nets, their soundness and their size. Source: BLIF's `.model`, `.inputs`, `.outputs` and `.names`; the limits are this tool's own.
--- Signals 0 to n - 1 are the n inputs, and signal n + i is table i.
-use Rattle.std.specs.Prelude.{◌≡◌, ◌≢◌, ◌⊎◌, ℕ, zero, suc, ◌+◌, ◌-◌, ◌<◌, ◌≤◌, Bool, true, false, List, [], ◌∷◌, ◌++◌, map, length, slice_index, slice_index_or, sum_by, count_by, All, AllPairs}
+-- Nets, their soundness and their size. Source: BLIF's `.model`, `.inputs`, `.outputs` and `.names`; the
+-- limits are this tool's own. Signals 0 to n - 1 are the n inputs, and signal n + i is table i.
+use Rattle.std.specs.Prelude.{◌≡◌, ◌≢◌, ◌⊎◌, ℕ, zero, suc, ◌+◌, ◌-◌, ◌<◌, ◌≤◌, Bool, true, false, List, []}
+use Rattle.std.specs.Prelude.{◌∷◌, ◌++◌, map, length, slice_index, slice_index_or, sum_by, count_by, All}
+use Rattle.std.specs.Prelude.{AllPairs}
 use Rattle.std.specs.List.{AllByRecursion}
 use Rattle.semantics.specs.declared.mark.Mark.{Mark}
 use Rattle.semantics.specs.declared.mark.Mark.TheVariants.{Zero, One, Dash}
-use Rattle.semantics.specs.declared.limits.TheConstants.{MOST_INPUTS, MOST_OUTPUTS, MOST_TABLES, MOST_TABLE_PINS, MOST_PINS, MOST_ROWS}
+use Rattle.semantics.specs.declared.limits.TheConstants.{MOST_INPUTS, MOST_OUTPUTS, MOST_TABLES}
+use Rattle.semantics.specs.declared.limits.TheConstants.{MOST_TABLE_PINS, MOST_PINS, MOST_ROWS}
 use Rattle.semantics.specs.Texts.{Bytes}
 
--- a `.names` table: its name, the signals of its pins, its rows of marks, and the output plane of all its rows
+-- a `.names` table: its name, the signals of its pins, its rows of marks, and the output plane of all its
+-- rows
 pub record TableValue : Type 0 where
   pub name : Bytes
   pub pins : List ℕ
@@ -64,7 +68,8 @@ pin_count N = sum_by (λ t. length t.pins) N.tables
 abbrev pub row_count : NetValue → ℕ
 row_count N = sum_by (λ t. length t.rows) N.tables
 
--- The canonical constants: no pins and plane 1; constant 0 has no row, and constant 1 has one row without marks.
+-- The canonical constants: no pins and plane 1; constant 0 has no row, and constant 1 has one row without
+-- marks.
 abbrev pub constant_table : Bytes → Bool → TableValue
 constant_table name false = record { name = name; pins = []; rows = []; plane = true }
 constant_table name true = record { name = name; pins = []; rows = [] ∷ []; plane = true }
@@ -90,7 +95,8 @@ pub record IsTable (t : TableValue) : Type 0 where
 abbrev pub IsGroundedIn : ℕ → List TableValue → ℕ → ℕ → Type 0
 IsGroundedIn n tables zero s = s < n
 IsGroundedIn n tables (suc steps) s =
-    (s < n) ⊎ ((s < n + length tables) × AllByRecursion (IsGroundedIn n tables steps) (table_at tables (s - n)).pins)
+    (s < n) ⊎ ((s < n + length tables)
+    × AllByRecursion (IsGroundedIn n tables steps) (table_at tables (s - n)).pins)
 
 -- every table is grounded in `length tables` steps
 abbrev pub IsAcyclic : ℕ → List TableValue → Type 0

@@ -1,12 +1,16 @@
--- Which refusal of parts is told, and what stands before it: names, outputs, signals, cycles, and then the limits one by one.
--- Source: this tool's own reading of BLIF.
-use Rattle.std.specs.Prelude.{◌≡◌, ◌≢◌, ℕ, ◌+◌, ◌<◌, ◌≤◌, List, [], ◌∷◌, ◌++◌, length, All, AllPairs, Contains}
+-- Which refusal of parts is told, and what stands before it: names, outputs, signals, cycles, and then the
+-- limits one by one. Source: this tool's own reading of BLIF.
+use Rattle.std.specs.Prelude.{◌≡◌, ◌≢◌, ℕ, ◌+◌, ◌<◌, ◌≤◌, List, [], ◌∷◌, ◌++◌, length, All, AllPairs}
+use Rattle.std.specs.Prelude.{Contains}
 use Rattle.semantics.specs.declared.which.Which.{Which}
 use Rattle.semantics.specs.declared.which.Which.TheVariants.{Inputs, Outputs, Tables, Pins, AllPins, Rows}
-use Rattle.semantics.specs.declared.limits.TheConstants.{MOST_INPUTS, MOST_OUTPUTS, MOST_TABLES, MOST_TABLE_PINS, MOST_PINS, MOST_ROWS}
+use Rattle.semantics.specs.declared.limits.TheConstants.{MOST_INPUTS, MOST_OUTPUTS, MOST_TABLES}
+use Rattle.semantics.specs.declared.limits.TheConstants.{MOST_TABLE_PINS, MOST_PINS, MOST_ROWS}
 use Rattle.semantics.specs.Texts.{Bytes}
-use Rattle.semantics.specs.Net.{NetValue, input_count, signal_count, signal_names, pin_count, row_count, IsAcyclic}
-use Rattle.semantics.specs.Refusals.{NetRefused, doubled, no_output, undriven, cycle, limit, signals_read, IsFirstUngrounded}
+use Rattle.semantics.specs.Net.{NetValue, input_count, signal_count, signal_names, pin_count, row_count}
+use Rattle.semantics.specs.Net.{IsAcyclic}
+use Rattle.semantics.specs.Refusals.{NetRefused, doubled, no_output, undriven, cycle, limit, signals_read}
+use Rattle.semantics.specs.Refusals.{IsFirstUngrounded}
 
 -- the net keeps the limit
 abbrev pub IsKept : NetValue → Which → Type 0
@@ -57,6 +61,8 @@ IsTold N (doubled name) = IsFirstDoubled (signal_names N) name
 IsTold N no_output = AllPairs ◌≢◌ (signal_names N) × (N.outputs ≡ [])
 IsTold N (undriven s) = AllPairs ◌≢◌ (signal_names N) × (0 < length N.outputs) × IsFirstUndriven N s
 IsTold N (cycle s) =
-    AllPairs ◌≢◌ (signal_names N) × (0 < length N.outputs) × IsDriven N × ((i : ℕ) × (s ≡ input_count N + i) × IsFirstUngrounded (input_count N) N.tables i)
+    AllPairs ◌≢◌ (signal_names N) × (0 < length N.outputs) × IsDriven N
+    × ((i : ℕ) × (s ≡ input_count N + i) × IsFirstUngrounded (input_count N) N.tables i)
 IsTold N (limit passed) =
-    AllPairs ◌≢◌ (signal_names N) × (0 < length N.outputs) × IsDriven N × IsAcyclic (input_count N) N.tables × IsFirstPassed N passed
+    AllPairs ◌≢◌ (signal_names N) × (0 < length N.outputs) × IsDriven N × IsAcyclic (input_count N) N.tables
+    × IsFirstPassed N passed

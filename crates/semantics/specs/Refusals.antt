@@ -1,18 +1,24 @@
--- What keeps parts from being a small sound net, in the order in which it is told. Source: this tool's own reading of BLIF.
-use Rattle.std.specs.Prelude.{ℕ, zero, suc, ◌+◌, ◌-◌, ◌<◌, ◌==◌, Bool, not, ◌||◌, ◌&&◌, nat_lt, nat_le, List, [], ◌∷◌, ◌++◌, flat_map, length, bytes_eq, position, Option, Some, None, if◌then◌else◌}
+-- What keeps parts from being a small sound net, in the order in which it is told. Source: this tool's own
+-- reading of BLIF.
+use Rattle.std.specs.Prelude.{ℕ, zero, suc, ◌+◌, ◌-◌, ◌<◌, ◌==◌, Bool, not, ◌||◌, ◌&&◌, nat_lt, nat_le, List}
+use Rattle.std.specs.Prelude.{[], ◌∷◌, ◌++◌, flat_map, length, bytes_eq, position, Option, Some, None}
+use Rattle.std.specs.Prelude.{if◌then◌else◌}
 use Rattle.std.specs.List.{list_any, list_all, find, range_with_len}
 use Rattle.semantics.specs.declared.which.Which.{Which}
 use Rattle.semantics.specs.declared.which.Which.TheVariants as which
-use Rattle.semantics.specs.declared.limits.TheConstants.{MOST_INPUTS, MOST_OUTPUTS, MOST_TABLES, MOST_TABLE_PINS, MOST_PINS, MOST_ROWS}
+use Rattle.semantics.specs.declared.limits.TheConstants.{MOST_INPUTS, MOST_OUTPUTS, MOST_TABLES}
+use Rattle.semantics.specs.declared.limits.TheConstants.{MOST_TABLE_PINS, MOST_PINS, MOST_ROWS}
 use Rattle.semantics.specs.Texts.{Bytes}
-use Rattle.semantics.specs.Net.{TableValue, NetValue, table_at, input_count, signal_count, signal_names, pin_count, row_count, IsGroundedIn}
+use Rattle.semantics.specs.Net.{TableValue, NetValue, table_at, input_count, signal_count, signal_names}
+use Rattle.semantics.specs.Net.{pin_count, row_count, IsGroundedIn}
 
 abbrev pub has_name : List Bytes → Bytes → Bool
 has_name names word = list_any (λ name. bytes_eq word name) names
 
 abbrev pub first_doubled_after : List Bytes → List Bytes → Option Bytes
 first_doubled_after earlier [] = None
-first_doubled_after earlier (name ∷ names) = if has_name earlier name then Some name else first_doubled_after (earlier ++ name ∷ []) names
+first_doubled_after earlier (name ∷ names)
+    = if has_name earlier name then Some name else first_doubled_after (earlier ++ name ∷ []) names
 
 -- the first name that stands a second time
 abbrev pub first_doubled : List Bytes → Option Bytes
@@ -30,7 +36,8 @@ first_undriven N = find (λ s. not (nat_lt s (signal_count N))) (signals_read N)
 abbrev pub is_grounded_in : ℕ → List TableValue → ℕ → ℕ → Bool
 is_grounded_in n tables zero s = nat_lt s n
 is_grounded_in n tables (suc steps) s =
-    nat_lt s n || (nat_lt s (n + length tables) && list_all (is_grounded_in n tables steps) (table_at tables (s - n)).pins)
+    nat_lt s n || (nat_lt s (n + length tables)
+    && list_all (is_grounded_in n tables steps) (table_at tables (s - n)).pins)
 
 abbrev pub is_ungrounded : ℕ → List TableValue → ℕ → Bool
 is_ungrounded n tables i = not (is_grounded_in n tables (length tables) (n + i))

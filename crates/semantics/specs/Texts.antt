@@ -1,5 +1,5 @@
--- Texts as lines of words, the form in which this tool writes everything but formulas and logs.
--- Source: BLIF, and this tool's report and vectors: single blanks (32) between words, each line ended by LF (10).
+-- Texts as lines of words, the form in which this tool writes everything but formulas and logs. Source: BLIF,
+-- and this tool's report and vectors: single blanks (32) between words, each line ended by LF (10).
 use Rattle.std.specs.Prelude.{ℕ, Bool, true, false, List, [], ◌∷◌, ◌++◌, map, flat_map}
 use Rattle.std.specs.List.{join_with_byte}
 

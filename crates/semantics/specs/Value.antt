@@ -1,5 +1,6 @@
 -- The value of each signal at an input vector. Source: BLIF's tables.
-use Rattle.std.specs.Prelude.{◌≡◌, ℕ, zero, suc, ◌+◌, ◌-◌, ◌<◌, Bool, true, false, not, ◌&&◌, if◌then◌else◌, List, [], ◌∷◌, map, length, slice_index_or, nat_lt}
+use Rattle.std.specs.Prelude.{◌≡◌, ℕ, zero, suc, ◌+◌, ◌-◌, ◌<◌, Bool, true, false, not, ◌&&◌, if◌then◌else◌}
+use Rattle.std.specs.Prelude.{List, [], ◌∷◌, map, length, slice_index_or, nat_lt}
 use Rattle.std.specs.List.{list_any}
 use Rattle.semantics.specs.declared.mark.Mark.{Mark}
 use Rattle.semantics.specs.declared.mark.Mark.TheVariants.{Zero, One, Dash}
@@ -32,7 +33,8 @@ pub record IsConsistent (n : ℕ) (tables : List TableValue) (x : List Bool) (v 
 -- All signals from the values before. After one round more than there are tables, each signal of acyclic
 -- tables has its value (`ValueLaw`).
 abbrev pub round : ℕ → List TableValue → List Bool → Assignment → Assignment
-round n tables x v s = if nat_lt s n then slice_index_or x s false else table_value (table_at tables (s - n)) v
+round n tables x v s = if nat_lt s n then slice_index_or x s false
+    else table_value (table_at tables (s - n)) v
 
 unfoldable pub after_rounds : ℕ → List TableValue → List Bool → ℕ → Assignment
 after_rounds n tables x zero = λ _. false
@@ -45,7 +47,8 @@ value_of n tables x = after_rounds n tables x (suc (length tables))
 -- assignment is the values.
 pub record HasOneValue (n : ℕ) (tables : List TableValue) (x : List Bool) : Type 0 where
   pub consistent : IsConsistent n tables x (value_of n tables x)
-  pub only : (v : Assignment) → IsConsistent n tables x v → (s : ℕ) → s < n + length tables → v s ≡ value_of n tables x s
+  pub only : (v : Assignment) → IsConsistent n tables x v → (s : ℕ) → s < n + length tables
+      → v s ≡ value_of n tables x s
 
 -- the outputs' values at the input vector x
 unfoldable pub outputs_of : NetValue → List Bool → List Bool

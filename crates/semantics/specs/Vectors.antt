@@ -1,5 +1,6 @@
 -- Input vectors in counting order: vector j has input i equal to bit i of j. Source: this tool's own order.
-use Rattle.std.specs.Prelude.{◌≡◌, ◌==◌, ℕ, zero, suc, ◌/◌, ◌%◌, ◌^◌, ◌<◌, ◌≤◌, Bool, List, [], ◌∷◌, map, length}
+use Rattle.std.specs.Prelude.{◌≡◌, ◌==◌, ℕ, zero, suc, ◌/◌, ◌%◌, ◌^◌, ◌<◌, ◌≤◌, Bool, List, [], ◌∷◌, map}
+use Rattle.std.specs.Prelude.{length}
 use Rattle.std.specs.List.{range_with_len}
 use Rattle.semantics.specs.Error.{number_of}
 

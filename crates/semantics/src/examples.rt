@@ -1,5 +1,6 @@
 //! Worked examples of the definitions, computed by the checker: each function's contract is its examples.
-ghost use Rattle.semantics.specs.Examples.{ValueExamples, ErrorExamples, SignedExamples, TextExamples, ChangeExamples, RefusalExamples, LimitExamples, NameExamples};
+ghost use Rattle.semantics.specs.Examples.{ValueExamples, ErrorExamples, SignedExamples, TextExamples};
+ghost use Rattle.semantics.specs.Examples.{ChangeExamples, RefusalExamples, LimitExamples, NameExamples};
 
 /// Values of tables in and out of order, and counts.
 pub fn values()

@@ -1,5 +1,7 @@
 //! The laws about the definitions: each function's contract is a law.
-ghost use Rattle.semantics.specs.Laws.{ValueLaw, EmbeddingLaw, CopyLaw, ReplacedLaw, DependenceLaw, AcyclicLaw, GroundedLaw, OrderLaw, EvaluationLaw, RenamedLaw, WithoutLaw, RefusalLaw, VectorLaw, SizeLaw, SignedLaw, NumeralLaw};
+ghost use Rattle.semantics.specs.Laws.{ValueLaw, EmbeddingLaw, CopyLaw, ReplacedLaw, DependenceLaw};
+ghost use Rattle.semantics.specs.Laws.{AcyclicLaw, GroundedLaw, OrderLaw, EvaluationLaw, RenamedLaw};
+ghost use Rattle.semantics.specs.Laws.{WithoutLaw, RefusalLaw, VectorLaw, SizeLaw, SignedLaw, NumeralLaw};
 
 /// Acyclic tables give each signal one value at each input vector.
 pub fn values()

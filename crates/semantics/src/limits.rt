@@ -1,4 +1,5 @@
-//! The limits of nets and errors, each named once: definitions, contracts and code cite these constants. Source: this tool's own limits.
+//! The limits of nets and errors, each named once: definitions, contracts and code cite these constants.
+//! Source: this tool's own limits.
 
 /// The most inputs of a net that is read.
 pub const MOST_INPUTS: usize = 256;

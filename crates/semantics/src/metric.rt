@@ -5,7 +5,8 @@
 pub enum Metric {
     /// The absolute value of the difference of the two numbers.
     Abs,
-    /// The absolute error in parts per million of the exact number, rounded up; the exact number 0 counts as 1.
+    /// The absolute error in parts per million of the exact number, rounded up; the exact number 0 counts as
+    /// 1.
     Rel,
     /// The number of bits that differ.
     Ham,

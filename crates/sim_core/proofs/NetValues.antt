@@ -1,5 +1,6 @@
 -- The rows of a net's signals, table after table, and with a table turned over.
-use Rattle.std.proofs.Common.{◌≡◌, ◌≢◌, ℕ, ◌+◌, ◌-◌, ◌*◌, ◌<◌, ◌≤◌, ◌/◌, ◌%◌, ◌^◌, ◌==◌, eqb, IsTrue, ◌↔◌, ◌⊎◌, replicate, Bool, true, false, not, cond, ◌&&◌, ◌||◌, List, [], ◌∷◌, ◌++◌, length, get_or, set, take, drop, Contains, refl, ap, sym, subst, ◌∙◌, inl, inr, arith, get_or-set_same, get_or-set_other}
+use Rattle.std.proofs.Common.{◌≡◌, ◌≢◌, ℕ, ◌+◌, ◌-◌, ◌*◌, ◌<◌, ◌≤◌, ◌/◌, ◌%◌, ◌^◌, ◌==◌, eqb, IsTrue, ◌↔◌, ◌⊎◌, replicate, Bool, true, false, not, cond, ◌&&◌, ◌||◌, List, [], ◌∷◌, ◌++◌, length}
+use Rattle.std.proofs.Common.{get_or, set, take, drop, Contains, refl, ap, sym, subst, ◌∙◌, inl, inr, arith, get_or-set_same, get_or-set_other}
 use Rattle.std.specs.List.{list_any}
 use Rattle.std.proofs.Math.ListN.{length-set}
 use Rattle.std.proofs.lemmas.Bool.{cases_eq, cases_lt, true≢false, and_parts, and_cases, not-true, not-false, eq-eqb, eqb-true}
@@ -154,7 +155,8 @@ same_values : (vectors : List (List Bool)) (f g : List Bool → Bool) (row : Lis
 same_values vectors f g row same is = record { words = is.words; bits = λ p low. is.bits p low ∙ same (vector_at vectors p); clear = is.clear }
 
 -- the row of a table whose pins' rows have their values
-table_values : (vectors : List (List Bool)) (count : ℕ) (t : TableValue) (values : List Bool → Assignment) (rows : List (List ℕ)) (row : List ℕ) (f : List Bool → Bool) → length vectors ≡ count → IsTableRow t count rows row
+table_values : (vectors : List (List Bool)) (count : ℕ) (t : TableValue) (values : List Bool → Assignment) (rows : List (List ℕ)) (row : List ℕ) (f : List Bool → Bool) → length vectors ≡ count
+    → IsTableRow t count rows row
     → ((p : ℕ) → p < length vectors → table_value t (values_of rows p) ≡ f (vector_at vectors p)) → IsRowOfValues vectors f row
 table_values vectors count t values rows row f same is value = record {
   words = is.words ∙ ap word_count (sym same);
@@ -242,7 +244,8 @@ module _ (N : NetValue) (vectors : List (List Bool)) (count : ℕ) (same : lengt
           new (subst (λ j. Contains (take (k + 1) order) j) place (subst (λ l. Contains l i) (sym grown) (Contains-push (take k order) i)))
 
       -- what is known with one more table, where its row is right as it stands
-      known_kept : IsRowOfValues vectors (λ x. flipped_values n N.tables x t (n + i)) (row_at rows (n + i)) → HoldsBefore (IsSignalRow vectors (λ x. flipped_values n N.tables x t)) [] n order (k + 1) rows
+      known_kept : IsRowOfValues vectors (λ x. flipped_values n N.tables x t (n + i)) (row_at rows (n + i))
+          → HoldsBefore (IsSignalRow vectors (λ x. flipped_values n N.tables x t)) [] n order (k + 1) rows
       known_kept here s known =
           elim (cases_lt s n) [
             | inl input ↦ before.known s (inl input)

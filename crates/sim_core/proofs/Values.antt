@@ -47,7 +47,8 @@ inputs_none vectors words m zeros rest is wide = record {
       let long : length zeros ≡ m = ap length is ∙ length-replicate m 0 in
       bit_from-is (zeros ++ rest) (0 * words) p
       ∙ ap (λ w. word_bit w (p % 64))
-      (ap (λ k. get_or (zeros ++ rest) k 0) (omega arith) ∙ get_or_append_left zeros rest 0 (p / 64) (omega (arith, inside, long)) ∙ ap (λ (xs : List ℕ). get_or xs (p / 64) 0) is ∙ get_or-replicate m (p / 64) 0 0 inside)
+      (ap (λ k. get_or (zeros ++ rest) k 0) (omega arith) ∙ get_or_append_left zeros rest 0 (p / 64) (omega (arith, inside, long)) ∙ ap (λ (xs : List ℕ). get_or xs (p / 64) 0) is ∙ get_or-replicate m
+      (p / 64) 0 0 inside)
       ∙ ap (λ n. n == 1) (bit_at-zero (p % 64));
   inputs = λ i p low within. absurd (omega (arith, low));
 }
@@ -71,7 +72,8 @@ inputs_more vectors words start i row old new long is here bits before have = re
 pattern_past : (vectors : List (List Bool)) (i p : ℕ) → length vectors ≤ p → pattern_bit vectors i p ≡ false
 pattern_past vectors i p past = ap (λ (x : List Bool). get_or x i false) (get_or_past vectors p [] past)
 
-pub inputs_done : (g : GraphValue) (vectors : List (List Bool)) (rows : List ℕ) (m : ℕ) → IsGraph g → g.inputs ≡ m → HaveInputs vectors (word_count (length vectors)) rows m → HaveValues g vectors rows (gate_node g 0)
+pub inputs_done : (g : GraphValue) (vectors : List (List Bool)) (rows : List ℕ) (m : ℕ) → IsGraph g → g.inputs ≡ m → HaveInputs vectors (word_count (length vectors)) rows m
+    → HaveValues g vectors rows (gate_node g 0)
 inputs_done g vectors rows m graph same have = record {
   values = λ n p low within.
       let x : List Bool = vector_at vectors p in

@@ -1,5 +1,5 @@
--- Simulation of a net at many patterns: a row of bits for each signal. Source: bit-parallel simulation, and SALSA's don't-cares by turning
--- a table over.
+-- Simulation of a net at many patterns: a row of bits for each signal. Source: bit-parallel simulation, and
+-- SALSA's don't-cares by turning a table over.
 use Rattle.std.specs.Prelude.{◌≡◌, ℕ, ◌<◌, ◌≤◌, Bool, false, not, List, [], length, slice_index_or}
 use Rattle.semantics.specs.Net.{NetValue, TableValue, input_count, signal_count}
 use Rattle.semantics.specs.Value.{Assignment, table_value, value_of}
@@ -45,7 +45,8 @@ pub record IsNetSimulation (N : NetValue) (vectors : List (List Bool)) (s : Flip
 
 -- each signal has its row where table t is turned over at every pattern
 abbrev pub HaveFlipped : NetValue → List (List Bool) → ℕ → List (List ℕ) → Type 0
-HaveFlipped N vectors t rows = HaveRows vectors (λ x. flipped_values (input_count N) N.tables x t) (signal_count N) rows
+HaveFlipped N vectors t rows
+    = HaveRows vectors (λ x. flipped_values (input_count N) N.tables x t) (signal_count N) rows
 
 -- what the fields hold: rows of one length, and each flipped row that is not marked is the signal's row
 pub record AreKept (count : ℕ) (rows flipped : List (List ℕ)) (marks : List Bool) : Type 0 where
@@ -53,7 +54,8 @@ pub record AreKept (count : ℕ) (rows flipped : List (List ℕ)) (marks : List 
   pub marked : length marks ≡ length rows
   pub wide : AreWide (word_count count) rows
   pub flipped_wide : AreWide (word_count count) flipped
-  pub same : (s : ℕ) → s < length rows → slice_index_or marks s false ≡ false → row_at flipped s ≡ row_at rows s
+  pub same : (s : ℕ) → s < length rows → slice_index_or marks s false ≡ false
+      → row_at flipped s ≡ row_at rows s
 
 -- the row of a table, whose pins have these rows
 pub record IsTableRow (t : TableValue) (count : ℕ) (rows : List (List ℕ)) (row : List ℕ) : Type 0 where

@@ -1,4 +1,5 @@
--- Simulation of a graph at many patterns: a row of bits for each node, one row behind another. Source: bit-parallel simulation.
+-- Simulation of a graph at many patterns: a row of bits for each node, one row behind another. Source:
+-- bit-parallel simulation.
 use Rattle.std.specs.Prelude.{◌≡◌, ℕ, ◌+◌, ◌*◌, ◌<◌, ◌≤◌, Bool, false, List, [], length, slice_index_or}
 use Rattle.lane_bits.specs.Rows.{row_bit, word_count}
 use Rattle.aig_core.specs.Graph.{GraphValue, node_count, value_of}
@@ -23,8 +24,10 @@ node_bit words rows n p = row_bit rows (64 * (n * words) + p)
 
 -- the first m nodes have their values at the patterns, and the bits past the last pattern are 0
 pub record HaveValues (g : GraphValue) (vectors : List (List Bool)) (rows : List ℕ) (m : ℕ) : Type 0 where
-  pub values : (n p : ℕ) → n < m → p < length vectors → node_bit (word_count (length vectors)) rows n p ≡ value_of g (vector_at vectors p) n
-  pub clear : (n p : ℕ) → n < m → length vectors ≤ p → p < 64 * word_count (length vectors) → node_bit (word_count (length vectors)) rows n p ≡ false
+  pub values : (n p : ℕ) → n < m → p < length vectors
+      → node_bit (word_count (length vectors)) rows n p ≡ value_of g (vector_at vectors p) n
+  pub clear : (n p : ℕ) → n < m → length vectors ≤ p → p < 64 * word_count (length vectors)
+      → node_bit (word_count (length vectors)) rows n p ≡ false
 
 -- each node has its row
 pub record IsSimulationOf (g : GraphValue) (vectors : List (List Bool)) (s : SimValue) : Type 0 where

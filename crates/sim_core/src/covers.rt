@@ -55,7 +55,8 @@ pub(crate) fn set_cover(
     ensures cube { length cube.new ≡ length cube.old }
     ensures same { length cover.new ≡ length cover.old }
     ensures bits { (p : ℕ) → p < 64 * length cover.old
-        → row_bit cover.new p ≡ list_any (λ marks. row_matches marks pins.now (values_of rows.now p)) cubes.now }
+        → row_bit cover.new p ≡ list_any (λ marks. row_matches marks pins.now (values_of rows.now p))
+        cubes.now }
 {
     cover.fill(false);
     for row in cubes {

@@ -29,9 +29,15 @@ impl Model for FlipSim {
 
     ghost Value = { FlipValue };
 
-    ghost view = { λ s. record { count = s.count; outputs = s.outputs.items; rows = s.rows.items; flipped = s.flipped.items } };
+    ghost view = { λ s. record {
+      count = s.count;
+      outputs = s.outputs.items;
+      rows = s.rows.items;
+      flipped = s.flipped.items;
+    } };
 
-    ghost invariant = { λ s. AreKept s.count s.rows.items s.flipped.items s.marks.items × FitsRoom s.count s.room };
+    ghost invariant = { λ s. AreKept s.count s.rows.items s.flipped.items s.marks.items
+        × FitsRoom s.count s.room };
 }
 
 /// `rows` rows of `words` words.

@@ -1,11 +1,13 @@
 //! The rows of a net's signals at many patterns, and the rows where a table is turned over. Nothing here
 //! takes memory.
-ghost use Rattle.std.specs.Prelude.{◌≡◌, ◌↔◌, ◌==◌, ◌&&◌, ◌<◌, ◌≤◌, not, ℕ, List, Bool, false, length, slice_index_or, slice_set, IsTrue, All};
+ghost use Rattle.std.specs.Prelude.{◌≡◌, ◌↔◌, ◌==◌, ◌&&◌, ◌<◌, ◌≤◌, not, ℕ, List, Bool, false, length};
+ghost use Rattle.std.specs.Prelude.{slice_index_or, slice_set, IsTrue, All};
 ghost use Rattle.semantics.specs.Net.{input_count, table_count, signal_count};
 ghost use Rattle.semantics.specs.Value.{value_of};
 ghost use Rattle.semantics.specs.Dependence.{DependsOn};
 ghost use Rattle.lane_bits.specs.Rows.{word_count};
-ghost use Rattle.sim_core.specs.NetRows.{row_at, AreWide, HaveRows, HaveFlipped, FitsRoom, IsTableRow, IsOppositeRow, AreKept};
+ghost use Rattle.sim_core.specs.NetRows.{row_at, AreWide, HaveRows, HaveFlipped, FitsRoom, IsTableRow};
+ghost use Rattle.sim_core.specs.NetRows.{IsOppositeRow, AreKept};
 
 use crate::covers::set_cover;
 use crate::signal_row::SignalRow;
@@ -54,7 +56,8 @@ pub(crate) fn set_input_rows(rows: &mut [SignalRow], patterns: &Patterns)
     requires room { patterns.now.inputs ≤ length rows.old }
     requires wide { AreWide (word_count (length patterns.now.vectors)) rows.old }
     ensures wide { AreWide (word_count (length patterns.now.vectors)) rows.new }
-    ensures rows { HaveRows patterns.now.vectors (λ x s. slice_index_or x s false) patterns.now.inputs rows.new }
+    ensures rows { HaveRows patterns.now.vectors (λ x s. slice_index_or x s false) patterns.now.inputs
+        rows.new }
 {
     for i in 0..patterns.inputs() {
         rows[i as usize].copy(patterns.row(i));
@@ -117,7 +120,8 @@ pub(crate) fn flip_rows(
     requires room { FitsRoom count room.old }
     ensures room { FitsRoom count room.new }
     ensures wide { AreWide (word_count count) rows.new }
-    ensures others { (s : ℕ) → s < signal_count net.now → slice_index_or marks.now s false ≡ false → row_at rows.new s ≡ row_at rows.old s }
+    ensures others { (s : ℕ) → s < signal_count net.now → slice_index_or marks.now s false ≡ false
+        → row_at rows.new s ≡ row_at rows.old s }
     ensures flipped { (vectors : List (List Bool)) → length vectors ≡ count
         → HaveRows vectors (value_of (input_count net.now) net.now.tables) (signal_count net.now) rows.old
         → HaveFlipped net.now vectors t rows.new }

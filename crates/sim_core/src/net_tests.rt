@@ -1,4 +1,5 @@
-//! The half adder as a net, and a table with the opposite of its carry, at many patterns, all `00` but the last, which is `11`.
+//! The half adder as a net, and a table with the opposite of its carry, at many patterns, all `00` but the
+//! last, which is `11`.
 ghost use Rattle.std.specs.Prelude.{◌≡◌, ◌<◌, ◌∷◌, [], length, IfOk, All};
 ghost use Rattle.semantics.specs.Net.{input_count, table_count};
 

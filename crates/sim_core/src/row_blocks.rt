@@ -53,7 +53,8 @@ pub(crate) fn set_conjunction(
     requires right { right.start + words ≤ start }
     requires within { start + words ≤ length rows.old }
     ensures bits { (p : ℕ) → p < count → bit_from rows.new start p
-        ≡ (turned left.flip (bit_from rows.old left.start p) && turned right.flip (bit_from rows.old right.start p)) }
+        ≡ (turned left.flip (bit_from rows.old left.start p)
+        && turned right.flip (bit_from rows.old right.start p)) }
     ensures clear { (p : ℕ) → count ≤ p → p < 64 * words → bit_from rows.new start p ≡ false }
     ensures before { StaysBefore start rows.old rows.new }
 {

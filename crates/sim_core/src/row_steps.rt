@@ -25,7 +25,8 @@ pub(crate) fn set_inputs(rows: &mut [u64], patterns: &Patterns)
 /// Sets the rows of the gates.
 pub(crate) fn set_gates(rows: &mut [u64], count: u64, aig: &Aig)
     requires { length rows.old ≡ node_count aig.now * word_count count }
-    ensures { (vectors : List (List Bool)) → length vectors ≡ count → HaveValues aig.now vectors rows.old (gate_node aig.now 0)
+    ensures { (vectors : List (List Bool)) → length vectors ≡ count
+        → HaveValues aig.now vectors rows.old (gate_node aig.now 0)
         → HaveValues aig.now vectors rows.new (node_count aig.now) }
 {
     let words = word_count(count) as usize;

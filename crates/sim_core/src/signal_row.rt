@@ -79,7 +79,8 @@ impl SignalRow {
         self.words.as_mut_slice().copy_from_slice(other);
     }
 
-    /// Gets the first `count` bits of another row, or with `flip` their opposites; the bits past them become 0.
+    /// Gets the first `count` bits of another row, or with `flip` their opposites; the bits past them become
+    /// 0.
     pub(crate) fn set(&mut self, other: &[u64], flip: bool, count: u64)
         requires other { length other.now ≡ length self.old }
         requires words { length self.old ≡ word_count count }

@@ -20,7 +20,8 @@ told_header None held is = cc
 told_header (Some h) held is = (h, refl, cc)
 
 -- what a text comes to, where it goes by the header and the clauses behind it
-text_read : {X : Type 0} (of_lines : List Bytes → X) (made : Header → Result (List Clause) Refusal → X) (text : Bytes) (lines : List (ℕ × Bor Bytes)) (first : ℕ × Bor Bytes) (rest : List (ℕ × Bor Bytes))
+text_read : {X : Type 0} (of_lines : List Bytes → X) (made : Header → Result (List Clause) Refusal → X) (text : Bytes) (lines : List (ℕ × Bor Bytes)) (first : ℕ × Bor Bytes)
+    (rest : List (ℕ × Bor Bytes))
     (words : List (Bor Bytes)) (held : Header) (start : DraftValue) (variables : ℕ) (clauses : Result (List Clause) Refusal) (answer : X)
     → ((header : Bytes) (behind : List Bytes) (h : Header) → header_of (words_of header) ≡ Some h → of_lines (header ∷ behind) ≡ made h (clauses_of h.variables (flat_map words_of behind)))
     → line_texts lines ≡ lines_of text → lines ≡ first ∷ rest → texts words ≡ words_of first.1.now → Some held ≡ option_map held_header (header_of (texts words))

@@ -64,7 +64,8 @@ pub word_right : (d next : DraftValue) (word : Bytes) (n : ℤ) → wrong_word d
 word_right d next word n right is same rest =
     ap (λ x. clauses_with x rest) (same ∙ ap (with_number d) is)
     ∙ number_next d (number_of word) rest (is_end (number_of word)) refl
-    ∙ ap (λ wrong. unless_refused (cons_option wrong (filter_map (wrong_word d.variables) rest)) (ended_parts (d.ended ++ gone_on d.begun (slice_split is_end (map number_of (word ∷ rest)))))) (sym right)
+    ∙ ap (λ wrong. unless_refused (cons_option wrong (filter_map (wrong_word d.variables) rest)) (ended_parts (d.ended ++ gone_on d.begun (slice_split is_end (map number_of (word ∷ rest))))))
+    (sym right)
 
 -- ---- the words of a line
 

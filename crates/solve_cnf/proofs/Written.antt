@@ -1,5 +1,6 @@
 -- A formula that is written as its text is read back from it.
-use Rattle.std.proofs.Common.{◌≡◌, ℕ, suc, ◌-◌, ◌^◌, ◌<◌, ◌≤◌, Bool, true, false, ◌==◌, not, ◌&&◌, ◌||◌, List, [], ◌∷◌, ◌++◌, map, flat_map, length, codes, decimal, leb, None, Some, Ok, All, refl, ap, ◌∙◌, arith}
+use Rattle.std.proofs.Common.{◌≡◌, ℕ, suc, ◌-◌, ◌^◌, ◌<◌, ◌≤◌, Bool, true, false, ◌==◌, not, ◌&&◌, ◌||◌, List, [], ◌∷◌, ◌++◌, map, flat_map, length, codes, decimal, leb, None, Some, Ok, All, refl}
+use Rattle.std.proofs.Common.{ap, ◌∙◌, arith}
 use Rattle.std.specs.Prelude.{filter, filter_map, ℤ, pos, negsuc, neg_ℤ, nat_abs}
 use Rattle.std.specs.List.{AllByRecursion, list_all, slice_split, join_with_byte, cons_option}
 use Rattle.std.specs.Ordering.{int_eq}
@@ -17,7 +18,8 @@ use Rattle.blif_semantics.specs.Lines.{is_blank, words_of}
 use Rattle.blif_semantics.proofs.WordLines.{IsWord, IsLine, split_words, physical_lines-text_of}
 use Rattle.proof_semantics.specs.Clauses.{Clause, IsLiteralOf, AreClausesOf}
 use Rattle.proof_semantics.specs.Formula.{Formula, header_line, clause_line, dimacs_text}
-use Rattle.solve_cnf.specs.Reading.{Header, is_comment, are_digits, header_of, is_negative, digits_of, number_of, wrong_word, ended_parts, unless_refused, clauses_of, formula_with, formula_behind, formula_of_lines, formula_of_text}
+use Rattle.solve_cnf.specs.Reading.{Header, is_comment, are_digits, header_of, is_negative, digits_of, number_of, wrong_word, ended_parts, unless_refused, clauses_of, formula_with, formula_behind}
+use Rattle.solve_cnf.specs.Reading.{formula_of_lines, formula_of_text}
 
 -- ---- numerals
 
@@ -115,7 +117,8 @@ abbrev is_end : ℤ → Bool
 is_end n = int_eq n (pos 0)
 
 module _ (variables : ℕ) (few : variables < 10 ^ 64) where
-  clause_right : (clause : Clause) (more : List Bytes) → AllByRecursion (IsLiteralOf variables) clause → filter_map (wrong_word variables) more ≡ [] → filter_map (wrong_word variables) (clause_line clause ++ more) ≡ []
+  clause_right : (clause : Clause) (more : List Bytes) → AllByRecursion (IsLiteralOf variables) clause → filter_map (wrong_word variables) more ≡ []
+      → filter_map (wrong_word variables) (clause_line clause ++ more) ≡ []
   clause_right [] more h rest = ap (λ w. cons_option w (filter_map (wrong_word variables) more)) (right-zero variables) ∙ rest
   clause_right (l ∷ clause) more h rest =
       ap (λ w. cons_option w (filter_map (wrong_word variables) (clause_line clause ++ more))) (right-signed variables l few h.0.within) ∙ clause_right clause more h.1 rest
@@ -135,7 +138,8 @@ module _ (variables : ℕ) (few : variables < 10 ^ 64) where
   clauses_parts [] h = refl
   clauses_parts (clause ∷ clauses) h =
       ap (slice_split is_end) (clause_numbers clause (flat_map clause_line clauses) (recursion_from_All (IsLiteralOf variables) clause h.0))
-      ∙ slice_split_at is_end clause (pos 0) (map number_of (flat_map clause_line clauses)) (All-weaker (IsLiteralOf variables) (λ l. is_end l ≡ false) (λ l is. not_zero l is.not_zero) clause h.0) refl
+      ∙ slice_split_at is_end clause (pos 0) (map number_of (flat_map clause_line clauses)) (All-weaker (IsLiteralOf variables) (λ l. is_end l ≡ false) (λ l is. not_zero l is.not_zero) clause h.0)
+      refl
       ∙ ap (λ parts. clause ∷ parts) (clauses_parts clauses h.1)
 
 parts_ended : (clauses : List Clause) → ended_parts (clauses ++ [] ∷ []) ≡ Ok clauses
@@ -203,7 +207,11 @@ letters word h =
 header_written : (f : Formula) → f.variables < 10 ^ 64 → length f.clauses < 10 ^ 64 → IsWritten (header_line f)
 header_written f few short =
     let p : IsWord (codes "p") = record { some = omega arith; printable = letters (codes "p") ((omega arith, omega arith), tt); ending = λ e. omega (arith, e) } in
-    let cnf : IsWord (codes "cnf") = record { some = omega arith; printable = letters (codes "cnf") ((omega arith, omega arith), ((omega arith, omega arith), ((omega arith, omega arith), tt))); ending = λ e. omega (arith, e) } in
+    let cnf : IsWord (codes "cnf") = record {
+      some = omega arith;
+      printable = letters (codes "cnf") ((omega arith, omega arith), ((omega arith, omega arith), ((omega arith, omega arith), tt)));
+      ending = λ e. omega (arith, e);
+    } in
     let variables = word-numeral (decimal f.variables) (numeral_of_digits (decimal f.variables) (are_digits-decimal f.variables few)) in
     let clauses = word-numeral (decimal (length f.clauses)) (numeral_of_digits (decimal (length f.clauses)) (are_digits-decimal (length f.clauses) short)) in
     record { is_line = record { some = omega arith; words = (p, (cnf, (variables, (clauses, tt)))) }; said = refl }
@@ -237,7 +245,13 @@ flat_lines (clause ∷ clauses) = ap (λ ws. clause_line clause ++ ws) (flat_lin
 header_back : (f : Formula) → f.variables < 2 ^ 31 → length f.clauses < 10 ^ 64 → header_of (header_line f) ≡ Some (record { variables = f.variables; clauses = length f.clauses })
 header_back f few short =
     let small : f.variables < 10 ^ 64 = omega (arith, few) in
-    rw (are_digits-decimal f.variables small, are_digits-decimal (length f.clauses) short, digits_number-decimal f.variables small, digits_number-decimal (length f.clauses) short, lt-ltb f.variables (2 ^ 31) few) refl
+    rw (
+      are_digits-decimal f.variables small,
+      are_digits-decimal (length f.clauses) short,
+      digits_number-decimal f.variables small,
+      digits_number-decimal (length f.clauses) short,
+      lt-ltb f.variables (2 ^ 31) few,
+    ) refl
 
 pub formula_back : (f : Formula) → f.variables < 2 ^ 31 → AreClausesOf f.variables f.clauses → length f.clauses < 10 ^ 64 → formula_of_text (dimacs_text f) ≡ Ok f
 unfolding formula_of_text dimacs_text

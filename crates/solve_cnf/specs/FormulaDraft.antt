@@ -1,5 +1,6 @@
 -- Clauses on the way: those that are ended, and the literals of the one that is not.
-use Rattle.std.specs.Prelude.{ℕ, ◌^◌, ◌<◌, List, [], ◌∷◌, ◌++◌, map, filter_map, Bool, true, false, ℤ, pos, All, Result}
+use Rattle.std.specs.Prelude.{ℕ, ◌^◌, ◌<◌, List, [], ◌∷◌, ◌++◌, map, filter_map, Bool, true, false, ℤ, pos}
+use Rattle.std.specs.Prelude.{All, Result}
 use Rattle.std.specs.List.{slice_split}
 use Rattle.std.specs.Ordering.{int_eq}
 use Rattle.semantics.specs.Texts.{Bytes}
@@ -24,7 +25,8 @@ gone_on clause (part ∷ parts) = (clause ++ part) ∷ parts
 -- what the clauses are where these words come next and are the last
 abbrev pub clauses_with : DraftValue → List Bytes → Result (List Clause) Refusal
 clauses_with d words =
-    unless_refused (filter_map (wrong_word d.variables) words) (ended_parts (d.ended ++ gone_on d.begun (slice_split (λ n. int_eq n (pos 0)) (map number_of words))))
+    unless_refused (filter_map (wrong_word d.variables) words)
+    (ended_parts (d.ended ++ gone_on d.begun (slice_split (λ n. int_eq n (pos 0)) (map number_of words))))
 
 -- a literal joins the clause, and 0 ends it
 abbrev pub after_number : DraftValue → ℤ → Bool → DraftValue

@@ -6,4 +6,5 @@ use Rattle.solve_cnf.specs.Reading.{formula_of_text}
 
 -- a formula is what its own text means
 pub record WrittenLaw : Type 0 where
-  pub read : (f : Formula) → f.variables < 2 ^ 31 → AreClausesOf f.variables f.clauses → length f.clauses < 10 ^ 64 → formula_of_text (dimacs_text f) ≡ Ok f
+  pub read : (f : Formula) → f.variables < 2 ^ 31 → AreClausesOf f.variables f.clauses
+      → length f.clauses < 10 ^ 64 → formula_of_text (dimacs_text f) ≡ Ok f

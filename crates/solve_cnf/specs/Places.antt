@@ -1,6 +1,7 @@
 -- The line at which a text is refused. Lines are counted from 1, and a line whose number is not below 2 ^ 64
 -- - 1 is told as 2 ^ 64 - 1.
-use Rattle.std.specs.Prelude.{◌≡◌, ℕ, ◌+◌, ◌-◌, ◌^◌, ◌&&◌, min, not, Bool, if◌then◌else◌, List, [], ◌∷◌, map, filter, find, option_map, Option, None, Some}
+use Rattle.std.specs.Prelude.{◌≡◌, ℕ, ◌+◌, ◌-◌, ◌^◌, ◌&&◌, min, not, Bool, if◌then◌else◌, List, [], ◌∷◌, map}
+use Rattle.std.specs.Prelude.{filter, find, option_map, Option, None, Some}
 use Rattle.std.specs.Borrow.{Bor}
 use Rattle.std.specs.List.{list_all, list_any, enumerate_from}
 use Rattle.std.specs.Option.{is_some}
@@ -13,7 +14,8 @@ use Rattle.solve_cnf.specs.declared.formula_error.ReadError.TheVariants as e
 -- the lines that are no comments and have more than blanks, each behind the number of lines of the text
 -- before it
 abbrev pub numbered_lines : Bytes → List (ℕ × Bytes)
-numbered_lines text = filter (λ (l : ℕ × Bytes). not (is_comment l.1) && not (list_all is_blank l.1)) (enumerate_from 0 (physical_lines text))
+numbered_lines text = filter (λ (l : ℕ × Bytes). not (is_comment l.1) && not (list_all is_blank l.1))
+    (enumerate_from 0 (physical_lines text))
 
 -- the lines of borrowed lines, each behind that number
 abbrev pub line_values : List (ℕ × Bor Bytes) → List (ℕ × Bytes)
@@ -36,7 +38,9 @@ place_if wrong line = if wrong then Some line else None
 
 -- the number of the first line with a wrong word
 abbrev pub wrong_line : ℕ → List (ℕ × Bytes) → Option ℕ
-wrong_line variables lines = option_map (λ (l : ℕ × Bytes). line_number l.0) (find (λ (l : ℕ × Bytes). has_wrong variables (words_of l.1)) lines)
+wrong_line variables lines
+    = option_map (λ (l : ℕ × Bytes). line_number l.0)
+    (find (λ (l : ℕ × Bytes). has_wrong variables (words_of l.1)) lines)
 
 -- the number of the first line, where this is no header, and else that of the first line with a wrong word
 abbrev pub place_behind : ℕ → Option Header → List (ℕ × Bytes) → Option ℕ

@@ -1,6 +1,9 @@
--- What a text means as a formula. Source: DIMACS: comments, the line `p cnf`, and numbers, of which 0 ends a clause, over as many lines
--- as one likes. As this tool reads it, blanks are space, tab and CR, and a number may have leading zeros.
-use Rattle.std.specs.Prelude.{ℕ, ◌-◌, ◌^◌, Bool, not, ◌&&◌, ◌==◌, if◌then◌else◌, List, [], ◌∷◌, map, filter, filter_map, flat_map, length, take, drop, slice_index, slice_index_or, codes, bytes_eq, nat_lt, ℤ, pos, neg_ℤ, Option, None, Some, Result, Ok, Err}
+-- What a text means as a formula. Source: DIMACS: comments, the line `p cnf`, and numbers, of which 0 ends a
+-- clause, over as many lines as one likes. As this tool reads it, blanks are space, tab and CR, and a number
+-- may have leading zeros.
+use Rattle.std.specs.Prelude.{ℕ, ◌-◌, ◌^◌, Bool, not, ◌&&◌, ◌==◌, if◌then◌else◌, List, [], ◌∷◌, map, filter}
+use Rattle.std.specs.Prelude.{filter_map, flat_map, length, take, drop, slice_index, slice_index_or, codes}
+use Rattle.std.specs.Prelude.{bytes_eq, nat_lt, ℤ, pos, neg_ℤ, Option, None, Some, Result, Ok, Err}
 use Rattle.std.specs.List.{list_all, slice_split}
 use Rattle.std.specs.Ordering.{int_eq}
 use Rattle.semantics.specs.Texts.{Bytes, Line}
@@ -9,8 +12,9 @@ use Rattle.blif_semantics.specs.Lines.{is_blank, physical_lines, words_of}
 use Rattle.proof_semantics.specs.Clauses.{Clause}
 use Rattle.proof_semantics.specs.Formula.{Formula}
 
--- Why a text means no formula: it has no line but comments and blanks; its first line is no header; a word behind it is no number, or
--- a literal of no variable; nothing ends the last clause; there are more or fewer clauses than the header says.
+-- Why a text means no formula: it has no line but comments and blanks; its first line is no header; a word
+-- behind it is no number, or a literal of no variable; nothing ends the last clause; there are more or fewer
+-- clauses than the header says.
 pub data Refusal : Type 0 where
   no_header : Refusal
   bad_header : Refusal
@@ -39,7 +43,8 @@ pub record Header : Type 0 where
 -- `p`, `cnf`, the number of variables, below 2 ^ 31, and the number of clauses
 abbrev pub header_of : Line → Option Header
 header_of (p ∷ cnf ∷ variables ∷ clauses ∷ []) =
-    if (bytes_eq p (codes "p") && bytes_eq cnf (codes "cnf")) && (are_digits variables && are_digits clauses) && nat_lt (digits_number variables) (2 ^ 31)
+    if (bytes_eq p (codes "p") && bytes_eq cnf (codes "cnf")) && (are_digits variables && are_digits clauses)
+    && nat_lt (digits_number variables) (2 ^ 31)
     then Some (record { variables = digits_number variables; clauses = digits_number clauses })
     else None
 header_of _ = None
@@ -52,7 +57,8 @@ abbrev pub digits_of : Bytes → Bytes
 digits_of word = if is_negative word then drop 1 word else word
 
 abbrev pub number_of : Bytes → ℤ
-number_of word = if is_negative word then neg_ℤ (pos (digits_number (digits_of word))) else pos (digits_number (digits_of word))
+number_of word = if is_negative word then neg_ℤ (pos (digits_number (digits_of word)))
+    else pos (digits_number (digits_of word))
 
 -- what is wrong with a word as a literal of the first `variables` variables, or as 0
 abbrev pub wrong_word : ℕ → Bytes → Option Refusal
@@ -65,7 +71,8 @@ wrong_word variables word =
 -- ends the last part, so it has to be empty.
 abbrev pub ended_parts : List Clause → Result (List Clause) Refusal
 ended_parts parts =
-    if length (slice_index_or parts (length parts - 1) []) == 0 then Ok (take (length parts - 1) parts) else Err unended
+    if length (slice_index_or parts (length parts - 1) []) == 0 then Ok (take (length parts - 1) parts)
+    else Err unended
 
 -- the first of the refusals, if there is any
 abbrev pub unless_refused : List Refusal → Result (List Clause) Refusal → Result (List Clause) Refusal
@@ -76,12 +83,14 @@ unless_refused (refusal ∷ refusals) clauses = Err refusal
 -- word
 abbrev pub clauses_of : ℕ → List Bytes → Result (List Clause) Refusal
 clauses_of variables words =
-    unless_refused (filter_map (wrong_word variables) words) (ended_parts (slice_split (λ n. int_eq n (pos 0)) (map number_of words)))
+    unless_refused (filter_map (wrong_word variables) words)
+    (ended_parts (slice_split (λ n. int_eq n (pos 0)) (map number_of words)))
 
 abbrev pub formula_with : Header → Result (List Clause) Refusal → Result Formula Refusal
 formula_with header (Err refusal) = Err refusal
 formula_with header (Ok clauses) =
-    if length clauses == header.clauses then Ok (record { variables = header.variables; clauses = clauses }) else Err wrong_count
+    if length clauses == header.clauses then Ok (record { variables = header.variables; clauses = clauses })
+    else Err wrong_count
 
 abbrev pub formula_behind : Option Header → List Bytes → Result Formula Refusal
 formula_behind None words = Err bad_header

@@ -1,6 +1,7 @@
 -- Why a text is not read.
 use Rattle.std.specs.Prelude.{◌≡◌, Option, Some, None, Result, Err}
-use Rattle.solve_cnf.specs.Reading.{Refusal, no_header, bad_header, no_number, no_variable, unended, wrong_count}
+use Rattle.solve_cnf.specs.Reading.{Refusal, no_header, bad_header, no_number, no_variable, unended}
+use Rattle.solve_cnf.specs.Reading.{wrong_count}
 use Rattle.solve_cnf.specs.declared.formula_error.ReadError.{ReadError}
 use Rattle.solve_cnf.specs.declared.formula_error.ReadError.TheVariants as e
 

@@ -16,7 +16,8 @@ use Rattle.solve_cnf.specs.declared.run.RunError.TheVariants.{Refused, OutOfMemo
 
 -- the conflicts that a word allows: a decimal number, at least 1, held as 2 ^ 64 - 1 where it is greater
 abbrev pub limit_of : Bytes → Option ℕ
-limit_of word = if are_digits word && nat_lt 0 (digits_number word) then Some (min (digits_number word) (2 ^ 64 - 1)) else None
+limit_of word = if are_digits word
+    && nat_lt 0 (digits_number word) then Some (min (digits_number word) (2 ^ 64 - 1)) else None
 
 -- The text means a formula, and what was written is the text of a right answer to it: a model that satisfies
 -- it, a log that refutes it, or a log with exactly `limit` conflicts.
@@ -31,6 +32,7 @@ pub record IsAnswered (text : Bytes) (limit : ℕ) (old new : Option Bytes) : Ty
 -- of clauses that are told, or memory is wanting. Or the text means a formula, and nothing is said of what
 -- was written before a write failed.
 abbrev pub HasFailed : Bytes → Option Bytes → Option Bytes → RunError → Type 0
-HasFailed text old new (Refused told) = Tells told (formula_of_text text) × Names told (refused_line text) × Counts told (clause_counts text) × Keeps old new
+HasFailed text old new (Refused told) = Tells told (formula_of_text text) × Names told (refused_line text)
+    × Counts told (clause_counts text) × Keeps old new
 HasFailed text old new OutOfMemory = Keeps old new
 HasFailed text old new (Write error) = (formula : Formula) × (formula_of_text text ≡ Ok formula)

@@ -1,5 +1,6 @@
 //! Clauses as they are read, word after word.
-ghost use Rattle.std.specs.Prelude.{◌≡◌, ◌<◌, ◌≤◌, ◌^◌, ℕ, List, [], ◌∷◌, ◌++◌, Ok, None, false, nat_abs, flat_map, IfOk, IfErr, OnOk};
+ghost use Rattle.std.specs.Prelude.{◌≡◌, ◌<◌, ◌≤◌, ◌^◌, ℕ, List, [], ◌∷◌, ◌++◌, Ok, None, false, nat_abs};
+ghost use Rattle.std.specs.Prelude.{flat_map, IfOk, IfErr, OnOk};
 ghost use Rattle.semantics.specs.Texts.{Bytes};
 ghost use Rattle.blif_semantics.specs.Lines.{words_of};
 ghost use Rattle.proof_semantics.specs.Logs.{IsDerivation};
@@ -8,7 +9,8 @@ ghost use Rattle.solve_cnf.specs.Header.{held_number};
 ghost use Rattle.solve_cnf.specs.FormulaDraft.{with_number, clauses_with};
 ghost use Rattle.solve_cnf.specs.Refusals.{Tells};
 ghost use Rattle.solve_cnf.specs.Slices.{line_texts};
-ghost use Rattle.solve_cnf.specs.Places.{has_wrong, is_wrong, line_number, line_of, line_values, place_if, wrong_line, Names};
+ghost use Rattle.solve_cnf.specs.Places.{has_wrong, is_wrong, line_number, line_of, line_values, place_if};
+ghost use Rattle.solve_cnf.specs.Places.{wrong_line, Names};
 ghost use Rattle.solve_cnf.specs.Counts.{counts_with, counts_of, Counts};
 
 use crate::formula_error::ReadError;
@@ -71,7 +73,8 @@ impl FormulaDraft {
     fn take_word(&mut self, word: &[u8], line: usize) -> Result<(), ReadError>
         ensures variables { self.new.variables ≡ self.old.variables }
         ensures right { OnOk result (is_wrong self.old.variables word.now ≡ false) }
-        ensures place { IfErr result (λ told. Names told (place_if (is_wrong self.old.variables word.now) line)) }
+        ensures place { IfErr result
+            (λ told. Names told (place_if (is_wrong self.old.variables word.now) line)) }
         ensures no_counts { IfErr result (λ told. counts_of told ≡ None) }
         ensures ok { OnOk result ((rest : List Bytes)
             → clauses_with self.new rest ≡ clauses_with self.old (word.now ∷ rest)) }
@@ -88,7 +91,8 @@ impl FormulaDraft {
         ensures variables { self.new.variables ≡ self.old.variables }
         ensures right { OnOk result (has_wrong self.old.variables (words_of line.now.1.now) ≡ false) }
         ensures place { IfErr result (λ told.
-            Names told (place_if (has_wrong self.old.variables (words_of line.now.1.now)) (line_number line.now.0))) }
+            Names told (place_if (has_wrong self.old.variables (words_of line.now.1.now))
+            (line_number line.now.0))) }
         ensures no_counts { IfErr result (λ told. counts_of told ≡ None) }
         ensures ok { OnOk result ((rest : List Bytes)
             → clauses_with self.new rest ≡ clauses_with self.old (words_of line.now.1.now ++ rest)) }
@@ -105,7 +109,8 @@ impl FormulaDraft {
     /// Takes the words of the last lines of a text.
     pub fn take_lines(&mut self, lines: &[Line]) -> Result<(), ReadError>
         ensures variables { self.new.variables ≡ self.old.variables }
-        ensures place { IfErr result (λ told. Names told (wrong_line self.old.variables (line_values lines.now))) }
+        ensures place { IfErr result
+            (λ told. Names told (wrong_line self.old.variables (line_values lines.now))) }
         ensures no_counts { IfErr result (λ told. counts_of told ≡ None) }
         ensures ok { OnOk result (clauses_with self.new []
             ≡ clauses_with self.old (flat_map words_of (line_texts lines.now))) }
@@ -122,11 +127,14 @@ impl FormulaDraft {
     pub fn finish(self, count: u64) -> Result<Cnf, ReadError>
         ensures no_place { IfErr result (λ told. line_of told ≡ None) }
         ensures ok { IfOk result (λ cnf. (clauses : ℕ) → count ≡ held_number clauses
-            → formula_with (record { variables = self.variables; clauses = clauses }) (clauses_with self []) ≡ Ok cnf) }
+            → formula_with (record { variables = self.variables; clauses = clauses }) (clauses_with self [])
+            ≡ Ok cnf) }
         ensures err { IfErr result (λ told. (clauses : ℕ) → count ≡ held_number clauses
-            → Tells told (formula_with (record { variables = self.variables; clauses = clauses }) (clauses_with self []))) }
+            → Tells told (formula_with (record { variables = self.variables; clauses = clauses })
+            (clauses_with self []))) }
         ensures counts { IfErr result (λ told. (clauses : ℕ) → count ≡ held_number clauses
-            → Counts told (counts_with (record { variables = self.variables; clauses = clauses }) (clauses_with self []))) }
+            → Counts told (counts_with (record { variables = self.variables; clauses = clauses })
+            (clauses_with self []))) }
         ensures derivation { IfOk result (λ cnf. IsDerivation cnf []) }
     {
         if !self.begun.is_empty() {

@@ -1,5 +1,5 @@
-//! `solve_cnf LIMIT`: reads a formula in DIMACS on standard input, and answers on standard output: a model, a refutation in LRAT, or
-//! the log of as many conflicts as the limit allows.
+//! `solve_cnf LIMIT`: reads a formula in DIMACS on standard input, and answers on standard output: a model, a
+//! refutation in LRAT, or the log of as many conflicts as the limit allows.
 #![tactic(auto)]
 
 mod examples;

@@ -11,7 +11,8 @@ use crate::formula_error::ReadError;
 
 /// The number that decimal digits say, or `u64::MAX` where the number is greater.
 pub fn digits_number(digits: &[u8]) -> Option<u64>
-    ensures { result ≡ (if are_digits digits.now then Some (held_number (digits_number digits.now)) else None) }
+    ensures { result ≡ (if are_digits digits.now then Some (held_number (digits_number digits.now))
+        else None) }
 {
     if digits.is_empty() {
         return None;

@@ -1,7 +1,9 @@
 //! The solver over a text, and the words of the command line.
 ghost use Rattle.std.specs.Prelude.{◌≡◌, ◌≤◌, OnOk, IfErr};
 ghost use Rattle.solve_cnf.specs.Run.{limit_of, IsAnswered, HasFailed};
-ghost use Rattle.solve_cnf.specs.declared.run.RunError.TheVariants.{Refused as RefusedText, OutOfMemory as NoMemory, Write as NotWritten};
+ghost use Rattle.solve_cnf.specs.declared.run.RunError.TheVariants.{Refused as RefusedText};
+ghost use Rattle.solve_cnf.specs.declared.run.RunError.TheVariants.{OutOfMemory as NoMemory};
+ghost use Rattle.solve_cnf.specs.declared.run.RunError.TheVariants.{Write as NotWritten};
 
 use crate::formula_error::ReadError;
 use crate::numbers::digits_number;

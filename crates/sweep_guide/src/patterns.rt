@@ -1,6 +1,7 @@
 //! Patterns that look like chance, 64 at a time: a word for each input.
 
-/// The next number of a sequence, never 0 where the one before is not. Source: the xorshift generators of Marsaglia.
+/// The next number of a sequence, never 0 where the one before is not. Source: the xorshift generators of
+/// Marsaglia.
 fn next_number(number: u64) -> u64 {
     let one = number ^ (number << 13);
     let two = one ^ (one >> 7);

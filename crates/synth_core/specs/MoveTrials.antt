@@ -14,7 +14,8 @@ use Rattle.worst_case.specs.VectorsTried.{IsExceededAt}
 
 -- the error of M exceeds the bound at this vector; this never happens with at most eight inputs, where
 -- nothing is asked
-pub record IsFoundOver (metric : Metric) (exact : NetValue) (bound : ℕ) (M : NetValue) (x : List Bool) : Type 0 where
+pub record IsFoundOver (metric : Metric) (exact : NetValue) (bound : ℕ) (M : NetValue)
+    (x : List Bool) : Type 0 where
   pub many : FEW_INPUTS < input_count exact
   pub exceeded : IsExceededAt metric exact M bound x
 
@@ -24,12 +25,14 @@ IsJudged metric exact bound limit M Within = IsWithin metric exact bound M
 IsJudged metric exact bound limit M (Spent s) = IsSpentOn metric exact M bound limit s
 
 -- the move breaks the bound at this vector, and S is the net as it was
-pub record IsTakenBack (metric : Metric) (exact : NetValue) (bound : ℕ) (N : NetValue) (move : Move) (S : NetValue) (x : List Bool) : Type 0 where
+pub record IsTakenBack (metric : Metric) (exact : NetValue) (bound : ℕ) (N : NetValue) (move : Move)
+    (S : NetValue) (x : List Bool) : Type 0 where
   pub over : IsFoundOver metric exact bound (moved N move) x
   pub back : S ≡ N
 
 -- the move is allowed, and M is the moved net
-pub record IsAllowedTo (metric : Metric) (exact : NetValue) (bound : ℕ) (N : NetValue) (move : Move) (M : NetValue) : Type 0 where
+pub record IsAllowedTo (metric : Metric) (exact : NetValue) (bound : ℕ) (N : NetValue) (move : Move)
+    (M : NetValue) : Type 0 where
   pub allowed : IsAllowedMove metric exact bound N move
   pub net : M ≡ moved N move
 

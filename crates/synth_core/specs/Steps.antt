@@ -29,10 +29,12 @@ pub record IsPool (exact : NetValue) (s : PatternSet) : Type 0 where
 
 -- the masks are those of the net over these vectors
 abbrev pub AreMasksOver : Metric → NetValue → ℕ → NetValue → List (List Bool) → GrowingValue → Type 0
-AreMasksOver metric exact bound N vectors masks = masks ≡ record { exact = exact; net = N; metric = metric; bound = bound; vectors = vectors }
+AreMasksOver metric exact bound N vectors masks
+    = masks ≡ record { exact = exact; net = N; metric = metric; bound = bound; vectors = vectors }
 
 -- a pool, and the net's masks over it
-pub record IsMaskedPool (metric : Metric) (exact : NetValue) (bound : ℕ) (N : NetValue) (s : PatternSet) (m : GrowingValue) : Type 0 where
+pub record IsMaskedPool (metric : Metric) (exact : NetValue) (bound : ℕ) (N : NetValue) (s : PatternSet)
+    (m : GrowingValue) : Type 0 where
   pub pool : IsPool exact s
   pub masks : AreMasksOver metric exact bound N s.vectors m
 
@@ -41,24 +43,29 @@ abbrev pub AreAmong : List (List Bool) → List (List Bool) → Type 0
 AreAmong old new = (x : List Bool) → Contains old x → Contains new x
 
 -- each move of N before those in `left` is broken by some of the vectors
-pub record IsSearched (metric : Metric) (exact : NetValue) (bound : ℕ) (N : NetValue) (vectors : List (List Bool)) (left : List Move) : Type 0 where
+pub record IsSearched (metric : Metric) (exact : NetValue) (bound : ℕ) (N : NetValue)
+    (vectors : List (List Bool)) (left : List Move) : Type 0 where
   pub before : List Move
   pub stands : moves_of N ≡ before ++ left
   pub broken : AreBrokenBySome metric exact bound N vectors before
 
 -- a move of N that none of these vectors breaks
-pub record IsCandidateMove (metric : Metric) (exact : NetValue) (bound : ℕ) (N : NetValue) (vectors : List (List Bool)) (move : Move) : Type 0 where
+pub record IsCandidateMove (metric : Metric) (exact : NetValue) (bound : ℕ) (N : NetValue)
+    (vectors : List (List Bool)) (move : Move) : Type 0 where
   pub offered : Contains (moves_of N) move
   pub unbroken : (x : List Bool) → Contains vectors x → ¬ IsBrokenAt metric exact bound N move x
 
 -- the first move of N that none of the vectors breaks, and the moves in `left` behind it
-pub record IsFirstUnbroken (metric : Metric) (exact : NetValue) (bound : ℕ) (N : NetValue) (vectors : List (List Bool)) (left : List Move) (move : Move) : Type 0 where
+pub record IsFirstUnbroken (metric : Metric) (exact : NetValue) (bound : ℕ) (N : NetValue)
+    (vectors : List (List Bool)) (left : List Move) (move : Move) : Type 0 where
   pub searched : IsSearched metric exact bound N vectors (move ∷ left)
   pub candidate : IsCandidateMove metric exact bound N vectors move
 
-abbrev pub IsNextUnbroken : Metric → NetValue → ℕ → NetValue → List (List Bool) → List Move → Option Move → Type 0
+abbrev pub IsNextUnbroken : Metric → NetValue → ℕ → NetValue → List (List Bool) → List Move → Option Move
+    → Type 0
 IsNextUnbroken metric exact bound N vectors left found =
-    MatchOption found (IsMinimalBy metric exact bound N vectors) (IsFirstUnbroken metric exact bound N vectors left)
+    MatchOption found (IsMinimalBy metric exact bound N vectors)
+    (IsFirstUnbroken metric exact bound N vectors left)
 
 -- M is N after its first allowed move
 pub record IsFirstMoved (metric : Metric) (exact : NetValue) (bound : ℕ) (N M : NetValue) : Type 0 where
@@ -73,17 +80,21 @@ IsStepBy metric exact bound limit N move S Moved = IsAllowedTo metric exact boun
 IsStepBy metric exact bound limit N move S (Spent s) = IsSpentOn metric exact (moved N move) bound limit s
 
 -- some vector breaks the move, and S is the net as it was
-pub record IsRefused (metric : Metric) (exact : NetValue) (bound : ℕ) (N : NetValue) (vectors : List (List Bool)) (move : Move) (S : NetValue) : Type 0 where
+pub record IsRefused (metric : Metric) (exact : NetValue) (bound : ℕ) (N : NetValue)
+    (vectors : List (List Bool)) (move : Move) (S : NetValue) : Type 0 where
   pub broken : IsBrokenBySome metric exact bound N vectors move
   pub back : S ≡ N
 
 -- some vector breaks the move, or the move ends the search among the moves of N
-abbrev pub IsWeighed : Metric → NetValue → ℕ → ℕ → NetValue → List (List Bool) → Move → NetValue → Option Step → Type 0
+abbrev pub IsWeighed : Metric → NetValue → ℕ → ℕ → NetValue → List (List Bool) → Move → NetValue
+    → Option Step → Type 0
 IsWeighed metric exact bound limit N vectors move S found =
-    MatchOption found (IsRefused metric exact bound N vectors move S) (IsStepBy metric exact bound limit N move S)
+    MatchOption found (IsRefused metric exact bound N vectors move S)
+    (IsStepBy metric exact bound limit N move S)
 
 -- what the moves of N come to, where S is the copy of N in which they were tried
 abbrev pub IsStep : Metric → NetValue → ℕ → ℕ → NetValue → List (List Bool) → NetValue → Step → Type 0
 IsStep metric exact bound limit N vectors S End = IsMinimalBy metric exact bound N vectors
 IsStep metric exact bound limit N vectors S Moved = IsFirstMoved metric exact bound N S
-IsStep metric exact bound limit N vectors S (Spent s) = IsSpentMove metric exact bound limit N vectors (spent_value s)
+IsStep metric exact bound limit N vectors S (Spent s)
+    = IsSpentMove metric exact bound limit N vectors (spent_value s)

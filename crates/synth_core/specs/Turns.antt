@@ -26,4 +26,5 @@ pub record IsNextMember (metric : Metric) (exact : NetValue) (bound : ℕ) (N M 
 abbrev pub IsTurn : Metric → NetValue → ℕ → ℕ → NetValue → List (List Bool) → Turn → Type 0
 IsTurn metric exact bound limit N vectors (Next M) = IsNextMember metric exact bound N M
 IsTurn metric exact bound limit N vectors (End spent) =
-    IsShrinking metric exact bound limit (record { net = N; pool = vectors; spent = option_map spent_value spent })
+    IsShrinking metric exact bound limit
+    (record { net = N; pool = vectors; spent = option_map spent_value spent })

@@ -43,7 +43,8 @@ fn judge<P: Progress>(
     requires decider { decider.old ≡ nets.now.exact }
     requires limit { 1 ≤ terms.limit }
     requires candidate { IsCandidate nets.now.exact moved.now }
-    requires known { input_count nets.now.exact ≤ FEW_INPUTS → IsWithin terms.metric nets.now.exact terms.bound moved.now }
+    requires known { input_count nets.now.exact ≤ FEW_INPUTS
+        → IsWithin terms.metric nets.now.exact terms.bound moved.now }
     ensures same { decider.new ≡ decider.old }
     ensures judged { IfOk result (IsJudged terms.metric nets.now.exact terms.bound terms.limit moved.now) }
 {

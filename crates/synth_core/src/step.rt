@@ -2,7 +2,8 @@
 ghost use Rattle.std.specs.Prelude.{◌≡◌, ◌<◌, ◌≤◌, ◌++◌, ◌∷◌, [], length, IfOk, OnOk};
 ghost use Rattle.semantics.specs.Net.{input_count, IsSmall};
 ghost use Rattle.worst_case.specs.VectorsTried.{IsHeldFor};
-ghost use Rattle.synth_core.specs.Steps.{IsPool, AreMasksOver, IsMaskedPool, IsCandidateMove, AreAmong, IsWeighed, IsStep};
+ghost use Rattle.synth_core.specs.Steps.{IsPool, AreMasksOver, IsMaskedPool, IsCandidateMove, AreAmong};
+ghost use Rattle.synth_core.specs.Steps.{IsWeighed, IsStep};
 
 use crate::move_trial::{Terms, try_move};
 use crate::unbroken::next_unbroken;
@@ -38,7 +39,8 @@ fn pool_masks<'a>(
     pool: &Patterns,
 ) -> Result<GrowingMasks<'a>, AllocError>
     requires inputs { pool.now.inputs ≡ input_count nets.now.exact }
-    ensures { IfOk result (AreMasksOver terms.metric nets.now.exact terms.bound nets.now.approx pool.now.vectors) }
+    ensures { IfOk result (AreMasksOver terms.metric nets.now.exact terms.bound nets.now.approx
+        pool.now.vectors) }
 {
     let mut masks = GrowingMasks::new(alloc, nets, terms.metric, terms.bound)?;
     masks.grow(pool)?;
@@ -75,13 +77,17 @@ fn weigh<P: Progress>(
     requires decider { decider.old ≡ nets.now.exact }
     requires limit { 1 ≤ terms.limit }
     requires scratch { scratch.old ≡ nets.now.approx }
-    requires masked { IsMaskedPool terms.metric nets.now.exact terms.bound nets.now.approx pool.old masks.old }
-    requires unbroken { IsCandidateMove terms.metric nets.now.exact terms.bound nets.now.approx pool.old.vectors step }
+    requires masked { IsMaskedPool terms.metric nets.now.exact terms.bound nets.now.approx pool.old
+        masks.old }
+    requires unbroken { IsCandidateMove terms.metric nets.now.exact terms.bound nets.now.approx
+        pool.old.vectors step }
     ensures same { decider.new ≡ decider.old }
-    ensures masked { IfOk result (λ _. IsMaskedPool terms.metric nets.now.exact terms.bound nets.now.approx pool.new masks.new) }
+    ensures masked { IfOk result
+        (λ _. IsMaskedPool terms.metric nets.now.exact terms.bound nets.now.approx pool.new masks.new) }
     ensures among { IfOk result (λ _. AreAmong pool.old.vectors pool.new.vectors) }
     ensures weighed { IfOk result
-        (IsWeighed terms.metric nets.now.exact terms.bound terms.limit nets.now.approx pool.new.vectors step scratch.new) }
+        (IsWeighed terms.metric nets.now.exact terms.bound terms.limit nets.now.approx pool.new.vectors step
+        scratch.new) }
 {
     match try_move(alloc, nets, held, decider, terms, scratch, step, progress)? {
         Margin::Over(x) => {
@@ -93,7 +99,8 @@ fn weigh<P: Progress>(
     }
 }
 
-/// Tries the moves of the approximate net in order, in a copy of it. Each vector that a query gives joins the pool and the masks.
+/// Tries the moves of the approximate net in order, in a copy of it. Each vector that a query gives joins the
+/// pool and the masks.
 pub(crate) fn find_step<P: Progress>(
     alloc: Global,
     nets: &Compared,
@@ -113,7 +120,8 @@ pub(crate) fn find_step<P: Progress>(
     ensures same { decider.new ≡ decider.old }
     ensures pool { IfOk result (λ _. IsPool nets.now.exact pool.new) }
     ensures step { IfOk result
-        (IsStep terms.metric nets.now.exact terms.bound terms.limit nets.now.approx pool.new.vectors scratch.new) }
+        (IsStep terms.metric nets.now.exact terms.bound terms.limit nets.now.approx pool.new.vectors
+        scratch.new) }
 {
     let mut moves = moves(alloc, nets.approx())?;
     let mut masks = pool_masks(alloc, nets, terms, pool)?;

@@ -43,7 +43,8 @@ pub(crate) fn take_turn<P: Progress>(
     requires pool { IsPool net.now pool.old }
     ensures same { decider.new ≡ decider.old }
     ensures pool { IfOk result (λ _. IsPool net.now pool.new) }
-    ensures turn { IfOk result (IsTurn terms.metric net.now terms.bound terms.limit member.now pool.new.vectors) }
+    ensures turn { IfOk result
+        (IsTurn terms.metric net.now terms.bound terms.limit member.now pool.new.vectors) }
 {
     net.see_sound();
     progress.reached(member.literals());

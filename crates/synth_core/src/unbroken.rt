@@ -27,11 +27,13 @@ pub(crate) fn next_unbroken<P: Progress>(
     told: &mut Option<u32>,
     progress: &mut P,
 ) -> Result<Option<Move>, AllocError>
-    requires searched { IsSearched masks.old.metric masks.old.exact masks.old.bound masks.old.net masks.old.vectors moves.old }
+    requires searched { IsSearched masks.old.metric masks.old.exact masks.old.bound masks.old.net
+        masks.old.vectors moves.old }
     ensures same { masks.new ≡ masks.old }
     ensures fewer { IfOk result (λ found. IfSome found (λ _. length moves.new < length moves.old)) }
     ensures next { IfOk result
-        (IsNextUnbroken masks.old.metric masks.old.exact masks.old.bound masks.old.net masks.old.vectors moves.new) }
+        (IsNextUnbroken masks.old.metric masks.old.exact masks.old.bound masks.old.net masks.old.vectors
+        moves.new) }
 {
     while let Some(step) = moves.next() {
         tell_table(told, table_of(step), tables, progress);

@@ -9,7 +9,8 @@ use Rattle.job_semantics.specs.declared.version.Version.TheVariants.{Two}
 use Rattle.job_semantics.specs.Bundle.{BundleValue, bundle_text}
 use Rattle.job_semantics.specs.Certificate.{IsNetlist, OfReport, Certifies}
 use Rattle.job_semantics.specs.Shrinking.{Shrinking, IsShrinking}
-use Rattle.job_semantics.specs.Synthesis.{Simplified, IsSimplifiedFrom, IsRefutedBy, MaximumSpent, synth_bundle}
+use Rattle.job_semantics.specs.Synthesis.{Simplified, IsSimplifiedFrom, IsRefutedBy, MaximumSpent}
+use Rattle.job_semantics.specs.Synthesis.{synth_bundle}
 use Rattle.worst_case.specs.declared.query.Spent as spent
 use Rattle.worst_case.specs.Exceeds.{spent_value}
 use Rattle.synth_jobs.specs.declared.preparing.Constraint.{Constraint}
@@ -21,7 +22,8 @@ use Rattle.synth_jobs.specs.Spent.{told_query}
 
 -- b is the bundle of a simplification of the exact net; its log refutes its formula, and its texts are a
 -- certificate, whose report is of version 2
-pub record IsReady (exact : NetValue) (metric : Metric) (bound limit : ℕ) (b : BundleValue) (spent : Option spent.Spent) : Type 0 where
+pub record IsReady (exact : NetValue) (metric : Metric) (bound limit : ℕ) (b : BundleValue)
+    (spent : Option spent.Spent) : Type 0 where
   pub result : Simplified
   pub right : IsSimplifiedFrom exact metric bound limit result b.log
   pub is_spent : told_query spent ≡ result.spent
@@ -48,7 +50,8 @@ bundle_of exact aim found goal = record {
 }
 
 abbrev pub shrinking_found : Findings → Shrinking
-shrinking_found found = record { net = found.shrunk.net; pool = found.shrunk.pool.vectors; spent = told_query found.shrunk.spent }
+shrinking_found found = record
+    { net = found.shrunk.net; pool = found.shrunk.pool.vectors; spent = told_query found.shrunk.spent }
 
 -- the search came to this member of the chain, whose greatest error this is
 pub record AreFound (exact : NetValue) (metric : Metric) (bound limit : ℕ) (found : Findings) : Type 0 where
@@ -57,9 +60,12 @@ pub record AreFound (exact : NetValue) (metric : Metric) (bound limit : ℕ) (fo
 
 -- what the two searches come to
 abbrev pub IsSearched : NetValue → Metric → ℕ → ℕ → searched.Searched → Type 0
-IsSearched exact metric bound limit (searched.TheVariants.Found found) = AreFound exact metric bound limit found
-IsSearched exact metric bound limit (searched.TheVariants.Budget level spent) = MaximumSpent metric bound limit exact (told_query spent) (spent_value level)
+IsSearched exact metric bound limit (searched.TheVariants.Found found)
+    = AreFound exact metric bound limit found
+IsSearched exact metric bound limit (searched.TheVariants.Budget level spent)
+    = MaximumSpent metric bound limit exact (told_query spent) (spent_value level)
 
 abbrev pub IsPrepared : NetValue → Metric → ℕ → ℕ → Prepared → Type 0
 IsPrepared exact metric bound limit (Ready bundle spent) = IsReady exact metric bound limit bundle spent
-IsPrepared exact metric bound limit (Budget level spent) = MaximumSpent metric bound limit exact (told_query spent) (spent_value level)
+IsPrepared exact metric bound limit (Budget level spent)
+    = MaximumSpent metric bound limit exact (told_query spent) (spent_value level)

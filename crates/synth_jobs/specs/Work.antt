@@ -11,12 +11,15 @@ use Rattle.synth_jobs.specs.declared.work.Work.TheVariants.{Done, Budget, NoMemo
 use Rattle.synth_jobs.specs.Spent.{told_query}
 
 -- the net's bundle was written under the stem, whole or in part, or nothing was touched
-abbrev pub WorkSays : Metric → ℕ → ℕ → NetValue → Bytes → FilesTold → FilesTold → SinkTold → SinkTold → Work → Type 0
-WorkSays metric bound limit exact stem old new said says (Done spent) = BundleWritten metric bound limit exact stem (told_query spent) old new said says
+abbrev pub WorkSays : Metric → ℕ → ℕ → NetValue → Bytes → FilesTold → FilesTold → SinkTold → SinkTold → Work
+    → Type 0
+WorkSays metric bound limit exact stem old new said says (Done spent)
+    = BundleWritten metric bound limit exact stem (told_query spent) old new said says
 WorkSays metric bound limit exact stem old new said says (Budget level spent) =
     (new ≡ old) × (says ≡ said) × MaximumSpent metric bound limit exact (told_query spent) (spent_value level)
 WorkSays metric bound limit exact stem old new said says NoMemory = (new ≡ old) × (says ≡ said)
-WorkSays metric bound limit exact stem old new said says WriteFault = BundleCutShort metric bound limit exact stem old new said says
+WorkSays metric bound limit exact stem old new said says WriteFault
+    = BundleCutShort metric bound limit exact stem old new said says
 
 -- the exit number of the process
 abbrev pub work_exit : Work → ℕ

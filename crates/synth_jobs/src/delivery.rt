@@ -29,8 +29,11 @@ fn deliver<F: Files, K: Sink>(
     files: &mut F,
     say: &mut K,
 ) -> Result<(), FileFault>
-    ensures ok { OnOk result (IsDelivered bundle.now names.now (F.told files.old) (F.told files.new) (K.told say.old) (K.told say.new)) }
-    ensures err { OnErr result (IsDeliveredInPart bundle.now names.now (F.told files.old) (F.told files.new) (K.told say.old) (K.told say.new)) }
+    ensures ok { OnOk result (IsDelivered bundle.now names.now (F.told files.old) (F.told files.new)
+        (K.told say.old) (K.told say.new)) }
+    ensures err { OnErr result
+        (IsDeliveredInPart bundle.now names.now (F.told files.old) (F.told files.new) (K.told say.old)
+        (K.told say.new)) }
 {
     let Ok(()) = write_bundle(bundle, names, files) else {
         return Err(FileFault);
@@ -47,8 +50,10 @@ fn delivered<F: Files, K: Sink>(
     files: &mut F,
     say: &mut K,
 ) -> Work
-    ensures { (exact : NetValue) (metric : Metric) (bound limit : ℕ) → IsReady exact metric bound limit bundle.now spent
-        → WorkSays metric bound limit exact names.now (F.told files.old) (F.told files.new) (K.told say.old) (K.told say.new) result }
+    ensures { (exact : NetValue) (metric : Metric) (bound limit : ℕ)
+        → IsReady exact metric bound limit bundle.now spent
+        → WorkSays metric bound limit exact names.now (F.told files.old) (F.told files.new) (K.told say.old)
+        (K.told say.new) result }
 {
     match deliver(bundle, names, files, say) {
         Ok(()) => Work::Done(spent),

@@ -96,8 +96,11 @@ enum Searched {
 
 /// The findings of both searches, or the spent query of the search for the greatest error.
 fn together(shrunk: Shrunk, maximum: Maximum) -> Searched
-    ensures { (exact : NetValue) (metric : Metric) (bound limit : ℕ) → IsShrinking metric exact bound limit (record { net = shrunk.net; pool = shrunk.pool.vectors; spent = told_query shrunk.spent })
-        → IsMaximumAnswer metric exact shrunk.net bound limit maximum → IsSearched exact metric bound limit result }
+    ensures { (exact : NetValue) (metric : Metric) (bound limit : ℕ)
+        → IsShrinking metric exact bound limit
+        (record { net = shrunk.net; pool = shrunk.pool.vectors; spent = told_query shrunk.spent })
+        → IsMaximumAnswer metric exact shrunk.net bound limit maximum
+        → IsSearched exact metric bound limit result }
 {
     match maximum {
         Maximum::Spent(level) => Searched::Budget {
@@ -145,7 +148,8 @@ fn goal_for(
 ) -> Result<Cnf, AllocError>
     requires small { IsSmall exact.now }
     requires found { AreFound exact.now aim.metric aim.bound aim.limit found.now }
-    ensures formula { IfOk result (λ goal. goal ≡ miter exact.now found.now.shrunk.net aim.metric found.now.maximum) }
+    ensures formula { IfOk result
+        (λ goal. goal ≡ miter exact.now found.now.shrunk.net aim.metric found.now.maximum) }
     ensures few_variables { IfOk result (λ goal. goal.variables < 2 ^ 31) }
     ensures exact_sound { IsSound exact.now }
     ensures approx_sound { IsSound found.now.shrunk.net }

@@ -178,7 +178,8 @@ behind (Remove ids ∷ log) held last h s t e m = behind log (removed_from held 
 
 -- ---- kept additions, in both words
 
-kept_found : (whole log : List LogItem) → root_of log ≡ root_of whole → ((s : StepValue) → Contains log (Add s) → Contains whole (Add s)) → (t : StepValue) → Contains (kept_steps log) t → IsKept whole t
+kept_found : (whole log : List LogItem) → root_of log ≡ root_of whole → ((s : StepValue) → Contains log (Add s) → Contains whole (Add s)) → (t : StepValue) → Contains (kept_steps log) t
+    → IsKept whole t
 kept_found whole [] same all t m = absurd (contains_none t m)
 kept_found whole (Add u ∷ log) same all t m =
     at_tests (is_empty_clause u.literals) (is_named (kept_steps log) u.id) refl same m
@@ -254,7 +255,8 @@ known_with held empty named u t kept id is d m n next = elim (with_cases empty n
     | inr apart ↦ inl (clause, sym (held_elsewhere held u.id id u.literals apart) ∙ e)
   ]
 
-named_known : (log : List LogItem) (held : Held) (last : ℕ) → IsSoundFrom held last log → (t : StepValue) (id : ℕ) → Contains (kept_steps log) t → Contains t.hints id → IsKnown held (kept_steps log) id
+named_known : (log : List LogItem) (held : Held) (last : ℕ) → IsSoundFrom held last log → (t : StepValue) (id : ℕ) → Contains (kept_steps log) t → Contains t.hints id
+    → IsKnown held (kept_steps log) id
 named_known [] held last h t id m n = absurd (contains_none t m)
 named_known (Add u ∷ log) held last (rises, derives, h) t id m n =
     known_with held (is_empty_clause u.literals) (is_named (kept_steps log) u.id) u t (kept_steps log) id refl derives m n

@@ -10,7 +10,8 @@ use Rattle.proof_semantics.specs.Logs.{StepValue, LogItem, Refutes}
 use Rattle.trim_semantics.specs.Kept.{root_of, IsKept}
 use Rattle.trim_semantics.specs.Trimmed.{AreKept, IsLastToName, AreEndedAfter, removal_of, IsListOf, IsTrimmed}
 use Rattle.trim_semantics.specs.Trimming.{has_id, is_named, kept_steps, ended_after, with_removals, trimmed}
-use Rattle.trim_semantics.proofs.Members.{contains_first, contains_later, contains_cases, contains_none, all_contained, filter_contains, contains_filter, map_contains, contains_map, pairs_head, pairs_tail, same_list}
+use Rattle.trim_semantics.proofs.Members.{contains_first, contains_later, contains_cases, contains_none, all_contained, filter_contains, contains_filter, map_contains, contains_map, pairs_head}
+use Rattle.trim_semantics.proofs.Members.{pairs_tail, same_list}
 use Rattle.trim_semantics.proofs.Naming.{has-contains, contains-has, namer, naming}
 use Rattle.trim_semantics.proofs.Keeping.{contains_kept, kept_contains, root_kept, has_root, none_behind, kept_in_order}
 

@@ -1,5 +1,5 @@
--- Which additions of a log its refutation stands on. Source: backward checking of clausal proofs, which marks from the empty clause
--- what each marked step names.
+-- Which additions of a log its refutation stands on. Source: backward checking of clausal proofs, which marks
+-- from the empty clause what each marked step names.
 use Rattle.std.specs.Prelude.{◌≡◌, Bool, true, false, if◌then◌else◌, List, [], ◌∷◌, Option, None, Some}
 use Rattle.std.specs.List.{Contains}
 use Rattle.proof_semantics.specs.declared.item.Item.TheVariants.{Add, Remove}

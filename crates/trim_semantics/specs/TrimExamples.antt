@@ -12,20 +12,24 @@ by_way_of_2 = Add (step 4 (pos 2 ∷ []) (1 ∷ 2 ∷ [])) ∷ Add (step 6 [] (4
 
 -- `by_way_of_2` with one more step, the clause -1, which nothing names
 abbrev pub with_an_idle_step : List LogItem
-with_an_idle_step = Add (step 4 (pos 2 ∷ []) (1 ∷ 2 ∷ [])) ∷ Add (step 5 (minus 1 ∷ []) (2 ∷ 3 ∷ [])) ∷ Add (step 6 [] (4 ∷ 3 ∷ [])) ∷ []
+with_an_idle_step = Add (step 4 (pos 2 ∷ []) (1 ∷ 2 ∷ [])) ∷ Add (step 5 (minus 1 ∷ []) (2 ∷ 3 ∷ []))
+    ∷ Add (step 6 [] (4 ∷ 3 ∷ [])) ∷ []
 
 -- the clause 2 once more from itself
 abbrev pub with_a_copy : List LogItem
-with_a_copy = Add (step 4 (pos 2 ∷ []) (1 ∷ 2 ∷ [])) ∷ Add (step 5 (pos 2 ∷ []) (4 ∷ [])) ∷ Add (step 6 [] (5 ∷ 3 ∷ [])) ∷ []
+with_a_copy = Add (step 4 (pos 2 ∷ []) (1 ∷ 2 ∷ [])) ∷ Add (step 5 (pos 2 ∷ []) (4 ∷ []))
+    ∷ Add (step 6 [] (5 ∷ 3 ∷ [])) ∷ []
 
 abbrev pub with_a_copy_trimmed : List LogItem
 with_a_copy_trimmed =
-    Add (step 4 (pos 2 ∷ []) (1 ∷ 2 ∷ [])) ∷ Add (step 5 (pos 2 ∷ []) (4 ∷ [])) ∷ Remove (4 ∷ []) ∷ Add (step 6 [] (5 ∷ 3 ∷ [])) ∷ []
+    Add (step 4 (pos 2 ∷ []) (1 ∷ 2 ∷ [])) ∷ Add (step 5 (pos 2 ∷ []) (4 ∷ [])) ∷ Remove (4 ∷ [])
+    ∷ Add (step 6 [] (5 ∷ 3 ∷ [])) ∷ []
 
 -- the removal one step too early
 abbrev pub with_an_early_removal : List LogItem
 with_an_early_removal =
-    Add (step 4 (pos 2 ∷ []) (1 ∷ 2 ∷ [])) ∷ Remove (4 ∷ []) ∷ Add (step 5 (pos 2 ∷ []) (4 ∷ [])) ∷ Add (step 6 [] (5 ∷ 3 ∷ [])) ∷ []
+    Add (step 4 (pos 2 ∷ []) (1 ∷ 2 ∷ [])) ∷ Remove (4 ∷ []) ∷ Add (step 5 (pos 2 ∷ []) (4 ∷ []))
+    ∷ Add (step 6 [] (5 ∷ 3 ∷ [])) ∷ []
 
 -- a removal and the empty clause once more, behind the empty clause
 abbrev pub with_more_behind : List LogItem

@@ -22,7 +22,8 @@ pub record IsLastToName (log : List LogItem) (s t : StepValue) : Type 0 where
 -- the ids that end after a kept addition s, in rising order: the ids that s is the last to name; after the
 -- root no id ends
 pub record AreEndedAfter (log : List LogItem) (s : StepValue) (ids : List ℕ) : Type 0 where
-  pub exactly : (id : ℕ) → Contains ids id ↔ ((¬ (root_of log ≡ Some s)) × ((t : StepValue) × (t.id ≡ id) × IsLastToName log s t))
+  pub exactly : (id : ℕ) → Contains ids id
+      ↔ ((¬ (root_of log ≡ Some s)) × ((t : StepValue) × (t.id ≡ id) × IsLastToName log s t))
   pub in_order : AllPairs (λ a b. a < b) ids
 
 -- one removal, or nothing where there is no id
@@ -34,7 +35,8 @@ removal_of (id ∷ ids) = Remove (id ∷ ids) ∷ []
 abbrev pub IsListOf : List LogItem → List StepValue → List LogItem → Type 0
 IsListOf log [] short = short ≡ []
 IsListOf log (s ∷ steps) short =
-    (ids : List ℕ) × (rest : List LogItem) × AreEndedAfter log s ids × (short ≡ Add s ∷ (removal_of ids ++ rest)) × IsListOf log steps rest
+    (ids : List ℕ) × (rest : List LogItem) × AreEndedAfter log s ids
+    × (short ≡ Add s ∷ (removal_of ids ++ rest)) × IsListOf log steps rest
 
 pub record IsTrimmed (log short : List LogItem) : Type 0 where
   pub steps : List StepValue

@@ -17,7 +17,8 @@ is_named steps id = list_any (λ s. has_id s.hints id) steps
 -- through the first empty clause
 abbrev pub kept_steps : List LogItem → List StepValue
 kept_steps [] = []
-kept_steps (Add s ∷ log) = if is_empty_clause s.literals then s ∷ [] else if is_named (kept_steps log) s.id then s ∷ kept_steps log else kept_steps log
+kept_steps (Add s ∷ log) = if is_empty_clause s.literals then s
+    ∷ [] else if is_named (kept_steps log) s.id then s ∷ kept_steps log else kept_steps log
 kept_steps (Remove ids ∷ log) = kept_steps log
 
 -- the ids among these that the step names and no later step names; after the last step there is none

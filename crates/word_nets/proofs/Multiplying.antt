@@ -70,16 +70,20 @@ multiplier_some (suc w) some =
     let some_row : 0 < length first.bus = omega arith in
     sum_rows_some rest.net first.bus 1 rest.rows some_row
 
-pub multiplier_from : (w : ℕ) (W V : WordNetValue) (xs ys : List ℕ) (rows : List (List ℕ)) → W ≡ started (w + w) → xs ≡ range_with_len 0 w → ys ≡ range_with_len w w → V ≡ (product_rows W xs ys).net → rows ≡ (product_rows W xs ys).rows → sum_of_rows V rows ≡ multiplier w
+pub multiplier_from : (w : ℕ) (W V : WordNetValue) (xs ys : List ℕ) (rows : List (List ℕ)) → W ≡ started (w + w) → xs ≡ range_with_len 0 w → ys ≡ range_with_len w w → V ≡ (product_rows W xs ys).net
+    → rows ≡ (product_rows W xs ys).rows → sum_of_rows V rows ≡ multiplier w
 unfolding multiplier
 multiplier_from w W V xs ys rows hW hx hy hV hr = rw (hr, hV, hx, hy, hW) refl
 
-pub product_some : (w : ℕ) (W V : WordNetValue) (xs ys : List ℕ) (rows : List (List ℕ)) (p outputs : List ℕ) → 1 ≤ w → W ≡ started (w + w) → xs ≡ range_with_len 0 w → ys ≡ range_with_len w w → V ≡ (product_rows W xs ys).net → rows ≡ (product_rows W xs ys).rows → p ≡ (sum_of_rows V rows).bus → outputs ≡ p → 0 < length outputs
+pub product_some : (w : ℕ) (W V : WordNetValue) (xs ys : List ℕ) (rows : List (List ℕ)) (p outputs : List ℕ) → 1 ≤ w → W ≡ started (w + w) → xs ≡ range_with_len 0 w → ys ≡ range_with_len w w
+    → V ≡ (product_rows W xs ys).net → rows ≡ (product_rows W xs ys).rows → p ≡ (sum_of_rows V rows).bus → outputs ≡ p → 0 < length outputs
 product_some w W V xs ys rows p outputs some hW hx hy hV hr hp ho =
     let all = multiplier_from w W V xs ys rows hW hx hy hV hr in
     rw (ho, hp, all) (multiplier_some w some)
 
-pub multiplier_made : (w : ℕ) (W V U : WordNetValue) (xs ys : List ℕ) (rows : List (List ℕ)) (p outputs : List ℕ) (N : NetValue) → W ≡ started (w + w) → xs ≡ range_with_len 0 w → ys ≡ range_with_len w w → V ≡ (product_rows W xs ys).net → rows ≡ (product_rows W xs ys).rows → U ≡ (sum_of_rows V rows).net → p ≡ (sum_of_rows V rows).bus → outputs ≡ p → N ≡ net_of U outputs → N ≡ multiplier_net w
+pub multiplier_made : (w : ℕ) (W V U : WordNetValue) (xs ys : List ℕ) (rows : List (List ℕ)) (p outputs : List ℕ) (N : NetValue) → W ≡ started (w + w) → xs ≡ range_with_len 0 w
+    → ys ≡ range_with_len w w → V ≡ (product_rows W xs ys).net → rows ≡ (product_rows W xs ys).rows → U ≡ (sum_of_rows V rows).net → p ≡ (sum_of_rows V rows).bus → outputs ≡ p → N ≡ net_of U outputs
+    → N ≡ multiplier_net w
 multiplier_made w W V U xs ys rows p outputs N hW hx hy hV hr hU hp ho hN =
     let all = multiplier_from w W V xs ys rows hW hx hy hV hr in
     rw (hN, ho, hp, hU, all) refl

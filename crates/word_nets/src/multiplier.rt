@@ -1,7 +1,8 @@
 //! The array multiplier: all partial products, and then their sum, row after row.
 ghost use Rattle.std.specs.Prelude.{◌≡◌, ◌+◌, ◌*◌, ◌<◌, ◌≤◌, ◌++◌, length, replicate, All, IfOk, OnOk};
 ghost use Rattle.quality_semantics.specs.WordNets.{signals, BeginsWith, AreSignalsOf};
-ghost use Rattle.quality_semantics.specs.Multiply.{products, product_rows, sum_of_rows, multiplier_net, Multiplies};
+ghost use Rattle.quality_semantics.specs.Multiply.{products, product_rows, sum_of_rows, multiplier_net};
+ghost use Rattle.quality_semantics.specs.Multiply.{Multiplies};
 ghost use Rattle.semantics.specs.Error.{bit_number};
 ghost use Rattle.quality_semantics.specs.Laws.{number};
 ghost use Rattle.bus_nets.specs.Numbers.{HasNumber};

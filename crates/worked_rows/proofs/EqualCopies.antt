@@ -20,13 +20,15 @@ seven = insert six 7 (neg_ℤ (pos 2) ∷ pos 3 ∷ [])
 first_derives : hints_answer (get six) (with_negations literals.empty (neg_ℤ (pos 2) ∷ pos 3 ∷ [])) (1 ∷ 4 ∷ []) ≡ Ok tt
 unfolding six
 first_derives =
-    hints-unit (get six) (with_negations literals.empty (neg_ℤ (pos 2) ∷ pos 3 ∷ [])) 1 4 [] (pos 1) (simp (get-insert {X = Clause} nat_cmp_total, contains-insert int_cmp_total, contains-empty int_cmp))
+    hints-unit (get six) (with_negations literals.empty (neg_ℤ (pos 2) ∷ pos 3 ∷ [])) 1 4 [] (pos 1)
+    (simp (get-insert {X = Clause} nat_cmp_total, contains-insert int_cmp_total, contains-empty int_cmp))
     ∙ hints-conflict (get six) (literals.insert (with_negations literals.empty (neg_ℤ (pos 2) ∷ pos 3 ∷ [])) (pos 1)) 4 (simp (get-insert {X = Clause} nat_cmp_total, contains-insert int_cmp_total))
 
 second_derives : hints_answer (get seven) (with_negations literals.empty (pos 2 ∷ neg_ℤ (pos 3) ∷ [])) (3 ∷ 2 ∷ []) ≡ Ok tt
 unfolding six seven
 second_derives =
-    hints-unit (get seven) (with_negations literals.empty (pos 2 ∷ neg_ℤ (pos 3) ∷ [])) 3 2 [] (pos 1) (simp (get-insert {X = Clause} nat_cmp_total, contains-insert int_cmp_total, contains-empty int_cmp))
+    hints-unit (get seven) (with_negations literals.empty (pos 2 ∷ neg_ℤ (pos 3) ∷ [])) 3 2 [] (pos 1)
+    (simp (get-insert {X = Clause} nat_cmp_total, contains-insert int_cmp_total, contains-empty int_cmp))
     ∙ hints-conflict (get seven) (literals.insert (with_negations literals.empty (pos 2 ∷ neg_ℤ (pos 3) ∷ [])) (pos 1)) 2 (simp (get-insert {X = Clause} nat_cmp_total, contains-insert int_cmp_total))
 
 pub equal_copies-derive : IsDerivation two_copies equal_copies
@@ -40,7 +42,11 @@ equal_copies-derive = record {
   in_turn = (
     refl,
     All-from_recursion (IsLiteralOf 3) (neg_ℤ (pos 2) ∷ pos 3 ∷ []) (record { not_zero = omega arith; within = omega arith }, (record { not_zero = omega arith; within = omega arith }, tt)),
-    (refl, All-from_recursion (IsLiteralOf 3) (pos 2 ∷ neg_ℤ (pos 3) ∷ []) (record { not_zero = omega arith; within = omega arith }, (record { not_zero = omega arith; within = omega arith }, tt)), tt),
+    (
+      refl,
+      All-from_recursion (IsLiteralOf 3) (pos 2 ∷ neg_ℤ (pos 3) ∷ []) (record { not_zero = omega arith; within = omega arith }, (record { not_zero = omega arith; within = omega arith }, tt)),
+      tt,
+    ),
   );
   short = omega arith;
 }

@@ -1,4 +1,5 @@
--- A formula that says of two copies of one signal that exactly one of them is true, and steps that say that they are equal.
+-- A formula that says of two copies of one signal that exactly one of them is true, and steps that say that
+-- they are equal.
 use Rattle.std.specs.Prelude.{ℕ, List, [], ◌∷◌, pos, neg_ℤ}
 use Rattle.proof_semantics.specs.declared.item.Item.TheVariants.{Add}
 use Rattle.proof_semantics.specs.Clauses.{Clause}

@@ -6,7 +6,8 @@ use semantics::limits::MOST_OUTPUTS;
 use semantics::metric::Metric;
 use std::test::Fail;
 
-/// The absolute error, the number of bits that differ, the relative error in parts per million, and the error of signed numbers.
+/// The absolute error, the number of bits that differ, the relative error in parts per million, and the error
+/// of signed numbers.
 fn errors(exact: &[bool], approx: &[bool]) -> [u128; 4]
     requires width { length exact.now ≡ length approx.now }
     requires few { length exact.now ≤ MOST_OUTPUTS }
@@ -19,7 +20,8 @@ fn errors(exact: &[bool], approx: &[bool]) -> [u128; 4]
     ]
 }
 
-/// The first bit is the lowest; the relative error is rounded up; in signed numbers `11` is -1 and `01` is -2.
+/// The first bit is the lowest; the relative error is rounded up; in signed numbers `11` is -1 and `01` is
+/// -2.
 #[test]
 fn errors_of_words(rt: HostRuntime) -> Result<(), Fail> {
     assert_eq!(rt; errors(&[true, true], &[false, true]), [1, 1, 333_334, 1]);

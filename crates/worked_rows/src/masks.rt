@@ -1,4 +1,5 @@
-//! The masks of a half adder, and where a constant breaks its bound: the bits past the last pattern of a block are no patterns.
+//! The masks of a half adder, and where a constant breaks its bound: the bits past the last pattern of a
+//! block are no patterns.
 ghost use Rattle.std.specs.Prelude.{◌≡◌, ◌<◌, IfOk, Contains};
 ghost use Rattle.semantics.specs.Net.{IsSmall, table_count};
 ghost use Rattle.chain_semantics.specs.Moves.{moves_of};

@@ -1,4 +1,5 @@
-//! The solver with steps that were derived before: two copies of one signal, of which exactly one is to be true.
+//! The solver with steps that were derived before: two copies of one signal, of which exactly one is to be
+//! true.
 ghost use Rattle.std.specs.Prelude.{◌≡◌, ◌≤◌, ◌++◌, ◌∷◌, [], IfOk, OnOk};
 ghost use Rattle.proof_parts.specs.Literals.{AreLiterals};
 ghost use Rattle.worked_rows.specs.Copies.{two_copies, equal_copies};

@@ -1,4 +1,5 @@
-//! The merges of the half adder against itself: each table of the second copy is made equal to that of the first.
+//! The merges of the half adder against itself: each table of the second copy is made equal to that of the
+//! first.
 use crate::nets::{HALF_ADDER, net};
 use cnf_core::log::{Item, Log};
 use lrat_check::checker::Checker;
@@ -38,7 +39,8 @@ fn is_accepted(alloc: Global, miter: &Miter, log: &Log) -> Result<bool, Fail> {
     Ok(true)
 }
 
-/// Whether the copies of the sum and of the carry are made equal to the first ones, by steps that a checker accepts.
+/// Whether the copies of the sum and of the carry are made equal to the first ones, by steps that a checker
+/// accepts.
 fn tables_are_merged(alloc: Global) -> Result<bool, Fail> {
     let half_adder = net(alloc, HALF_ADDER)?;
     if half_adder.outputs() as usize > MOST_OUTPUTS || !same_ports(&half_adder, &half_adder) {

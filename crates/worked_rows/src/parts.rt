@@ -1,4 +1,5 @@
-//! Parts of nets with the inputs a and b, accepted or refused for the first reason, and which tables read which.
+//! Parts of nets with the inputs a and b, accepted or refused for the first reason, and which tables read
+//! which.
 use crate::nets::{HALF_ADDER, net};
 use net_core::items::{Items, TableList};
 use net_core::mark::Mark;

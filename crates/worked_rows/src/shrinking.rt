@@ -32,7 +32,8 @@ fn left_of_product(alloc: Global, bound: u128, limit: u64) -> Result<(u32, bool,
     ))
 }
 
-/// No two products of five bits are further apart than 1,023, so each output becomes a constant, and one conflict is enough.
+/// No two products of five bits are further apart than 1,023, so each output becomes a constant, and one
+/// conflict is enough.
 #[test]
 fn a_multiplier_with_a_wide_bound(rt: HostRuntime) -> Result<(), Fail> {
     assert_eq!(rt; left_of_product(rt.alloc(), 1023, 1)?, (10, true, false));

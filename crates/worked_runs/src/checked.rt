@@ -1,4 +1,5 @@
-//! A bundle of the half adder within 1, checked whole and with one file changed: which clause is the first that fails.
+//! A bundle of the half adder within 1, checked whole and with one file changed: which clause is the first
+//! that fails.
 use crate::bundles::{ends_with_clause, shorter};
 use memory_runs::bundles::whole_bundle;
 use memory_runs::half_adder::{CHECK, HALF_ADDER, REPORT, VECTORS};

@@ -13,7 +13,8 @@ const READ_TABLES: &[u8] =
 
 const READ_OUTPUTS: &[u8] = b".names a b $a6\n11 1\n.names $a5 s\n0 1\n.names $a6 c\n1 1\n.end\n";
 
-/// Full adders of two half adders, whose model follows: the first use leaves an input open, or is of no model, or all is right.
+/// Full adders of two half adders, whose model follows: the first use leaves an input open, or is of no
+/// model, or all is right.
 const NOT_BOUND: &[u8] =
     b".model fa\n.inputs a b c\n.outputs s co\n.subckt ha a=a s=t c=u\n.subckt ha a=t b=c s=s c=v\n.names u v co\n1- 1\n-1 1\n.end\n";
 
@@ -27,7 +28,8 @@ const FULL_ADDER: &[u8] =
 const CIRCLE: &[u8] =
     b".model ha\n.inputs a b\n.outputs s c\n.names a b s\n10 1\n01 1\n.names a b c\n11 1\n.subckt ha a=a b=b s=z\n.end\n";
 
-/// Whether the run on the words and the text has this exit and this line, and leaves `out` with these bytes, or not at all.
+/// Whether the run on the words and the text has this exit and this line, and leaves `out` with these bytes,
+/// or not at all.
 fn ends(
     rt: &HostRuntime,
     line: &[u8],

@@ -1,4 +1,5 @@
-//! Netlists that are simplified, and words that are jobs and that are none. The expected texts are worked by hand.
+//! Netlists that are simplified, and words that are jobs and that are none. The expected texts are worked by
+//! hand.
 use crate::texts::{BOTH_CONSTANT, CARRY_COPIED};
 use memory_runs::half_adder::{HALF_ADDER, REPORT, VECTORS};
 use memory_runs::held::{begins, holds};
@@ -17,7 +18,8 @@ struct Simplified<'a> {
     report: &'a [u8],
 }
 
-/// The half adder within several bounds, and a constant, a wire, rows that end in 0, and comments with continued lines.
+/// The half adder within several bounds, and a constant, a wire, rows that end in 0, and comments with
+/// continued lines.
 const NETLISTS: [Simplified; 10] = [
     Simplified {
         line: b"synth abs 3 1 ha.blif out",

@@ -20,7 +20,8 @@ abbrev pub spent_value : spent.Spent → SpentValue
 spent_value s = record { net = s.net; k = s.k; merged = s.merged; log = s.log }
 
 -- the conflicts were spent on the miter of these two nets at this level
-pub record IsSpentOn (metric : Metric) (exact approx : NetValue) (k limit : ℕ) (s : spent.Spent) : Type 0 where
+pub record IsSpentOn (metric : Metric) (exact approx : NetValue) (k limit : ℕ)
+    (s : spent.Spent) : Type 0 where
   pub net : s.net ≡ approx
   pub level : s.k ≡ k
   pub query : IsSpentQuery metric exact limit (spent_value s)
@@ -32,7 +33,8 @@ IsAnswer metric exact approx k limit (Spent s) = IsSpentOn metric exact approx k
 
 -- the merges of the joint net of these two nets at this level, and behind them `conflicts` conflicts over the
 -- miter
-pub record IsChainOn (metric : Metric) (exact approx : NetValue) (k conflicts : ℕ) (s : spent.Spent) : Type 0 where
+pub record IsChainOn (metric : Metric) (exact approx : NetValue) (k conflicts : ℕ)
+    (s : spent.Spent) : Type 0 where
   pub net : s.net ≡ approx
   pub level : s.k ≡ k
   pub merged : IsMergeLog (joint_net exact s.net metric s.k) (take s.merged s.log)
@@ -43,10 +45,12 @@ pub record IsChainOn (metric : Metric) (exact approx : NetValue) (k conflicts : 
 abbrev pub told : NetValue → NetValue → ℕ → ℕ → Answer → Exceed
 told exact approx k merged (answer.Model bits) = Over (take (input_count exact) bits)
 told exact approx k merged (answer.Refuted log) = Never log
-told exact approx k merged (answer.Spent log) = Spent (record { net = approx; k = k; merged = merged; log = log })
+told exact approx k merged (answer.Spent log)
+    = Spent (record { net = approx; k = k; merged = merged; log = log })
 
 -- `exceed` is what an answer of the solver, to the formula behind these merged steps, says of the two nets
-pub record IsToldBehind (exact approx : NetValue) (f : Formula) (k limit : ℕ) (merged : List LogItem) (exceed : Exceed) : Type 0 where
+pub record IsToldBehind (exact approx : NetValue) (f : Formula) (k limit : ℕ) (merged : List LogItem)
+    (exceed : Exceed) : Type 0 where
   pub found : Answer
   pub solved : IsSolved f merged limit found
   pub is : exceed ≡ told exact approx k (length merged) found

@@ -16,8 +16,10 @@ use Rattle.worst_case.specs.declared.vectors_tried.Attained.{Attained}
 use Rattle.worst_case.specs.VectorsTried.{IsTrial, IsFirstGreatestIn}
 
 abbrev pub IsMaximumAnswer : Metric → NetValue → NetValue → ℕ → ℕ → Maximum → Type 0
-IsMaximumAnswer metric exact approx bound limit (Found most witness log) = IsMaximum metric exact approx most witness log
-IsMaximumAnswer metric exact approx bound limit (Spent s) = IsSpentLevel metric exact approx bound limit (spent_value s)
+IsMaximumAnswer metric exact approx bound limit (Found most witness log)
+    = IsMaximum metric exact approx most witness log
+IsMaximumAnswer metric exact approx bound limit (Spent s)
+    = IsSpentLevel metric exact approx bound limit (spent_value s)
 
 -- the greatest error of the trial vectors, and the first of them that has it
 pub record IsGreatestTried (metric : Metric) (exact approx : NetValue) (a : Attained) : Type 0 where
@@ -26,8 +28,9 @@ pub record IsGreatestTried (metric : Metric) (exact approx : NetValue) (a : Atta
   pub best : IsFirstGreatestIn (net_error metric exact approx) tried.vectors a.error a.witness
   pub width : length a.witness ≡ input_count exact
 
--- The greatest error is at least `low`, which the witness attains, and at most `high`, within the bound; a log that is held refutes that any error
--- exceeds `high`. With at most eight inputs the witness is the first vector that has the greatest error.
+-- The greatest error is at least `low`, which the witness attains, and at most `high`, within the bound; a
+-- log that is held refutes that any error exceeds `high`. With at most eight inputs the witness is the first
+-- vector that has the greatest error.
 pub record IsRange (metric : Metric) (exact approx : NetValue) (bound : ℕ) (r : Range) : Type 0 where
   pub width : length r.witness ≡ input_count exact
   pub attained : net_error metric exact approx r.witness ≡ r.low
@@ -35,7 +38,8 @@ pub record IsRange (metric : Metric) (exact approx : NetValue) (bound : ℕ) (r 
   pub bounded : r.high ≤ bound
   pub small : r.high ≤ LARGEST_ERROR
   pub refuted : MatchOption r.log (Unit {0}) (IsNever metric exact approx r.high)
-  pub first : input_count exact ≤ FEW_INPUTS → IsFirstGreatestAt (input_count exact) (net_error metric exact approx) r.low r.witness
+  pub first : input_count exact ≤ FEW_INPUTS
+      → IsFirstGreatestAt (input_count exact) (net_error metric exact approx) r.low r.witness
 
 -- one query makes the range smaller, or is spent
 abbrev pub IsTurn : Metric → NetValue → NetValue → ℕ → ℕ → Range → Range → Option spent.Spent → Type 0

@@ -15,7 +15,8 @@ pub record IsTrial (inputs : ℕ) (s : PatternSet) : Type 0 where
   pub all : inputs ≤ LANE_INPUTS → s.vectors ≡ all_vectors inputs
 
 -- x is the first vector of the list at which f is greatest, and `most` is the value of f at x
-pub record IsFirstGreatestIn (f : List Bool → ℕ) (vectors : List (List Bool)) (most : ℕ) (x : List Bool) : Type 0 where
+pub record IsFirstGreatestIn (f : List Bool → ℕ) (vectors : List (List Bool)) (most : ℕ)
+    (x : List Bool) : Type 0 where
   pub at : ℕ
   pub within : at < length vectors
   pub is : x ≡ slice_index_or vectors at []
@@ -28,14 +29,18 @@ pub record IsExceededAt (metric : Metric) (exact approx : NetValue) (k : ℕ) (x
   pub width : length x ≡ input_count exact
   pub exceeds : k < net_error metric exact approx x
 
--- x is an input vector whose error exceeds the level; with at most sixteen inputs it is the first in counting order
+-- x is an input vector whose error exceeds the level; with at most sixteen inputs it is the first in counting
+-- order
 pub record IsFirstExceeded (metric : Metric) (exact approx : NetValue) (k : ℕ) (x : List Bool) : Type 0 where
   pub exceeded : IsExceededAt metric exact approx k x
-  pub first : input_count exact ≤ LANE_INPUTS → (y : List Bool) → length y ≡ input_count exact → number_of y < number_of x → net_error metric exact approx y ≤ k
+  pub first : input_count exact ≤ LANE_INPUTS → (y : List Bool) → length y ≡ input_count exact
+      → number_of y < number_of x → net_error metric exact approx y ≤ k
 
 -- some vectors were tried; with at most sixteen inputs every vector was
 abbrev pub IsTried : Metric → NetValue → NetValue → ℕ → Option (List Bool) → Type 0
-IsTried metric exact approx k found = MatchOption found (input_count exact ≤ LANE_INPUTS → IsWithin metric exact k approx) (IsFirstExceeded metric exact approx k)
+IsTried metric exact approx k found
+    = MatchOption found (input_count exact ≤ LANE_INPUTS → IsWithin metric exact k approx)
+    (IsFirstExceeded metric exact approx k)
 
 -- a net and some input vectors of it; with at most sixteen inputs all of them in counting order
 pub record IsHeldFor (N : NetValue) (held : ReferenceValue) : Type 0 where
@@ -44,4 +49,5 @@ pub record IsHeldFor (N : NetValue) (held : ReferenceValue) : Type 0 where
 
 -- with at most sixteen inputs every vector is held; with more inputs none is
 abbrev pub IsEveryVectorHeld : NetValue → Option ReferenceValue → Type 0
-IsEveryVectorHeld N held = MatchOption held (LANE_INPUTS < input_count N) (λ r. IsHeldFor N r × (input_count N ≤ LANE_INPUTS))
+IsEveryVectorHeld N held = MatchOption held (LANE_INPUTS < input_count N)
+    (λ r. IsHeldFor N r × (input_count N ≤ LANE_INPUTS))

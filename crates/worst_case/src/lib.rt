@@ -1,4 +1,5 @@
-//! Queries whether the error of an approximate net exceeds a level at some input, and the search for its greatest error.
+//! Queries whether the error of an approximate net exceeds a level at some input, and the search for its
+//! greatest error.
 #![tactic(auto)]
 
 mod comparable;

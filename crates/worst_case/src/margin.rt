@@ -63,7 +63,8 @@ fn by_last_steps(
 ) -> Result<Margin, AllocError>
     requires decider { decider.old ≡ nets.now.exact }
     ensures same { decider.new ≡ decider.old }
-    ensures answer { IfOk result (λ margin. (limit : ℕ) → IsSpentOn metric nets.now.exact nets.now.approx k limit spent
+    ensures answer { IfOk result
+        (λ margin. (limit : ℕ) → IsSpentOn metric nets.now.exact nets.now.approx k limit spent
         → IsLevelAnswer metric nets.now.exact nets.now.approx k limit margin) }
 {
     match by_diagrams(alloc, nets, decider, metric, k, LAST_STEPS)? {
@@ -96,9 +97,9 @@ fn by_solver<P: Progress>(
     }
 }
 
-/// An input whose error exceeds `k`, or that there is none. The vectors that are held are tried first: with at most sixteen inputs
-/// they are all, and nothing is spent; with more they are some of chance, which break most moves that some vector breaks. Then
-/// diagrams are asked, and then the solver.
+/// An input whose error exceeds `k`, or that there is none. The vectors that are held are tried first: with
+/// at most sixteen inputs they are all, and nothing is spent; with more they are some of chance, which break
+/// most moves that some vector breaks. Then diagrams are asked, and then the solver.
 #[tactic(auto, using(crate::proofs::Decided::sure_answer))]
 pub fn within_level<P: Progress>(
     alloc: Global,

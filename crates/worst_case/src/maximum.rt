@@ -67,7 +67,8 @@ fn close<P: Progress>(
     requires decider { decider.old ≡ nets.now.exact }
     requires limit { 1 ≤ limit }
     requires range { (bound : ℕ) × IsRange metric nets.now.exact nets.now.approx bound range.old }
-    ensures { IfOk result (λ spent. (bound : ℕ) → IsRange metric nets.now.exact nets.now.approx bound range.old
+    ensures { IfOk result (λ spent. (bound : ℕ)
+        → IsRange metric nets.now.exact nets.now.approx bound range.old
         → IsEnd metric nets.now.exact nets.now.approx bound limit range.new spent) }
 {
     while range.low < range.high {
@@ -94,7 +95,8 @@ fn close_known<P: Progress>(
     requires decider { decider.old ≡ nets.now.exact }
     requires limit { 1 ≤ limit }
     requires range { (bound : ℕ) × IsRange metric nets.now.exact nets.now.approx bound range.old }
-    ensures { IfOk result (λ spent. (bound : ℕ) → IsRange metric nets.now.exact nets.now.approx bound range.old
+    ensures { IfOk result (λ spent. (bound : ℕ)
+        → IsRange metric nets.now.exact nets.now.approx bound range.old
         → IsEnd metric nets.now.exact nets.now.approx bound limit range.new spent) }
 {
     try_known(alloc, nets, decider, metric, range)?;
@@ -112,7 +114,8 @@ fn close_by_diagrams<P: Progress>(
 ) -> Result<Option<Spent>, AllocError>
     requires limit { 1 ≤ limit }
     requires range { (bound : ℕ) × IsRange metric nets.now.exact nets.now.approx bound range.old }
-    ensures { IfOk result (λ spent. (bound : ℕ) → IsRange metric nets.now.exact nets.now.approx bound range.old
+    ensures { IfOk result (λ spent. (bound : ℕ)
+        → IsRange metric nets.now.exact nets.now.approx bound range.old
         → IsEnd metric nets.now.exact nets.now.approx bound limit range.new spent) }
 {
     let mut decider = decider_for(alloc, nets.exact())?;

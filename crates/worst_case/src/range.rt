@@ -72,7 +72,8 @@ fn raise(
     x: Bits,
 ) -> Result<(), AllocError>
     requires width { length x ≡ input_count nets.now.exact }
-    ensures { OnOk result (range.new ≡ record range.old { low = net_error metric nets.now.exact nets.now.approx x; witness = x }) }
+    ensures { OnOk result (range.new
+        ≡ record range.old { low = net_error metric nets.now.exact nets.now.approx x; witness = x }) }
 {
     range.low = error_at(alloc, nets, metric, x.as_slice())?;
     range.witness = x;
@@ -126,7 +127,8 @@ fn narrow_by_solver<P: Progress>(
 ) -> Result<Option<Spent>, AllocError>
     requires limit { 1 ≤ limit }
     requires open { range.old.low < range.old.high }
-    ensures { IfOk result (λ spent. (bound : ℕ) → IsRange metric nets.now.exact nets.now.approx bound range.old
+    ensures { IfOk result (λ spent. (bound : ℕ)
+        → IsRange metric nets.now.exact nets.now.approx bound range.old
         → IsTurn metric nets.now.exact nets.now.approx bound limit range.old range.new spent) }
 {
     let middle = range.low + (range.high - range.low) / 2;
@@ -153,7 +155,8 @@ pub fn narrow<P: Progress>(
     requires limit { 1 ≤ limit }
     requires open { range.old.low < range.old.high }
     ensures same { decider.new ≡ decider.old }
-    ensures turn { IfOk result (λ spent. (bound : ℕ) → IsRange metric nets.now.exact nets.now.approx bound range.old
+    ensures turn { IfOk result
+        (λ spent. (bound : ℕ) → IsRange metric nets.now.exact nets.now.approx bound range.old
         → IsTurn metric nets.now.exact nets.now.approx bound limit range.old range.new spent) }
 {
     let middle = range.low + (range.high - range.low) / 2;

@@ -1,4 +1,5 @@
-//! Whether some error exceeds a level, asked of the solver, which is first told which tables of the joint net are alike.
+//! Whether some error exceeds a level, asked of the solver, which is first told which tables of the joint net
+//! are alike.
 ghost use Rattle.std.specs.Prelude.{◌≡◌, ◌<◌, ◌≤◌, ◌^◌, List, Bool, length, take, IfOk};
 ghost use Rattle.semantics.specs.Net.{input_count};
 ghost use Rattle.proof_semantics.specs.Logs.{LogItem, IsDerivation};
@@ -84,7 +85,8 @@ fn ask_behind<P: Progress>(
 ) -> Result<Exceed, AllocError>
     requires limit { 1 ≤ limit }
     requires merged { IsDerivation joint.now.formula merged.now }
-    requires wide { (bits : List Bool) → IsModel joint.now.formula bits → input_count nets.now.exact ≤ length bits }
+    requires wide { (bits : List Bool) → IsModel joint.now.formula bits
+        → input_count nets.now.exact ≤ length bits }
     ensures { IfOk result (IsToldBehind nets.now.exact nets.now.approx joint.now.formula k limit merged.now) }
 {
     let count = merged.as_slice().len() as u64;
@@ -103,7 +105,8 @@ fn ask_merged<P: Progress>(
 ) -> Result<Exceed, AllocError>
     requires limit { 1 ≤ limit }
     requires goal { joint.now.formula ≡ goal_of joint.now.net }
-    requires wide { (bits : List Bool) → IsModel joint.now.formula bits → input_count nets.now.exact ≤ length bits }
+    requires wide { (bits : List Bool) → IsModel joint.now.formula bits
+        → input_count nets.now.exact ≤ length bits }
     ensures { IfOk result (λ exceed. (merged : List LogItem) × IsMergeLog joint.now.net merged
         × IsToldBehind nets.now.exact nets.now.approx joint.now.formula k limit merged exceed) }
 {

@@ -3,7 +3,8 @@
 ghost use Rattle.std.specs.Prelude.{◌≡◌, ◌≤◌, ◌<◌, [], length, slice_index_or, IfOk, OnOk};
 ghost use Rattle.semantics.specs.Net.{input_count, IsSmall};
 ghost use Rattle.semantics.specs.Error.{net_error};
-ghost use Rattle.worst_case.specs.VectorsTried.{IsTrial, IsFirstGreatestIn, IsHeldFor, IsEveryVectorHeld, IsTried};
+ghost use Rattle.worst_case.specs.VectorsTried.{IsTrial, IsFirstGreatestIn, IsHeldFor, IsEveryVectorHeld};
+ghost use Rattle.worst_case.specs.VectorsTried.{IsTried};
 
 use bdd_core::chance::chance;
 use lane_bits::patterns::Patterns;
@@ -113,7 +114,8 @@ pub(crate) fn greatest_of(
     requires inputs { held.now.patterns.inputs ≡ input_count nets.now.exact }
     requires some { 0 < length held.now.patterns.vectors }
     ensures greatest { IfOk result
-        (λ a. IsFirstGreatestIn (net_error metric nets.now.exact nets.now.approx) held.now.patterns.vectors a.error a.witness) }
+        (λ a. IsFirstGreatestIn (net_error metric nets.now.exact nets.now.approx) held.now.patterns.vectors
+        a.error a.witness) }
     ensures width { IfOk result (λ a. length a.witness ≡ input_count nets.now.exact) }
 {
     let found = held.greatest_error(alloc, nets.approx(), metric)?;

@@ -18,7 +18,12 @@ loop-i-preserved c =
     rw c.inputs-inputs.ensures.value
     (flipped_more c.args.net.now c.args.t c.args.words.now c.inputs-inputs.ensures.built.sound.acyclic c.requires.table c.args.later.now c.loop-i.words c.loop-i.i-index
     (get_or c.args.later.now c.loop-i.i-index 0) c.table_word-word.result c.table.result.now c.requires.later.in_turn c.loop-i-test.true refl
-    (omega (arith, c.loop-i.auto.words, c.requires.room, length-set c.args.words.now (c.inputs-inputs.result + c.args.t) (18446744073709551615 - get_or c.args.words.now (c.inputs-inputs.result + c.args.t) 0)))
+    (omega (
+      arith,
+      c.loop-i.auto.words,
+      c.requires.room,
+      length-set c.args.words.now (c.inputs-inputs.result + c.args.t) (18446744073709551615 - get_or c.args.words.now (c.inputs-inputs.result + c.args.t) 0),
+    ))
     c.table.ensures.value c.table_word-word.ensures c.loop-i.invariant)
 
 pub returns : goal.returns

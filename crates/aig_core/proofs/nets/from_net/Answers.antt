@@ -16,14 +16,16 @@ table-requires c =
 
 pub index_mut-requires : goal.index_mut-requires
 index_mut-requires c =
-    let within = table_within (length c.args.net.now.inputs) c.args.net.now.tables c.order-t-items.result.now c.order-t-items.ensures c.loop-t.t-index (get_or c.order-t-items.result.now c.loop-t.t-index 0)
+    let within = table_within (length c.args.net.now.inputs) c.args.net.now.tables c.order-t-items.result.now c.order-t-items.ensures c.loop-t.t-index
+    (get_or c.order-t-items.result.now c.loop-t.t-index 0)
     c.loop-t-test.true refl in
     omega (arith, within, c.loop-t.invariant.size, c.inputs-inputs.ensures.value)
 
 pub loop-t-preserved : goal.loop-t-preserved
 loop-t-preserved c =
     rw c.inputs-inputs.ensures.value
-    (signals_more (length c.args.net.now.inputs) c.args.net.now.tables c.order-t-items.result.now c.order-t-items.ensures c.loop-t.graph c.table_literal.new.g c.loop-t.literals.items c.loop-t.t-index _
+    (signals_more (length c.args.net.now.inputs) c.args.net.now.tables c.order-t-items.result.now c.order-t-items.ensures c.loop-t.graph c.table_literal.new.g c.loop-t.literals.items c.loop-t.t-index
+    _
     c.table.result.now c.in_ok-literal.literal c.loop-t-test.true refl c.table.ensures.value c.loop-t.invariant c.in_ok-literal.ensures.grows
     (subst (λ (signals : List ℕ). IsTableOf c.table_literal.new.g c.table.result.now signals c.in_ok-literal.literal) c.deref.ensures.value c.in_ok-literal.ensures.ok))
 

@@ -12,11 +12,13 @@ bounds-firsts-t c =
 
 pub push_table-requires-clause-fits : goal.push_table-requires-clause-fits
 push_table-requires-clause-fits c =
-    first_fits (input_count c.args.net.now) c.args.net.now.tables c.loop-t.t 0 _ c.args.firsts.now c.table.result.now (2 ^ 31) (omega arith) c.requires.firsts refl c.table.ensures.value c.requires.fits
+    first_fits (input_count c.args.net.now) c.args.net.now.tables c.loop-t.t 0 _ c.args.firsts.now c.table.result.now (2 ^ 31) (omega arith) c.requires.firsts refl c.table.ensures.value
+    c.requires.fits
 
 pub loop-t-preserved : goal.loop-t-preserved
 loop-t-preserved c =
-    tables_joins-more (λ s. get_or c.args.literals.now s 0) (input_count c.args.net.now) (get_or c.args.firsts.now c.loop-t.t 0) c.args.net.now.tables c.loop-t.t c.table.result.now no_table c.loop-t.lines
+    tables_joins-more (λ s. get_or c.args.literals.now s 0) (input_count c.args.net.now) (get_or c.args.firsts.now c.loop-t.t 0) c.args.net.now.tables c.loop-t.t c.table.result.now no_table
+    c.loop-t.lines
     c.push_table.new.lines (omega arith)
     (first_read (input_count c.args.net.now) c.args.net.now.tables c.loop-t.t 0 (get_or c.args.firsts.now c.loop-t.t 0) c.args.firsts.now (omega arith) c.requires.firsts refl)
     c.table.ensures.value c.loop-t.invariant c.in_ok-push_table.ensures

@@ -12,7 +12,8 @@ named_net-requires-clause-few c =
     let circuit : CircuitValue = c.args.circuit.now in
     let N : NetValue = record { model = c.in_ok-model.model; inputs = c.in_ok-inputs.inputs; tables = c.in_ok-tables.tables; outputs = c.in_ok-tables.outputs } in
     let same : N ≡ net_of circuit =
-    net-is circuit c.in_ok-model.model c.in_ok-inputs.inputs c.in_ok-tables.tables c.in_ok-tables.outputs c.args.known.now c.requires.known c.in_ok-model.ensures (c.in_ok-inputs.ensures ∙ c.input_names.ensures)
+    net-is circuit c.in_ok-model.model c.in_ok-inputs.inputs c.in_ok-tables.tables c.in_ok-tables.outputs c.args.known.now c.requires.known c.in_ok-model.ensures
+    (c.in_ok-inputs.ensures ∙ c.input_names.ensures)
     c.in_ok-tables.ensures.tables c.in_ok-tables.ensures.outputs in
     few-signals circuit c.requires.read c.requires.defined N same
 
@@ -21,7 +22,8 @@ named_net-requires-clause-output c =
     let circuit : CircuitValue = c.args.circuit.now in
     let N : NetValue = record { model = c.in_ok-model.model; inputs = c.in_ok-inputs.inputs; tables = c.in_ok-tables.tables; outputs = c.in_ok-tables.outputs } in
     let same : N ≡ net_of circuit =
-    net-is circuit c.in_ok-model.model c.in_ok-inputs.inputs c.in_ok-tables.tables c.in_ok-tables.outputs c.args.known.now c.requires.known c.in_ok-model.ensures (c.in_ok-inputs.ensures ∙ c.input_names.ensures)
+    net-is circuit c.in_ok-model.model c.in_ok-inputs.inputs c.in_ok-tables.tables c.in_ok-tables.outputs c.args.known.now c.requires.known c.in_ok-model.ensures
+    (c.in_ok-inputs.ensures ∙ c.input_names.ensures)
     c.in_ok-tables.ensures.tables c.in_ok-tables.ensures.outputs in
     some-output circuit c.requires.read c.requires.defined N same c.requires.output
 
@@ -30,7 +32,8 @@ named_net-requires-clause-driven c =
     let circuit : CircuitValue = c.args.circuit.now in
     let N : NetValue = record { model = c.in_ok-model.model; inputs = c.in_ok-inputs.inputs; tables = c.in_ok-tables.tables; outputs = c.in_ok-tables.outputs } in
     let same : N ≡ net_of circuit =
-    net-is circuit c.in_ok-model.model c.in_ok-inputs.inputs c.in_ok-tables.tables c.in_ok-tables.outputs c.args.known.now c.requires.known c.in_ok-model.ensures (c.in_ok-inputs.ensures ∙ c.input_names.ensures)
+    net-is circuit c.in_ok-model.model c.in_ok-inputs.inputs c.in_ok-tables.tables c.in_ok-tables.outputs c.args.known.now c.requires.known c.in_ok-model.ensures
+    (c.in_ok-inputs.ensures ∙ c.input_names.ensures)
     c.in_ok-tables.ensures.tables c.in_ok-tables.ensures.outputs in
     none-undriven circuit c.requires.read c.requires.defined N same
 
@@ -39,7 +42,8 @@ named_net-requires-clause-grounded c =
     let circuit : CircuitValue = c.args.circuit.now in
     let N : NetValue = record { model = c.in_ok-model.model; inputs = c.in_ok-inputs.inputs; tables = c.in_ok-tables.tables; outputs = c.in_ok-tables.outputs } in
     let same : N ≡ net_of circuit =
-    net-is circuit c.in_ok-model.model c.in_ok-inputs.inputs c.in_ok-tables.tables c.in_ok-tables.outputs c.args.known.now c.requires.known c.in_ok-model.ensures (c.in_ok-inputs.ensures ∙ c.input_names.ensures)
+    net-is circuit c.in_ok-model.model c.in_ok-inputs.inputs c.in_ok-tables.tables c.in_ok-tables.outputs c.args.known.now c.requires.known c.in_ok-model.ensures
+    (c.in_ok-inputs.ensures ∙ c.input_names.ensures)
     c.in_ok-tables.ensures.tables c.in_ok-tables.ensures.outputs in
     none-ungrounded circuit c.requires.read c.requires.defined N same c.requires.no_loop
 
@@ -48,7 +52,8 @@ returns-clause-ok c =
     let circuit : CircuitValue = c.args.circuit.now in
     let N : NetValue = record { model = c.in_ok-model.model; inputs = c.in_ok-inputs.inputs; tables = c.in_ok-tables.tables; outputs = c.in_ok-tables.outputs } in
     let same : N ≡ net_of circuit =
-    net-is circuit c.in_ok-model.model c.in_ok-inputs.inputs c.in_ok-tables.tables c.in_ok-tables.outputs c.args.known.now c.requires.known c.in_ok-model.ensures (c.in_ok-inputs.ensures ∙ c.input_names.ensures)
+    net-is circuit c.in_ok-model.model c.in_ok-inputs.inputs c.in_ok-tables.tables c.in_ok-tables.outputs c.args.known.now c.requires.known c.in_ok-model.ensures
+    (c.in_ok-inputs.ensures ∙ c.input_names.ensures)
     c.in_ok-tables.ensures.tables c.in_ok-tables.ensures.outputs in
     subst (λ (M : NetValue). IfOk c.named_net.result (λ n. named M ≡ Ok n)) same c.named_net.ensures.ok
 
@@ -57,6 +62,7 @@ returns-clause-err c =
     let circuit : CircuitValue = c.args.circuit.now in
     let N : NetValue = record { model = c.in_ok-model.model; inputs = c.in_ok-inputs.inputs; tables = c.in_ok-tables.tables; outputs = c.in_ok-tables.outputs } in
     let same : N ≡ net_of circuit =
-    net-is circuit c.in_ok-model.model c.in_ok-inputs.inputs c.in_ok-tables.tables c.in_ok-tables.outputs c.args.known.now c.requires.known c.in_ok-model.ensures (c.in_ok-inputs.ensures ∙ c.input_names.ensures)
+    net-is circuit c.in_ok-model.model c.in_ok-inputs.inputs c.in_ok-tables.tables c.in_ok-tables.outputs c.args.known.now c.requires.known c.in_ok-model.ensures
+    (c.in_ok-inputs.ensures ∙ c.input_names.ensures)
     c.in_ok-tables.ensures.tables c.in_ok-tables.ensures.outputs in
     subst (λ (M : NetValue). IfErr c.named_net.result (λ told. Tells told (named M))) same c.named_net.ensures.err

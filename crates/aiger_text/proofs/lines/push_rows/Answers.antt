@@ -6,14 +6,16 @@ use Rattle.aiger_text.proofs.lines.push_rows.Goals as goal
 
 pub push_joins-requires : goal.push_joins-requires
 push_joins-requires c =
-    let size = asked-length (λ s. get_or c.args.literals.now s 0) c.args.pins.now c.ask.new.asked.items c.args.rows.now c.loop-row.row-index c.row-item.result c.requires.widths c.loop-row-test.true c.row-item.is
+    let size = asked-length (λ s. get_or c.args.literals.now s 0) c.args.pins.now c.ask.new.asked.items c.args.rows.now c.loop-row.row-index c.row-item.result c.requires.widths c.loop-row-test.true
+    c.row-item.is
     (c.in_ok-ask.ensures ∙ ap (λ (r : List Mark). row_inputs (λ s. get_or c.args.literals.now s 0) r c.args.pins.now) c.as_slice.ensures) in
     next-row_fits c.args.first c.loop-row.next c.args.rows.now c.loop-row.row-index (length c.deref.result.now) (2 ^ 31) c.row-item.result c.loop-row.invariant.next_is c.loop-row-test.true
     (ap length c.deref.ensures.value ∙ size) c.requires.fits
 
 pub joins_of-next-requires : goal.joins_of-next-requires
 joins_of-next-requires c =
-    let size = asked-length (λ s. get_or c.args.literals.now s 0) c.args.pins.now c.ask.new.asked.items c.args.rows.now c.loop-row.row-index c.row-item.result c.requires.widths c.loop-row-test.true c.row-item.is
+    let size = asked-length (λ s. get_or c.args.literals.now s 0) c.args.pins.now c.ask.new.asked.items c.args.rows.now c.loop-row.row-index c.row-item.result c.requires.widths c.loop-row-test.true
+    c.row-item.is
     (c.in_ok-ask.ensures ∙ ap (λ (r : List Mark). row_inputs (λ s. get_or c.args.literals.now s 0) r c.args.pins.now) c.as_slice.ensures) in
     let fits = next-row_fits c.args.first c.loop-row.next c.args.rows.now c.loop-row.row-index (length c.deref.result.now) (2 ^ 31) c.row-item.result c.loop-row.invariant.next_is c.loop-row-test.true
     (ap length c.deref.ensures.value ∙ size) c.requires.fits in
@@ -21,7 +23,8 @@ joins_of-next-requires c =
 
 pub overflow_add-next : goal.overflow_add-next
 overflow_add-next c =
-    let size = asked-length (λ s. get_or c.args.literals.now s 0) c.args.pins.now c.ask.new.asked.items c.args.rows.now c.loop-row.row-index c.row-item.result c.requires.widths c.loop-row-test.true c.row-item.is
+    let size = asked-length (λ s. get_or c.args.literals.now s 0) c.args.pins.now c.ask.new.asked.items c.args.rows.now c.loop-row.row-index c.row-item.result c.requires.widths c.loop-row-test.true
+    c.row-item.is
     (c.in_ok-ask.ensures ∙ ap (λ (r : List Mark). row_inputs (λ s. get_or c.args.literals.now s 0) r c.args.pins.now) c.as_slice.ensures) in
     let fits = next-row_fits c.args.first c.loop-row.next c.args.rows.now c.loop-row.row-index (length c.deref.result.now) (2 ^ 31) c.row-item.result c.loop-row.invariant.next_is c.loop-row-test.true
     (ap length c.deref.ensures.value ∙ size) c.requires.fits in
@@ -30,10 +33,12 @@ overflow_add-next c =
 pub loop-row-preserved : goal.loop-row-preserved
 loop-row-preserved c =
     let asked = c.in_ok-ask.ensures ∙ ap (λ (r : List Mark). row_inputs (λ s. get_or c.args.literals.now s 0) r c.args.pins.now) c.as_slice.ensures in
-    let size = asked-length (λ s. get_or c.args.literals.now s 0) c.args.pins.now c.ask.new.asked.items c.args.rows.now c.loop-row.row-index c.row-item.result c.requires.widths c.loop-row-test.true c.row-item.is asked in
+    let size = asked-length (λ s. get_or c.args.literals.now s 0) c.args.pins.now c.ask.new.asked.items c.args.rows.now c.loop-row.row-index c.row-item.result c.requires.widths c.loop-row-test.true
+    c.row-item.is asked in
     let next = next-row c.args.first c.loop-row.next c.args.rows.now c.loop-row.row-index (length c.deref.result.now) c.row-item.result c.loop-row.invariant.next_is c.loop-row-test.true
     (ap length c.deref.ensures.value ∙ size) in
-    rows_joined-more (λ s. get_or c.args.literals.now s 0) c.args.pins.now c.args.first c.args.rows.now c.loop-row.row-index c.loop-row.next c.args.lines.now c.loop-row.lines c.push_joins.new.lines c.row-item.result
+    rows_joined-more (λ s. get_or c.args.literals.now s 0) c.args.pins.now c.args.first c.args.rows.now c.loop-row.row-index c.loop-row.next c.args.lines.now c.loop-row.lines c.push_joins.new.lines
+    c.row-item.result
     c.ask.new.asked.items (c.loop-row.next + c.joins_of-next.result) c.loop-row.invariant c.loop-row-test.true c.row-item.is asked
     (c.in_ok-push_joins.ensures ∙ ap (λ l. c.loop-row.lines ++ joins c.loop-row.next l) c.deref.ensures.value)
     (omega (arith, next, c.joins_of-next.ensures, c.len.ensures, c.deref.ensures.len))

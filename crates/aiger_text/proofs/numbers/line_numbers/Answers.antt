@@ -21,7 +21,8 @@ loop-word-preserved c =
     let size = length_push c.loop-word.yielded c.in-Some.word in
     rw size
     (ap (λ v. behind v (all_numbers c.args.most (drop (k + 1) (pieces line)))) c.in_ok-push.ensures.items
-    ∙ numbers-next c.args.most (pieces line) k c.in-Some.word.now c.in-Some-number_to.number c.loop-word.numbers.items (all_numbers c.args.most (pieces line)) turn.0 turn.1 (sym c.number_to.ensures ∙ c.in-Some-number_to.is) c.loop-word.invariant)
+    ∙ numbers-next c.args.most (pieces line) k c.in-Some.word.now c.in-Some-number_to.number c.loop-word.numbers.items (all_numbers c.args.most (pieces line)) turn.0 turn.1
+    (sym c.number_to.ensures ∙ c.in-Some-number_to.is) c.loop-word.invariant)
 
 pub returns-in_default : goal.returns-in_default
 returns-in_default c =
@@ -30,7 +31,8 @@ returns-in_default c =
     turn_at c.loop-word.yielded _ c.loop-word.yielded_by _ _ c.in-Some.word c.in-Some.is c.next.ensures.steps
     (YieldsList-at c.into_iter-word-iterator.ensures.into_iter_gives
     (YieldsList-from_slice_split _ (λ b. b == 32) line c.split-word-items.ensures.rest c.split-word-items.ensures.done c.split-word-items.ensures.closure (λ x b q k. search (rules, tests)))) in
-    numbers-none c.args.most (pieces line) (length c.loop-word.yielded) c.in-Some.word.now c.loop-word.numbers.items (all_numbers c.args.most (pieces line)) turn.0 turn.1 (sym c.number_to.ensures ∙ c.in_default.is) c.loop-word.invariant
+    numbers-none c.args.most (pieces line) (length c.loop-word.yielded) c.in-Some.word.now c.loop-word.numbers.items (all_numbers c.args.most (pieces line)) turn.0 turn.1
+    (sym c.number_to.ensures ∙ c.in_default.is) c.loop-word.invariant
 
 pub returns : goal.returns
 returns c =

@@ -38,10 +38,12 @@ pub returns-clause-ok : goal.returns-clause-ok
 returns-clause-ok c =
     let short : length c.args.text.now ≤ c.args.limit = omega (arith, c.if-text-limit.false) in
     let are : texts c.deref.result.now ≡ text_lines c.args.text.now = ap texts c.deref.ensures.value ∙ c.in_ok-lines.ensures in
-    subst (λ g. IfOk c.net_reading.result (λ n. g ≡ Ok n)) (sym (circuit-net c.args.text.now c.args.limit short (texts c.deref.result.now) are c.in_ok-circuit.circuit c.in_ok-circuit.ensures.ok)) c.net_reading.ensures.ok
+    subst (λ g. IfOk c.net_reading.result (λ n. g ≡ Ok n)) (sym (circuit-net c.args.text.now c.args.limit short (texts c.deref.result.now) are c.in_ok-circuit.circuit c.in_ok-circuit.ensures.ok))
+    c.net_reading.ensures.ok
 
 pub returns-clause-err : goal.returns-clause-err
 returns-clause-err c =
     let short : length c.args.text.now ≤ c.args.limit = omega (arith, c.if-text-limit.false) in
     let are : texts c.deref.result.now ≡ text_lines c.args.text.now = ap texts c.deref.ensures.value ∙ c.in_ok-lines.ensures in
-    subst (λ g. IfErr c.net_reading.result (λ told. Tells told g)) (sym (circuit-net c.args.text.now c.args.limit short (texts c.deref.result.now) are c.in_ok-circuit.circuit c.in_ok-circuit.ensures.ok)) c.net_reading.ensures.err
+    subst (λ g. IfErr c.net_reading.result (λ told. Tells told g))
+    (sym (circuit-net c.args.text.now c.args.limit short (texts c.deref.result.now) are c.in_ok-circuit.circuit c.in_ok-circuit.ensures.ok)) c.net_reading.ensures.err

@@ -36,7 +36,8 @@ returns-then-at-lines-clause-err c =
     let lines = texts c.args.lines.now in
     let size = texts-count c.args.lines.now in
     λ refusal e.
-    read-missing read c.args.first c.args.count lines c.loop-i.i c.loop-i.ands (all_read read c.args.first c.args.count lines) (omega arith) (omega (arith, size, c.if-at-lines.true)) c.loop-i.invariant
+    read-missing read c.args.first c.args.count lines c.loop-i.i c.loop-i.ands (all_read read c.args.first c.args.count lines) (omega arith) (omega (arith, size, c.if-at-lines.true))
+    c.loop-i.invariant
     ∙ ap (λ n. Err (wrong_line (c.args.first + n))) (sym c.from.ensures) ∙ ap Err (same_Some _ _ e)
 
 pub returns-clause-ok : goal.returns-clause-ok

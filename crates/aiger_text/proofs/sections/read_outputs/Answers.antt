@@ -36,10 +36,12 @@ returns-then-at-lines-clause-err c =
     let lines = texts c.args.lines.now in
     let size = texts-count c.args.lines.now in
     λ refusal e.
-    read-missing read c.args.first c.args.count lines c.loop-i.i c.loop-i.outputs (all_read read c.args.first c.args.count lines) (omega arith) (omega (arith, size, c.if-at-lines.true)) c.loop-i.invariant
+    read-missing read c.args.first c.args.count lines c.loop-i.i c.loop-i.outputs (all_read read c.args.first c.args.count lines) (omega arith) (omega (arith, size, c.if-at-lines.true))
+    c.loop-i.invariant
     ∙ ap (λ n. Err (wrong_line (c.args.first + n))) (sym c.from.ensures) ∙ ap Err (same_Some _ _ e)
 
 pub returns-clause-ok : goal.returns-clause-ok
 returns-clause-ok c =
-    read-end (output_of c.args.most) c.args.first c.args.count (texts c.args.lines.now) c.loop-i.i c.loop-i.outputs (all_read (output_of c.args.most) c.args.first c.args.count (texts c.args.lines.now))
+    read-end (output_of c.args.most) c.args.first c.args.count (texts c.args.lines.now) c.loop-i.i c.loop-i.outputs
+    (all_read (output_of c.args.most) c.args.first c.args.count (texts c.args.lines.now))
     (omega (arith, c.loop-i-test.false)) c.loop-i.invariant

@@ -15,27 +15,33 @@ table-requires c = member_within (input_count c.args.net.now) c.args.net.now.tab
 
 pub bounds-firsts-at : goal.bounds-firsts-at
 bounds-firsts-at c =
-    let within = member_within (input_count c.args.net.now) c.args.net.now.tables c.order-t-items.result.now c.order-t-items.ensures c.loop-t.t-index (get_or c.order-t-items.result.now c.loop-t.t-index 0) c.loop-t-test.true refl in
+    let within = member_within (input_count c.args.net.now) c.args.net.now.tables c.order-t-items.result.now c.order-t-items.ensures c.loop-t.t-index
+    (get_or c.order-t-items.result.now c.loop-t.t-index 0) c.loop-t-test.true refl in
     let size = firsts_length (input_count c.args.net.now) c.args.net.now.tables c.args.firsts.now c.requires.firsts in
     omega (arith, within, size)
 
 pub table_literal-requires-clause-fits : goal.table_literal-requires-clause-fits
 table_literal-requires-clause-fits c =
-    let within = member_within (input_count c.args.net.now) c.args.net.now.tables c.order-t-items.result.now c.order-t-items.ensures c.loop-t.t-index (get_or c.order-t-items.result.now c.loop-t.t-index 0) c.loop-t-test.true refl in
-    first_fits (input_count c.args.net.now) c.args.net.now.tables (get_or c.order-t-items.result.now c.loop-t.t-index 0) 0 _ c.args.firsts.now c.table.result.now (2 ^ 31) within c.requires.firsts refl c.table.ensures.value
+    let within = member_within (input_count c.args.net.now) c.args.net.now.tables c.order-t-items.result.now c.order-t-items.ensures c.loop-t.t-index
+    (get_or c.order-t-items.result.now c.loop-t.t-index 0) c.loop-t-test.true refl in
+    first_fits (input_count c.args.net.now) c.args.net.now.tables (get_or c.order-t-items.result.now c.loop-t.t-index 0) 0 _ c.args.firsts.now c.table.result.now (2 ^ 31) within c.requires.firsts
+    refl c.table.ensures.value
     c.requires.fits
 
 pub index_mut-requires : goal.index_mut-requires
 index_mut-requires c =
-    let within = member_within (input_count c.args.net.now) c.args.net.now.tables c.order-t-items.result.now c.order-t-items.ensures c.loop-t.t-index (get_or c.order-t-items.result.now c.loop-t.t-index 0) c.loop-t-test.true refl in
+    let within = member_within (input_count c.args.net.now) c.args.net.now.tables c.order-t-items.result.now c.order-t-items.ensures c.loop-t.t-index
+    (get_or c.order-t-items.result.now c.loop-t.t-index 0) c.loop-t-test.true refl in
     omega (arith, within, c.loop-t.invariant.size)
 
 pub loop-t-preserved : goal.loop-t-preserved
 loop-t-preserved c =
     let at : ℕ = get_or c.order-t-items.result.now c.loop-t.t-index 0 in
     let first : ℕ = get_or c.args.firsts.now (get_or c.order-t-items.result.now c.loop-t.t-index 0) 0 in
-    let within = member_within (input_count c.args.net.now) c.args.net.now.tables c.order-t-items.result.now c.order-t-items.ensures c.loop-t.t-index (get_or c.order-t-items.result.now c.loop-t.t-index 0) c.loop-t-test.true refl in
-    signals_more (input_count c.args.net.now) c.args.net.now.tables c.order-t-items.result.now c.order-t-items.ensures c.loop-t.literals.items _ c.loop-t.t-index at first c.in_ok-literal.literal c.table.result.now
+    let within = member_within (input_count c.args.net.now) c.args.net.now.tables c.order-t-items.result.now c.order-t-items.ensures c.loop-t.t-index
+    (get_or c.order-t-items.result.now c.loop-t.t-index 0) c.loop-t-test.true refl in
+    signals_more (input_count c.args.net.now) c.args.net.now.tables c.order-t-items.result.now c.order-t-items.ensures c.loop-t.literals.items _ c.loop-t.t-index at first c.in_ok-literal.literal
+    c.table.result.now
     c.loop-t.invariant c.loop-t-test.true refl c.table.ensures.value
     (first_read (input_count c.args.net.now) c.args.net.now.tables at 0 first c.args.firsts.now within c.requires.firsts refl)
     (c.in_ok-literal.ensures ∙ ap (λ (ls : List ℕ). table_literal (λ s. get_or ls s 0) first c.table.result.now) c.deref.ensures.value)

@@ -19,7 +19,8 @@ returns-then-not-add-clause-err c =
     let lines = c.args.lines.now in
     let size = texts-count lines in
     λ refusal e.
-    symbols-again c.args.header.now c.args.first (texts lines) c.loop-i.i _ c.in-Some.symbol c.loop-i.invariant.0 _ (omega (arith, size, c.loop-i-test.true)) (text_at lines c.loop-i.i _ c.loop-i-test.true)
+    symbols-again c.args.header.now c.args.first (texts lines) c.loop-i.i _ c.in-Some.symbol c.loop-i.invariant.0 _ (omega (arith, size, c.loop-i-test.true))
+    (text_at lines c.loop-i.i _ c.loop-i-test.true)
     (sym c.symbol_of.ensures ∙ c.in-Some.is) (sym (c.add.ensures.new c.loop-i.invariant.0 c.loop-i.invariant.1.0) ∙ c.if-not-add.true) c.loop-i.invariant.1.1
     ∙ ap Err (same_Some _ _ e)
 
@@ -30,7 +31,8 @@ loop-i-preserved c =
       c.in-Some.symbol ∷ c.loop-i.invariant.0,
       (
         c.add.ensures.added c.if-not-add.false c.loop-i.invariant.0 c.loop-i.invariant.1.0,
-        symbols-next c.args.header.now c.args.first (texts lines) c.loop-i.i _ c.in-Some.symbol c.loop-i.invariant.0 _ (omega (arith, size, c.loop-i-test.true)) (text_at lines c.loop-i.i _ c.loop-i-test.true)
+        symbols-next c.args.header.now c.args.first (texts lines) c.loop-i.i _ c.in-Some.symbol c.loop-i.invariant.0 _ (omega (arith, size, c.loop-i-test.true))
+            (text_at lines c.loop-i.i _ c.loop-i-test.true)
             (sym c.symbol_of.ensures ∙ c.in-Some.is) (sym (c.add.ensures.new c.loop-i.invariant.0 c.loop-i.invariant.1.0) ∙ c.if-not-add.false) c.loop-i.invariant.1.1,
       ),
     )

@@ -17,7 +17,8 @@ returns-in_err-write_inputs g c =
 pub returns-in_err-write_outputs : goal.returns-in_err-write_outputs
 returns-in_err-write_outputs g c =
     let p = err_from_is_err_and c.from_residual-in_err-write_outputs.result c.from_residual-in_err-write_outputs.ensures.1 in
-    rw p.1 (Gathers-third _ _ (body_text-parts c.args.circuit.now _ _ _ c.inputs.ensures c.outputs.ensures refl) c.in_ok-write_header.ensures.ok c.in_ok-write_inputs.ensures.ok c.in_err-write_outputs.ensures)
+    rw p.1 (Gathers-third _ _ (body_text-parts c.args.circuit.now _ _ _ c.inputs.ensures c.outputs.ensures refl) c.in_ok-write_header.ensures.ok c.in_ok-write_inputs.ensures.ok
+    c.in_err-write_outputs.ensures)
 
 pub returns : goal.returns
 returns g c =

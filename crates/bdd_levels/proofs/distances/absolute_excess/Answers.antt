@@ -10,5 +10,6 @@ far_apart-requires-clause-y_width c = input_width _ _ _ c.in_ok-approximate.ensu
 
 pub returns-clause-says : goal.returns-clause-says
 returns-clause-says c =
-    IfOk-weaker c.far_apart.result _ _ (λ s far. absolute_says _ _ _ _ _ _ _ s c.requires.start c.in_ok-exact.ensures.value c.in_ok-approximate.ensures.value c.in_ok-level.ensures.number c.far_apart.ensures.begins far)
+    IfOk-weaker c.far_apart.result _ _ (λ s far. absolute_says _ _ _ _ _ _ _ s c.requires.start c.in_ok-exact.ensures.value c.in_ok-approximate.ensures.value c.in_ok-level.ensures.number
+    c.far_apart.ensures.begins far)
     c.far_apart.ensures.value

@@ -11,4 +11,5 @@ far_apart-requires-clause-y_width c = flipped_width _ _ _ _ (input_width _ _ _ c
 pub returns-clause-says : goal.returns-clause-says
 returns-clause-says c =
     IfOk-weaker c.far_apart.result _ _ (λ s far. signed_says _ _ _ _ _ _ _ _ _ _ _ s c.requires.start c.in_ok-exact.ensures.value c.in_ok-approximate.ensures.value c.in_ok-flipped_exact.ensures.begins
-    c.in_ok-flipped_exact.ensures.number c.in_ok-flipped_approximate.ensures.begins c.in_ok-flipped_approximate.ensures.number c.in_ok-level.ensures.number c.far_apart.ensures.begins far) c.far_apart.ensures.value
+    c.in_ok-flipped_exact.ensures.number c.in_ok-flipped_approximate.ensures.begins c.in_ok-flipped_approximate.ensures.number c.in_ok-level.ensures.number c.far_apart.ensures.begins far)
+    c.far_apart.ensures.value

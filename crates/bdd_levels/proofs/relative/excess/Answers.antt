@@ -11,5 +11,6 @@ far_apart-requires-clause-y_width c = input_width _ _ _ c.in_ok-approximate.ensu
 
 pub returns-clause-says : goal.returns-clause-says
 returns-clause-says c =
-    IfOk-weaker c.far_apart.result _ _ (λ s far k is. ratio_says _ k _ _ _ _ _ _ _ _ _ s c.requires.some c.requires.start c.in_ok-exact.ensures.value c.in_ok-approximate.ensures.value c.in_ok-divisor.ensures.begins
+    IfOk-weaker c.far_apart.result _ _ (λ s far k is. ratio_says _ k _ _ _ _ _ _ _ _ _ s c.requires.some c.requires.start c.in_ok-exact.ensures.value c.in_ok-approximate.ensures.value
+    c.in_ok-divisor.ensures.begins
     c.in_ok-divisor.ensures.number c.in_ok-level.ensures.begins c.in_ok-level.ensures.number c.far_apart.ensures.begins far is) c.far_apart.ensures.value

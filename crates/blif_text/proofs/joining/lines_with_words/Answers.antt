@@ -20,7 +20,8 @@ loop-line-preserved c =
       counted = ap (λ n. n + 1) (c.loop-line.invariant.counted ∙ sym size);
       same =
           rw size
-          (lines-next c.loop-line.lines.items c.add_line.new.lines.items c.loop-line.begun c.in_ok-begun.begun c.loop-line.number k (physical_lines text) c.in-Some.line.now _ turn.0 turn.1 c.in_ok-begun.ensures c.loop-line.invariant.same);
+          (lines-next c.loop-line.lines.items c.add_line.new.lines.items c.loop-line.begun c.in_ok-begun.begun c.loop-line.number k (physical_lines text) c.in-Some.line.now _ turn.0 turn.1
+          c.in_ok-begun.ensures c.loop-line.invariant.same);
     }
 
 pub returns : goal.returns

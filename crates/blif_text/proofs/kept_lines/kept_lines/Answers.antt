@@ -22,7 +22,8 @@ returns-in_err-begun-clause-err c =
     (YieldsList-at c.into_iter-line-iterator.ensures.into_iter_gives
     (YieldsList-from_slice_split _ (λ b. b == 10) text c.split-line-items.ensures.rest c.split-line-items.ensures.done c.split-line-items.ensures.closure (λ x b q k. search (rules, tests)))) in
     passed_on _ _ _ (err_from_is_err_and c.from_residual.result c.from_residual.ensures.1)
-    (outcome-told c.loop-line.kept c.loop-line.begun c.loop-line.number (length c.loop-line.yielded) (physical_lines text) c.in-Some.line.now _ _ turn.0 turn.1 c.in_err-begun.ensures.err c.loop-line.invariant.same)
+    (outcome-told c.loop-line.kept c.loop-line.begun c.loop-line.number (length c.loop-line.yielded) (physical_lines text) c.in-Some.line.now _ _ turn.0 turn.1 c.in_err-begun.ensures.err
+    c.loop-line.invariant.same)
 
 pub loop-line-preserved : goal.loop-line-preserved
 loop-line-preserved c =
@@ -36,7 +37,8 @@ loop-line-preserved c =
       counted = ap (λ n. n + 1) (c.loop-line.invariant.counted ∙ sym size);
       same =
           rw size
-          (outcome-next c.loop-line.kept c.add_physical.new.self c.loop-line.begun c.in_ok-begun.begun c.loop-line.number (length c.loop-line.yielded) (physical_lines text) c.in-Some.line.now _ turn.0 turn.1 c.in_ok-begun.ensures.ok c.loop-line.invariant.same);
+          (outcome-next c.loop-line.kept c.add_physical.new.self c.loop-line.begun c.in_ok-begun.begun c.loop-line.number (length c.loop-line.yielded) (physical_lines text) c.in-Some.line.now _
+          turn.0 turn.1 c.in_ok-begun.ensures.ok c.loop-line.invariant.same);
     }
 
 pub returns-in_err-end-clause-err : goal.returns-in_err-end-clause-err

@@ -69,4 +69,5 @@ returns-clause-err c =
     (c.in_ok-tables.ensures.ok ∙ ap (map (with_signals names)) tables)
     (c.in_ok-outputs.ensures.ok ∙ ap (map (signal_named names)) outputs) in
     let none = none_undriven d names (texts c.deref-2.result.now) c.named.inside.tables.items c.requires.names tables outputs c.in_ok-tables.ensures.known c.in_ok-outputs.ensures.known in
-    subst (λ g. IfErr c.ordered_net.result (λ told. Tells told g)) (ap grounded same ∙ sym (driven-grounded d none) ∙ sym (single-driven d c.requires.differ c.requires.output)) c.ordered_net.ensures.err
+    subst (λ g. IfErr c.ordered_net.result (λ told. Tells told g)) (ap grounded same ∙ sym (driven-grounded d none) ∙ sym (single-driven d c.requires.differ c.requires.output))
+    c.ordered_net.ensures.err

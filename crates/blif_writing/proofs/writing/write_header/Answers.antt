@@ -17,13 +17,15 @@ returns-in_err-write_inputs g c =
 pub returns-in_err-gather : goal.returns-in_err-gather
 returns-in_err-gather g c =
     let p = err_from_is_err_and c.from_residual-in_err-gather.result c.from_residual-in_err-gather.ensures.1 in
-    rw p.1 (Gathers-third _ _ (header_text-parts c.args.net.now c.bytes.result.now (c.bytes.ensures.value ∙ c.model.ensures.value)) c.in_ok-gather_pieces.ensures.ok c.in_ok-write_inputs.ensures.ok c.in_err-gather.ensures.gathers)
+    rw p.1 (Gathers-third _ _ (header_text-parts c.args.net.now c.bytes.result.now (c.bytes.ensures.value ∙ c.model.ensures.value)) c.in_ok-gather_pieces.ensures.ok c.in_ok-write_inputs.ensures.ok
+    c.in_err-gather.ensures.gathers)
 
 pub returns-in_err-write_outputs : goal.returns-in_err-write_outputs
 returns-in_err-write_outputs g c =
     let p = err_from_is_err_and c.from_residual-in_err-write_outputs.result c.from_residual-in_err-write_outputs.ensures.1 in
     rw p.1
-    (Gathers-fourth _ _ (header_text-parts c.args.net.now c.bytes.result.now (c.bytes.ensures.value ∙ c.model.ensures.value)) c.in_ok-gather_pieces.ensures.ok c.in_ok-write_inputs.ensures.ok c.in_ok-gather.ensures.gathers.ok
+    (Gathers-fourth _ _ (header_text-parts c.args.net.now c.bytes.result.now (c.bytes.ensures.value ∙ c.model.ensures.value)) c.in_ok-gather_pieces.ensures.ok c.in_ok-write_inputs.ensures.ok
+    c.in_ok-gather.ensures.gathers.ok
     c.in_err-write_outputs.ensures)
 
 pub returns : goal.returns

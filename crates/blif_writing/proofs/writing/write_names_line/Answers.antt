@@ -13,7 +13,8 @@ returns-in_err-gather g c =
 pub returns-in_err-write_signals : goal.returns-in_err-write_signals
 returns-in_err-write_signals g c =
     let p = err_from_is_err_and c.from_residual-in_err-write_signals.result c.from_residual-in_err-write_signals.ensures.1 in
-    rw p.1 (Gathers-second _ _ (names_line-parts (signal_names c.args.net.now) c.args.table.now _ _ (c.as_slice.ensures ∙ c.pins.ensures.value) refl) c.in_ok-gather.ensures.gathers.ok c.in_err-write_signals.ensures)
+    rw p.1 (Gathers-second _ _ (names_line-parts (signal_names c.args.net.now) c.args.table.now _ _ (c.as_slice.ensures ∙ c.pins.ensures.value) refl) c.in_ok-gather.ensures.gathers.ok
+    c.in_err-write_signals.ensures)
 
 pub returns : goal.returns
 returns g c =

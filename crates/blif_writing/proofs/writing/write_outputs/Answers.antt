@@ -11,10 +11,12 @@ loop-i-init g c = Gathered-nil _ _
 
 pub loop-i-preserved : goal.loop-i-preserved
 loop-i-preserved g c =
-    Gathered-next (λ s. 32 ∷ name_of (signal_names c.args.net.now) s) c.args.net.now.outputs c.loop-i.i 0 (omega arith) (ap (λ word. 32 ∷ word) (c.signal_name.ensures.value ∙ ap (name_of (signal_names c.args.net.now)) c.output.ensures.value)) c.loop-i.invariant c.in_ok-write_name.ensures.ok
+    Gathered-next (λ s. 32 ∷ name_of (signal_names c.args.net.now) s) c.args.net.now.outputs c.loop-i.i 0 (omega arith)
+    (ap (λ word. 32 ∷ word) (c.signal_name.ensures.value ∙ ap (name_of (signal_names c.args.net.now)) c.output.ensures.value)) c.loop-i.invariant c.in_ok-write_name.ensures.ok
 
 pub returns-in_err-write_name : goal.returns-in_err-write_name
 returns-in_err-write_name g c =
     let p = err_from_is_err_and c.from_residual.result c.from_residual.ensures.1 in
     rw p.1
-    (Gathers-next (λ s. 32 ∷ name_of (signal_names c.args.net.now) s) c.args.net.now.outputs c.loop-i.i 0 (omega arith) (ap (λ word. 32 ∷ word) (c.signal_name.ensures.value ∙ ap (name_of (signal_names c.args.net.now)) c.output.ensures.value)) c.loop-i.invariant c.in_err-write_name.ensures)
+    (Gathers-next (λ s. 32 ∷ name_of (signal_names c.args.net.now) s) c.args.net.now.outputs c.loop-i.i 0 (omega arith)
+    (ap (λ word. 32 ∷ word) (c.signal_name.ensures.value ∙ ap (name_of (signal_names c.args.net.now)) c.output.ensures.value)) c.loop-i.invariant c.in_err-write_name.ensures)

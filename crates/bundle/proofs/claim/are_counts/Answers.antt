@@ -7,4 +7,8 @@ pub literals-old_literals-requires : goal.literals-old_literals-requires
 literals-old_literals-requires c = omega (arith, literals_at_most c.exact-exact.result.now (subst IsSmall (sym c.exact-exact.ensures.value) c.requires.exact) c.see_sound.ensures.sound.tables_formed)
 
 pub literals-new_literals-requires : goal.literals-new_literals-requires
-literals-new_literals-requires c = omega (arith, literals_at_most c.approx-approx.result.now (subst IsSmall (sym c.approx-approx.ensures.value) c.requires.approx) c.see_sound-2.ensures.sound.tables_formed)
+literals-new_literals-requires c = omega (
+  arith,
+  literals_at_most c.approx-approx.result.now (subst IsSmall (sym c.approx-approx.ensures.value) c.requires.approx)
+      c.see_sound-2.ensures.sound.tables_formed,
+)

@@ -20,7 +20,8 @@ returns-in_err-formula g c =
     let K = WitnessKnown claim.nets.now.exact metric claim.bound claim.nets.now.approx r contents.is_shown in
     let old = g.F.Files.told c.args.files.now in
     let p = err_from_is_err_and c.from_residual.result c.from_residual.ensures.1 in
-    rw p.1 (subst (λ e. Answers g.L.ItemSink.holds claim.nets.now.exact metric claim.bound claim.stem.now K old old (Err e)) (sym p.2) (answers_memory g.L.ItemSink.holds claim.nets.now.exact metric claim.bound claim.stem.now old K))
+    rw p.1 (subst (λ e. Answers g.L.ItemSink.holds claim.nets.now.exact metric claim.bound claim.stem.now K old old (Err e)) (sym p.2)
+    (answers_memory g.L.ItemSink.holds claim.nets.now.exact metric claim.bound claim.stem.now old K))
 
 pub returns-in_err-is_formula : goal.returns-in_err-is_formula
 returns-in_err-is_formula g c =

@@ -42,7 +42,8 @@ returns-in_default g c =
     let read = subst (λ n. TextRead old new n Q) c.name.ensures (subst (λ o. TextRead old new c.name.result.now (IsLogIn holds c.args.formula.clauses o)) c.in_default.is c.in_ok-log.ensures.ok) in
     answers_failing holds claim.nets.now.exact metric claim.bound claim.stem.now old new file.Log Q K clause.Log read
     (λ texts known. log_needed claim.nets.now.exact metric claim.bound texts claim.nets.now.approx r contents.is_shown known)
-    (λ texts known none. no_refutation claim.nets.now.exact metric claim.bound texts claim.nets.now.approx r contents.is_shown known (subst (λ (f : Formula). IsLogIn holds f.clauses None (texts file.Log)) c.requires.formula none))
+    (λ texts known none. no_refutation claim.nets.now.exact metric claim.bound texts claim.nets.now.approx r contents.is_shown known
+    (subst (λ (f : Formula). IsLogIn holds f.clauses None (texts file.Log)) c.requires.formula none))
 
 pub returns-in-None : goal.returns-in-None
 returns-in-None g c =
@@ -78,4 +79,5 @@ returns-in-Some-check_counts g c =
     answers_failing holds claim.nets.now.exact metric claim.bound claim.stem.now old new file.Log Q K c.in-Some-check_counts.clause read
     (λ texts known. log_needed claim.nets.now.exact metric claim.bound texts claim.nets.now.approx r contents.is_shown known)
     (λ texts known found.
-    c.in-Some-check_counts.ensures texts (known_log claim.nets.now.exact metric claim.bound texts claim.nets.now.approx r contents.is_shown holds known c.args.formula c.requires.formula c.in-Some.log found))
+    c.in-Some-check_counts.ensures texts (known_log claim.nets.now.exact metric claim.bound texts claim.nets.now.approx r contents.is_shown holds known c.args.formula c.requires.formula c.in-Some.log
+    found))

@@ -66,7 +66,8 @@ returns-then-report-claim g c =
     (subst (λ o. TextRead old new c.name-name.result.now (IsReportIn inputs metric claim.bound o)) c.in-Some.is c.in_ok-report.ensures.ok) in
     answers_failing g.L.ItemSink.holds N metric claim.bound claim.stem.now old new file.Report Q K clause.MaximumWithin was
     (λ texts known. report_needed N metric claim.bound texts M known)
-    (λ texts known is. above_bound N metric claim.bound texts M r known (subst (λ k. IsReportText k metric claim.bound (texts file.Report) r) (c.inputs-inputs.ensures.value ∙ ap input_count c.exact.ensures.value) is)
+    (λ texts known is. above_bound N metric claim.bound texts M r known
+    (subst (λ k. IsReportText k metric claim.bound (texts file.Report) r) (c.inputs-inputs.ensures.value ∙ ap input_count c.exact.ensures.value) is)
     (λ within. omega (arith, within, c.if-report-claim.true)))
 
 pub returns : goal.returns

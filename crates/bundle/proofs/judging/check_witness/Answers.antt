@@ -45,7 +45,8 @@ returns-in_default g c =
     let new = g.F.Files.told c.read_vectors_file.new.files in
     let asked = c.new-asked.result in
     let by_moves = c.decides_by_moves-by_moves.result in
-    let is : asked ≡ asked_for N M metric claim.bound r witness c.as_slice-witness.ensures c.requires.width by_moves = c.new-asked.ensures ∙ ap (λ (v : Option Version). record { exact = N; approx = M; metric = metric; bound = claim.bound; witness = witness; version = v }) c.asked_version-version.ensures in
+    let is : asked ≡ asked_for N M metric claim.bound r witness c.as_slice-witness.ensures c.requires.width by_moves
+    = c.new-asked.ensures ∙ ap (λ (v : Option Version). record { exact = N; approx = M; metric = metric; bound = claim.bound; witness = witness; version = v }) c.asked_version-version.ensures in
     let Q = λ (content : Bytes). AreShownIn asked None content in
     let was =
     subst (λ n. TextRead old new n Q) c.name-name.ensures
@@ -55,7 +56,8 @@ returns-in_default g c =
     (λ texts known none.
     other_vectors N metric claim.bound texts M r known
     (λ pool vectors.
-    subst (λ (a : AskedValue). AreShownIn a None (texts file.Vectors)) is none pool (vectors_read N M metric claim.bound r witness c.as_slice-witness.ensures c.requires.width by_moves (texts file.Vectors) pool vectors)))
+    subst (λ (a : AskedValue). AreShownIn a None (texts file.Vectors)) is none pool
+    (vectors_read N M metric claim.bound r witness c.as_slice-witness.ensures c.requires.width by_moves (texts file.Vectors) pool vectors)))
 
 pub returns-in_err-error : goal.returns-in_err-error
 returns-in_err-error g c =
@@ -83,7 +85,8 @@ returns-then-not-is_attained g c =
     let shown = c.in-Some.is_shown in
     let asked = c.new-asked.result in
     let by_moves = c.decides_by_moves-by_moves.result in
-    let is : asked ≡ asked_for N M metric claim.bound r witness c.as_slice-witness.ensures c.requires.width by_moves = c.new-asked.ensures ∙ ap (λ (v : Option Version). record { exact = N; approx = M; metric = metric; bound = claim.bound; witness = witness; version = v }) c.asked_version-version.ensures in
+    let is : asked ≡ asked_for N M metric claim.bound r witness c.as_slice-witness.ensures c.requires.width by_moves
+    = c.new-asked.ensures ∙ ap (λ (v : Option Version). record { exact = N; approx = M; metric = metric; bound = claim.bound; witness = witness; version = v }) c.asked_version-version.ensures in
     let Q = λ (content : Bytes). AreShownIn asked (Some shown) content in
     let was =
     subst (λ n. TextRead old new n Q) c.name-name.ensures
@@ -111,7 +114,8 @@ returns g c =
     let shown = c.in-Some.is_shown in
     let asked = c.new-asked.result in
     let by_moves = c.decides_by_moves-by_moves.result in
-    let is : asked ≡ asked_for N M metric claim.bound r witness c.as_slice-witness.ensures c.requires.width by_moves = c.new-asked.ensures ∙ ap (λ (v : Option Version). record { exact = N; approx = M; metric = metric; bound = claim.bound; witness = witness; version = v }) c.asked_version-version.ensures in
+    let is : asked ≡ asked_for N M metric claim.bound r witness c.as_slice-witness.ensures c.requires.width by_moves
+    = c.new-asked.ensures ∙ ap (λ (v : Option Version). record { exact = N; approx = M; metric = metric; bound = claim.bound; witness = witness; version = v }) c.asked_version-version.ensures in
     let Q = λ (content : Bytes). AreShownIn asked (Some shown) content in
     let was =
     subst (λ n. TextRead old mid n Q) c.name-name.ensures

@@ -35,16 +35,19 @@ loop-mark-preserved c =
     let mark = c.in_ok-mark_after.field-0 in
     let at = c.loop-mark.mark-index in
     let told =
-    subst (λ (m : GrowingValue). (mark ≡ true) ↔ ((get_or marks at false ≡ true) ⊎ IsBrokenBySome m.metric m.exact m.bound m.net m.vectors step)) c.loop-mark.invariant.masks c.in_ok-mark_after.ensures.mark in
+    subst (λ (m : GrowingValue). (mark ≡ true) ↔ ((get_or marks at false ≡ true) ⊎ IsBrokenBySome m.metric m.exact m.bound m.net m.vectors step)) c.loop-mark.invariant.masks
+    c.in_ok-mark_after.ensures.mark in
     let here = subst (λ n. (mark ≡ true) ↔ ((get_or marks n false ≡ true) ⊎ IsBroken a c.args.block.now.vectors step)) (sym c.loop-mark.invariant.count) told in
     record {
       so_far =
           subst (AreMarkedSoFar (IsBroken a c.args.block.now.vectors) (asked_moves a) c.next.new.self marks) (sym c.in_ok-push.ensures.items)
-          (marked_next (IsBroken a c.args.block.now.vectors) (asked_moves a) c.loop-mark.left c.next.new.self marks c.loop-mark.after.items step mark c.in-Some-next.ensures c.loop-mark.invariant.so_far here);
+          (marked_next (IsBroken a c.args.block.now.vectors) (asked_moves a) c.loop-mark.left c.next.new.self marks c.loop-mark.after.items step mark c.in-Some-next.ensures
+          c.loop-mark.invariant.so_far here);
       count = omega (arith, ap length c.in_ok-push.ensures.items, length_push c.loop-mark.after.items mark, c.loop-mark.invariant.count);
       masks = c.in_ok-mark_after.ensures.same ∙ c.loop-mark.invariant.masks;
     }
 
 pub returns : goal.returns
 returns c before marks =
-    marked_whole c.args.asked.now c.loop-mark.left before c.args.block.now.vectors c.args.marks.now c.loop-mark.after.items (omega (arith, c.loop-mark.invariant.count)) c.loop-mark.invariant.so_far marks
+    marked_whole c.args.asked.now c.loop-mark.left before c.args.block.now.vectors c.args.marks.now c.loop-mark.after.items (omega (arith, c.loop-mark.invariant.count)) c.loop-mark.invariant.so_far
+    marks

@@ -18,7 +18,8 @@ loop-item-smaller g c = given_falls (HasTaken g.L.ItemSink.holds) c.in-Some.item
 
 pub loop-item-preserved : goal.loop-item-preserved
 loop-item-preserved g c =
-    HasGiven-next (HasTaken g.L.ItemSink.holds) c.in-Some.item c.loop-item.invariant c.in-Some.ensures.item c.in-Some.ensures.given (λ clauses log h. subst (λ b. AreJudged (HasTaken g.L.ItemSink.holds) b clauses (log ++ c.in-Some.item ∷ []) c.accepts.new.self) c.if-not-branch.false (c.in_ok-accepts.ensures clauses log h))
+    HasGiven-next (HasTaken g.L.ItemSink.holds) c.in-Some.item c.loop-item.invariant c.in-Some.ensures.item c.in-Some.ensures.given
+    (λ clauses log h. subst (λ b. AreJudged (HasTaken g.L.ItemSink.holds) b clauses (log ++ c.in-Some.item ∷ []) c.accepts.new.self) c.if-not-branch.false (c.in_ok-accepts.ensures clauses log h))
 
 pub returns-clause-all_given : goal.returns-clause-all_given
 returns-clause-all_given g c _ =

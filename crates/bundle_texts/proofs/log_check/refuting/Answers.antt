@@ -22,4 +22,5 @@ returns-in-Ok g c clauses h =
     let S = HasTaken g.L.ItemSink.holds in
     let judged = c.in_ok-accepts_all-in-Ok.ensures.judged clauses (judged_at_end S c.in-Ok.ensures.ok.2 h) in
     let taken = subst (λ b. AreJudged S b clauses (read_items c.finish.new.self) c.accepts_all.new.judge) c.if-not-branch.false judged in
-    kept_in g.L.ItemSink.holds clauses c.args.reader.now.text (read_items c.finish.new.self) c.accepts_all.new.judge c.finish-in-Ok.result c.in-Ok.ensures.ok.1 taken (c.finish-in-Ok.ensures clauses (read_items c.finish.new.self) taken)
+    kept_in g.L.ItemSink.holds clauses c.args.reader.now.text (read_items c.finish.new.self) c.accepts_all.new.judge c.finish-in-Ok.result c.in-Ok.ensures.ok.1 taken
+    (c.finish-in-Ok.ensures clauses (read_items c.finish.new.self) taken)

@@ -13,7 +13,8 @@ returns-in_err-write_vector g c =
 pub returns-in_err-write_pool : goal.returns-in_err-write_pool
 returns-in_err-write_pool g c =
     let p = err_from_is_err_and c.from_residual-in_err-write_pool.result c.from_residual-in_err-write_pool.ensures.1 in
-    rw p.1 (Writes-failed {S = ⊤} {E = ⊤} {e = tt} c.new-page.ensures (Gathers-last _ (vectors_text-is c.args.witness.now c.args.pool.now.vectors) c.in_ok-write_vector.ensures.ok c.in_err-write_pool.ensures))
+    rw p.1 (Writes-failed {S = ⊤} {E = ⊤} {e = tt} c.new-page.ensures
+    (Gathers-last _ (vectors_text-is c.args.witness.now c.args.pool.now.vectors) c.in_ok-write_vector.ensures.ok c.in_err-write_pool.ensures))
 
 pub returns : goal.returns
 returns g c =

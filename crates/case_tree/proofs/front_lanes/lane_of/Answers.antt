@@ -12,7 +12,12 @@ pub overflow_mul-number : goal.overflow_mul-number
 overflow_mul-number c = omega (arith, number_low c.args.bits.now c.loop-i.i c.loop-i.number c.requires c.loop-i.invariant)
 
 pub overflow_add-number : goal.overflow_add-number
-overflow_add-number c = omega (arith, number_low c.args.bits.now c.loop-i.i c.loop-i.number c.requires c.loop-i.invariant, c.from.ensures, bit_at_most (get_or c.args.bits.now (length c.args.bits.now - 1 - c.loop-i.i) false))
+overflow_add-number c = omega (
+  arith,
+  number_low c.args.bits.now c.loop-i.i c.loop-i.number c.requires c.loop-i.invariant,
+  c.from.ensures,
+  bit_at_most (get_or c.args.bits.now (length c.args.bits.now - 1 - c.loop-i.i) false),
+)
 
 pub loop-i-preserved : goal.loop-i-preserved
 loop-i-preserved c = ap (λ n. c.loop-i.number * 2 + n) c.from.ensures ∙ number_more c.args.bits.now c.loop-i.i c.loop-i.number c.loop-i-test.true c.loop-i.invariant

@@ -31,7 +31,8 @@ loop-left-preserved c =
     record {
       within = omega (arith, c.loop-left.invariant.within);
       pushed =
-          failing_last next c.loop-left.id (c.args.last - length c.args.rows.now) pins c.args.rows.now v c.loop-left.left row c.loop-left.hints.items c.push-in-loop-left.new.self.items c.args.hints.now.items
+          failing_last next c.loop-left.id (c.args.last - length c.args.rows.now) pins c.args.rows.now v c.loop-left.left row c.loop-left.hints.items c.push-in-loop-left.new.self.items
+          c.args.hints.now.items
           c.loop-left-test.true c.loop-left.invariant.within c.index-rows-left.is (omega (arith, count, c.requires.ids, c.loop-left.invariant.ids, last, low)) pushed c.loop-left.invariant.pushed;
       asked =
           failing_asks pins c.args.rows.now v c.loop-left.left row c.loop-left.needed c.ask_failing.new.needed c.args.needed.now

@@ -63,7 +63,8 @@ returns-then-has_match-clause-hints c =
     let here : place ≡ input_count c.args.net.now + c.args.i = omega (arith, c.inputs.ensures.value) in
     on_ok_weaker c.push_match.result
     (λ pushed. match_pushed c.args.net.now.tables c.args.firsts.now (input_count c.args.net.now) c.args.i place c.args.needed.now c.table-table.result.now c.plane.result c.as_slice-pins.result.now
-    c.as_slice-rows.result.now v c.args.hints.now.items c.push_match.new.hints.items c.requires.firsts c.requires.table here c.if-not-needed-place.false c.table-table.ensures.value c.plane.ensures.value
+    c.as_slice-rows.result.now v c.args.hints.now.items c.push_match.new.hints.items c.requires.firsts c.requires.table here c.if-not-needed-place.false c.table-table.ensures.value
+    c.plane.ensures.value
     (c.as_slice-pins.ensures ∙ c.pins.ensures.value) (c.as_slice-rows.ensures ∙ c.rows.ensures.value) (sym c.has_match.ensures ∙ c.if-has_match.true) pushed)
     c.push_match.ensures.hints
 
@@ -74,6 +75,7 @@ returns-clause-hints c =
     let here : place ≡ input_count c.args.net.now + c.args.i = omega (arith, c.inputs.ensures.value) in
     on_ok_weaker c.push_failing.result
     (λ pushed. failing_pushed c.args.net.now.tables c.args.firsts.now (input_count c.args.net.now) c.args.i place c.args.needed.now c.table-table.result.now c.plane.result c.as_slice-pins.result.now
-    c.as_slice-rows.result.now v c.args.hints.now.items c.push_failing.new.hints.items c.requires.firsts c.requires.table here c.if-not-needed-place.false c.table-table.ensures.value c.plane.ensures.value
+    c.as_slice-rows.result.now v c.args.hints.now.items c.push_failing.new.hints.items c.requires.firsts c.requires.table here c.if-not-needed-place.false c.table-table.ensures.value
+    c.plane.ensures.value
     (c.as_slice-pins.ensures ∙ c.pins.ensures.value) (c.as_slice-rows.ensures ∙ c.rows.ensures.value) (sym c.has_match.ensures ∙ c.if-has_match.false) pushed)
     c.push_failing.ensures.hints

@@ -32,7 +32,10 @@ push_cases-requires t c =
               half-fits (length c.args.x.now) _ c.args.depth c.args.last size within c.requires.ids,
               (
                 c.reach_values.auto.words ∙ c.requires.words,
-                (λ deep. values_kept N c.args.x.now _ r c.args.depth c.reach_values.new.words size (take-set c.args.x.now c.args.depth false) (omega (arith, deep)) c.reach_values.ensures.values, c.requires.room),
+                (
+                  λ deep. values_kept N c.args.x.now _ r c.args.depth c.reach_values.new.words size (take-set c.args.x.now c.args.depth false) (omega (arith, deep)) c.reach_values.ensures.values,
+                  c.requires.room,
+                ),
               ),
             ),
           ),
@@ -83,7 +86,8 @@ pub returns-clause-log : goal.returns-clause-log
 returns-clause-log t c =
     let N : NetValue = c.args.tree.now.net.now in
     let size = length-set c.args.x.now c.args.depth false in
-    walk-joined (input_count N) N.tables c.args.tree.now.order.now (get_or N.outputs 0 0) c.args.x.now c.push_cases.new.x c.push_cases-2.new.x c.args.depth c.args.last c.in_ok-half.half c.in_ok-other.other
+    walk-joined (input_count N) N.tables c.args.tree.now.order.now (get_or N.outputs 0 0) c.args.x.now c.push_cases.new.x c.push_cases-2.new.x c.args.depth c.args.last c.in_ok-half.half
+    c.in_ok-other.other
     c.args.log.now c.push_cases.new.log c.push_cases-2.new.log c.push-2.new.self c.in_ok-join_step.field-0 (omega (arith, c.requires.depth, c.if-depth-x.false)) (c.push_cases.auto.x ∙ size)
     c.in_ok-half.ensures.log c.in_ok-half.ensures.last c.in_ok-half.ensures.front c.in_ok-other.ensures.log c.in_ok-other.ensures.last c.in_ok-other.ensures.front
     c.in_ok-join_step.ensures c.in_ok-push-2.ensures.ok

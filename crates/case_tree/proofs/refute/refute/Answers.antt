@@ -36,6 +36,7 @@ returns-clause-refutes c =
 pub returns-clause-derivation : goal.returns-clause-derivation
 returns-clause-derivation c =
     IfOk-weaker c.all_cases.result _ _
-    (λ log walked. walk-derives c.args.joint.now c.order.result.now c.args.goal.now c.clause_count-last.result log c.inputs-inputs.ensures.built c.order.ensures c.requires.its_goal c.requires.few_inputs
+    (λ log walked. walk-derives c.args.joint.now c.order.result.now c.args.goal.now c.clause_count-last.result log c.inputs-inputs.ensures.built c.order.ensures c.requires.its_goal
+    c.requires.few_inputs
     c.requires.always_0 c.clause_count-last.ensures.value c.clause_count-last.ensures.few walked)
     c.all_cases.ensures

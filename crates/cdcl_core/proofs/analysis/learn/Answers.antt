@@ -9,7 +9,8 @@ use Rattle.cdcl_core.proofs.analysis.learn.Goals as goal
 
 pub reach_one-learned-requires-clause-some : goal.reach_one-learned-requires-clause-some
 reach_one-learned-requires-clause-some c =
-    c.mark_conflict.ensures.reaches c.start-start.result (last_settled c.args.clauses.now.list c.args.trail.now c.levels.result c.start-start.result c.requires.running.settled c.requires.levels c.levels.ensures c.start-start.ensures)
+    c.mark_conflict.ensures.reaches c.start-start.result
+    (last_settled c.args.clauses.now.list c.args.trail.now c.levels.result c.start-start.result c.requires.running.settled c.requires.levels c.levels.ensures c.start-start.ensures)
 
 pub returns-clause-analysed : goal.returns-clause-analysed
 returns-clause-analysed c =

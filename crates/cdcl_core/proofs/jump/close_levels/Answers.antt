@@ -5,7 +5,8 @@ use Rattle.cdcl_core.proofs.jump.close_levels.Goals as goal
 
 pub returns-clause-moved : goal.returns-clause-moved
 returns-clause-moved c = record {
-  searching = searching_closed c.args.search.now.clauses.list c.args.search.now.trail c.close.new.self c.args.search.now.order c.open_from.new.order 0 c.requires.searching c.open_from.ensures (omega arith) c.close.ensures;
+  searching = searching_closed c.args.search.now.clauses.list c.args.search.now.trail c.close.new.self c.args.search.now.order c.open_from.new.order 0 c.requires.searching c.open_from.ensures
+      (omega arith) c.close.ensures;
   variables = ap (λ t. t.variables) c.close.ensures;
   clauses = refl;
   log = refl;

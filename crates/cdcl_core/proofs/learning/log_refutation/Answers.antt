@@ -14,6 +14,7 @@ returns-clause-ended c =
     let same : c.make_room.new.clauses.list ≡ c.args.search.now.clauses.list = c.make_room.ensures.clauses in
     has_ended c.args.search.now.clauses.list c.args.search.now.log.items c.hold.new.self.items hints s
     (subst (λ (cs : List Clause). IsRefuted cs hints) same c.refute.ensures)
-    (step_of s (c.count.result + 1) (length c.args.search.now.clauses.list + 1) c.clear.new.self.items [] hints refl (ap (λ (n : ℕ). n + 1) (c.count.ensures.value ∙ ap length same)) c.clear.ensures.items)
+    (step_of s (c.count.result + 1) (length c.args.search.now.clauses.list + 1) c.clear.new.self.items [] hints refl (ap (λ (n : ℕ). n + 1) (c.count.ensures.value ∙ ap length same))
+    c.clear.ensures.items)
     (subst (λ (cs : List Clause). length cs < 2 ^ 59) same c.count.ensures.few)
     (ap (λ (l : LogValue). l.items) c.hold.ensures ∙ ap (λ (items : List LogItem). items ++ Add s ∷ []) c.pack.ensures.items)

@@ -18,7 +18,8 @@ along-preserved c =
     c.along.invariant v.0 c.in_ok-visit_watcher.ensures.extended c.in_ok-visit_watcher.ensures.handled
 
 pub returns-in-Conflict-clause-extended : goal.returns-in-Conflict-clause-extended
-returns-in-Conflict-clause-extended c = extended_trans c.args.clauses.now.list c.args.trail.now c.along.trail c.visit_watcher.new.trail c.along.invariant.extended c.in_ok-visit_watcher.ensures.extended
+returns-in-Conflict-clause-extended c = extended_trans c.args.clauses.now.list c.args.trail.now c.along.trail c.visit_watcher.new.trail c.along.invariant.extended
+    c.in_ok-visit_watcher.ensures.extended
 
 pub returns-clause-found : goal.returns-clause-found
 returns-clause-found c =

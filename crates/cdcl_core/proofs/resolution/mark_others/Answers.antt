@@ -6,10 +6,13 @@ use Rattle.cdcl_core.proofs.resolution.mark_others.Goals.{then-not-is, else-not-
 pub loop-literal-preserved : goal.loop-literal-preserved
 loop-literal-preserved c = elim c.if-not-is.branch [
   | then-not-is w ↦
-      rw (w.marks-is, w.set.ensures) (marking_set c.args.trail.now.literals c.args.marks.now c.loop-literal.marks c.args.clause.now c.args.own c.args.bound c.loop-literal.literal-index c.literal-item.result c.is.result w.place.result
-      c.consistent.ensures.consistent c.requires.marks c.loop-literal.invariant (omega arith) c.literal-item.is c.requires.others c.is.ensures w.if-not-is.true w.place.ensures.within w.place.ensures.is)
+      rw (w.marks-is, w.set.ensures) (marking_set c.args.trail.now.literals c.args.marks.now c.loop-literal.marks c.args.clause.now c.args.own c.args.bound c.loop-literal.literal-index
+      c.literal-item.result c.is.result w.place.result
+      c.consistent.ensures.consistent c.requires.marks c.loop-literal.invariant (omega arith) c.literal-item.is c.requires.others c.is.ensures w.if-not-is.true w.place.ensures.within
+      w.place.ensures.is)
   | else-not-is w ↦
-      rw w.marks-is (marking_own c.args.trail.now.literals c.args.marks.now c.loop-literal.marks c.args.clause.now c.args.own c.args.bound c.loop-literal.literal-index c.literal-item.result c.is.result
+      rw w.marks-is (marking_own c.args.trail.now.literals c.args.marks.now c.loop-literal.marks c.args.clause.now c.args.own c.args.bound c.loop-literal.literal-index c.literal-item.result
+      c.is.result
       c.loop-literal.invariant (omega arith) c.literal-item.is c.is.ensures w.if-not-is.false)
 ]
 

@@ -6,7 +6,8 @@ use Rattle.cdcl_core.proofs.resolution.resolve.Goals as goal
 
 pub returns-clause-explained : goal.returns-clause-explained
 returns-clause-explained c h =
-    resolved_explained c.args.clauses.now.list c.args.trail.now.literals c.args.marks.now c.mark_others.new.marks c.args.hints.now.items c.push_reserved.new.self.items c.args.entry c.args.reason c.id_of.result
+    resolved_explained c.args.clauses.now.list c.args.trail.now.literals c.args.marks.now c.mark_others.new.marks c.args.hints.now.items c.push_reserved.new.self.items c.args.entry c.args.reason
+    c.id_of.result
     c.get-clause.result.now c.get-clause.result.now c.literal.result c.consistent.ensures.consistent c.requires.entry c.requires.reason c.get-clause.ensures refl c.literal.ensures
     (subst (λ (marks : List Bool). (p : ℕ) → mark_at marks p ≡ true → mark_at c.mark_others.new.marks p ≡ true) c.unset.ensures c.mark_others.ensures.kept)
     c.mark_others.ensures.marked c.id_of.ensures c.push_reserved.ensures.items h
@@ -20,4 +21,5 @@ returns-clause-kept c =
 
 pub returns-clause-below : goal.returns-clause-below
 returns-clause-below c =
-    replaced_below c.args.trail.now.literals c.args.marks.now c.unset.new.self c.mark_others.new.marks c.get-clause.result.now c.literal.result c.args.entry c.unset.ensures (omega arith) c.mark_others.ensures
+    replaced_below c.args.trail.now.literals c.args.marks.now c.unset.new.self c.mark_others.new.marks c.get-clause.result.now c.literal.result c.args.entry c.unset.ensures (omega arith)
+    c.mark_others.ensures

@@ -23,6 +23,8 @@ next_conflict-requires-clause-watching c =
 
 pub returns-clause-moved : goal.returns-clause-moved
 returns-clause-moved c =
-    moved_again c.args.search.now c.swept_conflict.new.search (record c.swept_conflict.new.search { trail = c.next_conflict.new.trail; watches = c.next_conflict.new.watches; order = c.next_conflict.new.order })
+    moved_again c.args.search.now c.swept_conflict.new.search
+    (record c.swept_conflict.new.search { trail = c.next_conflict.new.trail; watches = c.next_conflict.new.watches; order = c.next_conflict.new.order })
     c.in_ok-swept.ensures.moved
-    (moved_found c.swept_conflict.new.search c.next_conflict.new.trail c.next_conflict.new.watches c.next_conflict.new.order c.in_ok-swept.ensures.moved.searching c.in_ok-found.ensures.searching c.next_conflict.ensures.order)
+    (moved_found c.swept_conflict.new.search c.next_conflict.new.trail c.next_conflict.new.watches c.next_conflict.new.order c.in_ok-swept.ensures.moved.searching c.in_ok-found.ensures.searching
+    c.next_conflict.ensures.order)

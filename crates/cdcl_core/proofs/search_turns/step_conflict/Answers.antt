@@ -29,5 +29,6 @@ loop-conflict-preserved c =
       searching = searching_decided c.args.clauses.now.list c.propagate.new.trail c.push_decision.new.self c.args.order.now c.in-Some-decide.literal
           (searching_extended c.args.clauses.now.list c.loop-conflict.trail c.propagate.new.trail c.args.order.now c.loop-conflict.invariant.searching c.in_ok-conflict.ensures.extended)
           complete.settled c.in_ok-push_decision-in-Some-decide.ensures.ok;
-      watching = watching_decided c.args.clauses.now.list c.propagate.new.trail c.push_decision.new.self c.propagate.new.watches c.in-Some-decide.literal complete c.in_ok-push_decision-in-Some-decide.ensures.ok;
+      watching = watching_decided c.args.clauses.now.list c.propagate.new.trail c.push_decision.new.self c.propagate.new.watches c.in-Some-decide.literal complete
+          c.in_ok-push_decision-in-Some-decide.ensures.ok;
     }

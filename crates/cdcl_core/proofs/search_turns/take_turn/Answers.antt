@@ -15,7 +15,8 @@ returns-clause-shown c f merged k h =
 pub returns-in_default-clause-shown : goal.returns-in_default-clause-shown
 returns-in_default-clause-shown c f merged k h = (
   search_moved f merged k c.args.search.now c.find_conflict.new.search h c.in_ok-found.ensures.moved,
-  subst (λ found. MatchOption found (IsModelTrail c.find_conflict.new.search.clauses.list c.find_conflict.new.search.trail) (IsConflict c.find_conflict.new.search.clauses.list c.find_conflict.new.search.trail)) c.in_default.is c.in_ok-found.ensures.found,
+  subst (λ found. MatchOption found (IsModelTrail c.find_conflict.new.search.clauses.list c.find_conflict.new.search.trail)
+      (IsConflict c.find_conflict.new.search.clauses.list c.find_conflict.new.search.trail)) c.in_default.is c.in_ok-found.ensures.found,
 )
 
 pub returns-then-levels-eq0-clause-shown : goal.returns-then-levels-eq0-clause-shown

@@ -9,7 +9,8 @@ pub returns-in-Some-clause-shown : goal.returns-in-Some-clause-shown
 returns-in-Some-clause-shown g c f merged h =
     search_ended f merged c.args.limit 0 (record c.args.search.now { trail = c.watch_all.new.trail; watches = c.watch_all.new.watches }) c.log_refutation.new.search.log.items
     (search_found f merged 0 c.args.search.now c.watch_all.new.trail c.watch_all.new.watches c.args.search.now.order h
-    (searching_extended c.args.search.now.clauses.list c.args.search.now.trail c.watch_all.new.trail c.args.search.now.order c.requires.searching c.in_ok-at_once.ensures.extended) refl) c.requires.limit c.in_ok-log_refutation.ensures.ended
+    (searching_extended c.args.search.now.clauses.list c.args.search.now.trail c.watch_all.new.trail c.args.search.now.order c.requires.searching c.in_ok-at_once.ensures.extended) refl)
+    c.requires.limit c.in_ok-log_refutation.ensures.ended
 
 pub watch_all-requires-clause-literals : goal.watch_all-requires-clause-literals
 watch_all-requires-clause-literals g c = c.requires.searching.literals
@@ -20,7 +21,8 @@ log_refutation-requires-clause-searching g c =
 
 pub log_refutation-requires-clause-conflict : goal.log_refutation-requires-clause-conflict
 log_refutation-requires-clause-conflict g c =
-    subst (λ found. MatchOption found (IsWatching c.args.search.now.clauses.list c.watch_all.new.trail c.watch_all.new.watches) (IsConflict c.args.search.now.clauses.list c.watch_all.new.trail)) c.in-Some.is c.in_ok-at_once.ensures.found
+    subst (λ found. MatchOption found (IsWatching c.args.search.now.clauses.list c.watch_all.new.trail c.watch_all.new.watches) (IsConflict c.args.search.now.clauses.list c.watch_all.new.trail))
+    c.in-Some.is c.in_ok-at_once.ensures.found
 
 pub log_refutation-requires-clause-no_level : goal.log_refutation-requires-clause-no_level
 log_refutation-requires-clause-no_level g c = c.in_ok-at_once.ensures.extended.starts ∙ c.requires.starts
@@ -31,4 +33,5 @@ take_turns-requires-clause-searching g c =
 
 pub take_turns-requires-clause-watching : goal.take_turns-requires-clause-watching
 take_turns-requires-clause-watching g c =
-    subst (λ found. MatchOption found (IsWatching c.args.search.now.clauses.list c.watch_all.new.trail c.watch_all.new.watches) (IsConflict c.args.search.now.clauses.list c.watch_all.new.trail)) c.in_default.is c.in_ok-at_once.ensures.found
+    subst (λ found. MatchOption found (IsWatching c.args.search.now.clauses.list c.watch_all.new.trail c.watch_all.new.watches) (IsConflict c.args.search.now.clauses.list c.watch_all.new.trail))
+    c.in_default.is c.in_ok-at_once.ensures.found

@@ -1,4 +1,5 @@
-use Rattle.chain_semantics.proofs.MovedValues.{moved-itself, moved-others, moved_table-name, constant-value, copied-value, row_dropped-other, other-row_dropped, literal_dropped-row, row-literal_dropped, rows-left, literals-left, becomes-copy, becomes-pair, pair-value}
+use Rattle.chain_semantics.proofs.MovedValues.{moved-itself, moved-others, moved_table-name, constant-value, copied-value, row_dropped-other, other-row_dropped, literal_dropped-row}
+use Rattle.chain_semantics.proofs.MovedValues.{row-literal_dropped, rows-left, literals-left, becomes-copy, becomes-pair, pair-value}
 use Rattle.std.proofs.Common.{refl}
 use Rattle.chain_semantics.proofs.move_laws.moved_values.Goals as goal
 

@@ -13,14 +13,16 @@ pub returns-in-Ok-Good : goal.returns-in-Ok-Good
 returns-in-Ok-Good g c = λ said.
     trim-stands_at c.args.metric c.args.bound c.args.input.now c.args.stem.now c.args.output.now c.in-Ok-new.names _ _ _ said c.in-Ok.net c.in-Ok-new.ensures c.in-Ok.ensures.ok
     c.in-Ok-Good.ensures.kept c.requires c.in-Ok-Good.goal c.in-Ok-Good.log
-    (subst (IsLoaded c.in-Ok.net c.args.metric c.args.bound c.in-Ok-new.names (g.F.Files.told c.read_net.new.files) (g.F.Files.told c.load_bundle.new.files)) c.in-Ok-Good.field-0-is c.in-Ok-Good.ensures.loaded)
+    (subst (IsLoaded c.in-Ok.net c.args.metric c.args.bound c.in-Ok-new.names (g.F.Files.told c.read_net.new.files) (g.F.Files.told c.load_bundle.new.files)) c.in-Ok-Good.field-0-is
+    c.in-Ok-Good.ensures.loaded)
     _ c.write_trimmed.result c.write_trimmed.ensures
 
 pub returns-in-Ok-Refuted : goal.returns-in-Ok-Refuted
 returns-in-Ok-Refuted g c = λ said.
     trim-refuted_at c.args.metric c.args.bound c.args.input.now c.args.stem.now c.args.output.now c.in-Ok-new.names _ _ _ said c.in-Ok.net c.in-Ok-new.ensures c.in-Ok.ensures.ok
     c.in-Ok-Refuted.ensures.kept c.in-Ok-Refuted.number
-    (subst (IsLoaded c.in-Ok.net c.args.metric c.args.bound c.in-Ok-new.names (g.F.Files.told c.read_net.new.files) (g.F.Files.told c.load_bundle.new.files)) c.in-Ok-Refuted.field-0-is c.in-Ok-Refuted.ensures.loaded)
+    (subst (IsLoaded c.in-Ok.net c.args.metric c.args.bound c.in-Ok-new.names (g.F.Files.told c.read_net.new.files) (g.F.Files.told c.load_bundle.new.files)) c.in-Ok-Refuted.field-0-is
+    c.in-Ok-Refuted.ensures.loaded)
 
 pub returns : goal.returns
 returns g c = λ said.

@@ -10,9 +10,11 @@ push_unit_clause-requires c =
 pub new-requires : goal.new-requires
 new-requires c =
     IsCnf-goal c.args.net.now _ c.in_ok-variables.ensures.built c.requires.one_output c.requires.variables
-    (goal_of-parts c.args.net.now _ c.output.result _ _ _ c.in_ok-variables.ensures.count c.new-clauses.ensures c.in_ok-variables.ensures.pushed c.output.ensures.value c.in_ok-push_unit_clause.ensures)
+    (goal_of-parts c.args.net.now _ c.output.result _ _ _ c.in_ok-variables.ensures.count c.new-clauses.ensures c.in_ok-variables.ensures.pushed c.output.ensures.value
+    c.in_ok-push_unit_clause.ensures)
 
 pub returns : goal.returns
 returns c =
     c.new.ensures
-    ∙ goal_of-parts c.args.net.now _ c.output.result _ _ _ c.in_ok-variables.ensures.count c.new-clauses.ensures c.in_ok-variables.ensures.pushed c.output.ensures.value c.in_ok-push_unit_clause.ensures
+    ∙ goal_of-parts c.args.net.now _ c.output.result _ _ _ c.in_ok-variables.ensures.count c.new-clauses.ensures c.in_ok-variables.ensures.pushed c.output.ensures.value
+    c.in_ok-push_unit_clause.ensures

@@ -26,7 +26,8 @@ pub returns-then-starts_with : goal.returns-then-starts_with
 returns-then-starts_with c =
     let e = stem_and_rest c.args.stem.now c.args.ending.now c.args.name.now in
     let yes : starts_with eqb c.args.name.now c.args.stem.now ≡ true = sym c.starts_with.ensures.value ∙ c.if-starts_with.true in
-    c.eq.ensures ∙ ap (λ r. bytes_eq r c.args.ending.now) (take_rest c.args.name.now (length c.args.stem.now)) ∙ (λ i. sym yes i && bytes_eq (drop (length c.args.stem.now) c.args.name.now) c.args.ending.now) ∙ e
+    c.eq.ensures ∙ ap (λ r. bytes_eq r c.args.ending.now) (take_rest c.args.name.now (length c.args.stem.now)) ∙
+    (λ i. sym yes i && bytes_eq (drop (length c.args.stem.now) c.args.name.now) c.args.ending.now) ∙ e
 
 pub returns-else-starts_with : goal.returns-else-starts_with
 returns-else-starts_with c =

@@ -31,7 +31,8 @@ returns-clause-err c =
     let lines = c.args.lines.now in
     let right : first_wrong lines ≡ None = sym (first_wrong-in lines) ∙ ap (λ l. first_wrong_in false None l) (sym (c.deref.ensures.value ∙ c.in_ok-statements.ensures)) ∙ c.in_ok-judge.ensures.ok in
     let same = c.deref-3.ensures.value ∙ c.in_ok-models.ensures ∙ ap hierarchy_of (c.deref-2.ensures.value ∙ c.in_ok-statements.ensures) in
-    if_err_weaker _ (λ told is. tells-rest told (first_wrong lines) (λ w. line (wrong_line w.line w.wrong)) (hier_refusal (hierarchy_of lines)) right (subst (λ h. TellsOne told (hier_refusal h)) same is)) c.refuse.ensures.err
+    if_err_weaker _ (λ told is. tells-rest told (first_wrong lines) (λ w. line (wrong_line w.line w.wrong)) (hier_refusal (hierarchy_of lines)) right
+    (subst (λ h. TellsOne told (hier_refusal h)) same is)) c.refuse.ensures.err
 
 pub refuse-requires : goal.refuse-requires
 refuse-requires c =

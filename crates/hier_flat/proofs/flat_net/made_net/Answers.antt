@@ -27,7 +27,8 @@ acyclic_net-requires-clause-few c =
     let h : Hierarchy = c.args.models.now in
     let s : Hierarchy = c.args.sizes.now in
     let same =
-    net_at h s c.args.main.now (main_signal s) (length h) c.in_ok-model.model c.in_ok-inputs.inputs c.in_ok-tables.tables c.in_ok-tables.outputs c.requires.reading c.requires.sizes c.requires.main refl refl
+    net_at h s c.args.main.now (main_signal s) (length h) c.in_ok-model.model c.in_ok-inputs.inputs c.in_ok-tables.tables c.in_ok-tables.outputs c.requires.reading c.requires.sizes c.requires.main
+    refl refl
     (c.in_ok-model.ensures ∙ ap (λ (k : BlifModel). k.name) c.main.view_is)
     (c.in_ok-inputs.ensures ∙ ap texts c.deref.ensures.value ∙ ap (λ (k : BlifModel). k.inputs) c.main.view_is)
     c.in_ok-tables.ensures.tables
@@ -39,7 +40,8 @@ acyclic_net-requires-clause-limit c =
     let h : Hierarchy = c.args.models.now in
     let s : Hierarchy = c.args.sizes.now in
     let same =
-    net_at h s c.args.main.now (main_signal s) (length h) c.in_ok-model.model c.in_ok-inputs.inputs c.in_ok-tables.tables c.in_ok-tables.outputs c.requires.reading c.requires.sizes c.requires.main refl refl
+    net_at h s c.args.main.now (main_signal s) (length h) c.in_ok-model.model c.in_ok-inputs.inputs c.in_ok-tables.tables c.in_ok-tables.outputs c.requires.reading c.requires.sizes c.requires.main
+    refl refl
     (c.in_ok-model.ensures ∙ ap (λ (k : BlifModel). k.name) c.main.view_is)
     (c.in_ok-inputs.ensures ∙ ap texts c.deref.ensures.value ∙ ap (λ (k : BlifModel). k.inputs) c.main.view_is)
     c.in_ok-tables.ensures.tables
@@ -51,21 +53,25 @@ returns-clause-ok c =
     let h : Hierarchy = c.args.models.now in
     let s : Hierarchy = c.args.sizes.now in
     let same =
-    net_at h s c.args.main.now (main_signal s) (length h) c.in_ok-model.model c.in_ok-inputs.inputs c.in_ok-tables.tables c.in_ok-tables.outputs c.requires.reading c.requires.sizes c.requires.main refl refl
+    net_at h s c.args.main.now (main_signal s) (length h) c.in_ok-model.model c.in_ok-inputs.inputs c.in_ok-tables.tables c.in_ok-tables.outputs c.requires.reading c.requires.sizes c.requires.main
+    refl refl
     (c.in_ok-model.ensures ∙ ap (λ (k : BlifModel). k.name) c.main.view_is)
     (c.in_ok-inputs.ensures ∙ ap texts c.deref.ensures.value ∙ ap (λ (k : BlifModel). k.inputs) c.main.view_is)
     c.in_ok-tables.ensures.tables
     c.in_ok-tables.ensures.outputs in
-    ok_at h (record { model = c.in_ok-model.model; inputs = c.in_ok-inputs.inputs; tables = c.in_ok-tables.tables; outputs = c.in_ok-tables.outputs }) c.acyclic_net.result same c.acyclic_net.ensures.ok
+    ok_at h (record { model = c.in_ok-model.model; inputs = c.in_ok-inputs.inputs; tables = c.in_ok-tables.tables; outputs = c.in_ok-tables.outputs }) c.acyclic_net.result same
+    c.acyclic_net.ensures.ok
 
 pub returns-clause-err : goal.returns-clause-err
 returns-clause-err c =
     let h : Hierarchy = c.args.models.now in
     let s : Hierarchy = c.args.sizes.now in
     let same =
-    net_at h s c.args.main.now (main_signal s) (length h) c.in_ok-model.model c.in_ok-inputs.inputs c.in_ok-tables.tables c.in_ok-tables.outputs c.requires.reading c.requires.sizes c.requires.main refl refl
+    net_at h s c.args.main.now (main_signal s) (length h) c.in_ok-model.model c.in_ok-inputs.inputs c.in_ok-tables.tables c.in_ok-tables.outputs c.requires.reading c.requires.sizes c.requires.main
+    refl refl
     (c.in_ok-model.ensures ∙ ap (λ (k : BlifModel). k.name) c.main.view_is)
     (c.in_ok-inputs.ensures ∙ ap texts c.deref.ensures.value ∙ ap (λ (k : BlifModel). k.inputs) c.main.view_is)
     c.in_ok-tables.ensures.tables
     c.in_ok-tables.ensures.outputs in
-    err_at h (record { model = c.in_ok-model.model; inputs = c.in_ok-inputs.inputs; tables = c.in_ok-tables.tables; outputs = c.in_ok-tables.outputs }) c.acyclic_net.result same c.acyclic_net.ensures.err
+    err_at h (record { model = c.in_ok-model.model; inputs = c.in_ok-inputs.inputs; tables = c.in_ok-tables.tables; outputs = c.in_ok-tables.outputs }) c.acyclic_net.result same
+    c.acyclic_net.ensures.err

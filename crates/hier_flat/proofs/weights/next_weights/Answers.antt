@@ -8,10 +8,12 @@ use Rattle.hier_flat.proofs.weights.next_weights.Goals as goal
 
 pub loop-m-preserved : goal.loop-m-preserved
 loop-m-preserved c = λ weight are.
-    mapped_next (λ (m : BlifModel). capped (sum_by (part_weight c.args.found.now (weight_of c.args.measure) weight) m.parts)) c.args.models.now c.loop-m.m-index c.m-item.result c.loop-m.weights.items _ c.model_weight.result
+    mapped_next (λ (m : BlifModel). capped (sum_by (part_weight c.args.found.now (weight_of c.args.measure) weight) m.parts)) c.args.models.now c.loop-m.m-index c.m-item.result c.loop-m.weights.items
+    _ c.model_weight.result
     c.loop-m-test.true (sym c.m-item.is) (c.loop-m.invariant weight are) (c.model_weight.ensures weight are) c.in_ok-push.ensures.items
 
 pub returns : goal.returns
 returns c = λ weight are.
     c.loop-m.invariant weight are
-    ∙ ap (map (λ (m : BlifModel). capped (sum_by (part_weight c.args.found.now (weight_of c.args.measure) weight) m.parts))) (take_all c.loop-m.m-index c.args.models.now (omega (arith, c.loop-m-test.false)))
+    ∙ ap (map (λ (m : BlifModel). capped (sum_by (part_weight c.args.found.now (weight_of c.args.measure) weight) m.parts)))
+    (take_all c.loop-m.m-index c.args.models.now (omega (arith, c.loop-m-test.false)))

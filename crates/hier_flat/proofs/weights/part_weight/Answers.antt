@@ -11,6 +11,7 @@ returns-in-Use c = λ weight are.
     let h = c.args.models.now in
     let u = c.in-Use.c in
     let name = ap (λ (s : Subcircuit). s.model) c.c.view_is in
-    use_weighs h (weight_of c.args.measure) weight u (part_value c.args.part.now) c.weight_at.result c.buffers_weight-buffers.result c.output_count.result c.saturating_add.result (ap part_value c.in-Use.is)
+    use_weighs h (weight_of c.args.measure) weight u (part_value c.args.part.now) c.weight_at.result c.buffers_weight-buffers.result c.output_count.result c.saturating_add.result
+    (ap part_value c.in-Use.is)
     (c.weight_at.ensures ∙ ap (λ n. weight_named h c.args.inside.now n) name ∙ are u.model) c.buffers_weight-buffers.ensures
     (c.output_count.ensures ∙ ap (λ (m : BlifModel). length (filter (λ b. has_name m.outputs b.formal) u.bindings)) (c.of.ensures ∙ ap (λ n. model_named h n) name)) c.saturating_add.ensures

@@ -8,11 +8,13 @@ loop-level-init c = c.in_ok-weights.ensures.items_if_clones_equal (λ y h. h) �
 
 pub loop-level-preserved : goal.loop-level-preserved
 loop-level-preserved c =
-    level_more c.args.models.now c.args.found.now (weight_of c.args.measure) c.loop-level._level c.loop-level.weights.items c.deref.result.now c.in_ok-next.next.items c.requires c.deref.ensures.value c.loop-level.invariant c.in_ok-next.ensures
+    level_more c.args.models.now c.args.found.now (weight_of c.args.measure) c.loop-level._level c.loop-level.weights.items c.deref.result.now c.in_ok-next.next.items c.requires c.deref.ensures.value
+    c.loop-level.invariant c.in_ok-next.ensures
 
 pub returns-then-are_same : goal.returns-then-are_same
 returns-then-are_same c =
-    level_last c.args.models.now c.args.found.now (weight_of c.args.measure) c.loop-level._level c.loop-level.weights.items c.deref.result.now c.in_ok-next.next.items c.requires c.deref.ensures.value c.loop-level.invariant c.in_ok-next.ensures
+    level_last c.args.models.now c.args.found.now (weight_of c.args.measure) c.loop-level._level c.loop-level.weights.items c.deref.result.now c.in_ok-next.next.items c.requires c.deref.ensures.value
+    c.loop-level.invariant c.in_ok-next.ensures
     (sym c.deref-in-loop-level.ensures.value ∙ c.are_same.ensures c.if-are_same.true ∙ c.deref-in-loop-level-2.ensures.value) (omega (arith, c.loop-level-test.true))
 
 pub returns : goal.returns

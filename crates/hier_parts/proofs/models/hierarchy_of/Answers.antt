@@ -19,5 +19,6 @@ loop-start-preserved c =
       some = c.loop-start.invariant.some;
       within = end.within;
       begins = subst (Begins lines) (sym end.is) (begins-next lines c.loop-start.start);
-      same = hierarchy-next lines c.loop-start.start c.section_end-end.result c.loop-start.models.items _ _ _ c.loop-start-test.true c.loop-start.invariant.begins end.is c.in_ok-push-2.ensures.items c.in_ok-model_from-2.ensures c.loop-start.invariant.same;
+      same = hierarchy-next lines c.loop-start.start c.section_end-end.result c.loop-start.models.items _ _ _ c.loop-start-test.true c.loop-start.invariant.begins end.is c.in_ok-push-2.ensures.items
+          c.in_ok-model_from-2.ensures c.loop-start.invariant.same;
     }

@@ -16,6 +16,14 @@ returns c = record {
   within = (the_report 2 0 false, report_read, lit≤ tt);
   witness = (the_report 2 0 false, report_read, ((false ∷ false ∷ []) ∷ (true ∷ false ∷ []) ∷ [], record { spelled = refl; widths = (refl, (refl, (refl, tt))) }));
   attained = (both_constant, netlist_read, (the_report 2 0 false, report_read, refl));
-  counts = (both_constant, netlist_read, (the_report 2 0 false, report_read, record { old_tables = refl; new_tables = refl; old_literals = refl; new_literals = refl; tables = lit≤ tt; literals = lit≤ tt }));
+  counts = (
+    both_constant,
+    netlist_read,
+    (
+      the_report 2 0 false,
+      report_read,
+      record { old_tables = refl; new_tables = refl; old_literals = refl; new_literals = refl; tables = lit≤ tt; literals = lit≤ tt },
+    ),
+  );
   minimal = (both_constant, netlist_read, (the_report 2 0 false, report_read, λ yes. absurd (cc yes)));
 }

@@ -36,7 +36,8 @@ returns-in-Blif g c = λ said.
 pub returns-in-Trim : goal.returns-in-Trim
 returns-in-Trim g c = λ said.
     subst
-    (λ (f : Command). JobAnswer (job_meaning f) (g.F.Files.told c.args.files.now) (g.F.Files.told c.trim_bundle.new.files) said said (record { status = c.trim_bundle.result; spent = None; level = None }))
+    (λ (f : Command). JobAnswer (job_meaning f) (g.F.Files.told c.args.files.now) (g.F.Files.told c.trim_bundle.new.files) said said
+    (record { status = c.trim_bundle.result; spent = None; level = None }))
     (sym c.in-Trim.is)
     (c.trim_bundle.ensures said, (refl, refl))
 

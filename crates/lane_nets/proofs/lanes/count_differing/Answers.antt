@@ -11,4 +11,5 @@ loop-j-preserved c = λ b n low reached.
     (c.loop-j.invariant b n low reached)
 
 pub returns : goal.returns
-returns c = λ b n low reached. counting_all c.args.reached.now c.loop-j.reached c.args.differs c.loop-j.j c.loop-j.below b n (omega (arith, c.loop-j-test.false, c.loop-j.auto.reached)) (c.loop-j.invariant b n low reached)
+returns c = λ b n low reached. counting_all c.args.reached.now c.loop-j.reached c.args.differs c.loop-j.j c.loop-j.below b n (omega (arith, c.loop-j-test.false, c.loop-j.auto.reached))
+    (c.loop-j.invariant b n low reached)

@@ -29,6 +29,7 @@ loop-place-preserved c =
       within = omega arith;
       so_far =
           next_kept c.args.goal.now.clauses c.args.items.now c.requires.refutes c.args.root (c.loop-place.place - 1) c.loop-place.place c.index-items-place.result (is_in c.loop-place.named)
-          (is_in c.visit.new.named) c.loop-place.kept.items c.visit.new.kept.items c.requires.root (omega (arith, within, test)) (omega (arith, test)) c.index-items-place.is c.loop-place.invariant.so_far
+          (is_in c.visit.new.named) c.loop-place.kept.items c.visit.new.kept.items c.requires.root (omega (arith, within, test)) (omega (arith, test)) c.index-items-place.is
+          c.loop-place.invariant.so_far
           (subst (λ n. Visited n c.index-items-place.result (is_in c.loop-place.named) c.loop-place.kept.items (is_in c.visit.new.named) c.visit.new.kept.items) clauses c.in_ok-visit.ensures);
     }

@@ -12,6 +12,7 @@ loop-name-preserved c =
 
 pub returns : goal.returns
 returns c = (
-  (λ yes. subst (All (λ name. get c.args.files.now.held name.now ≡ get c.args.whole.now.held name.now)) (take_all c.loop-name.name-index c.args.names.now c.loop-name-test.false) c.loop-name.invariant),
+  (λ yes. subst (All (λ name. get c.args.files.now.held name.now ≡ get c.args.whole.now.held name.now)) (take_all c.loop-name.name-index c.args.names.now c.loop-name-test.false)
+      c.loop-name.invariant),
   λ whole. search rules,
 )

@@ -16,6 +16,7 @@ returns c =
     c.loop-word.invariant
     ∙ (YieldsList-end
     (YieldsList-at c.into_iter-word-iterator.ensures.into_iter_gives
-    (YieldsList-from_slice_split _ (λ byte. byte == 32) c.args.line.now c.split-word-items.ensures.rest c.split-word-items.ensures.done c.split-word-items.ensures.closure (λ x b q k. search (rules, tests))))
+    (YieldsList-from_slice_split _ (λ byte. byte == 32) c.args.line.now c.split-word-items.ensures.rest c.split-word-items.ensures.done c.split-word-items.ensures.closure
+    (λ x b q k. search (rules, tests))))
     c.loop-word.yielded _ c.loop-word.yielded_by _ _ c.in-None.is c.next.ensures.steps).0
     ∙ words_of-some c.args.line.now (sym c.is_empty.ensures ∙ c.if-is_empty.false)

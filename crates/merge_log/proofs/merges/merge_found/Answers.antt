@@ -16,7 +16,8 @@ merge_tables-requires-clause-rows c =
     let l = c.requires.found.1 in
     let f : IsFound N lv l c.args.t g c.args.kind = subst (λ x. IsFound N lv l c.args.t x c.args.kind) (sym c.merging.view_is) c.requires.found.2 in
     let first : get_or c.merging.inside.tables.items c.args.kind 0 ≡ c.index-first.result.now = get_or_default c.merging.inside.tables.items c.args.kind 0 _ f.within ∙ sym c.index-first.ensures in
-    ap (λ (x : TableValue). x.rows) c.table.ensures.value ∙ ready_rows N built lv l c.args.t g c.args.kind f ∙ ap (λ j. (table_at N.tables j).rows) first ∙ sym (ap (λ (x : TableValue). x.rows) c.table-2.ensures.value)
+    ap (λ (x : TableValue). x.rows) c.table.ensures.value ∙ ready_rows N built lv l c.args.t g c.args.kind f ∙ ap (λ j. (table_at N.tables j).rows) first ∙ sym
+    (ap (λ (x : TableValue). x.rows) c.table-2.ensures.value)
 
 pub merge_tables-requires-clause-same : goal.merge_tables-requires-clause-same
 merge_tables-requires-clause-same c =
@@ -28,7 +29,8 @@ merge_tables-requires-clause-same c =
     let f : IsFound N lv l c.args.t g c.args.kind = subst (λ x. IsFound N lv l c.args.t x c.args.kind) (sym c.merging.view_is) c.requires.found.2 in
     let first : get_or c.merging.inside.tables.items c.args.kind 0 ≡ c.index-first.result.now = get_or_default c.merging.inside.tables.items c.args.kind 0 _ f.within ∙ sym c.index-first.ensures in
     rw (c.table.ensures.value, c.table-2.ensures.value)
-    (subst (λ j. AllZip (λ p q. first_of c.merging.inside.merged p ≡ first_of c.merging.inside.merged q) (table_at N.tables c.args.t).pins (table_at N.tables j).pins) first (ready_pins N built lv l c.args.t g c.args.kind f))
+    (subst (λ j. AllZip (λ p q. first_of c.merging.inside.merged p ≡ first_of c.merging.inside.merged q) (table_at N.tables c.args.t).pins (table_at N.tables j).pins) first
+    (ready_pins N built lv l c.args.t g c.args.kind f))
 
 pub merge_tables-requires-clause-clauses : goal.merge_tables-requires-clause-clauses
 merge_tables-requires-clause-clauses c =
@@ -121,5 +123,6 @@ returns c = λ levels level found.
     let low : c.index-first.result.now < table_count N = subst (λ j. j < table_count N) first (other_within N built levels level c.args.t g c.args.kind f) in
     ready_merged N built levels level c.args.t g c.args.kind f _ c.in_ok-id.id refl refl
     (rw (c.inputs-inputs.ensures.value, sym first) at c.merge.ensures.merged) c.merge.ensures.room
-    (rw (c.requires.goal, c.requires.places.are c.args.t f.table, c.requires.places.are c.index-first.result.now low, c.inputs-inputs.ensures.value, c.table.ensures.value, sym first) at c.in_ok-id.ensures.adds)
+    (rw (c.requires.goal, c.requires.places.are c.args.t f.table, c.requires.places.are c.index-first.result.now low, c.inputs-inputs.ensures.value, c.table.ensures.value, sym first) at
+    c.in_ok-id.ensures.adds)
     (rw (c.requires.goal, c.table.ensures.value) at c.in_ok-id.ensures.id)

@@ -16,7 +16,8 @@ loop-i-preserved c =
     let m_count = length-map c.args.m.now.outputs (name_of (signal_names c.args.m.now)) in
     let here = c.bytes.ensures.value ∙ c.signal_name.ensures.value ∙ output_name c.args.n.now c.loop-i.i c.output-here.result (omega arith) c.output-here.ensures.value in
     let there = c.bytes-in-loop-i.ensures.value ∙ c.signal_name-in-loop-i.ensures.value ∙ output_name c.args.m.now c.loop-i.i c.output-there.result (omega arith) c.output-there.ensures.value in
-    same_more (output_names c.args.n.now) (output_names c.args.m.now) c.loop-i.i _ _ c.ne.result (omega (arith, n_count)) (omega (arith, n_count, m_count)) here there c.ne.ensures c.if-ne.false c.loop-i.invariant
+    same_more (output_names c.args.n.now) (output_names c.args.m.now) c.loop-i.i _ _ c.ne.result (omega (arith, n_count)) (omega (arith, n_count, m_count)) here there c.ne.ensures c.if-ne.false
+    c.loop-i.invariant
 
 pub returns : goal.returns
 returns c =

@@ -14,7 +14,8 @@ returns-else-is_empty c =
     let past : c.args.inputs ≤ c.args.s = leb-true c.args.inputs c.args.s
     (and_parts (nat_le c.args.inputs c.args.s) (is_empty (table_at c.args.tables.now (c.args.s - c.args.inputs)).pins) c.requires.constant).0 in
     let within : c.args.s - c.args.inputs < length c.args.tables.now = omega (arith, c.requires.table, past) in
-    let table : c.index-tables-s.result ≡ table_at c.args.tables.now (c.args.s - c.args.inputs) = get_or_read c.args.tables.now (c.args.s - c.args.inputs) c.index-tables-s.result within c.index-tables-s.is no_table in
+    let table : c.index-tables-s.result ≡ table_at c.args.tables.now (c.args.s - c.args.inputs)
+    = get_or_read c.args.tables.now (c.args.s - c.args.inputs) c.index-tables-s.result within c.index-tables-s.is no_table in
     let some : is_empty c.index-tables-s.result.rows ≡ false =
     is_empty_length c.index-tables-s.result.rows ∙ ap (λ (rows : List (List Mark)). eqb (length rows) 0) (sym c.rows.ensures) ∙ sym c.is_empty.ensures ∙ c.if-is_empty.false in
     c.plane-else-is_empty.ensures

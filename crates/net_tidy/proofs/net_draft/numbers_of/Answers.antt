@@ -14,7 +14,8 @@ loop-i-init c =
 
 pub loop-i-preserved : goal.loop-i-preserved
 loop-i-preserved c =
-    let next = number_by c.args.inputs c.loop-i.i c.loop-i.next c.number_after-next.result _ _ c.args.gone.now c.loop-i-test.true c.loop-i.invariant.next c.loop-i.invariant.small refl c.number_after-next.ensures in
+    let next = number_by c.args.inputs c.loop-i.i c.loop-i.next c.number_after-next.result _ _ c.args.gone.now c.loop-i-test.true c.loop-i.invariant.next c.loop-i.invariant.small refl
+    c.number_after-next.ensures in
     record {
       count = ap length c.in_ok-push.ensures.items ∙ length-append c.loop-i.numbers.items _ ∙ (let count = c.loop-i.invariant.count in omega (arith, count));
       next = next.0;

@@ -9,11 +9,13 @@ loop-t-init c = way_start c.args.net.now c.in_ok-draft.draft c.in_ok-draft.ensur
 
 pub loop-t-smaller : goal.loop-t-smaller
 loop-t-smaller c =
-    way_falls c.args.net.now c.loop-t.draft c.apply.new.self _ _ c.loop-t.invariant c.in-Some.ensures.found (c.in_ok-apply.ensures ∙ ap (λ (D : DraftValue). drafted D c.in-Some.t c.in-Some.rule) c.first_rule.ensures.same)
+    way_falls c.args.net.now c.loop-t.draft c.apply.new.self _ _ c.loop-t.invariant c.in-Some.ensures.found
+    (c.in_ok-apply.ensures ∙ ap (λ (D : DraftValue). drafted D c.in-Some.t c.in-Some.rule) c.first_rule.ensures.same)
 
 pub loop-t-preserved : goal.loop-t-preserved
 loop-t-preserved c =
-    way_next c.args.net.now c.loop-t.draft c.apply.new.self _ _ c.loop-t.invariant c.in-Some.ensures.found (c.in_ok-apply.ensures ∙ ap (λ (D : DraftValue). drafted D c.in-Some.t c.in-Some.rule) c.first_rule.ensures.same)
+    way_next c.args.net.now c.loop-t.draft c.apply.new.self _ _ c.loop-t.invariant c.in-Some.ensures.found
+    (c.in_ok-apply.ensures ∙ ap (λ (D : DraftValue). drafted D c.in-Some.t c.in-Some.rule) c.first_rule.ensures.same)
 
 pub into_net-requires-clause-sound : goal.into_net-requires-clause-sound
 into_net-requires-clause-sound c = way_sound c.args.net.now c.first_rule.new.self (subst (IsUnderWay c.args.net.now) (sym c.first_rule.ensures.same) c.loop-t.invariant)

@@ -23,7 +23,8 @@ either_cut before now f g failed (v ∷ w ∷ whole) later order cut =
     absurd (omega (arith, length-append {A = File}))
 
 -- a name is held now as it was, or as a first part of the file that was cut
-held_now : (before now : Held) (f : File) (name : Bytes) (P : Option Bytes → Type 0) → IsCutAt before f now → P (get before name) → ((n : ℕ) → P (get (insert before f.name (take n f.text)) name)) → P (get now name)
+held_now : (before now : Held) (f : File) (name : Bytes) (P : Option Bytes → Type 0) → IsCutAt before f now → P (get before name) → ((n : ℕ) → P (get (insert before f.name (take n f.text)) name))
+    → P (get now name)
 held_now before now f name P cut untouched part = ⊎_elim
     (λ (same : now ≡ before). subst (λ h. P (get h name)) (sym same) untouched)
     (λ (some : (n : ℕ) × (n ≤ length f.text) × (now ≡ insert before f.name (take n f.text))). subst (λ h. P (get h name)) (sym some.2) (part some.0))
@@ -47,12 +48,16 @@ returns c = record {
   second_emptied = record { whole = _ ∷ []; failed = _; later = []; order = refl; cut = inr (0, omega arith, refl) };
   no_other_part = λ left.
       ⊎_elim
-      (λ cut. held_now three _ _ (codes "b") (λ o. o ≡ Some (codes "y") → ⊥) cut (λ e. none-some _ (sym (search (rules, gets)) ∙ e)) (λ n. apart (take n (codes "xy")) _ (search (rules, gets)) (no_first_part n)) (search (rules, gets)))
-      (λ cut. held_now _ _ _ (codes "b") (λ o. o ≡ Some (codes "y") → ⊥) cut (apart (codes "xy") _ (search (rules, gets)) shorter) (λ n. apart (codes "xy") _ (search (rules, gets)) shorter) (search (rules, gets)))
+      (λ cut. held_now three _ _ (codes "b") (λ o. o ≡ Some (codes "y") → ⊥) cut (λ e. none-some _ (sym (search (rules, gets)) ∙ e))
+      (λ n. apart (take n (codes "xy")) _ (search (rules, gets)) (no_first_part n)) (search (rules, gets)))
+      (λ cut. held_now _ _ _ (codes "b") (λ o. o ≡ Some (codes "y") → ⊥) cut (apart (codes "xy") _ (search (rules, gets)) shorter) (λ n. apart (codes "xy") _ (search (rules, gets)) shorter)
+      (search (rules, gets)))
       (either_cut three _ _ _ left.failed left.whole left.later left.order left.cut);
   no_later_file = λ left.
       ⊎_elim
-      (λ cut. held_now three _ _ (codes "c") (λ o. o ≡ Some [] → ⊥) cut (λ e. none-some _ (sym (search (rules, gets)) ∙ e)) (λ n e. none-some _ (sym (search (rules, gets)) ∙ e)) (search (rules, gets)))
-      (λ cut. held_now _ _ _ (codes "b") (λ o. o ≡ Some (codes "x") → ⊥) cut (apart (codes "xy") _ (search (rules, gets)) shorter) (λ n. apart (codes "xy") _ (search (rules, gets)) shorter) (search (rules, gets)))
+      (λ cut. held_now three _ _ (codes "c") (λ o. o ≡ Some [] → ⊥) cut (λ e. none-some _ (sym (search (rules, gets)) ∙ e)) (λ n e. none-some _ (sym (search (rules, gets)) ∙ e))
+      (search (rules, gets)))
+      (λ cut. held_now _ _ _ (codes "b") (λ o. o ≡ Some (codes "x") → ⊥) cut (apart (codes "xy") _ (search (rules, gets)) shorter) (λ n. apart (codes "xy") _ (search (rules, gets)) shorter)
+      (search (rules, gets)))
       (either_cut three _ _ _ left.failed left.whole left.later left.order left.cut);
 }

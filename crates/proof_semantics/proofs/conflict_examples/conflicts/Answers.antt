@@ -55,15 +55,19 @@ from_three : hints_answer (get five) (with_negations literals.empty []) (5 ∷ 3
 unfolding five
 from_three =
     hints-unit (get five) (with_negations literals.empty []) 5 3 (4 ∷ []) (pos 1) (simp (get-insert {X = Clause} nat_cmp_total, contains-empty int_cmp))
-    ∙ hints-unit (get five) (literals.insert (with_negations literals.empty []) (pos 1)) 3 4 [] (pos 2) (simp (get-insert {X = Clause} nat_cmp_total, contains-insert int_cmp_total, contains-empty int_cmp))
+    ∙ hints-unit (get five) (literals.insert (with_negations literals.empty []) (pos 1)) 3 4 [] (pos 2)
+    (simp (get-insert {X = Clause} nat_cmp_total, contains-insert int_cmp_total, contains-empty int_cmp))
     ∙ hints-conflict (get five) (literals.insert (literals.insert (with_negations literals.empty []) (pos 1)) (pos 2)) 4 (simp (get-insert {X = Clause} nat_cmp_total, contains-insert int_cmp_total))
 
 from_three_against : hints_answer (get five) (with_negations literals.empty (pos 3 ∷ minus 3 ∷ [])) (5 ∷ 3 ∷ 4 ∷ []) ≡ Ok tt
 unfolding five
 from_three_against =
-    hints-unit (get five) (with_negations literals.empty (pos 3 ∷ minus 3 ∷ [])) 5 3 (4 ∷ []) (pos 1) (simp (get-insert {X = Clause} nat_cmp_total, contains-insert int_cmp_total, contains-empty int_cmp))
-    ∙ hints-unit (get five) (literals.insert (with_negations literals.empty (pos 3 ∷ minus 3 ∷ [])) (pos 1)) 3 4 [] (pos 2) (simp (get-insert {X = Clause} nat_cmp_total, contains-insert int_cmp_total, contains-empty int_cmp))
-    ∙ hints-conflict (get five) (literals.insert (literals.insert (with_negations literals.empty (pos 3 ∷ minus 3 ∷ [])) (pos 1)) (pos 2)) 4 (simp (get-insert {X = Clause} nat_cmp_total, contains-insert int_cmp_total))
+    hints-unit (get five) (with_negations literals.empty (pos 3 ∷ minus 3 ∷ [])) 5 3 (4 ∷ []) (pos 1)
+    (simp (get-insert {X = Clause} nat_cmp_total, contains-insert int_cmp_total, contains-empty int_cmp))
+    ∙ hints-unit (get five) (literals.insert (with_negations literals.empty (pos 3 ∷ minus 3 ∷ [])) (pos 1)) 3 4 [] (pos 2)
+    (simp (get-insert {X = Clause} nat_cmp_total, contains-insert int_cmp_total, contains-empty int_cmp))
+    ∙ hints-conflict (get five) (literals.insert (literals.insert (with_negations literals.empty (pos 3 ∷ minus 3 ∷ [])) (pos 1)) (pos 2)) 4
+    (simp (get-insert {X = Clause} nat_cmp_total, contains-insert int_cmp_total))
 
 -- ---- what is new
 
@@ -129,10 +133,12 @@ itself-step : IsNextStep four_clauses first_conflict (step 6 (pos 1 ∷ []) (5 �
 itself-step = next-step _ _ (All-from_recursion (IsLiteralOf 3) (pos 1 ∷ []) (record { not_zero = omega arith; within = omega arith }, tt)) from_itself
 
 part-step : IsNextStep four_clauses first_conflict (step 6 (minus 1 ∷ pos 2 ∷ pos 3 ∷ []) (3 ∷ []))
-part-step = next-step _ _ (All-from_recursion (IsLiteralOf 3) (minus 1 ∷ pos 2 ∷ pos 3 ∷ []) (record { not_zero = omega arith; within = omega arith }, (record { not_zero = omega arith; within = omega arith }, (record { not_zero = omega arith; within = omega arith }, tt)))) from_part
+part-step = next-step _ _ (All-from_recursion (IsLiteralOf 3) (minus 1 ∷ pos 2 ∷ pos 3 ∷ [])
+    (record { not_zero = omega arith; within = omega arith }, (record { not_zero = omega arith; within = omega arith }, (record { not_zero = omega arith; within = omega arith }, tt)))) from_part
 
 against-step : IsNextStep four_clauses first_conflict (step 6 (pos 3 ∷ minus 3 ∷ []) (5 ∷ 3 ∷ 4 ∷ []))
-against-step = next-step _ _ (All-from_recursion (IsLiteralOf 3) (pos 3 ∷ minus 3 ∷ []) (record { not_zero = omega arith; within = omega arith }, (record { not_zero = omega arith; within = omega arith }, tt))) from_three_against
+against-step = next-step _ _ (All-from_recursion (IsLiteralOf 3) (pos 3 ∷ minus 3 ∷ [])
+    (record { not_zero = omega arith; within = omega arith }, (record { not_zero = omega arith; within = omega arith }, tt))) from_three_against
 
 empty-step : IsNextStep four_clauses first_conflict (step 6 [] (5 ∷ 3 ∷ 4 ∷ []))
 empty-step = next-step [] _ (All-nil (IsLiteralOf 3)) from_three
@@ -151,7 +157,8 @@ returns c = record {
   lengthened = (
     derivation _ part-step,
     λ h. (h.new 1 (omega arith) (omega arith)).apart 2 [] (omega arith)
-        (All-weaker (Contains (minus 1 ∷ pos 2 ∷ [])) (Contains (minus 1 ∷ pos 2 ∷ pos 3 ∷ [])) (Contains-append_left (minus 1 ∷ pos 2 ∷ []) (pos 3 ∷ [])) (minus 1 ∷ pos 2 ∷ []) (All-contains_itself (minus 1 ∷ pos 2 ∷ []))),
+        (All-weaker (Contains (minus 1 ∷ pos 2 ∷ [])) (Contains (minus 1 ∷ pos 2 ∷ pos 3 ∷ [])) (Contains-append_left (minus 1 ∷ pos 2 ∷ []) (pos 3 ∷ [])) (minus 1 ∷ pos 2 ∷ [])
+        (All-contains_itself (minus 1 ∷ pos 2 ∷ []))),
   );
   against_itself = (derivation _ against-step, λ h. (h.new 1 (omega arith) (omega arith)).plain (pos 3) (0, omega arith, refl) (1, omega arith, refl));
   empty = (derivation _ empty-step, λ h. let some = (h.new 1 (omega arith) (omega arith)).some in omega arith);

@@ -104,9 +104,20 @@ returns c = record {
   from_one = from_one;
   refutes = (
     record { sound = (omega arith, conflict-from (get (held_of three_clauses)) (1 ∷ 2 ∷ 3 ∷ []) (with_negations literals.empty []) in_order, tt); ends = refl },
-    record { sound = (omega arith, conflict-from (get (held_of three_clauses)) (1 ∷ 2 ∷ []) (with_negations literals.empty (pos 2 ∷ [])) the_clause_2, (omega arith, conflict-from (get (removed_from (insert (held_of three_clauses) 7 (pos 2 ∷ [])) (1 ∷ 9 ∷ []))) (7 ∷ 3 ∷ []) (with_negations literals.empty []) after_removals, tt)); ends = refl },
+    record {
+      sound = (
+        omega arith,
+        conflict-from (get (held_of three_clauses)) (1 ∷ 2 ∷ []) (with_negations literals.empty (pos 2 ∷ [])) the_clause_2,
+        (omega arith, conflict-from (get (removed_from (insert (held_of three_clauses) 7 (pos 2 ∷ [])) (1 ∷ 9 ∷ []))) (7 ∷ 3 ∷ []) (with_negations literals.empty []) after_removals, tt),
+      );
+      ends = refl;
+    },
   );
   past_the_empty_clause = λ h. h.2.1;
-  derivation = record { sound = (omega arith, conflict-from (get (held_of three_clauses)) (1 ∷ 2 ∷ 3 ∷ []) (with_negations literals.empty []) in_order, tt); in_turn = (refl, All-nil (IsLiteralOf 2), tt); short = omega arith };
+  derivation = record {
+    sound = (omega arith, conflict-from (get (held_of three_clauses)) (1 ∷ 2 ∷ 3 ∷ []) (with_negations literals.empty []) in_order, tt);
+    in_turn = (refl, All-nil (IsLiteralOf 2), tt);
+    short = omega arith;
+  };
   no_derivation = λ h. let first = h.in_turn.0 in omega (arith, first);
 }

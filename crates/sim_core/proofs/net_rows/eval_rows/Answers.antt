@@ -9,7 +9,8 @@ pub loop-i-init : goal.loop-i-init
 loop-i-init c = record {
   room = c.requires.room;
   wide = c.requires.wide;
-  rows = λ vectors same inputs. rows_none c.args.net.now vectors c.args.count same c.order-i-items.result.now c.inputs-inputs.ensures.built.sound.acyclic c.order-i-items.ensures c.args.rows.now inputs;
+  rows = λ vectors same inputs. rows_none c.args.net.now vectors c.args.count same c.order-i-items.result.now c.inputs-inputs.ensures.built.sound.acyclic c.order-i-items.ensures c.args.rows.now
+      inputs;
 }
 
 pub table-requires : goal.table-requires
@@ -29,8 +30,10 @@ loop-i-preserved c = record {
   room = c.set_table_row.ensures.room;
   wide = wide_step (word_count c.args.count) c.loop-i.rows c.set_table_row.new.rows _ c.set_table_row.ensures.others c.set_table_row.ensures.row.words c.loop-i.invariant.wide;
   rows = λ vectors same inputs.
-      rows_step c.args.net.now vectors c.args.count same c.order-i-items.result.now c.inputs-inputs.ensures.built.sound.acyclic c.order-i-items.ensures c.loop-i.rows c.set_table_row.new.rows c.loop-i.i-index
-      (get_or c.order-i-items.result.now c.loop-i.i-index 0) _ c.table.result.now c.loop-i-test.true refl (omega (arith, c.inputs-inputs.ensures.value)) (omega (arith, c.requires.rows, c.loop-i.auto.rows))
+      rows_step c.args.net.now vectors c.args.count same c.order-i-items.result.now c.inputs-inputs.ensures.built.sound.acyclic c.order-i-items.ensures c.loop-i.rows c.set_table_row.new.rows
+      c.loop-i.i-index
+      (get_or c.order-i-items.result.now c.loop-i.i-index 0) _ c.table.result.now c.loop-i-test.true refl (omega (arith, c.inputs-inputs.ensures.value))
+      (omega (arith, c.requires.rows, c.loop-i.auto.rows))
       c.table.ensures.value c.set_table_row.ensures.others c.set_table_row.ensures.row (c.loop-i.invariant.rows vectors same inputs);
 }
 

@@ -17,7 +17,8 @@ loop-i-init c =
           (unmarked_other c.args.marks.now place s
           (table_marked c.args.net.now c.args.t place c.args.marks.now c.requires.table (omega (arith, c.inputs-inputs.ensures.value)) c.requires.marks) clear);
       flipped = λ vectors same values.
-          flipping_start c.args.net.now vectors c.args.count same c.order-i-items.result.now c.inputs-inputs.ensures.built.sound.acyclic c.order-i-items.ensures c.args.t c.requires.table c.args.rows.now values
+          flipping_start c.args.net.now vectors c.args.count same c.order-i-items.result.now c.inputs-inputs.ensures.built.sound.acyclic c.order-i-items.ensures c.args.t c.requires.table
+          c.args.rows.now values
           c.flip_row.new.rows place (omega (arith, c.inputs-inputs.ensures.value)) (omega (arith, c.requires.rows)) c.flip_row.ensures.others c.flip_row.ensures.row;
     }
 
@@ -43,7 +44,8 @@ loop-i-preserved c =
                 (unmarked_other c.args.marks.now place s (is_marked i c.args.t _ c.is_found_again.result c.is_found_again.ensures w.if-is_found_again.true) clear)
                 ∙ c.loop-i.invariant.others s within clear;
             flipped = λ vectors same values.
-                flipping_step c.args.net.now vectors c.args.count same c.order-i-items.result.now c.inputs-inputs.ensures.built.sound.acyclic c.order-i-items.ensures c.args.t c.requires.table c.args.rows.now
+                flipping_step c.args.net.now vectors c.args.count same c.order-i-items.result.now c.inputs-inputs.ensures.built.sound.acyclic c.order-i-items.ensures c.args.t c.requires.table
+                c.args.rows.now
                 values c.loop-i.i-index i c.loop-i.rows c.loop-i-test.true refl (c.loop-i.invariant.flipped vectors same values) w.set_table_row.new.rows place w.table.result.now
                 (omega (arith, c.inputs-inputs.ensures.value)) (is_other i c.args.t _ c.is_found_again.result c.is_found_again.ensures w.if-is_found_again.true)
                 (omega (arith, c.requires.rows, c.loop-i.auto.rows)) w.table.ensures.value w.set_table_row.ensures.others w.set_table_row.ensures.row;
@@ -55,7 +57,8 @@ loop-i-preserved c =
             wide = c.loop-i.invariant.wide;
             others = c.loop-i.invariant.others;
             flipped = λ vectors same values.
-                flipping_kept c.args.net.now vectors c.args.count same c.order-i-items.result.now c.inputs-inputs.ensures.built.sound.acyclic c.order-i-items.ensures c.args.t c.requires.table c.args.rows.now
+                flipping_kept c.args.net.now vectors c.args.count same c.order-i-items.result.now c.inputs-inputs.ensures.built.sound.acyclic c.order-i-items.ensures c.args.t c.requires.table
+                c.args.rows.now
                 values c.loop-i.i-index i c.loop-i.rows c.loop-i-test.true refl (c.loop-i.invariant.flipped vectors same values)
                 (left_out c.args.net.now c.args.t i place c.args.marks.now c.is_found_again.result next.table (omega (arith, c.inputs-inputs.ensures.value)) c.requires.marks c.is_found_again.ensures
                 w.if-is_found_again.false);

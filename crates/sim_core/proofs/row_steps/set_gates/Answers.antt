@@ -44,13 +44,15 @@ module _ (g : GraphValue) (gates : List Gate) (i inputs words count : ℕ) (old 
 pub side_of-left-requires : goal.side_of-left-requires
 side_of-left-requires c =
     let e = c.gates-gate-items.ensures in
-    left_fits c.args.aig.now c.gates-gate-items.result.now c.loop-i.i c.inputs.result c.word_count-words.result c.args.count c.args.rows.now c.loop-i.rows e.gates e.graph c.loop-i-test.true c.inputs.ensures
+    left_fits c.args.aig.now c.gates-gate-items.result.now c.loop-i.i c.inputs.result c.word_count-words.result c.args.count c.args.rows.now c.loop-i.rows e.gates e.graph c.loop-i-test.true
+    c.inputs.ensures
     c.word_count-words.ensures c.requires c.loop-i.auto.rows
 
 pub side_of-right-requires : goal.side_of-right-requires
 side_of-right-requires c =
     let e = c.gates-gate-items.ensures in
-    right_fits c.args.aig.now c.gates-gate-items.result.now c.loop-i.i c.inputs.result c.word_count-words.result c.args.count c.args.rows.now c.loop-i.rows e.gates e.graph c.loop-i-test.true c.inputs.ensures
+    right_fits c.args.aig.now c.gates-gate-items.result.now c.loop-i.i c.inputs.result c.word_count-words.result c.args.count c.args.rows.now c.loop-i.rows e.gates e.graph c.loop-i-test.true
+    c.inputs.ensures
     c.word_count-words.ensures c.requires c.loop-i.auto.rows
 
 pub set_conjunction-requires-clause-left : goal.set_conjunction-requires-clause-left
@@ -58,30 +60,36 @@ set_conjunction-requires-clause-left c =
     let e = c.gates-gate-items.ensures in
     let below = left_low c.args.aig.now c.gates-gate-items.result.now c.loop-i.i c.inputs.result c.word_count-words.result c.args.count c.args.rows.now c.loop-i.rows e.gates e.graph c.loop-i-test.true
     c.inputs.ensures c.word_count-words.ensures c.requires c.loop-i.auto.rows in
-    ends c.args.aig.now c.gates-gate-items.result.now c.loop-i.i c.inputs.result c.word_count-words.result c.args.count c.args.rows.now c.loop-i.rows e.gates e.graph c.loop-i-test.true c.inputs.ensures
+    ends c.args.aig.now c.gates-gate-items.result.now c.loop-i.i c.inputs.result c.word_count-words.result c.args.count c.args.rows.now c.loop-i.rows e.gates e.graph c.loop-i-test.true
+    c.inputs.ensures
     c.word_count-words.ensures c.requires c.loop-i.auto.rows _ c.side_of-left.result.start below c.side_of-left.ensures.start
 
 pub set_conjunction-requires-clause-right : goal.set_conjunction-requires-clause-right
 set_conjunction-requires-clause-right c =
     let e = c.gates-gate-items.ensures in
-    let below = right_low c.args.aig.now c.gates-gate-items.result.now c.loop-i.i c.inputs.result c.word_count-words.result c.args.count c.args.rows.now c.loop-i.rows e.gates e.graph c.loop-i-test.true
+    let below = right_low c.args.aig.now c.gates-gate-items.result.now c.loop-i.i c.inputs.result c.word_count-words.result c.args.count c.args.rows.now c.loop-i.rows e.gates e.graph
+    c.loop-i-test.true
     c.inputs.ensures c.word_count-words.ensures c.requires c.loop-i.auto.rows in
-    ends c.args.aig.now c.gates-gate-items.result.now c.loop-i.i c.inputs.result c.word_count-words.result c.args.count c.args.rows.now c.loop-i.rows e.gates e.graph c.loop-i-test.true c.inputs.ensures
+    ends c.args.aig.now c.gates-gate-items.result.now c.loop-i.i c.inputs.result c.word_count-words.result c.args.count c.args.rows.now c.loop-i.rows e.gates e.graph c.loop-i-test.true
+    c.inputs.ensures
     c.word_count-words.ensures c.requires c.loop-i.auto.rows _ c.side_of-right.result.start below c.side_of-right.ensures.start
 
 pub set_conjunction-requires-clause-within : goal.set_conjunction-requires-clause-within
 set_conjunction-requires-clause-within c =
     let e = c.gates-gate-items.ensures in
-    fits c.args.aig.now c.gates-gate-items.result.now c.loop-i.i c.inputs.result c.word_count-words.result c.args.count c.args.rows.now c.loop-i.rows e.gates e.graph c.loop-i-test.true c.inputs.ensures
+    fits c.args.aig.now c.gates-gate-items.result.now c.loop-i.i c.inputs.result c.word_count-words.result c.args.count c.args.rows.now c.loop-i.rows e.gates e.graph c.loop-i-test.true
+    c.inputs.ensures
     c.word_count-words.ensures c.requires c.loop-i.auto.rows
 
 pub loop-i-preserved : goal.loop-i-preserved
 loop-i-preserved c = λ vectors count have.
     let e = c.gates-gate-items.ensures in
     let low : c.loop-i.i < length c.args.aig.now.gates = omega (arith, c.loop-i-test.true, ap length e.gates) in
-    gates_more c.args.aig.now vectors c.loop-i.rows c.set_conjunction.new.rows c.loop-i.i c.side_of-left.result.start c.side_of-right.result.start ((1 + c.inputs.result + c.loop-i.i) * c.word_count-words.result)
+    gates_more c.args.aig.now vectors c.loop-i.rows c.set_conjunction.new.rows c.loop-i.i c.side_of-left.result.start c.side_of-right.result.start
+    ((1 + c.inputs.result + c.loop-i.i) * c.word_count-words.result)
     c.word_count-words.result c.side_of-left.result.flip c.side_of-right.result.flip (get_or c.gates-gate-items.result.now c.loop-i.i no_gate) e.graph low
-    (ap (λ (gs : List Gate). get_or gs c.loop-i.i no_gate) e.gates) (c.word_count-words.ensures ∙ ap word_count (sym count)) (ap (λ n. (1 + n + c.loop-i.i) * c.word_count-words.result) c.inputs.ensures)
+    (ap (λ (gs : List Gate). get_or gs c.loop-i.i no_gate) e.gates) (c.word_count-words.ensures ∙ ap word_count (sym count))
+    (ap (λ n. (1 + n + c.loop-i.i) * c.word_count-words.result) c.inputs.ensures)
     c.side_of-left.ensures.start c.side_of-right.ensures.start c.side_of-left.ensures.flip c.side_of-right.ensures.flip
     (λ p within. c.set_conjunction.ensures.bits p (omega (arith, within, count)))
     (λ p past within. c.set_conjunction.ensures.clear p (omega (arith, past, count)) within)

@@ -19,10 +19,12 @@ loop-i-init c =
 pub loop-i-preserved : goal.loop-i-preserved
 loop-i-preserved c =
     inputs_more c.args.patterns.now.vectors c.word_count-words.result _ c.loop-i.i c.row.result.now c.loop-i.rows c.set_row.new.rows
-    (c.row.ensures.words ∙ ap word_count (sym c.count.ensures.value) ∙ sym c.word_count-words.ensures) c.row.ensures.bits (omega arith) c.set_row.ensures.bits c.set_row.ensures.before c.loop-i.invariant
+    (c.row.ensures.words ∙ ap word_count (sym c.count.ensures.value) ∙ sym c.word_count-words.ensures) c.row.ensures.bits (omega arith) c.set_row.ensures.bits c.set_row.ensures.before
+    c.loop-i.invariant
 
 -- the words of the patterns, by the terms of the code
-done : (vectors : List (List Bool)) (words count m i : ℕ) (rows : List ℕ) → count ≡ length vectors → words ≡ word_count count → m ≤ i → i ≤ m → HaveInputs vectors words rows i → HaveInputs vectors (word_count (length vectors)) rows m
+done : (vectors : List (List Bool)) (words count m i : ℕ) (rows : List ℕ) → count ≡ length vectors → words ≡ word_count count → m ≤ i → i ≤ m → HaveInputs vectors words rows i
+    → HaveInputs vectors (word_count (length vectors)) rows m
 done vectors words count m i rows same wide past within have =
     let e : words ≡ word_count (length vectors) = wide ∙ ap word_count same in
     let all : i ≡ m = omega (arith, past, within) in

@@ -13,5 +13,6 @@ use Rattle.blif_text.proofs.kept_lines.KeptLines.add.Goals as goal
 pub returns-in_err-right-clause-err : goal.returns-in_err-right-clause-err
 returns-in_err-right-clause-err c =
     passed_on _ _ _ (err_from_is_err_and c.from_residual.result c.from_residual.ensures.1)
-    (subst (λ p. (rest : List LogicalLine) (answer : Result NetValue Refusal) → Tells c.in_err-right.field-0.0 (unless_wrong (first_wrong_in p (map statement_of (with_words (c.args.line ∷ rest)))) answer))
+    (subst (λ p. (rest : List LogicalLine) (answer : Result NetValue Refusal)
+    → Tells c.in_err-right.field-0.0 (unless_wrong (first_wrong_in p (map statement_of (with_words (c.args.line ∷ rest)))) answer))
     (ap (λ k. k.place) c.self.view_is) c.in_err-right.ensures.err)

@@ -13,4 +13,5 @@ pub returns-in_err-signals-clause-err : goal.returns-in_err-signals-clause-err
 returns-in_err-signals-clause-err c =
     let pins = ap texts c.deref.ensures.value ∙ ap (λ t. t.pins) c.self.view_is in
     passed_on _ _ _ (err_from_is_err_and c.from_residual.result c.from_residual.ensures.1)
-    (subst (λ (l : List Bytes). (rest : Result NetValue Refusal) → Tells c.in_err-signals.field-0.0 (unless_refused (first_unknown c.args.names.now l) undriven rest)) pins c.in_err-signals.ensures.err)
+    (subst (λ (l : List Bytes). (rest : Result NetValue Refusal) → Tells c.in_err-signals.field-0.0 (unless_refused (first_unknown c.args.names.now l) undriven rest)) pins
+    c.in_err-signals.ensures.err)

@@ -13,6 +13,7 @@ returns-in_default-clause-err c =
 
 pub loop-word-preserved : goal.loop-word-preserved
 loop-word-preserved c = record {
-  all = c.in_ok-push.ensures.ok ∙ signals-next c.args.self.now c.args.words.now c.loop-word.word-index _ c.loop-word.signals c.in-Some.signal c.loop-word-test.true c.in-Some.ensures c.loop-word.invariant.all;
+  all = c.in_ok-push.ensures.ok ∙ signals-next c.args.self.now c.args.words.now c.loop-word.word-index _ c.loop-word.signals c.in-Some.signal c.loop-word-test.true c.in-Some.ensures
+      c.loop-word.invariant.all;
   same = unknown-next c.args.self.now c.args.words.now c.loop-word.word-index _ c.in-Some.signal _ c.loop-word-test.true c.in-Some.ensures c.loop-word.invariant.same;
 }

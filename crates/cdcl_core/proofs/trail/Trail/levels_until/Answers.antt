@@ -11,4 +11,5 @@ up-preserved c = record {
 
 pub returns-else-index-place-clause-after : goal.returns-else-index-place-clause-after
 returns-else-index-place-clause-after c k low within =
-    after_level c.self.inside.starts.items c.args.self.now.starts c.up.level k c.args.place c.index.result.now (ap (λ t. t.starts) c.self.view_is) c.requires.rising low within c.index.ensures c.if-index-place.false
+    after_level c.self.inside.starts.items c.args.self.now.starts c.up.level k c.args.place c.index.result.now (ap (λ t. t.starts) c.self.view_is) c.requires.rising low within c.index.ensures
+    c.if-index-place.false

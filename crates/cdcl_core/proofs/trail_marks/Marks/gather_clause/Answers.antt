@@ -8,7 +8,8 @@ use Rattle.cdcl_core.proofs.trail_marks.Marks.gather_clause.Goals.{then-place-le
 
 pub loop-place-preserved : goal.loop-place-preserved
 loop-place-preserved c =
-    let touched : AreTouched c.self.inside.on.items c.self.inside.touched.items = listed_touched c.self.inside.on.items c.self.inside.listed.items c.self.inside.touched.items (vec_capacity c.self.inside.touched) (vec_capacity c.self.inside.sorted) c.self.invariant in
+    let touched : AreTouched c.self.inside.on.items c.self.inside.touched.items
+    = listed_touched c.self.inside.on.items c.self.inside.listed.items c.self.inside.touched.items (vec_capacity c.self.inside.touched) (vec_capacity c.self.inside.sorted) c.self.invariant in
     let p : ℕ = get_or c.deref-place-items.result.now c.loop-place.place-index 0 in
     let place : p ≡ get_or c.self.inside.touched.items c.loop-place.place-index 0 = ap (λ xs. get_or xs c.loop-place.place-index 0) c.deref-place-items.ensures.value in
     let low : c.loop-place.place-index < length c.self.inside.touched.items = omega (arith, ap length c.deref-place-items.ensures.value) in
@@ -16,8 +17,10 @@ loop-place-preserved c =
     record {
       so_far = elim c.if-place-len.branch [
         | then-place-len+then-index w ↦
-            clause_marked c.args.trail.now.literals c.self.inside.on.items c.self.inside.touched.items c.loop-place.clause.items c.if-place-len.clause.items c.loop-place.place-index p w.literal.result w.negated.result
-            c.loop-place.invariant.so_far place (mark_read c.self.inside.on.items p w.index.result.now true inside w.index.ensures w.if-index.true) (omega arith) w.literal.ensures w.negated.ensures (ap (λ v. v.items) w.clause-is ∙ w.push_reserved.ensures.items)
+            clause_marked c.args.trail.now.literals c.self.inside.on.items c.self.inside.touched.items c.loop-place.clause.items c.if-place-len.clause.items c.loop-place.place-index p
+            w.literal.result w.negated.result
+            c.loop-place.invariant.so_far place (mark_read c.self.inside.on.items p w.index.result.now true inside w.index.ensures w.if-index.true) (omega arith) w.literal.ensures w.negated.ensures
+            (ap (λ v. v.items) w.clause-is ∙ w.push_reserved.ensures.items)
         | else-place-len w ↦
             rw w.clause-is (clause_skipped c.args.trail.now.literals c.self.inside.on.items c.self.inside.touched.items c.loop-place.clause.items c.loop-place.place-index c.loop-place.invariant.so_far
             (λ within m. elim w.else-place-len.branch [
@@ -42,7 +45,8 @@ loop-place-preserved c =
 
 pub returns-clause-clause : goal.returns-clause-clause
 returns-clause-clause c =
-    let touched : AreTouched c.self.inside.on.items c.self.inside.touched.items = listed_touched c.self.inside.on.items c.self.inside.listed.items c.self.inside.touched.items (vec_capacity c.self.inside.touched) (vec_capacity c.self.inside.sorted) c.self.invariant in
+    let touched : AreTouched c.self.inside.on.items c.self.inside.touched.items
+    = listed_touched c.self.inside.on.items c.self.inside.listed.items c.self.inside.touched.items (vec_capacity c.self.inside.touched) (vec_capacity c.self.inside.sorted) c.self.invariant in
     subst (λ marks. IsClauseOf c.args.trail.now.literals marks c.loop-place.clause.items) c.self.view_is
     (clause_whole c.args.trail.now.literals c.self.inside.on.items c.self.inside.touched.items c.loop-place.clause.items c.loop-place.place-index c.loop-place.invariant.so_far touched
     (omega (arith, ap length c.deref-place-items.ensures.value)))

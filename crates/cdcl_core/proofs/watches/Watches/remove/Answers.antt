@@ -12,11 +12,13 @@ returns c =
     let lists_is = ap (λ (x : WatchesValue). x.lists) c.self.view_is in
     let wide : length c.args.self.now.lists ≡ length c.self.inside.lists.items = ap (λ (x : List (List Watch)). length x) (sym lists_is) ∙ length-map c.self.inside.lists.items (λ v. v.items) in
     let here : c.index_mut.result.now.items ≡ list_at c.args.self.now.lists c.args.literal =
-    inner_at c.self.inside.lists.items (λ v. v.items) c.index.result (index_of c.args.literal) c.index_mut.result.now c.args.self.now.lists lists_is c.index.ensures (let low = c.requires.literal in let same = c.index.ensures in omega arith) c.index_mut.ensures.value in
+    inner_at c.self.inside.lists.items (λ v. v.items) c.index.result (index_of c.args.literal) c.index_mut.result.now c.args.self.now.lists lists_is c.index.ensures
+    (let low = c.requires.literal in let same = c.index.ensures in omega arith) c.index_mut.ensures.value in
     let within : c.args.at < length c.index_mut.result.now.items = let low = c.requires.at in let e = ap (λ (x : List Watch). length x) here in omega arith in
     let watch : c.swap_remove.result ≡ watch_at (list_at c.args.self.now.lists c.args.literal) c.args.at =
     c.swap_remove.ensures.value ∙ get_or_default c.index_mut.result.now.items c.args.at c.swap_remove.result no_watch within ∙ ap (λ xs. watch_at xs c.args.at) here in
     ap (λ (x : WatchesValue). record x { lists = map (λ v. v.items) (set c.self.inside.lists.items c.index.result c.swap_remove.new.self) }) c.self.view_is
     ∙ ap (λ (ls : List (List Watch)). record c.args.self.now { lists = ls })
-    (inner_set c.self.inside.lists.items (λ v. v.items) c.index.result (index_of c.args.literal) c.swap_remove.new.self c.args.self.now.lists (swap_remove (list_at c.args.self.now.lists c.args.literal) c.args.at (watch_at (list_at c.args.self.now.lists c.args.literal) c.args.at)) lists_is c.index.ensures
+    (inner_set c.self.inside.lists.items (λ v. v.items) c.index.result (index_of c.args.literal) c.swap_remove.new.self c.args.self.now.lists
+    (swap_remove (list_at c.args.self.now.lists c.args.literal) c.args.at (watch_at (list_at c.args.self.now.lists c.args.literal) c.args.at)) lists_is c.index.ensures
     (c.swap_remove.ensures.items ∙ ap (λ xs. swap_remove xs c.args.at c.swap_remove.result) here ∙ ap (swap_remove (list_at c.args.self.now.lists c.args.literal) c.args.at) watch))

@@ -12,8 +12,10 @@ returns c =
     let lists_is = ap (λ (x : WatchesValue). x.lists) c.self.view_is in
     let wide : length c.args.self.now.lists ≡ length c.self.inside.lists.items = ap (λ (x : List (List Watch)). length x) (sym lists_is) ∙ length-map c.self.inside.lists.items (λ v. v.items) in
     let here : c.index_mut.result.now.items ≡ list_at c.args.self.now.lists c.args.literal =
-    inner_at c.self.inside.lists.items (λ v. v.items) c.index.result (index_of c.args.literal) c.index_mut.result.now c.args.self.now.lists lists_is c.index.ensures (let low = c.requires.literal in let same = c.index.ensures in omega arith) c.index_mut.ensures.value in
+    inner_at c.self.inside.lists.items (λ v. v.items) c.index.result (index_of c.args.literal) c.index_mut.result.now c.args.self.now.lists lists_is c.index.ensures
+    (let low = c.requires.literal in let same = c.index.ensures in omega arith) c.index_mut.ensures.value in
     ap (λ (x : WatchesValue). record x { lists = map (λ v. v.items) (set c.self.inside.lists.items c.index.result (with_item c.index_mut.result.now c.args.at c.args.watch)) }) c.self.view_is
     ∙ ap (λ (ls : List (List Watch)). record c.args.self.now { lists = ls })
-    (inner_set c.self.inside.lists.items (λ v. v.items) c.index.result (index_of c.args.literal) (with_item c.index_mut.result.now c.args.at c.args.watch) c.args.self.now.lists (set (list_at c.args.self.now.lists c.args.literal) c.args.at c.args.watch)
+    (inner_set c.self.inside.lists.items (λ v. v.items) c.index.result (index_of c.args.literal) (with_item c.index_mut.result.now c.args.at c.args.watch) c.args.self.now.lists
+    (set (list_at c.args.self.now.lists c.args.literal) c.args.at c.args.watch)
     lists_is c.index.ensures (ap (λ xs. set xs c.args.at c.args.watch) here))

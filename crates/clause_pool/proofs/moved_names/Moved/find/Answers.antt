@@ -13,4 +13,5 @@ pub returns-in-Err : goal.returns-in-Err
 returns-in-Err c =
     find_err c.self.inside.olds.items c.self.inside.news.items (take c.self.inside.count c.deref.result.now) c.self.inside.count c.args.self.now.olds c.args.self.now.news c.self.invariant
     (ap (λ m. m.olds) c.self.view_is) (ap (λ m. m.news) c.self.view_is) (search rules) c.args.old c.binary_search.result
-    (subst (λ a. IsBinarySearchResult (λ y. nat_cmp y a) (take c.self.inside.count c.deref.result.now) c.binary_search.result) c.place.ensures c.binary_search.ensures.position) c.in-Err.field-0 c.in-Err.is
+    (subst (λ a. IsBinarySearchResult (λ y. nat_cmp y a) (take c.self.inside.count c.deref.result.now) c.binary_search.result) c.place.ensures c.binary_search.ensures.position) c.in-Err.field-0
+    c.in-Err.is

@@ -6,7 +6,8 @@ use Rattle.cnf_core.proofs.item_draft.ItemDraft.push_literal.Goals as goal
 
 pub invariant_of-self : goal.invariant_of-self
 invariant_of-self c =
-    AreLiterals-push c.push.result c.push.new.self c.self.inside.literals _ c.args.literal (to_z-of_z w32 c.args.literal c.ranges.literal) c.self.invariant c.requires c.push.ensures.ok c.push.ensures.err
+    AreLiterals-push c.push.result c.push.new.self c.self.inside.literals _ c.args.literal (to_z-of_z w32 c.args.literal c.ranges.literal) c.self.invariant c.requires c.push.ensures.ok
+    c.push.ensures.err
 
 pub returns-clause-grows : goal.returns-clause-grows
 returns-clause-grows c =

@@ -20,7 +20,8 @@ returns-in-Some-refusal_at_end-clause-err c =
     let r = c.in-Some-refusal_at_end.refusal in
     let calm = sym c.refusal.ensures ∙ c.in_default.is in
     let b : Inside = record a { scanner = record a.scanner { part = AfterRefusal r }; draft = c.settle.new.self; waiting = c.close.new.items } in
-    let cut = after_cut a b c.in-Ok.scanner c.close.new.draft r c.self.invariant c.if-self.false calm refl refl refl c.settle.ensures c.in-Ok.ensures.ok.0 c.in-Ok.ensures.ok.1 (sym c.refusal_at_end.ensures ∙ c.in-Some-refusal_at_end.is) in
+    let cut = after_cut a b c.in-Ok.scanner c.close.new.draft r c.self.invariant c.if-self.false calm refl refl refl c.settle.ensures c.in-Ok.ensures.ok.0 c.in-Ok.ensures.ok.1
+    (sym c.refusal_at_end.ensures ∙ c.in-Some-refusal_at_end.is) in
     finish_refuses a c.args.self.now _ r c.self.view_is calm cut.items cut.view
 
 pub invariant_of-self-2 : goal.invariant_of-self-2

@@ -25,7 +25,8 @@ returns-in-Ok-clause-after_ok c =
     let i = c.in-Some.file in
     let text = take c.min-count.result c.args.piece.now in
     let at = counted_writing c.self.inside.files c.in-Some.is c.self.invariant.writing_counts in
-    wrote-extended c.self.inside.files c.extend_at.new.self c.self.inside.reading c.self.inside.writing c.self.inside.reads c.self.inside.calls c.count.new.self c.self.inside.chunk i text c.in-Some.is c.self.invariant.reading_counts at c.in-Ok.ensures.ok c.in_ok-count.ensures.ok
+    wrote-extended c.self.inside.files c.extend_at.new.self c.self.inside.reading c.self.inside.writing c.self.inside.reads c.self.inside.calls c.count.new.self c.self.inside.chunk i text
+    c.in-Some.is c.self.invariant.reading_counts at c.in-Ok.ensures.ok c.in_ok-count.ensures.ok
     ∙ ap (λ m. wrote m text) c.self.view_is
 
 pub returns-in-Ok-clause-ok : goal.returns-in-Ok-clause-ok

@@ -13,25 +13,33 @@ returns-in_err-count-clause-err c =
     let n = memory_value c.self.inside.files None c.self.inside.writing c.close-self-inside.result c.count.new.self c.self.inside.chunk in
     let is : n ≡ not_opened c.args.self.now = search rules in
     let r = c.count.ensures.rises in
-    rw p.1 (OpenFailed-memory c.args.self.now n _ (Later-from n c.self.view_is r.faults r.calls r.failing) is (inl (subst (λ x. fails_next x ≡ true) c.self.view_is (sym c.in_err-count.ensures.fails))))
+    rw p.1 (OpenFailed-memory c.args.self.now n _ (Later-from n c.self.view_is r.faults r.calls r.failing) is
+    (inl (subst (λ x. fails_next x ≡ true) c.self.view_is (sym c.in_err-count.ensures.fails))))
 
 pub returns-in-Some-clause-ok : goal.returns-in-Some-clause-ok
 returns-in-Some-clause-ok c =
     let n = memory_value c.self.inside.files (Some (record { file = c.in-Some.file; at = 0 })) c.self.inside.writing c.open-self-inside.result c.count.new.self c.self.inside.chunk in
     let is : n ≡ opened c.args.self.now c.args.name.now = search rules in
     let r = c.count.ensures.rises in
-    Opened-memory c.args.self.now n _ (Later-from n c.self.view_is r.faults r.calls r.failing) is (subst (λ x. contains_key x.held c.args.name.now ≡ true) c.self.view_is (contains_key-first c.in-Some.ensures))
+    Opened-memory c.args.self.now n _ (Later-from n c.self.view_is r.faults r.calls r.failing) is
+    (subst (λ x. contains_key x.held c.args.name.now ≡ true) c.self.view_is (contains_key-first c.in-Some.ensures))
 
 pub returns-in-Some-clause-opens : goal.returns-in-Some-clause-opens
-returns-in-Some-clause-opens c =
-    (λ _. (subst (λ x. fails_next x ≡ false) c.self.view_is (sym c.in_ok-count.ensures.fails), subst (λ x. contains_key x.held c.args.name.now ≡ true) c.self.view_is (contains_key-first c.in-Some.ensures)), λ _. refl)
+returns-in-Some-clause-opens c = (
+  λ _. (
+    subst (λ x. fails_next x ≡ false) c.self.view_is (sym c.in_ok-count.ensures.fails),
+    subst (λ x. contains_key x.held c.args.name.now ≡ true) c.self.view_is (contains_key-first c.in-Some.ensures),
+  ),
+  λ _. refl,
+)
 
 pub returns-in-None-clause-err : goal.returns-in-None-clause-err
 returns-in-None-clause-err c =
     let n = memory_value c.self.inside.files None c.self.inside.writing c.close-self-inside.result c.fault.new.self c.self.inside.chunk in
     let is : n ≡ not_opened c.args.self.now = search rules in
     let r = Rises-Rises c.count.ensures.rises c.fault.ensures.rises in
-    OpenFailed-memory c.args.self.now n _ (Later-from n c.self.view_is r.faults r.calls r.failing) is (inr (subst (λ x. contains_key x.held c.args.name.now ≡ false) c.self.view_is (contains_key-lacks _ _ c.in-None.ensures)))
+    OpenFailed-memory c.args.self.now n _ (Later-from n c.self.view_is r.faults r.calls r.failing) is
+    (inr (subst (λ x. contains_key x.held c.args.name.now ≡ false) c.self.view_is (contains_key-lacks _ _ c.in-None.ensures)))
 
 pub returns-in-None-clause-opens : goal.returns-in-None-clause-opens
 returns-in-None-clause-opens c =

@@ -7,4 +7,5 @@ use Rattle.net_core.proofs.names.NameSet.add.Goals as goal
 pub returns-clause-new : goal.returns-clause-new
 returns-clause-new c =
     let name = c.bytes.result.now in
-    c.in_ok-is_new.ensures.new ∙ ap not (has_name-keys name _) ∙ ap (λ (v : List Bytes). not (has_name v name)) c.self.view_is ∙ ap (λ (n : Bytes). not (has_name c.args.self.now n)) c.bytes.ensures.value
+    c.in_ok-is_new.ensures.new ∙ ap not (has_name-keys name _) ∙ ap (λ (v : List Bytes). not (has_name v name)) c.self.view_is ∙ ap (λ (n : Bytes). not (has_name c.args.self.now n))
+    c.bytes.ensures.value

@@ -13,7 +13,8 @@ loop-i-init c =
 
 pub table-requires : goal.table-requires
 table-requires c =
-    let next = next_at (length c.args.self.now.inputs) c.args.self.now.tables c.order-i-items.result.now c.order-i-items.ensures c.loop-i.i-index (get_or c.order-i-items.result.now c.loop-i.i-index 0) c.loop-i-test.true refl in
+    let next = next_at (length c.args.self.now.inputs) c.args.self.now.tables c.order-i-items.result.now c.order-i-items.ensures c.loop-i.i-index
+    (get_or c.order-i-items.result.now c.loop-i.i-index 0) c.loop-i-test.true refl in
     omega (arith, next.table)
 
 pub loop-i-preserved : goal.loop-i-preserved

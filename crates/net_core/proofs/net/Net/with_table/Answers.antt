@@ -17,7 +17,8 @@ with_tables-requires-clause-order c =
     let known = known_here (length c.self.inside.inputs) c.inputs-inputs.result c.args.t c.self.inside.order.items c.deref.result.now c.args.table.pins c.as_slice.result.now
     (c.inputs-inputs.ensures.value ∙ sym n) c.deref.ensures.value (c.as_slice.ensures ∙ c.pins.ensures.value) (c.are_known_at-known.ensures c.if-known.true) in
     subst (IsOrderOf (input_count c.args.self.now) c.in_ok-tables.tables) (sym (c.in_ok-order.ensures.items ∙ c.deref-then-known.ensures.value))
-    (order_here (input_count c.args.self.now) (length c.self.inside.inputs) c.in_ok-tables.tables (set c.self.inside.tables c.args.t c.args.table) c.self.inside.order.items n (sym c.in_ok-tables.ensures)
+    (order_here (input_count c.args.self.now) (length c.self.inside.inputs) c.in_ok-tables.tables (set c.self.inside.tables c.args.t c.args.table) c.self.inside.order.items n
+    (sym c.in_ok-tables.ensures)
     (order-replaced (length c.self.inside.inputs) c.self.inside.tables c.args.t c.args.table within c.self.inside.order.items c.self.invariant.1 known))
 
 pub with_tables-requires-2-clause-wired : goal.with_tables-requires-2-clause-wired

@@ -10,4 +10,5 @@ returns c =
     let items = with_items_is c.self.inside.marks c.mark_dependents.new.marks (omega arith) in
     let whole : length c.mark_dependents.new.marks ≡ signal_count c.args.net.now =
     c.mark_dependents.auto.marks ∙ ap length c.deref_mut.ensures.value ∙ ap (λ (m : RoomAndMoves). m.room) c.self.view_is ∙ c.requires.room in
-    rw items (all_signals_left c.args.net.now c.args.t c.args.self.now.room c.mark_dependents.new.marks c.mark_dependents.ensures.built.sound.acyclic whole c.requires.room c.mark_dependents.ensures.marks)
+    rw items (all_signals_left c.args.net.now c.args.t c.args.self.now.room c.mark_dependents.new.marks c.mark_dependents.ensures.built.sound.acyclic whole c.requires.room
+    c.mark_dependents.ensures.marks)

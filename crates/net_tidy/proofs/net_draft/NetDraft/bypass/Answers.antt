@@ -8,7 +8,8 @@ use Rattle.net_tidy.proofs.net_draft.NetDraft.bypass.Goals as goal
 
 pub bypass-requires-clause-differ : goal.bypass-requires-clause-differ
 bypass-requires-clause-differ c =
-    own_pin c.args.self.now.net c.args.t _ _ c.table-table.result.now c.pins.result.now c.requires.sound c.requires.within c.requires.rule c.signal-from.ensures c.table-table.ensures c.pins.ensures refl
+    own_pin c.args.self.now.net c.args.t _ _ c.table-table.result.now c.pins.result.now c.requires.sound c.requires.within c.requires.rule c.signal-from.ensures c.table-table.ensures c.pins.ensures
+    refl
 
 pub invariant_of-self-2 : goal.invariant_of-self-2
 invariant_of-self-2 c =

@@ -16,7 +16,10 @@ table_list-requires-clause-formed c =
 
 pub from_sound-requires-clause-wired : goal.from_sound-requires-clause-wired
 from_sound-requires-clause-wired c =
-    let parts = dense_parts (record { net = record { model = c.self.inside.model; inputs = c.self.inside.inputs; tables = c.self.inside.tables; outputs = c.self.inside.outputs.items }; gone = c.self.inside.gone.items })
+    let parts = dense_parts (record {
+      net = record { model = c.self.inside.model; inputs = c.self.inside.inputs; tables = c.self.inside.tables; outputs = c.self.inside.outputs.items };
+      gone = c.self.inside.gone.items;
+    })
     c.len.result c.deref.result.now c.in_ok-numbers.numbers.items c.deref-3.result.now c.in_ok-tables.tables c.deref-5.result.now c.in_ok-outputs.outputs
     (subst (λ (E : DraftValue). IsSound E.net) (sym c.self.view_is) c.requires.draft) c.self.invariant.1 c.len.ensures c.deref.ensures.value c.in_ok-numbers.ensures
     (c.deref-3.ensures.value ∙ c.into_numbered.ensures ∙ ap (λ (ns : List ℕ). map (renamed (number_at ns)) c.self.inside.tables) c.deref-2.ensures.value)
@@ -27,7 +30,10 @@ from_sound-requires-clause-wired c =
 
 pub from_sound-requires-clause-acyclic : goal.from_sound-requires-clause-acyclic
 from_sound-requires-clause-acyclic c =
-    let parts = dense_parts (record { net = record { model = c.self.inside.model; inputs = c.self.inside.inputs; tables = c.self.inside.tables; outputs = c.self.inside.outputs.items }; gone = c.self.inside.gone.items })
+    let parts = dense_parts (record {
+      net = record { model = c.self.inside.model; inputs = c.self.inside.inputs; tables = c.self.inside.tables; outputs = c.self.inside.outputs.items };
+      gone = c.self.inside.gone.items;
+    })
     c.len.result c.deref.result.now c.in_ok-numbers.numbers.items c.deref-3.result.now c.in_ok-tables.tables c.deref-5.result.now c.in_ok-outputs.outputs
     (subst (λ (E : DraftValue). IsSound E.net) (sym c.self.view_is) c.requires.draft) c.self.invariant.1 c.len.ensures c.deref.ensures.value c.in_ok-numbers.ensures
     (c.deref-3.ensures.value ∙ c.into_numbered.ensures ∙ ap (λ (ns : List ℕ). map (renamed (number_at ns)) c.self.inside.tables) c.deref-2.ensures.value)
@@ -38,7 +44,10 @@ from_sound-requires-clause-acyclic c =
 
 pub returns : goal.returns
 returns c =
-    let parts = dense_parts (record { net = record { model = c.self.inside.model; inputs = c.self.inside.inputs; tables = c.self.inside.tables; outputs = c.self.inside.outputs.items }; gone = c.self.inside.gone.items })
+    let parts = dense_parts (record {
+      net = record { model = c.self.inside.model; inputs = c.self.inside.inputs; tables = c.self.inside.tables; outputs = c.self.inside.outputs.items };
+      gone = c.self.inside.gone.items;
+    })
     c.len.result c.deref.result.now c.in_ok-numbers.numbers.items c.deref-3.result.now c.in_ok-tables.tables c.deref-5.result.now c.in_ok-outputs.outputs
     (subst (λ (E : DraftValue). IsSound E.net) (sym c.self.view_is) c.requires.draft) c.self.invariant.1 c.len.ensures c.deref.ensures.value c.in_ok-numbers.ensures
     (c.deref-3.ensures.value ∙ c.into_numbered.ensures ∙ ap (λ (ns : List ℕ). map (renamed (number_at ns)) c.self.inside.tables) c.deref-2.ensures.value)

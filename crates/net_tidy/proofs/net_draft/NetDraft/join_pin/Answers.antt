@@ -10,7 +10,8 @@ use Rattle.net_tidy.proofs.net_draft.NetDraft.join_pin.Goals as goal
 
 pub join_rows-requires-clause-pin : goal.join_rows-requires-clause-pin
 join_rows-requires-clause-pin c =
-    let place = place_is c.args.self.now.net c.args.t c.first_place-p.result c.args.q c.table-table.result.now c.pins-pins.result.now c.requires.within c.table-table.ensures c.pins-pins.ensures c.first_place-p.ensures in
+    let place = place_is c.args.self.now.net c.args.t c.first_place-p.result c.args.q c.table-table.result.now c.pins-pins.result.now c.requires.within c.table-table.ensures c.pins-pins.ensures
+    c.first_place-p.ensures in
     let earlier = first_place (table_at c.args.self.now.net.tables c.args.t).pins (pin_at (table_at c.args.self.now.net.tables c.args.t) c.args.q) c.args.q c.requires.repeated in
     let low = c.requires.pin in
     omega (arith, place, earlier.0, low)
@@ -28,11 +29,13 @@ remove_pin-requires-clause-widths c =
 pub returns-then-agrees : goal.returns-then-agrees
 returns-then-agrees c =
     two_steps c.args.self.now _ _ _ _ _ c.join_rows.ensures c.remove_pin.ensures
-    (joined_then c.args.self.now.net c.args.t c.first_place-p.result c.args.q c.table-table.result.now c.pins-pins.result.now c.requires.within c.table-table.ensures c.pins-pins.ensures c.first_place-p.ensures
+    (joined_then c.args.self.now.net c.args.t c.first_place-p.result c.args.q c.table-table.result.now c.pins-pins.result.now c.requires.within c.table-table.ensures c.pins-pins.ensures
+    c.first_place-p.ensures
     _ _ (sym c.agrees.ensures ∙ c.if-agrees.true) (ap (λ (D : DraftValue). D.net) c.join_rows.ensures) refl)
 
 pub returns-else-agrees : goal.returns-else-agrees
 returns-else-agrees c =
     one_step c.args.self.now _ _ _ c.make_opposite.ensures
-    (joined_else c.args.self.now.net c.args.t c.first_place-p.result c.args.q c.table-table.result.now c.pins-pins.result.now c.requires.within c.table-table.ensures c.pins-pins.ensures c.first_place-p.ensures
+    (joined_else c.args.self.now.net c.args.t c.first_place-p.result c.args.q c.table-table.result.now c.pins-pins.result.now c.requires.within c.table-table.ensures c.pins-pins.ensures
+    c.first_place-p.ensures
     _ (table_at c.args.self.now.net.tables c.args.t).plane (sym c.agrees.ensures ∙ c.if-agrees.false) (ap (λ (u : TableValue). u.plane) (sym c.table-table.ensures)) refl)

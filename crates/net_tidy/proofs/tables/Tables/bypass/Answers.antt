@@ -9,10 +9,12 @@ pub keep_readers-requires : goal.keep_readers-requires
 keep_readers-requires c = read_room c.self.inside.tables.items c.args.self.now c.self.inside.readers c.args.from c.self.invariant c.self.view_is c.requires.from
 
 pub share-requires-clause-from : goal.share-requires-clause-from
-share-requires-clause-from c = kept_room _ _ _ _ _ (read_room c.self.inside.tables.items c.args.self.now c.self.inside.readers c.args.from c.self.invariant c.self.view_is c.requires.from) c.keep_readers.ensures
+share-requires-clause-from c = kept_room _ _ _ _ _ (read_room c.self.inside.tables.items c.args.self.now c.self.inside.readers c.args.from c.self.invariant c.self.view_is c.requires.from)
+    c.keep_readers.ensures
 
 pub share-requires-clause-to : goal.share-requires-clause-to
-share-requires-clause-to c = kept_room _ _ _ _ _ (read_room c.self.inside.tables.items c.args.self.now c.self.inside.readers c.args.to c.self.invariant c.self.view_is c.requires.to) c.keep_readers.ensures
+share-requires-clause-to c = kept_room _ _ _ _ _ (read_room c.self.inside.tables.items c.args.self.now c.self.inside.readers c.args.to c.self.invariant c.self.view_is c.requires.to)
+    c.keep_readers.ensures
 
 pub invariant_of-self : goal.invariant_of-self
 invariant_of-self c =
@@ -22,12 +24,14 @@ invariant_of-self c =
 
 pub read_past-requires-clause-listed : goal.read_past-requires-clause-listed
 read_past-requires-clause-listed c =
-    listed_shared_in c.self.inside.tables.items c.args.self.now c.deref.result.now c.deref_mut.result.now c.self.inside.readers c.keep_readers.new.self c.share.new.self c.of.result.now c.args.from c.args.to
+    listed_shared_in c.self.inside.tables.items c.args.self.now c.deref.result.now c.deref_mut.result.now c.self.inside.readers c.keep_readers.new.self c.share.new.self c.of.result.now c.args.from
+    c.args.to
     c.self.invariant c.self.view_is c.requires.from c.requires.to c.deref.ensures.value c.keep_readers.ensures c.in_ok-share.ensures.ok c.deref_mut.ensures.value c.of.ensures
 
 pub clear-requires : goal.clear-requires
 clear-requires c =
-    kept_room _ _ _ _ _ (kept_room _ _ _ _ _ (read_room c.self.inside.tables.items c.args.self.now c.self.inside.readers c.args.from c.self.invariant c.self.view_is c.requires.from) c.keep_readers.ensures)
+    kept_room _ _ _ _ _ (kept_room _ _ _ _ _ (read_room c.self.inside.tables.items c.args.self.now c.self.inside.readers c.args.from c.self.invariant c.self.view_is c.requires.from)
+    c.keep_readers.ensures)
     c.in_ok-share.ensures.ok
 
 pub invariant_of-self-2 : goal.invariant_of-self-2

@@ -22,7 +22,8 @@ pub returns : goal.returns
 returns c = λ g vectors is.
     let count = ap (λ (s : SimValue). s.count) c.self.view_is in
     literal_row g vectors c.args.self.now.rows _ c.and_rows.new.dst c.clear_past.new.row c.args.literal c.self.inside.count (length c.args.dst.now) c.side_of-from.result.flip
-    (omega (arith, c.requires.literal, is.is_for.nodes)) (count ∙ is.is_for.count) is.rows c.side_of-from.ensures.flip (c.and_rows.auto.dst ∙ c.requires.room ∙ ap word_count (sym count)) (sym c.and_rows.auto.dst)
+    (omega (arith, c.requires.literal, is.is_for.nodes)) (count ∙ is.is_for.count) is.rows c.side_of-from.ensures.flip (c.and_rows.auto.dst ∙ c.requires.room ∙ ap word_count (sym count))
+    (sym c.and_rows.auto.dst)
     (λ p low. part_read c.as_slice-rows.result.now c.args.self.now.rows c.side_of-from.result.start (length c.args.dst.now) (c.args.literal / 2 * length c.args.dst.now) p
     (c.as_slice-rows.ensures.value ∙ ap (λ (s : SimValue). s.rows) c.self.view_is) c.side_of-from.ensures.start low)
     c.and_rows.ensures c.clear_past.ensures.same c.clear_past.ensures.clear c.clear_past.auto.row
