@@ -140,11 +140,11 @@ fn main_tables(
 }
 
 /// The flat tables of the main model, over so many levels of models, and the signals of its outputs.
-fn main_parts(
+fn main_parts<'a>(
     alloc: Global,
-    sizes: &Sizes,
+    sizes: &Sizes<'_, '_, 'a>,
     levels: usize,
-    main: &BlifModel,
+    main: &BlifModel<'a>,
 ) -> Result<(TableList, SignalList), AllocError>
     requires main { main.now ≡ main_of sizes.now }
     requires all { AreReady sizes.now }
@@ -162,11 +162,11 @@ fn main_parts(
 }
 
 /// The flat net of models that pass no limit, or the refusal of a cycle.
-fn made_net(
+fn made_net<'a>(
     alloc: Global,
-    sizes: &Sizes,
+    sizes: &Sizes<'_, '_, 'a>,
     models: &[BlifModel],
-    main: &BlifModel,
+    main: &BlifModel<'a>,
 ) -> Result<Net, BlifRefusal>
     requires reading { IsReading models.now }
     requires sizes { sizes.now ≡ models.now }
@@ -185,11 +185,11 @@ fn made_net(
 
 /// The flat net of models that are found by their names, or the refusal of a limit, which is decided by
 /// counting, or else of a cycle.
-fn counted_net(
+fn counted_net<'a>(
     alloc: Global,
-    found: &Interfaces,
+    found: &Interfaces<'_, 'a>,
     models: &[BlifModel],
-    main: &BlifModel,
+    main: &BlifModel<'a>,
 ) -> Result<Net, BlifRefusal>
     requires reading { IsReading models.now }
     requires found { found.now ≡ models.now }
