@@ -13,6 +13,9 @@ use semantics::limits::MOST_INPUTS;
 use std::alloc::{AllocError, Global};
 use std::marker::Model;
 
+/// The most inputs whose vectors are all held: with 24 inputs a row takes two megabytes, and all rows 48.
+pub const MOST_COUNTED_INPUTS: u32 = 24;
+
 /// A list of vectors, each of one bit for each input.
 #[derive(Drop)]
 pub struct Patterns {
@@ -108,7 +111,7 @@ impl Patterns {
 
     /// All vectors in counting order, made row by row.
     pub fn exhaustive(alloc: Global, inputs: u32) -> Result<Patterns, AllocError>
-        requires { inputs ≤ 16 }
+        requires { inputs ≤ MOST_COUNTED_INPUTS }
         ensures { IfOk result (λ s. s ≡ record { inputs = inputs; vectors = all_vectors inputs }) }
     {
         let count = 1 << inputs;
