@@ -14,7 +14,7 @@ use std::test::Fail;
 enum Damage<'a> {
     /// Nothing.
     Spared,
-    /// It is not there.
+    /// The file is not there.
     Missing,
     /// Nothing is left of its text.
     Emptied,
