@@ -3,6 +3,7 @@ mod FlatPlaces
 mod FlatFrames
 mod FlatMade
 mod Weighed
+mod Settled
 mod Framing
 mod FlatSteps
 mod Limited
