@@ -1,7 +1,7 @@
 -- The weights of models in an order in which each stands after those that it uses: those of the first k are the
 -- same over k levels of models and over any more.
-use Rattle.std.proofs.Common.{◌≡◌, ℕ, zero, suc, ◌+◌, ◌-◌, ◌<◌, ◌≤◌, List, [], ◌∷◌, map, length, get_or, set, sum_by, take, replicate, bytes_eq, Option, Some, None, refl, ap, sym, subst, ◌∙◌, arith}
-use Rattle.std.specs.List.{AllByRecursion, position_or_len}
+use Rattle.std.proofs.Common.{◌≡◌, ℕ, zero, suc, ◌+◌, ◌-◌, ◌<◌, ◌≤◌, List, [], ◌∷◌, map, length, get_or, set, sum_by, take, Option, Some, None, refl, ap, sym, subst, ◌∙◌, arith}
+use Rattle.std.specs.List.{AllByRecursion}
 use Rattle.std.proofs.lemmas.List.{length-map, get_or-map, get_or_read, ext_get_or}
 use Rattle.semantics.specs.Texts.{Bytes}
 use Rattle.semantics.specs.Net.{TableValue, table_at}
@@ -14,7 +14,7 @@ use Rattle.hierarchy_semantics.specs.Models.{Subcircuit, BlifModel, Hierarchy, n
 use Rattle.hierarchy_semantics.specs.Refusals.{model_names}
 use Rattle.hierarchy_semantics.specs.Counts.{Weight, part_weight, model_weight}
 use Rattle.hier_parts.specs.Users.{user_table, users, IsModelOrder}
-use Rattle.hier_parts.proofs.Found.{placed, model-at, model-none}
+use Rattle.hier_parts.proofs.Found.{model-at, model-none}
 use Rattle.hier_parts.proofs.Grounded.{user_at}
 use Rattle.hier_flat.specs.Weights.{capped, weight_named, AreWeights, level_weights}
 use Rattle.hier_flat.proofs.Weighed.{none_weighs}

@@ -6,7 +6,7 @@ use Rattle.std.proofs.lemmas.List.{length-map, drop_more, drop_all}
 use Rattle.std.proofs.lemmas.List.Sums.{sum_by-cons}
 use Rattle.semantics.specs.Texts.{Bytes}
 use Rattle.blif_text.specs.Names.{place_of}
-use Rattle.hierarchy_semantics.specs.Models.{Subcircuit, Part, names_part, subckt_part, BlifModel, Hierarchy, no_model, model_named, part_uses}
+use Rattle.hierarchy_semantics.specs.Models.{Subcircuit, Part, subckt_part, BlifModel, Hierarchy, no_model, model_named, part_uses}
 use Rattle.hierarchy_semantics.specs.Driven.{bound_outputs}
 use Rattle.hierarchy_semantics.specs.Refusals.{model_names}
 use Rattle.hierarchy_semantics.specs.Counts.{Weight, part_weight, model_weight}

@@ -107,8 +107,8 @@ pub fn model_weight(models: &Interfaces, measure: Measure, inside: &[u64], m: &B
     total
 }
 
-/// What each model counts, in one pass over the models in an order where each stands after those that it
-/// uses. The result has room for one number a model.
+/// What each model counts, in one pass over the models, in an order where each stands after those that it
+/// uses.
 pub fn weights(
     alloc: Global,
     found: &Interfaces,
