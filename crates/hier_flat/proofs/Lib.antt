@@ -4,6 +4,7 @@ mod FlatFrames
 mod FlatMade
 mod Weighed
 mod Settled
+mod ModelOrders
 mod Framing
 mod FlatSteps
 mod Limited

@@ -1,14 +1,13 @@
 -- What is known of a hierarchy that was read.
-use Rattle.std.proofs.Common.{All, ap, subst, sym, ◌∙◌}
+use Rattle.std.proofs.Common.{ap, subst, sym, ◌∙◌}
 use Rattle.std.specs.List.{AllByRecursion}
-use Rattle.std.proofs.lemmas.List.Elements.{All-from_recursion}
 use Rattle.semantics.specs.Net.{IsName}
 use Rattle.semantics.specs.Refusals.{first_doubled}
 use Rattle.blif_semantics.specs.Lines.{logical_lines, statements}
 use Rattle.hierarchy_semantics.specs.Models.{Part, names_part, subckt_part, BlifModel, Hierarchy, model_named}
 use Rattle.hierarchy_semantics.proofs.Members.{IsIn, each_in}
 use Rattle.hierarchy_semantics.proofs.Placed.{IsGood}
-use Rattle.hierarchy_semantics.proofs.Accepted.{HasNoRefusal, read_parts, good_reading}
+use Rattle.hierarchy_semantics.proofs.Accepted.{read_parts, good_reading}
 use Rattle.hierarchy_semantics.proofs.Formed.{IsFormed, formed, HasFormedParts, formed_named}
 use Rattle.hier_flat.specs.Hierarchies.{IsReading}
 use Rattle.hier_flat.specs.Flattening.{IsFormedPart, AreReady}
@@ -35,12 +34,3 @@ reading_ready h reading name = record {
   once = ap first_doubled (sym (driven-same h (model_named h name))) ∙ ((reading_good h reading).named name).once;
   formed = parts_formed (model_named h name) (formed_named h (reading_formed h reading) name);
 }
-
--- no refusal holds of it
-pub reading_right : (h : Hierarchy) → IsReading h → HasNoRefusal h
-reading_right h reading = (read_parts reading.text reading.most h reading.read).none
-
--- its models have names
-pub reading_named : (h : Hierarchy) → IsReading h → All (λ (m : BlifModel). IsName m.name) h
-reading_named h reading =
-    All-from_recursion (λ (m : BlifModel). IsName m.name) h (each_in (λ (m : BlifModel). IsName m.name) h (λ m inside. (reading_formed h reading m inside).name))

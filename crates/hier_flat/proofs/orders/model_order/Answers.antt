@@ -4,7 +4,7 @@ use Rattle.std.proofs.lemmas.Result.{MatchResult-at_err}
 use Rattle.semantics.specs.Refusals.{first_ungrounded}
 use Rattle.hier_parts.specs.Users.{users, IsModelOrder}
 use Rattle.hier_parts.proofs.Grounded.{one_recursive}
-use Rattle.hier_flat.proofs.Readings.{reading_right, reading_named}
+use Rattle.hier_flat.proofs.ModelOrders.{reading_right, reading_named}
 use Rattle.hier_flat.proofs.orders.model_order.Goals as goal
 
 pub order_models-requires-clause-named : goal.order_models-requires-clause-named
