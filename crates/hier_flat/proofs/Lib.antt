@@ -3,6 +3,8 @@ mod FlatPlaces
 mod FlatFrames
 mod FlatMade
 mod Weighed
+mod Settled
+mod ModelOrders
 mod Framing
 mod FlatSteps
 mod Limited

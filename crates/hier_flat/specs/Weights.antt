@@ -1,12 +1,13 @@
 -- How much models count, as far as a `u64` holds it.
 use Rattle.std.specs.Prelude.{◌≡◌, ℕ, ◌-◌, ◌^◌, min, Bool, not, nat_le, length, List, map, Option}
 use Rattle.std.specs.Prelude.{slice_index_or, Some, None, if◌then◌else◌}
+use Rattle.std.specs.List.{AllByRecursion}
 use Rattle.semantics.specs.declared.which.Which.{Which}
 use Rattle.semantics.specs.declared.which.Which.TheVariants as which
 use Rattle.semantics.specs.declared.limits.TheConstants.{MOST_TABLE_PINS}
 use Rattle.semantics.specs.Texts.{Bytes}
 use Rattle.blif_text.specs.Names.{place_of}
-use Rattle.hierarchy_semantics.specs.Models.{BlifModel, Hierarchy, model_named}
+use Rattle.hierarchy_semantics.specs.Models.{Subcircuit, BlifModel, Hierarchy, model_named}
 use Rattle.hierarchy_semantics.specs.Refusals.{model_names}
 use Rattle.hierarchy_semantics.specs.Counts.{Weight, model_weight}
 use Rattle.hier_flat.specs.declared.weights.Measure.{Measure}
@@ -27,12 +28,12 @@ abbrev pub weight_named : Hierarchy → List ℕ → Bytes → ℕ
 weight_named h weights name
     = elim (place_of (model_names h) name) [ None ↦ 0 | Some i ↦ slice_index_or weights i 0 ]
 
--- these are the weights of the models
-abbrev pub AreWeights : Hierarchy → List ℕ → (BlifModel → ℕ) → Type 0
-AreWeights h weights inside = (name : Bytes)
-    → weight_named h weights name ≡ capped (inside (model_named h name))
+-- the models that are used here have these weights
+abbrev pub AreWeights : Hierarchy → List ℕ → (BlifModel → ℕ) → List Subcircuit → Type 0
+AreWeights h weights inside uses
+    = AllByRecursion (λ c. weight_named h weights c.model ≡ capped (inside (model_named h c.model))) uses
 
--- those over so many levels of models
+-- the weights of all models over so many levels of models
 abbrev pub level_weights : Hierarchy → Weight → ℕ → List ℕ
 level_weights h w levels = map (λ m. capped (model_weight h w levels m)) h
 

@@ -4,6 +4,7 @@ ghost use Rattle.semantics.specs.Refusals.{first_limit};
 ghost use Rattle.hierarchy_semantics.specs.Models.{main_of};
 ghost use Rattle.hierarchy_semantics.specs.Counts.{flat_weight};
 ghost use Rattle.hierarchy_semantics.specs.Flat.{flat_net};
+ghost use Rattle.hier_parts.specs.Users.{IsModelOrder};
 ghost use Rattle.hier_flat.specs.Weights.{weight_of, capped, limit_by};
 
 use crate::weights::{Measure, weights};
@@ -18,12 +19,14 @@ fn main_weight(
     alloc: Global,
     found: &Interfaces,
     models: &[BlifModel],
+    order: &[u32],
     measure: Measure,
 ) -> Result<u64, AllocError>
-    requires { found.now ≡ models.now }
+    requires found { found.now ≡ models.now }
+    requires order { IsModelOrder models.now order.now }
     ensures { IfOk result (λ n. n ≡ capped (flat_weight models.now (weight_of measure))) }
 {
-    let weights = weights(alloc, found, measure, models)?;
+    let weights = weights(alloc, found, measure, models, order)?;
     match weights.first() {
         Some(weight) => Ok(*weight),
         None => Ok(0),
@@ -77,21 +80,23 @@ fn limit_by(
     }
 }
 
-/// The first limit that the flat net passes.
+/// The first limit that the flat net passes. The order is one of the models, each after those that it uses.
 pub fn counted_limit(
     alloc: Global,
     found: &Interfaces,
     models: &[BlifModel],
+    order: &[u32],
     main: &BlifModel,
 ) -> Result<Option<Which>, AllocError>
     requires found { found.now ≡ models.now }
+    requires order { IsModelOrder models.now order.now }
     requires main { main.now ≡ main_of models.now }
     ensures { IfOk result (λ o. o ≡ first_limit (flat_net models.now)) }
 {
-    let tables = main_weight(alloc, found, models, Measure::Tables)?;
-    let wide = main_weight(alloc, found, models, Measure::WideTables)?;
-    let pins = main_weight(alloc, found, models, Measure::Pins)?;
-    let rows = main_weight(alloc, found, models, Measure::Rows)?;
+    let tables = main_weight(alloc, found, models, order, Measure::Tables)?;
+    let wide = main_weight(alloc, found, models, order, Measure::WideTables)?;
+    let pins = main_weight(alloc, found, models, order, Measure::Pins)?;
+    let rows = main_weight(alloc, found, models, order, Measure::Rows)?;
     Ok(limit_by(
         passes(input_count(main) as u64, MOST_INPUTS),
         passes(output_count(main) as u64, MOST_OUTPUTS),

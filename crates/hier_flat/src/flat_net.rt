@@ -9,6 +9,7 @@ ghost use Rattle.hierarchy_semantics.specs.Models.{main_of};
 ghost use Rattle.hierarchy_semantics.specs.Refusals.{flat, model_names};
 ghost use Rattle.hierarchy_semantics.specs.Flat.{flat_net, flat_checked, flattened};
 ghost use Rattle.hier_parts.specs.Sets.{with_names};
+ghost use Rattle.hier_parts.specs.Users.{IsModelOrder};
 ghost use Rattle.hier_flat.specs.Hierarchies.{IsReading};
 ghost use Rattle.hier_flat.specs.Refusals.{Tells, TellsOne};
 ghost use Rattle.hier_flat.specs.Flattening.{signal_of, with_model, main_signal, IsReady, AreReady};
@@ -16,6 +17,7 @@ ghost use Rattle.hier_flat.specs.Flattening.{signal_of, with_model, main_signal,
 use crate::counting::counted_limit;
 use crate::flat_tables::{add_model, pins};
 use crate::frames::{Frame, Sizes, frame_of};
+use crate::orders::model_order;
 use blif_text::name_list::name_list;
 use blif_text::refusal::BlifRefusal;
 use hier_parts::interfaces::Interfaces;
@@ -189,21 +191,23 @@ fn counted_net<'a>(
     alloc: Global,
     found: &Interfaces<'_, 'a>,
     models: &[BlifModel],
+    order: &[u32],
     main: &BlifModel<'a>,
 ) -> Result<Net, BlifRefusal>
     requires reading { IsReading models.now }
     requires found { found.now ≡ models.now }
+    requires order { IsModelOrder models.now order.now }
     requires main { main.now ≡ main_of models.now }
     ensures ok { IfOk result (λ n. flattened models.now ≡ Ok n) }
     ensures sound { IfOk result (λ n. IsSound n) }
     ensures small { IfOk result (λ n. IsSmall n) }
     ensures err { IfErr result (λ told. Tells told (flattened models.now)) }
 {
-    let limit = counted_limit(alloc, found, models, main)?;
+    let limit = counted_limit(alloc, found, models, order, main)?;
     match limit {
         Some(which) => Err(BlifRefusal::Limit { which }),
         None => {
-            let sizes = Sizes::new(alloc, found, models)?;
+            let sizes = Sizes::new(alloc, found, models, order)?;
             made_net(alloc, &sizes, models, main)
         }
     }
@@ -229,7 +233,8 @@ pub fn flatten_models(alloc: Global, models: &[BlifModel]) -> Result<Net, BlifRe
         return Err(BlifRefusal::OutOfMemory);
     };
     let known = name_set(alloc, models)?;
+    let order = model_order(alloc, &known, models)?;
     let none = BlifModel::none(alloc);
     let found = Interfaces::new(alloc, known, models, &none)?;
-    counted_net(alloc, &found, models, main)
+    counted_net(alloc, &found, models, &order, main)
 }

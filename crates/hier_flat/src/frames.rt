@@ -5,6 +5,7 @@ ghost use Rattle.semantics.specs.Refusals.{has_name, first_doubled};
 ghost use Rattle.hierarchy_semantics.specs.Models.{model_named};
 ghost use Rattle.hierarchy_semantics.specs.Places.{actual_of};
 ghost use Rattle.hier_parts.specs.Sections.{part_value};
+ghost use Rattle.hier_parts.specs.Users.{IsModelOrder};
 ghost use Rattle.hier_flat.specs.Weights.{capped};
 ghost use Rattle.hier_parts.specs.Driven.{driven_names};
 ghost use Rattle.hier_flat.specs.Flattening.{size_of, part_size, own_signals, part_signals, signal_of};
@@ -39,16 +40,19 @@ impl<'f, 'm, 'a> Model for Sizes<'f, 'm, 'a> {
 }
 
 impl<'f, 'm, 'a> Sizes<'f, 'm, 'a> {
-    /// These models, and the number of flat tables of each, which is counted here.
+    /// These models, and the number of flat tables of each, which is counted here. The order is one of the
+    /// models, each after those that it uses.
     pub fn new(
         alloc: Global,
         models: &'f Interfaces<'m, 'a>,
         all: &[BlifModel],
+        order: &[u32],
     ) -> Result<Sizes<'f, 'm, 'a>, AllocError>
-        requires { models.now ≡ all.now }
+        requires models { models.now ≡ all.now }
+        requires order { IsModelOrder all.now order.now }
         ensures { IfOk result (λ s. s ≡ all.now) }
     {
-        let sizes = weights(alloc, models, Measure::Tables, all)?;
+        let sizes = weights(alloc, models, Measure::Tables, all, order)?;
         Ok(Sizes { models, sizes })
     }
 

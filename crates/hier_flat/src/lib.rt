@@ -5,4 +5,5 @@ mod counting;
 pub mod flat_net;
 mod flat_tables;
 mod frames;
+mod orders;
 mod weights;

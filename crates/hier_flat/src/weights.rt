@@ -1,9 +1,10 @@
 //! How much the flat tables of models are, counted over their statements: no flat table is made.
-ghost use Rattle.std.specs.Prelude.{◌≡◌, ℕ, ◌*◌, true, IfOk, length, map, filter, sum_by};
+ghost use Rattle.std.specs.Prelude.{◌≡◌, ℕ, ◌*◌, IfOk, length, filter, sum_by};
 ghost use Rattle.semantics.specs.Refusals.{has_name};
-ghost use Rattle.hierarchy_semantics.specs.Models.{BlifModel};
+ghost use Rattle.hierarchy_semantics.specs.Models.{BlifModel, part_uses, uses_of};
 ghost use Rattle.hierarchy_semantics.specs.Counts.{part_weight};
 ghost use Rattle.hier_parts.specs.Sections.{part_value};
+ghost use Rattle.hier_parts.specs.Users.{IsModelOrder};
 ghost use Rattle.hier_flat.specs.Weights.{weight_of, capped, weight_named, AreWeights, level_weights};
 
 use blif_text::named_table::NamedTable;
@@ -81,7 +82,8 @@ pub fn weight_at(models: &Interfaces, weights: &[u64], name: &[u8]) -> u64
 
 /// What a part counts, where the models inside count as much.
 pub fn part_weight(models: &Interfaces, measure: Measure, inside: &[u64], part: &Part) -> u64
-    ensures { (weight : BlifModel → ℕ) → AreWeights models.now inside.now weight
+    ensures { (weight : BlifModel → ℕ)
+        → AreWeights models.now inside.now weight (part_uses (part_value part.now))
         → result ≡ capped (part_weight models.now (weight_of measure) weight (part_value part.now)) }
 {
     match part {
@@ -95,7 +97,7 @@ pub fn part_weight(models: &Interfaces, measure: Measure, inside: &[u64], part: 
 
 /// What a model counts, where the models inside count as much.
 pub fn model_weight(models: &Interfaces, measure: Measure, inside: &[u64], m: &BlifModel) -> u64
-    ensures { (weight : BlifModel → ℕ) → AreWeights models.now inside.now weight
+    ensures { (weight : BlifModel → ℕ) → AreWeights models.now inside.now weight (uses_of m.now)
         → result ≡ capped (sum_by (part_weight models.now (weight_of measure) weight) m.now.parts) }
 {
     let mut total = 0u64;
@@ -105,48 +107,24 @@ pub fn model_weight(models: &Interfaces, measure: Measure, inside: &[u64], m: &B
     total
 }
 
-/// What each model counts, over one level more than those inside.
-fn next_weights(
-    alloc: Global,
-    found: &Interfaces,
-    measure: Measure,
-    inside: &[u64],
-    models: &[BlifModel],
-) -> Result<Vec<u64>, AllocError>
-    ensures { IfOk result (λ v. (weight : BlifModel → ℕ) → AreWeights found.now inside.now weight
-        → v.items ≡ map (λ m. capped (sum_by (part_weight found.now (weight_of measure) weight) m.parts))
-        models.now) }
-{
-    let mut weights = Vec::new(alloc);
-    for m in models {
-        weights.push(model_weight(found, measure, inside, m))?;
-    }
-    Ok(weights)
-}
-
-fn are_same(a: &[u64], b: &[u64]) -> bool
-    ensures { result ≡ true → a.now ≡ b.now }
-{
-    a == b
-}
-
-/// What each model counts: level by level, until a further level changes nothing.
+/// What each model counts, in one pass over the models, in an order where each stands after those that it
+/// uses.
 pub fn weights(
     alloc: Global,
     found: &Interfaces,
     measure: Measure,
     models: &[BlifModel],
+    order: &[u32],
 ) -> Result<Vec<u64>, AllocError>
-    requires { found.now ≡ models.now }
+    requires found { found.now ≡ models.now }
+    requires order { IsModelOrder models.now order.now }
     ensures { IfOk result (λ v. v.items ≡ level_weights models.now (weight_of measure) (length models.now)) }
 {
     let mut weights = vec![in alloc; 0; models.len()]?;
-    for _level in 0..models.len() {
-        let next = next_weights(alloc, found, measure, &weights, models)?;
-        if are_same(&next, &weights) {
-            return Ok(weights);
-        }
-        weights = next;
+    for place in order {
+        let at = *place as usize;
+        let weight = model_weight(found, measure, &weights, &models[at]);
+        weights[at] = weight;
     }
     Ok(weights)
 }
