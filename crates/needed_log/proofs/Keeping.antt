@@ -1,7 +1,7 @@
 -- What stands at marked places, and where.
-use Rattle.std.proofs.Common.{◌≡◌, ℕ, zero, suc, ◌<◌, ◌≤◌, Bool, true, false, List, [], ◌∷◌, ◌++◌, length, get_or, take, map, refl, ap, sym, ◌∙◌, arith}
-use Rattle.std.specs.Prelude.{All}
-use Rattle.std.proofs.lemmas.List.Elements.{All-head, All-tail}
+use Rattle.std.proofs.Common.{◌≡◌, ℕ, zero, suc, ◌<◌, ◌≤◌, Bool, true, false, List, [], ◌∷◌, ◌++◌, length, get_or, take, refl, ap, sym, ◌∙◌, ◌+◌, inl, inr, arith}
+use Rattle.std.proofs.lemmas.Bool.{cases_lt}
+use Rattle.std.proofs.lemmas.List.{get_or_append_left, get_or_push}
 use Rattle.needed_log.specs.Marks.{IsMarked}
 use Rattle.needed_log.specs.Renumbered.{kept, rank}
 
@@ -12,13 +12,20 @@ rank_marked (false ∷ marks) zero h = cc
 rank_marked (true ∷ marks) (suc k) h = ap suc (rank_marked marks k h)
 rank_marked (false ∷ marks) (suc k) h = rank_marked marks k h
 
-pub rank_unmarked : (marks : List Bool) (k : ℕ) → get_or marks k false ≡ false → rank marks (suc k) ≡ rank marks k
+rank_unmarked : (marks : List Bool) (k : ℕ) → get_or marks k false ≡ false → rank marks (suc k) ≡ rank marks k
 rank_unmarked [] zero h = refl
 rank_unmarked [] (suc k) h = refl
 rank_unmarked (true ∷ marks) zero h = cc
 rank_unmarked (false ∷ marks) zero h = refl
 rank_unmarked (true ∷ marks) (suc k) h = ap suc (rank_unmarked marks k h)
 rank_unmarked (false ∷ marks) (suc k) h = rank_unmarked marks k h
+
+-- one place further
+pub rank_more : (marks : List Bool) (k : ℕ) → IsMarked marks k → rank marks (k + 1) ≡ rank marks k + 1
+rank_more marks k h = let next : k + 1 ≡ suc k = omega arith in let more = rank_marked marks k h in ap (rank marks) next ∙ omega (arith, more)
+
+pub rank_stays : (marks : List Bool) (k : ℕ) → get_or marks k false ≡ false → rank marks (k + 1) ≡ rank marks k
+rank_stays marks k h = let next : k + 1 ≡ suc k = omega arith in ap (rank marks) next ∙ rank_unmarked marks k h
 
 pub rank_le : (marks : List Bool) (k : ℕ) → rank marks k ≤ k
 rank_le marks zero = omega arith
@@ -41,6 +48,14 @@ rank_rises marks j k h low = let here = rank_marked marks j h in let rest = rank
 pub rank_all : (marks : List Bool) (k : ℕ) → ((j : ℕ) → j < k → IsMarked marks j) → rank marks k ≡ k
 rank_all marks zero h = refl
 rank_all marks (suc k) h = rank_marked marks k (h k (omega arith)) ∙ ap suc (rank_all marks k (λ j low. h j (omega (arith, low))))
+
+-- the ids of one place more
+pub ids_more : (clauses : ℕ) (marks : List Bool) (ids new : List ℕ) (i next : ℕ) → length ids ≡ i → ((k : ℕ) → k < i → get_or ids k 0 ≡ clauses + 1 + rank marks k)
+    → next ≡ clauses + 1 + rank marks i → new ≡ ids ++ next ∷ [] → (k : ℕ) → k < i + 1 → get_or new k 0 ≡ clauses + 1 + rank marks k
+ids_more clauses marks ids new i next count h here is k low = elim (cases_lt k i) [
+  | inl before ↦ ap (λ all. get_or all k 0) is ∙ get_or_append_left ids (next ∷ []) 0 k (omega (arith, before, count)) ∙ h k before
+  | inr behind ↦ let at : k ≡ i = omega (arith, low, behind) in ap (λ all. get_or all k 0) is ∙ get_or_push ids next 0 k (count ∙ sym at) ∙ here ∙ ap (λ p. clauses + 1 + rank marks p) (sym at)
+]
 
 module _ {X : Type 0} where
   -- how many are kept of the first p

@@ -3,17 +3,16 @@ use Rattle.std.proofs.Common.{◌≡◌, ℕ, suc, ◌+◌, ◌-◌, ◌<◌, �
 use Rattle.std.specs.Prelude.{◌↔◌, ◌⊎◌}
 use Rattle.std.specs.List.{Contains}
 use Rattle.std.proofs.lemmas.Bool.{cases_lt, cases_eq}
-use Rattle.std.proofs.lemmas.List.{take_more, length-set, get_or-set_same, get_or-set_other}
+use Rattle.std.proofs.lemmas.List.{take_more, length-set, get_or-set_same, get_or-set_other, get_or_past, get_or_read}
 use Rattle.std.proofs.lemmas.List.Elements.{Contains-append_left, Contains-push, Contains-push_cases}
+use Rattle.proof_semantics.specs.declared.item.Item.TheVariants.{Remove}
 use Rattle.proof_semantics.specs.Formula.{Formula}
 use Rattle.proof_semantics.specs.Logs.{LogItem, IsDerivation}
+use Rattle.needed_log.specs.Needed.{hints_of}
 use Rattle.needed_log.specs.Marks.{IsMarked, hints_at, AreMarkedToo, AreFirstMarks, AreMarked}
 use Rattle.needed_log.proofs.Steps.{hint_before}
 
 -- ---- the hints of one step
-
-contains_none : (id : ℕ) → ¬ Contains (take 0 ([] {A = ℕ})) id
-contains_none id m = let low = m.1 in omega (arith, low)
 
 pub too_none : (clauses : ℕ) (hints : List ℕ) (marks : List Bool) → AreMarkedToo clauses (take 0 hints) marks marks
 too_none clauses hints marks = record { count = refl; exactly = λ k low. (inl, λ h. elim h [ | inl m ↦ m | inr named ↦ absurd (let bad = named.1 in omega (arith, bad)) ]) }
@@ -100,7 +99,7 @@ marked_unmarked clauses first place next log marks e none h = record {
   needed = λ k high low m. let found = h.needed k high low m in let from = found.2 in (found.0, found.1, omega (arith, from, e), found.3, found.4, found.5);
 }
 
-pub marked_named : (f : Formula) (first place next : ℕ) (log : List LogItem) (old new : List Bool) → IsDerivation f log → next ≡ suc place → place < length log
+marked_named : (f : Formula) (first place next : ℕ) (log : List LogItem) (old new : List Bool) → IsDerivation f log → next ≡ suc place → place < length log
     → IsMarked old place → AreMarkedToo (length f.clauses) (hints_at log place) old new
     → AreMarked (length f.clauses) first next log old → AreMarked (length f.clauses) first place log new
 marked_named f first place next log old new d e within here too h = record {
@@ -120,7 +119,7 @@ marked_named f first place next log old new d e within here too h = record {
   stays k inside m = (too.exactly k inside).1 (inl m)
 
   none_out : (k : ℕ) → length old ≤ k → ¬ IsMarked old k
-  none_out k out m = ?
+  none_out k out m = let past : get_or old k false ≡ false = get_or_past old k false out in let no : ⊥ = cc in no
 
   closed : (k q : ℕ) → place ≤ k → k < length log → q < length log → IsMarked new k → Contains (hints_at log k) (length f.clauses + 1 + q) → IsMarked new q
   closed k q high low inside m named = elim (cases_eq k place) [
@@ -145,7 +144,7 @@ marked_named f first place next log old new d e within here too h = record {
   ]
 
 -- the first places need no look: their hints stand before them
-pub marked_all : (f : Formula) (first : ℕ) (log : List LogItem) (marks : List Bool) → IsDerivation f log → AreMarked (length f.clauses) first first log marks
+marked_all : (f : Formula) (first : ℕ) (log : List LogItem) (marks : List Bool) → IsDerivation f log → AreMarked (length f.clauses) first first log marks
     → AreMarked (length f.clauses) first 0 log marks
 marked_all f first log marks d h = record {
   count = h.count;
@@ -157,3 +156,25 @@ marked_all f first log marks d h = record {
   ];
   needed = λ k high low m. let found = h.needed k high low m in (found.0, found.1, omega arith, found.3, found.4, found.5);
 }
+
+-- ---- with what the code read
+
+pub read_mark : (marks : List Bool) (k : ℕ) (mark value : Bool) → k < length marks → mark ≡ get_or marks k mark → mark ≡ value → get_or marks k false ≡ value
+read_mark marks k mark value within is e = sym (get_or_read marks k mark within is false) ∙ e
+
+pub marked_step : (f : Formula) (first place next clauses : ℕ) (log : List LogItem) (item : LogItem) (hints : List ℕ) (old slice new : List Bool) → IsDerivation f log
+    → clauses ≡ length f.clauses → next ≡ suc place → next ≤ length log → item ≡ get_or log place item → hints ≡ hints_of item → slice ≡ old → IsMarked old place
+    → AreMarkedToo clauses hints slice new → AreMarked clauses first next log old → AreMarked clauses first place log new
+marked_step f first place next clauses log item hints old slice new d count e within is named same here too h =
+    let inside : place < length log = omega (arith, e, within) in
+    let hints_is : hints ≡ hints_at log place = named ∙ ap hints_of (get_or_read log place item inside is (Remove [])) in
+    let too_is : AreMarkedToo (length f.clauses) (hints_at log place) old new =
+    subst (λ n. AreMarkedToo n (hints_at log place) old new) count
+    (subst (λ ids. AreMarkedToo clauses ids old new) hints_is (subst (λ marks. AreMarkedToo clauses hints marks new) same too)) in
+    subst (λ n. AreMarked n first place log new) (sym count)
+    (marked_named f first place next log old new d e inside here too_is (subst (λ n. AreMarked n first next log old) count h))
+
+pub marked_end : (f : Formula) (first place clauses : ℕ) (log : List LogItem) (marks : List Bool) → IsDerivation f log → clauses ≡ length f.clauses → place ≡ first
+    → AreMarked clauses first place log marks → AreMarked (length f.clauses) first 0 log marks
+marked_end f first place clauses log marks d count e h =
+    marked_all f first log marks d (subst (λ n. AreMarked n first first log marks) count (subst (λ p. AreMarked clauses first p log marks) e h))
