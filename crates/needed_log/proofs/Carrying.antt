@@ -1,6 +1,6 @@
 -- Under new ids a step derives where what its hints name is held under the new ids.
-use Rattle.std.proofs.Common.{◌≡◌, ℕ, suc, ◌+◌, ◌-◌, ◌<◌, ◌≤◌, Bool, true, false, cond, List, [], ◌∷◌, length, get_or, map, refl, ap, subst, sym, ◌∙◌, arith, Option, Some}
-use Rattle.std.specs.Prelude.{All, nat_lt}
+use Rattle.std.proofs.Common.{◌≡◌, ℕ, ◌+◌, ◌-◌, ◌≤◌, cond, List, [], ◌∷◌, get_or, map, refl, ap, ◌∙◌, arith, Option, Some}
+use Rattle.std.specs.Prelude.{All}
 use Rattle.std.specs.FinSet as literals
 use Rattle.std.proofs.lemmas.Bool.{lt-ltb, le-ltb}
 use Rattle.std.proofs.lemmas.List.Elements.{All-head, All-tail}
@@ -24,9 +24,13 @@ pub conflict_carried : (old new : ℕ → Option Clause) (f : ℕ → ℕ) (hint
 conflict_carried old new f [] set h e = absurd e
 conflict_carried old new f (hint ∷ []) set h (clause, is, none) =
     (clause, All-head (λ id. (c : Clause) → old id ≡ Some c → new (f id) ≡ Some c) hint [] h clause is, none)
-conflict_carried old new f (hint ∷ next ∷ hints) set h (clause, l, is, unit, rest) =
-    (clause, l, All-head (λ id. (c : Clause) → old id ≡ Some c → new (f id) ≡ Some c) hint (next ∷ hints) h clause is, unit,
-      conflict_carried old new f (next ∷ hints) (literals.insert set l) (All-tail (λ id. (c : Clause) → old id ≡ Some c → new (f id) ≡ Some c) hint (next ∷ hints) h) rest)
+conflict_carried old new f (hint ∷ next ∷ hints) set h (clause, l, is, unit, rest) = (
+  clause,
+  l,
+  All-head (λ id. (c : Clause) → old id ≡ Some c → new (f id) ≡ Some c) hint (next ∷ hints) h clause is,
+  unit,
+  conflict_carried old new f (next ∷ hints) (literals.insert set l) (All-tail (λ id. (c : Clause) → old id ≡ Some c → new (f id) ≡ Some c) hint (next ∷ hints) h) rest,
+)
 
 pub clause_of-new : (clauses : ℕ) (ids : List ℕ) (item : LogItem) → clause_of (new_item clauses ids item) ≡ clause_of item
 clause_of-new clauses ids (Add s) = refl

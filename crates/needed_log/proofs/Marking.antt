@@ -1,5 +1,5 @@
 -- Marks go on to what a marked place names.
-use Rattle.std.proofs.Common.{◌≡◌, ℕ, suc, ◌+◌, ◌-◌, ◌<◌, ◌≤◌, Bool, true, false, List, [], ◌∷◌, ◌++◌, length, get_or, take, set, refl, ap, subst, sym, ◌∙◌, inl, inr, arith}
+use Rattle.std.proofs.Common.{◌≡◌, ℕ, suc, ◌+◌, ◌<◌, ◌≤◌, Bool, true, false, List, [], ◌∷◌, ◌++◌, length, get_or, take, set, refl, ap, subst, sym, ◌∙◌, inl, inr, arith}
 use Rattle.std.specs.Prelude.{◌↔◌, ◌⊎◌}
 use Rattle.std.specs.List.{Contains}
 use Rattle.std.proofs.lemmas.Bool.{cases_lt, cases_eq}
@@ -15,7 +15,7 @@ use Rattle.needed_log.proofs.Steps.{hint_before}
 -- ---- the hints of one step
 
 pub too_none : (clauses : ℕ) (hints : List ℕ) (marks : List Bool) → AreMarkedToo clauses (take 0 hints) marks marks
-too_none clauses hints marks = record { count = refl; exactly = λ k low. (inl, λ h. elim h [ | inl m ↦ m | inr named ↦ absurd (let bad = named.1 in omega (arith, bad)) ]) }
+too_none clauses hints marks = record { count = refl; exactly = λ k low. (inl, λ h. elim h [ inl m ↦ m | inr named ↦ absurd (let bad = named.1 in omega (arith, bad)) ]) }
 
 module _ (clauses : ℕ) (hints : List ℕ) (i : ℕ) (old now : List Bool) (within : i < length hints) (h : AreMarkedToo clauses (take i hints) old now) where
   more : take (i + 1) hints ≡ take i hints ++ get_or hints i 0 ∷ []

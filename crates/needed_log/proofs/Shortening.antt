@@ -1,5 +1,5 @@
 -- What is kept of a derivation, under new ids, is a derivation: it begins as the old one, and what it adds behind that is needed.
-use Rattle.std.proofs.Common.{◌≡◌, ℕ, zero, suc, ◌+◌, ◌-◌, ◌<◌, ◌≤◌, Bool, true, false, List, [], ◌∷◌, ◌++◌, length, get_or, take, drop, map, refl, ap, subst, sym, ◌∙◌, inl, inr, arith, length-append, Option, None, Some}
+use Rattle.std.proofs.Common.{◌≡◌, ℕ, zero, suc, ◌+◌, ◌-◌, ◌<◌, ◌≤◌, Bool, true, false, List, [], ◌∷◌, ◌++◌, length, get_or, take, drop, map, refl, ap, subst, sym, ◌∙◌, inl, inr, arith, length-append, None, Some}
 use Rattle.std.specs.List.{Contains}
 use Rattle.std.specs.FinMap.{get}
 use Rattle.std.specs.FinSet as literals
@@ -18,7 +18,7 @@ use Rattle.needed_log.specs.Needed.{hints_of, IsNeededFrom}
 use Rattle.needed_log.specs.Marks.{IsMarked, hints_at, AreMarked}
 use Rattle.needed_log.specs.Renumbered.{kept, rank, AreNewIds, new_id, new_step, new_item}
 use Rattle.needed_log.proofs.Keeping.{rank_marked, rank_le, rank_rises, rank_all, length_kept, kept_marked, kept_unmarked, kept_take, kept_all, kept_before, place_of}
-use Rattle.needed_log.proofs.Steps.{clause_of, held_of-within, added_at, added_counted, take_in_turn, last_at, IsStepAt, step_at, id_at, length_before, hints_before, hint_before}
+use Rattle.needed_log.proofs.Steps.{clause_of, held_of-within, added_at, added_counted, take_in_turn, last_at, IsStepAt, step_at, id_at, length_before, hints_before}
 use Rattle.needed_log.proofs.Carrying.{new_id-early, new_id-late, conflict_carried, clause_of-new, map_same, step_same}
 
 pub record IsShortened (f : Formula) (first : ℕ) (log short : List LogItem) : Type 0 where
@@ -124,11 +124,11 @@ module _ (f : Formula) (first : ℕ) (log : List LogItem) (marks : List Bool) (i
         short = omega (arith, id, low, few, within);
         literals = at.next.literals;
         derives = conflict_carried (get (held_of (clauses_with f.clauses (take p log)))) (get (held_of (clauses_with f.clauses (short p)))) (new_id (length f.clauses) ids) s.hints
-        (with_negations literals.empty s.literals)
-        (All-weaker (Contains s.hints)
-        (λ h. (c : Clause) → get (held_of (clauses_with f.clauses (take p log))) h ≡ Some c → get (held_of (clauses_with f.clauses (short p))) (new_id (length f.clauses) ids h) ≡ Some c)
-        (λ h c clause e. held_is p h clause within marked sd (named h c) e) s.hints (All-contains_itself s.hints))
-        at.next.derives;
+            (with_negations literals.empty s.literals)
+            (All-weaker (Contains s.hints)
+            (λ h. (c : Clause) → get (held_of (clauses_with f.clauses (take p log))) h ≡ Some c → get (held_of (clauses_with f.clauses (short p))) (new_id (length f.clauses) ids h) ≡ Some c)
+            (λ h c clause e. held_is p h clause within marked sd (named h c) e) s.hints (All-contains_itself s.hints))
+            at.next.derives;
       }
 
   short-marked : (p : ℕ) (s : StepValue) → IsStepAt f log p s → IsMarked marks p → short (suc p) ≡ short p ++ Add (new_step (length f.clauses) ids s) ∷ []
@@ -195,9 +195,9 @@ module _ (f : Formula) (first : ℕ) (log : List LogItem) (marks : List Bool) (i
       take-map (new_item (length f.clauses) ids) first (kept marks log) ∙ ap (map (new_item (length f.clauses) ids)) same
       ∙ map_same (new_item (length f.clauses) ids) (take first log)
       (λ k e low.
-        let count : length (take first log) ≡ first = length-take-le first log within in
-        let here : get_or (take first log) k e ≡ get_or log k e = get_or-take first log k e (omega (arith, low, count)) in
-        ap (new_item (length f.clauses) ids) here ∙ item_stays k e (omega (arith, low, count)) (omega (arith, low, count, within)) ∙ sym here)
+      let count : length (take first log) ≡ first = length-take-le first log within in
+      let here : get_or (take first log) k e ≡ get_or log k e = get_or-take first log k e (omega (arith, low, count)) in
+      ap (new_item (length f.clauses) ids) here ∙ item_stays k e (omega (arith, low, count)) (omega (arith, low, count, within)) ∙ sym here)
 
   -- the whole of it
   short_all : short (length log) ≡ map (new_item (length f.clauses) ids) (kept marks log)
@@ -226,12 +226,14 @@ module _ (f : Formula) (first : ℕ) (log : List LogItem) (marks : List Bool) (i
       let inside : rank marks j - (i + 1) < length (drop (i + 1) (short (length log))) =
       (let left = length-drop (i + 1) (short (length log)) in omega (arith, left, count, below, rises, is)) in
       let id : s.id ≡ length f.clauses + 1 + k = id_at f log k s (omega (arith, low, within)) at in
-      let here : Contains t.hints s.id = subst (Contains t.hints) (sym id) (subst (λ item. Contains (hints_of item) (length f.clauses + 1 + k)) (behind.is (Remove [])) named) in
-      (
-        (rank marks j - (i + 1), inside,
+      let here : Contains t.hints s.id = subst (Contains t.hints) (sym id) (subst (λ item. Contains (hints_of item) (length f.clauses + 1 + k)) (behind.is (Remove [])) named) in (
+        (
+          rank marks j - (i + 1),
+          inside,
           get_or-drop (i + 1) (short (length log)) (rank marks j - (i + 1)) (Add (new_step (length f.clauses) ids t))
-          ∙ ap (λ q. get_or (short (length log)) q (Add (new_step (length f.clauses) ids t))) place
-          ∙ step_is j t (Add (new_step (length f.clauses) ids t)) within behind marked_too),
+              ∙ ap (λ q. get_or (short (length log)) q (Add (new_step (length f.clauses) ids t))) place
+              ∙ step_is j t (Add (new_step (length f.clauses) ids t)) within behind marked_too,
+        ),
         map_contains (new_id (length f.clauses) ids) t.hints s.id here,
       )
 

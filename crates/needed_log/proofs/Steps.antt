@@ -108,13 +108,15 @@ follows variables (Add t ∷ log) clauses held last (suc k) is at (rises, here, 
     let rest = follows variables log (clauses ++ t.literals ∷ []) (insert held t.id t.literals) t.id k more (omega (arith, next, at, length-append clauses (t.literals ∷ []))) sound turn
     (omega (arith, within)) in
     let found = rest.1 in
-    let id = found.id in
-    (rest.0, record {
-      is = found.is;
-      id = omega (arith, id, next);
-      literals = found.literals;
-      derives = subst (λ all. Derives (held_of all) rest.0) (append_assoc clauses (t.literals ∷ []) (added_clauses (take k log))) found.derives;
-    })
+    let id = found.id in (
+      rest.0,
+      record {
+        is = found.is;
+        id = omega (arith, id, next);
+        literals = found.literals;
+        derives = subst (λ all. Derives (held_of all) rest.0) (append_assoc clauses (t.literals ∷ []) (added_clauses (take k log))) found.derives;
+      },
+    )
 
 pub step_at : (f : Formula) (log : List LogItem) (k : ℕ) → IsDerivation f log → k < length log → (s : StepValue) × IsStepAt f log k s
 step_at f log k h within =

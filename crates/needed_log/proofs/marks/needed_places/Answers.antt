@@ -1,4 +1,4 @@
-use Rattle.std.proofs.Common.{◌≡◌, ◌-◌, ◌<◌, length, drop, ap, subst, sym, ◌∙◌, arith, true, false}
+use Rattle.std.proofs.Common.{◌≡◌, ◌-◌, length, drop, ap, subst, sym, ◌∙◌, arith, true, false}
 use Rattle.std.proofs.lemmas.List.{take_at}
 use Rattle.needed_log.specs.Needed.{hints_of}
 use Rattle.needed_log.specs.Marks.{AreWithin, AreMarked}

@@ -1,6 +1,5 @@
-use Rattle.std.proofs.Common.{◌≡◌, ◌+◌, length, ap, ◌∙◌, arith}
+use Rattle.std.proofs.Common.{◌+◌, length, ap, ◌∙◌, arith}
 use Rattle.std.proofs.lemmas.List.{length_push}
-use Rattle.needed_log.specs.Renumbered.{rank}
 use Rattle.needed_log.proofs.Keeping.{rank_more, rank_stays, rank_le, ids_more}
 use Rattle.needed_log.proofs.new_ids.new_ids.Goals as goal
 use Rattle.needed_log.proofs.new_ids.new_ids.Goals.{then-mark, else-mark}

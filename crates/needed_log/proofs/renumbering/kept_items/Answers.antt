@@ -1,4 +1,4 @@
-use Rattle.std.proofs.Common.{◌≡◌, length, get_or, ap, subst, sym, ◌∙◌}
+use Rattle.std.proofs.Common.{◌≡◌, length, ap, subst, sym, ◌∙◌}
 use Rattle.needed_log.specs.Marks.{AreWithin}
 use Rattle.needed_log.specs.Renumbered.{ids_of}
 use Rattle.needed_log.proofs.Steps.{ids_within}
