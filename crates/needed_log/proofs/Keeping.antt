@@ -2,8 +2,8 @@
 use Rattle.std.proofs.Common.{◌≡◌, ℕ, zero, suc, ◌<◌, ◌≤◌, Bool, true, false, List, [], ◌∷◌, ◌++◌, length, get_or, take, refl, ap, sym, ◌∙◌, ◌+◌, inl, inr, arith}
 use Rattle.std.proofs.lemmas.Bool.{cases_lt}
 use Rattle.std.proofs.lemmas.List.{get_or_append_left, get_or_push}
-use Rattle.needed_log.specs.Marks.{IsMarked}
-use Rattle.needed_log.specs.Renumbered.{kept, rank}
+use Rattle.needed_log.specs.Kept.{IsMarked, kept}
+use Rattle.needed_log.specs.Renumbered.{rank}
 
 pub rank_marked : (marks : List Bool) (k : ℕ) → IsMarked marks k → rank marks (suc k) ≡ suc (rank marks k)
 rank_marked [] k h = cc

@@ -8,8 +8,9 @@ use Rattle.std.proofs.lemmas.List.Elements.{Contains-append_left, Contains-push,
 use Rattle.proof_semantics.specs.declared.item.Item.TheVariants.{Remove}
 use Rattle.proof_semantics.specs.Formula.{Formula}
 use Rattle.proof_semantics.specs.Logs.{LogItem, IsDerivation}
-use Rattle.needed_log.specs.Needed.{hints_of}
-use Rattle.needed_log.specs.Marks.{IsMarked, hints_at, AreMarkedToo, AreFirstMarks, AreMarked}
+use Rattle.needed_log.specs.Needed.{hints_at, hints_of}
+use Rattle.needed_log.specs.Kept.{IsMarked}
+use Rattle.needed_log.specs.Marks.{AreFirstMarks, AreMarked, AreMarkedToo}
 use Rattle.needed_log.proofs.Steps.{hint_before}
 
 -- ---- the hints of one step

@@ -4,19 +4,20 @@ use Rattle.std.specs.List.{Contains}
 use Rattle.std.specs.FinMap.{get}
 use Rattle.std.specs.FinSet as literals
 use Rattle.std.proofs.lemmas.Bool.{cases_lt, cases_eq}
-use Rattle.std.proofs.lemmas.List.{length-map, length-take-le, get_or-map, map-append, take-map, take_all, get_or_append_left, get_or-append-add, get_or-take, get_or-drop, length-drop}
+use Rattle.std.proofs.lemmas.List.{length-map, length-take-le, get_or-map, map-append, take-map, take_all, get_or_append_left, get_or-append-add, get_or-take, get_or-drop, length-drop, get_or_past}
 use Rattle.std.proofs.lemmas.List.Elements.{All-weaker, All-contains_itself}
 use Rattle.proof_semantics.specs.declared.item.Item.TheVariants.{Add, Remove}
 use Rattle.proof_semantics.specs.Clauses.{Clause}
 use Rattle.proof_semantics.specs.Formula.{Formula}
-use Rattle.proof_semantics.specs.Logs.{StepValue, LogItem, held_of, with_negations, last_added, IsDerivation, Refutes}
+use Rattle.proof_semantics.specs.Logs.{StepValue, LogItem, held_of, with_negations, last_added, AddsInTurn, IsDerivation, Refutes}
 use Rattle.proof_semantics.specs.Conflicts.{clause_at, added_clauses, clauses_with}
 use Rattle.proof_semantics.specs.ConflictLaws.{IsNextStep}
 use Rattle.proof_semantics.proofs.Conflicts.{derivation_law}
 use Rattle.proof_semantics.proofs.HeldClauses.{held_of-at}
-use Rattle.needed_log.specs.Needed.{hints_of, IsNeededFrom}
-use Rattle.needed_log.specs.Marks.{IsMarked, hints_at, AreMarked}
-use Rattle.needed_log.specs.Renumbered.{kept, rank, AreNewIds, new_id, new_step, new_item}
+use Rattle.needed_log.specs.Needed.{IsNeeded, IsNeededFrom, hints_at, hints_of}
+use Rattle.needed_log.specs.Kept.{IsMarked, KeepsNeeded, kept}
+use Rattle.needed_log.specs.Marks.{AreMarked}
+use Rattle.needed_log.specs.Renumbered.{AreNewIds, new_id, new_item, new_step, rank}
 use Rattle.needed_log.proofs.Keeping.{rank_marked, rank_le, rank_rises, rank_all, length_kept, kept_marked, kept_unmarked, kept_take, kept_all, kept_before, place_of}
 use Rattle.needed_log.proofs.Steps.{clause_of, held_of-within, added_at, added_counted, take_in_turn, last_at, IsStepAt, step_at, id_at, length_before, hints_before}
 use Rattle.needed_log.proofs.Carrying.{new_id-early, new_id-late, conflict_carried, clause_of-new, map_same, step_same}
@@ -25,6 +26,7 @@ pub record IsShortened (f : Formula) (first : ℕ) (log short : List LogItem) : 
   pub derivation : IsDerivation f short
   pub refutes : Refutes f.clauses short
   pub begins : take first short ≡ take first log
+  pub kept : KeepsNeeded (length f.clauses) first log short
   pub needed : IsNeededFrom first short
   pub shorter : length short ≤ length log
 
@@ -34,6 +36,14 @@ id_of (Remove gone) = 0
 
 map_contains : (h : ℕ → ℕ) (xs : List ℕ) (x : ℕ) → Contains xs x → Contains (map h xs) (h x)
 map_contains h xs x (k, within, is) = let count = length-map xs h in (k, omega (arith, within, count), get_or-map h xs k x (h x) within ∙ ap h is)
+
+kept_clauses : (variables last clauses : ℕ) (ids : List ℕ) (marks : List Bool) (log : List LogItem) → AddsInTurn variables last log
+    → added_clauses (map (new_item clauses ids) (kept marks log)) ≡ kept marks (added_clauses log)
+kept_clauses variables last clauses ids [] log h = refl
+kept_clauses variables last clauses ids (mark ∷ marks) [] h = refl
+kept_clauses variables last clauses ids (mark ∷ marks) (Remove gone ∷ log) h = absurd h
+kept_clauses variables last clauses ids (true ∷ marks) (Add s ∷ log) h = ap (λ rest. s.literals ∷ rest) (kept_clauses variables s.id clauses ids marks log h.2)
+kept_clauses variables last clauses ids (false ∷ marks) (Add s ∷ log) h = kept_clauses variables s.id clauses ids marks log h.2
 
 not_empty : (log : List LogItem) → last_added log ≡ Some [] → 0 < length log
 not_empty [] e = cc
@@ -267,6 +277,41 @@ module _ (f : Formula) (first : ℕ) (log : List LogItem) (marks : List Bool) (i
       subst (λ all. (t : StepValue) × Contains (drop (k + 1) all) (Add t) × Contains t.hints s.id) short_all
       (needed_at k s high (omega (arith, low, count)) (subst (λ all. get_or all k (Add s) ≡ Add s) (sym short_all) e))
 
+  -- a marked place is needed, by a search from the end of the log on, `left` places at most
+  marked_needed : (left k : ℕ) → length log ≤ k + left → k < length log → IsMarked marks k → IsNeeded (length f.clauses) first log k
+  marked_needed zero k far within marked = absurd (omega (arith, far, within))
+  marked_needed (suc left) k far within marked = elim (cases_lt k first) [
+    | inl low ↦ IsNeeded.early k low
+    | inr high ↦ elim (cases_eq (k + 1) (length log)) [
+      | inl end ↦ IsNeeded.last k end
+      | inr apart ↦
+          let later = m.needed k high (omega (arith, within, apart)) marked in
+          let behind = later.1 in
+          IsNeeded.named k later.0 (marked_needed left later.0 (omega (arith, far, behind)) later.3 later.4) later.5
+    ]
+  ]
+
+  none_past : (j id : ℕ) → length log ≤ j → ¬ Contains (hints_at log j) id
+  none_past j id past named =
+      let bad : Contains [] id = subst (λ item. Contains (hints_of item) id) (get_or_past log j (Remove []) past) named in
+      let low = bad.1 in
+      omega (arith, low)
+
+  needed_marked : (k : ℕ) → k < length log → IsNeeded (length f.clauses) first log k → IsMarked marks k
+  needed_marked k within (IsNeeded.early q low) = m.early q low
+  needed_marked k within (IsNeeded.last q end) = m.last q end
+  needed_marked k within (IsNeeded.named q j by named) = elim (cases_lt j (length log)) [
+    | inl inside ↦ m.closed j q (omega arith) inside within (needed_marked j inside by) named
+    | inr past ↦ absurd (none_past j (length f.clauses + 1 + q) past named)
+  ]
+
+  keeps_needed : KeepsNeeded (length f.clauses) first log (map (new_item (length f.clauses) ids) (kept marks log))
+  keeps_needed = record {
+    marks = marks;
+    exactly = λ k within. (marked_needed (length log) k (omega arith) within, needed_marked k within);
+    same = kept_clauses f.variables (length f.clauses) (length f.clauses) ids marks log d.in_turn;
+  }
+
   shortened_of : Refutes f.clauses log → first ≤ length log → IsShortened f first log (map (new_item (length f.clauses) ids) (kept marks log))
   shortened_of r within =
       let some : 0 < length log = not_empty log r.ends in
@@ -278,6 +323,7 @@ module _ (f : Formula) (first : ℕ) (log : List LogItem) (marks : List Bool) (i
         derivation = subst (IsDerivation f) short_all (short_derives (length log) (omega arith));
         refutes = subst (Refutes f.clauses) short_all (subst (λ p. Refutes f.clauses (short p)) (omega (arith, some)) refutes);
         begins = short_begins within;
+        kept = keeps_needed;
         needed = short_needed;
         shorter = omega (arith, count, few, width);
       }

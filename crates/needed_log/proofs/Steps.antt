@@ -16,8 +16,8 @@ use Rattle.proof_semantics.specs.Logs.{StepValue, LogItem, Held, LiteralSet, End
 use Rattle.proof_semantics.specs.Conflicts.{added_clauses, clauses_with}
 use Rattle.proof_semantics.specs.ConflictLaws.{IsNextStep}
 use Rattle.proof_semantics.proofs.HeldClauses.{held_of-push}
-use Rattle.needed_log.specs.Needed.{hints_of}
-use Rattle.needed_log.specs.Marks.{AreWithin, hints_at}
+use Rattle.needed_log.specs.Needed.{hints_at, hints_of}
+use Rattle.needed_log.specs.Marks.{AreWithin}
 use Rattle.needed_log.specs.Renumbered.{ids_of}
 
 -- ---- the ids that are held

@@ -1,22 +1,13 @@
--- Marks of the places of a log. Behind the ids of a formula's clauses the addition at place k, from 0, has the
--- id `clauses + 1 + k`.
-use Rattle.std.specs.Prelude.{◌≡◌, ◌↔◌, ◌⊎◌, ℕ, ◌+◌, ◌<◌, ◌≤◌, Bool, true, false, List, [], length, All}
-use Rattle.std.specs.Prelude.{slice_index_or}
+-- Marks of the places of a log.
+use Rattle.std.specs.Prelude.{◌≡◌, ◌↔◌, ◌⊎◌, ℕ, ◌+◌, ◌<◌, ◌≤◌, Bool, List, length, All}
 use Rattle.std.specs.List.{Contains}
-use Rattle.proof_semantics.specs.declared.item.Item.TheVariants.{Remove}
 use Rattle.proof_semantics.specs.Logs.{LogItem}
-use Rattle.needed_log.specs.Needed.{hints_of}
-
-abbrev pub IsMarked : List Bool → ℕ → Type 0
-IsMarked marks k = slice_index_or marks k false ≡ true
+use Rattle.needed_log.specs.Needed.{hints_at}
+use Rattle.needed_log.specs.Kept.{IsMarked}
 
 -- each id is at most that of the last of `places` additions
 abbrev pub AreWithin : ℕ → ℕ → List ℕ → Type 0
 AreWithin clauses places ids = All (λ id. id ≤ clauses + places) ids
-
--- the hints of the item at a place
-abbrev pub hints_at : List LogItem → ℕ → List ℕ
-hints_at log k = hints_of (slice_index_or log k (Remove []))
 
 -- the places of the additions among the hints are marked too
 pub record AreMarkedToo (clauses : ℕ) (hints : List ℕ) (old new : List Bool) : Type 0 where

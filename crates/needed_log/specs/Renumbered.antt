@@ -1,15 +1,8 @@
--- What is kept of a log, under new ids.
+-- The new ids of what is kept of a log.
 use Rattle.std.specs.Prelude.{◌≡◌, ℕ, zero, suc, ◌+◌, ◌-◌, ◌<◌, Bool, true, false, if◌then◌else◌, nat_lt}
 use Rattle.std.specs.Prelude.{List, [], ◌∷◌, length, map, slice_index_or}
 use Rattle.proof_semantics.specs.declared.item.Item.TheVariants.{Add, Remove}
 use Rattle.proof_semantics.specs.Logs.{StepValue, LogItem}
-
--- what stands at marked places
-abbrev pub kept : {X : Type 0} → List Bool → List X → List X
-kept [] xs = []
-kept (mark ∷ marks) [] = []
-kept (true ∷ marks) (x ∷ xs) = x ∷ kept marks xs
-kept (false ∷ marks) (x ∷ xs) = kept marks xs
 
 -- how many of the first k places are marked
 abbrev pub rank : List Bool → ℕ → ℕ

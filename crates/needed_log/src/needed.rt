@@ -1,6 +1,7 @@
 //! A log without what its refutation does not need. Source: backward checking of clausal proofs.
 ghost use Rattle.std.specs.Prelude.{◌≡◌, ◌≤◌, length, take, IfOk};
 ghost use Rattle.proof_semantics.specs.Logs.{IsDerivation, Refutes};
+ghost use Rattle.needed_log.specs.Kept.{KeepsNeeded};
 ghost use Rattle.needed_log.specs.Needed.{IsNeededFrom};
 
 use crate::marks::needed_places;
@@ -20,6 +21,7 @@ pub fn needed(alloc: Global, formula: &Cnf, first: usize, log: &Log) -> Result<L
     ensures derivation { IfOk result (IsDerivation formula.now) }
     ensures refutes { IfOk result (Refutes formula.now.clauses) }
     ensures begins { IfOk result (λ short. take first short ≡ take first log.now) }
+    ensures kept { IfOk result (KeepsNeeded (length formula.now.clauses) first log.now) }
     ensures needed { IfOk result (IsNeededFrom first) }
     ensures shorter { IfOk result (λ short. length short ≤ length log.now) }
 {

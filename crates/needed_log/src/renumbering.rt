@@ -2,7 +2,8 @@
 ghost use Rattle.std.specs.Prelude.{◌≡◌, ◌<◌, ◌≤◌, ◌+◌, ◌^◌, length, map, IfOk};
 ghost use Rattle.proof_semantics.specs.Logs.{IsDerivation};
 ghost use Rattle.needed_log.specs.Marks.{AreWithin};
-ghost use Rattle.needed_log.specs.Renumbered.{AreNewIds, kept, ids_of, new_item};
+ghost use Rattle.needed_log.specs.Kept.{kept};
+ghost use Rattle.needed_log.specs.Renumbered.{ids_of, new_item};
 
 use crate::new_ids::{new_hints, new_id};
 use proof_parts::clause::Lits;

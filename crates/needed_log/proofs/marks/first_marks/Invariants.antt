@@ -1,6 +1,6 @@
 use Rattle.std.proofs.Common.{◌≡◌, ℕ, ◌<◌, length}
 use Rattle.std.specs.Prelude.{◌↔◌}
-use Rattle.needed_log.specs.Marks.{IsMarked}
+use Rattle.needed_log.specs.Kept.{IsMarked}
 use Rattle.needed_log.proofs.marks.first_marks.Given as goal
 
 abbrev pub invariant-loop-place : goal.invariant-loop-place

@@ -15,6 +15,7 @@ returns c =
       derivation = IfOk-weaker _ _ _ (λ short (h : IsShortened c.args.formula.now c.args.first c.args.log.now short). h.derivation) all;
       refutes = IfOk-weaker _ _ _ (λ short (h : IsShortened c.args.formula.now c.args.first c.args.log.now short). h.refutes) all;
       begins = IfOk-weaker _ _ _ (λ short (h : IsShortened c.args.formula.now c.args.first c.args.log.now short). h.begins) all;
+      kept = IfOk-weaker _ _ _ (λ short (h : IsShortened c.args.formula.now c.args.first c.args.log.now short). h.kept) all;
       needed = IfOk-weaker _ _ _ (λ short (h : IsShortened c.args.formula.now c.args.first c.args.log.now short). h.needed) all;
       shorter = IfOk-weaker _ _ _ (λ short (h : IsShortened c.args.formula.now c.args.first c.args.log.now short). h.shorter) all;
     }

@@ -1,5 +1,6 @@
 use Rattle.std.proofs.Common.{◌≡◌, ◌++◌, drop, map}
-use Rattle.needed_log.specs.Renumbered.{kept, new_item}
+use Rattle.needed_log.specs.Kept.{kept}
+use Rattle.needed_log.specs.Renumbered.{new_item}
 use Rattle.needed_log.proofs.renumbering.kept_items.Given as goal
 
 abbrev pub invariant-loop-place : goal.invariant-loop-place
