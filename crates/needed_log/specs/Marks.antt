@@ -20,8 +20,8 @@ pub record AreFirstMarks (first places : ℕ) (marks : List Bool) : Type 0 where
   pub count : length marks ≡ places
   pub exactly : (k : ℕ) → k < places → IsMarked marks k ↔ ((k < first) ⊎ (k + 1 ≡ places))
 
--- The first places and the last are marked, and each place that a marked one from `place` on names. Each other
--- marked place is named by a later marked one, from `place` on.
+-- The first places and the last are marked, and each place that a marked one from `place` on names. Each
+-- other marked place is named by a later marked one, from `place` on.
 pub record AreMarked (clauses first place : ℕ) (log : List LogItem) (marks : List Bool) : Type 0 where
   pub count : length marks ≡ length log
   pub early : (k : ℕ) → k < first → IsMarked marks k

@@ -1,6 +1,6 @@
 -- Which additions of a log are needed. Behind the ids of a formula's clauses the addition at place k, from 0,
--- has the id `clauses + 1 + k`. Source: backward checking of clausal proofs, which marks from the last step what
--- each marked step names.
+-- has the id `clauses + 1 + k`. Source: backward checking of clausal proofs, which marks from the last step
+-- what each marked step names.
 use Rattle.std.specs.Prelude.{◌≡◌, ℕ, ◌+◌, ◌<◌, ◌≤◌, List, [], drop, length, slice_index_or}
 use Rattle.std.specs.List.{Contains}
 use Rattle.proof_semantics.specs.declared.item.Item.TheVariants.{Add, Remove}

@@ -11,7 +11,7 @@ pub(crate) fn new_ids(alloc: Global, clauses: u64, marks: &[bool]) -> Result<Vec
     requires { clauses + length marks.now < 2 ^ 63 }
     ensures { IfOk result (λ ids. AreNewIds clauses marks.now ids.items) }
 {
-    let mut ids = Vec::new(alloc);
+    let mut ids = Vec::with_capacity(alloc, marks.len())?;
     let mut next = clauses + 1;
     for mark in marks {
         ids.push(next)?;
