@@ -1,0 +1,4 @@
+pub mod Needed
+pub mod Kept
+pub mod Marks
+pub mod Renumbered
