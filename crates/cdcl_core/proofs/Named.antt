@@ -1,15 +1,15 @@
 -- Clauses of a round, under the ids that they have in the whole.
-use Rattle.std.proofs.Common.{◌≡◌, ℕ, zero, suc, ◌+◌, ◌-◌, ◌<◌, ◌≤◌, Bool, true, ◌&&◌, List, [], ◌∷◌, ◌++◌, take, drop, length, get_or, refl, ap, subst, sym, ◌∙◌, inl, inr, arith, length-append}
-use Rattle.std.specs.Prelude.{All}
+use Rattle.std.proofs.Common.{◌≡◌, ℕ, zero, suc, ◌+◌, ◌-◌, ◌<◌, ◌≤◌, Bool, true, false, ◌&&◌, List, [], ◌∷◌, ◌++◌, take, drop, length, get_or, refl, ap, subst, sym, ◌∙◌, inl, inr, arith, length-append}
+use Rattle.std.specs.Prelude.{All, Option, Some, IfSome}
+use Rattle.std.specs.Borrow.{Bor}
 use Rattle.std.proofs.lemmas.Bool.{cases_lt}
-use Rattle.std.proofs.lemmas.List.{take-append-drop, take-append-le}
+use Rattle.std.proofs.lemmas.List.{take-append-drop, take-append-le, length-take}
 use Rattle.std.proofs.lemmas.List.Elements.{All-append, All-get_or, All-from_get_or}
 use Rattle.std.proofs.lemmas.List.Folds.{list_all-append}
 use Rattle.std.specs.List.{list_all}
 use Rattle.std.proofs.Math.ListN.{get_or-append}
 use Rattle.std.proofs.Math.Seq.{get_or-append_seam}
 use Rattle.proof_semantics.specs.declared.item.Item.TheVariants.{Add, Remove}
-use Rattle.semantics.specs.Value.{Assignment}
 use Rattle.proof_semantics.specs.Clauses.{Clause, IsLiteralOf, AreClausesOf, Satisfies, clause_value}
 use Rattle.proof_semantics.specs.Formula.{Formula}
 use Rattle.proof_semantics.specs.Variables.{by_place}
@@ -72,11 +72,25 @@ named_pushed whole round ids C id h new =
       ];
     }
 
+pub named_pushed_as : (whole round longer : List Clause) (ids more : List ℕ) (C : Clause) (id : ℕ) → AreNamed whole round ids → HasId whole C id → longer ≡ round ++ C ∷ []
+    → more ≡ ids ++ id ∷ [] → AreNamed whole longer more
+named_pushed_as whole round longer ids more C id h new clauses names = rw (clauses, names) (named_pushed whole round ids C id h new)
+
+-- a clause that was found
+pub found_has_id : (whole : List Clause) (found : Option (Bor Clause)) (lits : Bor Clause) (id : ℕ) → IfSome found (λ x. HasId whole x.now id) → found ≡ Some lits → HasId whole lits.now id
+found_has_id whole found lits id h is = subst (λ o. IfSome o (λ x. HasId whole x.now id)) is h
+
 pub named_wider : (whole more round : List Clause) (ids : List ℕ) → AreNamed whole round ids → AreNamed (whole ++ more) round ids
 named_wider whole more round ids h = record {
   count = h.count;
   each = λ k within. has_wider whole more (clause_at round k) (get_or ids k 0) (h.each k within);
 }
+
+-- one clause more does not change the first ones
+pub begins_pushed : (xs old new : List Clause) (C : Clause) → take (length xs) old ≡ xs → new ≡ old ++ C ∷ [] → take (length xs) new ≡ xs
+begins_pushed xs old new C h e =
+    let count = ap length h in
+    rw e (take-append-le (length xs) old (C ∷ []) (omega (arith, count, length-take (length xs) old)) ∙ h)
 
 -- ---- clauses of the whole log
 
@@ -95,10 +109,11 @@ step_has_id f whole item s place id h within is kind e =
     let count = length-added f whole h in
     let both = length-append f.clauses (added_clauses whole) in
     has_at (clauses_with f.clauses whole) s.literals (length f.clauses + place) id (omega (arith, within, count, both))
-    (get_or_behind f.clauses (added_clauses whole) place ∙ added_at f.variables (length f.clauses) whole place s h.in_turn within here) (omega (arith, e)) where
-      get_or_behind : (xs ys : List Clause) (k : ℕ) → clause_at (xs ++ ys) (length xs + k) ≡ clause_at ys k
-      get_or_behind [] ys k = refl
-      get_or_behind (x ∷ xs) ys k = get_or_behind xs ys k
+    (get_or_behind f.clauses (added_clauses whole) place (length f.clauses + place) refl ∙ added_at f.variables (length f.clauses) whole place s h.in_turn within here) (omega (arith, e)) where
+      get_or_behind : (xs ys : List Clause) (k n : ℕ) → n ≡ length xs + k → clause_at (xs ++ ys) n ≡ clause_at ys k
+      get_or_behind [] ys k n e = ap (clause_at ys) (omega (arith, e))
+      get_or_behind (x ∷ xs) ys k zero e = absurd (omega (arith, e))
+      get_or_behind (x ∷ xs) ys k (suc n) e = get_or_behind xs ys k n (omega (arith, e))
 
 -- ---- the formula of a round
 
@@ -122,7 +137,7 @@ first_true false b e = e
 -- a model of a round's formula is one of the formula
 pub round_model : (f round : Formula) (whole : List LogItem) (ids : List ℕ) (bits : List Bool) → IsRound f whole round ids → IsModel round bits → IsModel f bits
 round_model f round whole ids bits h m =
-    let a : Assignment = by_place (λ place. get_or bits place false) in
+    let a : ℕ → Bool = by_place (λ place. get_or bits place false) in
     let parts : take (length f.clauses) round.clauses ++ drop (length f.clauses) round.clauses ≡ round.clauses = take-append-drop (length f.clauses) round.clauses in
     let split : Satisfies a (f.clauses ++ drop (length f.clauses) round.clauses) =
     subst (λ first. Satisfies a (first ++ drop (length f.clauses) round.clauses)) h.begins (subst (Satisfies a) (sym parts) m.satisfies) in

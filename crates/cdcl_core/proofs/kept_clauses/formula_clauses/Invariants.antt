@@ -1,4 +1,4 @@
-use Rattle.std.proofs.Common.{◌≡◌, ◌×◌, take}
+use Rattle.std.proofs.Common.{◌≡◌, take}
 use Rattle.cdcl_core.specs.Rounds.{AreNamed}
 use Rattle.cdcl_core.proofs.kept_clauses.formula_clauses.Given as goal
 

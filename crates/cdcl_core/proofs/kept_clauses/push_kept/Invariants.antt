@@ -5,6 +5,6 @@ use Rattle.cdcl_core.proofs.kept_clauses.push_kept.Given as goal
 
 abbrev pub invariant-loop-id : goal.invariant-loop-id
 invariant-loop-id l = record {
-  begins : take (length l.cnf.now.clauses) l.draft.clauses ≡ l.cnf.now.clauses;
-  named : AreNamed (clauses_with l.cnf.now.clauses l.whole.now) l.draft.clauses l.draft.ids;
+  begins : take (length l.cnf.clauses) l.draft.clauses ≡ l.cnf.clauses;
+  named : AreNamed (clauses_with l.cnf.clauses l.whole) l.draft.clauses l.draft.ids;
 }

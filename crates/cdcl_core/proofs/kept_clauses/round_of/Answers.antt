@@ -1,0 +1,17 @@
+use Rattle.std.proofs.Common.{◌<◌, ◌^◌, subst, sym}
+use Rattle.proof_semantics.specs.Clauses.{AreClausesOf}
+use Rattle.proof_semantics.specs.Conflicts.{added_clauses}
+use Rattle.proof_parts.specs.Cnf.{IsCnf}
+use Rattle.cdcl_core.proofs.Named.{round_literals}
+use Rattle.cdcl_core.proofs.kept_clauses.round_of.Goals as goal
+
+pub push_kept-requires-clause-named : goal.push_kept-requires-clause-named
+push_kept-requires-clause-named c = c.in_ok-draft.ensures.named (added_clauses c.args.whole.now)
+
+pub new-formula-requires : goal.new-formula-requires
+new-formula-requires c = record {
+  few_variables = subst (λ n. n < 2 ^ 31) (sym c.vars.ensures.value) c.vars.ensures.formed.few_variables;
+  literals = subst (λ n. AreClausesOf n c.push_kept.new.draft.clauses) (sym c.vars.ensures.value)
+      (round_literals c.args.cnf.now c.args.whole.now c.push_kept.new.draft.clauses c.push_kept.new.draft.ids c.vars.ensures.formed.literals c.requires
+      c.in_ok-push_kept.ensures.named);
+}
