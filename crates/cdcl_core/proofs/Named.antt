@@ -60,15 +60,15 @@ named_pushed whole round ids C id h new =
       count = omega (arith, length-append round (C ∷ []), length-append ids (id ∷ []));
       each = λ k within. elim (cases_lt k (length round)) [
         | inl low ↦
-          let here : clause_at (round ++ C ∷ []) k ≡ clause_at round k = get_or-append round (C ∷ []) [] k low in
-          let there : get_or (ids ++ id ∷ []) k 0 ≡ get_or ids k 0 = get_or-append ids (id ∷ []) 0 k (omega (arith, count, low)) in
-          rw (here, there) (h.each k low)
+            let here : clause_at (round ++ C ∷ []) k ≡ clause_at round k = get_or-append round (C ∷ []) [] k low in
+            let there : get_or (ids ++ id ∷ []) k 0 ≡ get_or ids k 0 = get_or-append ids (id ∷ []) 0 k (omega (arith, count, low)) in
+            rw (here, there) (h.each k low)
         | inr high ↦
-          let at_round : k ≡ length round = omega (arith, high, within, length-append round (C ∷ [])) in
-          let at_ids : k ≡ length ids = omega (arith, at_round, count) in
-          let here : clause_at (round ++ C ∷ []) k ≡ C = ap (λ n. clause_at (round ++ C ∷ []) n) at_round ∙ get_or-append_seam round C [] [] in
-          let there : get_or (ids ++ id ∷ []) k 0 ≡ id = ap (λ n. get_or (ids ++ id ∷ []) n 0) at_ids ∙ get_or-append_seam ids id [] 0 in
-          rw (here, there) new
+            let at_round : k ≡ length round = omega (arith, high, within, length-append round (C ∷ [])) in
+            let at_ids : k ≡ length ids = omega (arith, at_round, count) in
+            let here : clause_at (round ++ C ∷ []) k ≡ C = ap (λ n. clause_at (round ++ C ∷ []) n) at_round ∙ get_or-append_seam round C [] [] in
+            let there : get_or (ids ++ id ∷ []) k 0 ≡ id = ap (λ n. get_or (ids ++ id ∷ []) n 0) at_ids ∙ get_or-append_seam ids id [] 0 in
+            rw (here, there) new
       ];
     }
 

@@ -7,9 +7,9 @@ use Rattle.std.specs.FinSet as literals
 use Rattle.std.specs.FinMap.{get, insert, empty, get-insert, get-empty}
 use Rattle.std.proofs.lemmas.Bool.{cases_lt, cases_eq, false_from_ne_true}
 use Rattle.std.proofs.lemmas.Bool.Decides.{Decides-eqb}
-use Rattle.std.proofs.lemmas.List.{append-nil, get_or-take}
+use Rattle.std.proofs.lemmas.List.{append-nil, get_or-take, length-take}
 use Rattle.std.proofs.Math.ListN.{get_or-append}
-use Rattle.std.proofs.Math.Seq.{take-append_seam, get_or-append_seam}
+use Rattle.std.proofs.Math.Seq.{take-append_seam, take-length, get_or-append_seam}
 use Rattle.proof_semantics.specs.declared.item.Item.TheVariants.{Add, Remove}
 use Rattle.proof_semantics.specs.Clauses.{Clause, IsLiteralOf}
 use Rattle.proof_semantics.specs.Formula.{Formula}
@@ -18,9 +18,13 @@ use Rattle.proof_semantics.specs.Conflicts.{clause_at, added_clauses, clauses_wi
 use Rattle.proof_semantics.specs.ConflictLaws.{IsNextStep}
 use Rattle.proof_semantics.proofs.Conflicts.{derivation_law, length-added, clauses_with-pushed}
 use Rattle.proof_semantics.proofs.HeldClauses.{held_of-at, held_of-push}
+use Rattle.cdcl_core.specs.Answers.{IsModel, IsRefutation, IsSpent, IsAnswer}
+use Rattle.cdcl_core.specs.Searched.{Begins}
 use Rattle.cdcl_core.specs.Outcomes.{IsOpenBehind, IsRefutationBehind}
-use Rattle.cdcl_core.specs.Rounds.{HasId, AreNamed, IsRound, HasNextIds, whole_id, renamed}
-use Rattle.cdcl_core.proofs.Named.{has_wider, has_last}
+use Rattle.cdcl_core.specs.Rounds.{HasId, AreNamed, IsRound, HasNextIds, IsAnswerWithin, whole_id, renamed}
+use Rattle.cdcl_core.specs.declared.answer.Answer.{Answer}
+use Rattle.cdcl_core.specs.declared.answer.Answer.TheVariants.{Model, Refuted, Spent}
+use Rattle.cdcl_core.proofs.Named.{has_wider, has_last, round_model}
 
 -- ---- what is held has its id
 
@@ -35,10 +39,10 @@ held_from-only [] held next id C h = inl h
 held_from-only (D ∷ clauses) held next id C h = elim (held_from-only clauses (insert held next D) (suc next) id C h) [
   | inl before ↦ by_place (cases_eq id next) before
   | inr later ↦
-    let low = later.low in
-    let within = later.within in
-    let place : id - next ≡ suc (id - suc next) = omega (arith, low) in
-    inr (record { low = omega (arith, low); within = omega (arith, within); is = ap (λ k. clause_at (D ∷ clauses) k) place ∙ later.is })
+      let low = later.low in
+      let within = later.within in
+      let place : id - next ≡ suc (id - suc next) = omega (arith, low) in
+      inr (record { low = omega (arith, low); within = omega (arith, within); is = ap (λ k. clause_at (D ∷ clauses) k) place ∙ later.is })
 ] where
   by_place : (id ≡ next) ⊎ (id ≡ next → ⊥) → get (insert held next D) id ≡ Some C → (get held id ≡ Some C) ⊎ IsFrom (D ∷ clauses) next id C
   by_place (inl same) e =
@@ -55,9 +59,9 @@ held_of-only : (clauses : List Clause) (id : ℕ) (C : Clause) → get (held_of 
 held_of-only clauses id C h = elim (held_from-only clauses empty 1 id C h) [
   | inl before ↦ let none = get-empty {X = Clause} nat_cmp id in cc
   | inr from ↦
-    let low = from.low in
-    let within = from.within in
-    record { low = low; within = omega (arith, low, within); is = from.is }
+      let low = from.low in
+      let within = from.within in
+      record { low = low; within = omega (arith, low, within); is = from.is }
 ]
 
 held_of-has : (clauses : List Clause) (id : ℕ) (C : Clause) → HasId clauses C id → get (held_of clauses) id ≡ Some C
@@ -96,12 +100,12 @@ among_pushed : (whole round : List Clause) (ids : List ℕ) (C : Clause) → Are
 unfolding AreAmong
 among_pushed whole round ids C among e k within = elim (cases_lt k (length round)) [
   | inl low ↦
-    let here : clause_at (round ++ C ∷ []) k ≡ clause_at round k = get_or-append round (C ∷ []) [] k low in
-    rw here (has_wider whole (C ∷ []) (clause_at round k) (get_or ids k 0) (among k low))
+      let here : clause_at (round ++ C ∷ []) k ≡ clause_at round k = get_or-append round (C ∷ []) [] k low in
+      rw here (has_wider whole (C ∷ []) (clause_at round k) (get_or ids k 0) (among k low))
   | inr high ↦
-    let at_end : k ≡ length round = omega (arith, high, within, length-append round (C ∷ [])) in
-    let here : clause_at (round ++ C ∷ []) k ≡ C = ap (λ n. clause_at (round ++ C ∷ []) n) at_end ∙ get_or-append_seam round C [] [] in
-    rw here (has_last whole C (get_or ids k 0) (ap (λ n. get_or ids n 0) at_end ∙ e))
+      let at_end : k ≡ length round = omega (arith, high, within, length-append round (C ∷ [])) in
+      let here : clause_at (round ++ C ∷ []) k ≡ C = ap (λ n. clause_at (round ++ C ∷ []) n) at_end ∙ get_or-append_seam round C [] [] in
+      rw here (has_last whole C (get_or ids k 0) (ap (λ n. get_or ids n 0) at_end ∙ e))
 ]
 
 -- ---- the steps of a round behind the whole log
@@ -183,3 +187,62 @@ round_refuted f round whole new log ids h r is = record {
     ends = ap last_added is ∙ last-behind whole log ids None [] r.ends;
   };
 }
+
+-- ---- what a round's answer shows
+
+-- a log of the round for whose steps the whole log has room
+pub record IsLogWithin (f : Formula) (whole : List LogItem) (round : Formula) (log : List LogItem) : Type 0 where
+  pub steps : IsDerivation round log
+  pub room : length f.clauses + length whole + length log < 2 ^ 63
+
+pub within_refuted : (f round : Formula) (whole log : List LogItem) (answer : Answer) → IsAnswerWithin f whole round answer → answer ≡ Refuted log → IsLogWithin f whole round log
+within_refuted f round whole log answer h is =
+    let right : IsRefutation round [] log h.conflicts = subst (IsAnswer round [] h.conflicts) is h.right in
+    let room = h.room in
+    let short = right.short in
+    record { steps = right.derivation; room = omega arith }
+
+pub within_spent : (f round : Formula) (whole log : List LogItem) (answer : Answer) → IsAnswerWithin f whole round answer → answer ≡ Spent log → IsLogWithin f whole round log
+within_spent f round whole log answer h is =
+    let right : IsSpent round [] log h.conflicts = subst (IsAnswer round [] h.conflicts) is h.right in
+    let room = h.room in
+    let count = right.chain.count in
+    record { steps = right.chain.derivation; room = omega arith }
+
+pub within_open : (f round : Formula) (whole new log : List LogItem) (old_ids ids : List ℕ) → IsDerivation f whole → IsRound f whole round old_ids → IsLogWithin f whole round log
+    → HasNextIds (length f.clauses + length whole + 1) (length log) old_ids ids → new ≡ whole ++ map (renamed ids) log → IsOpenBehind f whole new
+within_open f round whole new log old_ids ids derivation h within names is = round_open f round whole new log old_ids ids derivation h within.steps within.room names is
+
+pub refuted_behind : (f round : Formula) (whole new log : List LogItem) (ids : List ℕ) (answer : Answer) → IsAnswerWithin f whole round answer → answer ≡ Refuted log → IsOpenBehind f whole new
+    → new ≡ whole ++ map (renamed ids) log → IsRefutationBehind f whole new
+refuted_behind f round whole new log ids answer h kind open_behind is =
+    let right : IsRefutation round [] log h.conflicts = subst (IsAnswer round [] h.conflicts) kind h.right in
+    round_refuted f round whole new log ids open_behind right.refutes is
+
+pub model_behind : (f round : Formula) (whole : List LogItem) (ids : List ℕ) (bits : List Bool) (answer : Answer) → IsRound f whole round ids → IsAnswerWithin f whole round answer
+    → answer ≡ Model bits → IsModel f bits
+model_behind f round whole ids bits answer r h is =
+    let right : IsModel round bits = subst (IsAnswer round [] h.conflicts) is h.right in
+    round_model f round whole ids bits r right
+
+-- ---- rounds behind rounds
+
+begins_joined : (derived whole log : List LogItem) → Begins derived whole → Begins whole log → Begins derived log
+begins_joined derived whole log first second =
+    let count : length (take (length derived) whole) ≡ length derived = ap length first in
+    let short : length derived ≤ length whole = omega (arith, count, length-take (length derived) whole) in
+    sym (take-take_less (length derived) (length whole) log short) ∙ ap (take (length derived)) second ∙ first where
+      take-take_less : (m n : ℕ) (xs : List LogItem) → m ≤ n → take m (take n xs) ≡ take m xs
+      take-take_less zero n xs h = refl
+      take-take_less (suc m) zero xs h = absurd (omega (arith, h))
+      take-take_less (suc m) (suc n) [] h = refl
+      take-take_less (suc m) (suc n) (x ∷ xs) h = ap (λ rest. x ∷ rest) (take-take_less m n xs (omega (arith, h)))
+
+pub open_joined : (f : Formula) (derived whole log : List LogItem) → Begins derived whole → IsOpenBehind f whole log → IsOpenBehind f derived log
+open_joined f derived whole log first h = record { begins = begins_joined derived whole log first h.begins; derivation = h.derivation }
+
+pub refuted_joined : (f : Formula) (derived whole log : List LogItem) → Begins derived whole → IsRefutationBehind f whole log → IsRefutationBehind f derived log
+refuted_joined f derived whole log first h = record { begins = begins_joined derived whole log first h.begins; derivation = h.derivation; refutes = h.refutes }
+
+pub open_first : (f : Formula) (derived : List LogItem) → IsDerivation f derived → IsOpenBehind f derived derived
+open_first f derived h = record { begins = take-length derived; derivation = h }

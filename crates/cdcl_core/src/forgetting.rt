@@ -60,6 +60,7 @@ fn first_kept(alloc: Global, cnf: &Cnf, derived: &Log) -> Result<Ids, AllocError
 
 /// Whether the whole log has room for the steps of `conflicts` conflicts and for the empty clause.
 fn has_room(cnf: &Cnf, whole: &Log, conflicts: u64) -> bool
+    requires { IsDerivation cnf.now whole.now }
     ensures { result ≡ true → length cnf.now.clauses + length whole.now + conflicts + 1 < 2 ^ 63 }
 {
     let length = cnf.clauses().len() as u64 + whole.len() as u64;
@@ -74,14 +75,15 @@ fn append_round(
     ids: &mut Ids,
     log: &Log,
 ) -> Result<(), AllocError>
-    requires { length cnf.now.clauses + length whole.old + length log.now + 1 < 2 ^ 64 }
+    requires { length cnf.now.clauses + length whole.old + length log.now < 2 ^ 63 }
     ensures ids { OnOk result (HasNextIds (length cnf.now.clauses + length whole.old + 1) (length log.now)
         ids.old ids.new) }
     ensures items { OnOk result (whole.new ≡ whole.old ++ map (renamed ids.new) log.now) }
 {
     let next = cnf.clauses().len() as u64 + whole.len() as u64 + 1;
     push_next_ids(ids, next, log.len() as u64)?;
-    append_renamed(alloc, whole, ids.as_slice(), log.as_slice())
+    append_renamed(alloc, whole, ids.as_slice(), log.as_slice())?;
+    Ok(())
 }
 
 /// What a round's answer shows of the formula. Where the search is open, `kept` becomes the ids of the

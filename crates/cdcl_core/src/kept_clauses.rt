@@ -95,13 +95,22 @@ fn push_kept(
     Ok(())
 }
 
+/// Says how many ids there can be.
+fn see_few(ids: &[u64])
+    ensures { length ids.now < 2 ^ 60 }
+{
+    let _count = ids.len();
+}
+
 /// The round over the formula and the clauses of the whole log that have these ids.
 pub fn round_of(alloc: Global, cnf: &Cnf, whole: &Log, kept: &[u64]) -> Result<Round, AllocError>
     requires { IsDerivation cnf.now whole.now }
-    ensures { IfOk result (λ round. IsRound cnf.now whole.now round.formula round.ids) }
+    ensures round { IfOk result (λ round. IsRound cnf.now whole.now round.formula round.ids) }
+    ensures short { IfOk result (λ round. length round.formula.clauses < 2 ^ 63) }
 {
     let mut draft = formula_clauses(alloc, cnf)?;
     push_kept(alloc, &mut draft, cnf, whole, kept)?;
+    see_few(draft.ids.as_slice());
     let Draft { clauses, ids } = draft;
     let formula = Cnf::new(cnf.vars(), clauses);
     Ok(Round { formula, ids })

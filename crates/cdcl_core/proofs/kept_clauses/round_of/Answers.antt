@@ -1,5 +1,6 @@
-use Rattle.std.proofs.Common.{◌<◌, ◌^◌, subst, sym}
+use Rattle.std.proofs.Common.{◌<◌, ◌^◌, length, subst, sym, arith}
 use Rattle.proof_semantics.specs.Clauses.{AreClausesOf}
+use Rattle.proof_semantics.specs.Formula.{Formula}
 use Rattle.proof_semantics.specs.Conflicts.{added_clauses}
 use Rattle.proof_parts.specs.Cnf.{IsCnf}
 use Rattle.cdcl_core.proofs.Named.{round_literals}
@@ -15,3 +16,8 @@ new-formula-requires c = record {
       (round_literals c.args.cnf.now c.args.whole.now c.push_kept.new.draft.clauses c.push_kept.new.draft.ids c.vars.ensures.formed.literals c.requires
       c.in_ok-push_kept.ensures.named);
 }
+
+pub returns-clause-short : goal.returns-clause-short
+returns-clause-short c =
+    let count = c.in_ok-push_kept.ensures.named.count in
+    subst (λ (round : Formula). length round.clauses < 2 ^ 63) (sym c.new-formula.ensures) (omega arith)
