@@ -25,3 +25,4 @@ pub mod LastOther
 pub mod Searching
 pub mod Named
 pub mod Renaming
+pub mod Rounds

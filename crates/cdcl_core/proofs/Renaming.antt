@@ -246,3 +246,6 @@ refuted_joined f derived whole log first h = record { begins = begins_joined der
 
 pub open_first : (f : Formula) (derived : List LogItem) → IsDerivation f derived → IsOpenBehind f derived derived
 open_first f derived h = record { begins = take-length derived; derivation = h }
+
+pub derivation_none : (f : Formula) (log : List LogItem) → log ≡ [] → length f.clauses < 2 ^ 63 → IsDerivation f log
+derivation_none f log e short = rw e (record { sound = tt; in_turn = tt; short = omega arith })

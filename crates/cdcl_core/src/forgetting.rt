@@ -166,7 +166,7 @@ pub fn solve_forgetting<P: Progress>(
     let mut whole = derived;
     let mut spent = 0;
     let mut most = FIRST_ROUND;
-    while spent < limit {
+    'rounds: while spent < limit {
         let conflicts = most.min(limit - spent);
         if !has_room(cnf, &whole, conflicts) {
             break;

@@ -1,4 +1,4 @@
-use Rattle.std.proofs.Common.{◌<◌, ◌^◌, length, subst, sym, arith}
+use Rattle.std.proofs.Common.{◌<◌, ◌^◌, ℕ, List, length, subst, sym, arith}
 use Rattle.proof_semantics.specs.Clauses.{AreClausesOf}
 use Rattle.proof_semantics.specs.Formula.{Formula}
 use Rattle.proof_semantics.specs.Conflicts.{added_clauses}
@@ -20,4 +20,5 @@ new-formula-requires c = record {
 pub returns-clause-short : goal.returns-clause-short
 returns-clause-short c =
     let count = c.in_ok-push_kept.ensures.named.count in
-    subst (λ (round : Formula). length round.clauses < 2 ^ 63) (sym c.new-formula.ensures) (omega arith)
+    let few : length c.push_kept.new.draft.ids < 2 ^ 60 = subst (λ (ids : List ℕ). length ids < 2 ^ 60) c.as_slice.ensures c.see_few.ensures in
+    subst (λ (round : Formula). length round.clauses < 2 ^ 63) (sym c.new-formula.ensures) (omega (arith, count, few))
