@@ -23,3 +23,6 @@ pub mod Jumping
 pub mod WatchJump
 pub mod LastOther
 pub mod Searching
+pub mod Named
+pub mod Renaming
+pub mod Rounds

@@ -68,7 +68,7 @@ searching_smaller clauses old t new l few h e =
 
 -- ---- the start
 
-added-literals : (variables last : ℕ) (log : List LogItem) → AddsInTurn variables last log → AreClausesOf variables (added_clauses log)
+pub added-literals : (variables last : ℕ) (log : List LogItem) → AddsInTurn variables last log → AreClausesOf variables (added_clauses log)
 added-literals variables last [] h = All-nil (All (IsLiteralOf variables))
 added-literals variables last (Add s ∷ log) h = All-cons (All (IsLiteralOf variables)) s.literals (added_clauses log) h.1 (added-literals variables s.id log h.2)
 added-literals variables last (Remove ids ∷ log) h = absurd h

@@ -21,4 +21,6 @@ pub mod Laws
 pub mod Decided
 pub mod Searched
 pub mod Answers
+pub mod Outcomes
+pub mod Rounds
 pub mod Turned

@@ -1,0 +1,20 @@
+use Rattle.std.proofs.Common.{arith}
+use Rattle.cdcl_core.proofs.Renaming.{open_first}
+use Rattle.cdcl_core.proofs.Rounds.{next_model, next_refuted, next_open}
+use Rattle.cdcl_core.proofs.forgetting.solve_forgetting.Goals as goal
+
+pub rounds-init : goal.rounds-init
+rounds-init g c = record { behind = open_first c.args.cnf.now c.args.derived c.requires.derived; within = omega arith; some = omega arith }
+
+pub returns-in-Model : goal.returns-in-Model
+returns-in-Model g c = next_model c.args.cnf.now c.rounds.whole c.in-Model.bits _ c.in_ok-bits.ensures c.in-Model.is
+
+pub returns-in-Refuted : goal.returns-in-Refuted
+returns-in-Refuted g c = next_refuted c.args.cnf.now c.args.derived c.rounds.whole c.in-Refuted.log _ c.rounds.invariant.behind c.in_ok-bits.ensures c.in-Refuted.is
+
+pub rounds-preserved : goal.rounds-preserved
+rounds-preserved g c = record {
+  behind = next_open c.args.cnf.now c.args.derived c.rounds.whole c.in-Open.longer _ c.rounds.invariant.behind c.in_ok-bits.ensures c.in-Open.is;
+  within = omega arith;
+  some = omega arith;
+}

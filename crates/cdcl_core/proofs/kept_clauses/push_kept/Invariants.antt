@@ -1,0 +1,10 @@
+use Rattle.std.proofs.Common.{◌≡◌, take, length}
+use Rattle.proof_semantics.specs.Conflicts.{clauses_with}
+use Rattle.cdcl_core.specs.Rounds.{AreNamed}
+use Rattle.cdcl_core.proofs.kept_clauses.push_kept.Given as goal
+
+abbrev pub invariant-loop-id : goal.invariant-loop-id
+invariant-loop-id l = record {
+  begins : take (length l.cnf.clauses) l.draft.clauses ≡ l.cnf.clauses;
+  named : AreNamed (clauses_with l.cnf.clauses l.whole) l.draft.clauses l.draft.ids;
+}
