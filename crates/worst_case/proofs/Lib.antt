@@ -3,3 +3,4 @@ pub mod FirstGreatest
 pub mod Ranges
 pub mod Tried
 pub mod Decided
+pub mod Repeated

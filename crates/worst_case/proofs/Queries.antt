@@ -23,6 +23,7 @@ use Rattle.cdcl_core.specs.Answers.{IsModel, IsAnswer}
 use Rattle.cdcl_core.specs.declared.answer.Answer.{Answer}
 use Rattle.cdcl_core.specs.declared.answer.Answer.TheVariants.{Model, Refuted, Spent}
 use Rattle.worst_case.specs.Exceeds.{IsAsked, told}
+use Rattle.worst_case.specs.declared.query.Exceed.{Exceed}
 
 module _ (metric : Metric) (N M : NetValue) (k : ℕ) (h : AreComparable N M) where
   -- a model of the miter has a bit for each input
@@ -51,9 +52,8 @@ module _ (metric : Metric) (N M : NetValue) (k : ℕ) (h : AreComparable N M) wh
       }
 
   -- the merges of the joint net, which a log begins with
-  pub merges_of : (J : NetValue) → J ≡ joint_net N M metric k → (merged log : List LogItem) → IsMergeLog J merged → take (length merged) log ≡ merged
-      → IsMergeLog (joint_net N M metric k) (take (length merged) log)
-  merges_of J is merged log h begins = subst (IsMergeLog (joint_net N M metric k)) (sym begins) (subst (λ K. IsMergeLog K merged) is h)
+  pub merges_of : (merged log : List LogItem) → IsMergeLog (joint_net N M metric k) merged → take (length merged) log ≡ merged → IsMergeLog (joint_net N M metric k) (take (length merged) log)
+  merges_of merged log h begins = subst (IsMergeLog (joint_net N M metric k)) (sym begins) h
 
   -- a log that refutes the miter, and begins with the merges of the joint net
   pub IsNever-from : (f : Formula) → f ≡ miter N M metric k → (log : List LogItem) → Refutes f.clauses log → IsDerivation f log → BeginsWithMerges (joint_net N M metric k) log
@@ -68,15 +68,15 @@ module _ (metric : Metric) (N M : NetValue) (k : ℕ) (h : AreComparable N M) wh
       }
 
   -- an answer to the miter behind the merges of the joint net is one to the question about the nets
-  pub asked_of : 8 < input_count N → (limit : ℕ) (J : NetValue) → J ≡ joint_net N M metric k → (f : Formula) → f ≡ miter N M metric k → (merged : List LogItem) → IsMergeLog J merged
+  pub asked_of : 8 < input_count N → (limit : ℕ) (f : Formula) → f ≡ miter N M metric k → (merged : List LogItem) → IsMergeLog (joint_net N M metric k) merged
       → (answer : Answer) → IsAnswer f merged limit answer → IsAsked metric N M k limit (told N M k (length merged) answer)
-  asked_of many limit J same f is merged h (Model bits) model = IsOver-from_model many f bits is model
-  asked_of many limit J same f is merged h (Refuted log) found =
-      IsNever-from f is log found.refutes found.derivation (length merged, merges_of J same merged log h found.begins)
-  asked_of many limit J same f is merged h (Spent log) found = record {
+  asked_of many limit f is merged h (Model bits) model = IsOver-from_model many f bits is model
+  asked_of many limit f is merged h (Refuted log) found =
+      IsNever-from f is log found.refutes found.derivation (length merged, merges_of merged log h found.begins)
+  asked_of many limit f is merged h (Spent log) found = record {
     net = refl;
     level = refl;
-    merged = merges_of J same merged log h found.begins;
+    merged = merges_of merged log h found.begins;
     chain = subst (λ g. IsConflictChain g (length merged) limit log) is found.chain;
   }
 
@@ -85,3 +85,7 @@ module _ (metric : Metric) (N M : NetValue) (k : ℕ) (h : AreComparable N M) wh
   joint_never within J is x width =
       let low : net_error metric N M x ≤ k = within x (width ∙ ap input_count is ∙ joint_inputs N M metric k) in
       ap (λ K. outputs_of K x) is ∙ output_tells N M metric k h x ∙ ap (λ bit. bit ∷ []) (le-ltb k (net_error metric N M x) low)
+
+-- a question poses the level that it was made for
+pub asked_at : (metric m : Metric) (N M : NetValue) (k j limit : ℕ) (e : Exceed) → m ≡ metric → j ≡ k → IsAsked m N M j limit e → IsAsked metric N M k limit e
+asked_at metric m N M k j limit e same level asked = subst (λ i. IsAsked metric N M i limit e) level (subst (λ n. IsAsked n N M j limit e) same asked)

@@ -1,20 +1,18 @@
 -- What the answers are to the query whether some input's error exceeds a level.
-use Rattle.std.specs.Prelude.{◌≡◌, ℕ, List, length, take}
+use Rattle.std.specs.Prelude.{◌≡◌, ℕ, take}
 use Rattle.semantics.specs.Net.{NetValue, input_count}
 use Rattle.semantics.specs.declared.metric.Metric.{Metric}
-use Rattle.quality_semantics.specs.Joint.{joint_net}
+use Rattle.quality_semantics.specs.Joint.{joint_net, AreComparable}
 use Rattle.proof_semantics.specs.Conflicts.{IsConflictChain}
-use Rattle.proof_semantics.specs.Formula.{Formula}
-use Rattle.proof_semantics.specs.Logs.{LogItem}
 use Rattle.proof_semantics.specs.Merges.{IsMergeLog}
 use Rattle.proof_semantics.specs.Miter.{miter}
 use Rattle.proof_semantics.specs.Queries.{IsOver, IsNever, SpentValue, IsSpentQuery}
-use Rattle.cdcl_core.specs.Answers.{IsAnswer as IsSolved}
 use Rattle.cdcl_core.specs.declared.answer.Answer.{Answer}
 use Rattle.cdcl_core.specs.declared.answer.Answer.TheVariants as answer
 use Rattle.worst_case.specs.declared.query.Spent as spent
 use Rattle.worst_case.specs.declared.query.Exceed.{Exceed}
 use Rattle.worst_case.specs.declared.query.Exceed.TheVariants.{Over, Never, Spent}
+use Rattle.worst_case.specs.declared.solver_query.Question.{Question}
 
 abbrev pub spent_value : spent.Spent → SpentValue
 spent_value s = record { net = s.net; k = s.k; merged = s.merged; log = s.log }
@@ -48,12 +46,11 @@ told exact approx k merged (answer.Refuted log) = Never log
 told exact approx k merged (answer.Spent log)
     = Spent (record { net = approx; k = k; merged = merged; log = log })
 
--- `exceed` is what an answer of the solver, to the formula behind these merged steps, says of the two nets
-pub record IsToldBehind (exact approx : NetValue) (f : Formula) (k limit : ℕ) (merged : List LogItem)
-    (exceed : Exceed) : Type 0 where
-  pub found : Answer
-  pub solved : IsSolved f merged limit found
-  pub is : exceed ≡ told exact approx k (length merged) found
+-- the question is about the miter of these two nets, behind the merges of their joint net
+pub record IsPosed (exact approx : NetValue) (q : Question) : Type 0 where
+  pub comparable : AreComparable exact approx
+  pub formula : q.joint.formula ≡ miter exact approx q.metric q.k
+  pub merged : IsMergeLog (joint_net exact approx q.metric q.k) q.merged
 
 -- the solver was asked
 abbrev pub IsAsked : Metric → NetValue → NetValue → ℕ → ℕ → Exceed → Type 0

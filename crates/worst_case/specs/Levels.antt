@@ -5,6 +5,8 @@ use Rattle.semantics.specs.declared.metric.Metric.{Metric}
 use Rattle.semantics.specs.Error.{IsWithin}
 use Rattle.worst_case.specs.Exceeds.{IsSpentOn}
 use Rattle.worst_case.specs.VectorsTried.{IsExceededAt}
+use Rattle.worst_case.specs.declared.query.Exceed.{Exceed}
+use Rattle.worst_case.specs.declared.query.Exceed.TheVariants as exceed
 use Rattle.worst_case.specs.declared.margin.Margin.{Margin}
 use Rattle.worst_case.specs.declared.margin.Margin.TheVariants.{Over, Within, Spent}
 
@@ -18,3 +20,9 @@ abbrev pub IsSureAnswer : Metric → NetValue → NetValue → ℕ → Margin �
 IsSureAnswer metric exact approx k (Over x) = IsExceededAt metric exact approx k x
 IsSureAnswer metric exact approx k Within = IsWithin metric exact k approx
 IsSureAnswer metric exact approx k (Spent s) = ⊥
+
+-- the answer of the solver without its log
+abbrev pub without_log : Exceed → Margin
+without_log (exceed.Over x) = Over x
+without_log (exceed.Never log) = Within
+without_log (exceed.Spent s) = Spent s

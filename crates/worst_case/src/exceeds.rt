@@ -7,7 +7,7 @@ ghost use Rattle.worst_case.specs.VectorsTried.{IsHeldFor};
 
 use crate::query::Exceed;
 use crate::refutation::refute_level;
-use crate::solver_query::ask_solver;
+use crate::repeated_query::ask_repeatedly;
 use crate::vectors_tried::{LANE_INPUTS, hold_every_vector, try_vectors};
 use lane_nets::reference::Reference;
 use net_core::net::Net;
@@ -54,7 +54,7 @@ pub(crate) fn exceeds_level<P: Progress>(
 {
     match hold_every_vector(alloc, nets.exact())? {
         Some(held) => exceeds_held(alloc, nets, &held, metric, k, limit, progress),
-        None => ask_solver(alloc, nets, metric, k, limit, progress),
+        None => ask_repeatedly(alloc, nets, metric, k, limit, progress),
     }
 }
 

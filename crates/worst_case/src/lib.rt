@@ -10,5 +10,6 @@ pub mod policy;
 pub mod query;
 mod range;
 mod refutation;
+mod repeated_query;
 mod solver_query;
 pub mod vectors_tried;

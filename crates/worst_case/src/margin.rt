@@ -1,12 +1,13 @@
 //! Whether the error stays within a level, where nobody asks for a log.
-ghost use Rattle.std.specs.Prelude.{◌≡◌, ◌<◌, ◌≤◌, ℕ, IfOk, IfSome};
+ghost use Rattle.std.specs.Prelude.{◌≡◌, ◌<◌, ◌≤◌, IfOk, IfSome};
 ghost use Rattle.semantics.specs.Net.{input_count};
-ghost use Rattle.worst_case.specs.Exceeds.{IsSpentOn};
-ghost use Rattle.worst_case.specs.Levels.{IsLevelAnswer, IsSureAnswer};
+ghost use Rattle.worst_case.specs.Exceeds.{IsChainOn, IsPosed};
+ghost use Rattle.worst_case.specs.Levels.{IsLevelAnswer, IsSureAnswer, without_log};
 ghost use Rattle.worst_case.specs.VectorsTried.{IsHeldFor};
 
 use crate::query::{Exceed, Spent};
-use crate::solver_query::ask_solver;
+use crate::repeated_query::ask_again;
+use crate::solver_query::{Question, ask_once, pose};
 use crate::vectors_tried::{LANE_INPUTS, try_vectors};
 use bdd_levels::budgets::{LAST_STEPS, QUESTION_STEPS};
 use bdd_levels::decider::Decider;
@@ -51,30 +52,55 @@ pub(crate) fn by_diagrams(
     }
 }
 
-/// What diagrams answer at last within more steps, or what the solver spent.
-#[tactic(auto, using(crate::proofs::Decided::sure_answer))]
-fn by_last_steps(
-    alloc: Global,
-    nets: &Compared,
-    decider: &mut Decider,
-    metric: Metric,
-    k: u128,
-    spent: Spent,
-) -> Result<Margin, AllocError>
-    requires decider { decider.old ≡ nets.now.exact }
-    ensures same { decider.new ≡ decider.old }
-    ensures answer { IfOk result
-        (λ margin. (limit : ℕ) → IsSpentOn metric nets.now.exact nets.now.approx k limit spent
-        → IsLevelAnswer metric nets.now.exact nets.now.approx k limit margin) }
+/// What an answer of the solver says where nobody asks for a log.
+fn margin_of(exceed: Exceed) -> Margin
+    ensures { result ≡ without_log exceed }
 {
-    match by_diagrams(alloc, nets, decider, metric, k, LAST_STEPS)? {
-        Some(margin) => Ok(margin),
-        None => Ok(Margin::Spent(spent)),
+    match exceed {
+        Exceed::Over(x) => Margin::Over(x),
+        Exceed::Never(_) => Margin::Within,
+        Exceed::Spent(spent) => Margin::Spent(spent),
     }
 }
 
-/// What the solver answers; where its conflicts are spent, diagrams are asked once more.
-#[tactic(auto, using(crate::proofs::Decided::sure_answer))]
+/// What diagrams answer at last within more steps, and where they do not, what further queries behind the
+/// spent one come to.
+fn by_last_steps<P: Progress>(
+    alloc: Global,
+    nets: &Compared,
+    decider: &mut Decider,
+    question: &Question,
+    spent: Spent,
+    limit: u64,
+    progress: &mut P,
+) -> Result<Margin, AllocError>
+    requires many_inputs { LANE_INPUTS < input_count nets.now.exact }
+    requires decider { decider.old ≡ nets.now.exact }
+    requires limit { 1 ≤ limit }
+    requires posed { IsPosed nets.now.exact nets.now.approx question.now }
+    requires spent { IsChainOn question.now.metric nets.now.exact nets.now.approx question.now.k limit spent }
+    ensures same { decider.new ≡ decider.old }
+    ensures answer { IfOk result
+        (IsLevelAnswer question.now.metric nets.now.exact nets.now.approx question.now.k limit) }
+{
+    match by_diagrams(
+        alloc,
+        nets,
+        decider,
+        question.metric,
+        question.k,
+        LAST_STEPS,
+    )? {
+        Some(margin) => Ok(margin),
+        None => {
+            let last = ask_again(alloc, nets, question, spent, limit, progress)?;
+            Ok(margin_of(last))
+        }
+    }
+}
+
+/// What a query of the solver answers. Where its conflicts are spent, diagrams are asked once more, and then
+/// the solver again.
 fn by_solver<P: Progress>(
     alloc: Global,
     nets: &Compared,
@@ -90,10 +116,13 @@ fn by_solver<P: Progress>(
     ensures same { decider.new ≡ decider.old }
     ensures answer { IfOk result (IsLevelAnswer metric nets.now.exact nets.now.approx k limit) }
 {
-    match ask_solver(alloc, nets, metric, k, limit, progress)? {
-        Exceed::Over(x) => Ok(Margin::Over(x)),
-        Exceed::Never(_) => Ok(Margin::Within),
-        Exceed::Spent(spent) => by_last_steps(alloc, nets, decider, metric, k, spent),
+    let question = pose(alloc, nets, metric, k)?;
+    let first = ask_once(alloc, nets, &question, limit, progress)?;
+    match first {
+        Exceed::Spent(spent) => by_last_steps(
+            alloc, nets, decider, &question, spent, limit, progress,
+        ),
+        decided => Ok(margin_of(decided)),
     }
 }
 

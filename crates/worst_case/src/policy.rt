@@ -6,8 +6,8 @@
 //! net are small: adders, filters, medians and sums of differences take milliseconds a question with
 //! diagrams, and minutes with the solver. A question that takes more than `QUESTION_STEPS` steps goes to the
 //! solver, which is quick where errors may be large. Where the solver's conflicts are spent too, the diagrams
-//! get as many steps as their nodes allow (`LAST_STEPS`) before the query counts as spent. What a budget
-//! leaves open is never taken for an answer.
+//! get as many steps as their nodes allow (`LAST_STEPS`), and then the solver gets further queries, before
+//! the question counts as open. What a budget leaves open is never taken for an answer.
 ghost use Rattle.std.specs.Prelude.{◌≡◌, IfOk};
 
 use crate::vectors_tried::LANE_INPUTS;

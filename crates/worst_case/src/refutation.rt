@@ -11,6 +11,7 @@ ghost use Rattle.worst_case.specs.Exceeds.{IsAnswer};
 
 use crate::comparable::see_comparable;
 use crate::query::Exceed;
+use crate::repeated_query::ask_repeatedly;
 use crate::solver_query::ask_solver;
 use case_tree::refute::refute;
 use miter::level::joint_miter;
@@ -92,7 +93,7 @@ pub(crate) fn refute_level<P: Progress>(
 {
     let inputs = nets.exact().inputs();
     if inputs > FEW_INPUTS && !is_enough(limit, inputs) {
-        return ask_solver(alloc, nets, metric, k, limit, progress);
+        return ask_repeatedly(alloc, nets, metric, k, limit, progress);
     }
     let log = if inputs > FEW_INPUTS {
         let few = limit.min(few_conflicts(inputs));

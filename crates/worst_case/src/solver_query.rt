@@ -1,17 +1,14 @@
 //! Whether some error exceeds a level, asked of the solver, which is first told which tables of the joint net
-//! are alike.
-ghost use Rattle.std.specs.Prelude.{◌≡◌, ◌<◌, ◌≤◌, ◌^◌, List, Bool, length, take, IfOk};
+//! are alike. A question is posed once, and takes one query or more.
+ghost use Rattle.std.specs.Prelude.{◌≡◌, ◌<◌, ◌≤◌, List, Bool, length, take, IfOk};
 ghost use Rattle.semantics.specs.Net.{input_count};
-ghost use Rattle.proof_semantics.specs.Logs.{LogItem, IsDerivation};
-ghost use Rattle.proof_semantics.specs.Formula.{goal_of};
-ghost use Rattle.proof_semantics.specs.Merges.{IsMergeLog};
-ghost use Rattle.cdcl_core.specs.Answers.{IsModel, IsAnswer};
 ghost use Rattle.cdcl_core.specs.declared.answer.Answer.TheVariants.{Model};
-ghost use Rattle.worst_case.specs.Exceeds.{IsAsked, IsToldBehind, told};
+ghost use Rattle.worst_case.specs.Exceeds.{IsAsked, IsPosed, told};
 
 use crate::comparable::see_comparable;
 use crate::query::{Exceed, Spent};
 use cdcl_core::answer::Answer;
+use cdcl_core::guide::Guide;
 use cdcl_core::solve::solve_guided;
 use merge_log::merges::merges;
 use miter::level::{Miter, joint_miter};
@@ -25,29 +22,47 @@ use semantics::metric::Metric;
 use std::alloc::{AllocError, Global};
 use sweep_guide::guide::guide_of;
 
+/// What the queries of a question have in common: the level, the miter, its guide, and the merges of its
+/// joint net.
+#[derive(Drop)]
+pub struct Question {
+    pub metric: Metric,
+    pub k: u128,
+    pub joint: Miter,
+    pub guide: Guide,
+    pub merged: Log,
+}
+
 /// The first bits of a model, one for each input.
-fn input_bits(alloc: Global, net: &Net, values: &Bits) -> Result<Bits, AllocError>
+pub(crate) fn input_bits(alloc: Global, net: &Net, values: &Bits) -> Result<Bits, AllocError>
     requires { input_count net.now ≤ length values.now }
     ensures { IfOk result (λ x. x ≡ take (input_count net.now) values.now) }
 {
     Bits::from_slice(alloc, &values.as_slice()[..net.inputs() as usize])
 }
 
-/// The solver's answer to a miter, behind the merges of its joint net. Tells `progress` what the solver does.
-fn solver_answer<P: Progress>(
+/// The question whether some error exceeds `k`.
+pub(crate) fn pose(
     alloc: Global,
-    joint: &Miter,
-    merged: &Log,
-    limit: u64,
-    progress: &mut P,
-) -> Result<Answer, AllocError>
-    requires limit { 1 ≤ limit }
-    requires merged { IsDerivation joint.now.formula merged.now }
-    ensures { IfOk result (IsAnswer joint.now.formula merged.now limit) }
+    nets: &Compared,
+    metric: Metric,
+    k: u128,
+) -> Result<Question, AllocError>
+    ensures posed { IfOk result (IsPosed nets.now.exact nets.now.approx) }
+    ensures metric { IfOk result (λ question. question.metric ≡ metric) }
+    ensures level { IfOk result (λ question. question.k ≡ k) }
 {
+    see_comparable(nets);
+    let joint = joint_miter(alloc, nets, metric, k)?;
+    let merged = merges(alloc, &joint.net, &joint.formula)?;
     let guide = guide_of(alloc, &joint.net, true)?;
-    progress.asked();
-    solve_guided(alloc, &joint.formula, merged, &guide, limit, progress)
+    Ok(Question {
+        metric,
+        k,
+        joint,
+        guide,
+        merged,
+    })
 }
 
 /// What an answer of the solver, behind `merged` merged steps, says of the two nets.
@@ -73,49 +88,36 @@ fn told_of_nets(
     }
 }
 
-/// What the solver's answer behind these merged steps says of the two nets.
-fn ask_behind<P: Progress>(
+/// One query of the question: an input whose error exceeds the level, a log that refutes that there is such
+/// an input, or a log of `limit` conflicts behind the merges. Tells `progress` what the solver does.
+pub(crate) fn ask_once<P: Progress>(
     alloc: Global,
     nets: &Compared,
-    joint: &Miter,
-    merged: &Log,
-    k: u128,
+    question: &Question,
     limit: u64,
     progress: &mut P,
 ) -> Result<Exceed, AllocError>
+    requires many_inputs { FEW_INPUTS < input_count nets.now.exact }
     requires limit { 1 ≤ limit }
-    requires merged { IsDerivation joint.now.formula merged.now }
-    requires wide { (bits : List Bool) → IsModel joint.now.formula bits
-        → input_count nets.now.exact ≤ length bits }
-    ensures { IfOk result (IsToldBehind nets.now.exact nets.now.approx joint.now.formula k limit merged.now) }
+    requires posed { IsPosed nets.now.exact nets.now.approx question.now }
+    ensures { IfOk result
+        (IsAsked question.now.metric nets.now.exact nets.now.approx question.now.k limit) }
 {
-    let count = merged.as_slice().len() as u64;
-    let answer = solver_answer(alloc, joint, merged, limit, progress)?;
-    told_of_nets(alloc, nets, k, count, answer)
+    let merged = question.merged.len() as u64;
+    progress.asked();
+    let formula = &question.joint.formula;
+    let answer = solve_guided(
+        alloc,
+        formula,
+        &question.merged,
+        &question.guide,
+        limit,
+        progress,
+    )?;
+    told_of_nets(alloc, nets, question.k, merged, answer)
 }
 
-/// Asks the solver, as [`ask_behind`] does, behind the merges of the joint net, which are made first.
-fn ask_merged<P: Progress>(
-    alloc: Global,
-    nets: &Compared,
-    joint: &Miter,
-    k: u128,
-    limit: u64,
-    progress: &mut P,
-) -> Result<Exceed, AllocError>
-    requires limit { 1 ≤ limit }
-    requires goal { joint.now.formula ≡ goal_of joint.now.net }
-    requires wide { (bits : List Bool) → IsModel joint.now.formula bits
-        → input_count nets.now.exact ≤ length bits }
-    ensures { IfOk result (λ exceed. (merged : List LogItem) × IsMergeLog joint.now.net merged
-        × IsToldBehind nets.now.exact nets.now.approx joint.now.formula k limit merged exceed) }
-{
-    let merged = merges(alloc, &joint.net, &joint.formula)?;
-    ask_behind(alloc, nets, joint, &merged, k, limit, progress)
-}
-
-/// An input whose error exceeds `k`, a log that refutes that there is such an input, or a log of `limit`
-/// conflicts behind the merges. Tells `progress` what the solver does.
+/// Poses the question whether some error exceeds `k`, and makes one query of it, as [`ask_once`] does.
 pub(crate) fn ask_solver<P: Progress>(
     alloc: Global,
     nets: &Compared,
@@ -128,7 +130,6 @@ pub(crate) fn ask_solver<P: Progress>(
     requires limit { 1 ≤ limit }
     ensures { IfOk result (IsAsked metric nets.now.exact nets.now.approx k limit) }
 {
-    see_comparable(nets);
-    let joint = joint_miter(alloc, nets, metric, k)?;
-    ask_merged(alloc, nets, &joint, k, limit, progress)
+    let question = pose(alloc, nets, metric, k)?;
+    ask_once(alloc, nets, &question, limit, progress)
 }

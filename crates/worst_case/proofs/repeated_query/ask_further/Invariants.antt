@@ -1,0 +1,6 @@
+use Rattle.cdcl_core.specs.Answers.{IsOutcome}
+use Rattle.cdcl_core.specs.declared.forgetting.Outcome.TheVariants.{Open}
+use Rattle.worst_case.proofs.repeated_query.ask_further.Given as goal
+
+abbrev pub invariant-loop-query : goal.invariant-loop-query
+invariant-loop-query g l = IsOutcome l.question.joint.formula l.initial.log (Open l.log)

@@ -1,0 +1,30 @@
+use Rattle.std.proofs.Common.{subst, sym, ap, ◌∙◌}
+use Rattle.std.proofs.lemmas.Result.{IfOk-weaker}
+use Rattle.proof_semantics.specs.Logs.{IsDerivation}
+use Rattle.cdcl_core.specs.Answers.{IsAnswer}
+use Rattle.worst_case.specs.Exceeds.{IsAsked, told}
+use Rattle.worst_case.proofs.Queries.{model_wide, asked_of}
+use Rattle.worst_case.proofs.solver_query.ask_once.Goals as goal
+
+pub solve_guided-requires : goal.solve_guided-requires
+solve_guided-requires g c = record {
+  limit = c.requires.limit;
+  merged = subst (λ f. IsDerivation f c.args.question.now.merged) (sym c.requires.posed.formula) c.requires.posed.merged.derivation;
+}
+
+pub told_of_nets-requires : goal.told_of_nets-requires
+told_of_nets-requires g c = λ bits is.
+    let nets = c.args.nets.now in
+    let q = c.args.question.now in
+    model_wide q.metric nets.exact nets.approx q.k c.requires.posed.comparable q.joint.formula bits c.requires.posed.formula
+    (subst (IsAnswer q.joint.formula q.merged c.args.limit) is c.in_ok-answer.ensures)
+
+pub returns : goal.returns
+returns g c =
+    let nets = c.args.nets.now in
+    let q = c.args.question.now in
+    IfOk-weaker c.told_of_nets.result _ _
+    (λ exceed is. subst (IsAsked q.metric nets.exact nets.approx q.k c.args.limit) (sym (is ∙ ap (λ n. told nets.exact nets.approx q.k n c.in_ok-answer.answer) c.len-merged.ensures))
+    (asked_of q.metric nets.exact nets.approx q.k c.requires.posed.comparable c.requires.many_inputs c.args.limit q.joint.formula c.requires.posed.formula
+    q.merged c.requires.posed.merged c.in_ok-answer.answer c.in_ok-answer.ensures))
+    c.told_of_nets.ensures

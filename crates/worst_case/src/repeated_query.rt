@@ -1,0 +1,125 @@
+//! A question that one query leaves open is put again, before its conflicts count as spent.
+//!
+//! Further queries begin with all that earlier ones learned, and forget what does not help. Each log begins
+//! with the first query's log. Where every query leaves the question open, the answer has the first query's
+//! log: of this log alone it is known that each of its conflicts says something new.
+ghost use Rattle.std.specs.Prelude.{◌≡◌, ◌<◌, ◌≤◌, length, take, IfOk};
+ghost use Rattle.semantics.specs.Net.{input_count};
+ghost use Rattle.proof_semantics.specs.Logs.{IsDerivation};
+ghost use Rattle.cdcl_core.specs.Answers.{IsOutcome};
+ghost use Rattle.worst_case.specs.Exceeds.{IsAsked, IsChainOn, IsPosed};
+
+use crate::query::{Exceed, Spent};
+use crate::solver_query::{Question, ask_once, input_bits, pose};
+use cdcl_core::forgetting::{Outcome, solve_forgetting};
+use net_core::items::Items;
+use net_errors::compared::Compared;
+use progress::progress::Progress;
+use proof_parts::log::{Item, Log};
+use semantics::limits::FEW_INPUTS;
+use semantics::metric::Metric;
+use std::alloc::{AllocError, Global};
+
+/// The most queries of one question, the first among them. The last formulas of common blocks that 10,000
+/// conflicts leave open end within a small multiple of 100,000 conflicts.
+const MOST_QUERIES: u32 = 16;
+
+/// Makes further queries behind `derived`, until one of them decides the formula, or there were
+/// `MOST_QUERIES` with the one that came before. Tells `progress` what the solver does.
+fn ask_further<P: Progress>(
+    alloc: Global,
+    question: &Question,
+    derived: Log,
+    limit: u64,
+    progress: &mut P,
+) -> Result<Outcome, AllocError>
+    requires limit { 1 ≤ limit }
+    requires derived { IsDerivation question.now.joint.formula derived }
+    ensures { IfOk result (IsOutcome question.now.joint.formula derived) }
+{
+    let formula = &question.joint.formula;
+    let mut log = derived;
+    for _query in 1..MOST_QUERIES {
+        progress.asked();
+        let outcome = solve_forgetting(alloc, formula, log, &question.guide, limit, progress)?;
+        match outcome {
+            Outcome::Open(longer) => log = longer,
+            decided => return Ok(decided),
+        }
+    }
+    Ok(Outcome::Open(log))
+}
+
+/// The first `count` items of a log. They are taken out of it, and not copied.
+fn take_first(alloc: Global, log: &mut Log, count: usize) -> Result<Log, AllocError>
+    requires { count ≤ length log.old }
+    ensures { IfOk result (λ first. first ≡ take count log.old) }
+{
+    let mut first = Items::new(alloc);
+    for i in 0..count {
+        first.push(log.replace(i, Item::Remove(Items::new(alloc))))?;
+    }
+    Ok(first)
+}
+
+/// What further queries of the question come to behind its first query, which was spent. Where all leave the
+/// question open, the answer is the spent query.
+pub(crate) fn ask_again<P: Progress>(
+    alloc: Global,
+    nets: &Compared,
+    question: &Question,
+    spent: Spent,
+    limit: u64,
+    progress: &mut P,
+) -> Result<Exceed, AllocError>
+    requires many_inputs { FEW_INPUTS < input_count nets.now.exact }
+    requires limit { 1 ≤ limit }
+    requires posed { IsPosed nets.now.exact nets.now.approx question.now }
+    requires spent { IsChainOn question.now.metric nets.now.exact nets.now.approx question.now.k limit spent }
+    ensures { IfOk result
+        (IsAsked question.now.metric nets.now.exact nets.now.approx question.now.k limit) }
+{
+    let Spent {
+        net,
+        k,
+        merged,
+        log,
+    } = spent;
+    let count = log.len();
+    let outcome = ask_further(alloc, question, log, limit, progress)?;
+    match outcome {
+        Outcome::Model(values) => Ok(Exceed::Over(input_bits(alloc, nets.exact(), &values)?)),
+        Outcome::Refuted(log) => Ok(Exceed::Never(log)),
+        Outcome::Open(mut log) => {
+            let log = take_first(alloc, &mut log, count)?;
+            Ok(Exceed::Spent(Spent {
+                net,
+                k,
+                merged,
+                log,
+            }))
+        }
+    }
+}
+
+/// An input whose error exceeds `k`, a log that refutes that there is such an input, or a log of `limit`
+/// conflicts behind the merges, where no query of the question decides it.
+pub(crate) fn ask_repeatedly<P: Progress>(
+    alloc: Global,
+    nets: &Compared,
+    metric: Metric,
+    k: u128,
+    limit: u64,
+    progress: &mut P,
+) -> Result<Exceed, AllocError>
+    requires many_inputs { FEW_INPUTS < input_count nets.now.exact }
+    requires limit { 1 ≤ limit }
+    ensures { IfOk result (IsAsked metric nets.now.exact nets.now.approx k limit) }
+{
+    let question = pose(alloc, nets, metric, k)?;
+    let first = ask_once(alloc, nets, &question, limit, progress)?;
+    match first {
+        Exceed::Spent(spent) => ask_again(alloc, nets, &question, spent, limit, progress),
+        decided => Ok(decided),
+    }
+}
