@@ -78,7 +78,8 @@ pub taken_more : (first next log rest whole : List LogItem) (i : ℕ) (item othe
 taken_more first next log rest whole i item other all low next_is rest_is is =
     let front : drop i log ≡ item ∷ drop (i + 1) log = rw add-one (drop-cons log i item low ∙ ap (λ x. x ∷ drop (suc i) log) (sym is)) in
     let behind : drop (i + 1) rest ≡ drop (i + 1) log = ap (drop (i + 1)) rest_is ∙ drop-set-lt (i + 1) log i other (omega (arith)) in
-    ap (λ head. head ++ drop (i + 1) rest) next_is ∙ ap (λ tail. (first ++ (item ∷ [])) ++ tail) behind ∙ append_assoc first (item ∷ []) (drop (i + 1) log) ∙ ap (λ tail. first ++ tail) (sym front) ∙ all
+    ap (λ head. head ++ drop (i + 1) rest) next_is ∙ ap (λ tail. (first ++ (item ∷ [])) ++ tail) behind ∙ append_assoc first (item ∷ []) (drop (i + 1) log)
+    ∙ ap (λ tail. first ++ tail) (sym front) ∙ all
 
 pub counted_more : (first next : List LogItem) (i : ℕ) (item : LogItem) → length first ≡ i → next ≡ first ++ (item ∷ []) → length next ≡ i + 1
 counted_more first next i item at next_is = ap length next_is ∙ length-append first (item ∷ []) ∙ ap (λ n. n + 1) at

@@ -12,8 +12,8 @@ pub loop-i-preserved : goal.loop-i-preserved
 loop-i-preserved c =
     let low = one_left c.loop-i.first c.loop-i.log c.args.log.now c.loop-i.i c.args.count c.loop-i.invariant.whole c.loop-i.invariant.count c.loop-i-test.true c.requires in
     record {
-      whole = taken_more c.loop-i.first c.push.new.self c.loop-i.log c.replace.new.self c.args.log.now c.loop-i.i c.replace.result _ c.loop-i.invariant.whole low c.in_ok-push.ensures.ok c.replace.ensures.put
-          c.replace.ensures.taken;
+      whole = taken_more c.loop-i.first c.push.new.self c.loop-i.log c.replace.new.self c.args.log.now c.loop-i.i c.replace.result _ c.loop-i.invariant.whole low c.in_ok-push.ensures.ok
+          c.replace.ensures.put c.replace.ensures.taken;
       count = counted_more c.loop-i.first c.push.new.self c.loop-i.i c.replace.result c.loop-i.invariant.count c.in_ok-push.ensures.ok;
     }
 
