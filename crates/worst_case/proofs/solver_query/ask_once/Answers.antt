@@ -1,4 +1,4 @@
-use Rattle.std.proofs.Common.{subst, sym, ap, ◌∙◌}
+use Rattle.std.proofs.Common.{◌≡◌, ℕ, subst, sym, ap, ◌∙◌}
 use Rattle.std.proofs.lemmas.Result.{IfOk-weaker}
 use Rattle.proof_semantics.specs.Logs.{IsDerivation}
 use Rattle.cdcl_core.specs.Answers.{IsAnswer}
@@ -23,8 +23,10 @@ pub returns : goal.returns
 returns g c =
     let nets = c.args.nets.now in
     let q = c.args.question.now in
-    IfOk-weaker c.told_of_nets.result _ _
-    (λ exceed is. subst (IsAsked q.metric nets.exact nets.approx q.k c.args.limit) (sym (is ∙ ap (λ n. told nets.exact nets.approx q.k n c.in_ok-answer.answer) c.len-merged.ensures))
+    let answered = IsAsked q.metric nets.exact nets.approx q.k c.args.limit in
+    let behind = λ (n : ℕ). told nets.exact nets.approx q.k n c.in_ok-answer.answer in
+    IfOk-weaker c.told_of_nets.result (λ exceed. exceed ≡ behind c.len-merged.result) answered
+    (λ exceed is. subst answered (sym (is ∙ ap behind c.len-merged.ensures))
     (asked_of q.metric nets.exact nets.approx q.k c.requires.posed.comparable c.requires.many_inputs c.args.limit q.joint.formula c.requires.posed.formula
     q.merged c.requires.posed.merged c.in_ok-answer.answer c.in_ok-answer.ensures))
     c.told_of_nets.ensures
