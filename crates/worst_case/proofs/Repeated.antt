@@ -5,26 +5,24 @@ use Rattle.std.proofs.Math.Seq.{drop-cons, take-append_seam}
 use Rattle.std.proofs.Math.ListN.{set}
 use Rattle.semantics.specs.Net.{NetValue}
 use Rattle.semantics.specs.declared.metric.Metric.{Metric}
-use Rattle.quality_semantics.specs.Joint.{joint_net, AreComparable}
+use Rattle.quality_semantics.specs.Joint.{joint_net}
 use Rattle.proof_semantics.specs.Formula.{Formula}
 use Rattle.proof_semantics.specs.Logs.{LogItem, IsDerivation}
 use Rattle.proof_semantics.specs.Miter.{miter}
-use Rattle.proof_semantics.specs.Merges.{IsMergeLog, BeginsWithMerges}
-use Rattle.proof_semantics.specs.Queries.{IsNever}
+use Rattle.proof_semantics.specs.Merges.{IsMergeLog}
 use Rattle.cdcl_core.specs.Searched.{Begins}
-use Rattle.cdcl_core.specs.Answers.{IsOutcome}
-use Rattle.cdcl_core.specs.declared.forgetting.Outcome.{Outcome}
-use Rattle.cdcl_core.specs.declared.forgetting.Outcome.TheVariants.{Model, Refuted, Open}
+use Rattle.cdcl_core.specs.Outcomes.{IsOutcome}
+use Rattle.cdcl_core.specs.declared.outcome.Outcome.{Outcome}
+use Rattle.cdcl_core.specs.declared.outcome.Outcome.TheVariants.{Model, Refuted, Open}
 use Rattle.worst_case.specs.Exceeds.{IsChainOn}
 use Rattle.worst_case.specs.declared.query.Spent as spent
-use Rattle.worst_case.proofs.Queries.{IsNever-from}
 
 -- the first items of a log that begins with another one
 front_of : (n : ℕ) (b c : List LogItem) → n ≤ length b → Begins b c → take n c ≡ take n b
 front_of n b c few begins =
     ap (take n) (sym (take-append-drop (length b) c)) ∙ ap (λ front. take n (front ++ drop (length b) c)) begins ∙ take-append-le n b (drop (length b) c) few
 
-no_longer : (a b : List LogItem) → Begins a b → length a ≤ length b
+pub no_longer : (a b : List LogItem) → Begins a b → length a ≤ length b
 no_longer a b begins = let count : length a ≡ length (take (length a) b) = ap length (sym begins) in omega (arith, count, length-take (length a) b)
 
 -- what a longer log comes to, a log that it begins with comes to as well
@@ -46,15 +44,15 @@ module _ (metric : Metric) (N M : NetValue) (k limit : ℕ) (s : spent.Spent) (h
   chain_derives f is =
       subst (λ g. IsDerivation g s.log) (ap (λ K. miter N K metric s.k) h.net ∙ ap (miter N M metric) h.level ∙ sym is) h.chain.derivation
 
-  chain_merges : (log : List LogItem) → Begins s.log log → BeginsWithMerges (joint_net N M metric k) log
+  -- a log that begins with a spent query's log has the merges at its head
+  pub chain_counted : (log : List LogItem) → Begins s.log log → s.merged ≤ length log
+  chain_counted log begins = omega (arith, h.chain.count, no_longer s.log log begins)
+
+  pub chain_merges : (log : List LogItem) → Begins s.log log → IsMergeLog (joint_net N M metric k) (take s.merged log)
   chain_merges log begins =
       let few : s.merged ≤ length s.log = omega (arith, h.chain.count) in
       let same : joint_net N s.net metric s.k ≡ joint_net N M metric k = ap (λ K. joint_net N K metric s.k) h.net ∙ ap (joint_net N M metric) h.level in
-      (s.merged, subst (λ J. IsMergeLog J (take s.merged log)) same (subst (IsMergeLog (joint_net N s.net metric s.k)) (sym (front_of s.merged s.log log few begins)) h.merged))
-
-  -- a refutation that begins with a spent query's log
-  pub chain_refuted : AreComparable N M → (f : Formula) → f ≡ miter N M metric k → (log : List LogItem) → IsOutcome f s.log (Refuted log) → IsNever metric N M k log
-  chain_refuted comparable f is log found = IsNever-from metric N M k comparable f is log found.refutes found.derivation (chain_merges log found.begins)
+      subst (λ J. IsMergeLog J (take s.merged log)) same (subst (IsMergeLog (joint_net N s.net metric s.k)) (sym (front_of s.merged s.log log few begins)) h.merged)
 
   -- the spent query, whose log was got back from a longer log
   pub chain_back : (f : Formula) (log : List LogItem) → IsOutcome f s.log (Open log) → (first : List LogItem) → first ≡ take (length s.log) log

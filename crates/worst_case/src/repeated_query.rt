@@ -6,12 +6,13 @@
 ghost use Rattle.std.specs.Prelude.{◌≡◌, ◌<◌, ◌≤◌, length, take, IfOk};
 ghost use Rattle.semantics.specs.Net.{input_count};
 ghost use Rattle.proof_semantics.specs.Logs.{IsDerivation};
-ghost use Rattle.cdcl_core.specs.Answers.{IsOutcome};
+ghost use Rattle.cdcl_core.specs.Outcomes.{IsOutcome};
 ghost use Rattle.worst_case.specs.Exceeds.{IsAsked, IsChainOn, IsPosed};
 
 use crate::query::{Exceed, Spent};
-use crate::solver_query::{Question, ask_once, input_bits, pose};
-use cdcl_core::forgetting::{Outcome, solve_forgetting};
+use crate::solver_query::{Question, ask_once, input_bits, pose, told_of_refutation};
+use cdcl_core::forgetting::solve_forgetting;
+use cdcl_core::outcome::Outcome;
 use net_core::items::Items;
 use net_errors::compared::Compared;
 use progress::progress::Progress;
@@ -89,7 +90,9 @@ pub(crate) fn ask_again<P: Progress>(
     let outcome = ask_further(alloc, question, log, limit, progress)?;
     match outcome {
         Outcome::Model(values) => Ok(Exceed::Over(input_bits(alloc, nets.exact(), &values)?)),
-        Outcome::Refuted(log) => Ok(Exceed::Never(log)),
+        Outcome::Refuted(log) => {
+            told_of_refutation(alloc, nets, question, merged as usize, &log)
+        }
         Outcome::Open(mut log) => {
             let log = take_first(alloc, &mut log, count)?;
             Ok(Exceed::Spent(Spent {

@@ -1,7 +1,10 @@
 //! Whether some error exceeds a level, asked of the solver, which is first told which tables of the joint net
 //! are alike. A question is posed once, and takes one query or more.
-ghost use Rattle.std.specs.Prelude.{◌≡◌, ◌<◌, ◌≤◌, List, Bool, length, take, IfOk};
+ghost use Rattle.std.specs.Prelude.{◌≡◌, ◌<◌, ◌≤◌, ℕ, List, Bool, length, take, IfOk};
 ghost use Rattle.semantics.specs.Net.{input_count};
+ghost use Rattle.quality_semantics.specs.Joint.{joint_net};
+ghost use Rattle.proof_semantics.specs.Logs.{IsDerivation, Refutes};
+ghost use Rattle.proof_semantics.specs.Merges.{IsMergeLog};
 ghost use Rattle.cdcl_core.specs.declared.answer.Answer.TheVariants.{Model};
 ghost use Rattle.worst_case.specs.Exceeds.{IsAsked, IsPosed, told};
 
@@ -13,6 +16,7 @@ use cdcl_core::solve::solve_guided;
 use merge_log::merges::merges;
 use miter::level::{Miter, joint_miter};
 use net_core::items::Bits;
+use needed_log::needed::needed;
 use net_core::net::Net;
 use net_errors::compared::Compared;
 use progress::progress::Progress;
@@ -88,6 +92,28 @@ fn told_of_nets(
     }
 }
 
+/// What a log that refutes the question's miter says of the two nets. Of the log are kept its first `first`
+/// additions, the merges, and what the empty clause follows from.
+pub(crate) fn told_of_refutation(
+    alloc: Global,
+    nets: &Compared,
+    question: &Question,
+    first: usize,
+    log: &Log,
+) -> Result<Exceed, AllocError>
+    requires posed { IsPosed nets.now.exact nets.now.approx question.now }
+    requires first { first ≤ length log.now }
+    requires merged { IsMergeLog
+        (joint_net nets.now.exact nets.now.approx question.now.metric question.now.k) (take first log.now) }
+    requires derivation { IsDerivation question.now.joint.formula log.now }
+    requires refutes { Refutes question.now.joint.formula.clauses log.now }
+    ensures { IfOk result (λ exceed. (limit : ℕ)
+        → IsAsked question.now.metric nets.now.exact nets.now.approx question.now.k limit exceed) }
+{
+    let short = needed(alloc, &question.joint.formula, first, log)?;
+    Ok(Exceed::Never(short))
+}
+
 /// One query of the question: an input whose error exceeds the level, a log that refutes that there is such
 /// an input, or a log of `limit` conflicts behind the merges. Tells `progress` what the solver does.
 pub(crate) fn ask_once<P: Progress>(
@@ -103,7 +129,7 @@ pub(crate) fn ask_once<P: Progress>(
     ensures { IfOk result
         (IsAsked question.now.metric nets.now.exact nets.now.approx question.now.k limit) }
 {
-    let merged = question.merged.len() as u64;
+    let merged = question.merged.len();
     progress.asked();
     let formula = &question.joint.formula;
     let answer = solve_guided(
@@ -114,7 +140,10 @@ pub(crate) fn ask_once<P: Progress>(
         limit,
         progress,
     )?;
-    told_of_nets(alloc, nets, question.k, merged, answer)
+    match answer {
+        Answer::Refuted(log) => told_of_refutation(alloc, nets, question, merged, &log),
+        other => told_of_nets(alloc, nets, question.k, merged as u64, other),
+    }
 }
 
 /// Poses the question whether some error exceeds `k`, and makes one query of it, as [`ask_once`] does.

@@ -1,9 +1,9 @@
 use Rattle.std.proofs.Common.{◌≤◌, length, take, ap, sym, subst, ◌∙◌}
 use Rattle.semantics.specs.Net.{input_count}
 use Rattle.proof_semantics.specs.Queries.{IsOver}
-use Rattle.cdcl_core.specs.Answers.{IsOutcome}
+use Rattle.cdcl_core.specs.Outcomes.{IsOutcome}
 use Rattle.worst_case.proofs.Queries.{model_wide, IsOver-from_model}
-use Rattle.worst_case.proofs.Repeated.{chain_derives, chain_refuted, chain_back, log_counted}
+use Rattle.worst_case.proofs.Repeated.{chain_derives, chain_counted, chain_merges, chain_back, log_counted}
 use Rattle.worst_case.proofs.repeated_query.ask_again.Goals as goal
 
 pub ask_further-requires : goal.ask_further-requires
@@ -37,12 +37,18 @@ returns-in_ok-input_bits-in-Model g c =
     (IsOver-from_model q.metric nets.exact nets.approx q.k c.requires.posed.comparable c.requires.many_inputs q.joint.formula c.in-Model.values c.requires.posed.formula
     (subst (IsOutcome q.joint.formula c.args.spent.log) c.in-Model.is c.in_ok-outcome.ensures))
 
-pub returns-in-Refuted : goal.returns-in-Refuted
-returns-in-Refuted g c =
+pub told_of_refutation-requires : goal.told_of_refutation-requires
+told_of_refutation-requires g c =
     let nets = c.args.nets.now in
     let q = c.args.question.now in
-    chain_refuted q.metric nets.exact nets.approx q.k c.args.limit c.args.spent c.requires.spent c.requires.posed.comparable q.joint.formula c.requires.posed.formula c.in-Refuted.log
-    (subst (IsOutcome q.joint.formula c.args.spent.log) c.in-Refuted.is c.in_ok-outcome.ensures)
+    let found = subst (IsOutcome q.joint.formula c.args.spent.log) c.in-Refuted.is c.in_ok-outcome.ensures in
+    record {
+      posed = c.requires.posed;
+      first = chain_counted q.metric nets.exact nets.approx q.k c.args.limit c.args.spent c.requires.spent c.in-Refuted.log found.begins;
+      merged = chain_merges q.metric nets.exact nets.approx q.k c.args.limit c.args.spent c.requires.spent c.in-Refuted.log found.begins;
+      derivation = found.derivation;
+      refutes = found.refutes;
+    }
 
 pub returns-in_ok-log-in-Open : goal.returns-in_ok-log-in-Open
 returns-in_ok-log-in-Open g c =

@@ -1,7 +1,7 @@
 use Rattle.std.proofs.Common.{subst}
 use Rattle.std.proofs.Math.Seq.{take-length}
-use Rattle.cdcl_core.specs.Answers.{IsOutcome}
-use Rattle.cdcl_core.specs.declared.forgetting.Outcome.TheVariants.{Open}
+use Rattle.cdcl_core.specs.Outcomes.{IsOutcome}
+use Rattle.cdcl_core.specs.declared.outcome.Outcome.TheVariants.{Open}
 use Rattle.worst_case.proofs.Repeated.{outcome_joins}
 use Rattle.worst_case.proofs.repeated_query.ask_further.Goals as goal
 

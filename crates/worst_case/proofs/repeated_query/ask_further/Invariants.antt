@@ -1,5 +1,5 @@
-use Rattle.cdcl_core.specs.Answers.{IsOutcome}
-use Rattle.cdcl_core.specs.declared.forgetting.Outcome.TheVariants.{Open}
+use Rattle.cdcl_core.specs.Outcomes.{IsOutcome}
+use Rattle.cdcl_core.specs.declared.outcome.Outcome.TheVariants.{Open}
 use Rattle.worst_case.proofs.repeated_query.ask_further.Given as goal
 
 abbrev pub invariant-loop-query : goal.invariant-loop-query

@@ -1,9 +1,12 @@
-use Rattle.std.proofs.Common.{◌≡◌, ℕ, subst, sym, ap, ◌∙◌}
+use Rattle.std.proofs.Common.{◌≡◌, ◌≤◌, ℕ, length, take, subst, sym, ap, ◌∙◌}
 use Rattle.std.proofs.lemmas.Result.{IfOk-weaker}
+use Rattle.quality_semantics.specs.Joint.{joint_net}
 use Rattle.proof_semantics.specs.Logs.{IsDerivation}
+use Rattle.proof_semantics.specs.Merges.{IsMergeLog}
 use Rattle.cdcl_core.specs.Answers.{IsAnswer}
 use Rattle.worst_case.specs.Exceeds.{IsAsked, told}
 use Rattle.worst_case.proofs.Queries.{model_wide, asked_of}
+use Rattle.worst_case.proofs.Repeated.{no_longer}
 use Rattle.worst_case.proofs.solver_query.ask_once.Goals as goal
 
 pub solve_guided-requires : goal.solve_guided-requires
@@ -19,8 +22,22 @@ told_of_nets-requires g c = λ bits is.
     model_wide q.metric nets.exact nets.approx q.k c.requires.posed.comparable q.joint.formula bits c.requires.posed.formula
     (subst (IsAnswer q.joint.formula q.merged c.args.limit) is c.in_ok-answer.ensures)
 
-pub returns : goal.returns
-returns g c =
+pub told_of_refutation-requires : goal.told_of_refutation-requires
+told_of_refutation-requires g c =
+    let nets = c.args.nets.now in
+    let q = c.args.question.now in
+    let J = joint_net nets.exact nets.approx q.metric q.k in
+    let found = subst (IsAnswer q.joint.formula q.merged c.args.limit) c.in-Refuted.is c.in_ok-answer.ensures in
+    record {
+      posed = c.requires.posed;
+      first = subst (λ n. n ≤ length c.in-Refuted.log) (sym c.len-merged.ensures) (no_longer q.merged c.in-Refuted.log found.begins);
+      merged = subst (λ n. IsMergeLog J (take n c.in-Refuted.log)) (sym c.len-merged.ensures) (subst (IsMergeLog J) (sym found.begins) c.requires.posed.merged);
+      derivation = found.derivation;
+      refutes = found.refutes;
+    }
+
+pub returns-in_default : goal.returns-in_default
+returns-in_default g c =
     let nets = c.args.nets.now in
     let q = c.args.question.now in
     let answered = IsAsked q.metric nets.exact nets.approx q.k c.args.limit in
