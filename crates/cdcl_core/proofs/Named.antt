@@ -1,5 +1,5 @@
 -- Clauses of a round, under the ids that they have in the whole.
-use Rattle.std.proofs.Common.{◌≡◌, ℕ, zero, suc, ◌+◌, ◌-◌, ◌<◌, ◌≤◌, Bool, true, false, ◌&&◌, List, [], ◌∷◌, ◌++◌, take, drop, length, get_or, refl, ap, subst, sym, ◌∙◌, inl, inr, arith, length-append}
+use Rattle.std.proofs.Common.{◌≡◌, ℕ, zero, suc, ◌+◌, ◌-◌, ◌<◌, Bool, true, false, ◌&&◌, List, [], ◌∷◌, ◌++◌, take, drop, length, get_or, refl, ap, subst, sym, ◌∙◌, inl, inr, arith, length-append}
 use Rattle.std.specs.Prelude.{All, Option, Some, IfSome}
 use Rattle.std.specs.Borrow.{Bor}
 use Rattle.std.proofs.lemmas.Bool.{cases_lt}
@@ -16,7 +16,6 @@ use Rattle.proof_semantics.specs.Variables.{by_place}
 use Rattle.proof_semantics.specs.Logs.{StepValue, LogItem, AddsInTurn, IsDerivation}
 use Rattle.proof_semantics.specs.Conflicts.{clause_at, added_clauses, clauses_with}
 use Rattle.proof_semantics.proofs.Conflicts.{length-added}
-use Rattle.proof_parts.specs.Cnf.{IsCnf}
 use Rattle.cdcl_core.specs.Answers.{IsModel}
 use Rattle.cdcl_core.specs.Rounds.{HasId, AreNamed, IsRound}
 use Rattle.cdcl_core.proofs.Searching.{added-literals}
@@ -50,9 +49,6 @@ has_at whole C place id within is e =
       is = subst (λ k. clause_at whole k ≡ C) same is;
     }
 
-pub named_none : (whole : List Clause) → AreNamed whole [] []
-named_none whole = record { count = refl; each = λ k within. absurd (omega arith) }
-
 pub named_pushed : (whole round : List Clause) (ids : List ℕ) (C : Clause) (id : ℕ) → AreNamed whole round ids → HasId whole C id → AreNamed whole (round ++ C ∷ []) (ids ++ id ∷ [])
 named_pushed whole round ids C id h new =
     let count = h.count in
@@ -79,12 +75,6 @@ named_pushed_as whole round longer ids more C id h new clauses names = rw (claus
 -- a clause that was found
 pub found_has_id : (whole : List Clause) (found : Option (Bor Clause)) (lits : Bor Clause) (id : ℕ) → IfSome found (λ x. HasId whole x.now id) → found ≡ Some lits → HasId whole lits.now id
 found_has_id whole found lits id h is = subst (λ o. IfSome o (λ x. HasId whole x.now id)) is h
-
-pub named_wider : (whole more round : List Clause) (ids : List ℕ) → AreNamed whole round ids → AreNamed (whole ++ more) round ids
-named_wider whole more round ids h = record {
-  count = h.count;
-  each = λ k within. has_wider whole more (clause_at round k) (get_or ids k 0) (h.each k within);
-}
 
 -- one clause more does not change the first ones
 pub begins_pushed : (xs old new : List Clause) (C : Clause) → take (length xs) old ≡ xs → new ≡ old ++ C ∷ [] → take (length xs) new ≡ xs

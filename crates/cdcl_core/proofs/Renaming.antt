@@ -1,6 +1,6 @@
 -- The steps of a round derive under the ids of the whole log.
-use Rattle.std.proofs.Common.{◌≡◌, ℕ, zero, suc, ◌+◌, ◌-◌, ◌^◌, ◌<◌, ◌≤◌, Bool, true, false, cond, List, [], ◌∷◌, ◌++◌, map, take, length, get_or, refl, ap, subst, sym, ◌∙◌, inl, inr, arith, length-append, append_assoc, Option, None, Some}
-use Rattle.std.specs.Prelude.{◌⊎◌, ◌==◌, All}
+use Rattle.std.proofs.Common.{◌≡◌, ℕ, zero, suc, ◌+◌, ◌-◌, ◌^◌, ◌<◌, ◌≤◌, Bool, cond, List, [], ◌∷◌, ◌++◌, map, take, length, get_or, refl, ap, subst, sym, ◌∙◌, inl, inr, arith, length-append, append_assoc, Option, None, Some}
+use Rattle.std.specs.Prelude.{◌⊎◌}
 use Rattle.std.specs.Cmp.{nat_cmp_total, unsigned_tied}
 use Rattle.std.specs.Ordering.{nat_cmp}
 use Rattle.std.specs.FinSet as literals
@@ -11,7 +11,7 @@ use Rattle.std.proofs.lemmas.List.{append-nil, get_or-take, length-take}
 use Rattle.std.proofs.Math.ListN.{get_or-append}
 use Rattle.std.proofs.Math.Seq.{take-append_seam, take-length, get_or-append_seam}
 use Rattle.proof_semantics.specs.declared.item.Item.TheVariants.{Add, Remove}
-use Rattle.proof_semantics.specs.Clauses.{Clause, IsLiteralOf}
+use Rattle.proof_semantics.specs.Clauses.{Clause}
 use Rattle.proof_semantics.specs.Formula.{Formula}
 use Rattle.proof_semantics.specs.Logs.{StepValue, LogItem, LiteralSet, Held, with_negations, EndsInConflict, Derives, held_from, held_of, IsSoundFrom, AddsInTurn, last_added, last_added_after, Refutes, IsDerivation}
 use Rattle.proof_semantics.specs.Conflicts.{clause_at, added_clauses, clauses_with}
@@ -21,7 +21,7 @@ use Rattle.proof_semantics.proofs.HeldClauses.{held_of-at, held_of-push}
 use Rattle.cdcl_core.specs.Answers.{IsModel, IsRefutation, IsSpent, IsAnswer}
 use Rattle.cdcl_core.specs.Searched.{Begins}
 use Rattle.cdcl_core.specs.Outcomes.{IsOpenBehind, IsRefutationBehind}
-use Rattle.cdcl_core.specs.Rounds.{HasId, AreNamed, IsRound, HasNextIds, IsAnswerWithin, whole_id, renamed}
+use Rattle.cdcl_core.specs.Rounds.{HasId, IsRound, HasNextIds, IsAnswerWithin, whole_id, renamed}
 use Rattle.cdcl_core.specs.declared.answer.Answer.{Answer}
 use Rattle.cdcl_core.specs.declared.answer.Answer.TheVariants.{Model, Refuted, Spent}
 use Rattle.cdcl_core.proofs.Named.{has_wider, has_last, round_model}

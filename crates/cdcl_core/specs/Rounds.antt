@@ -45,7 +45,7 @@ renamed ids (Add s) = Add (record {
 })
 renamed ids (Remove removed) = Remove (map (whole_id ids) removed)
 
--- the answer of a round after at most so many conflicts that the whole log has room for their steps
+-- the answer of a round within a number of conflicts, for whose steps the whole log has room
 pub record IsAnswerWithin (f : Formula) (whole : List LogItem) (round : Formula) (answer : Answer) : Type 0 where
   pub conflicts : ℕ
   pub room : length f.clauses + length whole + conflicts + 1 < 2 ^ 63

@@ -146,9 +146,9 @@ fn take_round<P: Progress>(
 }
 
 /// A model of the formula, a log that refutes it, or a longer derivation, after at most `limit` conflicts
-/// more. The logs begin with `derived`, which the caller derived. Of the clauses that are learned the search
-/// forgets those that are seldom used; the logs have them all. No statement depends on the guide, whose pairs
-/// are not swept. The error is want of memory.
+/// more. The logs begin with `derived`, which the caller derived. The search forgets learned clauses that are
+/// seldom used, and the logs have them all. No statement depends on the guide, whose pairs are not swept.
+/// Tells `progress` each conflict, counted from 1. The error is want of memory.
 pub fn solve_forgetting<P: Progress>(
     alloc: Global,
     cnf: &Cnf,

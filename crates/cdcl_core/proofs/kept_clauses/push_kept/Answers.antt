@@ -1,7 +1,4 @@
-use Rattle.std.proofs.Common.{ap, subst, sym, Some, ◌∷◌, ◌++◌}
-use Rattle.std.specs.Prelude.{IfSome}
 use Rattle.proof_semantics.specs.Conflicts.{clauses_with}
-use Rattle.cdcl_core.specs.Rounds.{HasId, AreNamed}
 use Rattle.cdcl_core.proofs.Named.{begins_pushed, named_pushed_as, found_has_id}
 use Rattle.cdcl_core.proofs.kept_clauses.push_kept.Goals as goal
 use Rattle.cdcl_core.proofs.kept_clauses.push_kept.Goals.{in-Some+in_ok-push_named, in_default}

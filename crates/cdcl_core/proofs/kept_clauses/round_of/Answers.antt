@@ -2,7 +2,6 @@ use Rattle.std.proofs.Common.{◌<◌, ◌^◌, ℕ, List, length, subst, sym, a
 use Rattle.proof_semantics.specs.Clauses.{AreClausesOf}
 use Rattle.proof_semantics.specs.Formula.{Formula}
 use Rattle.proof_semantics.specs.Conflicts.{added_clauses}
-use Rattle.proof_parts.specs.Cnf.{IsCnf}
 use Rattle.cdcl_core.proofs.Named.{round_literals}
 use Rattle.cdcl_core.proofs.kept_clauses.round_of.Goals as goal
 
