@@ -5,6 +5,8 @@ mod FlatMade
 mod Weighed
 mod Framing
 mod FlatSteps
+mod Planned
+mod Visiting
 mod Limited
 mod Readings
 mod Checked

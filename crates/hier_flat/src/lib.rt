@@ -5,4 +5,6 @@ mod counting;
 pub mod flat_net;
 mod flat_tables;
 mod frames;
+mod plans;
+mod visits;
 mod weights;
