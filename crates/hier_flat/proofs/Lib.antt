@@ -7,6 +7,8 @@ mod Settled
 mod ModelOrders
 mod Framing
 mod FlatSteps
+mod Planned
+mod Visiting
 mod Limited
 mod Readings
 mod Checked

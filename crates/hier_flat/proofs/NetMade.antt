@@ -17,9 +17,8 @@ use Rattle.blif_text.specs.declared.refusal.BlifRefusal.{BlifRefusal}
 use Rattle.blif_text.specs.declared.refusal.BlifRefusal.TheVariants.{OutOfMemory as NoMemory}
 use Rattle.hier_flat.specs.Hierarchies.{IsReading}
 use Rattle.hier_flat.specs.Refusals.{refusal_of, Tells, TellsOne}
-use Rattle.hier_flat.specs.Flattening.{main_signal, with_model, IsReady, AreReady}
-use Rattle.hier_parts.proofs.DrivenNames.{driven-same}
-use Rattle.hier_flat.proofs.Readings.{reading_good, reading_formed, reading_ready, parts_formed}
+use Rattle.hier_flat.specs.Flattening.{main_signal, with_model}
+use Rattle.hier_flat.proofs.Readings.{reading_good, reading_formed}
 use Rattle.hier_flat.proofs.Checked.{checked_cycle}
 use Rattle.hier_flat.proofs.FlatMade.{tables_made, outputs_made}
 
@@ -28,14 +27,6 @@ main_inside h reading = main_read reading.text reading.most h (read_parts readin
 
 pub main_formed : (h : Hierarchy) → IsReading h → IsFormed (main_of h)
 main_formed h reading = reading_formed h reading (main_of h) (main_inside h reading)
-
-pub main_ready : (h : Hierarchy) → IsReading h → IsReady h (main_of h)
-main_ready h reading =
-    let formed = main_formed h reading in
-    record {
-      once = ap first_doubled (sym (driven-same h (main_of h))) ∙ (reading_good h reading).main.once;
-      formed = parts_formed (main_of h) (record { tables = formed.tables; actuals = formed.actuals });
-    }
 
 abbrev NetOf : Bytes → List Bytes → List TableValue → List ℕ → NetValue
 NetOf model inputs tables outputs = record { model = model; inputs = inputs; tables = tables; outputs = outputs }
@@ -103,31 +94,22 @@ inputs_at h m names reading main same =
     let all : All IsName m.inputs = subst (λ (k : BlifModel). All IsName k.inputs) (sym main) (main_formed h reading).inputs in
     subst (All IsName) (sym same) all
 
-pub ready_at : (h s : Hierarchy) (m : BlifModel) → IsReading h → s ≡ h → m ≡ main_of h → IsReady s m
-ready_at h s m reading same main = subst (λ k. IsReady k m) (sym same) (subst (IsReady h) (sym main) (main_ready h reading))
-
-pub all_ready_at : (h s : Hierarchy) → IsReading h → s ≡ h → AreReady s
-all_ready_at h s reading same = subst AreReady (sym same) (reading_ready h reading)
-
-pub few_at : (h : Hierarchy) (m : BlifModel) → first_limit (flat_net h) ≡ None → m ≡ main_of h → length m.inputs < 2 ^ 31
-few_at h m limits main = let few = few_inputs h limits in let same = ap (λ (k : BlifModel). length k.inputs) main in omega (arith, few, same)
+pub few_at : (h p : Hierarchy) → first_limit (flat_net h) ≡ None → p ≡ h → length (main_of p).inputs < 2 ^ 31
+few_at h p limits same = let few = few_inputs h limits in let size = ap (λ k. length (main_of k).inputs) same in omega (arith, few, size)
 
 pub first_main : (h : Hierarchy) (m : BlifModel) → slice_get h 0 ≡ Some m → m ≡ main_of h
 first_main [] m e = absurd (none-some m e)
 first_main (k ∷ h) m e = sym (same_Some k m e)
 
-pub net_at : (h s : Hierarchy) (m : BlifModel) (g : Bytes → ℕ) (levels : ℕ) (model : Bytes) (inputs : List Bytes) (tables : List TableValue) (outputs : List ℕ) → IsReading h → s ≡ h → m ≡ main_of h
-    → levels ≡ length h → g ≡ main_signal s
-    → model ≡ m.name → inputs ≡ m.inputs → tables ≡ with_model s (length m.inputs) levels true g m [] → outputs ≡ map g m.outputs → NetOf model inputs tables outputs ≡ flat_net h
-net_at h s m g levels model inputs tables outputs reading same main count signals named listed made given =
-    let signal : g ≡ main_signal h = signals ∙ ap main_signal same in
+pub net_at : (h p : Hierarchy) (m : BlifModel) (levels : ℕ) (model : Bytes) (inputs : List Bytes) (tables : List TableValue) (outputs : List ℕ) → IsReading h → p ≡ h → m ≡ main_of h
+    → levels ≡ length h → model ≡ m.name → inputs ≡ m.inputs → tables ≡ with_model p (length (main_of p).inputs) levels true (main_signal p) (main_of p) [] → outputs ≡ map (main_signal p) (main_of p).outputs
+    → NetOf model inputs tables outputs ≡ flat_net h
+net_at h p m levels model inputs tables outputs reading same main count named listed made given =
     net_is h reading model inputs tables outputs (named ∙ ap (λ (k : BlifModel). k.name) main) (listed ∙ ap (λ (k : BlifModel). k.inputs) main)
     (made
-    ∙ ap (λ k. with_model k (length m.inputs) levels true g m []) same
-    ∙ ap (λ k. with_model h (length m.inputs) k true g m []) count
-    ∙ ap (λ f. with_model h (length m.inputs) (length h) true f m []) signal
-    ∙ ap (λ (k : BlifModel). with_model h (length k.inputs) (length h) true (main_signal h) k []) main)
-    (given ∙ ap (λ f. map f m.outputs) signal ∙ ap (λ (k : BlifModel). map (main_signal h) k.outputs) main)
+    ∙ ap (λ k. with_model k (length (main_of k).inputs) levels true (main_signal k) (main_of k) []) same
+    ∙ ap (λ l. with_model h (length (main_of h).inputs) l true (main_signal h) (main_of h) []) count)
+    (given ∙ ap (λ k. map (main_signal k) (main_of k).outputs) same)
 
 -- the parts are those of the flat net, so what is known of it is known of them
 pub limit_at : (h : Hierarchy) (N : NetValue) → first_limit (flat_net h) ≡ None → N ≡ flat_net h → first_limit N ≡ None

@@ -1,12 +1,11 @@
 -- The flat net as it is made, model by model: each use of a model gets the signals of the names there, and
 -- adds its flat tables to those before.
 use Rattle.std.specs.Prelude.{◌≡◌, ℕ, zero, suc, ◌+◌, Bool, true, false, List, [], ◌∷◌, ◌++◌, map, length}
-use Rattle.std.specs.Prelude.{codes, decimal, slice_index_or, Some, None, if◌then◌else◌}
+use Rattle.std.specs.Prelude.{codes, decimal, slice_index_or, Option, Some, None, if◌then◌else◌}
 use Rattle.std.specs.List.{range_with_len, AllByRecursion}
 use Rattle.semantics.specs.declared.mark.Mark.TheVariants.{One}
 use Rattle.semantics.specs.Texts.{Bytes}
 use Rattle.semantics.specs.Net.{TableValue, IsName}
-use Rattle.semantics.specs.Refusals.{first_doubled}
 use Rattle.blif_semantics.specs.Tables.{NamedTable}
 use Rattle.blif_semantics.specs.Named.{IsNamedTable}
 use Rattle.blif_text.specs.Names.{place_of}
@@ -106,18 +105,12 @@ abbrev pub IsFormedPart : Part → Type 0
 IsFormedPart (names_part t) = IsNamedTable t
 IsFormedPart (subckt_part c) = AllByRecursion (λ b. IsName b.actual) c.bindings
 
--- no name of the model is driven twice, and its words are right
-pub record IsReady (h : Hierarchy) (m : BlifModel) : Type 0 where
-  pub once : first_doubled (driven_names h m) ≡ None
-  pub formed : AllByRecursion IsFormedPart m.parts
+-- ---- what the code holds of names and signals
 
-abbrev pub AreReady : Hierarchy → Type 0
-AreReady h = (name : Bytes) → IsReady h (model_named h name)
+-- the signal at a slot; 0 where nothing drives the name
+abbrev pub slot_signal : List ℕ → Option ℕ → ℕ
+slot_signal signals slot = elim slot [ None ↦ 0 | Some i ↦ slice_index_or signals i 0 ]
 
--- names and their signals
-pub record FrameValue : Type 0 where
-  pub names : List Bytes
-  pub signals : List ℕ
-
-abbrev pub signal_of : FrameValue → Bytes → ℕ
-signal_of f name = signal_in f.names f.signals name
+-- the signals of what the parts drive, counted from the first flat table of the model, where these are given
+abbrev pub AreOffsets : Hierarchy → BlifModel → Option (List ℕ) → Type 0
+AreOffsets h m o = (offsets : List ℕ) → o ≡ Some offsets → offsets ≡ part_signals h 0 m.parts

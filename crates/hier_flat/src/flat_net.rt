@@ -1,6 +1,6 @@
 //! The flat net of models that are a hierarchy. Source: BLIF's `.subckt`.
-ghost use Rattle.std.specs.Prelude.{◌≡◌, ◌+◌, ◌<◌, ◌^◌, ◌++◌, [], true, Ok, None, Some, IfOk, IfErr, length};
-ghost use Rattle.std.specs.Prelude.{map};
+ghost use Rattle.std.specs.Prelude.{◌≡◌, ◌+◌, ◌<◌, ◌^◌, ◌++◌, [], true, Ok, None, Some, IfOk, IfErr};
+ghost use Rattle.std.specs.Prelude.{map, length};
 ghost use Rattle.std.specs.List.{range_with_len};
 ghost use Rattle.semantics.specs.Net.{IsSound, IsSmall, name_of};
 ghost use Rattle.semantics.specs.Refusals.{first_limit};
@@ -12,12 +12,13 @@ ghost use Rattle.hier_parts.specs.Sets.{with_names};
 ghost use Rattle.hier_parts.specs.Users.{IsModelOrder};
 ghost use Rattle.hier_flat.specs.Hierarchies.{IsReading};
 ghost use Rattle.hier_flat.specs.Refusals.{Tells, TellsOne};
-ghost use Rattle.hier_flat.specs.Flattening.{signal_of, with_model, main_signal, IsReady, AreReady};
+ghost use Rattle.hier_flat.specs.Flattening.{part_signals, with_model, main_signal};
 
 use crate::counting::counted_limit;
-use crate::flat_tables::{add_model, pins};
-use crate::frames::{Frame, Sizes, frame_of};
+use crate::frames::{Sizes, frame_of, signals_at};
 use crate::orders::model_order;
+use crate::plans::Plans;
+use crate::visits::{Visit, add_visit};
 use blif_text::name_list::name_list;
 use blif_text::refusal::BlifRefusal;
 use hier_parts::interfaces::Interfaces;
@@ -88,87 +89,74 @@ fn acyclic_net(
 }
 
 /// The signals from 0 up to before `count`.
-fn first_signals(alloc: Global, count: usize) -> Result<Vec<Signal>, AllocError>
+fn first_signals(alloc: Global, count: usize) -> Result<SignalList, AllocError>
     requires { count < 2 ^ 31 }
-    ensures { IfOk result (λ v. v.items ≡ range_with_len 0 count) }
+    ensures { IfOk result (λ v. v ≡ range_with_len 0 count) }
 {
-    let mut signals = Vec::new(alloc);
+    let mut signals = Items::new(alloc);
     for signal in 0..count as u32 {
         signals.push(signal)?;
     }
     Ok(signals)
 }
 
-/// The signals of the names of the main model.
-fn main_frame<'a>(
-    alloc: Global,
-    sizes: &Sizes<'_, '_, 'a>,
-    main: &BlifModel<'a>,
-) -> Result<Frame<'a>, AllocError>
-    requires main { main.now ≡ main_of sizes.now }
-    requires ready { IsReady sizes.now main.now }
-    requires few { length main.now.inputs < 2 ^ 31 }
-    ensures { IfOk result (λ f. signal_of f ≡ main_signal sizes.now) }
+/// The signals of the names that the main model drives.
+fn main_signals(alloc: Global, plans: &Plans) -> Result<SignalList, AllocError>
+    requires few { length (main_of plans.now).inputs < 2 ^ 31 }
+    ensures { IfOk result (λ v. v
+        ≡ range_with_len 0 (length (main_of plans.now).inputs)
+        ++ part_signals plans.now (length (main_of plans.now).inputs) (main_of plans.now).parts) }
 {
-    let inputs = first_signals(alloc, main.inputs.len())?;
-    frame_of(alloc, sizes, main, inputs, main.inputs.len())
-}
-
-/// The flat tables of the main model, over so many levels of models.
-fn main_tables(
-    alloc: Global,
-    sizes: &Sizes,
-    levels: usize,
-    main: &BlifModel,
-    frame: &Frame,
-) -> Result<TableList, AllocError>
-    requires all { AreReady sizes.now }
-    requires ready { IsReady sizes.now main.now }
-    ensures { IfOk result (λ t. t
-        ≡ with_model sizes.now (length main.now.inputs) levels true (signal_of frame.now) main.now []) }
-{
-    let mut tables = Items::new(alloc);
-    add_model(
-        alloc,
-        &mut tables,
-        sizes,
-        main.inputs.len(),
-        levels,
-        true,
-        frame,
-        main,
-    )?;
-    Ok(tables)
+    let plan = plans.main();
+    let Some(offsets) = &plan.offsets else {
+        return Err(AllocError);
+    };
+    let model = plan.model;
+    let count = model.inputs.len();
+    let inputs = first_signals(alloc, count)?;
+    let signals = frame_of(inputs, offsets, count as u32)?;
+    Ok(signals)
 }
 
 /// The flat tables of the main model, over so many levels of models, and the signals of its outputs.
-fn main_parts<'a>(
+fn main_parts(
     alloc: Global,
-    sizes: &Sizes<'_, '_, 'a>,
+    plans: &Plans,
     levels: usize,
-    main: &BlifModel<'a>,
 ) -> Result<(TableList, SignalList), AllocError>
-    requires main { main.now ≡ main_of sizes.now }
-    requires all { AreReady sizes.now }
-    requires ready { IsReady sizes.now main.now }
-    requires few { length main.now.inputs < 2 ^ 31 }
+    requires few { length (main_of plans.now).inputs < 2 ^ 31 }
     ensures tables { IfOk result
-        (λ p. p.0 ≡ with_model sizes.now (length main.now.inputs) levels true (main_signal sizes.now)
-        main.now []) }
-    ensures outputs { IfOk result (λ p. p.1 ≡ map (main_signal sizes.now) main.now.outputs) }
+        (λ p. p.0 ≡ with_model plans.now (length (main_of plans.now).inputs) levels true
+        (main_signal plans.now) (main_of plans.now) []) }
+    ensures outputs { IfOk result (λ p. p.1 ≡ map (main_signal plans.now) (main_of plans.now).outputs) }
 {
-    let frame = main_frame(alloc, sizes, main)?;
-    let tables = main_tables(alloc, sizes, levels, main, &frame)?;
-    let outputs = pins(alloc, &frame, &main.outputs)?;
+    if levels == 0 {
+        return Err(AllocError);
+    }
+    let plan = plans.main();
+    let model = plan.model;
+    let signals = main_signals(alloc, plans)?;
+    let outputs = signals_at(alloc, &signals, &plan.outputs)?;
+    let mut tables = Items::new(alloc);
+    let visit = Visit {
+        plan,
+        signals,
+        next: 0,
+        levels: levels - 1,
+        own: true,
+        outputs: &[],
+        buffers_own: true,
+    };
+    add_visit(alloc, &mut tables, plans, model.inputs.len(), visit)?;
     Ok((tables, outputs))
 }
 
 /// The flat net of models that pass no limit, or the refusal of a cycle.
-fn made_net<'a>(
+fn made_net(
     alloc: Global,
-    sizes: &Sizes<'_, '_, 'a>,
+    sizes: &Sizes,
     models: &[BlifModel],
-    main: &BlifModel<'a>,
+    main: &BlifModel,
 ) -> Result<Net, BlifRefusal>
     requires reading { IsReading models.now }
     requires sizes { sizes.now ≡ models.now }
@@ -181,18 +169,20 @@ fn made_net<'a>(
 {
     let model = Name::known(alloc, main.name)?;
     let inputs = name_list(alloc, &main.inputs)?;
-    let (tables, outputs) = main_parts(alloc, sizes, models.len(), main)?;
+    let none = BlifModel::none(alloc);
+    let plans = Plans::new(alloc, sizes, models, &none)?;
+    let (tables, outputs) = main_parts(alloc, &plans, models.len())?;
     acyclic_net(alloc, model, inputs, tables, outputs)
 }
 
 /// The flat net of models that are found by their names, or the refusal of a limit, which is decided by
 /// counting, or else of a cycle.
-fn counted_net<'a>(
+fn counted_net(
     alloc: Global,
-    found: &Interfaces<'_, 'a>,
+    found: &Interfaces,
     models: &[BlifModel],
     order: &[u32],
-    main: &BlifModel<'a>,
+    main: &BlifModel,
 ) -> Result<Net, BlifRefusal>
     requires reading { IsReading models.now }
     requires found { found.now ≡ models.now }

@@ -1,23 +1,23 @@
 //! The signals of the names in a model, at one of its uses.
-ghost use Rattle.std.specs.Prelude.{◌≡◌, ◌+◌, ◌<◌, ◌^◌, ◌++◌, None, IfOk, length, map, filter, sum_by};
+ghost use Rattle.std.specs.Prelude.{◌≡◌, ◌+◌, ◌<◌, ◌^◌, ◌++◌, IfOk, length, map, filter, sum_by};
 ghost use Rattle.std.specs.List.{range_with_len};
-ghost use Rattle.semantics.specs.Refusals.{has_name, first_doubled};
+ghost use Rattle.semantics.specs.Refusals.{has_name};
 ghost use Rattle.hierarchy_semantics.specs.Models.{model_named};
-ghost use Rattle.hierarchy_semantics.specs.Places.{actual_of};
 ghost use Rattle.hier_parts.specs.Sections.{part_value};
 ghost use Rattle.hier_parts.specs.Users.{IsModelOrder};
 ghost use Rattle.hier_flat.specs.Weights.{capped};
-ghost use Rattle.hier_parts.specs.Driven.{driven_names};
-ghost use Rattle.hier_flat.specs.Flattening.{size_of, part_size, own_signals, part_signals, signal_of};
+ghost use Rattle.hier_flat.specs.Flattening.{size_of, part_size, own_signals, part_signals};
+ghost use Rattle.hier_flat.specs.Flattening.{AreOffsets, slot_signal};
 
 use crate::weights::{Measure, model_weight, output_count, part_weight, weight_at, weights};
-use hier_parts::driven::names_driven;
 use hier_parts::interfaces::{Interface, Interfaces};
 use hier_parts::models::{BlifModel, Part, Subcircuit};
-use hier_parts::names::{Names, set_of};
-use net_core::items::Signal;
+use net_core::items::{Items, Signal, SignalList};
 use std::alloc::{AllocError, Global};
 use std::marker::Model;
+
+/// The place of a name among those that a model drives; none where nothing drives it.
+pub type Slot = Option<usize>;
 
 /// Models, and how many flat tables each has.
 #[derive(Drop)]
@@ -92,45 +92,15 @@ impl<'f, 'm, 'a> Sizes<'f, 'm, 'a> {
     }
 }
 
-/// The signals of the names that a model drives, at one of its uses.
-#[derive(Drop)]
-pub struct Frame<'a> {
-    names: Names<'a>,
-    signals: Vec<Signal>,
-}
-
-impl<'a> Model for Frame<'a> {
-    ghost use Rattle.hier_flat.specs.Flattening.{FrameValue};
-
-    ghost Value = { FrameValue };
-
-    ghost view = { λ a. record { names = a.names; signals = a.signals.items } };
-}
-
-impl<'a> Frame<'a> {
-    /// The signal of a name; 0 where nothing drives it.
-    pub fn signal(&self, name: &[u8]) -> Signal
-        ensures { result ≡ signal_of self.now name.now }
-    {
-        match self.names.place(name) {
-            Some(i) => match self.signals.get(i) {
-                Some(signal) => *signal,
-                None => 0,
-            },
-            None => 0,
-        }
-    }
-}
-
 /// These signals, and those from `next` on, one for each name that is bound to an output.
 fn with_outputs(
-    mut signals: Vec<Signal>,
+    mut signals: SignalList,
     model: &Interface,
     c: &Subcircuit,
     next: Signal,
-) -> Result<Vec<Signal>, AllocError>
+) -> Result<SignalList, AllocError>
     requires { next + length (filter (λ b. has_name model.now.outputs b.formal) c.now.bindings) < 2 ^ 31 }
-    ensures { IfOk result (λ v. v.items ≡ signals.items
+    ensures { IfOk result (λ v. v ≡ signals
         ++ range_with_len next (length (filter (λ b. has_name model.now.outputs b.formal) c.now.bindings))) }
 {
     let count = output_count(model, c) as u32;
@@ -142,14 +112,14 @@ fn with_outputs(
 
 /// These signals, and those of what a part drives, whose first flat table has the signal `first`.
 fn with_part(
-    mut signals: Vec<Signal>,
+    mut signals: SignalList,
     sizes: &Sizes,
     first: Signal,
     part: &Part,
-) -> Result<Vec<Signal>, AllocError>
+) -> Result<SignalList, AllocError>
     requires { first + part_size sizes.now (part_value part.now) < 2 ^ 31 }
-    ensures { IfOk result (λ v. v.items
-        ≡ signals.items ++ own_signals sizes.now first (part_value part.now)) }
+    ensures { IfOk result (λ v. v
+        ≡ signals ++ own_signals sizes.now first (part_value part.now)) }
 {
     match part {
         Part::Names(_) => {
@@ -166,13 +136,13 @@ fn with_part(
 /// These signals, and those of what the parts of a model drive, whose first flat table has the signal
 /// `first`.
 fn with_parts(
-    mut signals: Vec<Signal>,
+    mut signals: SignalList,
     sizes: &Sizes,
     first: Signal,
     m: &BlifModel,
-) -> Result<Vec<Signal>, AllocError>
+) -> Result<SignalList, AllocError>
     requires { first + sum_by (part_size sizes.now) m.now.parts < 2 ^ 31 }
-    ensures { IfOk result (λ v. v.items ≡ signals.items ++ part_signals sizes.now first m.now.parts) }
+    ensures { IfOk result (λ v. v ≡ signals ++ part_signals sizes.now first m.now.parts) }
 {
     let mut next = first;
     for part in &m.parts {
@@ -182,55 +152,63 @@ fn with_parts(
     Ok(signals)
 }
 
-/// The signals of the names of a model whose inputs have these, and whose first flat table has the signal
-/// `first`. Where these are more than signals can be numbered there is no memory for them.
-pub fn frame_of<'a>(
+/// The signals of what the parts of a model drive, counted from its first flat table; none where they are
+/// more than signals can be numbered.
+pub fn offsets_of(
     alloc: Global,
     sizes: &Sizes,
-    m: &BlifModel<'a>,
-    inputs: Vec<Signal>,
-    first: usize,
-) -> Result<Frame<'a>, AllocError>
-    requires { first_doubled (driven_names sizes.now m.now) ≡ None }
-    ensures { IfOk result (λ f. f ≡ record {
-      names = driven_names sizes.now m.now;
-      signals = inputs.items ++ part_signals sizes.now first m.now.parts;
-    }) }
+    m: &BlifModel,
+) -> Result<Option<SignalList>, AllocError>
+    ensures { IfOk result (λ o. AreOffsets sizes.now m.now o) }
 {
-    if (first as u64).saturating_add(sizes.parts_size(m)) >= 1 << 31 {
-        return Err(AllocError);
+    if sizes.parts_size(m) >= 1 << 31 {
+        return Ok(None);
     }
-    let driven = names_driven(alloc, sizes.models(), m)?;
-    let names = set_of(alloc, &driven)?;
-    let signals = with_parts(inputs, sizes, first as u32, m)?;
-    Ok(Frame { names, signals })
+    Ok(Some(with_parts(Items::new(alloc), sizes, 0, m)?))
 }
 
-/// The name that is bound to a port.
-fn actual_of<'a>(c: &Subcircuit<'a>, name: &[u8]) -> &'a [u8]
-    ensures { result.now ≡ actual_of c.now name.now }
+/// The signals of the names of a model whose inputs have these, and whose first flat table has the signal
+/// `first`. Where one would be more than signals can be numbered there is no memory for them.
+pub fn frame_of(
+    mut signals: SignalList,
+    offsets: &SignalList,
+    first: Signal,
+) -> Result<SignalList, AllocError>
+    ensures { IfOk result (λ v. v ≡ signals ++ map (λ s. first + s) offsets.now) }
 {
-    for b in &c.bindings {
-        if b.formal == name {
-            return b.actual;
-        }
-    }
-    &[]
-}
-
-/// The signals of the inputs of a model that is used where names have these signals.
-pub fn input_signals(
-    alloc: Global,
-    outer: &Frame,
-    model: &BlifModel,
-    c: &Subcircuit,
-) -> Result<Vec<Signal>, AllocError>
-    ensures { IfOk result (λ v. v.items
-        ≡ map (λ name. signal_of outer.now (actual_of c.now name)) model.now.inputs) }
-{
-    let mut signals = Vec::new(alloc);
-    for name in &model.inputs {
-        signals.push(outer.signal(actual_of(c, name)))?;
+    for offset in offsets.as_slice() {
+        let Some(signal) = first.checked_add(*offset) else {
+            return Err(AllocError);
+        };
+        signals.push(signal)?;
     }
     Ok(signals)
+}
+
+/// The signal at a slot; 0 where nothing drives the name.
+pub fn signal_at(signals: &SignalList, slot: Slot) -> Signal
+    ensures { result ≡ slot_signal signals.now slot }
+{
+    let Some(i) = slot else {
+        return 0;
+    };
+    match signals.as_slice().get(i) {
+        Some(signal) => *signal,
+        None => 0,
+    }
+}
+
+/// The signals at slots.
+pub fn signals_at(
+    alloc: Global,
+    signals: &SignalList,
+    slots: &[Slot],
+) -> Result<SignalList, AllocError>
+    ensures { IfOk result (λ v. v ≡ map (slot_signal signals.now) slots.now) }
+{
+    let mut found = Items::new(alloc);
+    for slot in slots {
+        found.push(signal_at(signals, *slot))?;
+    }
+    Ok(found)
 }

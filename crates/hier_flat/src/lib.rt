@@ -6,4 +6,6 @@ pub mod flat_net;
 mod flat_tables;
 mod frames;
 mod orders;
+mod plans;
+mod visits;
 mod weights;

@@ -1,8 +1,8 @@
 use Rattle.std.proofs.Common.{length, refl, ap, ◌∙◌}
 use Rattle.text_words.specs.Slices.{texts}
 use Rattle.hierarchy_semantics.specs.Models.{BlifModel, Hierarchy}
-use Rattle.hier_flat.specs.Flattening.{main_signal}
-use Rattle.hier_flat.proofs.NetMade.{ready_at, all_ready_at, few_at, name_at, inputs_at, net_at, few_signals, limit_at, ok_at, err_at}
+use Rattle.hier_flat.proofs.Readings.{reading_all_formed}
+use Rattle.hier_flat.proofs.NetMade.{few_at, name_at, inputs_at, net_at, few_signals, limit_at, ok_at, err_at}
 use Rattle.hier_flat.proofs.flat_net.made_net.Goals as goal
 
 pub known-requires : goal.known-requires
@@ -13,22 +13,18 @@ name_list-requires c =
     inputs_at c.args.models.now c.args.main.now (texts c.deref.result.now) c.requires.reading c.requires.main
     (ap texts c.deref.ensures.value ∙ ap (λ (k : BlifModel). k.inputs) c.main.view_is)
 
-pub main_parts-requires-clause-all : goal.main_parts-requires-clause-all
-main_parts-requires-clause-all c = all_ready_at c.args.models.now c.args.sizes.now c.requires.reading c.requires.sizes
+pub new-requires-clause-formed : goal.new-requires-clause-formed
+new-requires-clause-formed c = reading_all_formed c.args.models.now c.requires.reading
 
-pub main_parts-requires-clause-ready : goal.main_parts-requires-clause-ready
-main_parts-requires-clause-ready c = ready_at c.args.models.now c.args.sizes.now c.args.main.now c.requires.reading c.requires.sizes c.requires.main
-
-pub main_parts-requires-clause-few : goal.main_parts-requires-clause-few
-main_parts-requires-clause-few c = few_at c.args.models.now c.args.main.now c.requires.limit c.requires.main
+pub main_parts-requires : goal.main_parts-requires
+main_parts-requires c = record { few = few_at c.args.models.now c.in_ok-plans.plans c.requires.limit c.in_ok-plans.ensures }
 
 pub acyclic_net-requires-clause-few : goal.acyclic_net-requires-clause-few
 acyclic_net-requires-clause-few c =
     let h : Hierarchy = c.args.models.now in
-    let s : Hierarchy = c.args.sizes.now in
     let same =
-    net_at h s c.args.main.now (main_signal s) (length h) c.in_ok-model.model c.in_ok-inputs.inputs c.in_ok-tables.tables c.in_ok-tables.outputs c.requires.reading c.requires.sizes c.requires.main
-    refl refl
+    net_at h c.in_ok-plans.plans c.args.main.now (length h) c.in_ok-model.model c.in_ok-inputs.inputs c.in_ok-tables.tables c.in_ok-tables.outputs c.requires.reading c.in_ok-plans.ensures
+    c.requires.main refl
     (c.in_ok-model.ensures ∙ ap (λ (k : BlifModel). k.name) c.main.view_is)
     (c.in_ok-inputs.ensures ∙ ap texts c.deref.ensures.value ∙ ap (λ (k : BlifModel). k.inputs) c.main.view_is)
     c.in_ok-tables.ensures.tables
@@ -38,10 +34,9 @@ acyclic_net-requires-clause-few c =
 pub acyclic_net-requires-clause-limit : goal.acyclic_net-requires-clause-limit
 acyclic_net-requires-clause-limit c =
     let h : Hierarchy = c.args.models.now in
-    let s : Hierarchy = c.args.sizes.now in
     let same =
-    net_at h s c.args.main.now (main_signal s) (length h) c.in_ok-model.model c.in_ok-inputs.inputs c.in_ok-tables.tables c.in_ok-tables.outputs c.requires.reading c.requires.sizes c.requires.main
-    refl refl
+    net_at h c.in_ok-plans.plans c.args.main.now (length h) c.in_ok-model.model c.in_ok-inputs.inputs c.in_ok-tables.tables c.in_ok-tables.outputs c.requires.reading c.in_ok-plans.ensures
+    c.requires.main refl
     (c.in_ok-model.ensures ∙ ap (λ (k : BlifModel). k.name) c.main.view_is)
     (c.in_ok-inputs.ensures ∙ ap texts c.deref.ensures.value ∙ ap (λ (k : BlifModel). k.inputs) c.main.view_is)
     c.in_ok-tables.ensures.tables
@@ -51,10 +46,9 @@ acyclic_net-requires-clause-limit c =
 pub returns-clause-ok : goal.returns-clause-ok
 returns-clause-ok c =
     let h : Hierarchy = c.args.models.now in
-    let s : Hierarchy = c.args.sizes.now in
     let same =
-    net_at h s c.args.main.now (main_signal s) (length h) c.in_ok-model.model c.in_ok-inputs.inputs c.in_ok-tables.tables c.in_ok-tables.outputs c.requires.reading c.requires.sizes c.requires.main
-    refl refl
+    net_at h c.in_ok-plans.plans c.args.main.now (length h) c.in_ok-model.model c.in_ok-inputs.inputs c.in_ok-tables.tables c.in_ok-tables.outputs c.requires.reading c.in_ok-plans.ensures
+    c.requires.main refl
     (c.in_ok-model.ensures ∙ ap (λ (k : BlifModel). k.name) c.main.view_is)
     (c.in_ok-inputs.ensures ∙ ap texts c.deref.ensures.value ∙ ap (λ (k : BlifModel). k.inputs) c.main.view_is)
     c.in_ok-tables.ensures.tables
@@ -65,10 +59,9 @@ returns-clause-ok c =
 pub returns-clause-err : goal.returns-clause-err
 returns-clause-err c =
     let h : Hierarchy = c.args.models.now in
-    let s : Hierarchy = c.args.sizes.now in
     let same =
-    net_at h s c.args.main.now (main_signal s) (length h) c.in_ok-model.model c.in_ok-inputs.inputs c.in_ok-tables.tables c.in_ok-tables.outputs c.requires.reading c.requires.sizes c.requires.main
-    refl refl
+    net_at h c.in_ok-plans.plans c.args.main.now (length h) c.in_ok-model.model c.in_ok-inputs.inputs c.in_ok-tables.tables c.in_ok-tables.outputs c.requires.reading c.in_ok-plans.ensures
+    c.requires.main refl
     (c.in_ok-model.ensures ∙ ap (λ (k : BlifModel). k.name) c.main.view_is)
     (c.in_ok-inputs.ensures ∙ ap texts c.deref.ensures.value ∙ ap (λ (k : BlifModel). k.inputs) c.main.view_is)
     c.in_ok-tables.ensures.tables

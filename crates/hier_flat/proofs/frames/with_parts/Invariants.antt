@@ -5,5 +5,5 @@ use Rattle.hier_flat.proofs.frames.with_parts.Given as goal
 
 abbrev pub invariant-loop-part : goal.invariant-loop-part
 invariant-loop-part l =
-    (l.signals.items ++ part_signals l.sizes l.next (map part_value (drop l.part-index l.part-items)) ≡ l.initial.signals.items ++ part_signals l.sizes l.first (map part_value l.part-items))
+    (l.signals ++ part_signals l.sizes l.next (map part_value (drop l.part-index l.part-items)) ≡ l.initial.signals ++ part_signals l.sizes l.first (map part_value l.part-items))
     × (l.next + sum_by (part_size l.sizes) (map part_value (drop l.part-index l.part-items)) ≡ l.first + sum_by (part_size l.sizes) (map part_value l.part-items))
