@@ -2,13 +2,20 @@
 _salsa() {
     local word=${COMP_WORDS[COMP_CWORD]} job=${COMP_WORDS[1]} files=
     case $COMP_CWORD,$job in
-    1,*) mapfile -t COMPREPLY < <(compgen -W 'synth check flat aag blif trim demo explain outputs --hints --help --version' -- "$word") ;;
+    1,*) mapfile -t COMPREPLY < <(compgen -W 'synth check flat aag blif trim demo approximate explain outputs --hints --help --version' -- "$word") ;;
     2,synth | 2,check | 2,trim) mapfile -t COMPREPLY < <(compgen -W 'abs sabs rel ham' -- "$word") ;;
     5,synth | 4,check | 4,trim | 2,flat | 2,aag | 2,outputs) files='!*.blif' ;;
     2,blif) files='!*.aag' ;;
     6,synth | 6,trim | 3,flat | 3,aag | 3,blif) mapfile -t COMPREPLY < <(compgen -f -- "$word") ;;
     5,check | 5,trim) mapfile -t COMPREPLY < <(compgen -f -X '!*.txt' -- "$word" | sed 's/\.txt$//') ;;
     esac
+    if [ "$job" = approximate ] && [ "$COMP_CWORD" -gt 1 ]; then
+        if [[ $word == -* ]]; then
+            mapfile -t COMPREPLY < <(compgen -W '--module --conflicts --help' -- "$word")
+        else
+            files='!*.@(v|sv)'
+        fi
+    fi
     if [ -n "$files" ]; then
         compopt -o filenames 2>/dev/null
         mapfile -t COMPREPLY < <(compgen -f -X "$files" -- "$word"; compgen -d -- "$word")
