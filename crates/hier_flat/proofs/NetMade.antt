@@ -102,7 +102,8 @@ first_main [] m e = absurd (none-some m e)
 first_main (k ∷ h) m e = sym (same_Some k m e)
 
 pub net_at : (h p : Hierarchy) (m : BlifModel) (levels : ℕ) (model : Bytes) (inputs : List Bytes) (tables : List TableValue) (outputs : List ℕ) → IsReading h → p ≡ h → m ≡ main_of h
-    → levels ≡ length h → model ≡ m.name → inputs ≡ m.inputs → tables ≡ with_model p (length (main_of p).inputs) levels true (main_signal p) (main_of p) [] → outputs ≡ map (main_signal p) (main_of p).outputs
+    → levels ≡ length h → model ≡ m.name → inputs ≡ m.inputs
+    → tables ≡ with_model p (length (main_of p).inputs) levels true (main_signal p) (main_of p) [] → outputs ≡ map (main_signal p) (main_of p).outputs
     → NetOf model inputs tables outputs ≡ flat_net h
 net_at h p m levels model inputs tables outputs reading same main count named listed made given =
     net_is h reading model inputs tables outputs (named ∙ ap (λ (k : BlifModel). k.name) main) (listed ∙ ap (λ (k : BlifModel). k.inputs) main)
