@@ -1,5 +1,5 @@
 -- The tables of a model, one part after another.
-use Rattle.std.proofs.Common.{◌≡◌, ℕ, ◌+◌, ◌-◌, ◌^◌, ◌<◌, ◌≤◌, zero, suc, Bool, false, List, [], ◌∷◌, ◌++◌, map, length, get_or, take, drop, decimal, ap, sym, subst, ◌∙◌, arith}
+use Rattle.std.proofs.Common.{◌≡◌, ℕ, ◌+◌, ◌-◌, ◌^◌, ◌<◌, ◌≤◌, zero, suc, Bool, false, List, [], ◌∷◌, ◌++◌, map, length, get_or, take, decimal, ap, sym, subst, ◌∙◌, arith}
 use Rattle.std.specs.Borrow.{Bor}
 use Rattle.std.specs.List.{AllByRecursion}
 use Rattle.std.proofs.lemmas.Fmt.{length-decimal-le}
@@ -9,7 +9,7 @@ use Rattle.semantics.specs.Texts.{Bytes}
 use Rattle.semantics.specs.Net.{TableValue, IsNameByte, IsName}
 use Rattle.semantics.proofs.NumberedNames.{IsName-numbered}
 use Rattle.text_words.specs.Slices.{texts}
-use Rattle.hierarchy_semantics.specs.Models.{Part, BlifModel, Hierarchy}
+use Rattle.hierarchy_semantics.specs.Models.{BlifModel, Hierarchy}
 use Rattle.hier_flat.specs.Flattening.{with_parts, with_model}
 
 -- what all are, each is

@@ -1,11 +1,10 @@
 -- Plans of models: the names of a model as places among the names that it drives.
-use Rattle.std.specs.Prelude.{◌≡◌, ℕ, ◌+◌, Bool, List, [], ◌∷◌, ◌++◌, map, length, slice_index_or, Option}
-use Rattle.std.specs.Prelude.{Some, None}
+use Rattle.std.specs.Prelude.{◌≡◌, ℕ, Bool, List, [], ◌∷◌, ◌++◌, map, length}
 use Rattle.std.specs.List.{AllByRecursion}
 use Rattle.semantics.specs.Texts.{Bytes}
 use Rattle.semantics.specs.Net.{TableValue}
 use Rattle.blif_text.specs.Names.{place_of}
-use Rattle.hierarchy_semantics.specs.Models.{Binding, Part, names_part, subckt_part, BlifModel, Hierarchy}
+use Rattle.hierarchy_semantics.specs.Models.{Binding, Part, names_part, subckt_part, Hierarchy}
 use Rattle.hierarchy_semantics.specs.Models.{model_named}
 use Rattle.hierarchy_semantics.specs.Refusals.{model_names}
 use Rattle.hierarchy_semantics.specs.Driven.{bound_outputs}

@@ -1,4 +1,4 @@
-use Rattle.std.proofs.Common.{sym, arith}
+use Rattle.std.proofs.Common.{arith}
 use Rattle.hier_flat.proofs.Visiting.{part_formed, table_step, use_step}
 use Rattle.hier_flat.specs.declared.plans.PartPlan.TheVariants.{Table, Use}
 use Rattle.hier_flat.proofs.visits.step.Goals as goal
