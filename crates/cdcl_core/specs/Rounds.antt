@@ -46,7 +46,8 @@ renamed ids (Add s) = Add (record {
 renamed ids (Remove removed) = Remove (map (whole_id ids) removed)
 
 -- the answer of a round within a number of conflicts, for whose steps the whole log has room
-pub record IsAnswerWithin (f : Formula) (whole : List LogItem) (round : Formula) (answer : Answer) : Type 0 where
+pub record IsAnswerWithin (f : Formula) (whole : List LogItem) (round : Formula)
+    (answer : Answer) : Type 0 where
   pub conflicts : ℕ
   pub room : length f.clauses + length whole + conflicts + 1 < 2 ^ 63
   pub right : IsAnswer round [] conflicts answer

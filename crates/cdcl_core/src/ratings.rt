@@ -18,8 +18,8 @@ const SHORT: usize = 3;
 /// One in this number of the clauses that are not short stays.
 const ONE_IN: usize = 2;
 
-/// The rating of a clause: `u32::MAX` less its uses, so that the better clauses come first; then the number of
-/// its literals, and its id in the whole log.
+/// The rating of a clause: `u32::MAX` less its uses, so that the better clauses come first; then the number
+/// of its literals, and its id in the whole log.
 type Rating = (u32, usize, u64);
 
 /// Counts a use of the clause that has the id `id` in the round.
