@@ -1,6 +1,6 @@
 -- The steps of a round derive under the ids of the whole log.
-use Rattle.std.proofs.Common.{◌≡◌, ℕ, zero, suc, ◌+◌, ◌-◌, ◌^◌, ◌<◌, ◌≤◌, Bool, cond, List, [], ◌∷◌, ◌++◌, map, take, length, get_or}
-use Rattle.std.proofs.Common.{refl, ap, subst, sym, ◌∙◌, inl, inr, arith, length-append, append_assoc, Option, None, Some}
+use Rattle.std.proofs.Common.{◌≡◌, ℕ, zero, suc, ◌+◌, ◌-◌, ◌^◌, ◌<◌, ◌≤◌, Bool, cond, List, [], ◌∷◌, ◌++◌, map}
+use Rattle.std.proofs.Common.{take, length, get_or, refl, ap, subst, sym, ◌∙◌, inl, inr, arith, length-append, append_assoc, Option, None, Some}
 use Rattle.std.specs.Prelude.{◌⊎◌}
 use Rattle.std.specs.Cmp.{nat_cmp_total, unsigned_tied}
 use Rattle.std.specs.Ordering.{nat_cmp}
@@ -14,8 +14,8 @@ use Rattle.std.proofs.Math.Seq.{take-append_seam, take-length, get_or-append_sea
 use Rattle.proof_semantics.specs.declared.item.Item.TheVariants.{Add, Remove}
 use Rattle.proof_semantics.specs.Clauses.{Clause}
 use Rattle.proof_semantics.specs.Formula.{Formula}
-use Rattle.proof_semantics.specs.Logs.{StepValue, LogItem, LiteralSet, Held, with_negations, EndsInConflict, Derives, held_from, held_of}
-use Rattle.proof_semantics.specs.Logs.{IsSoundFrom, AddsInTurn, last_added, last_added_after, Refutes, IsDerivation}
+use Rattle.proof_semantics.specs.Logs.{StepValue, LogItem, LiteralSet, Held, with_negations, EndsInConflict, Derives}
+use Rattle.proof_semantics.specs.Logs.{held_from, held_of, IsSoundFrom, AddsInTurn, last_added, last_added_after, Refutes, IsDerivation}
 use Rattle.proof_semantics.specs.Conflicts.{clause_at, added_clauses, clauses_with}
 use Rattle.proof_semantics.specs.ConflictLaws.{IsNextStep}
 use Rattle.proof_semantics.proofs.Conflicts.{derivation_law, length-added, clauses_with-pushed}

@@ -10,7 +10,8 @@ append_round-requires c = (within_refuted c.args.cnf.now c.args.round.formula c.
 pub returns-in-Refuted : goal.returns-in-Refuted
 returns-in-Refuted c =
     refuted_behind c.args.cnf.now c.args.round.formula c.args.whole c.append_round.new.whole c.in-Refuted.log c.append_round.new.ids c.args.answer c.requires.answer c.in-Refuted.is
-    (within_open c.args.cnf.now c.args.round.formula c.args.whole c.append_round.new.whole c.in-Refuted.log c.args.round.ids c.append_round.new.ids c.requires.derivation c.requires.round
+    (within_open c.args.cnf.now c.args.round.formula c.args.whole c.append_round.new.whole c.in-Refuted.log c.args.round.ids c.append_round.new.ids
+    c.requires.derivation c.requires.round
     (within_refuted c.args.cnf.now c.args.round.formula c.args.whole c.in-Refuted.log c.args.answer c.requires.answer c.in-Refuted.is) c.in_ok-append_round-in-Refuted.ensures.ids
     c.in_ok-append_round-in-Refuted.ensures.items) c.in_ok-append_round-in-Refuted.ensures.items
 
@@ -19,12 +20,14 @@ append_round-requires-in-Spent c = (within_spent c.args.cnf.now c.args.round.for
 
 pub kept_ids-requires : goal.kept_ids-requires
 kept_ids-requires c =
-    (within_open c.args.cnf.now c.args.round.formula c.args.whole c.append_round-in-Spent.new.whole c.in-Spent.log c.args.round.ids c.append_round-in-Spent.new.ids c.requires.derivation c.requires.round
+    (within_open c.args.cnf.now c.args.round.formula c.args.whole c.append_round-in-Spent.new.whole c.in-Spent.log c.args.round.ids c.append_round-in-Spent.new.ids
+    c.requires.derivation c.requires.round
     (within_spent c.args.cnf.now c.args.round.formula c.args.whole c.in-Spent.log c.args.answer c.requires.answer c.in-Spent.is) c.in_ok-append_round-in-Spent.ensures.ids
     c.in_ok-append_round-in-Spent.ensures.items).derivation
 
 pub returns : goal.returns
 returns c =
-    within_open c.args.cnf.now c.args.round.formula c.args.whole c.append_round-in-Spent.new.whole c.in-Spent.log c.args.round.ids c.append_round-in-Spent.new.ids c.requires.derivation c.requires.round
+    within_open c.args.cnf.now c.args.round.formula c.args.whole c.append_round-in-Spent.new.whole c.in-Spent.log c.args.round.ids c.append_round-in-Spent.new.ids
+    c.requires.derivation c.requires.round
     (within_spent c.args.cnf.now c.args.round.formula c.args.whole c.in-Spent.log c.args.answer c.requires.answer c.in-Spent.is) c.in_ok-append_round-in-Spent.ensures.ids
     c.in_ok-append_round-in-Spent.ensures.items
