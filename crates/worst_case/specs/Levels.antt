@@ -1,6 +1,6 @@
 -- What is answered to the question whether the error stays within a level, without a log.
-use Rattle.std.specs.Prelude.{ℕ}
-use Rattle.semantics.specs.Net.{NetValue}
+use Rattle.std.specs.Prelude.{ℕ, ◌<◌, Option, MatchOption}
+use Rattle.semantics.specs.Net.{NetValue, input_count}
 use Rattle.semantics.specs.declared.metric.Metric.{Metric}
 use Rattle.semantics.specs.Error.{IsWithin}
 use Rattle.worst_case.specs.Exceeds.{IsSpentOn}
@@ -18,3 +18,8 @@ abbrev pub IsSureAnswer : Metric → NetValue → NetValue → ℕ → Margin �
 IsSureAnswer metric exact approx k (Over x) = IsExceededAt metric exact approx k x
 IsSureAnswer metric exact approx k Within = IsWithin metric exact k approx
 IsSureAnswer metric exact approx k (Spent s) = ⊥
+
+-- an answer for which nothing was spent; there may be none where there are more than `most` inputs
+abbrev pub IsAnsweredUpTo : ℕ → Metric → NetValue → NetValue → ℕ → Option Margin → Type 0
+IsAnsweredUpTo most metric exact approx k found
+    = MatchOption found (most < input_count exact) (IsSureAnswer metric exact approx k)
