@@ -1,5 +1,5 @@
 //! The two levels between which the greatest error lies, and the query that narrows the range.
-ghost use Rattle.std.specs.Prelude.{◌≡◌, ◌≤◌, ◌<◌, ℕ, length, IfOk, OnOk, IsTrue, ¬};
+ghost use Rattle.std.specs.Prelude.{◌≡◌, ◌≤◌, ◌<◌, ℕ, length, IfOk, OnOk, IsTrue};
 ghost use Rattle.semantics.specs.Net.{input_count};
 ghost use Rattle.semantics.specs.Error.{IsWithin, net_error};
 ghost use Rattle.worst_case.specs.Maximum.{IsRange, IsTurn};
