@@ -2,8 +2,8 @@
 //!
 //! The greatest error lies between an error that some input has and a level that no input's error exceeds.
 //! Diagrams are asked first whether the known error is the greatest. Where they do not tell and there are at
-//! most 24 inputs, every vector is tried; with more inputs each query halves the range between the two levels.
-//! The log that is returned refutes that any error exceeds the greatest.
+//! most 24 inputs, every vector is tried; with more inputs each query halves the range between the two
+//! levels. The log that is returned refutes that any error exceeds the greatest.
 ghost use Rattle.std.specs.Prelude.{◌≡◌, ◌≤◌, ℕ, length, IfOk};
 ghost use Rattle.semantics.specs.Net.{HasSamePorts, IsSmall};
 ghost use Rattle.semantics.specs.Error.{IsWithin};
