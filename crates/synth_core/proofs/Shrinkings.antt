@@ -13,7 +13,6 @@ use Rattle.job_semantics.proofs.MinimalNets.{minimal-none_allowed}
 use Rattle.lane_bits.specs.Patterns.{PatternSet}
 use Rattle.worst_case.specs.declared.query.Spent as spent
 use Rattle.worst_case.specs.Exceeds.{spent_value}
-use Rattle.lane_nets.specs.Lanes.{ReferenceValue}
 use Rattle.chain_semantics.proofs.Simplifications.{simplification-falls}
 use Rattle.synth_core.specs.Steps.{IsPool, IsFirstMoved}
 use Rattle.synth_core.specs.Turns.{IsReadyFor, IsNextMember}
@@ -66,6 +65,6 @@ module _ (metric : Metric) (exact : NetValue) (bound : ℕ) where
     fewer = simplification-falls metric exact bound sound N K step.move h step.first (tidied_move N M K step tidied);
   }
 
--- a search stays ready while its decider stays for the same net
-pub still_ready : (exact : NetValue) (held : ReferenceValue) (old new : NetValue) → new ≡ old → IsReadyFor exact held old → IsReadyFor exact held new
-still_ready exact held old new same ready = subst (IsReadyFor exact held) (sym same) ready
+-- a search stays ready while its judge stays for the exact net
+pub still_ready : (exact old new : NetValue) → new ≡ old → IsReadyFor exact old → IsReadyFor exact new
+still_ready exact old new same ready = subst (IsReadyFor exact) (sym same) ready

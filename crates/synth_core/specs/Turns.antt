@@ -5,18 +5,15 @@ use Rattle.semantics.specs.declared.metric.Metric.{Metric}
 use Rattle.semantics.specs.Net.{NetValue, IsSmall, literal_count}
 use Rattle.chain_semantics.specs.Simplification.{IsInSimplification}
 use Rattle.job_semantics.specs.Shrinking.{IsShrinking}
-use Rattle.lane_nets.specs.Lanes.{ReferenceValue}
 use Rattle.worst_case.specs.Exceeds.{spent_value}
-use Rattle.worst_case.specs.VectorsTried.{IsHeldFor}
 use Rattle.synth_core.specs.declared.turn.Turn.{Turn}
 use Rattle.synth_core.specs.declared.turn.Turn.TheVariants.{Next, End}
 
--- the exact net, and what was computed of it before the search
-pub record IsReadyFor (exact : NetValue) (vectors : ReferenceValue) (decided : NetValue) : Type 0 where
+-- the exact net, and the net that the judge is for
+pub record IsReadyFor (exact judged : NetValue) : Type 0 where
   pub small : IsSmall exact
   pub few_outputs : length exact.outputs ≤ MOST_OUTPUTS
-  pub held : IsHeldFor exact vectors
-  pub decider : decided ≡ exact
+  pub judge : judged ≡ exact
 
 -- M is the member of the chain behind N
 pub record IsNextMember (metric : Metric) (exact : NetValue) (bound : ℕ) (N M : NetValue) : Type 0 where

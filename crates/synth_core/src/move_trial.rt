@@ -5,12 +5,9 @@ ghost use Rattle.semantics.specs.Net.{input_count};
 ghost use Rattle.semantics.specs.Error.{IsCandidate, IsWithin};
 ghost use Rattle.chain_semantics.specs.Moves.{moves_of};
 ghost use Rattle.chain_semantics.specs.Simplification.{IsAllowedMove};
-ghost use Rattle.worst_case.specs.VectorsTried.{IsHeldFor};
 ghost use Rattle.synth_core.specs.MoveTrials.{IsJudged, IsTrial};
 
-use bdd_levels::decider::Decider;
 use chain_semantics::moves::Move;
-use lane_nets::reference::Reference;
 use net_core::net::Net;
 use net_errors::compared::Compared;
 use net_moves::apply::{make, take_back};
@@ -18,7 +15,8 @@ use progress::progress::Progress;
 use semantics::limits::FEW_INPUTS;
 use semantics::metric::Metric;
 use std::alloc::{AllocError, Global};
-use worst_case::margin::{Margin, within_level};
+use worst_case::judge::{Judge, within_level};
+use worst_case::margin::Margin;
 
 /// The metric and the bound, and the most conflicts that a query about a move may cost.
 #[derive(Clone, Copy)]
@@ -30,22 +28,20 @@ pub(crate) struct Terms {
 
 /// Whether a moved net keeps the bound. With few inputs every vector is known to break no move that is left,
 /// so nothing is asked.
-fn judge<P: Progress>(
+fn keeps_bound<P: Progress>(
     alloc: Global,
     nets: &Compared,
-    held: &Reference,
-    decider: &mut Decider,
+    judge: &mut Judge,
     terms: Terms,
     moved: &Net,
     progress: &mut P,
 ) -> Result<Margin, AllocError>
-    requires held { IsHeldFor nets.now.exact held.now }
-    requires decider { decider.old ≡ nets.now.exact }
+    requires judge { judge.old ≡ nets.now.exact }
     requires limit { 1 ≤ terms.limit }
     requires candidate { IsCandidate nets.now.exact moved.now }
     requires known { input_count nets.now.exact ≤ FEW_INPUTS
         → IsWithin terms.metric nets.now.exact terms.bound moved.now }
-    ensures same { decider.new ≡ decider.old }
+    ensures same { judge.new ≡ judge.old }
     ensures judged { IfOk result (IsJudged terms.metric nets.now.exact terms.bound terms.limit moved.now) }
 {
     if nets.exact().inputs() <= FEW_INPUTS {
@@ -55,8 +51,7 @@ fn judge<P: Progress>(
     within_level(
         alloc,
         &moved_nets,
-        held,
-        decider,
+        judge,
         terms.metric,
         terms.bound,
         terms.limit,
@@ -69,27 +64,25 @@ fn judge<P: Progress>(
 pub(crate) fn try_move<P: Progress>(
     alloc: Global,
     nets: &Compared,
-    held: &Reference,
-    decider: &mut Decider,
+    judge: &mut Judge,
     terms: Terms,
     scratch: &mut Net,
     step: Move,
     progress: &mut P,
 ) -> Result<Margin, AllocError>
-    requires held { IsHeldFor nets.now.exact held.now }
-    requires decider { decider.old ≡ nets.now.exact }
+    requires judge { judge.old ≡ nets.now.exact }
     requires limit { 1 ≤ terms.limit }
     requires scratch { scratch.old ≡ nets.now.approx }
     requires step { Contains (moves_of nets.now.approx) step }
     requires known { input_count nets.now.exact ≤ FEW_INPUTS
         → IsAllowedMove terms.metric nets.now.exact terms.bound nets.now.approx step }
-    ensures same { decider.new ≡ decider.old }
+    ensures same { judge.new ≡ judge.old }
     ensures trial { IfOk result
         (IsTrial terms.metric nets.now.exact terms.bound terms.limit nets.now.approx step scratch.new) }
 {
     nets.approx().see_sound();
     let table = make(alloc, scratch, step)?;
-    match judge(alloc, nets, held, decider, terms, scratch, progress)? {
+    match keeps_bound(alloc, nets, judge, terms, scratch, progress)? {
         Margin::Over(x) => {
             take_back(scratch, step, table)?;
             Ok(Margin::Over(x))

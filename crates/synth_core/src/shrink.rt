@@ -2,11 +2,12 @@
 //!
 //! A move that some known input vector breaks is refused by the masks of the member, without making the moved
 //! net. With few inputs every vector is known, so every other move is allowed. With more inputs the known
-//! vectors are those that broke earlier moves, and each other move is made and judged. With at most sixteen
-//! inputs every vector is tried, against right outputs that are computed once. With more inputs some vectors
-//! are tried; then diagrams, which are kept over the whole chain, or a query decide. An allowed move is made,
-//! the moved net is tidied, and the moves begin again, since a move that was refused before may be allowed
-//! now. The chain ends, since each move removes literals, or it stops at the first spent query.
+//! vectors are those that broke earlier moves, and each other move is made and judged, by what is held of the
+//! exact net over the whole chain. With at most sixteen inputs every vector is tried; with more inputs some
+//! vectors are tried, then diagrams are asked, and then, with at most 24 inputs, every vector is tried. With
+//! still more inputs a query may be asked. An allowed move is made, the moved net is tidied, and the moves
+//! begin again, since a move that was refused before may be allowed now. The chain ends, since each move
+//! removes literals, or it stops at the first spent query.
 ghost use Rattle.std.specs.Prelude.{◌≡◌, ◌≤◌, length, option_map, IfOk};
 ghost use Rattle.semantics.specs.Net.{input_count, IsSmall};
 ghost use Rattle.chain_semantics.specs.Simplification.{IsInSimplification};
@@ -17,9 +18,7 @@ ghost use Rattle.synth_core.specs.Turns.{IsReadyFor};
 
 use crate::move_trial::Terms;
 use crate::turn::{Turn, take_turn};
-use bdd_levels::decider::Decider;
 use lane_bits::patterns::Patterns;
-use lane_nets::reference::Reference;
 use net_core::net::Net;
 use net_search::search::Shrunk;
 use net_tidy::tidy::tidy;
@@ -27,9 +26,8 @@ use progress::progress::{Progress, Silent};
 use semantics::limits::{FEW_INPUTS, MOST_OUTPUTS};
 use semantics::metric::Metric;
 use std::alloc::{AllocError, Global};
-use worst_case::policy::decider_for;
+use worst_case::judge::Judge;
 use worst_case::query::Spent;
-use worst_case::vectors_tried::hold_vectors;
 
 /// The vectors to begin with: all vectors where there are few inputs, and else none.
 fn first_pool(alloc: Global, net: &Net) -> Result<Patterns, AllocError>
@@ -47,14 +45,13 @@ fn first_pool(alloc: Global, net: &Net) -> Result<Patterns, AllocError>
 fn follow<P: Progress>(
     alloc: Global,
     net: &Net,
-    held: &Reference,
-    decider: &mut Decider,
+    judge: &mut Judge,
     terms: Terms,
     member: &mut Net,
     pool: &mut Patterns,
     progress: &mut P,
 ) -> Result<Option<Spent>, AllocError>
-    requires ready { IsReadyFor net.now held.now decider.old }
+    requires ready { IsReadyFor net.now judge.old }
     requires limit { 1 ≤ terms.limit }
     requires member { IsInSimplification terms.metric net.now terms.bound member.old }
     requires pool { IsPool net.now pool.old }
@@ -63,14 +60,14 @@ fn follow<P: Progress>(
         (record { net = member.new; pool = pool.new.vectors; spent = option_map spent_value spent })) }
 {
     loop {
-        match take_turn(alloc, net, held, decider, terms, member, pool, progress)? {
+        match take_turn(alloc, net, judge, terms, member, pool, progress)? {
             Turn::Next(next) => *member = next,
             Turn::End(spent) => return Ok(spent),
         }
     }
 }
 
-/// Makes what the search holds of the net, and goes along the chain.
+/// Makes the judge of the net, and goes along the chain with it.
 fn search_from<P: Progress>(
     alloc: Global,
     net: &Net,
@@ -88,18 +85,8 @@ fn search_from<P: Progress>(
     ensures shrinking { IfOk result (λ spent. IsShrinking terms.metric net.now terms.bound terms.limit
         (record { net = member.new; pool = pool.new.vectors; spent = option_map spent_value spent })) }
 {
-    let held = hold_vectors(alloc, net)?;
-    let mut decider = decider_for(alloc, net)?;
-    follow(
-        alloc,
-        net,
-        &held,
-        &mut decider,
-        terms,
-        member,
-        pool,
-        progress,
-    )
+    let mut judge = Judge::new(alloc, net)?;
+    follow(alloc, net, &mut judge, terms, member, pool, progress)
 }
 
 /// Follows the chain of simplifications as [`shrink`] does, and tells `progress` how far the search is.

@@ -1,22 +1,20 @@
 //! One move along the chain of simplifications: the first allowed move of a member.
 ghost use Rattle.std.specs.Prelude.{◌≡◌, ◌<◌, ◌≤◌, ◌++◌, ◌∷◌, [], length, IfOk, OnOk};
 ghost use Rattle.semantics.specs.Net.{input_count, IsSmall};
-ghost use Rattle.worst_case.specs.VectorsTried.{IsHeldFor};
 ghost use Rattle.synth_core.specs.Steps.{IsPool, AreMasksOver, IsMaskedPool, IsCandidateMove, AreAmong};
 ghost use Rattle.synth_core.specs.Steps.{IsWeighed, IsStep};
 
 use crate::move_trial::{Terms, try_move};
 use crate::unbroken::next_unbroken;
 use adc_core::growing::GrowingMasks;
-use bdd_levels::decider::Decider;
 use chain_semantics::moves::Move;
 use lane_bits::patterns::Patterns;
-use lane_nets::reference::Reference;
 use net_core::net::Net;
 use net_errors::compared::Compared;
 use net_moves::moves::moves;
 use progress::progress::Progress;
 use std::alloc::{AllocError, Global};
+use worst_case::judge::Judge;
 use worst_case::margin::Margin;
 use worst_case::query::Spent;
 
@@ -64,8 +62,7 @@ fn add_vector(pool: &mut Patterns, masks: &mut GrowingMasks, x: &[bool]) -> Resu
 fn weigh<P: Progress>(
     alloc: Global,
     nets: &Compared,
-    held: &Reference,
-    decider: &mut Decider,
+    judge: &mut Judge,
     terms: Terms,
     pool: &mut Patterns,
     masks: &mut GrowingMasks,
@@ -73,15 +70,14 @@ fn weigh<P: Progress>(
     step: Move,
     progress: &mut P,
 ) -> Result<Option<Step>, AllocError>
-    requires held { IsHeldFor nets.now.exact held.now }
-    requires decider { decider.old ≡ nets.now.exact }
+    requires judge { judge.old ≡ nets.now.exact }
     requires limit { 1 ≤ terms.limit }
     requires scratch { scratch.old ≡ nets.now.approx }
     requires masked { IsMaskedPool terms.metric nets.now.exact terms.bound nets.now.approx pool.old
         masks.old }
     requires unbroken { IsCandidateMove terms.metric nets.now.exact terms.bound nets.now.approx
         pool.old.vectors step }
-    ensures same { decider.new ≡ decider.old }
+    ensures same { judge.new ≡ judge.old }
     ensures masked { IfOk result
         (λ _. IsMaskedPool terms.metric nets.now.exact terms.bound nets.now.approx pool.new masks.new) }
     ensures among { IfOk result (λ _. AreAmong pool.old.vectors pool.new.vectors) }
@@ -89,7 +85,7 @@ fn weigh<P: Progress>(
         (IsWeighed terms.metric nets.now.exact terms.bound terms.limit nets.now.approx pool.new.vectors step
         scratch.new) }
 {
-    match try_move(alloc, nets, held, decider, terms, scratch, step, progress)? {
+    match try_move(alloc, nets, judge, terms, scratch, step, progress)? {
         Margin::Over(x) => {
             add_vector(pool, masks, x.as_slice())?;
             Ok(None)
@@ -104,20 +100,18 @@ fn weigh<P: Progress>(
 pub(crate) fn find_step<P: Progress>(
     alloc: Global,
     nets: &Compared,
-    held: &Reference,
-    decider: &mut Decider,
+    judge: &mut Judge,
     terms: Terms,
     pool: &mut Patterns,
     scratch: &mut Net,
     progress: &mut P,
 ) -> Result<Step, AllocError>
-    requires held { IsHeldFor nets.now.exact held.now }
-    requires decider { decider.old ≡ nets.now.exact }
+    requires judge { judge.old ≡ nets.now.exact }
     requires small { IsSmall nets.now.approx }
     requires limit { 1 ≤ terms.limit }
     requires pool { IsPool nets.now.exact pool.old }
     requires scratch { scratch.old ≡ nets.now.approx }
-    ensures same { decider.new ≡ decider.old }
+    ensures same { judge.new ≡ judge.old }
     ensures pool { IfOk result (λ _. IsPool nets.now.exact pool.new) }
     ensures step { IfOk result
         (IsStep terms.metric nets.now.exact terms.bound terms.limit nets.now.approx pool.new.vectors
@@ -129,7 +123,7 @@ pub(crate) fn find_step<P: Progress>(
     let tables = nets.approx().tables();
     while let Some(step) = next_unbroken(&mut moves, &mut masks, tables, &mut told, progress)? {
         let found = weigh(
-            alloc, nets, held, decider, terms, pool, &mut masks, scratch, step, progress,
+            alloc, nets, judge, terms, pool, &mut masks, scratch, step, progress,
         )?;
         if let Some(found) = found {
             return Ok(found);

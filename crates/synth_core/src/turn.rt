@@ -6,14 +6,13 @@ ghost use Rattle.synth_core.specs.Turns.{IsReadyFor, IsTurn};
 
 use crate::move_trial::Terms;
 use crate::step::{Step, find_step};
-use bdd_levels::decider::Decider;
 use lane_bits::patterns::Patterns;
-use lane_nets::reference::Reference;
 use net_core::net::Net;
 use net_errors::compared::Compared;
 use net_tidy::tidy::tidy;
 use progress::progress::Progress;
 use std::alloc::{AllocError, Global};
+use worst_case::judge::Judge;
 use worst_case::query::Spent;
 
 /// What a turn comes to.
@@ -30,18 +29,17 @@ pub(crate) enum Turn {
 pub(crate) fn take_turn<P: Progress>(
     alloc: Global,
     net: &Net,
-    held: &Reference,
-    decider: &mut Decider,
+    judge: &mut Judge,
     terms: Terms,
     member: &Net,
     pool: &mut Patterns,
     progress: &mut P,
 ) -> Result<Turn, AllocError>
-    requires ready { IsReadyFor net.now held.now decider.old }
+    requires ready { IsReadyFor net.now judge.old }
     requires limit { 1 ≤ terms.limit }
     requires member { IsInSimplification terms.metric net.now terms.bound member.now }
     requires pool { IsPool net.now pool.old }
-    ensures same { decider.new ≡ decider.old }
+    ensures same { judge.new ≡ judge.old }
     ensures pool { IfOk result (λ _. IsPool net.now pool.new) }
     ensures turn { IfOk result
         (IsTurn terms.metric net.now terms.bound terms.limit member.now pool.new.vectors) }
@@ -50,16 +48,7 @@ pub(crate) fn take_turn<P: Progress>(
     progress.reached(member.literals());
     let nets = Compared::new(net, member);
     let mut scratch = member.copy()?;
-    match find_step(
-        alloc,
-        &nets,
-        held,
-        decider,
-        terms,
-        pool,
-        &mut scratch,
-        progress,
-    )? {
+    match find_step(alloc, &nets, judge, terms, pool, &mut scratch, progress)? {
         Step::Moved => Ok(Turn::Next(tidy(alloc, scratch)?)),
         Step::End => Ok(Turn::End(None)),
         Step::Spent(spent) => Ok(Turn::End(Some(spent))),

@@ -1,13 +1,16 @@
 -- The first vector of a list at which the error is greatest.
 use Rattle.std.proofs.Common.{◌≡◌, ℕ, ◌^◌, ◌<◌, ◌≤◌, Bool, List, [], length, slice_index_or, subst, ap, sym, ◌∙◌, arith}
+use Rattle.std.proofs.lemmas.Nat.{pow_pos}
 use Rattle.std.proofs.lemmas.Option.{get_or_from_slice_get}
-use Rattle.semantics.specs.Net.{NetValue}
+use Rattle.semantics.specs.Net.{NetValue, input_count}
 use Rattle.semantics.specs.declared.metric.Metric.{Metric}
 use Rattle.semantics.specs.Error.{number_of, net_error}
 use Rattle.semantics.specs.Vectors.{bits_of, all_vectors, IsFirstGreatestAt}
 use Rattle.semantics.proofs.Vectors.{length-bits_of, number_of-bits_of, each_vector, bits_of-number_of, length-all_vectors, slice_get-all_vectors}
+use Rattle.lane_bits.specs.Patterns.{PatternSet}
 use Rattle.lane_nets.specs.Errors.{IsFirstGreatest}
-use Rattle.worst_case.specs.VectorsTried.{IsFirstGreatestIn}
+use Rattle.lane_nets.specs.Lanes.{ReferenceValue}
+use Rattle.worst_case.specs.VectorsTried.{IsFirstGreatestIn, IsEveryVectorHeld}
 
 -- the vector at the place that was found
 pub IsFirstGreatestIn-at : (metric : Metric) (N M : NetValue) (vectors : List (List Bool)) (most at : ℕ) (x : List Bool) → IsFirstGreatest metric N M vectors most at
@@ -40,3 +43,14 @@ IsFirstGreatestAt-all n f vectors most x all h =
           let earlier : number_of y < h.at = omega (arith, at_is, ap number_of x_is, before) in
           subst (λ z. f z < most) (place (number_of y) (omega (arith, earlier, within)) ∙ y_is) (h.first (number_of y) earlier);
     }
+
+-- where the right outputs at every vector are held
+pub every_some : (N : NetValue) (r : ReferenceValue) → IsEveryVectorHeld N r → 0 < length r.patterns.vectors
+every_some N r held =
+    let count : length r.patterns.vectors ≡ 2 ^ input_count N = ap (λ (s : PatternSet). length s.vectors) held.all ∙ length-all_vectors (input_count N) in
+    omega (arith, count, pow_pos (input_count N))
+
+pub every_greatest : (metric : Metric) (N M : NetValue) (r : ReferenceValue) (most : ℕ) (x : List Bool) → IsEveryVectorHeld N r
+    → IsFirstGreatestIn (net_error metric N M) r.patterns.vectors most x → IsFirstGreatestAt (input_count N) (net_error metric N M) most x
+every_greatest metric N M r most x held best =
+    IsFirstGreatestAt-all (input_count N) (net_error metric N M) r.patterns.vectors most x (ap (λ (s : PatternSet). s.vectors) held.all) best

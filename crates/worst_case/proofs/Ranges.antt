@@ -6,7 +6,9 @@ use Rattle.semantics.specs.declared.metric.Metric.{Metric}
 use Rattle.semantics.specs.Net.{NetValue, input_count}
 use Rattle.semantics.specs.Error.{net_error, IsWithin, IsCandidate}
 use Rattle.semantics.proofs.Sizes.{largest}
+use Rattle.semantics.specs.Vectors.{IsFirstGreatestAt}
 use Rattle.lane_bits.specs.Patterns.{PatternSet}
+use Rattle.worst_case.specs.declared.range.Range.{Range}
 use Rattle.worst_case.specs.declared.vectors_tried.TheConstants.{LANE_INPUTS}
 use Rattle.worst_case.specs.VectorsTried.{IsTrial, IsFirstGreatestIn}
 use Rattle.worst_case.specs.Maximum.{IsRange}
@@ -46,3 +48,18 @@ IsRange-first metric N M bound high most x s nets within trial best width (inr l
   refuted = tt;
   first = λ few_inputs. absurd (omega (arith, few_inputs, large.0));
 }
+
+-- where the greatest error of all vectors is known
+pub IsRange-closed : (metric : Metric) (N M : NetValue) (bound most : ℕ) (x : List Bool) (r : Range) → IsRange metric N M bound r
+    → IsFirstGreatestAt (input_count N) (net_error metric N M) most x → IsRange metric N M bound (record { low = most; witness = x; high = most; log = None })
+IsRange-closed metric N M bound most x r range best =
+    let below : net_error metric N M x ≤ r.high = range.within x best.width in
+    record {
+      width = best.width;
+      attained = best.attained;
+      within = best.greatest;
+      bounded = omega (arith, best.attained, below, range.bounded);
+      small = omega (arith, best.attained, below, range.small);
+      refuted = tt;
+      first = λ few_inputs. best;
+    }

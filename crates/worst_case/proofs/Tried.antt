@@ -10,22 +10,20 @@ use Rattle.proof_semantics.specs.Queries.{IsOver}
 use Rattle.lane_bits.specs.Patterns.{PatternSet}
 use Rattle.lane_nets.specs.Lanes.{ReferenceValue}
 use Rattle.lane_nets.specs.Errors.{IsFirstOver, FindsFirstOver}
-use Rattle.worst_case.specs.declared.vectors_tried.TheConstants.{LANE_INPUTS}
-use Rattle.worst_case.specs.VectorsTried.{IsTrial, IsHeldFor, IsFirstExceeded}
+use Rattle.worst_case.specs.VectorsTried.{IsTrial, IsHeldFor, IsEveryVectorHeld, IsFirstExceeded}
 
 -- vector j stands at place j
 place : (n : ℕ) (vectors : List (List Bool)) → vectors ≡ all_vectors n → (j : ℕ) → j < 2 ^ n → slice_index_or vectors j [] ≡ bits_of n j
 place n vectors all j below = ap (λ v. slice_index_or v j []) all ∙ get_or_from_slice_get (all_vectors n) j (bits_of n j) [] (slice_get-all_vectors n j below)
 
 module _ (metric : Metric) (N M : NetValue) (k : ℕ) (vectors : List (List Bool)) where
-  pub IsFirstExceeded-at : (input_count N ≤ LANE_INPUTS → vectors ≡ all_vectors (input_count N)) → (at : ℕ) (x : List Bool) → IsFirstOver metric N M k vectors at → x ≡ slice_index_or vectors at []
-      → length x ≡ input_count N → IsFirstExceeded metric N M k x
-  IsFirstExceeded-at every at x h is wide =
+  pub IsFirstExceeded-at : (at : ℕ) (x : List Bool) → IsFirstOver metric N M k vectors at → x ≡ slice_index_or vectors at [] → length x ≡ input_count N
+      → IsFirstExceeded metric N M vectors k x
+  IsFirstExceeded-at at x h is wide =
       let n : ℕ = input_count N in
       record {
         exceeded = record { width = wide; exceeds = subst (λ y. k < net_error metric N M y) (sym is) h.over };
-        first = λ few y width before.
-            let all : vectors ≡ all_vectors n = every few in
+        first = λ all y width before.
             let within : at < 2 ^ n = omega (arith, h.within, ap length all ∙ length-all_vectors n) in
             let x_is : x ≡ bits_of n at = is ∙ place n vectors all at within in
             let y_is : bits_of n (number_of y) ≡ y = ap (λ m. bits_of m (number_of y)) (sym width) ∙ bits_of-number_of y in
@@ -42,11 +40,11 @@ module _ (metric : Metric) (N M : NetValue) (k : ℕ) (vectors : List (List Bool
       (λ j below. subst (λ x. net_error metric N M x ≤ k) (place n vectors all j below) (h j (omega (arith, below, count))))
 
 -- what was found of the vectors that are held
-pub found_held : (metric : Metric) (N M A : NetValue) (k : ℕ) (r : ReferenceValue) (found : Option ℕ) → IsHeldFor N r → A ≡ M
+pub found_held : (metric : Metric) (N M A : NetValue) (k : ℕ) (r : ReferenceValue) (found : Option ℕ) → r.exact ≡ N → A ≡ M
     → FindsFirstOver metric r.exact A k r.patterns.vectors found → FindsFirstOver metric N M k r.patterns.vectors found
-found_held metric N M A k r found held same h =
+found_held metric N M A k r found exact same h =
     subst (λ (B : NetValue). FindsFirstOver metric N B k r.patterns.vectors found) same
-    (subst (λ (E : NetValue). FindsFirstOver metric E A k r.patterns.vectors found) held.exact h)
+    (subst (λ (E : NetValue). FindsFirstOver metric E A k r.patterns.vectors found) exact h)
 
 -- the right outputs at the vectors that are tried
 pub held_for : (N : NetValue) (n : ℕ) (s : PatternSet) (r : ReferenceValue) → n ≡ input_count N → IsTrial n s → r ≡ record { exact = N; patterns = s } → IsHeldFor N r
@@ -55,6 +53,15 @@ held_for N n s r count trial is = record {
   trial = subst (IsTrial (input_count N)) (sym (ap (λ (t : ReferenceValue). t.patterns) is)) (subst (λ m. IsTrial m s) count trial);
 }
 
+-- the right outputs at every vector
+pub every_held : (N : NetValue) (n : ℕ) (s : PatternSet) (r : ReferenceValue) → n ≡ input_count N → s ≡ record { inputs = n; vectors = all_vectors n } → r ≡ record { exact = N; patterns = s }
+    → IsEveryVectorHeld N r
+every_held N n s r count all is = record {
+  exact = ap (λ (t : ReferenceValue). t.exact) is;
+  all = ap (λ (t : ReferenceValue). t.patterns) is ∙ all ∙ ap (λ m. record { inputs = m; vectors = all_vectors m }) count;
+}
+
 -- where every vector was tried, the one that was found is the first
-pub over_first : (metric : Metric) (N M : NetValue) (k : ℕ) (x : List Bool) → input_count N ≤ LANE_INPUTS → IsFirstExceeded metric N M k x → IsOver metric N M k x
-over_first metric N M k x few found = record { width = found.exceeded.width; exceeds = found.exceeded.exceeds; first = λ _. found.first few }
+pub over_first : (metric : Metric) (N M : NetValue) (k : ℕ) (r : ReferenceValue) (x : List Bool) → IsEveryVectorHeld N r → IsFirstExceeded metric N M r.patterns.vectors k x → IsOver metric N M k x
+over_first metric N M k r x held found =
+    record { width = found.exceeded.width; exceeds = found.exceeded.exceeds; first = λ _. found.first (ap (λ (s : PatternSet). s.vectors) held.all) }

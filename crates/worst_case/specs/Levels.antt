@@ -1,6 +1,6 @@
 -- What is answered to the question whether the error stays within a level, without a log.
-use Rattle.std.specs.Prelude.{ℕ}
-use Rattle.semantics.specs.Net.{NetValue}
+use Rattle.std.specs.Prelude.{ℕ, ◌<◌, Option, MatchOption}
+use Rattle.semantics.specs.Net.{NetValue, input_count}
 use Rattle.semantics.specs.declared.metric.Metric.{Metric}
 use Rattle.semantics.specs.Error.{IsWithin}
 use Rattle.worst_case.specs.Exceeds.{IsSpentOn}
@@ -26,3 +26,8 @@ abbrev pub without_log : Exceed → Margin
 without_log (exceed.Over x) = Over x
 without_log (exceed.Never log) = Within
 without_log (exceed.Spent s) = Spent s
+
+-- an answer for which nothing was spent; there may be none where there are more than `most` inputs
+abbrev pub IsAnsweredUpTo : ℕ → Metric → NetValue → NetValue → ℕ → Option Margin → Type 0
+IsAnsweredUpTo most metric exact approx k found
+    = MatchOption found (most < input_count exact) (IsSureAnswer metric exact approx k)

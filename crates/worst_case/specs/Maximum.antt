@@ -5,7 +5,6 @@ use Rattle.semantics.specs.Net.{NetValue, input_count}
 use Rattle.semantics.specs.declared.metric.Metric.{Metric}
 use Rattle.semantics.specs.Error.{net_error, IsWithin}
 use Rattle.semantics.specs.Vectors.{IsFirstGreatestAt}
-use Rattle.lane_bits.specs.Patterns.{PatternSet}
 use Rattle.proof_semantics.specs.Queries.{IsNever, IsMaximum, IsSpentLevel}
 use Rattle.worst_case.specs.Exceeds.{spent_value}
 use Rattle.worst_case.specs.declared.query.Maximum.{Maximum}
@@ -13,7 +12,6 @@ use Rattle.worst_case.specs.declared.query.Maximum.TheVariants.{Found, Spent}
 use Rattle.worst_case.specs.declared.query.Spent as spent
 use Rattle.worst_case.specs.declared.range.Range.{Range}
 use Rattle.worst_case.specs.declared.vectors_tried.Attained.{Attained}
-use Rattle.worst_case.specs.VectorsTried.{IsTrial, IsFirstGreatestIn}
 
 abbrev pub IsMaximumAnswer : Metric → NetValue → NetValue → ℕ → ℕ → Maximum → Type 0
 IsMaximumAnswer metric exact approx bound limit (Found most witness log)
@@ -21,12 +19,11 @@ IsMaximumAnswer metric exact approx bound limit (Found most witness log)
 IsMaximumAnswer metric exact approx bound limit (Spent s)
     = IsSpentLevel metric exact approx bound limit (spent_value s)
 
--- the greatest error of the trial vectors, and the first of them that has it
-pub record IsGreatestTried (metric : Metric) (exact approx : NetValue) (a : Attained) : Type 0 where
-  pub tried : PatternSet
-  pub trial : IsTrial (input_count exact) tried
-  pub best : IsFirstGreatestIn (net_error metric exact approx) tried.vectors a.error a.witness
-  pub width : length a.witness ≡ input_count exact
+-- the greatest error of all input vectors, and the first of them that has it; it may not be found where there
+-- are more than `most` inputs
+abbrev pub IsGreatestUpTo : ℕ → Metric → NetValue → NetValue → Option Attained → Type 0
+IsGreatestUpTo most metric exact approx found = MatchOption found (most < input_count exact)
+    (λ a. IsFirstGreatestAt (input_count exact) (net_error metric exact approx) a.error a.witness)
 
 -- The greatest error is at least `low`, which the witness attains, and at most `high`, within the bound; a
 -- log that is held refutes that any error exceeds `high`. With at most eight inputs the witness is the first

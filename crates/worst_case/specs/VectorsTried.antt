@@ -29,25 +29,31 @@ pub record IsExceededAt (metric : Metric) (exact approx : NetValue) (k : ℕ) (x
   pub width : length x ≡ input_count exact
   pub exceeds : k < net_error metric exact approx x
 
--- x is an input vector whose error exceeds the level; with at most sixteen inputs it is the first in counting
--- order
-pub record IsFirstExceeded (metric : Metric) (exact approx : NetValue) (k : ℕ) (x : List Bool) : Type 0 where
+-- x is an input vector whose error exceeds the level; where the vectors that were tried are all in counting
+-- order, it is the first
+pub record IsFirstExceeded (metric : Metric) (exact approx : NetValue) (vectors : List (List Bool)) (k : ℕ)
+    (x : List Bool) : Type 0 where
   pub exceeded : IsExceededAt metric exact approx k x
-  pub first : input_count exact ≤ LANE_INPUTS → (y : List Bool) → length y ≡ input_count exact
+  pub first : vectors ≡ all_vectors (input_count exact) → (y : List Bool) → length y ≡ input_count exact
       → number_of y < number_of x → net_error metric exact approx y ≤ k
 
--- some vectors were tried; with at most sixteen inputs every vector was
-abbrev pub IsTried : Metric → NetValue → NetValue → ℕ → Option (List Bool) → Type 0
-IsTried metric exact approx k found
-    = MatchOption found (input_count exact ≤ LANE_INPUTS → IsWithin metric exact k approx)
-    (IsFirstExceeded metric exact approx k)
+-- these vectors were tried; where they are all vectors in counting order and none exceeds the level, no
+-- error does
+abbrev pub IsTried : Metric → NetValue → NetValue → List (List Bool) → ℕ → Option (List Bool) → Type 0
+IsTried metric exact approx vectors k found
+    = MatchOption found (vectors ≡ all_vectors (input_count exact) → IsWithin metric exact k approx)
+    (IsFirstExceeded metric exact approx vectors k)
 
 -- a net and some input vectors of it; with at most sixteen inputs all of them in counting order
 pub record IsHeldFor (N : NetValue) (held : ReferenceValue) : Type 0 where
   pub exact : held.exact ≡ N
   pub trial : IsTrial (input_count N) held.patterns
 
--- with at most sixteen inputs every vector is held; with more inputs none is
-abbrev pub IsEveryVectorHeld : NetValue → Option ReferenceValue → Type 0
-IsEveryVectorHeld N held = MatchOption held (LANE_INPUTS < input_count N)
-    (λ r. IsHeldFor N r × (input_count N ≤ LANE_INPUTS))
+-- a net and all its input vectors in counting order
+pub record IsEveryVectorHeld (N : NetValue) (held : ReferenceValue) : Type 0 where
+  pub exact : held.exact ≡ N
+  pub all : held.patterns ≡ record { inputs = input_count N; vectors = all_vectors (input_count N) }
+
+-- every vector is held, or there are more than `most` inputs
+abbrev pub IsEveryVectorHeldUpTo : ℕ → NetValue → Option ReferenceValue → Type 0
+IsEveryVectorHeldUpTo most N held = MatchOption held (most < input_count N) (IsEveryVectorHeld N)

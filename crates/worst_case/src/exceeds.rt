@@ -1,9 +1,9 @@
 //! Whether some error exceeds a level. With at most sixteen inputs every vector is tried, and the log is made
 //! where no vector's error exceeds the level; with more inputs the solver is asked.
 ghost use Rattle.std.specs.Prelude.{◌≤◌, length, IfOk};
-ghost use Rattle.semantics.specs.Net.{HasSamePorts, input_count};
+ghost use Rattle.semantics.specs.Net.{HasSamePorts};
 ghost use Rattle.worst_case.specs.Exceeds.{IsAnswer};
-ghost use Rattle.worst_case.specs.VectorsTried.{IsHeldFor};
+ghost use Rattle.worst_case.specs.VectorsTried.{IsEveryVectorHeld};
 
 use crate::query::Exceed;
 use crate::refutation::refute_level;
@@ -28,8 +28,7 @@ fn exceeds_held<P: Progress>(
     limit: u64,
     progress: &mut P,
 ) -> Result<Exceed, AllocError>
-    requires held { IsHeldFor nets.now.exact held.now }
-    requires few_inputs { input_count nets.now.exact ≤ LANE_INPUTS }
+    requires held { IsEveryVectorHeld nets.now.exact held.now }
     requires limit { 1 ≤ limit }
     ensures { IfOk result (IsAnswer metric nets.now.exact nets.now.approx k limit) }
 {
@@ -52,7 +51,7 @@ pub(crate) fn exceeds_level<P: Progress>(
     requires limit { 1 ≤ limit }
     ensures { IfOk result (IsAnswer metric nets.now.exact nets.now.approx k limit) }
 {
-    match hold_every_vector(alloc, nets.exact())? {
+    match hold_every_vector(alloc, nets.exact(), LANE_INPUTS)? {
         Some(held) => exceeds_held(alloc, nets, &held, metric, k, limit, progress),
         None => ask_repeatedly(alloc, nets, metric, k, limit, progress),
     }

@@ -4,6 +4,7 @@
 
 mod comparable;
 pub mod exceeds;
+pub mod judge;
 pub mod margin;
 pub mod maximum;
 pub mod policy;

@@ -1,18 +1,16 @@
-//! Whether the error stays within a level, where nobody asks for a log.
+//! Whether the error stays within a level, where nobody asks for a log: by diagrams, or by the solver.
 ghost use Rattle.std.specs.Prelude.{◌≡◌, ◌<◌, ◌≤◌, IfOk, IfSome};
 ghost use Rattle.semantics.specs.Net.{input_count};
 ghost use Rattle.worst_case.specs.Exceeds.{IsChainOn, IsPosed};
 ghost use Rattle.worst_case.specs.Levels.{IsLevelAnswer, IsSureAnswer, without_log};
-ghost use Rattle.worst_case.specs.VectorsTried.{IsHeldFor};
 
 use crate::query::{Exceed, Spent};
 use crate::repeated_query::ask_again;
 use crate::solver_query::{Question, ask_once, pose};
-use crate::vectors_tried::{LANE_INPUTS, try_vectors};
-use bdd_levels::budgets::{LAST_STEPS, QUESTION_STEPS};
+use crate::vectors_tried::LANE_INPUTS;
+use bdd_levels::budgets::LAST_STEPS;
 use bdd_levels::decider::Decider;
 use bdd_nets::ever_true::Decision;
-use lane_nets::reference::Reference;
 use net_core::items::Bits;
 use net_errors::compared::Compared;
 use progress::progress::Progress;
@@ -101,7 +99,7 @@ fn by_last_steps<P: Progress>(
 
 /// What a query of the solver answers. Where its conflicts are spent, diagrams are asked once more, and then
 /// the solver again.
-fn by_solver<P: Progress>(
+pub(crate) fn by_solver<P: Progress>(
     alloc: Global,
     nets: &Compared,
     decider: &mut Decider,
@@ -123,37 +121,5 @@ fn by_solver<P: Progress>(
             alloc, nets, decider, &question, spent, limit, progress,
         ),
         decided => Ok(margin_of(decided)),
-    }
-}
-
-/// An input whose error exceeds `k`, or that there is none. The vectors that are held are tried first: with
-/// at most sixteen inputs they are all, and nothing is spent; with more they are some of chance, which break
-/// most moves that some vector breaks. Then diagrams are asked, and then the solver.
-#[tactic(auto, using(crate::proofs::Decided::sure_answer))]
-pub fn within_level<P: Progress>(
-    alloc: Global,
-    nets: &Compared,
-    held: &Reference,
-    decider: &mut Decider,
-    metric: Metric,
-    k: u128,
-    limit: u64,
-    progress: &mut P,
-) -> Result<Margin, AllocError>
-    requires held { IsHeldFor nets.now.exact held.now }
-    requires decider { decider.old ≡ nets.now.exact }
-    requires limit { 1 ≤ limit }
-    ensures same { decider.new ≡ decider.old }
-    ensures answer { IfOk result (IsLevelAnswer metric nets.now.exact nets.now.approx k limit) }
-{
-    if let Some(x) = try_vectors(alloc, nets, held, metric, k)? {
-        return Ok(Margin::Over(x));
-    }
-    if nets.exact().inputs() <= LANE_INPUTS {
-        return Ok(Margin::Within);
-    }
-    match by_diagrams(alloc, nets, decider, metric, k, QUESTION_STEPS)? {
-        Some(margin) => Ok(margin),
-        None => by_solver(alloc, nets, decider, metric, k, limit, progress),
     }
 }

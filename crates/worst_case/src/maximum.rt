@@ -1,18 +1,18 @@
 //! The greatest error of an approximate net, found by queries.
 //!
 //! The greatest error lies between an error that some input has and a level that no input's error exceeds.
-//! Diagrams are asked first whether the known error is the greatest; then each query halves the range between
-//! the two levels. The log that is returned refutes that any error exceeds the greatest.
+//! Diagrams are asked first whether the known error is the greatest. Where they do not tell and there are at
+//! most 24 inputs, every vector is tried; with more inputs each query halves the range between the two
+//! levels. The log that is returned refutes that any error exceeds the greatest.
 ghost use Rattle.std.specs.Prelude.{◌≡◌, ◌≤◌, ℕ, length, IfOk};
 ghost use Rattle.semantics.specs.Net.{HasSamePorts, IsSmall};
 ghost use Rattle.semantics.specs.Error.{IsWithin};
 ghost use Rattle.worst_case.specs.Maximum.{IsRange, IsEnd, IsMaximumAnswer};
 
-use crate::policy::decider_for;
+use crate::judge::Judge;
 use crate::query::{Exceed, Maximum, Spent};
 use crate::range::{Range, first_range, narrow, try_known};
 use crate::refutation::refute_level;
-use bdd_levels::decider::Decider;
 use net_core::net::Net;
 use net_errors::compared::Compared;
 use progress::progress::{Progress, Silent};
@@ -58,13 +58,13 @@ fn settle<P: Progress>(
 fn close<P: Progress>(
     alloc: Global,
     nets: &Compared,
-    decider: &mut Decider,
+    judge: &mut Judge,
     metric: Metric,
     limit: u64,
     range: &mut Range,
     progress: &mut P,
 ) -> Result<Option<Spent>, AllocError>
-    requires decider { decider.old ≡ nets.now.exact }
+    requires judge { judge.old ≡ nets.now.exact }
     requires limit { 1 ≤ limit }
     requires range { (bound : ℕ) × IsRange metric nets.now.exact nets.now.approx bound range.old }
     ensures { IfOk result (λ spent. (bound : ℕ)
@@ -73,7 +73,7 @@ fn close<P: Progress>(
 {
     while range.low < range.high {
         progress.narrowed(range.low, range.high);
-        let spent = narrow(alloc, nets, decider, metric, limit, range, progress)?;
+        let spent = narrow(alloc, nets, judge, metric, limit, range, progress)?;
         if let Some(spent) = spent {
             return Ok(Some(spent));
         }
@@ -81,65 +81,47 @@ fn close<P: Progress>(
     Ok(None)
 }
 
-/// Asks diagrams first whether the known error is the greatest, and then narrows the range until its levels
+/// Asks first whether the known error is the greatest, and then narrows the range until its levels
 /// meet, as [`close`] does.
 fn close_known<P: Progress>(
     alloc: Global,
     nets: &Compared,
-    decider: &mut Decider,
+    judge: &mut Judge,
     metric: Metric,
     limit: u64,
     range: &mut Range,
     progress: &mut P,
 ) -> Result<Option<Spent>, AllocError>
-    requires decider { decider.old ≡ nets.now.exact }
+    requires judge { judge.old ≡ nets.now.exact }
     requires limit { 1 ≤ limit }
     requires range { (bound : ℕ) × IsRange metric nets.now.exact nets.now.approx bound range.old }
     ensures { IfOk result (λ spent. (bound : ℕ)
         → IsRange metric nets.now.exact nets.now.approx bound range.old
         → IsEnd metric nets.now.exact nets.now.approx bound limit range.new spent) }
 {
-    try_known(alloc, nets, decider, metric, range)?;
-    close(alloc, nets, decider, metric, limit, range, progress)
+    try_known(alloc, nets, judge, metric, range)?;
+    close(alloc, nets, judge, metric, limit, range, progress)
 }
 
-/// Makes the diagrams' decider for the exact net, and closes the range with it, as [`close_known`] does.
-fn close_by_diagrams<P: Progress>(
+/// The range whose levels meet, or the range that a spent query left.
+fn closed_range<P: Progress>(
     alloc: Global,
     nets: &Compared,
     metric: Metric,
+    bound: u128,
     limit: u64,
-    range: &mut Range,
     progress: &mut P,
-) -> Result<Option<Spent>, AllocError>
+) -> Result<(Range, Option<Spent>), AllocError>
+    requires small { IsSmall nets.now.exact }
     requires limit { 1 ≤ limit }
-    requires range { (bound : ℕ) × IsRange metric nets.now.exact nets.now.approx bound range.old }
-    ensures { IfOk result (λ spent. (bound : ℕ)
-        → IsRange metric nets.now.exact nets.now.approx bound range.old
-        → IsEnd metric nets.now.exact nets.now.approx bound limit range.new spent) }
+    requires within { IsWithin metric nets.now.exact bound nets.now.approx }
+    ensures { IfOk result
+        (λ closed. IsEnd metric nets.now.exact nets.now.approx bound limit closed.0 closed.1) }
 {
-    let mut decider = decider_for(alloc, nets.exact())?;
-    close_known(alloc, nets, &mut decider, metric, limit, range, progress)
-}
-
-/// The greatest error, which lies in the range, or the spent query.
-fn search<P: Progress>(
-    alloc: Global,
-    nets: &Compared,
-    metric: Metric,
-    limit: u64,
-    mut range: Range,
-    progress: &mut P,
-) -> Result<Maximum, AllocError>
-    requires limit { 1 ≤ limit }
-    requires range { (bound : ℕ) × IsRange metric nets.now.exact nets.now.approx bound range }
-    ensures { IfOk result (λ answer. (bound : ℕ) → IsRange metric nets.now.exact nets.now.approx bound range
-        → IsMaximumAnswer metric nets.now.exact nets.now.approx bound limit answer) }
-{
-    match close_by_diagrams(alloc, nets, metric, limit, &mut range, progress)? {
-        Some(spent) => Ok(Maximum::Spent(spent)),
-        None => settle(alloc, nets, metric, limit, range, progress),
-    }
+    let mut judge = Judge::new(alloc, nets.exact())?;
+    let mut range = first_range(alloc, nets, &judge, metric, bound)?;
+    let spent = close_known(alloc, nets, &mut judge, metric, limit, &mut range, progress)?;
+    Ok((range, spent))
 }
 
 /// Finds the greatest error as [`maximum`] does, of nets that can be compared, and tells `progress` how far
@@ -159,8 +141,11 @@ pub fn maximum_followed<P: Progress>(
     ensures { IfOk result (IsMaximumAnswer metric nets.now.exact nets.now.approx bound limit) }
 {
     progress.narrowed(0, bound);
-    let range = first_range(alloc, nets, metric, bound)?;
-    search(alloc, nets, metric, limit, range, progress)
+    let (range, spent) = closed_range(alloc, nets, metric, bound, limit, progress)?;
+    match spent {
+        Some(spent) => Ok(Maximum::Spent(spent)),
+        None => settle(alloc, nets, metric, limit, range, progress),
+    }
 }
 
 /// The greatest error of a net whose error is at most `bound`; with at most eight inputs the witness is the

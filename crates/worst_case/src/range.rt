@@ -1,15 +1,14 @@
 //! The two levels between which the greatest error lies, and the query that narrows the range.
-ghost use Rattle.std.specs.Prelude.{◌≡◌, ◌≤◌, ◌<◌, ℕ, length, IfOk, OnOk};
-ghost use Rattle.semantics.specs.Net.{IsSmall, input_count};
+ghost use Rattle.std.specs.Prelude.{◌≡◌, ◌≤◌, ◌<◌, ℕ, length, IfOk, OnOk, IsTrue};
+ghost use Rattle.semantics.specs.Net.{input_count};
 ghost use Rattle.semantics.specs.Error.{IsWithin, net_error};
-ghost use Rattle.worst_case.specs.Maximum.{IsGreatestTried, IsRange, IsTurn};
+ghost use Rattle.worst_case.specs.Maximum.{IsRange, IsTurn};
 
 use crate::exceeds::exceeds_level;
-use crate::margin::{Margin, by_diagrams};
+use crate::judge::Judge;
+use crate::margin::Margin;
 use crate::query::{Exceed, Spent};
-use crate::vectors_tried::{Attained, LANE_INPUTS, greatest_of, hold_vectors};
-use bdd_levels::budgets::QUESTION_STEPS;
-use bdd_levels::decider::Decider;
+use crate::vectors_tried::{LANE_INPUTS, greatest_of};
 use net_core::items::Bits;
 use net_errors::compared::Compared;
 use net_errors::net_error::error_at;
@@ -29,27 +28,19 @@ pub struct Range {
     pub log: Option<Log>,
 }
 
-/// The greatest error of the vectors that are tried, and the first of these vectors that has it.
-fn greatest_tried(alloc: Global, nets: &Compared, metric: Metric) -> Result<Attained, AllocError>
-    requires { IsSmall nets.now.exact }
-    ensures { IfOk result (IsGreatestTried metric nets.now.exact nets.now.approx) }
-{
-    let held = hold_vectors(alloc, nets.exact())?;
-    greatest_of(alloc, nets, metric, &held)
-}
-
-/// The range to begin with: the greatest error of the vectors that are tried, and the bound.
+/// The range to begin with: the greatest error of the known vectors, and the bound.
 pub fn first_range(
     alloc: Global,
     nets: &Compared,
+    judge: &Judge,
     metric: Metric,
     bound: u128,
 ) -> Result<Range, AllocError>
-    requires small { IsSmall nets.now.exact }
+    requires judge { judge.now ≡ nets.now.exact }
     requires within { IsWithin metric nets.now.exact bound nets.now.approx }
     ensures { IfOk result (IsRange metric nets.now.exact nets.now.approx bound) }
 {
-    let best = greatest_tried(alloc, nets, metric)?;
+    let best = greatest_of(alloc, nets, metric, judge.known())?;
     let high = if nets.exact().inputs() <= LANE_INPUTS {
         best.error
     } else {
@@ -88,17 +79,46 @@ fn lower(range: &mut Range, high: u128, log: Option<Log>)
     range.log = log;
 }
 
+/// Sets both levels to the greatest error of every vector, where there are at most 24 inputs. Returns whether
+/// this was done; if not, the range stays.
+fn close_by_every_vector(
+    alloc: Global,
+    nets: &Compared,
+    judge: &mut Judge,
+    metric: Metric,
+    range: &mut Range,
+) -> Result<bool, AllocError>
+    requires judge { judge.old ≡ nets.now.exact }
+    ensures same { judge.new ≡ judge.old }
+    ensures range { OnOk result ((bound : ℕ) → IsRange metric nets.now.exact nets.now.approx bound range.old
+        → IsRange metric nets.now.exact nets.now.approx bound range.new) }
+    ensures closed { IfOk result (λ closed. IsTrue closed → range.new.high ≤ range.new.low) }
+    ensures open { IfOk result (λ closed. ¬ IsTrue closed → range.new ≡ range.old) }
+{
+    let Some(best) = judge.greatest_of_every(alloc, nets, metric)? else {
+        return Ok(false);
+    };
+    *range = Range {
+        low: best.error,
+        witness: best.witness,
+        high: best.error,
+        log: None,
+    };
+    Ok(true)
+}
+
 /// Asks diagrams whether some error exceeds the known error. Often none does, since many vectors were tried,
-/// and then the levels of the range meet at once.
+/// and then the levels of the range meet at once. Where the diagrams do not tell, every vector is tried, if
+/// there are at most 24 inputs.
 pub fn try_known(
     alloc: Global,
     nets: &Compared,
-    decider: &mut Decider,
+    judge: &mut Judge,
     metric: Metric,
     range: &mut Range,
 ) -> Result<(), AllocError>
-    requires decider { decider.old ≡ nets.now.exact }
-    ensures same { decider.new ≡ decider.old }
+    requires judge { judge.old ≡ nets.now.exact }
+    ensures same { judge.new ≡ judge.old }
     ensures range { OnOk result ((bound : ℕ) → IsRange metric nets.now.exact nets.now.approx bound range.old
         → IsRange metric nets.now.exact nets.now.approx bound range.new) }
 {
@@ -106,13 +126,16 @@ pub fn try_known(
         return Ok(());
     }
     let known = range.low;
-    match by_diagrams(alloc, nets, decider, metric, known, QUESTION_STEPS)? {
+    match judge.by_diagrams(alloc, nets, metric, known)? {
         Some(Margin::Over(x)) => raise(alloc, nets, metric, range, x),
         Some(Margin::Within) => {
             lower(range, known, None);
             Ok(())
         }
-        _ => Ok(()),
+        _ => {
+            close_by_every_vector(alloc, nets, judge, metric, range)?;
+            Ok(())
+        }
     }
 }
 
@@ -140,30 +163,55 @@ fn narrow_by_solver<P: Progress>(
     Ok(None)
 }
 
-/// Asks whether some error exceeds the middle of the range, first the diagrams and, where they do not answer,
-/// the solver; and narrows the range by the answer. Returns the spent query, if one was spent.
-pub fn narrow<P: Progress>(
+/// Closes the range by every vector, or asks the solver whether some error exceeds the middle of the range.
+fn narrow_without_diagrams<P: Progress>(
     alloc: Global,
     nets: &Compared,
-    decider: &mut Decider,
+    judge: &mut Judge,
     metric: Metric,
     limit: u64,
     range: &mut Range,
     progress: &mut P,
 ) -> Result<Option<Spent>, AllocError>
-    requires decider { decider.old ≡ nets.now.exact }
+    requires judge { judge.old ≡ nets.now.exact }
     requires limit { 1 ≤ limit }
     requires open { range.old.low < range.old.high }
-    ensures same { decider.new ≡ decider.old }
+    ensures same { judge.new ≡ judge.old }
+    ensures turn { IfOk result
+        (λ spent. (bound : ℕ) → IsRange metric nets.now.exact nets.now.approx bound range.old
+        → IsTurn metric nets.now.exact nets.now.approx bound limit range.old range.new spent) }
+{
+    if close_by_every_vector(alloc, nets, judge, metric, range)? {
+        return Ok(None);
+    }
+    narrow_by_solver(alloc, nets, metric, limit, range, progress)
+}
+
+/// Asks the diagrams whether some error exceeds the middle of the range, and narrows the range by the answer.
+/// Where they do not answer, every vector is tried or, with more than 24 inputs, the solver is asked. Returns
+/// the spent query, if one was spent.
+pub fn narrow<P: Progress>(
+    alloc: Global,
+    nets: &Compared,
+    judge: &mut Judge,
+    metric: Metric,
+    limit: u64,
+    range: &mut Range,
+    progress: &mut P,
+) -> Result<Option<Spent>, AllocError>
+    requires judge { judge.old ≡ nets.now.exact }
+    requires limit { 1 ≤ limit }
+    requires open { range.old.low < range.old.high }
+    ensures same { judge.new ≡ judge.old }
     ensures turn { IfOk result
         (λ spent. (bound : ℕ) → IsRange metric nets.now.exact nets.now.approx bound range.old
         → IsTurn metric nets.now.exact nets.now.approx bound limit range.old range.new spent) }
 {
     let middle = range.low + (range.high - range.low) / 2;
-    match by_diagrams(alloc, nets, decider, metric, middle, QUESTION_STEPS)? {
+    match judge.by_diagrams(alloc, nets, metric, middle)? {
         Some(Margin::Over(x)) => raise(alloc, nets, metric, range, x)?,
         Some(Margin::Within) => lower(range, middle, None),
-        _ => return narrow_by_solver(alloc, nets, metric, limit, range, progress),
+        _ => return narrow_without_diagrams(alloc, nets, judge, metric, limit, range, progress),
     }
     Ok(None)
 }

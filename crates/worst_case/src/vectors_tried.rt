@@ -3,11 +3,11 @@
 ghost use Rattle.std.specs.Prelude.{◌≡◌, ◌≤◌, ◌<◌, [], length, slice_index_or, IfOk, OnOk};
 ghost use Rattle.semantics.specs.Net.{input_count, IsSmall};
 ghost use Rattle.semantics.specs.Error.{net_error};
-ghost use Rattle.worst_case.specs.VectorsTried.{IsTrial, IsFirstGreatestIn, IsHeldFor, IsEveryVectorHeld};
-ghost use Rattle.worst_case.specs.VectorsTried.{IsTried};
+ghost use Rattle.worst_case.specs.VectorsTried.{IsTrial, IsTried, IsFirstGreatestIn};
+ghost use Rattle.worst_case.specs.VectorsTried.{IsHeldFor, IsEveryVectorHeldUpTo};
 
 use bdd_core::chance::chance;
-use lane_bits::patterns::Patterns;
+use lane_bits::patterns::{MOST_COUNTED_INPUTS, Patterns};
 use lane_nets::reference::Reference;
 use net_core::items::Bits;
 use net_core::net::Net;
@@ -16,7 +16,7 @@ use semantics::limits::MOST_INPUTS;
 use semantics::metric::Metric;
 use std::alloc::{AllocError, Global};
 
-/// The most inputs with which every vector is tried.
+/// The most inputs with which every vector is held from the beginning.
 pub const LANE_INPUTS: u32 = 16;
 
 /// The number of vectors that are tried of a net with more inputs: sixteen blocks of 512, which together take
@@ -87,19 +87,21 @@ pub fn hold_vectors<'a>(alloc: Global, exact: &'a Net) -> Result<Reference<'a>, 
     Reference::new(alloc, exact, vectors)
 }
 
-/// The exact net's outputs at every input vector in counting order, where there are at most sixteen inputs.
-#[tactic(auto, using(crate::proofs::Tried::held_for))]
+/// The exact net's outputs at every input vector in counting order, where there are at most `most` inputs.
+#[tactic(auto, using(crate::proofs::Tried::every_held))]
 pub fn hold_every_vector<'a>(
     alloc: Global,
     exact: &'a Net,
+    most: u32,
 ) -> Result<Option<Reference<'a>>, AllocError>
-    ensures { IfOk result (IsEveryVectorHeld exact.now) }
+    requires { most ≤ MOST_COUNTED_INPUTS }
+    ensures { IfOk result (IsEveryVectorHeldUpTo most exact.now) }
 {
     let inputs = exact.inputs();
-    if inputs > LANE_INPUTS {
+    if inputs > most {
         return Ok(None);
     }
-    let vectors = trial_vectors(alloc, inputs)?;
+    let vectors = Patterns::exhaustive(alloc, inputs)?;
     Ok(Some(Reference::new(alloc, exact, vectors)?))
 }
 
@@ -133,8 +135,9 @@ pub(crate) fn try_vectors(
     metric: Metric,
     k: u128,
 ) -> Result<Option<Bits>, AllocError>
-    requires { IsHeldFor nets.now.exact held.now }
-    ensures { IfOk result (IsTried metric nets.now.exact nets.now.approx k) }
+    requires exact { held.now.exact ≡ nets.now.exact }
+    requires inputs { held.now.patterns.inputs ≡ input_count nets.now.exact }
+    ensures { IfOk result (IsTried metric nets.now.exact nets.now.approx held.now.patterns.vectors k) }
 {
     match held.first_over(alloc, nets.approx(), metric, k)? {
         Some(at) => Ok(Some(vector_at(alloc, held.patterns(), at)?)),

@@ -9,14 +9,14 @@ use Rattle.synth_core.proofs.move_trial.try_move.Goals as goal
 pub make-requires : goal.make-requires
 make-requires g c = rw c.requires.scratch c.requires.step
 
-pub judge-requires-clause-candidate : goal.judge-requires-clause-candidate
-judge-requires-clause-candidate g c =
+pub keeps_bound-requires-clause-candidate : goal.keeps_bound-requires-clause-candidate
+keeps_bound-requires-clause-candidate g c =
     let nets = c.args.nets.now in
     moved-candidate nets.exact nets.approx c.args.step c.make.new.net (c.in_ok-table.ensures.ok ∙ ap (λ N. moved N c.args.step) c.requires.scratch)
     (subst IsSound c.approx.ensures.value c.see_sound.ensures.sound) c.requires.step c.approx.ensures.candidate
 
-pub judge-requires-clause-known : goal.judge-requires-clause-known
-judge-requires-clause-known g c =
+pub keeps_bound-requires-clause-known : goal.keeps_bound-requires-clause-known
+keeps_bound-requires-clause-known g c =
     λ few.
     subst (IsWithin c.args.terms.metric c.args.nets.now.exact c.args.terms.bound) (sym (c.in_ok-table.ensures.ok ∙ ap (λ N. moved N c.args.step) c.requires.scratch))
     (c.requires.known few)

@@ -20,7 +20,7 @@ pub loop-next-preserved : goal.loop-next-preserved
 loop-next-preserved g c =
     let turned = rw c.in-Next.is at c.in_ok-next.ensures.turn in
     record {
-      ready = still_ready c.args.net.now c.args.held.now c.loop-next.decider c.take_turn.new.decider c.take_turn.ensures.same c.loop-next.invariant.ready;
+      ready = still_ready c.args.net.now c.loop-next.judge c.take_turn.new.judge c.take_turn.ensures.same c.loop-next.invariant.ready;
       member = turned.member;
       pool = c.in_ok-next.ensures.pool;
     }

@@ -7,7 +7,7 @@ use Rattle.synth_core.proofs.shrink.follow.Given as goal
 -- the net is a member of the chain
 abbrev pub invariant-loop-next : goal.invariant-loop-next
 invariant-loop-next g l = record {
-  ready : IsReadyFor l.net l.held l.decider;
+  ready : IsReadyFor l.net l.judge;
   member : IsInSimplification l.terms.metric l.net l.terms.bound l.member;
   pool : IsPool l.net l.pool;
 }

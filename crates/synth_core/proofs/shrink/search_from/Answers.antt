@@ -4,6 +4,5 @@ pub follow-requires-clause-ready : goal.follow-requires-clause-ready
 follow-requires-clause-ready g c = record {
   small = c.requires.small;
   few_outputs = c.requires.few_outputs;
-  held = c.in_ok-held.ensures;
-  decider = c.in_ok-decider.ensures;
+  judge = c.in_ok-judge.ensures;
 }

@@ -8,7 +8,7 @@ use Rattle.synth_core.proofs.step.find_step.Goals as goal
 
 pub loop-masks-init : goal.loop-masks-init
 loop-masks-init g c = record {
-  decider = refl;
+  judge = refl;
   searched =
       searched-none c.args.terms.metric c.args.nets.now.exact c.args.terms.bound c.args.nets.now.approx c.args.pool.now.vectors c.in_ok-moves.moves
       (c.in_ok-moves.ensures ∙ ap moves_of c.approx.ensures.value);
@@ -38,7 +38,7 @@ loop-masks-preserved g c =
     let refused = subst (IsWeighed c.args.terms.metric nets.exact c.args.terms.bound c.args.terms.limit nets.approx c.weigh.new.pool.vectors c.in-Some.step c.weigh.new.scratch) c.in_default-found.is
     c.in_ok-found.ensures.weighed in
     record {
-      decider = c.weigh.ensures.same ∙ c.loop-masks.invariant.decider;
+      judge = c.weigh.ensures.same ∙ c.loop-masks.invariant.judge;
       searched =
           searched-broken c.args.terms.metric nets.exact c.args.terms.bound nets.approx c.loop-masks.pool.vectors c.weigh.new.pool.vectors (c.in-Some.step ∷ c.next_unbroken.new.moves)
           c.next_unbroken.new.moves c.in-Some.step refl next.searched c.in_ok-found.ensures.among c.weigh.new.scratch refused;

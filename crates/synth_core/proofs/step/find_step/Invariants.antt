@@ -5,7 +5,7 @@ use Rattle.synth_core.proofs.step.find_step.Given as goal
 -- the pool breaks each move so far, the masks are over it, and each of those moves was taken back
 abbrev pub invariant-loop-masks : goal.invariant-loop-masks
 invariant-loop-masks g l = record {
-  decider : l.decider ≡ l.fn.decider;
+  judge : l.judge ≡ l.fn.judge;
   searched : IsSearched l.terms.metric l.nets.exact l.terms.bound l.nets.approx l.pool.vectors l.moves;
   scratch : l.scratch ≡ l.nets.approx;
   masked : IsMaskedPool l.terms.metric l.nets.exact l.terms.bound l.nets.approx l.pool l.masks;

@@ -6,8 +6,7 @@ use Rattle.synth_core.proofs.step.weigh.Goals as goal
 
 pub try_move-requires : goal.try_move-requires
 try_move-requires g c = record {
-  held = c.requires.held;
-  decider = c.requires.decider;
+  judge = c.requires.judge;
   limit = c.requires.limit;
   scratch = c.requires.scratch;
   step = c.requires.unbroken.offered;

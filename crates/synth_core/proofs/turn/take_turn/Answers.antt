@@ -2,7 +2,6 @@ use Rattle.std.proofs.Common.{subst, sym, ap, ◌∙◌, arith}
 use Rattle.semantics.specs.Net.{IsSmall}
 use Rattle.chain_semantics.proofs.Simplifications.{simplified, simplified-small}
 use Rattle.job_semantics.proofs.SmallNets.{literals_at_most}
-use Rattle.worst_case.specs.VectorsTried.{IsHeldFor}
 use Rattle.synth_core.specs.Steps.{IsPool, IsStep}
 use Rattle.synth_core.proofs.Shrinkings.{next-member, shrinking-end, shrinking-spent}
 use Rattle.synth_core.proofs.turn.take_turn.Goals as goal
@@ -20,11 +19,8 @@ new-nets-requires g c = record {
   few_outputs = c.requires.ready.few_outputs;
 }
 
-pub find_step-requires-clause-held : goal.find_step-requires-clause-held
-find_step-requires-clause-held g c = subst (λ P. IsHeldFor P.exact c.args.held.now) (sym c.new-nets.ensures) c.requires.ready.held
-
-pub find_step-requires-clause-decider : goal.find_step-requires-clause-decider
-find_step-requires-clause-decider g c = c.requires.ready.decider ∙ sym (ap (λ P. P.exact) c.new-nets.ensures)
+pub find_step-requires-clause-judge : goal.find_step-requires-clause-judge
+find_step-requires-clause-judge g c = c.requires.ready.judge ∙ sym (ap (λ P. P.exact) c.new-nets.ensures)
 
 pub find_step-requires-clause-small : goal.find_step-requires-clause-small
 find_step-requires-clause-small g c =

@@ -3,17 +3,17 @@ use Rattle.worst_case.specs.Maximum.{IsTurn}
 use Rattle.worst_case.proofs.maximum.close.Goals as goal
 
 pub loop-range-init : goal.loop-range-init
-loop-range-init g c = record { range = λ bound range. range; decider = c.requires.decider }
+loop-range-init g c = record { range = λ bound range. range; judge = c.requires.judge }
 
 pub narrow-requires : goal.narrow-requires
-narrow-requires g c = record { decider = c.loop-range.invariant.decider; limit = c.requires.limit; «open» = c.loop-range-test.true }
+narrow-requires g c = record { judge = c.loop-range.invariant.judge; limit = c.requires.limit; «open» = c.loop-range-test.true }
 
 pub loop-range-preserved : goal.loop-range-preserved
 loop-range-preserved g c = record {
   range = λ bound range.
       (subst (IsTurn c.args.metric c.args.nets.now.exact c.args.nets.now.approx bound c.args.limit c.loop-range.range c.narrow.new.range) c.in_default.is
       (c.in_ok-spent.ensures.turn bound (c.loop-range.invariant.range bound range))).0;
-  decider = c.narrow.ensures.same ∙ c.loop-range.invariant.decider;
+  judge = c.narrow.ensures.same ∙ c.loop-range.invariant.judge;
 }
 
 pub loop-range-smaller : goal.loop-range-smaller

@@ -3,11 +3,11 @@ use Rattle.std.proofs.lemmas.Result.{IfOk-weaker}
 use Rattle.worst_case.proofs.maximum.close_known.Goals as goal
 
 pub try_known-requires : goal.try_known-requires
-try_known-requires g c = record { decider = c.requires.decider }
+try_known-requires g c = record { judge = c.requires.judge }
 
 pub close-requires : goal.close-requires
 close-requires g c = record {
-  decider = c.try_known.ensures.same ∙ c.requires.decider;
+  judge = c.try_known.ensures.same ∙ c.requires.judge;
   limit = c.requires.limit;
   range = (c.requires.range.0, c.in_ok-try_known.ensures.range c.requires.range.0 c.requires.range.1);
 }

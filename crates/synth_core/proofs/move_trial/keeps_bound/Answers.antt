@@ -3,9 +3,8 @@ use Rattle.std.proofs.lemmas.Result.{IfOk-weaker}
 use Rattle.semantics.specs.Net.{input_count}
 use Rattle.semantics.specs.Error.{IsCandidate}
 use Rattle.worst_case.specs.Levels.{IsLevelAnswer}
-use Rattle.worst_case.specs.VectorsTried.{IsHeldFor}
 use Rattle.synth_core.proofs.Trying.{judged-by}
-use Rattle.synth_core.proofs.move_trial.judge.Goals as goal
+use Rattle.synth_core.proofs.move_trial.keeps_bound.Goals as goal
 
 pub returns-then-inputs-le-FEW_INPUTS-clause-judged : goal.returns-then-inputs-le-FEW_INPUTS-clause-judged
 returns-then-inputs-le-FEW_INPUTS-clause-judged g c =
@@ -14,12 +13,8 @@ returns-then-inputs-le-FEW_INPUTS-clause-judged g c =
 pub new-moved_nets-requires : goal.new-moved_nets-requires
 new-moved_nets-requires g c = subst (λ E. IsCandidate E c.args.moved.now) (sym c.exact-2.ensures.value) c.requires.candidate
 
-pub within_level-requires-clause-held : goal.within_level-requires-clause-held
-within_level-requires-clause-held g c =
-    subst (λ E. IsHeldFor E c.args.held.now) (sym (ap (λ P. P.exact) c.new-moved_nets.ensures ∙ c.exact-2.ensures.value)) c.requires.held
-
-pub within_level-requires-clause-decider : goal.within_level-requires-clause-decider
-within_level-requires-clause-decider g c = c.requires.decider ∙ sym (ap (λ P. P.exact) c.new-moved_nets.ensures ∙ c.exact-2.ensures.value)
+pub within_level-requires-clause-judge : goal.within_level-requires-clause-judge
+within_level-requires-clause-judge g c = c.requires.judge ∙ sym (ap (λ P. P.exact) c.new-moved_nets.ensures ∙ c.exact-2.ensures.value)
 
 pub returns-clause-judged : goal.returns-clause-judged
 returns-clause-judged g c =

@@ -1,0 +1,19 @@
+use Rattle.std.proofs.Common.{subst, sym, ◌∙◌}
+use Rattle.semantics.specs.Net.{IsSmall}
+use Rattle.worst_case.proofs.maximum.closed_range.Goals as goal
+
+pub new-requires : goal.new-requires
+new-requires g c = subst IsSmall (sym c.exact.ensures.value) c.requires.small
+
+pub first_range-requires : goal.first_range-requires
+first_range-requires g c = record { judge = c.in_ok-judge.ensures ∙ c.exact.ensures.value; within = c.requires.within }
+
+pub close_known-requires : goal.close_known-requires
+close_known-requires g c = record {
+  judge = c.in_ok-judge.ensures ∙ c.exact.ensures.value;
+  limit = c.requires.limit;
+  range = (c.args.bound, c.in_ok-range.ensures);
+}
+
+pub returns : goal.returns
+returns g c = c.in_ok-spent.ensures c.args.bound c.in_ok-range.ensures

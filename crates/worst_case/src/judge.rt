@@ -1,0 +1,210 @@
+//! What is held of one exact net while approximate nets are judged against it, and whether the error of such
+//! a net stays within a level.
+//!
+//! The ways are tried in the order that `policy` gives the reasons for: the known vectors, diagrams, every
+//! vector, the solver.
+ghost use Rattle.std.specs.Prelude.{◌≡◌, ◌≤◌, IfOk, IfSome};
+ghost use Rattle.semantics.specs.Net.{input_count, IsSmall};
+ghost use Rattle.worst_case.specs.Levels.{IsAnsweredUpTo, IsLevelAnswer, IsSureAnswer};
+ghost use Rattle.worst_case.specs.Maximum.{IsGreatestUpTo};
+ghost use Rattle.worst_case.specs.VectorsTried.{IsHeldFor, IsEveryVectorHeldUpTo};
+
+use crate::margin::{Margin, by_diagrams, by_solver};
+use crate::policy::{MOST_TRIED_INPUTS, decider_for};
+use crate::vectors_tried::{
+    Attained, LANE_INPUTS, greatest_of, hold_every_vector, hold_vectors, try_vectors,
+};
+use bdd_levels::budgets::QUESTION_STEPS;
+use bdd_levels::decider::Decider;
+use lane_nets::reference::Reference;
+use net_core::net::Net;
+use net_errors::compared::Compared;
+use progress::progress::Progress;
+use semantics::metric::Metric;
+use std::alloc::{AllocError, Global};
+use std::marker::Model;
+
+/// An exact net, and what is computed of it once.
+#[derive(Drop)]
+pub struct Judge<'a> {
+    exact: &'a Net,
+    /// The right outputs at the vectors that are tried first; with at most `LANE_INPUTS` inputs they are all.
+    known: Reference<'a>,
+    /// The diagrams.
+    decider: Decider<'a>,
+    /// The right outputs at every vector, once they were needed; with more than `MOST_TRIED_INPUTS` inputs
+    /// they are not held.
+    every: Option<Reference<'a>>,
+}
+
+impl<'a> Model for Judge<'a> {
+    ghost use Rattle.std.specs.Prelude.{◌≡◌, IfSome};
+    ghost use Rattle.semantics.specs.Net.{NetValue};
+    ghost use Rattle.worst_case.specs.VectorsTried.{IsHeldFor, IsEveryVectorHeld};
+
+    ghost Value = { NetValue };
+
+    ghost view = { λ j. j.exact.now };
+
+    ghost invariant = { λ j. IsHeldFor j.exact.now j.known × (j.decider ≡ j.exact.now)
+        × IfSome j.every (IsEveryVectorHeld j.exact.now) };
+}
+
+impl<'a> Judge<'a> {
+    /// Makes what is needed from the beginning: the right outputs at the known vectors, and diagrams.
+    pub fn new(alloc: Global, exact: &'a Net) -> Result<Judge<'a>, AllocError>
+        requires { IsSmall exact.now }
+        ensures { IfOk result (λ j. j ≡ exact.now) }
+    {
+        Ok(Judge {
+            exact,
+            known: hold_vectors(alloc, exact)?,
+            decider: decider_for(alloc, exact)?,
+            every: None,
+        })
+    }
+
+    /// The right outputs at the vectors that are tried first.
+    pub(crate) fn known(&self) -> &Reference<'a>
+        ensures { IsHeldFor self.now result.now }
+    {
+        &self.known
+    }
+
+    /// The right outputs at every vector, which are made if they are not held, where there are at most
+    /// `MOST_TRIED_INPUTS` inputs.
+    fn take_every(&mut self, alloc: Global) -> Result<Option<Reference<'a>>, AllocError>
+        ensures same { self.new ≡ self.old }
+        ensures every { IfOk result (IsEveryVectorHeldUpTo MOST_TRIED_INPUTS self.old) }
+    {
+        match self.every.take() {
+            Some(every) => Ok(Some(every)),
+            None => hold_every_vector(alloc, self.exact, MOST_TRIED_INPUTS),
+        }
+    }
+
+    /// The answer of the known vectors: one that exceeds the level or, with at most `LANE_INPUTS` inputs,
+    /// that none does.
+    fn by_known(
+        &self,
+        alloc: Global,
+        nets: &Compared,
+        metric: Metric,
+        k: u128,
+    ) -> Result<Option<Margin>, AllocError>
+        requires judge { self.now ≡ nets.now.exact }
+        ensures { IfOk result (IsAnsweredUpTo LANE_INPUTS metric nets.now.exact nets.now.approx k) }
+    {
+        match try_vectors(alloc, nets, &self.known, metric, k)? {
+            Some(x) => Ok(Some(Margin::Over(x))),
+            None if nets.exact().inputs() <= LANE_INPUTS => Ok(Some(Margin::Within)),
+            None => Ok(None),
+        }
+    }
+
+    /// The answer of the diagrams, where they find one within the steps of a question.
+    pub(crate) fn by_diagrams(
+        &mut self,
+        alloc: Global,
+        nets: &Compared,
+        metric: Metric,
+        k: u128,
+    ) -> Result<Option<Margin>, AllocError>
+        requires judge { self.old ≡ nets.now.exact }
+        ensures same { self.new ≡ self.old }
+        ensures answer { IfOk result
+            (λ found. IfSome found (IsSureAnswer metric nets.now.exact nets.now.approx k)) }
+    {
+        by_diagrams(alloc, nets, &mut self.decider, metric, k, QUESTION_STEPS)
+    }
+
+    /// The answer of every vector, with at most `MOST_TRIED_INPUTS` inputs.
+    fn by_every_vector(
+        &mut self,
+        alloc: Global,
+        nets: &Compared,
+        metric: Metric,
+        k: u128,
+    ) -> Result<Option<Margin>, AllocError>
+        requires judge { self.old ≡ nets.now.exact }
+        ensures same { self.new ≡ self.old }
+        ensures answer { IfOk result
+            (IsAnsweredUpTo MOST_TRIED_INPUTS metric nets.now.exact nets.now.approx k) }
+    {
+        let Some(every) = self.take_every(alloc)? else {
+            return Ok(None);
+        };
+        let found = try_vectors(alloc, nets, &every, metric, k)?;
+        self.every = Some(every);
+        match found {
+            Some(x) => Ok(Some(Margin::Over(x))),
+            None => Ok(Some(Margin::Within)),
+        }
+    }
+
+    /// The answer without the solver: by the known vectors, by diagrams, or by every vector.
+    fn without_solver(
+        &mut self,
+        alloc: Global,
+        nets: &Compared,
+        metric: Metric,
+        k: u128,
+    ) -> Result<Option<Margin>, AllocError>
+        requires judge { self.old ≡ nets.now.exact }
+        ensures same { self.new ≡ self.old }
+        ensures answer { IfOk result
+            (IsAnsweredUpTo MOST_TRIED_INPUTS metric nets.now.exact nets.now.approx k) }
+    {
+        if let Some(margin) = self.by_known(alloc, nets, metric, k)? {
+            return Ok(Some(margin));
+        }
+        if let Some(margin) = self.by_diagrams(alloc, nets, metric, k)? {
+            return Ok(Some(margin));
+        }
+        self.by_every_vector(alloc, nets, metric, k)
+    }
+
+    /// The greatest error of every vector, with at most `MOST_TRIED_INPUTS` inputs.
+    pub(crate) fn greatest_of_every(
+        &mut self,
+        alloc: Global,
+        nets: &Compared,
+        metric: Metric,
+    ) -> Result<Option<Attained>, AllocError>
+        requires judge { self.old ≡ nets.now.exact }
+        ensures same { self.new ≡ self.old }
+        ensures greatest { IfOk result
+            (IsGreatestUpTo MOST_TRIED_INPUTS metric nets.now.exact nets.now.approx) }
+    {
+        let Some(every) = self.take_every(alloc)? else {
+            return Ok(None);
+        };
+        let best = greatest_of(alloc, nets, metric, &every)?;
+        self.every = Some(every);
+        Ok(Some(best))
+    }
+}
+
+/// An input whose error exceeds `k`, or that there is none. With at most 24 inputs nothing is spent. With
+/// more inputs the solver is asked where neither the known vectors nor diagrams tell.
+pub fn within_level<P: Progress>(
+    alloc: Global,
+    nets: &Compared,
+    judge: &mut Judge,
+    metric: Metric,
+    k: u128,
+    limit: u64,
+    progress: &mut P,
+) -> Result<Margin, AllocError>
+    requires judge { judge.old ≡ nets.now.exact }
+    requires limit { 1 ≤ limit }
+    ensures same { judge.new ≡ judge.old }
+    ensures answer { IfOk result (IsLevelAnswer metric nets.now.exact nets.now.approx k limit) }
+    ensures sure { IfOk result (λ margin. input_count nets.now.exact ≤ MOST_TRIED_INPUTS
+        → IsSureAnswer metric nets.now.exact nets.now.approx k margin) }
+{
+    match judge.without_solver(alloc, nets, metric, k)? {
+        Some(margin) => Ok(margin),
+        None => by_solver(alloc, nets, &mut judge.decider, metric, k, limit, progress),
+    }
+}
