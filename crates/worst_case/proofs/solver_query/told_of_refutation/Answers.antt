@@ -1,9 +1,6 @@
 use Rattle.std.proofs.Common.{subst, sym}
-use Rattle.std.proofs.lemmas.Result.{IfOk-weaker}
 use Rattle.quality_semantics.specs.Joint.{joint_net}
 use Rattle.proof_semantics.specs.Merges.{IsMergeLog}
-use Rattle.worst_case.specs.Exceeds.{IsAsked}
-use Rattle.worst_case.specs.declared.query.Exceed.TheVariants.{Never}
 use Rattle.worst_case.proofs.Queries.{IsNever-from}
 use Rattle.worst_case.proofs.solver_query.told_of_refutation.Goals as goal
 
