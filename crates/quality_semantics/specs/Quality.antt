@@ -1,72 +1,103 @@
--- The quality network of a metric: 2 * w inputs, the exact word and then the approximate one, and one output
--- that says whether the error exceeds k. It depends on the metric, the width and k alone. Source: SALSA's
--- quality function circuit.
-use Rattle.std.specs.Prelude.{◌≡◌, ℕ, suc, ◌+◌, nat_lt, nat_le, if◌then◌else◌, Bool, List, [], ◌∷◌, length}
-use Rattle.std.specs.Prelude.{take, drop}
+-- The quality network of a metric: n exact outputs as its first inputs, then n approximate ones, and one output
+-- that says whether the error exceeds k. It depends on the metric, the number of outputs and k alone. Source:
+-- SALSA's quality function circuit.
+use Rattle.std.specs.Prelude.{◌≡◌, ℕ, zero, suc, ◌+◌, ◌-◌, ◌*◌, min, nat_lt, nat_le, if◌then◌else◌, Bool, List}
+use Rattle.std.specs.Prelude.{[], ◌∷◌, ◌++◌, length, take, drop}
 use Rattle.std.specs.List.{range_with_len}
 use Rattle.semantics.specs.Net.{NetValue}
 use Rattle.semantics.specs.Value.{outputs_of}
 use Rattle.semantics.specs.declared.metric.Metric.{Metric}
-use Rattle.semantics.specs.declared.metric.Metric.TheVariants.{Abs, Rel, Ham, Sabs}
-use Rattle.semantics.specs.Error.{error_of, greatest_error}
-use Rattle.quality_semantics.specs.WordNets.{started, net_of}
-use Rattle.quality_semantics.specs.Buses.{WithSignal, exceed, constant, times, not_zero_low, flip_top}
+use Rattle.semantics.specs.declared.metric.Kind.{Kind}
+use Rattle.semantics.specs.declared.metric.Kind.TheVariants.{Abs, Rel, Ham, Sabs}
+use Rattle.semantics.specs.Error.{error_of, greatest_error, word_width, word_count}
+use Rattle.quality_semantics.specs.Forms.{or2}
+use Rattle.quality_semantics.specs.WordNets.{WordNetValue, signals, appended, started, net_of}
+use Rattle.quality_semantics.specs.Buses.{WithBus, WithSignal, exceed, constant, times, not_zero_low, flip_top}
 use Rattle.quality_semantics.specs.Buses.{differ, at_least}
 
--- the exact word and the approximate one, in a network of w + w inputs
-abbrev pub exact_bus : ℕ → List ℕ
-exact_bus w = range_with_len 0 w
-
-abbrev pub approximate_bus : ℕ → List ℕ
-approximate_bus w = range_with_len w w
+-- ---- one word: e is the bus of the exact word, and a that of the approximate one
 
 -- the numbers are more than k apart
-abbrev pub absolute_excess : ℕ → ℕ → WithSignal
-absolute_excess w k =
-    let start = started (w + w) in
-    exceed start (exact_bus w) (approximate_bus w) (constant start k)
+abbrev pub absolute_excess : WordNetValue → List ℕ → List ℕ → ℕ → WithSignal
+absolute_excess W e a k = exceed W e a (constant W k)
 
 -- the two numbers, each times a million, are further apart than k times the exact number, which counts as 1
 -- where it is 0
-abbrev pub relative_excess : ℕ → ℕ → WithSignal
-relative_excess w k =
-    let m = not_zero_low (started (w + w)) (exact_bus w) in
-    let x = times m.net (exact_bus w) 1000000 in
-    let y = times x.net (approximate_bus w) 1000000 in
+abbrev pub relative_excess : WordNetValue → List ℕ → List ℕ → ℕ → WithSignal
+relative_excess W e a k =
+    let m = not_zero_low W e in
+    let x = times m.net e 1000000 in
+    let y = times x.net a 1000000 in
     let z = times y.net m.bus k in
     exceed z.net x.bus y.bus z.bus
 
 -- more than k bits differ
-abbrev pub differing_excess : ℕ → ℕ → WithSignal
-differing_excess w k =
-    let d = differ (started (w + w)) (exact_bus w) (approximate_bus w) in
+abbrev pub differing_excess : WordNetValue → List ℕ → List ℕ → ℕ → WithSignal
+differing_excess W e a k =
+    let d = differ W e a in
     at_least d.net d.bus (suc k)
 
 -- the words with their signs turned over are more than k apart, as the numbers in two's complement are
-abbrev pub signed_excess : ℕ → ℕ → WithSignal
-signed_excess w k =
-    let e = flip_top (started (w + w)) (exact_bus w) in
-    let a = flip_top e.net (approximate_bus w) in
-    exceed a.net e.bus a.bus (constant a.net k)
+abbrev pub signed_excess : WordNetValue → List ℕ → List ℕ → ℕ → WithSignal
+signed_excess W e a k =
+    let x = flip_top W e in
+    let y = flip_top x.net a in
+    exceed y.net x.bus y.bus (constant y.net k)
 
-abbrev pub excess : Metric → ℕ → ℕ → WithSignal
-excess Abs w k = absolute_excess w k
-excess Rel w k = relative_excess w k
-excess Ham w k = differing_excess w k
-excess Sabs w k = signed_excess w k
+abbrev pub excess : Kind → WordNetValue → List ℕ → List ℕ → ℕ → WithSignal
+excess Abs W e a k = absolute_excess W e a k
+excess Rel W e a k = relative_excess W e a k
+excess Ham W e a k = differing_excess W e a k
+excess Sabs W e a k = signed_excess W e a k
 
--- the network whose output is the constant 0
-abbrev pub no_excess : ℕ → WithSignal
-no_excess w = record { net = started (w + w); signal = w + w }
+-- the network after the tables of one word, and the signal that says whether the word's error exceeds k; where
+-- no error of a word of that width exceeds k no table is appended, and the signal is the constant 0
+unfoldable pub word_quality : Kind → WordNetValue → List ℕ → List ℕ → ℕ → WithSignal
+word_quality kind W e a k =
+    if nat_le (greatest_error kind (length e)) k then record { net = W; signal = W.inputs } else excess kind W e a k
 
--- the network and its output; where no error exceeds k, the output is the constant 0
+-- ---- all words
+
+-- how many bits word j has, where n outputs are cut into words of w bits
+abbrev pub word_size : ℕ → ℕ → ℕ → ℕ
+word_size w n j = min w (n - j * w)
+
+-- word j of the exact outputs, and of the approximate ones, in a network of n + n inputs
+abbrev pub exact_bus : ℕ → ℕ → ℕ → List ℕ
+exact_bus w n j = range_with_len (j * w) (word_size w n j)
+
+abbrev pub approximate_bus : ℕ → ℕ → ℕ → List ℕ
+approximate_bus w n j = range_with_len (n + j * w) (word_size w n j)
+
+-- the network after the tables of the first words, and for each of these words the signal that says whether its
+-- error exceeds k
+abbrev pub after_words : Kind → (w n k : ℕ) → ℕ → WithBus
+after_words kind w n k zero = record { net = started (n + n); bus = [] }
+after_words kind w n k (suc j) =
+    let before = after_words kind w n k j in
+    let word = word_quality kind before.net (exact_bus w n j) (approximate_bus w n j) k in
+    record { net = word.net; bus = before.bus ++ word.signal ∷ [] }
+
+-- whether the signal or one of the bus is 1
+abbrev pub joined : WordNetValue → ℕ → List ℕ → WithSignal
+joined W s [] = record { net = W; signal = s }
+joined W s (t ∷ bus) = joined (appended W (or2 s t)) (signals W) bus
+
+-- whether some signal of the bus is 1
+abbrev pub any_of : WordNetValue → List ℕ → WithSignal
+any_of W [] = record { net = W; signal = W.inputs }
+any_of W (s ∷ bus) = joined W s bus
+
+-- the network and its output: whether the error of some word exceeds k
 unfoldable pub quality : Metric → ℕ → ℕ → WithSignal
-quality metric w k = if nat_le (greatest_error metric w) k then no_excess w else excess metric w k
+quality metric n k =
+    let words = after_words metric.kind (word_width metric n) n k (word_count metric n) in
+    any_of words.net words.bus
 
 abbrev pub quality_net : Metric → ℕ → ℕ → NetValue
-quality_net metric w k = net_of (quality metric w k).net ((quality metric w k).signal ∷ [])
+quality_net metric n k = net_of (quality metric n k).net ((quality metric n k).signal ∷ [])
 
--- the net's one output says whether the error of the second word against the first exceeds k
+-- the net's one output says whether the error of the last n bits against the first n bits exceeds k
 abbrev pub TellsExcess : Metric → ℕ → ℕ → NetValue → Type 0
-TellsExcess metric w k N = (x : List Bool) → length x ≡ w + w
-    → outputs_of N x ≡ nat_lt k (error_of metric (take w x) (drop w x)) ∷ []
+TellsExcess metric n k N = (x : List Bool) → length x ≡ n + n
+    → outputs_of N x ≡ nat_lt k (error_of metric (take n x) (drop n x)) ∷ []

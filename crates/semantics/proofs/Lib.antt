@@ -14,6 +14,7 @@ pub mod FirstFound
 pub mod RefusalOrder
 pub mod Vectors
 pub mod Signed
+pub mod Words
 pub mod Sizes
 pub mod Numerals
 pub mod NumberedNames

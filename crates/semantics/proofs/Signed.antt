@@ -4,8 +4,8 @@ use Rattle.std.specs.Prelude.{ℤ, pos, negsuc, neg_ℤ, ◌+ℤ◌, ◌-ℤ◌,
 use Rattle.std.proofs.Math.Nat.{pow-succ'}
 use Rattle.std.proofs.lemmas.Int.{ints}
 use Rattle.std.proofs.lemmas.List.{length-set, get_or-set_same}
-use Rattle.semantics.specs.declared.metric.Metric.TheVariants.{Abs, Sabs}
-use Rattle.semantics.specs.Error.{bit_number, number_of, sign_of, sign_weight, signed_number_of, sign_flipped, distance, error_of}
+use Rattle.semantics.specs.declared.metric.Kind.TheVariants.{Abs, Sabs}
+use Rattle.semantics.specs.Error.{bit_number, number_of, sign_of, sign_weight, signed_number_of, sign_flipped, distance, word_error}
 use Rattle.semantics.proofs.Vectors.{number_of-lt}
 
 -- how far two differences are apart
@@ -13,7 +13,7 @@ apart : (z : ℤ) (a b c d : ℕ) → z ≡ (pos a -ℤ pos b) -ℤ (pos c -ℤ 
 apart (pos n) a b c d is = omega (arith, ints, is)
 apart (negsuc n) a b c d is = omega (arith, ints, is)
 
-pub signed_error-naturals : (e a : List Bool) → error_of Sabs e a ≡ distance (number_of e + sign_weight a) (number_of a + sign_weight e)
+pub signed_error-naturals : (e a : List Bool) → word_error Sabs e a ≡ distance (number_of e + sign_weight a) (number_of a + sign_weight e)
 signed_error-naturals e a = apart (signed_number_of e -ℤ signed_number_of a) (number_of e) (sign_weight e) (number_of a) (sign_weight a) refl
 
 twice : (b : Bool) (k m : ℕ) → m ≡ 2 * k → bit_number b * m ≡ 2 * (bit_number b * k)
@@ -70,7 +70,7 @@ flipped-lt bits some = omega (arith, number_of-lt (sign_flipped bits), ap (λ w.
 pub greatest : (bits : List Bool) → 0 < length bits → signed_number_of bits <ℤ pos (2 ^ (length bits - 1))
 greatest bits some = omega (arith, ints, number_of-flipped bits some, flipped-lt bits some)
 
-pub flipped_error : (e a : List Bool) → length e ≡ length a → error_of Sabs e a ≡ error_of Abs (sign_flipped e) (sign_flipped a)
+pub flipped_error : (e a : List Bool) → length e ≡ length a → word_error Sabs e a ≡ word_error Abs (sign_flipped e) (sign_flipped a)
 flipped_error [] [] same = refl
 flipped_error [] (b ∷ a) same = absurd (omega (arith, same))
 flipped_error (b ∷ e) [] same = absurd (omega (arith, same))

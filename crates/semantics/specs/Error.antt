@@ -1,10 +1,12 @@
--- The number of a list of bits, and the four errors. Source: SALSA's quality functions; the relative error is
+-- The number of a list of bits, the four errors of a word, and the error of outputs that are cut into words. Source: SALSA's quality functions; the relative error is
 -- in parts per million, rounded up; signed words are in two's complement.
 use Rattle.std.specs.Prelude.{◌≡◌, ℕ, ◌+◌, ◌-◌, ◌*◌, ◌/◌, ◌%◌, ◌^◌, ◌≤◌, min, max, ℤ, pos, ◌-ℤ◌}
 use Rattle.std.specs.Prelude.{unsigned_abs, Bool, true, false, not, List, [], ◌∷◌, length, slice_index_or}
-use Rattle.std.specs.Prelude.{slice_set}
+use Rattle.std.specs.Prelude.{slice_set, zero, suc, map, take, drop, Option, Some, None, unwrap_or}
+use Rattle.std.specs.List.{range_with_len}
 use Rattle.semantics.specs.declared.metric.Metric.{Metric}
-use Rattle.semantics.specs.declared.metric.Metric.TheVariants.{Abs, Rel, Ham, Sabs}
+use Rattle.semantics.specs.declared.metric.Kind.{Kind}
+use Rattle.semantics.specs.declared.metric.Kind.TheVariants.{Abs, Rel, Ham, Sabs}
 use Rattle.semantics.specs.declared.limits.TheConstants.{MOST_OUTPUTS, LARGEST_ERROR}
 use Rattle.semantics.specs.Net.{NetValue, input_count, HasSamePorts}
 use Rattle.semantics.specs.Value.{outputs_of}
@@ -45,26 +47,72 @@ differing [] bs = 0
 differing (a ∷ as') [] = 0
 differing (a ∷ as') (b ∷ bs) = distance (bit_number a) (bit_number b) + differing as' bs
 
--- the error of the approximate outputs (second) against the exact ones (first)
-abbrev pub error_of : Metric → List Bool → List Bool → ℕ
-error_of Abs e a = distance (number_of e) (number_of a)
-error_of Rel e a = rounded_up (distance (number_of e) (number_of a) * 1000000) (max 1 (number_of e))
-error_of Ham e a = differing e a
-error_of Sabs e a = unsigned_abs (signed_number_of e -ℤ signed_number_of a)
+-- ---- the error of one word
+
+-- the error of the approximate word (second) against the exact one (first)
+abbrev pub word_error : Kind → List Bool → List Bool → ℕ
+word_error Abs e a = distance (number_of e) (number_of a)
+word_error Rel e a = rounded_up (distance (number_of e) (number_of a) * 1000000) (max 1 (number_of e))
+word_error Ham e a = differing e a
+word_error Sabs e a = unsigned_abs (signed_number_of e -ℤ signed_number_of a)
 
 -- the greatest error of two words of `width` bits
-abbrev pub greatest_error : Metric → ℕ → ℕ
+abbrev pub greatest_error : Kind → ℕ → ℕ
 greatest_error Abs width = 2 ^ width - 1
 greatest_error Rel width = (2 ^ width - 1) * 1000000
 greatest_error Ham width = width
 greatest_error Sabs width = 2 ^ width - 1
 
 -- a number that is above every error of words of at most `MOST_OUTPUTS` bits
-abbrev pub errors_below : Metric → ℕ
+abbrev pub errors_below : Kind → ℕ
 errors_below Abs = 2 ^ MOST_OUTPUTS
 errors_below Rel = LARGEST_ERROR + 1
 errors_below Ham = MOST_OUTPUTS + 1
 errors_below Sabs = 2 ^ MOST_OUTPUTS
+
+-- ---- outputs that are cut into words
+
+-- all outputs are one word
+abbrev pub one_word : Kind → Metric
+one_word kind = record { kind = kind; width = None }
+
+-- the outputs are cut into words of `width` outputs
+abbrev pub in_words : Kind → ℕ → Metric
+in_words kind width = record { kind = kind; width = Some width }
+
+-- how many outputs a word has where there are `count`, but for the last word, which may have fewer; a width of
+-- 0, which no word of the command line names, counts as 1
+abbrev pub word_width : Metric → ℕ → ℕ
+word_width metric count = max 1 (unwrap_or metric.width count)
+
+-- how many words `count` outputs make
+abbrev pub word_count : Metric → ℕ → ℕ
+word_count metric count = rounded_up count (word_width metric count)
+
+-- word j of bits that are cut into words of w bits
+abbrev pub word_at : ℕ → ℕ → List Bool → List Bool
+word_at w j bits = take w (drop (j * w) bits)
+
+-- the words of a list of bits, the first of which is bit 0 of the first word
+abbrev pub words_of : Metric → List Bool → List (List Bool)
+words_of metric bits =
+    map (λ j. word_at (word_width metric (length bits)) j bits) (range_with_len 0 (word_count metric (length bits)))
+
+-- the greatest of the first n values of f; 0 where there are none
+abbrev pub greatest_of : (ℕ → ℕ) → ℕ → ℕ
+greatest_of f zero = 0
+greatest_of f (suc n) = max (greatest_of f n) (f n)
+
+-- the error of word j of the approximate outputs (second) against that of the exact ones (first)
+abbrev pub error_of_word : Metric → List Bool → List Bool → ℕ → ℕ
+error_of_word metric e a j =
+    let w = word_width metric (length e) in
+    word_error metric.kind (word_at w j e) (word_at w j a)
+
+-- the error of the approximate outputs (second) against the exact ones (first): that of the word that errs
+-- most
+unfoldable pub error_of : Metric → List Bool → List Bool → ℕ
+error_of metric e a = greatest_of (error_of_word metric e a) (word_count metric (length e))
 
 unfoldable pub net_error : Metric → NetValue → NetValue → List Bool → ℕ
 net_error metric exact approx x = error_of metric (outputs_of exact x) (outputs_of approx x)

@@ -14,9 +14,10 @@ use Rattle.semantics.specs.Copies.{IsCopiedBehind}
 use Rattle.semantics.specs.Renamed.{renamed, redirect, without}
 use Rattle.semantics.specs.Refusals.{first_doubled, first_ungrounded, first_limit, doubled, no_output}
 use Rattle.semantics.specs.Refusals.{undriven, cycle, limit, net_refusal}
-use Rattle.semantics.specs.declared.metric.Metric.TheVariants.{Abs, Rel, Ham, Sabs}
+use Rattle.semantics.specs.declared.metric.Kind.TheVariants.{Abs, Rel, Ham, Sabs}
 use Rattle.semantics.specs.declared.limits.TheConstants.{LARGEST_ERROR}
-use Rattle.semantics.specs.Error.{signed_number_of, sign_flipped, error_of, net_error, greatest_error}
+use Rattle.semantics.specs.Error.{signed_number_of, sign_flipped, greatest_error, one_word, in_words, words_of}
+use Rattle.semantics.specs.Error.{error_of, net_error}
 use Rattle.semantics.specs.Vectors.{all_vectors}
 use Rattle.semantics.specs.Blif.{blif_text}
 
@@ -110,37 +111,72 @@ pub record ValueExamples : Type 0 where
 
 pub record ErrorExamples : Type 0 where
   pub three_and_two :
-      (error_of Abs (true ∷ true ∷ []) (false ∷ true ∷ []) ≡ 1)
-      × (error_of Ham (true ∷ true ∷ []) (false ∷ true ∷ []) ≡ 1)
-      × (error_of Rel (true ∷ true ∷ []) (false ∷ true ∷ []) ≡ 333334)
+      (error_of (one_word Abs) (true ∷ true ∷ []) (false ∷ true ∷ []) ≡ 1)
+      × (error_of (one_word Ham) (true ∷ true ∷ []) (false ∷ true ∷ []) ≡ 1)
+      × (error_of (one_word Rel) (true ∷ true ∷ []) (false ∷ true ∷ []) ≡ 333334)
   pub nothing_and_three :
-      (error_of Abs (false ∷ false ∷ []) (true ∷ true ∷ []) ≡ 3)
-      × (error_of Ham (false ∷ false ∷ []) (true ∷ true ∷ []) ≡ 2)
-      × (error_of Rel (false ∷ false ∷ []) (true ∷ true ∷ []) ≡ 3000000)
+      (error_of (one_word Abs) (false ∷ false ∷ []) (true ∷ true ∷ []) ≡ 3)
+      × (error_of (one_word Ham) (false ∷ false ∷ []) (true ∷ true ∷ []) ≡ 2)
+      × (error_of (one_word Rel) (false ∷ false ∷ []) (true ∷ true ∷ []) ≡ 3000000)
   pub equal :
-      (error_of Abs (true ∷ true ∷ []) (true ∷ true ∷ []) ≡ 0)
-      × (error_of Ham (true ∷ true ∷ []) (true ∷ true ∷ []) ≡ 0)
-      × (error_of Rel (true ∷ true ∷ []) (true ∷ true ∷ []) ≡ 0)
+      (error_of (one_word Abs) (true ∷ true ∷ []) (true ∷ true ∷ []) ≡ 0)
+      × (error_of (one_word Ham) (true ∷ true ∷ []) (true ∷ true ∷ []) ≡ 0)
+      × (error_of (one_word Rel) (true ∷ true ∷ []) (true ∷ true ∷ []) ≡ 0)
   pub largest :
-      (error_of Abs (replicate 64 false) (replicate 64 true) ≡ 18446744073709551615)
-      × (error_of Ham (replicate 64 false) (replicate 64 true) ≡ 64)
-      × (error_of Rel (replicate 64 false) (replicate 64 true) ≡ 18446744073709551615000000)
-  pub unchanged : map (net_error Abs half_adder half_adder) (all_vectors 2) ≡ 0 ∷ 0 ∷ 0 ∷ 0 ∷ []
-  pub same_or : map (net_error Abs (or_twice by_zeros) (or_twice by_copy)) (all_vectors 2)
+      (error_of (one_word Abs) (replicate 64 false) (replicate 64 true) ≡ 18446744073709551615)
+      × (error_of (one_word Ham) (replicate 64 false) (replicate 64 true) ≡ 64)
+      × (error_of (one_word Rel) (replicate 64 false) (replicate 64 true) ≡ 18446744073709551615000000)
+  pub unchanged : map (net_error (one_word Abs) half_adder half_adder) (all_vectors 2) ≡ 0 ∷ 0 ∷ 0 ∷ 0 ∷ []
+  pub same_or : map (net_error (one_word Abs) (or_twice by_zeros) (or_twice by_copy)) (all_vectors 2)
       ≡ 0 ∷ 0 ∷ 0 ∷ 0 ∷ []
   pub other_metrics :
-      (map (net_error Ham half_adder both_constant) (all_vectors 2) ≡ 0 ∷ 1 ∷ 1 ∷ 1 ∷ [])
-      × (map (net_error Rel half_adder both_constant) (all_vectors 2) ≡ 0 ∷ 1000000 ∷ 1000000 ∷ 1000000 ∷ [])
-  pub sum_is_constant : map (net_error Abs half_adder constant_sum) (all_vectors 2) ≡ 0 ∷ 1 ∷ 1 ∷ 0 ∷ []
+      (map (net_error (one_word Ham) half_adder both_constant) (all_vectors 2) ≡ 0 ∷ 1 ∷ 1 ∷ 1 ∷ [])
+      × (map (net_error (one_word Rel) half_adder both_constant) (all_vectors 2) ≡ 0 ∷ 1000000 ∷ 1000000 ∷ 1000000 ∷ [])
+  pub sum_is_constant : map (net_error (one_word Abs) half_adder constant_sum) (all_vectors 2) ≡ 0 ∷ 1 ∷ 1 ∷ 0 ∷ []
   pub carry_too :
-      map (net_error Abs half_adder both_constant) (all_vectors 2) ≡ 0 ∷ 1 ∷ 1 ∷ 2 ∷ []
+      map (net_error (one_word Abs) half_adder both_constant) (all_vectors 2) ≡ 0 ∷ 1 ∷ 1 ∷ 2 ∷ []
   pub carry_to_one :
-      map (net_error Abs half_adder (with_table constant_sum 1 (constant_table (codes "c") true)))
+      map (net_error (one_word Abs) half_adder (with_table constant_sum 1 (constant_table (codes "c") true)))
       (all_vectors 2)
       ≡ 2 ∷ 1 ∷ 1 ∷ 0 ∷ []
 
 abbrev pub buffer : Bytes → ℕ → TableValue
 buffer name s = record { name = name; pins = s ∷ []; rows = (One ∷ []) ∷ []; plane = true }
+
+-- Outputs that are cut into words. The exact outputs 1101 and the approximate ones 0101, bit 0 first: in words
+-- of two 3 and 2 against 2 and 2, in words of three 3 and 1 against 2 and 1. The exact outputs 0010 and the
+-- approximate ones 0001: as one word 4 against 8, in words of two 0 and 1 against 0 and 2 or, with signs, 0
+-- and 1 against 0 and -2.
+pub record WordExamples : Type 0 where
+  pub words : (words_of (in_words Abs 2) (true ∷ true ∷ false ∷ true ∷ [])
+      ≡ (true ∷ true ∷ []) ∷ (false ∷ true ∷ []) ∷ [])
+      × (words_of (in_words Abs 3) (true ∷ true ∷ false ∷ true ∷ [])
+      ≡ (true ∷ true ∷ false ∷ []) ∷ (true ∷ []) ∷ [])
+      × (words_of (in_words Abs 1) (true ∷ false ∷ []) ≡ (true ∷ []) ∷ (false ∷ []) ∷ [])
+      × (words_of (one_word Abs) (true ∷ false ∷ []) ≡ (true ∷ false ∷ []) ∷ [])
+  pub none : (words_of (in_words Abs 2) [] ≡ []) × (words_of (one_word Abs) [] ≡ [])
+      × (error_of (in_words Abs 2) [] [] ≡ 0)
+  pub in_twos : let e = true ∷ true ∷ false ∷ true ∷ [] in let a = false ∷ true ∷ false ∷ true ∷ [] in
+      (error_of (in_words Abs 2) e a ≡ 1) × (error_of (in_words Ham 2) e a ≡ 1)
+      × (error_of (in_words Rel 2) e a ≡ 333334)
+  pub in_threes : let e = true ∷ true ∷ false ∷ true ∷ [] in let a = false ∷ true ∷ false ∷ true ∷ [] in
+      error_of (in_words Abs 3) e a ≡ 1
+  -- the last word, of one output, counts
+  pub shorter : let e = true ∷ true ∷ false ∷ true ∷ [] in let a = true ∷ true ∷ false ∷ false ∷ [] in
+      (error_of (in_words Abs 3) e a ≡ 1) × (error_of (one_word Abs) e a ≡ 8)
+  pub as_one_word : let e = false ∷ false ∷ true ∷ false ∷ [] in let a = false ∷ false ∷ false ∷ true ∷ [] in
+      (error_of (one_word Abs) e a ≡ 4) × (error_of (in_words Abs 4) e a ≡ 4)
+      × (error_of (in_words Abs 64) e a ≡ 4)
+  pub as_two_words : let e = false ∷ false ∷ true ∷ false ∷ [] in let a = false ∷ false ∷ false ∷ true ∷ [] in
+      (error_of (in_words Abs 2) e a ≡ 1) × (error_of (in_words Rel 2) e a ≡ 1000000)
+      × (error_of (in_words Sabs 2) e a ≡ 3)
+  -- each output is a word of its own: the error is 1 where some output differs
+  pub in_bits : let e = true ∷ false ∷ true ∷ [] in let a = false ∷ true ∷ true ∷ [] in
+      (error_of (in_words Abs 1) e a ≡ 1) × (error_of (in_words Ham 1) e a ≡ 1)
+      × (error_of (one_word Ham) e a ≡ 2)
+  pub two_outputs : (map (net_error (in_words Abs 1) half_adder both_constant) (all_vectors 2)
+      ≡ 0 ∷ 1 ∷ 1 ∷ 1 ∷ [])
+      × (map (net_error (in_words Abs 2) half_adder both_constant) (all_vectors 2) ≡ 0 ∷ 1 ∷ 1 ∷ 2 ∷ [])
 
 -- the number -n
 abbrev pub minus : ℕ → ℤ
@@ -157,20 +193,20 @@ pub record SignedExamples : Type 0 where
       ≡ (false ∷ true ∷ []) ∷ (true ∷ true ∷ []) ∷ (false ∷ false ∷ []) ∷ (true ∷ false ∷ []) ∷ []
   pub flipped_none : sign_flipped [] ≡ []
   -- -2 for 1, and 0 for -1
-  pub two_against_one : error_of Sabs (false ∷ true ∷ []) (true ∷ false ∷ []) ≡ 3
-  pub one_against_none : error_of Sabs (true ∷ []) (false ∷ []) ≡ 1
-  pub no_bits : error_of Sabs [] [] ≡ 0
-  pub largest : error_of Sabs (replicate 63 true ++ false ∷ []) (replicate 63 false ++ true ∷ [])
+  pub two_against_one : error_of (one_word Sabs) (false ∷ true ∷ []) (true ∷ false ∷ []) ≡ 3
+  pub one_against_none : error_of (one_word Sabs) (true ∷ []) (false ∷ []) ≡ 1
+  pub no_bits : error_of (one_word Sabs) [] [] ≡ 0
+  pub largest : error_of (one_word Sabs) (replicate 63 true ++ false ∷ []) (replicate 63 false ++ true ∷ [])
       ≡ 18446744073709551615
-  pub sum_is_constant : map (net_error Sabs half_adder constant_sum) (all_vectors 2) ≡ 0 ∷ 1 ∷ 1 ∷ 0 ∷ []
-  pub carry_too : map (net_error Sabs half_adder both_constant) (all_vectors 2) ≡ 0 ∷ 1 ∷ 1 ∷ 2 ∷ []
+  pub sum_is_constant : map (net_error (one_word Sabs) half_adder constant_sum) (all_vectors 2) ≡ 0 ∷ 1 ∷ 1 ∷ 0 ∷ []
+  pub carry_too : map (net_error (one_word Sabs) half_adder both_constant) (all_vectors 2) ≡ 0 ∷ 1 ∷ 1 ∷ 2 ∷ []
   pub carry_to_one :
-      map (net_error Sabs half_adder (with_table half_adder 1 (constant_table (codes "c") true)))
+      map (net_error (one_word Sabs) half_adder (with_table half_adder 1 (constant_table (codes "c") true)))
       (all_vectors 2) ≡ 2 ∷ 2 ∷ 2 ∷ 0 ∷ []
   -- the sum 0, and the carry as b or as a, which is -2 in the place of 1
-  pub carry_as_b : map (net_error Sabs half_adder (with_table constant_sum 1 (buffer (codes "c") 1)))
+  pub carry_as_b : map (net_error (one_word Sabs) half_adder (with_table constant_sum 1 (buffer (codes "c") 1)))
       (all_vectors 2) ≡ 0 ∷ 1 ∷ 3 ∷ 0 ∷ []
-  pub carry_as_a : map (net_error Sabs half_adder (with_table constant_sum 1 (buffer (codes "c") 0)))
+  pub carry_as_a : map (net_error (one_word Sabs) half_adder (with_table constant_sum 1 (buffer (codes "c") 0)))
       (all_vectors 2) ≡ 0 ∷ 3 ∷ 1 ∷ 0 ∷ []
 
 pub record TextExamples : Type 0 where

@@ -1,7 +1,7 @@
 -- The laws about the definitions, each the contract of a function without parameters.
 use Rattle.std.specs.Prelude.{◌≡◌, ◌≢◌, ◌↔◌, ℕ, ◌+◌, ◌-◌, ◌^◌, ◌<◌, ◌≤◌, pos, neg_ℤ, ◌+ℤ◌, ◌≤ℤ◌, ◌<ℤ◌, Bool}
 use Rattle.std.specs.Prelude.{true, false, List, [], ◌∷◌, ◌++◌, map, length, replicate, slice_get}
-use Rattle.std.specs.Prelude.{slice_index_or, Some, None, decimal, All, AllPairs, Contains}
+use Rattle.std.specs.Prelude.{slice_index_or, Some, None, decimal, All, AllPairs, Contains, min, flat_map, ◌*◌}
 use Rattle.std.specs.List.{AllByRecursion}
 use Rattle.semantics.specs.Texts.{Bytes}
 use Rattle.semantics.specs.Net.{TableValue, NetValue, table_at, signal_count, IsName, IsTable, IsGroundedIn}
@@ -17,10 +17,12 @@ use Rattle.semantics.specs.Refusals.{first_limit, NetRefused, net_refusal}
 use Rattle.semantics.specs.RefusalOrder.{IsTold}
 use Rattle.semantics.specs.Value.{Assignment, table_value, value_of, HasOneValue}
 use Rattle.semantics.specs.declared.metric.Metric.{Metric}
-use Rattle.semantics.specs.declared.metric.Metric.TheVariants.{Abs, Rel, Ham, Sabs}
+use Rattle.semantics.specs.declared.metric.Kind.{Kind}
+use Rattle.semantics.specs.declared.metric.Kind.TheVariants.{Abs, Rel, Ham, Sabs}
 use Rattle.semantics.specs.declared.limits.TheConstants.{MOST_OUTPUTS, LARGEST_ERROR}
-use Rattle.semantics.specs.Error.{number_of, sign_weight, signed_number_of, sign_flipped, distance, error_of}
-use Rattle.semantics.specs.Error.{greatest_error, errors_below, net_error, IsCandidate}
+use Rattle.semantics.specs.Error.{number_of, sign_weight, signed_number_of, sign_flipped, distance, word_error}
+use Rattle.semantics.specs.Error.{greatest_error, errors_below, one_word, in_words, word_width, word_count, word_at}
+use Rattle.semantics.specs.Error.{words_of, error_of_word, error_of, net_error, IsCandidate}
 use Rattle.semantics.specs.Vectors.{bits_of, all_vectors}
 use Rattle.semantics.specs.Decimal.{digits_number, is_decimal}
 
@@ -50,17 +52,35 @@ ones width = replicate width true
 -- at most 64 bits are numbers of 64, 84, 7 and 64 bits, and none is above the largest error.
 pub record SizeLaw : Type 0 where
   pub number : (bits : List Bool) → number_of bits < 2 ^ length bits
-  pub at_most : (metric : Metric) (width : ℕ) (e a : List Bool) → length e ≡ width → length a ≡ width
-      → error_of metric e a ≤ greatest_error metric width
-  pub attained_abs : (width : ℕ) → error_of Abs (zeros width) (ones width) ≡ greatest_error Abs width
-  pub attained_rel : (width : ℕ) → error_of Rel (zeros width) (ones width) ≡ greatest_error Rel width
-  pub attained_ham : (width : ℕ) → error_of Ham (zeros width) (ones width) ≡ greatest_error Ham width
+  pub at_most : (kind : Kind) (width : ℕ) (e a : List Bool) → length e ≡ width → length a ≡ width
+      → word_error kind e a ≤ greatest_error kind width
+  pub attained_abs : (width : ℕ) → word_error Abs (zeros width) (ones width) ≡ greatest_error Abs width
+  pub attained_rel : (width : ℕ) → word_error Rel (zeros width) (ones width) ≡ greatest_error Rel width
+  pub attained_ham : (width : ℕ) → word_error Ham (zeros width) (ones width) ≡ greatest_error Ham width
   pub attained_sabs : (width : ℕ)
-      → error_of Sabs (sign_flipped (zeros width)) (sign_flipped (ones width)) ≡ greatest_error Sabs width
+      → word_error Sabs (sign_flipped (zeros width)) (sign_flipped (ones width)) ≡ greatest_error Sabs width
   pub below : (metric : Metric) (e a : List Bool) → length e ≡ length a → length e ≤ MOST_OUTPUTS
-      → error_of metric e a < errors_below metric
+      → error_of metric e a < errors_below metric.kind
   pub largest : (metric : Metric) (exact approx : NetValue) → IsCandidate exact approx → (x : List Bool)
       → net_error metric exact approx x ≤ LARGEST_ERROR
+
+-- Outputs that are cut into words: the words one behind another are the outputs; each word has the width of a
+-- word, but for the last, which has what is left. The error is that of one of the words, and no word errs
+-- more; where all outputs are one word, it is the error of that word, and it is so where the words are as wide
+-- as all outputs or wider.
+pub record WordsLaw : Type 0 where
+  pub joined : (metric : Metric) (bits : List Bool) → flat_map (λ w. w) (words_of metric bits) ≡ bits
+  pub width : (metric : Metric) (bits : List Bool) (j : ℕ) → j < word_count metric (length bits)
+      → let w = word_width metric (length bits) in
+      (length (word_at w j bits) ≡ min w (length bits - j * w)) × (0 < length (word_at w j bits))
+  pub some_word : (metric : Metric) (e a : List Bool) → 0 < length e
+      → (j : ℕ) × (j < word_count metric (length e)) × (error_of_word metric e a j ≡ error_of metric e a)
+  pub none_greater : (metric : Metric) (e a : List Bool) (j : ℕ) → j < word_count metric (length e)
+      → error_of_word metric e a j ≤ error_of metric e a
+  pub in_one_word : (kind : Kind) (e a : List Bool) → length e ≡ length a
+      → error_of (one_word kind) e a ≡ word_error kind e a
+  pub in_wide_words : (kind : Kind) (width : ℕ) (e a : List Bool) → length e ≡ length a → length e ≤ width
+      → error_of (in_words kind width) e a ≡ word_error kind e a
 
 -- In two's complement a word of one or more bits has a number from -2 ^ (width - 1) to 2 ^ (width - 1) - 1.
 -- Turning its sign over adds 2 ^ (width - 1), so words whose signs are turned over are as far apart as their
@@ -73,9 +93,9 @@ pub record SignedLaw : Type 0 where
   pub flipped : (bits : List Bool) → 0 < length bits
       → pos (number_of (sign_flipped bits)) ≡ signed_number_of bits +ℤ pos (2 ^ (length bits - 1))
   pub flipped_error : (e a : List Bool) → length e ≡ length a
-      → error_of Sabs e a ≡ error_of Abs (sign_flipped e) (sign_flipped a)
+      → word_error Sabs e a ≡ word_error Abs (sign_flipped e) (sign_flipped a)
   pub naturals : (e a : List Bool)
-      → error_of Sabs e a ≡ distance (number_of e + sign_weight a) (number_of a + sign_weight e)
+      → word_error Sabs e a ≡ distance (number_of e + sign_weight a) (number_of a + sign_weight e)
 
 -- a number of at most 64 digits is written as one decimal word, and no other decimal word reads as that
 -- number

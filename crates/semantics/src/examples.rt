@@ -1,6 +1,7 @@
 //! Worked examples of the definitions, computed by the checker: each function's contract is its examples.
 ghost use Rattle.semantics.specs.Examples.{ValueExamples, ErrorExamples, SignedExamples, TextExamples};
 ghost use Rattle.semantics.specs.Examples.{ChangeExamples, RefusalExamples, LimitExamples, NameExamples};
+ghost use Rattle.semantics.specs.Examples.{WordExamples};
 
 /// Values of tables in and out of order, and counts.
 pub fn values()
@@ -10,6 +11,11 @@ pub fn values()
 /// The errors of unsigned words, and those of a half adder whose tables become constants.
 pub fn errors()
     ensures { ErrorExamples }
+{}
+
+/// Outputs that are cut into words.
+pub fn words()
+    ensures { WordExamples }
 {}
 
 /// Numbers in two's complement, and the signed error.

@@ -2,6 +2,7 @@
 ghost use Rattle.semantics.specs.Laws.{ValueLaw, EmbeddingLaw, CopyLaw, ReplacedLaw, DependenceLaw};
 ghost use Rattle.semantics.specs.Laws.{AcyclicLaw, GroundedLaw, OrderLaw, EvaluationLaw, RenamedLaw};
 ghost use Rattle.semantics.specs.Laws.{WithoutLaw, RefusalLaw, VectorLaw, SizeLaw, SignedLaw, NumeralLaw};
+ghost use Rattle.semantics.specs.Laws.{WordsLaw};
 
 /// Acyclic tables give each signal one value at each input vector.
 pub fn values()
@@ -71,6 +72,11 @@ pub fn vectors()
 /// How large numbers and errors of words are.
 pub fn sizes()
     ensures { SizeLaw }
+{}
+
+/// Outputs that are cut into words, and the error of the word that errs most.
+pub fn words()
+    ensures { WordsLaw }
 {}
 
 /// Words in two's complement, and the signed error in natural numbers.

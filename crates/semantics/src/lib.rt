@@ -1,5 +1,5 @@
 //! The definitions on which everything stands, and the laws about them. It has no code but the types `Mark`,
-//! `Which` and `Metric` and the limits.
+//! `Which`, `Kind` and `Metric` and the limits.
 #![tactic(auto)]
 
 pub mod examples;

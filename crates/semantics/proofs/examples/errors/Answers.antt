@@ -1,12 +1,12 @@
 -- by computation
 use Rattle.std.proofs.Common.{refl}
 use Rattle.semantics.specs.Value.{after_rounds, value_of, outputs_of}
-use Rattle.semantics.specs.Error.{net_error}
+use Rattle.semantics.specs.Error.{error_of, net_error}
 use Rattle.semantics.specs.Vectors.{all_vectors}
 use Rattle.semantics.proofs.examples.errors.Goals as goal
 
 pub returns : goal.returns
-unfolding after_rounds value_of outputs_of all_vectors net_error
+unfolding after_rounds value_of outputs_of all_vectors error_of net_error
 returns c = record {
   three_and_two = (refl, refl, refl);
   nothing_and_three = (refl, refl, refl);
