@@ -83,7 +83,7 @@ IsWordNet-xor2 : (W : WordNetValue) (x y : ℕ) → IsWordNet W → x < signals 
 IsWordNet-xor2 W x y h hx hy = IsWordNet-appended W (xor2 x y).pins (xor2 x y).rows h (two_in _ x y hx hy)
     (All-from_recursion (λ (marks : List Mark). length marks ≡ 2) (xor2 x y).rows (refl, (refl, tt)))
 
-IsWordNet-or2 : (W : WordNetValue) (x y : ℕ) → IsWordNet W → x < signals W → y < signals W → IsWordNet (appended W (or2 x y))
+pub IsWordNet-or2 : (W : WordNetValue) (x y : ℕ) → IsWordNet W → x < signals W → y < signals W → IsWordNet (appended W (or2 x y))
 IsWordNet-or2 W x y h hx hy = IsWordNet-appended W (or2 x y).pins (or2 x y).rows h (two_in _ x y hx hy) (All-from_recursion (λ (marks : List Mark). length marks ≡ 2) (or2 x y).rows (refl, (refl, tt)))
 
 pub low_widths : (x : ℕ) (xs : List ℕ) → All (λ marks. length marks ≡ length (x ∷ xs)) (low x xs).rows

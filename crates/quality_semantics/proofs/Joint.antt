@@ -16,7 +16,7 @@ use Rattle.semantics.proofs.Copied.{copied-acyclic, copied-values}
 use Rattle.quality_semantics.specs.WordNets.{signals}
 use Rattle.quality_semantics.specs.Quality.{quality}
 use Rattle.quality_semantics.specs.Joint.{numbered_name, copied_from, copied, moved, approximate_signal, both_outputs, quality_signal, joint_net, AreComparable}
-use Rattle.quality_semantics.proofs.Quality.{quality_inputs, quality_output, quality_acyclic, quality_value}
+use Rattle.quality_semantics.proofs.Words.{quality_inputs, quality_output, quality_acyclic, quality_value}
 
 -- ---- copies
 

@@ -12,7 +12,7 @@ use Rattle.semantics.specs.declared.metric.Metric.{Metric}
 use Rattle.quality_semantics.specs.WordNets.{WordNetValue, signals, IsWordNet}
 use Rattle.quality_semantics.specs.Quality.{quality}
 use Rattle.quality_semantics.specs.Joint.{numbered_name, copied_from, copied, approximate_signal, quality_signal, joint_net, AreComparable}
-use Rattle.quality_semantics.proofs.Quality.{quality_formed, quality_output}
+use Rattle.quality_semantics.proofs.Words.{quality_formed, quality_output}
 use Rattle.semantics.proofs.NumberedNames.{IsName-numbered}
 use Rattle.quality_semantics.proofs.Joint.{length-copied, copy_of, table_at-copied, exact_copies, approximate_copies, quality_copies, both_copies, joint_tables, joint_inputs, joint_outputs}
 use Rattle.quality_semantics.proofs.Joint.{whole_length, length-both_copies, approximate_below, quality_below, joint_acyclic}

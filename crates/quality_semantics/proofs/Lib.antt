@@ -7,6 +7,7 @@ pub mod Rounding
 pub mod Formed
 pub mod Signed
 pub mod Quality
+pub mod Words
 pub mod Sound
 pub mod Multiply
 pub mod Joint

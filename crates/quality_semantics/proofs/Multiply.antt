@@ -15,7 +15,7 @@ use Rattle.quality_semantics.proofs.Tables.{and2_value}
 use Rattle.quality_semantics.proofs.Growth.{begins_itself, begins_later, begins_after, begins_add, begins_appended, begins_signals, signals_kept, Fits-earlier, Fits-newest, Fits-values}
 use Rattle.quality_semantics.proofs.Numbers.{add_number, input_bits}
 use Rattle.quality_semantics.proofs.Formed.{HasBus, IsWordNet-started, IsWordNet-appended, signals-appended, two_in, zero_below, add_formed}
-use Rattle.quality_semantics.proofs.Quality.{inputs_in}
+use Rattle.quality_semantics.proofs.Words.{inputs_in}
 use Rattle.quality_semantics.proofs.Sound.{input_count-net_of}
 
 begins_products : (W : WordNetValue) (b : ℕ) (xs : List ℕ) → BeginsWith (products W b xs).net W

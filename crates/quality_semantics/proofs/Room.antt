@@ -1,6 +1,7 @@
 -- How large the networks are: tables and rows together.
-use Rattle.std.proofs.Common.{◌≡◌, ℕ, zero, suc, ◌+◌, ◌-◌, ◌*◌, ◌/◌, ◌^◌, ◌<◌, ◌≤◌, max, cond, Bool, true, false, List, [], ◌∷◌, length, map, get_or, replicate, inl, inr, refl, ap, ◌∙◌, arith}
-use Rattle.std.proofs.Common.{length-append, sum_by}
+use Rattle.std.proofs.Common.{◌≡◌, ◌⊎◌, ℕ, zero, suc, ◌+◌, ◌-◌, ◌*◌, ◌/◌, ◌^◌, ◌<◌, ◌≤◌, min, max, cond, Bool, true, false, List, [], ◌∷◌, length, map, get_or, replicate, inl, inr, refl, ap, ◌∙◌, arith}
+use Rattle.std.proofs.Common.{length-append, sum_by, le-mul_of_pos_right}
+use Rattle.std.specs.List.{range_with_len}
 use Rattle.std.proofs.Math.Nat.{pow-succ'}
 use Rattle.std.proofs.Math.Pow.{pow_mono}
 use Rattle.std.proofs.lemmas.Bool.{cases_lt}
@@ -8,20 +9,23 @@ use Rattle.std.proofs.lemmas.List.{length-map, length-replicate, length-set}
 use Rattle.std.proofs.lemmas.List.FromFn.{length-range_with_len}
 use Rattle.std.proofs.lemmas.List.Sums.{sum_by-append, sum_by-cons}
 use Rattle.semantics.specs.declared.metric.Metric.{Metric}
-use Rattle.semantics.specs.declared.metric.Metric.TheVariants.{Abs, Rel, Ham, Sabs}
+use Rattle.semantics.specs.declared.metric.Kind.{Kind}
+use Rattle.semantics.specs.declared.metric.Kind.TheVariants.{Abs, Rel, Ham, Sabs}
 use Rattle.semantics.specs.declared.limits.TheConstants.{MOST_OUTPUTS}
 use Rattle.semantics.specs.Net.{TableValue, NetValue, signal_count, row_count, IsSmall}
-use Rattle.semantics.specs.Error.{greatest_error}
+use Rattle.semantics.specs.Error.{greatest_error, word_width, word_count}
+use Rattle.semantics.proofs.Words.{word_begins, word_width-some}
 use Rattle.quality_semantics.specs.Forms.{Form, inv, or2, xor2, xor3, maj, gt, grow, low}
 use Rattle.quality_semantics.specs.WordNets.{WordNetValue, signals, table_of, appended, started}
 use Rattle.quality_semantics.specs.Buses.{WithBus, places, adders, add, comparators, greater, exceed, binary, constant, times_bits, times, flip_top, not_zero_low, differences, differ, growers}
 use Rattle.quality_semantics.specs.Buses.{count_rows}
-use Rattle.quality_semantics.specs.Quality.{exact_bus, approximate_bus, absolute_excess, relative_excess, differing_excess, signed_excess, excess, quality}
+use Rattle.quality_semantics.specs.Quality.{absolute_excess, relative_excess, differing_excess, signed_excess, excess, word_quality, exact_bus, approximate_bus, after_words, joined, any_of, quality}
 use Rattle.quality_semantics.specs.Joint.{copied_from, copied, approximate_signal, quality_signal, numbered_name, joint_net}
 use Rattle.quality_semantics.specs.Sizes.{tables_and_rows}
 use Rattle.quality_semantics.proofs.Binary.{binary_none, binary_more}
 use Rattle.quality_semantics.proofs.Counts.{length-growers}
 use Rattle.quality_semantics.proofs.Quality.{quality_zero, quality_excess}
+use Rattle.quality_semantics.proofs.Words.{after_words_is, words_inside, as_one_word}
 use Rattle.quality_semantics.proofs.Joint.{joint_tables, whole_length, length-copied, length-both_copies, exact_copies, approximate_copies, both_copies, quality_copies}
 
 abbrev size : WordNetValue → ℕ
@@ -172,61 +176,48 @@ size-count_rows W row (d ∷ ds) few =
     let width = length-growers W d (suc W.inputs) row in
     omega (arith, size-growers W d (suc W.inputs) row, size-count_rows next.net next.bus ds (omega (arith, width, few)))
 
--- ---- the quality networks of at most 64 outputs
+-- ---- one word of at most 64 bits
 
-exact_width : (w : ℕ) → length (exact_bus w) ≡ w
-exact_width w = length-range_with_len 0 w
+-- the tables that a word adds, and their rows
+abbrev word_room_most : ℕ
+word_room_most = 148200
 
-approximate_width : (w : ℕ) → length (approximate_bus w) ≡ w
-approximate_width w = length-range_with_len w w
+absolute_room : (W : WordNetValue) (e a : List ℕ) (k : ℕ) → length e ≤ 64 → length a ≤ 64 → k < 2 ^ 84 → size (absolute_excess W e a k).net ≤ size W + word_room_most
+absolute_room W e a k exact approximate low =
+    omega (arith, size-exceed W e a (constant W k) 84 (omega (arith, exact)) (omega (arith, approximate)) (length-constant W k 84 low))
 
-absolute_room : (w k : ℕ) → w ≤ 64 → k < 2 ^ 84 → size (absolute_excess w k).net ≤ 150000
-absolute_room w k few low =
-    let start = started (w + w) in
-    let exact = exact_width w in
-    let approximate = approximate_width w in
+signed_room : (W : WordNetValue) (e a : List ℕ) (k : ℕ) → length e ≤ 64 → length a ≤ 64 → k < 2 ^ 84 → size (signed_excess W e a k).net ≤ size W + word_room_most
+signed_room W e a k exact approximate low =
+    let x = flip_top W e in
+    let y = flip_top x.net a in
     omega (
       arith,
-      size-exceed start (exact_bus w) (approximate_bus w) (constant start k) 84 (omega (arith, exact, few)) (omega (arith, approximate, few)) (length-constant start k 84 low),
+      size-flip_top W e,
+      size-flip_top x.net a,
+      size-exceed y.net x.bus y.bus (constant y.net k) 84 (omega (arith, exact, length-flip_top W e)) (omega (arith, approximate, length-flip_top x.net a)) (length-constant y.net k 84 low),
     )
 
-signed_room : (w k : ℕ) → w ≤ 64 → k < 2 ^ 84 → size (signed_excess w k).net ≤ 150000
-signed_room w k few low =
-    let start = started (w + w) in
-    let e = flip_top start (exact_bus w) in
-    let a = flip_top e.net (approximate_bus w) in
-    let exact : length e.bus ≡ w = length-flip_top start (exact_bus w) ∙ exact_width w in
-    let approximate : length a.bus ≡ w = length-flip_top e.net (approximate_bus w) ∙ approximate_width w in
-    omega (
-      arith,
-      size-flip_top start (exact_bus w),
-      size-flip_top e.net (approximate_bus w),
-      size-exceed a.net e.bus a.bus (constant a.net k) 84 (omega (arith, exact, few)) (omega (arith, approximate, few)) (length-constant a.net k 84 low),
-    )
-
-differing_room : (w k : ℕ) → w ≤ 64 → k < w → size (differing_excess w k).net ≤ 150000
-differing_room w k few low =
-    let start = started (w + w) in
-    let ps = places start.inputs (exact_bus w) (approximate_bus w) in
-    let d = differ start (exact_bus w) (approximate_bus w) in
-    let width : length ps ≤ 64 = omega (arith, length-places start.inputs (exact_bus w) (approximate_bus w), exact_width w, approximate_width w, few) in
-    let row : length (replicate (suc k) d.net.inputs) ≤ 64 = omega (arith, length-replicate (suc k) d.net.inputs, low, few) in
-    omega (arith, size-differences start ps, length-differences start ps, width, size-count_rows d.net (replicate (suc k) d.net.inputs) d.bus row)
+differing_room : (W : WordNetValue) (e a : List ℕ) (k : ℕ) → length e ≤ 64 → length a ≤ 64 → k < length e → size (differing_excess W e a k).net ≤ size W + word_room_most
+differing_room W e a k exact approximate low =
+    let ps = places W.inputs e a in
+    let d = differ W e a in
+    let width : length ps ≤ 64 = omega (arith, length-places W.inputs e a, exact, approximate) in
+    let row : length (replicate (suc k) d.net.inputs) ≤ 64 = omega (arith, length-replicate (suc k) d.net.inputs, low, exact) in
+    omega (arith, size-differences W ps, length-differences W ps, width, size-count_rows d.net (replicate (suc k) d.net.inputs) d.bus row)
 
 million_low : 1000000 < 2 ^ 20
 million_low = omega arith
 
-relative_room : (w k : ℕ) → w ≤ 64 → k < 2 ^ 84 → size (relative_excess w k).net ≤ 150000
-relative_room w k few low =
-    let start = started (w + w) in
-    let m = not_zero_low start (exact_bus w) in
-    let x = times m.net (exact_bus w) 1000000 in
-    let y = times x.net (approximate_bus w) 1000000 in
+relative_room : (W : WordNetValue) (e a : List ℕ) (k : ℕ) → length e ≤ 64 → length a ≤ 64 → k < 2 ^ 84 → size (relative_excess W e a k).net ≤ size W + word_room_most
+relative_room W e a k exact approximate low =
+    let m = not_zero_low W e in
+    let x = times m.net e 1000000 in
+    let y = times x.net a 1000000 in
     let z = times y.net m.bus k in
-    let at_m : size m.net ≤ 6 = omega (arith, size-low start (exact_bus w)) in
-    let divisor : length m.bus ≤ 64 = omega (arith, length-low start (exact_bus w), exact_width w, few) in
-    let at_x = times_room m.net (exact_bus w) 1000000 64 20 (omega (arith, exact_width w, few)) million_low in
-    let at_y = times_room x.net (approximate_bus w) 1000000 64 20 (omega (arith, approximate_width w, few)) million_low in
+    let at_m : size m.net ≤ size W + 3 = size-low W e in
+    let divisor : length m.bus ≤ 64 = omega (arith, length-low W e, exact) in
+    let at_x = times_room m.net e 1000000 64 20 exact million_low in
+    let at_y = times_room x.net a 1000000 64 20 approximate million_low in
     let at_z = times_room y.net m.bus k 64 84 divisor low in
     let short : adder_places 64 20 ≡ 1680 = refl in
     let long : adder_places 64 84 ≡ 12432 = refl in
@@ -236,18 +227,71 @@ relative_room w k few low =
 power_below : (w : ℕ) → w ≤ 64 → 2 ^ w ≤ 2 ^ 64
 power_below w few = pow_mono few
 
-excess_room : (metric : Metric) (w k : ℕ) → w ≤ 64 → k < greatest_error metric w → size (excess metric w k).net ≤ 150000
-excess_room Abs w k few low = absolute_room w k few (omega (arith, low, power_below w few))
-excess_room Rel w k few low = relative_room w k few (omega (arith, low, power_below w few))
-excess_room Ham w k few low = differing_room w k few low
-excess_room Sabs w k few low = signed_room w k few (omega (arith, low, power_below w few))
+excess_room : (kind : Kind) (W : WordNetValue) (e a : List ℕ) (k : ℕ) → length e ≤ 64 → length a ≤ 64 → k < greatest_error kind (length e) → size (excess kind W e a k).net ≤ size W + word_room_most
+excess_room Abs W e a k exact approximate low = absolute_room W e a k exact approximate (omega (arith, low, power_below (length e) exact))
+excess_room Rel W e a k exact approximate low = relative_room W e a k exact approximate (omega (arith, low, power_below (length e) exact))
+excess_room Ham W e a k exact approximate low = differing_room W e a k exact approximate low
+excess_room Sabs W e a k exact approximate low = signed_room W e a k exact approximate (omega (arith, low, power_below (length e) exact))
 
-pub quality_room : (metric : Metric) (w k : ℕ) → w ≤ MOST_OUTPUTS → tables_and_rows (quality metric w k).net.tables ≤ 150000
-quality_room metric w k few =
-    elim (cases_lt k (greatest_error metric w)) [
-      | inl low ↦ rw (quality_excess metric w k low) (excess_room metric w k few low)
-      | inr high ↦ rw (quality_zero metric w k high) (omega arith)
+word_room : (kind : Kind) (W : WordNetValue) (e a : List ℕ) (k : ℕ) → length e ≤ 64 → length a ≤ 64 → size (word_quality kind W e a k).net ≤ size W + word_room_most
+word_room kind W e a k exact approximate =
+    elim (cases_lt k (greatest_error kind (length e))) [
+      | inl low ↦ rw (quality_excess kind W e a k low) (excess_room kind W e a k exact approximate low)
+      | inr high ↦ rw (quality_zero kind W e a k high) (omega arith)
     ]
+
+-- ---- the quality networks of at most 64 outputs
+
+size-joined : (W : WordNetValue) (s : ℕ) (bus : List ℕ) → size (joined W s bus).net ≡ size W + 3 * length bus
+size-joined W s [] = omega arith
+size-joined W s (t ∷ bus) = omega (arith, size-joined (appended W (or2 s t)) (signals W) bus, size-appended W (or2 s t))
+
+size-any_of : (W : WordNetValue) (bus : List ℕ) → size (any_of W bus).net ≤ size W + 3 * length bus
+size-any_of W [] = omega arith
+size-any_of W (s ∷ bus) = omega (arith, size-joined W s bus)
+
+exact_width : (w n j : ℕ) → n ≤ 64 → length (exact_bus w n j) ≤ 64
+exact_width w n j few = omega (arith, length-range_with_len (j * w) (min w (n - j * w)), few)
+
+approximate_width : (w n j : ℕ) → n ≤ 64 → length (approximate_bus w n j) ≤ 64
+approximate_width w n j few = omega (arith, length-range_with_len (n + j * w) (min w (n - j * w)), few)
+
+size-after_words : (kind : Kind) (w n k j : ℕ) → n ≤ 64 → size (after_words kind w n k j).net ≤ 3 + j * word_room_most
+size-after_words kind w n k zero few = omega arith
+size-after_words kind w n k (suc j) few =
+    let before = after_words kind w n k j in
+    omega (
+      arith,
+      size-after_words kind w n k j few,
+      word_room kind before.net (exact_bus w n j) (approximate_bus w n j) k (exact_width w n j few) (approximate_width w n j few),
+    )
+
+few_words : (metric : Metric) (n : ℕ) → word_count metric n ≤ n
+few_words metric n = at_count (cases_lt 0 (word_count metric n))
+  where
+    w : ℕ
+    w = word_width metric n
+
+    at_count : (0 < word_count metric n) ⊎ (word_count metric n ≤ 0) → word_count metric n ≤ n
+    at_count (inl some) =
+        let last : ℕ = word_count metric n - 1 in
+        let begins = word_begins n w last (word_width-some metric n) (omega (arith, some)) in
+        omega (arith, some, begins, le-mul_of_pos_right {m = w} last (word_width-some metric n))
+    at_count (inr none) = omega (arith, none)
+
+pub quality_room : (metric : Metric) (n k : ℕ) → n ≤ MOST_OUTPUTS → tables_and_rows (quality metric n k).net.tables ≤ 9600000
+unfolding quality
+quality_room metric n k few =
+    let w : ℕ = word_width metric n in
+    let count : ℕ = word_count metric n in
+    let words = after_words metric.kind w n k count in
+    let each = after_words_is metric.kind w n k count (words_inside metric n) in
+    omega (arith, size-any_of words.net words.bus, each.count, size-after_words metric.kind w n k count few, few_words metric n, few)
+
+pub one_word_room : (metric : Metric) (n k : ℕ) → n ≤ MOST_OUTPUTS → n ≤ word_width metric n → tables_and_rows (quality metric n k).net.tables ≤ 150000
+one_word_room metric n k few fits =
+    rw (as_one_word metric n k fits)
+    (omega (arith, word_room metric.kind (started (n + n)) (range_with_len 0 n) (range_with_len n n) k (omega (arith, length-range_with_len 0 n, few)) (omega (arith, length-range_with_len n n, few))))
 
 -- ---- joint nets
 
@@ -278,8 +322,9 @@ joint_rows N M metric k =
       rows-copied 113 (quality_signal N M) (quality metric (length N.outputs) k).net.tables,
     ))
 
-pub joint_room : (N M : NetValue) (metric : Metric) (k : ℕ) → IsSmall N → IsSmall M → signal_count (joint_net N M metric k) + row_count (joint_net N M metric k) < 2 ^ 18
-joint_room N M metric k exact approx =
+joint_most : (N M : NetValue) (metric : Metric) (k most : ℕ) → IsSmall N → IsSmall M → tables_and_rows (quality metric (length N.outputs) k).net.tables ≤ most
+    → signal_count (joint_net N M metric k) + row_count (joint_net N M metric k) ≤ most + 80000
+joint_most N M metric k most exact approx h =
     let q = quality metric (length N.outputs) k in
     omega (
       arith,
@@ -287,10 +332,17 @@ joint_room N M metric k exact approx =
       length-both_copies N M,
       length-copied 113 (quality_signal N M) q.net.tables,
       joint_rows N M metric k,
-      quality_room metric (length N.outputs) k exact.outputs,
+      h,
       exact.inputs,
       exact.tables,
       exact.all_rows,
       approx.tables,
       approx.all_rows,
     )
+
+pub joint_room : (N M : NetValue) (metric : Metric) (k : ℕ) → IsSmall N → IsSmall M → signal_count (joint_net N M metric k) + row_count (joint_net N M metric k) < 2 ^ 24
+joint_room N M metric k exact approx = omega (arith, joint_most N M metric k 9600000 exact approx (quality_room metric (length N.outputs) k exact.outputs))
+
+pub joint_one_word_room : (N M : NetValue) (metric : Metric) (k : ℕ) → IsSmall N → IsSmall M → length N.outputs ≤ word_width metric (length N.outputs)
+    → signal_count (joint_net N M metric k) + row_count (joint_net N M metric k) < 2 ^ 18
+joint_one_word_room N M metric k exact approx fits = omega (arith, joint_most N M metric k 150000 exact approx (one_word_room metric (length N.outputs) k exact.outputs fits))

@@ -13,7 +13,7 @@ use Rattle.semantics.proofs.Order.{IsAcyclic-in_order}
 use Rattle.semantics.proofs.NumberedNames.{IsName-numbered}
 use Rattle.quality_semantics.specs.WordNets.{WordNetValue, signals, net_of, AreSignalsOf, IsWordTable, IsWordNet}
 use Rattle.quality_semantics.specs.Quality.{quality, quality_net, TellsExcess}
-use Rattle.quality_semantics.proofs.Quality.{quality_inputs, quality_formed, quality_output, quality_value}
+use Rattle.quality_semantics.proofs.Words.{quality_inputs, quality_formed, quality_output, quality_value}
 
 pub IsName-word : IsName (codes "word")
 IsName-word = record {

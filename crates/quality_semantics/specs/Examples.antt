@@ -131,12 +131,12 @@ pub record WordExamples : Type 0 where
   pub in_bits :
       (quality (in_words Ham 1) 3 0).net.tables
       ≡ numbered 0 (zero_form ∷ one_form ∷ xor2 0 3 ∷ grow 6 8 7 ∷ xor2 1 4 ∷ grow 6 10 7 ∷ xor2 2 5
-      ∷ grow 6 12 7 ∷ or2 9 11 ∷ or2 13 14 ∷ [])
+      ∷ grow 6 12 7 ∷ or2 9 11 ∷ or2 14 13 ∷ [])
   pub one_for_all : (quality (in_words Abs 2) 2 1 ≡ quality (one_word Abs) 2 1)
       × (quality (in_words Abs 64) 2 1 ≡ quality (one_word Abs) 2 1)
-  pub nothing : (quality (in_words Rel 3) 0 0 ≡ record { net = started 0; signal = 0 })
-      × (quality (in_words Ham 2) 4 2 ≡ record { net = started 8; signal = 8 }
-      → ⊥)
+  pub no_outputs : quality (in_words Rel 3) 0 0 ≡ record { net = started 0; signal = 0 }
+  -- at level 2 no error of two bits exceeds it: the constant 0 twice
+  pub never : (quality (in_words Ham 2) 4 2).net.tables ≡ numbered 0 (zero_form ∷ one_form ∷ or2 8 8 ∷ [])
 
 -- how many bits the sum of the first k rows has, in the multiplier of two words of w bits
 abbrev pub sum_width : ℕ → ℕ → ℕ

@@ -7,13 +7,15 @@ use Rattle.semantics.specs.Net.{NetValue, table_at, input_count, signal_count, I
 use Rattle.semantics.specs.Net.{HasSamePorts}
 use Rattle.semantics.specs.Value.{Assignment, table_value, value_of, outputs_of}
 use Rattle.semantics.specs.declared.metric.Metric.{Metric}
-use Rattle.semantics.specs.Error.{number_of, signed_number_of, distance, rounded_up, differing, error_of}
-use Rattle.semantics.specs.Error.{net_error}
-use Rattle.quality_semantics.specs.WordNets.{WordNetValue, signals, started, BeginsWith, IsWordNet}
+use Rattle.semantics.specs.declared.metric.Kind.{Kind}
+use Rattle.semantics.specs.Error.{number_of, signed_number_of, distance, rounded_up, differing}
+use Rattle.semantics.specs.Error.{word_error, one_word, in_words, error_of, net_error}
+use Rattle.quality_semantics.specs.WordNets.{WordNetValue, signals, started, BeginsWith, AreSignalsOf}
+use Rattle.quality_semantics.specs.WordNets.{IsWordNet}
 use Rattle.quality_semantics.specs.Buses.{binary, constant, add, times, greater, exceed, not_zero_low}
 use Rattle.quality_semantics.specs.Buses.{flip_top, differ, at_least}
 use Rattle.quality_semantics.specs.Multiply.{multiply, multiplier_net, Multiplies}
-use Rattle.quality_semantics.specs.Quality.{quality, quality_net, TellsExcess}
+use Rattle.quality_semantics.specs.Quality.{word_quality, quality, quality_net, TellsExcess}
 use Rattle.quality_semantics.specs.Joint.{approximate_signal, quality_signal, joint_net, AreComparable}
 
 -- the assignment v gives the two constants their values, and each table of the network the value of its rows
@@ -68,18 +70,42 @@ pub record BinaryLaw : Type 0 where
 abbrev pub RoundingLaw : Type 0
 RoundingLaw = (d m k : ℕ) → 1 ≤ m → nat_lt k (rounded_up d m) ≡ nat_lt (k * m) d
 
--- The quality network of every metric, width and level.
+-- two words over a network: buses of one width
+pub record IsWordPair (W : WordNetValue) (e a : List ℕ) : Type 0 where
+  pub formed : IsWordNet W
+  pub exact : AreSignalsOf W e
+  pub approximate : AreSignalsOf W a
+  pub widths : length e ≡ length a
+
+-- The tables of one word behind a network, with every kind of error and level.
+pub record WordQualityLaw : Type 0 where
+  pub begins : (kind : Kind) (W : WordNetValue) (e a : List ℕ) (k : ℕ) → IsWordPair W e a
+      → BeginsWith (word_quality kind W e a k).net W
+  pub formed : (kind : Kind) (W : WordNetValue) (e a : List ℕ) (k : ℕ) → IsWordPair W e a
+      → IsWordNet (word_quality kind W e a k).net
+  pub output : (kind : Kind) (W : WordNetValue) (e a : List ℕ) (k : ℕ) → IsWordPair W e a
+      → (word_quality kind W e a k).signal < signals (word_quality kind W e a k).net
+  pub value : (kind : Kind) (W : WordNetValue) (e a : List ℕ) (k : ℕ) → IsWordPair W e a → (v : Assignment)
+      → Fits v (word_quality kind W e a k).net
+      → v (word_quality kind W e a k).signal ≡ nat_lt k (word_error kind (map v e) (map v a))
+
+-- The quality network of every metric, number of outputs and level. Where all outputs are one word, or words
+-- are as wide as all outputs or wider, it is the network of that word.
 pub record QualityLaw : Type 0 where
-  pub inputs : (metric : Metric) (w k : ℕ) → (quality metric w k).net.inputs ≡ w + w
-  pub formed : (metric : Metric) (w k : ℕ) → IsWordNet (quality metric w k).net
-  pub output : (metric : Metric) (w k : ℕ) → (quality metric w k).signal < signals (quality metric w k).net
-  pub acyclic : (metric : Metric) (w k : ℕ) → IsAcyclic (w + w) (quality metric w k).net.tables
-  pub value : (metric : Metric) (w k : ℕ) (x : List Bool) → length x ≡ w + w
-      → value_of (w + w) (quality metric w k).net.tables x (quality metric w k).signal
-      ≡ nat_lt k (error_of metric (take w x) (drop w x))
-  pub tells : (metric : Metric) (w k : ℕ) → TellsExcess metric w k (quality_net metric w k)
-  pub sound : (metric : Metric) (w k : ℕ) → signals (quality metric w k).net ≤ 2 ^ 30
-      → IsSound (quality_net metric w k)
+  pub inputs : (metric : Metric) (n k : ℕ) → (quality metric n k).net.inputs ≡ n + n
+  pub formed : (metric : Metric) (n k : ℕ) → IsWordNet (quality metric n k).net
+  pub output : (metric : Metric) (n k : ℕ) → (quality metric n k).signal < signals (quality metric n k).net
+  pub acyclic : (metric : Metric) (n k : ℕ) → IsAcyclic (n + n) (quality metric n k).net.tables
+  pub value : (metric : Metric) (n k : ℕ) (x : List Bool) → length x ≡ n + n
+      → value_of (n + n) (quality metric n k).net.tables x (quality metric n k).signal
+      ≡ nat_lt k (error_of metric (take n x) (drop n x))
+  pub tells : (metric : Metric) (n k : ℕ) → TellsExcess metric n k (quality_net metric n k)
+  pub sound : (metric : Metric) (n k : ℕ) → signals (quality metric n k).net ≤ 2 ^ 30
+      → IsSound (quality_net metric n k)
+  pub in_one_word : (kind : Kind) (n k : ℕ) → quality (one_word kind) n k
+      ≡ word_quality kind (started (n + n)) (range_with_len 0 n) (range_with_len n n) k
+  pub in_wide_words : (kind : Kind) (width n k : ℕ) → n ≤ width
+      → quality (in_words kind width) n k ≡ quality (one_word kind) n k
 
 -- The array multiplier.
 pub record MultiplierLaw : Type 0 where

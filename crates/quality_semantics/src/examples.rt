@@ -1,6 +1,6 @@
 //! Worked examples of the definitions, computed by the checker: each function's contract is its examples.
 ghost use Rattle.quality_semantics.specs.Examples.{AbsoluteExamples, SignedExamples, OtherExamples};
-ghost use Rattle.quality_semantics.specs.Examples.{MultiplierExamples, JointExamples};
+ghost use Rattle.quality_semantics.specs.Examples.{WordExamples, MultiplierExamples, JointExamples};
 
 /// Networks of the absolute error.
 pub fn absolute()
@@ -15,6 +15,11 @@ pub fn signed()
 /// Networks of the other two errors.
 pub fn others()
     ensures { OtherExamples }
+{}
+
+/// Networks of outputs that are cut into words.
+pub fn words()
+    ensures { WordExamples }
 {}
 
 /// Multipliers of one, two, four and five bits.

@@ -1,6 +1,6 @@
 //! The laws about the networks: each function's contract is a law.
 ghost use Rattle.quality_semantics.specs.Laws.{BusLaw, FitsLaw, RoundingLaw, MultiplierLaw, QualityLaw};
-ghost use Rattle.quality_semantics.specs.Laws.{JointLaw, BinaryLaw};
+ghost use Rattle.quality_semantics.specs.Laws.{WordQualityLaw, JointLaw, BinaryLaw};
 ghost use Rattle.quality_semantics.specs.Sizes.{RoomLaw};
 
 /// What the buses' numbers are.
@@ -26,6 +26,11 @@ pub fn rounding()
 /// What number the bus of the array multiplier has.
 pub fn multiplier()
     ensures { MultiplierLaw }
+{}
+
+/// What the tables of one word say.
+pub fn word_quality()
+    ensures { WordQualityLaw }
 {}
 
 /// What the quality networks say.

@@ -3,12 +3,12 @@ use Rattle.std.proofs.Common.{refl}
 use Rattle.std.specs.Fmt.{digits}
 use Rattle.semantics.specs.Texts.{text_of}
 use Rattle.semantics.specs.Blif.{blif_text}
-use Rattle.quality_semantics.specs.Quality.{quality}
+use Rattle.quality_semantics.specs.Quality.{word_quality, quality}
 use Rattle.quality_semantics.specs.Buses.{binary}
 use Rattle.quality_semantics.proofs.examples.others.Goals as goal
 
 pub returns : goal.returns
-unfolding text_of blif_text digits quality binary
+unfolding text_of blif_text digits word_quality quality binary
 returns c = record {
   differing_bit = refl;
   differing_output = refl;

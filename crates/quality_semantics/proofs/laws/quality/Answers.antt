@@ -1,4 +1,4 @@
-use Rattle.quality_semantics.proofs.Quality.{quality_inputs, quality_formed, quality_output, quality_acyclic, quality_value}
+use Rattle.quality_semantics.proofs.Words.{quality_inputs, quality_formed, quality_output, quality_acyclic, quality_value, in_one_word, in_wide_words}
 use Rattle.quality_semantics.proofs.Sound.{quality_sound, quality_tells}
 use Rattle.quality_semantics.proofs.laws.quality.Goals as goal
 
@@ -11,4 +11,6 @@ returns c = record {
   value = quality_value;
   tells = quality_tells;
   sound = quality_sound;
+  in_one_word = in_one_word;
+  in_wide_words = in_wide_words;
 }
