@@ -124,7 +124,7 @@ after_words_is kind w n k (suc j) inside =
     let word = word_quality kind before.net e a k in
     let is = word_quality_is kind before.net e a k (word_pair before.net w n j so_far.formed.net so_far.begins (inside j (omega arith))) in
     record {
-      begins = begins_after (started (n + n)) before.net _ is.begins so_far.begins;
+      begins = begins_after (started (n + n)) before.net word.net is.begins so_far.begins;
       formed = record {
         net = is.formed.net;
         bus = All-append (λ s. s < signals word.net) before.bus (word.signal ∷ []) (signals_kept before.net word.net before.bus is.begins so_far.formed.bus)
