@@ -1,5 +1,5 @@
-//! The error of one pair of output words, and of outputs that are cut into words. The first output of a word is
-//! bit 0.
+//! The error of one pair of output words, and of outputs that are cut into words. The first output of a word
+//! is bit 0.
 ghost use Rattle.std.specs.Prelude.{◌≡◌, ◌≤◌, ◌<◌, ◌+◌, ◌*◌, length};
 ghost use Rattle.semantics.specs.Error.{number_of, signed_number_of, rounded_up, distance, differing};
 ghost use Rattle.semantics.specs.Error.{word_error, error_of};
