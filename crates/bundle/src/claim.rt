@@ -1,7 +1,8 @@
 //! What a bundle is checked for, and the nets in it.
 ghost use Rattle.std.specs.Prelude.{◌↔◌, IsTrue};
 ghost use Rattle.semantics.specs.Net.{IsSmall};
-ghost use Rattle.semantics.specs.declared.metric.Metric.TheVariants.{Abs};
+ghost use Rattle.semantics.specs.declared.metric.Kind.TheVariants.{Abs};
+ghost use Rattle.semantics.specs.Error.{one_word};
 ghost use Rattle.job_semantics.specs.Certificate.{AreCounts};
 ghost use Rattle.bundle_texts.specs.Reading.{report_read};
 
@@ -31,7 +32,7 @@ pub(crate) struct Contents<'a> {
 pub(crate) fn are_counts(nets: &Compared, report: &ReportRead) -> bool
     requires exact { IsSmall nets.now.exact }
     requires approx { IsSmall nets.now.approx }
-    ensures { IsTrue result ↔ AreCounts nets.now.exact nets.now.approx (report_read Abs 0 report.now) }
+    ensures { IsTrue result ↔ AreCounts nets.now.exact nets.now.approx (report_read (one_word Abs) 0 report.now) }
 {
     let exact = nets.exact();
     let approx = nets.approx();

@@ -3,7 +3,8 @@
 ghost use Rattle.std.specs.Prelude.{◌≡◌, ◌↔◌, ◌&&◌, length, IsTrue};
 ghost use Rattle.semantics.specs.Net.{IsSmall, input_count};
 ghost use Rattle.proof_semantics.specs.Miter.{miter};
-ghost use Rattle.semantics.specs.declared.metric.Metric.TheVariants.{Abs};
+ghost use Rattle.semantics.specs.declared.metric.Kind.TheVariants.{Abs};
+ghost use Rattle.semantics.specs.Error.{one_word};
 ghost use Rattle.job_semantics.specs.Certificate.{Texts, AreCounts};
 ghost use Rattle.bundle_texts.specs.Reading.{report_read};
 ghost use Rattle.bundle.specs.Shown.{claimed_version};
@@ -104,7 +105,7 @@ fn decides_by_moves(claim: &Claim, report: &ReportRead, is_attained: bool) -> bo
     requires exact { IsSmall claim.now.nets.now.exact }
     requires approx { IsSmall claim.now.nets.now.approx }
     ensures { IsTrue result ↔ (IsTrue is_attained
-        × AreCounts claim.now.nets.now.exact claim.now.nets.now.approx (report_read Abs 0 report.now)) }
+        × AreCounts claim.now.nets.now.exact claim.now.nets.now.approx (report_read (one_word Abs) 0 report.now)) }
 {
     is_attained && are_counts(claim.nets, report)
 }

@@ -6,7 +6,8 @@ use Rattle.semantics.specs.Net.{NetValue}
 use Rattle.semantics.specs.Replaced.{with_table}
 use Rattle.semantics.specs.Vectors.{all_vectors}
 use Rattle.semantics.specs.Error.{error_of, net_error}
-use Rattle.semantics.specs.declared.metric.Metric.TheVariants.{Abs}
+use Rattle.semantics.specs.declared.metric.Kind.TheVariants.{Abs}
+use Rattle.semantics.specs.Error.{one_word}
 use Rattle.semantics.specs.Value.{outputs_of}
 use Rattle.semantics.specs.Examples.{half_adder, out_of_order, constant_sum, both_constant, or_twice, by_copy}
 use Rattle.chain_semantics.specs.declared.moves.Move.TheVariants.{Const, DropRow, DropLiteral, Signal, Pair}
@@ -70,16 +71,16 @@ pub record FlipExamples : Type 0 where
   pub values : outputs_of out_of_order (false ∷ []) ≡ false ∷ true ∷ false ∷ []
   pub reader_flipped : flipped_outputs out_of_order (false ∷ []) 0 ≡ true ∷ true ∷ false ∷ []
   pub read_flipped : flipped_outputs out_of_order (false ∷ []) 1 ≡ true ∷ false ∷ false ∷ []
-  pub sum_flipped : map (λ x. error_of Abs (outputs_of half_adder x) (flipped_outputs half_adder x 0))
+  pub sum_flipped : map (λ x. error_of (one_word Abs) (outputs_of half_adder x) (flipped_outputs half_adder x 0))
       (all_vectors 2) ≡ 1 ∷ 1 ∷ 1 ∷ 1 ∷ []
-  pub carry_flipped : map (λ x. error_of Abs (outputs_of half_adder x) (flipped_outputs half_adder x 1))
+  pub carry_flipped : map (λ x. error_of (one_word Abs) (outputs_of half_adder x) (flipped_outputs half_adder x 1))
       (all_vectors 2) ≡ 2 ∷ 2 ∷ 2 ∷ 2 ∷ []
-  pub carry_moved : map (net_error Abs half_adder (moved half_adder (DropLiteral 1 0 0))) (all_vectors 2)
+  pub carry_moved : map (net_error (one_word Abs) half_adder (moved half_adder (DropLiteral 1 0 0))) (all_vectors 2)
       ≡ 0 ∷ 0 ∷ 2 ∷ 0 ∷ []
 
 -- the half adder against itself within 1: at both ones the flipped carry errs by 2, and the flipped sum by 1
 pub record CareExamples : Type 0 where
-  pub carry : IsCaredFor Abs half_adder 1 half_adder 1 (true ∷ true ∷ [])
-  pub sum : ¬ IsCaredFor Abs half_adder 1 half_adder 0 (true ∷ true ∷ [])
-  pub broken : IsBrokenAt Abs half_adder 1 half_adder (Const 1 false) (true ∷ true ∷ [])
-  pub not_broken : ¬ IsBrokenAt Abs half_adder 1 half_adder (Const 1 false) (false ∷ false ∷ [])
+  pub carry : IsCaredFor (one_word Abs) half_adder 1 half_adder 1 (true ∷ true ∷ [])
+  pub sum : ¬ IsCaredFor (one_word Abs) half_adder 1 half_adder 0 (true ∷ true ∷ [])
+  pub broken : IsBrokenAt (one_word Abs) half_adder 1 half_adder (Const 1 false) (true ∷ true ∷ [])
+  pub not_broken : ¬ IsBrokenAt (one_word Abs) half_adder 1 half_adder (Const 1 false) (false ∷ false ∷ [])

@@ -3,7 +3,8 @@ use Rattle.std.specs.Prelude.{true, [], ◌∷◌, codes}
 use Rattle.semantics.specs.declared.mark.Mark.TheVariants.{One}
 use Rattle.semantics.specs.Net.{NetValue}
 use Rattle.semantics.specs.Replaced.{with_table}
-use Rattle.semantics.specs.declared.metric.Metric.TheVariants.{Abs}
+use Rattle.semantics.specs.declared.metric.Kind.TheVariants.{Abs}
+use Rattle.semantics.specs.Error.{one_word}
 use Rattle.semantics.specs.Examples.{half_adder, constant_sum}
 use Rattle.chain_semantics.specs.Simplification.{IsSimplificationEnd}
 
@@ -13,5 +14,5 @@ carry_is_b = with_table constant_sum 1
     (record { name = codes "c"; pins = 1 ∷ []; rows = (One ∷ []) ∷ []; plane = true })
 
 pub record SimplificationExamples : Type 0 where
-  pub within_one : IsSimplificationEnd Abs half_adder 1 carry_is_b
-  pub not_the_read_net : ¬ IsSimplificationEnd Abs half_adder 1 half_adder
+  pub within_one : IsSimplificationEnd (one_word Abs) half_adder 1 carry_is_b
+  pub not_the_read_net : ¬ IsSimplificationEnd (one_word Abs) half_adder 1 half_adder

@@ -3,7 +3,8 @@ use Rattle.std.proofs.Common.{◌≡◌, ◌≢◌, ℕ, List, Option, Some, Non
 use Rattle.semantics.specs.Texts.{Bytes}
 use Rattle.semantics.specs.Net.{NetValue}
 use Rattle.semantics.specs.declared.metric.Metric.{Metric}
-use Rattle.semantics.specs.declared.metric.Metric.TheVariants.{Abs}
+use Rattle.semantics.specs.declared.metric.Kind.TheVariants.{Abs}
+use Rattle.semantics.specs.Error.{one_word}
 use Rattle.outside_semantics.specs.Outside.{FilesTold, SinkTold}
 use Rattle.proof_semantics.specs.Queries.{SpentValue}
 use Rattle.job_semantics.specs.Job.{Job, synth, check, demo, flat, aag, blif, trim, job_of}
@@ -105,10 +106,10 @@ module _ {words : List Bytes} {old new : FilesTold} {said says : SinkTold} where
   named_is_no_usage job o named run usage = let bad : ◌≡◌ {A = Option Job} None (Some job) = sym (run.usage.0 usage) ∙ named in cc
 
   pub demo-says : {width bound limit : ℕ} (o : Outcome) → job_of words ≡ Some (demo width bound limit)
-      → BundleAnswer Abs bound limit (demo_net width) demo_stem old new said says o → RunSays words old new said says o
+      → BundleAnswer (one_word Abs) bound limit (demo_net width) demo_stem old new said says o → RunSays words old new said says o
   demo-says {width} {bound} {limit} o named answer =
-      job_says (demo width bound limit) o named (bundle_is_no_usage Abs bound limit (demo_net width) demo_stem old new said says (told_query o.spent) (told_query o.level) o.status answer)
-      (bundle_spends Abs bound limit (demo_net width) demo_stem old new said says (told_query o.spent) (told_query o.level) o.status answer) answer
+      job_says (demo width bound limit) o named (bundle_is_no_usage (one_word Abs) bound limit (demo_net width) demo_stem old new said says (told_query o.spent) (told_query o.level) o.status answer)
+      (bundle_spends (one_word Abs) bound limit (demo_net width) demo_stem old new said says (told_query o.spent) (told_query o.level) o.status answer) answer
 
 -- a quiet run ends as it was asked to
 pub quiet_job_ends : (job : Job) (old new : FilesTold) (said says : SinkTold) (o : Outcome) → JobAnswer job old new said says o → IsQuietJob job old new said says → EndsAsAsked job old o
@@ -116,7 +117,7 @@ quiet_job_ends (synth metric bound conflicts input stem) old new said says o ans
     quiet_ends metric bound conflicts input stem old new said says (told_query o.spent) (told_query o.level) o.status answer quiet
 quiet_job_ends (check metric bound input stem) old new said says o answer quiet = quiet_check_ends o.status answer.0 answer.1 quiet
 quiet_job_ends (demo width bound conflicts) old new said says o answer quiet =
-    quiet_demo_ends Abs bound conflicts (demo_net width) old new said says (told_query o.spent) (told_query o.level) o.status answer quiet
+    quiet_demo_ends (one_word Abs) bound conflicts (demo_net width) old new said says (told_query o.spent) (told_query o.level) o.status answer quiet
 quiet_job_ends (flat input output) old new said says o answer quiet =
     quiet_conversion_ends flat_text TellsHier hier_is_refusal input output o.status answer.0.0 answer.0.1 quiet
 quiet_job_ends (aag input output) old new said says o answer quiet =

@@ -3,7 +3,8 @@ use Rattle.std.specs.Prelude.{◌≡◌, ◌↔◌, ℕ, Option, Some, None, Res
 use Rattle.semantics.specs.Texts.{Bytes}
 use Rattle.semantics.specs.Net.{NetValue, input_count}
 use Rattle.semantics.specs.declared.metric.Metric.{Metric}
-use Rattle.semantics.specs.declared.metric.Metric.TheVariants.{Abs}
+use Rattle.semantics.specs.declared.metric.Kind.TheVariants.{Abs}
+use Rattle.semantics.specs.Error.{one_word}
 use Rattle.outside_semantics.specs.Outside.{FilesTold, SinkTold}
 use Rattle.blif_semantics.specs.Reading.{Refusal}
 use Rattle.proof_semantics.specs.Conflicts.{IsEnough}
@@ -112,7 +113,7 @@ JobAnswer (synth metric bound conflicts input stem) old new said says o
 JobAnswer (check metric bound input stem) old new said says o
     = CheckAnswer metric bound input stem old new said says o.status
 JobAnswer (demo width bound conflicts) old new said says o
-    = BundleAnswer Abs bound conflicts (demo_net width) demo_stem old new said says o
+    = BundleAnswer (one_word Abs) bound conflicts (demo_net width) demo_stem old new said says o
 JobAnswer (flat input output) old new said says o
     = ConversionAnswer flat_text TellsHier input output old new said says o.status × AsksNoQuery o
 JobAnswer (aag input output) old new said says o

@@ -1,6 +1,7 @@
 //! A demo job, and what its answer tells.
 ghost use Rattle.std.specs.Prelude.{◌≤◌};
-ghost use Rattle.semantics.specs.declared.metric.Metric.TheVariants.{Abs};
+ghost use Rattle.semantics.specs.declared.metric.Kind.TheVariants.{Abs};
+ghost use Rattle.semantics.specs.Error.{one_word};
 ghost use Rattle.job_semantics.specs.Demo.{demo_net};
 ghost use Rattle.job_semantics.specs.Demonstration.{demo_stem};
 ghost use Rattle.jobs.specs.Run.{BundleAnswer};
@@ -28,7 +29,7 @@ pub fn demonstrate<F: Files, K: Sink, P: Progress>(
     requires bound { bound ≤ LARGEST_ERROR }
     requires limit { 1 ≤ limit }
     ensures { BundleAnswer
-        Abs
+        (one_word Abs)
         bound
         limit
         (demo_net width)

@@ -9,7 +9,7 @@ use Rattle.quality_semantics.specs.Quality.{quality}
 use Rattle.quality_semantics.specs.Joint.{approximate_signal, quality_signal, joint_net, AreComparable}
 use Rattle.quality_semantics.proofs.Joint.{joint_inputs, joint_outputs, joint_acyclic, joint_exact, joint_approximate, joint_output as output_tells, outputs_are, quality_below, approximate_below}
 use Rattle.quality_semantics.proofs.Joint.{length-both_copies, whole_length}
-use Rattle.quality_semantics.proofs.Quality.{quality_output}
+use Rattle.quality_semantics.proofs.Words.{quality_output}
 use Rattle.proof_semantics.specs.Clauses.{Satisfies, IsUnsatisfiable}
 use Rattle.proof_semantics.specs.NetClauses.{goal_clauses}
 use Rattle.proof_semantics.specs.Variables.{place_value, by_place}

@@ -4,7 +4,8 @@ use Rattle.std.specs.Prelude.{Err, ⊤}
 use Rattle.semantics.specs.declared.mark.Mark.{Mark}
 use Rattle.semantics.specs.declared.mark.Mark.TheVariants.{Zero, One, Dash}
 use Rattle.semantics.specs.Net.{TableValue, constant_table}
-use Rattle.semantics.specs.declared.metric.Metric.TheVariants.{Abs, Sabs}
+use Rattle.semantics.specs.declared.metric.Kind.TheVariants.{Abs, Sabs}
+use Rattle.semantics.specs.Error.{one_word}
 use Rattle.semantics.specs.Examples.{text, minus, half_adder, constant_sum, wire}
 use Rattle.proof_semantics.specs.declared.item.Item.TheVariants.{Add, Remove}
 use Rattle.proof_semantics.specs.declared.step_refusal.StepRefusal.{StepRefusal}
@@ -117,8 +118,8 @@ pub record LratExamples : Type 0 where
 
 -- one wire against itself, and the half adder whose sum is constant against the half adder
 pub record MiterExamples : Type 0 where
-  pub of_wires : ((miter wire wire Abs 0).variables ≡ 41) × (length (miter wire wire Abs 0).clauses ≡ 132)
-  pub of_adders : ((miter half_adder constant_sum Abs 1).variables ≡ 76)
-      × (length (miter half_adder constant_sum Abs 1).clauses ≡ 246)
-  pub of_signed_adders : ((miter half_adder constant_sum Sabs 1).variables ≡ 80)
-      × (length (miter half_adder constant_sum Sabs 1).clauses ≡ 254)
+  pub of_wires : ((miter wire wire (one_word Abs) 0).variables ≡ 41) × (length (miter wire wire (one_word Abs) 0).clauses ≡ 132)
+  pub of_adders : ((miter half_adder constant_sum (one_word Abs) 1).variables ≡ 76)
+      × (length (miter half_adder constant_sum (one_word Abs) 1).clauses ≡ 246)
+  pub of_signed_adders : ((miter half_adder constant_sum (one_word Sabs) 1).variables ≡ 80)
+      × (length (miter half_adder constant_sum (one_word Sabs) 1).clauses ≡ 254)

@@ -1,7 +1,8 @@
 -- What the program of a demonstration says.
 use Rattle.std.specs.Prelude.{◌≡◌, ℕ, Bool, true, false, List, Some, None, codes}
 use Rattle.semantics.specs.Texts.{Bytes}
-use Rattle.semantics.specs.declared.metric.Metric.TheVariants.{Abs}
+use Rattle.semantics.specs.declared.metric.Kind.TheVariants.{Abs}
+use Rattle.semantics.specs.Error.{one_word}
 use Rattle.outside_semantics.specs.Outside.{FilesTold, SinkTold}
 use Rattle.job_semantics.specs.Job.{Job, demo, job_of}
 use Rattle.job_semantics.specs.Demo.{demo_net}
@@ -20,7 +21,7 @@ IsUsage old new said says answer = (answer ≡ Usage) × (new ≡ old) × (says 
 -- the answer tells what the work on the generated adder came to
 abbrev pub IsWorked : ℕ → ℕ → ℕ → FilesTold → FilesTold → SinkTold → SinkTold → Answer → Type 0
 IsWorked width bound limit old new said says answer = (work : Work) × (answer ≡ Worked work)
-    × WorkSays Abs bound limit (demo_net width) demo_stem old new said says work
+    × WorkSays (one_word Abs) bound limit (demo_net width) demo_stem old new said says work
 
 -- what the answer to a job says
 abbrev pub JobAnswer : Job → FilesTold → FilesTold → SinkTold → SinkTold → Answer → Type 0

@@ -1,6 +1,7 @@
 //! A demo job: an adder is generated and simplified, and its bundle is written under the stem `demo`.
 ghost use Rattle.std.specs.Prelude.{◌≤◌};
-ghost use Rattle.semantics.specs.declared.metric.Metric.TheVariants.{Abs};
+ghost use Rattle.semantics.specs.declared.metric.Kind.TheVariants.{Abs};
+ghost use Rattle.semantics.specs.Error.{one_word};
 ghost use Rattle.job_semantics.specs.Demo.{demo_net};
 ghost use Rattle.job_semantics.specs.Demonstration.{demo_stem};
 ghost use Rattle.synth_jobs.specs.Work.{WorkSays};
@@ -15,7 +16,7 @@ use file_core::sink::Sink;
 use net_search::search::Search;
 use progress::progress::Progress;
 use semantics::limits::LARGEST_ERROR;
-use semantics::metric::Metric;
+use semantics::metric::{Kind, Metric};
 use std::alloc::Global;
 
 /// Carries out a demo job, with the absolute error.
@@ -32,7 +33,7 @@ pub fn demonstrate<S: Search, F: Files, K: Sink, P: Progress>(
     requires bound { bound ≤ LARGEST_ERROR }
     requires limit { 1 ≤ limit }
     ensures { WorkSays
-        Abs
+        (one_word Abs)
         bound
         limit
         (demo_net width)
@@ -50,7 +51,10 @@ pub fn demonstrate<S: Search, F: Files, K: Sink, P: Progress>(
         return Work::NoMemory;
     };
     let aim = Constraint {
-        metric: Metric::Abs,
+        metric: Metric {
+            kind: Kind::Abs,
+            width: None,
+        },
         bound,
         limit,
     };

@@ -1,5 +1,6 @@
 use Rattle.std.proofs.Common.{◌≡◌, true}
-use Rattle.semantics.specs.declared.metric.Metric.TheVariants.{Abs}
+use Rattle.semantics.specs.declared.metric.Kind.TheVariants.{Abs}
+use Rattle.semantics.specs.Error.{one_word}
 use Rattle.bundle_texts.specs.Reading.{report_read}
 use Rattle.bundle.proofs.JudgedTexts.{counts_at, other_counts, not_shown, all_hold}
 use Rattle.bundle.proofs.judging.check_counts.Goals as goal
@@ -12,7 +13,7 @@ returns-then-not-are_counts c texts known =
     let read = contents.report.now in
     let N = claim.nets.now.exact in
     let M = claim.nets.now.approx in other_counts N metric claim.bound texts M (report_read metric claim.bound read) contents.is_shown known
-    (λ counts. let yes : c.are_counts.result ≡ true = c.are_counts.ensures.1 (counts_at N M read metric Abs claim.bound 0 counts) in cc)
+    (λ counts. let yes : c.are_counts.result ≡ true = c.are_counts.ensures.1 (counts_at N M read metric (one_word Abs) claim.bound 0 counts) in cc)
 
 pub returns-then-not-contents : goal.returns-then-not-contents
 returns-then-not-contents c texts known =
@@ -23,7 +24,7 @@ returns-then-not-contents c texts known =
     let N = claim.nets.now.exact in
     let M = claim.nets.now.approx in
     not_shown N metric claim.bound texts M (report_read metric claim.bound read) contents.is_shown known
-    (counts_at N M read Abs metric 0 claim.bound (c.are_counts.ensures.0 c.if-not-are_counts.false)) (λ is. absurd (cc (is, c.if-not-contents.true)))
+    (counts_at N M read (one_word Abs) metric 0 claim.bound (c.are_counts.ensures.0 c.if-not-are_counts.false)) (λ is. absurd (cc (is, c.if-not-contents.true)))
 
 pub returns : goal.returns
 returns c texts known =
@@ -34,4 +35,4 @@ returns c texts known =
     let N = claim.nets.now.exact in
     let M = claim.nets.now.approx in
     all_hold N metric claim.bound texts M (report_read metric claim.bound read) contents.is_shown known
-    (counts_at N M read Abs metric 0 claim.bound (c.are_counts.ensures.0 c.if-not-are_counts.false)) c.if-not-contents.false
+    (counts_at N M read (one_word Abs) metric 0 claim.bound (c.are_counts.ensures.0 c.if-not-are_counts.false)) c.if-not-contents.false

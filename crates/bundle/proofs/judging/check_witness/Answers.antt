@@ -9,7 +9,8 @@ use Rattle.bundle.specs.Shown.{AskedValue, AreShown, AreShownIn}
 use Rattle.bundle.specs.Judging.{TextRead, TextUnread, Answers, ReportKnown, WitnessKnown}
 use Rattle.semantics.specs.Error.{net_error}
 use Rattle.bundle.proofs.FileTexts.{asked_for, vectors_told, vectors_judged, vectors_read}
-use Rattle.semantics.specs.declared.metric.Metric.TheVariants.{Abs}
+use Rattle.semantics.specs.declared.metric.Kind.TheVariants.{Abs}
+use Rattle.semantics.specs.Error.{one_word}
 use Rattle.std.proofs.lemmas.Bool.{eq-eqb}
 use Rattle.bundle.proofs.JudgedTexts.{counts_at, other_vectors, not_attained, vectors_needed}
 use Rattle.bundle.proofs.ToldAnswers.{answers_memory, answers_unread, answers_failing, answers_later}
@@ -127,7 +128,7 @@ returns g c =
       report = known;
       vectors =
           vectors_judged N M metric claim.bound r witness c.as_slice-witness.ensures c.requires.width by_moves (texts file.Vectors) shown
-          (λ counts. c.decides_by_moves-by_moves.ensures.1 (eq-eqb c.in_ok-error.error r.maximum c.if-not-is_attained.false, counts_at N M c.args.report.now metric Abs claim.bound 0 counts))
+          (λ counts. c.decides_by_moves-by_moves.ensures.1 (eq-eqb c.in_ok-error.error r.maximum c.if-not-is_attained.false, counts_at N M c.args.report.now metric (one_word Abs) claim.bound 0 counts))
           (subst (λ (a : AskedValue). AreShown a shown (texts file.Vectors)) is holds);
       attained =
           sym (ap (net_error metric N M) c.as_slice-witness.ensures) ∙ sym c.in_ok-error.ensures

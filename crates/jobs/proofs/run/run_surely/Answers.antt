@@ -2,7 +2,8 @@ use Rattle.std.proofs.Common.{◌≡◌, ◌≢◌, inl, inr, ℕ, true, false, 
 use Rattle.semantics.specs.Texts.{Bytes}
 use Rattle.semantics.specs.Net.{NetValue}
 use Rattle.semantics.specs.declared.metric.Metric.{Metric}
-use Rattle.semantics.specs.declared.metric.Metric.TheVariants.{Abs}
+use Rattle.semantics.specs.declared.metric.Kind.TheVariants.{Abs}
+use Rattle.semantics.specs.Error.{one_word}
 use Rattle.outside_semantics.specs.Outside.{Rose}
 use Rattle.proof_semantics.specs.Queries.{SpentValue}
 use Rattle.job_semantics.specs.Job.{Job, synth, check, demo, flat, aag, blif, trim, job_of}
@@ -47,15 +48,15 @@ module _ (old new : SureValue) where
       ]
 
   module _ (status : Status) (bound limit : ℕ) (exact : NetValue) (spent level : Option SpentValue)
-      (answer : BundleAnswerAt Abs bound limit exact demo_stem (sure_told old) (sure_told new) sure_sink_told sure_sink_told spent level status) where
+      (answer : BundleAnswerAt (one_word Abs) bound limit exact demo_stem (sure_told old) (sure_told new) sure_sink_told sure_sink_told spent level status) where
     no_demo_write_fault : status ≢ WriteFault
     no_demo_write_fault is =
-        cut_short Abs bound limit exact demo_stem
-        (subst (BundleAnswerAt Abs bound limit exact demo_stem (sure_told old) (sure_told new) sure_sink_told sure_sink_told spent level) is answer).0
+        cut_short (one_word Abs) bound limit exact demo_stem
+        (subst (BundleAnswerAt (one_word Abs) bound limit exact demo_stem (sure_told old) (sure_told new) sure_sink_told sure_sink_told spent level) is answer).0
 
     no_demo_read_fault : status ≢ ReadFault
     no_demo_read_fault is =
-        subst (BundleAnswerAt Abs bound limit exact demo_stem (sure_told old) (sure_told new) sure_sink_told sure_sink_told spent level) is answer
+        subst (BundleAnswerAt (one_word Abs) bound limit exact demo_stem (sure_told old) (sure_told new) sure_sink_told sure_sink_told spent level) is answer
 
   -- no job has a fault
   no_fault : (words : List Bytes) (o : Outcome) → RunSays words (sure_told old) (sure_told new) sure_sink_told sure_sink_told o → (o.status ≢ ReadFault) × (o.status ≢ WriteFault)

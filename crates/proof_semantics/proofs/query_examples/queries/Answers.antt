@@ -1,20 +1,21 @@
 use Rattle.std.proofs.Common.{◌≡◌, ◌<◌, ◌≤◌, Bool, true, false, List, [], ◌∷◌, length, refl, inl, arith}
 use Rattle.semantics.specs.Value.{after_rounds, value_of, outputs_of}
-use Rattle.semantics.specs.declared.metric.Metric.TheVariants.{Abs}
-use Rattle.semantics.specs.Error.{number_of, net_error}
+use Rattle.semantics.specs.declared.metric.Kind.TheVariants.{Abs}
+use Rattle.semantics.specs.Error.{one_word}
+use Rattle.semantics.specs.Error.{number_of, error_of, net_error}
 use Rattle.semantics.specs.Examples.{half_adder, constant_sum}
 use Rattle.proof_semantics.proofs.query_examples.queries.Goals as goal
 
 -- by computation
-right_at_0 : net_error Abs half_adder constant_sum (false ∷ false ∷ []) ≡ 0
-unfolding after_rounds value_of outputs_of net_error
+right_at_0 : net_error (one_word Abs) half_adder constant_sum (false ∷ false ∷ []) ≡ 0
+unfolding after_rounds value_of outputs_of error_of net_error
 right_at_0 = refl
 
-wrong_at_1 : net_error Abs half_adder constant_sum (true ∷ false ∷ []) ≡ 1
-unfolding after_rounds value_of outputs_of net_error
+wrong_at_1 : net_error (one_word Abs) half_adder constant_sum (true ∷ false ∷ []) ≡ 1
+unfolding after_rounds value_of outputs_of error_of net_error
 wrong_at_1 = refl
 
-right_before : (y : List Bool) → length y ≡ 2 → number_of y < 1 → net_error Abs half_adder constant_sum y ≤ 0
+right_before : (y : List Bool) → length y ≡ 2 → number_of y < 1 → net_error (one_word Abs) half_adder constant_sum y ≤ 0
 right_before [] width low = absurd (omega (arith, width))
 right_before (a ∷ []) width low = absurd (omega (arith, width))
 right_before (false ∷ false ∷ []) width low = omega (arith, right_at_0)
@@ -22,15 +23,15 @@ right_before (false ∷ true ∷ []) width low = absurd (omega (arith, low))
 right_before (true ∷ b ∷ []) width low = absurd (omega (arith, low))
 right_before (a ∷ b ∷ d ∷ bits) width low = absurd (omega (arith, width))
 
-wrong_at_2 : net_error Abs half_adder constant_sum (false ∷ true ∷ []) ≡ 1
-unfolding after_rounds value_of outputs_of net_error
+wrong_at_2 : net_error (one_word Abs) half_adder constant_sum (false ∷ true ∷ []) ≡ 1
+unfolding after_rounds value_of outputs_of error_of net_error
 wrong_at_2 = refl
 
-right_at_3 : net_error Abs half_adder constant_sum (true ∷ true ∷ []) ≡ 0
-unfolding after_rounds value_of outputs_of net_error
+right_at_3 : net_error (one_word Abs) half_adder constant_sum (true ∷ true ∷ []) ≡ 0
+unfolding after_rounds value_of outputs_of error_of net_error
 right_at_3 = refl
 
-at_most_1 : (y : List Bool) → length y ≡ 2 → net_error Abs half_adder constant_sum y ≤ 1
+at_most_1 : (y : List Bool) → length y ≡ 2 → net_error (one_word Abs) half_adder constant_sum y ≤ 1
 at_most_1 [] width = absurd (omega (arith, width))
 at_most_1 (a ∷ []) width = absurd (omega (arith, width))
 at_most_1 (false ∷ false ∷ []) width = omega (arith, right_at_0)
