@@ -1,6 +1,6 @@
 -- The network of a level over outputs that are cut into words: the signals of the words, joined one after
 -- another, say whether the error exceeds the level.
-use Rattle.std.proofs.Common.{◌≡◌, ℕ, zero, suc, ◌+◌, ◌-◌, ◌*◌, ◌<◌, ◌≤◌, min, max, Bool, true, false, ◌||◌, List, [], ◌∷◌, length, map, take, drop, ltb, leb, inl, inr, refl, ap, sym, subst, ◌∙◌, arith}
+use Rattle.std.proofs.Common.{◌≡◌, ℕ, zero, suc, ◌+◌, ◌-◌, ◌*◌, ◌<◌, ◌≤◌, min, max, Bool, false, ◌||◌, List, length, map, take, drop, ltb, leb, inl, inr, refl, ap, sym, subst, ◌∙◌, arith}
 use Rattle.std.specs.List.{range_with_len}
 use Rattle.std.proofs.lemmas.Bool.{cases_lt, le-ltb}
 use Rattle.std.proofs.lemmas.Bool.Decides.{nat_tests}
@@ -14,10 +14,10 @@ use Rattle.semantics.proofs.Sizes.{word_error-le}
 use Rattle.semantics.proofs.Words.{greatest_of-same, word_begins, word_width-some}
 use Rattle.quality_semantics.specs.Forms.{or2}
 use Rattle.quality_semantics.specs.WordNets.{WordNetValue, signals, appended, started, BeginsWith}
-use Rattle.quality_semantics.specs.Buses.{differ, at_least, places}
+use Rattle.quality_semantics.specs.Buses.{differ, places}
 use Rattle.quality_semantics.specs.Quality.{word_quality, differing_excess, exact_bus, approximate_bus}
 use Rattle.quality_semantics.specs.Laws.{Fits}
-use Rattle.quality_semantics.proofs.Growth.{begins_itself, begins_after, begins_appended, begins_differences, begins_at_least, Fits-earlier, Fits-newest}
+use Rattle.quality_semantics.proofs.Growth.{begins_itself, begins_after, begins_differences, begins_at_least, Fits-earlier, Fits-newest}
 use Rattle.quality_semantics.proofs.Counts.{differ_count, at_least_value}
 use Rattle.quality_semantics.proofs.Tables.{or2_value}
 use Rattle.quality_semantics.proofs.Quality.{quality_zero, quality_excess}
@@ -65,14 +65,6 @@ differing_quality v W e a k widths =
 pub differing_says : (k : ℕ) (W V : WordNetValue) (e a : List ℕ) (s : ℕ) → length e ≡ length a → V ≡ (word_quality Ham W e a k).net → s ≡ (word_quality Ham W e a k).signal
     → SaysWordExcess Ham k e a V s
 differing_says k W V e a s widths made is = record { at = λ v fits. ap v is ∙ differing_quality v W e a k widths (subst (Fits v) made fits) }
-
--- ---- two signals that are joined
-
-pub either_first : (W : WordNetValue) (s t : ℕ) → s ≡ W.inputs → HasBit W t (λ v. v s || v t)
-either_first W s t none = record { at = λ v fits. let zero : v s ≡ false = ap v none ∙ fits.zero in rw zero refl }
-
-pub either_made : (W V : WordNetValue) (s t r : ℕ) → V ≡ appended W (or2 s t) → r ≡ signals W → HasBit V r (λ v. v s || v t)
-either_made W V s t r made is = record { at = λ v fits. ap v is ∙ Fits-newest v W (or2 s t) (subst (Fits v) made fits) ∙ or2_value v s t }
 
 -- ---- the first words
 
@@ -148,11 +140,11 @@ exceeds_all metric n k W s j before end = record {
       let a : List Bool = map v (range_with_len n n) in
       let width : length e ≡ n = length-map-range_with_len v 0 n in
       let each : (i : ℕ) → i < word_count metric n → bus_error metric n v i ≡ word_error metric.kind (word_at w i e) (word_at w i a) =
-          λ i low.
-          let inside : i * w ≤ n = omega (arith, word_begins n w i (word_width-some metric n) low) in
-          let first = word_values v 0 n w i (i * w) inside (omega arith) in
-          let second = word_values v n n w i (n + i * w) inside refl in
-          rw (first, second) refl in
+      λ i low.
+      let inside : i * w ≤ n = omega (arith, word_begins n w i (word_width-some metric n) low) in
+      let first = word_values v 0 n w i (i * w) inside (omega arith) in
+      let second = word_values v n n w i (n + i * w) inside refl in
+      rw (first, second) refl in
       before.at v fits
       ∙ ap (λ i. ltb k (greatest_of (bus_error metric n v) i)) end
       ∙ ap (ltb k) (greatest_of-same (bus_error metric n v) _ (word_count metric n) each)

@@ -1,5 +1,5 @@
 -- The network of a fraction says whether the relative error of a word exceeds the level.
-use Rattle.std.proofs.Common.{◌≡◌, ℕ, zero, suc, ◌+◌, ◌-◌, ◌*◌, ◌%◌, ◌^◌, ◌<◌, ◌≤◌, max, ltb, List, length, map, ap, sym, ◌∙◌, arith}
+use Rattle.std.proofs.Common.{◌≡◌, ℕ, zero, suc, ◌-◌, ◌*◌, ◌%◌, ◌^◌, ◌<◌, ◌≤◌, max, ltb, List, length, map, ap, sym, ◌∙◌, arith}
 use Rattle.std.proofs.Math.Nat.{pow-le-pow_right}
 use Rattle.std.proofs.lemmas.Bool.{le-ltb}
 use Rattle.std.proofs.lemmas.Nat.{pow_pos}
@@ -45,7 +45,8 @@ most : (w : ℕ) → w ≤ 64 → (1 * 2 ^ w) % 2 ^ 128 - 1 ≡ 2 ^ w - 1
 most w narrow = let few : 2 ^ w ≤ 2 ^ 64 = pow-le-pow_right (omega arith) narrow in omega (arith, few)
 
 -- no relative error exceeds a level from the greatest one on
-pub never_says : (w k : ℕ) (W : WordNetValue) (e a : List ℕ) (s : ℕ) → w ≡ length e → w ≤ 64 → length e ≡ length a → ((1 * 2 ^ w) % 2 ^ 128 - 1) * 1000000 ≤ k → s ≡ W.inputs → SaysWordExcess Rel k e a W s
+pub never_says : (w k : ℕ) (W : WordNetValue) (e a : List ℕ) (s : ℕ) → w ≡ length e → w ≤ 64 → length e ≡ length a → ((1 * 2 ^ w) % 2 ^ 128 - 1) * 1000000 ≤ k → s ≡ W.inputs
+    → SaysWordExcess Rel k e a W s
 never_says w k W e a s width narrow widths high is = record {
   at = λ v fits.
       let within = word_error-le Rel w (map v e) (map v a) (length-map e v ∙ sym width) (length-map a v ∙ sym widths ∙ sym width) in

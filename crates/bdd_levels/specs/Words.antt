@@ -12,7 +12,8 @@ use Rattle.quality_semantics.specs.Laws.{Fits}
 pub record SaysWordExcess (kind : Kind) (k : ℕ) (e a : List ℕ) (W : WordNetValue) (s : ℕ) : Type 0 where
   pub at : (v : Assignment) → Fits v W → v s ≡ nat_lt k (word_error kind (map v e) (map v a))
 
--- the signal of a network over n exact outputs, and then n approximate ones, says whether their error exceeds k
+-- the signal of a network over n exact outputs, and n approximate ones behind them, says whether their error
+-- exceeds k
 pub record SaysExcess (metric : Metric) (n k : ℕ) (W : WordNetValue) (s : ℕ) : Type 0 where
   pub begins : BeginsWith W (started (n + n))
   pub at : (v : Assignment) → Fits v W

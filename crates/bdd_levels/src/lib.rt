@@ -5,8 +5,8 @@
 //! again. `orders` has orders of inputs, and `decider` keeps the diagrams in the best of these orders over
 //! many questions. `words` joins the networks of the words into which the outputs are cut. `distances` has
 //! the networks of the absolute and the signed error of a word, whose diagrams are small where two nets are
-//! nearly equal, and `relative` the network of the relative error, which has smaller numbers besides. What may
-//! be spent on each stands in `budgets`.
+//! nearly equal, and `relative` the network of the relative error, which has smaller numbers besides. What
+//! may be spent on each stands in `budgets`.
 #![tactic(auto)]
 
 pub mod budgets;
