@@ -59,6 +59,9 @@ no_slash_in_kind Sabs = All-from_recursion (λ c. is_slash c ≡ false) (codes "
 
 -- ---- widths
 
+pub large : MOST_OUTPUTS < 10 ^ 64
+large = lit< tt
+
 -- a number that a word names is in the range, and the word is the number's
 pub number_word : (low high : ℕ) (word : Bytes) (n : ℕ) → high < 10 ^ 64 → number_from_to low high word ≡ Some n → (word ≡ decimal n) × ((low ≤ n) × (n ≤ high))
 number_word low high word n few is = at_test (is_decimal word && (nat_le low (digits_number word) && nat_le (digits_number word) high)) refl is
@@ -87,17 +90,17 @@ each_no_slash : (word : Bytes) → list_all is_digit word ≡ true → AllByRecu
 each_no_slash [] h = tt
 each_no_slash (c ∷ word) h = let parts = and_parts (is_digit c) (list_all is_digit word) h in (digit-no_slash c parts.0, each_no_slash word parts.1)
 
-no_slash_in_digits : (word : Bytes) → list_all is_digit word ≡ true → All (λ c. is_slash c ≡ false) word
-no_slash_in_digits word h = All-from_recursion (λ c. is_slash c ≡ false) word (each_no_slash word h)
+-- a number's word has no slash
+pub decimal-one_part : (n : ℕ) → n < 10 ^ 64 → slice_split is_slash (decimal n) ≡ decimal n ∷ []
+decimal-one_part n few =
+    let digits = digits-decimal (decimal n) (is_decimal-decimal n few) in
+    slice_split_none is_slash (decimal n) (All-from_recursion (λ c. is_slash c ≡ false) (decimal n) (each_no_slash (decimal n) digits))
 
 -- ---- metrics
 
 -- the parts, joined by a slash, are the metric's word, and its width is in the range
 Names : List Bytes → Metric → Type 0
 Names parts metric = (join_with_byte 47 parts ≡ metric_word metric) × HasNamedWidth metric
-
-large : MOST_OUTPUTS < 10 ^ 64
-large = lit< tt
 
 named_parts : (parts : List Bytes) (metric : Metric) → metric_of_parts parts ≡ Some metric → Names parts metric
 unfolding Names
@@ -123,8 +126,8 @@ metric_named : (kind : Kind) (width : Option ℕ) → let metric : Metric = reco
 metric_named kind None h =
     ap metric_of (append-nil (kind_word kind)) ∙ ap metric_of_parts (slice_split_none is_slash (kind_word kind) (no_slash_in_kind kind)) ∙ rw (named kind) refl
 metric_named kind (Some w) h =
-    let digits = no_slash_in_digits (decimal w) (digits-decimal (decimal w) (is_decimal-decimal w (omega (arith, large, h.1)))) in
-    ap metric_of_parts (slice_split_at is_slash (kind_word kind) 47 (decimal w) (no_slash_in_kind kind) refl ∙ ap (λ p. kind_word kind ∷ p) (slice_split_none is_slash (decimal w) digits))
+    let alone = decimal-one_part w (omega (arith, large, h.1)) in
+    ap metric_of_parts (slice_split_at is_slash (kind_word kind) 47 (decimal w) (no_slash_in_kind kind) refl ∙ ap (λ p. kind_word kind ∷ p) alone)
     ∙ rw (named kind, number_word-names 1 MOST_OUTPUTS w large h.0 h.1) refl
 
 pub metric_word-names : (word : Bytes) (metric : Metric) → (metric_of word ≡ Some metric) ↔ ((word ≡ metric_word metric) × HasNamedWidth metric)
