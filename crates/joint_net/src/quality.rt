@@ -1,10 +1,10 @@
-//! The quality network of all words: the tables of each word, one word behind another, and the disjunction of
+//! The quality network of all words: the tables of each word, one word behind another, and the disjunctions of
 //! the signals that say which words err by too much.
-ghost use Rattle.std.specs.Prelude.{◌≡◌, ◌+◌, ◌<◌, ◌≤◌, [], ◌∷◌, length, IfOk, OnOk};
+ghost use Rattle.std.specs.Prelude.{◌≡◌, ◌+◌, ◌<◌, ◌≤◌, length, IfOk, OnOk};
 ghost use Rattle.semantics.specs.Error.{word_width, word_count};
 ghost use Rattle.quality_semantics.specs.WordNets.{signals, started, AreSignalsOf};
-ghost use Rattle.quality_semantics.specs.Quality.{word_quality, exact_bus, approximate_bus, after_words};
-ghost use Rattle.quality_semantics.specs.Quality.{any_of, quality_net};
+ghost use Rattle.quality_semantics.specs.Quality.{word_quality, exact_bus, approximate_bus, joined};
+ghost use Rattle.quality_semantics.specs.Quality.{after_words, quality_net};
 
 use bus_nets::bus::Bus;
 use bus_nets::forms::OR2;
@@ -60,6 +60,7 @@ fn append_word_at(
     ensures signal { IfOk result
         (λ s. s ≡ (word_quality metric.kind net.old (exact_bus (word_width metric outputs) outputs word)
         (approximate_bus (word_width metric outputs) outputs word) k).signal) }
+    ensures within { IfOk result (λ s. s < signals net.new) }
 {
     let (first, size) = word_place(metric, outputs, word);
     let exact = net.input_bus(first, size)?;
@@ -67,53 +68,58 @@ fn append_word_at(
     append_word(net, metric.kind, &exact, &approx, k)
 }
 
+/// Joins what word `word`, from 0, says to what the words before it say: the signal that says whether one of
+/// these words errs too much. Word 0 stands alone.
+fn join(
+    net: &mut WordNet,
+    word: u32,
+    before: Signal,
+    signal: Signal,
+) -> Result<Signal, AllocError>
+    requires before_in { before < signals net.old }
+    requires signal_in { signal < signals net.old }
+    ensures ok { OnOk result
+        (net.new ≡ (joined word before (record { net = net.old; signal = signal })).net) }
+    ensures signal { IfOk result
+        (λ s. s ≡ (joined word before (record { net = net.old; signal = signal })).signal) }
+    ensures within { IfOk result (λ s. s < signals net.new) }
+{
+    if word == 0 {
+        Ok(signal)
+    } else {
+        net.append_form([before, signal], &OR2)
+    }
+}
+
 /// Appends the tables of all words of `outputs` outputs to a network that has none but the two constants, and
-/// returns for each word the signal that says whether its error exceeds `k`.
+/// returns the signal that says whether the error of some word exceeds `k`.
 fn append_words(
-    alloc: Global,
     net: &mut WordNet,
     metric: Metric,
     outputs: u32,
     k: u128,
-) -> Result<Bus, AllocError>
+) -> Result<Signal, AllocError>
     requires start { net.old ≡ started (outputs + outputs) }
     requires few { outputs ≤ MOST_OUTPUTS }
     ensures ok { OnOk result
         (net.new ≡ (after_words metric.kind (word_width metric outputs) outputs k
         (word_count metric outputs)).net) }
-    ensures bus { IfOk result
-        (λ b. b ≡ (after_words metric.kind (word_width metric outputs) outputs k
-        (word_count metric outputs)).bus) }
-    ensures within { IfOk result (λ b. AreSignalsOf net.new b) }
-{
-    let mut bus = Bus::new(alloc);
-    for word in 0..word_count(metric, outputs) {
-        let signal = append_word_at(net, metric, outputs, word, k)?;
-        bus.push(signal)?;
-    }
-    Ok(bus)
-}
-
-/// Appends the disjunction of the signals of a bus, and returns its signal. One signal is returned as it is,
-/// and no signals are the constant 0.
-fn any_of(net: &mut WordNet, bus: &[Signal]) -> Result<Signal, AllocError>
-    requires { AreSignalsOf net.old bus.now }
-    ensures ok { OnOk result (net.new ≡ (any_of net.old bus.now).net) }
-    ensures signal { IfOk result (λ s. s ≡ (any_of net.old bus.now).signal) }
+    ensures signal { IfOk result
+        (λ s. s ≡ (after_words metric.kind (word_width metric outputs) outputs k
+        (word_count metric outputs)).signal) }
     ensures within { IfOk result (λ s. s < signals net.new) }
 {
-    let Some((first, rest)) = bus.split_first() else {
-        return Ok(net.zero());
-    };
-    let mut any = *first;
-    for signal in rest {
-        any = net.append_form([any, *signal], &OR2)?;
+    let mut over = net.zero();
+    for word in 0..word_count(metric, outputs) {
+        let signal = append_word_at(net, metric, outputs, word, k)?;
+        over = join(net, word, over, signal)?;
     }
-    Ok(any)
+    Ok(over)
 }
 
 /// The net whose output says whether the error of `outputs` outputs exceeds `k`: the tables of each word, and
-/// the disjunction of what they say. Want of memory is the only error.
+/// behind each word but the first the disjunction of what the words so far say. Want of memory is the only
+/// error.
 pub(crate) fn quality(
     alloc: Global,
     metric: Metric,
@@ -124,7 +130,6 @@ pub(crate) fn quality(
     ensures { IfOk result (λ n. n ≡ quality_net metric outputs k) }
 {
     let mut net = WordNet::new(alloc, outputs + outputs)?;
-    let words = append_words(alloc, &mut net, metric, outputs, k)?;
-    let output = any_of(&mut net, words.as_slice())?;
+    let output = append_words(&mut net, metric, outputs, k)?;
     net.finish(&[output])
 }

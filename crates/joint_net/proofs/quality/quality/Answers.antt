@@ -1,4 +1,3 @@
-use Rattle.std.proofs.Common.{◌∙◌}
 use Rattle.std.proofs.lemmas.Result.{IfOk-weaker}
 use Rattle.joint_net.proofs.Words.{all_words}
 use Rattle.joint_net.proofs.quality.quality.Goals as goal
@@ -6,5 +5,4 @@ use Rattle.joint_net.proofs.quality.quality.Goals as goal
 pub returns : goal.returns
 returns c =
     IfOk-weaker c.finish.result _ _
-    (λ n is. all_words c.args.metric c.args.outputs c.args.k _ _ _ _ n c.in_ok-words.ensures.ok (c.as_slice.ensures ∙ c.in_ok-words.ensures.bus) c.in_ok-output.ensures.ok c.in_ok-output.ensures.signal is)
-    c.finish.ensures
+    (λ n is. all_words c.args.metric c.args.outputs c.args.k _ _ n c.in_ok-output.ensures.ok c.in_ok-output.ensures.signal is) c.finish.ensures
