@@ -5,7 +5,6 @@ use Rattle.std.proofs.lemmas.List.Elements.{All-head, All-tail}
 use Rattle.std.proofs.lemmas.List.FromFn.{length-range_with_len}
 use Rattle.semantics.specs.Net.{NetValue}
 use Rattle.semantics.specs.declared.metric.Metric.{Metric}
-use Rattle.semantics.specs.declared.metric.Kind.{Kind}
 use Rattle.semantics.specs.Error.{word_width, word_count}
 use Rattle.quality_semantics.specs.WordNets.{WordNetValue, signals, net_of, AreSignalsOf}
 use Rattle.quality_semantics.specs.Quality.{after_words, joined, any_of, quality, quality_net}
