@@ -70,12 +70,7 @@ fn append_word_at(
 
 /// Joins what word `word`, from 0, says to what the words before it say: the signal that says whether one of
 /// these words errs too much. Word 0 stands alone.
-fn join(
-    net: &mut WordNet,
-    word: u32,
-    before: Signal,
-    signal: Signal,
-) -> Result<Signal, AllocError>
+fn join(net: &mut WordNet, word: u32, before: Signal, signal: Signal) -> Result<Signal, AllocError>
     requires before_in { before < signals net.old }
     requires signal_in { signal < signals net.old }
     ensures ok { OnOk result

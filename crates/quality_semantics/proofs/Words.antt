@@ -1,5 +1,5 @@
 -- The quality network of several words, one behind another.
-use Rattle.std.proofs.Common.{◌≡◌, ◌⊎◌, ℕ, zero, suc, ◌+◌, ◌-◌, ◌*◌, ◌<◌, ◌≤◌, min, max, Bool, true, false, ◌||◌, List, [], ◌∷◌, ◌++◌, length, map, take, drop, ltb, refl, ap, sym, subst, ◌∙◌, arith, length-append, length-drop, length-take}
+use Rattle.std.proofs.Common.{◌≡◌, ◌⊎◌, ℕ, zero, suc, ◌+◌, ◌-◌, ◌*◌, ◌<◌, ◌≤◌, min, max, Bool, false, ◌||◌, List, length, map, take, drop, ltb, refl, ap, sym, subst, ◌∙◌, arith, length-drop, length-take}
 use Rattle.std.specs.List.{range_with_len}
 use Rattle.std.proofs.lemmas.Bool.{cases_lt}
 use Rattle.std.proofs.lemmas.Bool.Decides.{nat_tests}
@@ -12,7 +12,7 @@ use Rattle.semantics.specs.Value.{Assignment, value_of}
 use Rattle.semantics.specs.declared.metric.Metric.{Metric}
 use Rattle.semantics.specs.declared.metric.Kind.{Kind}
 use Rattle.semantics.specs.declared.metric.Kind.TheVariants.{Abs, Rel, Ham, Sabs}
-use Rattle.semantics.specs.Error.{word_error, greatest_error, one_word, in_words, word_width, word_count, word_at, greatest_of, error_of_word, error_of}
+use Rattle.semantics.specs.Error.{word_error, greatest_error, one_word, in_words, word_width, word_count, word_at, greatest_of, error_of}
 use Rattle.semantics.proofs.Order.{IsAcyclic-in_order}
 use Rattle.semantics.proofs.Words.{greatest_of-same, word_begins, word_width-some, no_words, single_word}
 use Rattle.quality_semantics.specs.Forms.{or2}
@@ -160,11 +160,11 @@ quality_value metric n k x width =
     let fits : Fits v Q.net = Fits-values Q.net x is.formed.net starts in
     let half : length (take n x) ≡ n = omega (arith, length-take n x, width) in
     let each : (j : ℕ) → j < word_count metric n → input_error metric.kind w n v j ≡ word_error metric.kind (word_at w j (take n x)) (word_at w j (drop n x)) =
-        λ j low.
-        let inside = words_inside metric n j low in
-        let exact = input_bits Q.net x (j * w) (word_size w n j) is.formed.net (omega (arith, width, inputs)) (omega (arith, inputs, inside)) ∙ exact_word x w n j inside in
-        let approximate = input_bits Q.net x (n + j * w) (word_size w n j) is.formed.net (omega (arith, width, inputs)) (omega (arith, inputs, inside)) ∙ approximate_word x w n j width in
-        rw (exact, approximate) refl in
+    λ j low.
+    let inside = words_inside metric n j low in
+    let exact = input_bits Q.net x (j * w) (word_size w n j) is.formed.net (omega (arith, width, inputs)) (omega (arith, inputs, inside)) ∙ exact_word x w n j inside in
+    let approximate = input_bits Q.net x (n + j * w) (word_size w n j) is.formed.net (omega (arith, width, inputs)) (omega (arith, inputs, inside)) ∙ approximate_word x w n j width in
+    rw (exact, approximate) refl in
     ap (λ m. value_of m Q.net.tables x Q.signal) (sym inputs)
     ∙ is.value v fits
     ∙ ap (ltb k) (greatest_of-same (input_error metric.kind w n v) _ (word_count metric n) each)
