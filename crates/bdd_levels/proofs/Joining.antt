@@ -12,14 +12,12 @@ use Rattle.semantics.specs.declared.metric.Kind.TheVariants.{Ham}
 use Rattle.semantics.specs.Error.{word_error, greatest_error, word_width, word_count, word_at, greatest_of, error_of}
 use Rattle.semantics.proofs.Sizes.{word_error-le}
 use Rattle.semantics.proofs.Words.{greatest_of-same, word_begins, word_width-some}
-use Rattle.quality_semantics.specs.Forms.{or2}
-use Rattle.quality_semantics.specs.WordNets.{WordNetValue, signals, appended, started, BeginsWith}
+use Rattle.quality_semantics.specs.WordNets.{WordNetValue, signals, started, BeginsWith}
 use Rattle.quality_semantics.specs.Buses.{differ, places}
 use Rattle.quality_semantics.specs.Quality.{word_quality, differing_excess, exact_bus, approximate_bus}
 use Rattle.quality_semantics.specs.Laws.{Fits}
-use Rattle.quality_semantics.proofs.Growth.{begins_itself, begins_after, begins_differences, begins_at_least, Fits-earlier, Fits-newest}
+use Rattle.quality_semantics.proofs.Growth.{begins_itself, begins_after, begins_differences, begins_at_least, Fits-earlier}
 use Rattle.quality_semantics.proofs.Counts.{differ_count, at_least_value}
-use Rattle.quality_semantics.proofs.Tables.{or2_value}
 use Rattle.quality_semantics.proofs.Quality.{quality_zero, quality_excess}
 use Rattle.bus_nets.specs.Numbers.{HasBit}
 use Rattle.bdd_levels.specs.Words.{SaysWordExcess, SaysExcess}

@@ -234,9 +234,9 @@ signed_says k E A V x y e a z s widths first to_E second level to_A far = record
       let at_A = Fits-earlier v V A to_A fits in
       let half_e : pos (number v e) ≡ signed_number_of (map v x) +ℤ pos (2 ^ (length x - 1)) = first.at v (Fits-earlier v A E to_E at_A) in
       let half_a : pos (number v a) ≡ signed_number_of (map v y) +ℤ pos (2 ^ (length x - 1)) = second.at v at_A ∙ ap (λ n. signed_number_of (map v y) +ℤ pos (2 ^ (n - 1))) (sym widths) in
-      let apart : word_error Sabs (map v x) (map v y) ≡ distance (number v e) (number v a) =
-      signed_apart (signed_number_of (map v x) -ℤ signed_number_of (map v y)) (signed_number_of (map v x)) (signed_number_of (map v y)) (number v e) (number v a) (2 ^ (length x - 1)) refl half_e half_a
-      in
+      let i = signed_number_of (map v x) in
+      let j = signed_number_of (map v y) in
+      let apart : word_error Sabs (map v x) (map v y) ≡ distance (number v e) (number v a) = signed_apart (i -ℤ j) i j (number v e) (number v a) (2 ^ (length x - 1)) refl half_e half_a in
       far.at v fits ∙ ap (λ n. ltb n (distance (number v e) (number v a) * 1)) (level.at v at_A) ∙ ap (ltb k) (once (distance (number v e) (number v a)) ∙ sym apart);
 }
 

@@ -18,7 +18,7 @@ pub struct Level {
     pub network: Net,
 }
 
-/// The net whose output says whether the error of the last `width` inputs against the first exceeds `k`.
+/// The net whose output says whether the error of its last `width` inputs against the others exceeds `k`.
 fn quality(alloc: Global, metric: Metric, width: u32, k: u128) -> Result<Net, AllocError>
     requires { width ≤ MOST_OUTPUTS }
     ensures { IfOk result (TellsLevel metric width k) }

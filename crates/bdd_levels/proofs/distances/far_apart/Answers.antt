@@ -7,7 +7,8 @@ use Rattle.bdd_levels.proofs.distances.far_apart.Goals as goal
 pub returns-clause-value : goal.returns-clause-value
 returns-clause-value c =
     both_ok c.append_form.result _ _ (λ s signal net. far_made _ _ _ _ _ _ _ _ _ _ _ _ _ s _ _ (sym c.len-width.ensures) c.in_ok-bits.ensures.is c.in_ok-scaled.ensures.number
-    c.in_ok-scaled.ensures.begins c.in_ok-over.ensures.value c.in_ok-over.ensures.begins c.in_ok-under.ensures.value c.in_ok-under.ensures.begins net signal) c.append_form.ensures.signal c.append_form.ensures.ok
+    c.in_ok-scaled.ensures.begins c.in_ok-over.ensures.value c.in_ok-over.ensures.begins c.in_ok-under.ensures.value c.in_ok-under.ensures.begins net signal)
+    c.append_form.ensures.signal c.append_form.ensures.ok
 
 pub difference-requires : goal.difference-requires
 difference-requires c = record { x_in = c.requires.x_in; y_in = c.requires.y_in; widths = c.requires.widths }
