@@ -119,7 +119,9 @@ input_nodes_more vectors wides row wide q n room bits is before j b s lane low w
           ∙ sym (row_bit-word row (8 * q + j) b low)
           ∙ bits (64 * (8 * q + j) + b)
           ∙ ap (λ k. pattern_bit vectors k (64 * (8 * q + j) + b)) (sym e)
-      | inr other ↦ let apart : input_node s ≢ 1 + n = (λ e. omega (arith, other, e)) in value_set_other wides (1 + n) wide j b (input_node s) apart ∙ before j b s lane low (omega (arith, within, other))
+      | inr other ↦
+          let apart : input_node s ≢ 1 + n = (λ e. omega (arith, other, e)) in
+          value_set_other wides (1 + n) wide j b (input_node s) apart ∙ before j b s lane low (omega (arith, within, other))
     ]
 
 -- one more output

@@ -1,5 +1,5 @@
--- The nodes of a graph at many patterns: one word for each node, whose bit b is the node's value at pattern b.
--- Source: bit-parallel simulation of and-inverter graphs.
+-- The nodes of a graph at many patterns: one word for each node, whose bit b is the node's value at pattern
+-- b. Source: bit-parallel simulation of and-inverter graphs.
 use Rattle.std.specs.Prelude.{◌≡◌, ℕ, ◌+◌, ◌*◌, ◌<◌, Bool, false, Option, MatchOption, List}
 use Rattle.std.specs.Prelude.{slice_index_or}
 use Rattle.semantics.specs.Net.{NetValue, signal_count}

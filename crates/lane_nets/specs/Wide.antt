@@ -14,7 +14,8 @@ IsWideBlock N vectors q wides = (j : ℕ) → j < 8 → IsBlock N vectors (8 * q
 
 -- the net's outputs in wide block q: lane j has those of block 8 q + j
 abbrev pub AreWideOutputs : NetValue → List (List Bool) → ℕ → List (List ℕ) → Type 0
-AreWideOutputs N vectors q outputs = (j : ℕ) → j < 8 → IsOutputBlock N vectors (8 * q + j) (lane_words outputs j)
+AreWideOutputs N vectors q outputs = (j : ℕ) → j < 8
+    → IsOutputBlock N vectors (8 * q + j) (lane_words outputs j)
 
 -- a net, and the wide words of its outputs
 pub record WideOutputsValue : Type 0 where

@@ -14,5 +14,6 @@ loop-s-preserved c = record {
   constant = constant_stays c.loop-s.wides c.loop-s.s c.wide_at.result c.loop-s.invariant.constant;
   inputs =
       input_nodes_more c.args.patterns.now.vectors c.loop-s.wides c.row.result.now c.wide_at.result c.args.q c.loop-s.s
-      (omega (arith, c.requires.room, c.loop-s.auto.wides, c.loop-s-test.true, c.inputs-s-end.ensures.value, length-set c.args.wides.now 0 c.equal_words.result)) c.row.ensures.bits c.wide_at.ensures c.loop-s.invariant.inputs;
+      (omega (arith, c.requires.room, c.loop-s.auto.wides, c.loop-s-test.true, c.inputs-s-end.ensures.value, length-set c.args.wides.now 0 c.equal_words.result))
+      c.row.ensures.bits c.wide_at.ensures c.loop-s.invariant.inputs;
 }

@@ -31,7 +31,8 @@ loop-k-preserved c =
       there = held_more c.reach.new.self.net c.loop-k.wide.net c.args.patterns.now.vectors k c.reach.new.self.outputs c.reach.ensures.net c.reach.ensures.outputs;
       none =
           none_in_block c.args.metric nets.exact nets.approx c.args.patterns.now.vectors k c.as_slice.result.now (lane_words c.outputs.result.now (k % 8))
-          (block_held nets.approx c.loop-k.wide.net c.args.patterns.now.vectors k c.reach.new.self.outputs c.outputs.result.now c.loop-k.invariant.net c.outputs.ensures.outputs c.reach.ensures.outputs)
+          (block_held nets.approx c.loop-k.wide.net c.args.patterns.now.vectors k c.reach.new.self.outputs c.outputs.result.now c.loop-k.invariant.net c.outputs.ensures.outputs
+          c.reach.ensures.outputs)
           (λ b low. ap (λ l. lane_at l b) exact ∙ c.requires.outputs.are k b c.loop-k-test.true low)
           c.args.level c.block_over-over.result c.min.result (c.min.ensures ∙ ap (λ (n : ℕ). min (n - 64 * k) 64) c.count-count.ensures.value) c.block_over-over.ensures c.loop-k.invariant.none
           c.in_default.ensures;
