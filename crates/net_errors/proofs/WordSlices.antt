@@ -1,8 +1,18 @@
 -- The words into which outputs are cut, as slices.
-use Rattle.std.proofs.Common.{◌≡◌, ℕ, ◌+◌, ◌-◌, ◌*◌, suc, min, max, Bool, List, length, take, drop, ap, ◌∙◌, length-drop, arith}
+use Rattle.std.proofs.Common.{◌≡◌, ℕ, ◌+◌, ◌-◌, ◌*◌, zero, suc, min, max, Bool, List, length, take, drop, None, sym, ap, ◌∙◌, length-drop, arith}
+use Rattle.std.specs.Prelude.{unwrap_or}
 use Rattle.std.proofs.lemmas.List.{take_min}
 use Rattle.semantics.specs.declared.metric.Metric.{Metric}
-use Rattle.semantics.specs.Error.{word_error, word_width, greatest_of, error_of_word}
+use Rattle.semantics.proofs.Words.{no_words, single_word, word_width-some}
+use Rattle.semantics.specs.Error.{word_error, word_width, word_count, greatest_of, error_of_word}
+
+-- without a width there is one word, or none where there are no outputs
+pub count_without_width : (metric : Metric) (n : ℕ) → metric.width ≡ None → min n 1 ≡ word_count metric n
+count_without_width metric zero none = sym (no_words (word_width metric 0) (word_width-some metric 0))
+count_without_width metric (suc n) none =
+    let wide : word_width metric (suc n) ≡ max 1 (suc n) = ap (λ w. max 1 (unwrap_or w (suc n))) none in
+    let one : word_count metric (suc n) ≡ 1 = single_word (suc n) (word_width metric (suc n)) (omega arith) (omega (arith, wide)) in
+    omega (arith, one)
 
 -- the slice of the place of word j
 pub word_cut : {X : Type 0} → (w j first size : ℕ) (xs : List X) → first ≡ j * w → size ≡ min w (length xs - j * w) → take (first + size - first) (drop first xs) ≡ take w (drop (j * w) xs)

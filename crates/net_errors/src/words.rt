@@ -11,11 +11,15 @@ pub fn word_width(metric: Metric, outputs: u32) -> u32
     metric.width.unwrap_or(outputs).max(1)
 }
 
-/// How many words `outputs` outputs make.
+/// How many words `outputs` outputs make. Without a width nothing is divided, since this is asked for each
+/// block of patterns.
 pub fn word_count(metric: Metric, outputs: u32) -> u32
     ensures { result ≡ word_count metric outputs }
 {
-    outputs.div_ceil(word_width(metric, outputs))
+    match metric.width {
+        None => outputs.min(1),
+        Some(_) => outputs.div_ceil(word_width(metric, outputs)),
+    }
 }
 
 /// The first output of word `word`, and how many outputs that word has.
