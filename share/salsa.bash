@@ -3,7 +3,11 @@ _salsa() {
     local word=${COMP_WORDS[COMP_CWORD]} job=${COMP_WORDS[1]} files=
     case $COMP_CWORD,$job in
     1,*) mapfile -t COMPREPLY < <(compgen -W 'synth check flat aag blif trim demo approximate explain outputs --hints --help --version' -- "$word") ;;
-    2,synth | 2,check | 2,trim) mapfile -t COMPREPLY < <(compgen -W 'abs sabs rel ham' -- "$word") ;;
+    2,synth | 2,check | 2,trim)
+        local metrics='abs sabs rel ham'
+        [[ $word != @(abs|sabs|rel|ham)/* ]] || metrics=$(printf "${word%%/*}/%s " {1..64})
+        mapfile -t COMPREPLY < <(compgen -W "$metrics" -- "$word")
+        ;;
     5,synth | 4,check | 4,trim | 2,flat | 2,aag | 2,outputs) files='!*.blif' ;;
     2,blif) files='!*.aag' ;;
     6,synth | 6,trim | 3,flat | 3,aag | 3,blif) mapfile -t COMPREPLY < <(compgen -f -- "$word") ;;

@@ -1,12 +1,16 @@
 #!/usr/bin/env python3
 """The greatest error of a netlist against another, over all input vectors. Written from the formats alone, it knows
 nothing of salsa: it reads both netlists, computes all vectors at once, one bit of a large number for each, and
-compares the words that the outputs make, the first output being bit 0.
+compares the words that the outputs make, the first output of each being bit 0.
 
-Usage: greatest_error.py METRIC EXACT APPROX     METRIC is abs, rel, ham or sabs; up to 20 inputs
+Usage: greatest_error.py METRIC EXACT APPROX     METRIC is abs, rel, ham or sabs, or one of these with /W, the number of
+                                                 outputs of a word, from 1 to 64; up to 20 inputs
        greatest_error.py --self-test             the errors of small words, and netlists made here
 """
+import re
 import sys
+
+METRIC = re.compile(r"(abs|rel|ham|sabs)(?:/([1-9]|[1-5][0-9]|6[0-4]))?")
 
 
 def lines_of(text):
@@ -92,11 +96,19 @@ def number(bits, signed=False):
     return found - (1 << len(bits)) if signed and bits and bits[-1] else found
 
 
-def error(metric, exact, approx):
-    if metric == "ham":
+def word_error(kind, exact, approx):
+    """The error of one word."""
+    if kind == "ham":
         return sum(a != b for a, b in zip(exact, approx))
-    apart = abs(number(exact, metric == "sabs") - number(approx, metric == "sabs"))
-    return -(-apart * 1000000 // max(1, number(exact))) if metric == "rel" else apart
+    apart = abs(number(exact, kind == "sabs") - number(approx, kind == "sabs"))
+    return -(-apart * 1000000 // max(1, number(exact))) if kind == "rel" else apart
+
+
+def error(metric, exact, approx):
+    """The error of two lists of output bits: that of the word that errs most. Of the last word there may be fewer bits."""
+    kind, width = METRIC.fullmatch(metric).groups()
+    width = int(width or max(1, len(exact)))
+    return max((word_error(kind, exact[at:at + width], approx[at:at + width]) for at in range(0, len(exact), width)), default=0)
 
 
 def greatest(metric, exact, approx):
@@ -106,11 +118,19 @@ def greatest(metric, exact, approx):
 def self_test():
     wanted = [("abs", [1, 1], [0, 1], 1), ("ham", [1, 1], [0, 1], 1), ("rel", [1, 1], [0, 1], 333334),
               ("abs", [0, 0], [1, 1], 3), ("rel", [0, 0], [1, 1], 3000000), ("sabs", [0, 1], [1, 0], 3),
-              ("sabs", [1], [0], 1), ("sabs", [1, 1], [1, 0], 2), ("sabs", [], [], 0)]
+              ("sabs", [1], [0], 1), ("sabs", [1, 1], [1, 0], 2), ("sabs", [], [], 0),
+              ("abs/2", [1, 1, 0, 1], [0, 1, 0, 1], 1), ("ham/2", [1, 1, 0, 1], [0, 1, 0, 1], 1),
+              ("rel/2", [1, 1, 0, 1], [0, 1, 0, 1], 333334), ("abs/3", [1, 1, 0, 1], [0, 1, 0, 1], 1),
+              ("abs", [0, 0, 1, 0], [0, 0, 0, 1], 4), ("abs/2", [0, 0, 1, 0], [0, 0, 0, 1], 1),
+              ("rel/2", [0, 0, 1, 0], [0, 0, 0, 1], 1000000), ("sabs/2", [0, 0, 1, 0], [0, 0, 0, 1], 3),
+              ("abs/64", [0, 0, 1, 0], [0, 0, 0, 1], 4), ("ham/1", [1, 1], [0, 0], 1), ("sabs/2", [0, 1, 1], [1, 0, 1], 3),
+              ("sabs/2", [0, 0, 1], [0, 0, 0], 1), ("rel/1", [], [], 0)]
     wrong = [it for it in wanted if error(it[0], it[1], it[2]) != it[3]]
     adder = ".inputs a b\n.outputs s c\n.names a b s\n10 1\n01 1\n.names a b c\n11 1\n.end\n"
     copied = ".inputs a b\n.outputs s \\\nc\n.names s\n.names b c\n0 0\n"
-    wrong += [it for it in [("abs", 1), ("ham", 2), ("sabs", 3)] if greatest(it[0], adder, copied) != it[1]]
+    wrong += [it for it in [("abs", 1), ("ham", 2), ("sabs", 3), ("abs/1", 1), ("ham/1", 1), ("sabs/2", 3)]
+              if greatest(it[0], adder, copied) != it[1]]
+    wrong += [it for it in ("abs/", "abs/0", "abs/08", "abs/65", "abs/8/8", "max/8", "/8", "abs/ 8") if METRIC.fullmatch(it)]
     print("%d judged wrong" % len(wrong), *wrong)
     return 1 if wrong else 0
 
@@ -118,6 +138,6 @@ def self_test():
 if __name__ == "__main__":
     if sys.argv[1:] == ["--self-test"]:
         sys.exit(self_test())
-    if len(sys.argv) != 4:
+    if len(sys.argv) != 4 or not METRIC.fullmatch(sys.argv[1]):
         sys.exit(__doc__.strip())
     print(greatest(sys.argv[1], open(sys.argv[2], errors="replace").read(), open(sys.argv[3], errors="replace").read()))
