@@ -6,5 +6,6 @@ use Rattle.joint_net.proofs.quality.quality.Goals as goal
 pub returns : goal.returns
 returns c =
     IfOk-weaker c.finish.result _ _
-    (λ n is. all_words c.args.metric c.args.outputs c.args.k _ _ _ _ n c.in_ok-words.ensures.ok (c.as_slice.ensures ∙ c.in_ok-words.ensures.bus) c.in_ok-output.ensures.ok c.in_ok-output.ensures.signal is)
+    (λ n is. all_words c.args.metric c.args.outputs c.args.k _ _ _ _ n c.in_ok-words.ensures.ok (c.as_slice.ensures ∙ c.in_ok-words.ensures.bus)
+    c.in_ok-output.ensures.ok c.in_ok-output.ensures.signal is)
     c.finish.ensures
