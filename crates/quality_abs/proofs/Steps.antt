@@ -30,7 +30,8 @@ no_excess_from n k W e a width narrow high = quality_zero Abs W e a k (rw (← m
 pub excess_from : (n k : ℕ) (W : WordNetValue) (e a : List ℕ) → n ≡ length e → length e ≤ 64 → k < (1 * 2 ^ n) % 2 ^ 128 - 1 → word_quality Abs W e a k ≡ absolute_excess W e a k
 excess_from n k W e a width narrow low = quality_excess Abs W e a k (rw (← most n (length e) width narrow) low)
 
-pub no_signed_excess_from : (n k : ℕ) (W : WordNetValue) (e a : List ℕ) → n ≡ length e → length e ≤ 64 → (1 * 2 ^ n) % 2 ^ 128 - 1 ≤ k → word_quality Sabs W e a k ≡ record { net = W; signal = W.inputs }
+pub no_signed_excess_from : (n k : ℕ) (W : WordNetValue) (e a : List ℕ) → n ≡ length e → length e ≤ 64 → (1 * 2 ^ n) % 2 ^ 128 - 1 ≤ k
+    → word_quality Sabs W e a k ≡ record { net = W; signal = W.inputs }
 no_signed_excess_from n k W e a width narrow high = quality_zero Sabs W e a k (rw (← most n (length e) width narrow) high)
 
 pub signed_excess_from : (n k : ℕ) (W : WordNetValue) (e a : List ℕ) → n ≡ length e → length e ≤ 64 → k < (1 * 2 ^ n) % 2 ^ 128 - 1 → word_quality Sabs W e a k ≡ signed_excess W e a k

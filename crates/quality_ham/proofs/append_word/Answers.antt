@@ -8,7 +8,9 @@ pub returns-then-k-width-clause-ok : goal.returns-then-k-width-clause-ok
 returns-then-k-width-clause-ok c = ap (λ r. r.net) (sym (quality_zero Ham c.args.net.now c.args.exact.now c.args.approx.now c.args.k (omega (arith, c.if-k-width.true, c.len-width.ensures))))
 
 pub returns-then-k-width-clause-signal : goal.returns-then-k-width-clause-signal
-returns-then-k-width-clause-signal c = c.zero.ensures.value ∙ ap (λ r. r.signal) (sym (quality_zero Ham c.args.net.now c.args.exact.now c.args.approx.now c.args.k (omega (arith, c.if-k-width.true, c.len-width.ensures))))
+returns-then-k-width-clause-signal c =
+    c.zero.ensures.value
+    ∙ ap (λ r. r.signal) (sym (quality_zero Ham c.args.net.now c.args.exact.now c.args.approx.now c.args.k (omega (arith, c.if-k-width.true, c.len-width.ensures))))
 
 pub returns-else-k-width-clause-ok : goal.returns-else-k-width-clause-ok
 returns-else-k-width-clause-ok c = on_ok_weaker c.excess.result
@@ -16,4 +18,5 @@ returns-else-k-width-clause-ok c = on_ok_weaker c.excess.result
 
 pub returns-else-k-width-clause-signal : goal.returns-else-k-width-clause-signal
 returns-else-k-width-clause-signal c = IfOk-weaker c.excess.result _ _
-    (λ s e. e ∙ ap (λ r. r.signal) (sym (quality_excess Ham c.args.net.now c.args.exact.now c.args.approx.now c.args.k (omega (arith, c.if-k-width.false, c.len-width.ensures))))) c.excess.ensures.signal
+    (λ s e. e ∙ ap (λ r. r.signal) (sym (quality_excess Ham c.args.net.now c.args.exact.now c.args.approx.now c.args.k (omega (arith, c.if-k-width.false, c.len-width.ensures)))))
+    c.excess.ensures.signal
