@@ -2,8 +2,8 @@
 ghost use Rattle.std.specs.Prelude.{◌≡◌, option_map, position, IfSome};
 ghost use Rattle.semantics.specs.Texts.{Bytes};
 ghost use Rattle.job_semantics.specs.Job.{Job, job_of, synth_of, check_of, demo_of, conversion_of, trim_of};
-ghost use Rattle.job_semantics.specs.Job.{flat, aag, blif, kind_of, is_slash, metric_of, bound_of, conflicts_of};
-ghost use Rattle.job_semantics.specs.Job.{are_file_words, is_output_word, are_trim_words};
+ghost use Rattle.job_semantics.specs.Job.{flat, aag, blif, kind_of, is_slash, metric_of, bound_of};
+ghost use Rattle.job_semantics.specs.Job.{conflicts_of, are_file_words, is_output_word, are_trim_words};
 ghost use Rattle.command_words.specs.Words.{job_meaning, HasRanges};
 
 use crate::bundle_names::is_bundle_name;
