@@ -10,16 +10,13 @@ ghost use Rattle.bdd_levels.specs.Words.{SaysWordExcess, SaysExcess};
 use crate::distances::{absolute_excess, signed_excess};
 use crate::relative::relative_excess;
 use bus_nets::bus::Bus;
+use bus_nets::forms::OR2;
 use bus_nets::word_net::WordNet;
 use net_errors::words::{word_count, word_place};
 use net_parts::items::Signal;
-use net_parts::mark::Mark;
 use semantics::limits::MOST_OUTPUTS;
 use semantics::metric::{Kind, Metric};
 use std::alloc::{AllocError, Global};
-
-/// Whether one of two bits is 1.
-const EITHER: [[Mark; 2]; 2] = [[Mark::One, Mark::Dash], [Mark::Dash, Mark::One]];
 
 /// Appends a signal that says whether the error of the approximate word against the exact one exceeds `k`.
 fn word_excess(
@@ -84,7 +81,7 @@ fn either(net: &mut WordNet, first: Signal, second: Signal) -> Result<Signal, Al
     if first == net.zero() {
         return Ok(second);
     }
-    net.append_form([first, second], &EITHER)
+    net.append_form([first, second], &OR2)
 }
 
 /// Appends a signal that says whether the error of the approximate outputs, which are the last `outputs`
