@@ -13,9 +13,12 @@ use std::alloc::{AllocError, Global};
 use std::marker::Model;
 use std::simd::u64x8;
 
-/// From so many blocks of 64 patterns on a net is walked as a graph. To make a graph takes about as long as
-/// to walk the tables some twenty times, eight blocks a time, and a graph is walked in a third of the time.
-const LEAST_GRAPH_BLOCKS: u64 = 512;
+/// From so many blocks of 64 patterns on a net is walked as a graph. A graph takes as long to make as some
+/// tens of wide blocks take over the tables, so a walk that ends early does not pay for it. With fewer blocks
+/// most walks end early: with up to sixteen inputs each net that is tried is walked at all vectors at once,
+/// and most nets err at one of the first. With more inputs only nets that passed thousands of vectors are
+/// walked at all of them.
+const LEAST_GRAPH_BLOCKS: u64 = 2048;
 
 /// The outputs of a net in eight blocks at a time, with room for the values of its signals, or of the nodes
 /// of its graph.
