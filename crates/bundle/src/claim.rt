@@ -32,7 +32,8 @@ pub(crate) struct Contents<'a> {
 pub(crate) fn are_counts(nets: &Compared, report: &ReportRead) -> bool
     requires exact { IsSmall nets.now.exact }
     requires approx { IsSmall nets.now.approx }
-    ensures { IsTrue result ↔ AreCounts nets.now.exact nets.now.approx (report_read (one_word Abs) 0 report.now) }
+    ensures { IsTrue result
+        ↔ AreCounts nets.now.exact nets.now.approx (report_read (one_word Abs) 0 report.now) }
 {
     let exact = nets.exact();
     let approx = nets.approx();

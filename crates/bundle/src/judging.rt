@@ -105,7 +105,8 @@ fn decides_by_moves(claim: &Claim, report: &ReportRead, is_attained: bool) -> bo
     requires exact { IsSmall claim.now.nets.now.exact }
     requires approx { IsSmall claim.now.nets.now.approx }
     ensures { IsTrue result ↔ (IsTrue is_attained
-        × AreCounts claim.now.nets.now.exact claim.now.nets.now.approx (report_read (one_word Abs) 0 report.now)) }
+        × AreCounts claim.now.nets.now.exact claim.now.nets.now.approx
+        (report_read (one_word Abs) 0 report.now)) }
 {
     is_attained && are_counts(claim.nets, report)
 }

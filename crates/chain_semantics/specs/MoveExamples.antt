@@ -71,11 +71,14 @@ pub record FlipExamples : Type 0 where
   pub values : outputs_of out_of_order (false ∷ []) ≡ false ∷ true ∷ false ∷ []
   pub reader_flipped : flipped_outputs out_of_order (false ∷ []) 0 ≡ true ∷ true ∷ false ∷ []
   pub read_flipped : flipped_outputs out_of_order (false ∷ []) 1 ≡ true ∷ false ∷ false ∷ []
-  pub sum_flipped : map (λ x. error_of (one_word Abs) (outputs_of half_adder x) (flipped_outputs half_adder x 0))
+  pub sum_flipped :
+      map (λ x. error_of (one_word Abs) (outputs_of half_adder x) (flipped_outputs half_adder x 0))
       (all_vectors 2) ≡ 1 ∷ 1 ∷ 1 ∷ 1 ∷ []
-  pub carry_flipped : map (λ x. error_of (one_word Abs) (outputs_of half_adder x) (flipped_outputs half_adder x 1))
+  pub carry_flipped :
+      map (λ x. error_of (one_word Abs) (outputs_of half_adder x) (flipped_outputs half_adder x 1))
       (all_vectors 2) ≡ 2 ∷ 2 ∷ 2 ∷ 2 ∷ []
-  pub carry_moved : map (net_error (one_word Abs) half_adder (moved half_adder (DropLiteral 1 0 0))) (all_vectors 2)
+  pub carry_moved :
+      map (net_error (one_word Abs) half_adder (moved half_adder (DropLiteral 1 0 0))) (all_vectors 2)
       ≡ 0 ∷ 0 ∷ 2 ∷ 0 ∷ []
 
 -- the half adder against itself within 1: at both ones the flipped carry errs by 2, and the flipped sum by 1

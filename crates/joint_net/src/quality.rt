@@ -1,5 +1,5 @@
-//! The quality network of all words: the tables of each word, one word behind another, and the disjunctions of
-//! the signals that say which words err by too much.
+//! The quality network of all words: the tables of each word, one word behind another, and the disjunctions
+//! of the signals that say which words err by too much.
 ghost use Rattle.std.specs.Prelude.{◌≡◌, ◌+◌, ◌<◌, ◌≤◌, length, IfOk, OnOk};
 ghost use Rattle.semantics.specs.Error.{word_width, word_count};
 ghost use Rattle.quality_semantics.specs.WordNets.{signals, started, AreSignalsOf};

@@ -118,7 +118,8 @@ pub record LratExamples : Type 0 where
 
 -- one wire against itself, and the half adder whose sum is constant against the half adder
 pub record MiterExamples : Type 0 where
-  pub of_wires : ((miter wire wire (one_word Abs) 0).variables ≡ 41) × (length (miter wire wire (one_word Abs) 0).clauses ≡ 132)
+  pub of_wires : ((miter wire wire (one_word Abs) 0).variables ≡ 41)
+      × (length (miter wire wire (one_word Abs) 0).clauses ≡ 132)
   pub of_adders : ((miter half_adder constant_sum (one_word Abs) 1).variables ≡ 76)
       × (length (miter half_adder constant_sum (one_word Abs) 1).clauses ≡ 246)
   pub of_signed_adders : ((miter half_adder constant_sum (one_word Sabs) 1).variables ≡ 80)

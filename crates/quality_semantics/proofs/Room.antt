@@ -17,7 +17,8 @@ use Rattle.semantics.specs.Error.{greatest_error, word_width, word_count}
 use Rattle.semantics.proofs.Words.{word_begins, word_width-some}
 use Rattle.quality_semantics.specs.Forms.{Form, inv, or2, xor2, xor3, maj, gt, grow, low}
 use Rattle.quality_semantics.specs.WordNets.{WordNetValue, signals, table_of, appended, started}
-use Rattle.quality_semantics.specs.Buses.{WithBus, WithSignal, places, adders, add, comparators, greater, exceed, binary, constant, times_bits, times, flip_top, not_zero_low, differences, differ, growers}
+use Rattle.quality_semantics.specs.Buses.{WithBus, WithSignal, places, adders, add, comparators, greater, exceed, binary, constant}
+use Rattle.quality_semantics.specs.Buses.{times_bits, times, flip_top, not_zero_low, differences, differ, growers}
 use Rattle.quality_semantics.specs.Buses.{count_rows}
 use Rattle.quality_semantics.specs.Quality.{absolute_excess, relative_excess, differing_excess, signed_excess, excess, word_quality, exact_bus, approximate_bus, joined, after_words, quality}
 use Rattle.quality_semantics.specs.Joint.{copied_from, copied, approximate_signal, quality_signal, numbered_name, joint_net}

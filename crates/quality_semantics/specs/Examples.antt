@@ -36,7 +36,8 @@ pub record AbsoluteExamples : Type 0 where
       ∷ maj 0 2 2 ∷ gt 1 8 2 ∷ gt 2 9 10 ∷ or2 7 11 ∷ [])
   pub one_bit_output : (quality_net (one_word Abs) 1 0).outputs ≡ 12 ∷ []
   pub one_bit_rows : row_count (quality_net (one_word Abs) 1 0) ≡ 29
-  pub two_bits : (length (quality (one_word Abs) 2 1).net.tables ≡ 17) × (row_count (quality_net (one_word Abs) 2 1) ≡ 49)
+  pub two_bits : (length (quality (one_word Abs) 2 1).net.tables ≡ 17)
+      × (row_count (quality_net (one_word Abs) 2 1) ≡ 49)
       × ((quality (one_word Abs) 2 1).signal ≡ 20)
   pub never : quality (one_word Abs) 2 3 ≡ record { net = started 4; signal = 4 }
   pub million : length (binary 1000000) ≡ 20
@@ -69,7 +70,8 @@ pub record OtherExamples : Type 0 where
   pub never_differing : quality (one_word Ham) 2 2 ≡ record { net = started 4; signal = 4 }
   pub relative_begins : take 5 (quality (one_word Rel) 1 0).net.tables
       ≡ numbered 0 (zero_form ∷ one_form ∷ low 0 [] ∷ xor3 2 0 2 ∷ maj 2 0 2 ∷ [])
-  pub relative_tables : (length (quality (one_word Rel) 1 0).net.tables ≡ 382) × ((quality (one_word Rel) 1 0).signal ≡ 383)
+  pub relative_tables : (length (quality (one_word Rel) 1 0).net.tables ≡ 382)
+      × ((quality (one_word Rel) 1 0).signal ≡ 383)
   pub relative_rows : row_count (quality_net (one_word Rel) 1 0) ≡ 1301
   pub relative_half : (length (quality (one_word Rel) 1 500000).net.tables ≡ 492)
       × (row_count (quality_net (one_word Rel) 1 500000) ≡ 1686)
@@ -85,7 +87,8 @@ pub record OtherExamples : Type 0 where
       ∷ (223, xor3 2 4 2) ∷ (225, xor3 4 2 226) ∷ (227, xor3 2 225 2) ∷ (239, xor3 187 2 240)
       ∷ (285, gt 77 241 286) ∷ (318, xor3 77 2 319)
       ∷ (364, gt 187 320 365) ∷ (385, or2 307 386) ∷ [])
-  pub relative_counts : (length (quality (one_word Rel) 1 3).net.tables ≡ 386) × (row_count (quality_net (one_word Rel) 1 3) ≡ 1315)
+  pub relative_counts : (length (quality (one_word Rel) 1 3).net.tables ≡ 386)
+      × (row_count (quality_net (one_word Rel) 1 3) ≡ 1315)
   pub never_relative : quality (one_word Rel) 1 1000000 ≡ record { net = started 2; signal = 2 }
   pub low_of_three : low 0 (1 ∷ 2 ∷ [])
       ≡ form (0 ∷ 1 ∷ 2 ∷ []) ((One ∷ Dash ∷ Dash ∷ []) ∷ (Zero ∷ Zero ∷ Zero ∷ []) ∷ [])
@@ -103,8 +106,10 @@ pub record SignedExamples : Type 0 where
   pub two_bits_output : (quality_net (one_word Sabs) 2 1).outputs ≡ 22 ∷ []
   pub two_bits_rows : row_count (quality_net (one_word Sabs) 2 1) ≡ 51
   -- at width 1 both words are signs
-  pub one_bit : take 4 (quality (one_word Sabs) 1 0).net.tables ≡ numbered 0 (zero_form ∷ one_form ∷ inv 0 ∷ inv 1 ∷ [])
-  pub one_bit_counts : (length (quality (one_word Sabs) 1 0).net.tables ≡ 13) × (row_count (quality_net (one_word Sabs) 1 0) ≡ 31)
+  pub one_bit : take 4 (quality (one_word Sabs) 1 0).net.tables
+      ≡ numbered 0 (zero_form ∷ one_form ∷ inv 0 ∷ inv 1 ∷ [])
+  pub one_bit_counts : (length (quality (one_word Sabs) 1 0).net.tables ≡ 13)
+      × (row_count (quality_net (one_word Sabs) 1 0) ≡ 31)
       × ((quality (one_word Sabs) 1 0).signal ≡ 14)
   pub one_bit_begins : quality (one_word Sabs) 1 1 ≡ record { net = started 2; signal = 2 }
   pub never : quality (one_word Sabs) 2 3 ≡ record { net = started 4; signal = 4 }

@@ -1,8 +1,8 @@
--- The quality network of a metric: n exact outputs as its first inputs, then n approximate ones, and one output
--- that says whether the error exceeds k. It depends on the metric, the number of outputs and k alone. Source:
--- SALSA's quality function circuit.
-use Rattle.std.specs.Prelude.{◌≡◌, ℕ, zero, suc, ◌+◌, ◌-◌, ◌*◌, min, nat_lt, nat_le, if◌then◌else◌, Bool, List}
-use Rattle.std.specs.Prelude.{[], ◌∷◌, length, take, drop}
+-- The quality network of a metric: n exact outputs as its first inputs, then n approximate ones, and one
+-- output that says whether the error exceeds k. It depends on the metric, the number of outputs and k alone.
+-- Source: SALSA's quality function circuit.
+use Rattle.std.specs.Prelude.{◌≡◌, ℕ, zero, suc, ◌+◌, ◌-◌, ◌*◌, min, nat_lt, nat_le, if◌then◌else◌, Bool}
+use Rattle.std.specs.Prelude.{List, [], ◌∷◌, length, take, drop}
 use Rattle.std.specs.List.{range_with_len}
 use Rattle.semantics.specs.Net.{NetValue}
 use Rattle.semantics.specs.Value.{outputs_of}
@@ -50,11 +50,12 @@ excess Rel W e a k = relative_excess W e a k
 excess Ham W e a k = differing_excess W e a k
 excess Sabs W e a k = signed_excess W e a k
 
--- the network after the tables of one word, and the signal that says whether the word's error exceeds k; where
--- no error of a word of that width exceeds k no table is appended, and the signal is the constant 0
+-- the network after the tables of one word, and the signal that says whether the word's error exceeds k;
+-- where no error of a word of that width exceeds k no table is appended, and the signal is the constant 0
 unfoldable pub word_quality : Kind → WordNetValue → List ℕ → List ℕ → ℕ → WithSignal
 word_quality kind W e a k =
-    if nat_le (greatest_error kind (length e)) k then record { net = W; signal = W.inputs } else excess kind W e a k
+    if nat_le (greatest_error kind (length e)) k then record { net = W; signal = W.inputs }
+    else excess kind W e a k
 
 -- ---- all words
 
@@ -73,7 +74,8 @@ approximate_bus w n j = range_with_len (n + j * w) (word_size w n j)
 -- stands alone, and each later one is joined to those before by a disjunction
 abbrev pub joined : ℕ → ℕ → WithSignal → WithSignal
 joined zero before word = word
-joined (suc j) before word = record { net = appended word.net (or2 before word.signal); signal = signals word.net }
+joined (suc j) before word
+    = record { net = appended word.net (or2 before word.signal); signal = signals word.net }
 
 -- the network after the tables of the first words, and the signal that says whether the error of one of these
 -- words exceeds k; where there are no words, it is the constant 0

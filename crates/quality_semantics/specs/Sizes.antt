@@ -11,8 +11,8 @@ use Rattle.quality_semantics.specs.Joint.{joint_net}
 abbrev pub tables_and_rows : List TableValue → ℕ
 tables_and_rows tables = length tables + sum_by (λ t. length t.rows) tables
 
--- At every metric and level: the quality network for at most as many outputs as a net that is read has, and the
--- joint net of two nets that are read; and the same two where all outputs are one word.
+-- At every metric and level: the quality network for at most as many outputs as a net that is read has, and
+-- the joint net of two nets that are read; and the same two where all outputs are one word.
 pub record RoomLaw : Type 0 where
   pub all_words : (metric : Metric) (n k : ℕ) → n ≤ MOST_OUTPUTS
       → tables_and_rows (quality metric n k).net.tables ≤ 9600000

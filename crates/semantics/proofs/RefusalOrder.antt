@@ -1,5 +1,5 @@
 -- Which refusal of parts is told.
-use Rattle.std.proofs.Common.{◌≡◌, ◌≢◌, ◌↔◌, ℕ, zero, suc, ◌+◌, ◌<◌, ◌⊎◌, inl, inr, Bool, true, false, cond, not, ltb, leb, eqb, List, [], ◌∷◌, ◌++◌, length, find, All, AllPairs, Option, Some, None}
+use Rattle.std.proofs.Common.{◌≡◌, ◌≢◌, ◌↔◌, ℕ, zero, suc, ◌+◌, ◌<◌, ◌⊎◌, inl, inr, Bool, true, false, cond, not, ltb, leb, eqb, List, [], ◌∷◌, length, find, AllPairs, Option, Some, None}
 use Rattle.std.proofs.Common.{Decides, refl, ap, sym, subst, ◌∙◌, arith}
 use Rattle.std.specs.List.{list_all}
 use Rattle.std.proofs.lemmas.Bool.{cases_eq, not-false, eqb-true, eqb-false, eq-eqb, ne_eqb, ltb-true, ltb-false, lt-ltb, le-leb, leb-true, false_from_ne_true}
@@ -9,10 +9,9 @@ use Rattle.std.proofs.lemmas.Option.{none-some, same_Some}
 use Rattle.semantics.specs.declared.which.Which.{Which}
 use Rattle.semantics.specs.declared.which.Which.TheVariants.{Inputs, Outputs, Tables, Pins, AllPins, Rows}
 use Rattle.semantics.specs.declared.limits.TheConstants.{MOST_INPUTS, MOST_OUTPUTS, MOST_TABLES, MOST_TABLE_PINS, MOST_PINS, MOST_ROWS}
-use Rattle.semantics.specs.Texts.{Bytes}
 use Rattle.semantics.specs.Net.{NetValue, input_count, signal_count, signal_names, pin_count, row_count}
 use Rattle.semantics.specs.Refusals.{NetRefused, doubled, no_output, undriven, cycle, limit, first_doubled, signals_read, first_undriven, first_ungrounded, first_limit, or_else, net_refusal}
-use Rattle.semantics.specs.RefusalOrder.{IsKept, limit_place, IsFirstPassed, IsFirstDoubled, IsFirstUndriven, IsDriven, IsTold}
+use Rattle.semantics.specs.RefusalOrder.{IsKept, limit_place, IsFirstPassed, IsFirstUndriven, IsDriven, IsTold}
 use Rattle.semantics.proofs.FirstFound.{first_doubled-first, first_found, found_first}
 use Rattle.semantics.proofs.Refused.{Decides-narrow, undoubled, differ-undoubled, driven, signals-driven, grounded, acyclic-grounded, ungrounded, first-ungrounded}
 

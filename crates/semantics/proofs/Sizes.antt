@@ -11,7 +11,8 @@ use Rattle.semantics.specs.declared.limits.TheConstants.{MOST_OUTPUTS, LARGEST_E
 use Rattle.semantics.specs.Net.{NetValue, input_count, signal_names, name_of}
 use Rattle.semantics.specs.Value.{value_of, outputs_of}
 use Rattle.semantics.specs.Laws.{zeros, ones}
-use Rattle.semantics.specs.Error.{bit_number, number_of, distance, rounded_up, differing, sign_of, sign_weight, sign_flipped, word_error, word_width, word_at, error_of, greatest_error, errors_below, net_error, IsCandidate}
+use Rattle.semantics.specs.Error.{bit_number, number_of, distance, rounded_up, differing, sign_of, sign_weight, sign_flipped, word_error, word_width, word_at}
+use Rattle.semantics.specs.Error.{error_of, greatest_error, errors_below, net_error, IsCandidate}
 use Rattle.semantics.proofs.Vectors.{number_of-lt_width}
 use Rattle.semantics.proofs.Words.{word_length-le, same_lengths, error_of-most}
 use Rattle.semantics.proofs.Signed.{power_twice, length-flipped, sign_of-flipped, number_of-flipped, flipped_error, signed_error-naturals}

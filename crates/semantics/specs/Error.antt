@@ -1,8 +1,9 @@
--- The number of a list of bits, the four errors of a word, and the error of outputs that are cut into words. Source: SALSA's quality functions; the relative error is
--- in parts per million, rounded up; signed words are in two's complement.
+-- The number of a list of bits, the four errors of a word, and the error of outputs that are cut into words.
+-- Source: SALSA's quality functions; the relative error is in parts per million, rounded up; signed words are
+-- in two's complement.
 use Rattle.std.specs.Prelude.{◌≡◌, ℕ, ◌+◌, ◌-◌, ◌*◌, ◌/◌, ◌%◌, ◌^◌, ◌≤◌, min, max, ℤ, pos, ◌-ℤ◌}
 use Rattle.std.specs.Prelude.{unsigned_abs, Bool, true, false, not, List, [], ◌∷◌, length, slice_index_or}
-use Rattle.std.specs.Prelude.{slice_set, zero, suc, map, take, drop, Option, Some, None, unwrap_or}
+use Rattle.std.specs.Prelude.{slice_set, zero, suc, map, take, drop, Some, None, unwrap_or}
 use Rattle.std.specs.List.{range_with_len}
 use Rattle.semantics.specs.declared.metric.Metric.{Metric}
 use Rattle.semantics.specs.declared.metric.Kind.{Kind}
@@ -80,8 +81,8 @@ one_word kind = record { kind = kind; width = None }
 abbrev pub in_words : Kind → ℕ → Metric
 in_words kind width = record { kind = kind; width = Some width }
 
--- how many outputs a word has where there are `count`, but for the last word, which may have fewer; a width of
--- 0, which no word of the command line names, counts as 1
+-- how many outputs a word has where there are `count`, but for the last word, which may have fewer; a width
+-- of 0, which no word of the command line names, counts as 1
 abbrev pub word_width : Metric → ℕ → ℕ
 word_width metric count = max 1 (unwrap_or metric.width count)
 
@@ -96,7 +97,8 @@ word_at w j bits = take w (drop (j * w) bits)
 -- the words of a list of bits, the first of which is bit 0 of the first word
 abbrev pub words_of : Metric → List Bool → List (List Bool)
 words_of metric bits =
-    map (λ j. word_at (word_width metric (length bits)) j bits) (range_with_len 0 (word_count metric (length bits)))
+    let w = word_width metric (length bits) in
+    map (λ j. word_at w j bits) (range_with_len 0 (word_count metric (length bits)))
 
 -- the greatest of the first n values of f; 0 where there are none
 abbrev pub greatest_of : (ℕ → ℕ) → ℕ → ℕ

@@ -16,8 +16,8 @@ use Rattle.semantics.specs.Refusals.{first_doubled, first_ungrounded, first_limi
 use Rattle.semantics.specs.Refusals.{undriven, cycle, limit, net_refusal}
 use Rattle.semantics.specs.declared.metric.Kind.TheVariants.{Abs, Rel, Ham, Sabs}
 use Rattle.semantics.specs.declared.limits.TheConstants.{LARGEST_ERROR}
-use Rattle.semantics.specs.Error.{signed_number_of, sign_flipped, greatest_error, one_word, in_words, words_of}
-use Rattle.semantics.specs.Error.{error_of, net_error}
+use Rattle.semantics.specs.Error.{signed_number_of, sign_flipped, greatest_error, one_word, in_words}
+use Rattle.semantics.specs.Error.{words_of, error_of, net_error}
 use Rattle.semantics.specs.Vectors.{all_vectors}
 use Rattle.semantics.specs.Blif.{blif_text}
 
@@ -131,8 +131,10 @@ pub record ErrorExamples : Type 0 where
       ≡ 0 ∷ 0 ∷ 0 ∷ 0 ∷ []
   pub other_metrics :
       (map (net_error (one_word Ham) half_adder both_constant) (all_vectors 2) ≡ 0 ∷ 1 ∷ 1 ∷ 1 ∷ [])
-      × (map (net_error (one_word Rel) half_adder both_constant) (all_vectors 2) ≡ 0 ∷ 1000000 ∷ 1000000 ∷ 1000000 ∷ [])
-  pub sum_is_constant : map (net_error (one_word Abs) half_adder constant_sum) (all_vectors 2) ≡ 0 ∷ 1 ∷ 1 ∷ 0 ∷ []
+      × (map (net_error (one_word Rel) half_adder both_constant) (all_vectors 2)
+      ≡ 0 ∷ 1000000 ∷ 1000000 ∷ 1000000 ∷ [])
+  pub sum_is_constant :
+      map (net_error (one_word Abs) half_adder constant_sum) (all_vectors 2) ≡ 0 ∷ 1 ∷ 1 ∷ 0 ∷ []
   pub carry_too :
       map (net_error (one_word Abs) half_adder both_constant) (all_vectors 2) ≡ 0 ∷ 1 ∷ 1 ∷ 2 ∷ []
   pub carry_to_one :
@@ -143,10 +145,10 @@ pub record ErrorExamples : Type 0 where
 abbrev pub buffer : Bytes → ℕ → TableValue
 buffer name s = record { name = name; pins = s ∷ []; rows = (One ∷ []) ∷ []; plane = true }
 
--- Outputs that are cut into words. The exact outputs 1101 and the approximate ones 0101, bit 0 first: in words
--- of two 3 and 2 against 2 and 2, in words of three 3 and 1 against 2 and 1. The exact outputs 0010 and the
--- approximate ones 0001: as one word 4 against 8, in words of two 0 and 1 against 0 and 2 or, with signs, 0
--- and 1 against 0 and -2.
+-- Outputs that are cut into words. The exact outputs 1101 and the approximate ones 0101, bit 0 first: in
+-- words of two 3 and 2 against 2 and 2, in words of three 3 and 1 against 2 and 1. The exact outputs 0010 and
+-- the approximate ones 0001: as one word 4 against 8, in words of two 0 and 1 against 0 and 2 or, with signs,
+-- 0 and 1 against 0 and -2.
 pub record WordExamples : Type 0 where
   pub words : (words_of (in_words Abs 2) (true ∷ true ∷ false ∷ true ∷ [])
       ≡ (true ∷ true ∷ []) ∷ (false ∷ true ∷ []) ∷ [])
@@ -198,8 +200,10 @@ pub record SignedExamples : Type 0 where
   pub no_bits : error_of (one_word Sabs) [] [] ≡ 0
   pub largest : error_of (one_word Sabs) (replicate 63 true ++ false ∷ []) (replicate 63 false ++ true ∷ [])
       ≡ 18446744073709551615
-  pub sum_is_constant : map (net_error (one_word Sabs) half_adder constant_sum) (all_vectors 2) ≡ 0 ∷ 1 ∷ 1 ∷ 0 ∷ []
-  pub carry_too : map (net_error (one_word Sabs) half_adder both_constant) (all_vectors 2) ≡ 0 ∷ 1 ∷ 1 ∷ 2 ∷ []
+  pub sum_is_constant :
+      map (net_error (one_word Sabs) half_adder constant_sum) (all_vectors 2) ≡ 0 ∷ 1 ∷ 1 ∷ 0 ∷ []
+  pub carry_too :
+      map (net_error (one_word Sabs) half_adder both_constant) (all_vectors 2) ≡ 0 ∷ 1 ∷ 1 ∷ 2 ∷ []
   pub carry_to_one :
       map (net_error (one_word Sabs) half_adder (with_table half_adder 1 (constant_table (codes "c") true)))
       (all_vectors 2) ≡ 2 ∷ 2 ∷ 2 ∷ 0 ∷ []

@@ -1,7 +1,8 @@
 -- The laws about the definitions, each the contract of a function without parameters.
 use Rattle.std.specs.Prelude.{◌≡◌, ◌≢◌, ◌↔◌, ℕ, ◌+◌, ◌-◌, ◌^◌, ◌<◌, ◌≤◌, pos, neg_ℤ, ◌+ℤ◌, ◌≤ℤ◌, ◌<ℤ◌, Bool}
 use Rattle.std.specs.Prelude.{true, false, List, [], ◌∷◌, ◌++◌, map, length, replicate, slice_get}
-use Rattle.std.specs.Prelude.{slice_index_or, Some, None, decimal, All, AllPairs, Contains, min, flat_map, ◌*◌}
+use Rattle.std.specs.Prelude.{slice_index_or, Some, None, decimal, All, AllPairs, Contains, min, flat_map}
+use Rattle.std.specs.Prelude.{◌*◌}
 use Rattle.std.specs.List.{AllByRecursion}
 use Rattle.semantics.specs.Texts.{Bytes}
 use Rattle.semantics.specs.Net.{TableValue, NetValue, table_at, signal_count, IsName, IsTable, IsGroundedIn}
@@ -20,9 +21,10 @@ use Rattle.semantics.specs.declared.metric.Metric.{Metric}
 use Rattle.semantics.specs.declared.metric.Kind.{Kind}
 use Rattle.semantics.specs.declared.metric.Kind.TheVariants.{Abs, Rel, Ham, Sabs}
 use Rattle.semantics.specs.declared.limits.TheConstants.{MOST_OUTPUTS, LARGEST_ERROR}
-use Rattle.semantics.specs.Error.{number_of, sign_weight, signed_number_of, sign_flipped, distance, word_error}
-use Rattle.semantics.specs.Error.{greatest_error, errors_below, one_word, in_words, word_width, word_count, word_at}
-use Rattle.semantics.specs.Error.{words_of, error_of_word, error_of, net_error, IsCandidate}
+use Rattle.semantics.specs.Error.{number_of, sign_weight, signed_number_of, sign_flipped, distance}
+use Rattle.semantics.specs.Error.{word_error, greatest_error, errors_below, one_word, in_words, word_width}
+use Rattle.semantics.specs.Error.{word_count, word_at, words_of, error_of_word, error_of, net_error}
+use Rattle.semantics.specs.Error.{IsCandidate}
 use Rattle.semantics.specs.Vectors.{bits_of, all_vectors}
 use Rattle.semantics.specs.Decimal.{digits_number, is_decimal}
 
@@ -66,8 +68,8 @@ pub record SizeLaw : Type 0 where
 
 -- Outputs that are cut into words: the words one behind another are the outputs; each word has the width of a
 -- word, but for the last, which has what is left. The error is that of one of the words, and no word errs
--- more; where all outputs are one word, it is the error of that word, and it is so where the words are as wide
--- as all outputs or wider.
+-- more; where all outputs are one word, it is the error of that word, and so it is where the words are as
+-- wide as all outputs or wider.
 pub record WordsLaw : Type 0 where
   pub joined : (metric : Metric) (bits : List Bool) → flat_map (λ w. w) (words_of metric bits) ≡ bits
   pub width : (metric : Metric) (bits : List Bool) (j : ℕ) → j < word_count metric (length bits)

@@ -26,13 +26,19 @@ fn errors(width: Option<u32>, exact: &[bool], approx: &[bool]) -> [u128; 4]
 /// -2.
 #[test]
 fn errors_of_words(rt: HostRuntime) -> Result<(), Fail> {
-    assert_eq!(rt; errors(None, &[true, true], &[false, true]), [1, 1, 333_334, 1]);
+    assert_eq!(rt;
+        errors(None, &[true, true], &[false, true]),
+        [1, 1, 333_334, 1]
+    );
     assert_eq!(rt;
         errors(None, &[false, false], &[true, true]),
         [3, 2, 3_000_000, 1]
     );
     assert_eq!(rt; errors(None, &[true, true], &[true, true]), [0, 0, 0, 0]);
-    assert_eq!(rt; errors(None, &[false, true], &[true, false]), [1, 2, 500_000, 3]);
+    assert_eq!(rt;
+        errors(None, &[false, true], &[true, false]),
+        [1, 2, 500_000, 3]
+    );
     Ok(())
 }
 

@@ -32,9 +32,9 @@ returns-clause-ok g c =
     let metric = c.args.metric in
     let bound = c.args.bound in
     let found = c.in_ok-read_report.field-0 in
-    let here = subst (IsReportIn inputs metric bound found) c.bytes.ensures.value (report_in inputs metric bound c.bytes.result.now found c.in_ok-read_report.ensures) in
+    let here = subst (IsReportIn inputs metric bound found) c.bytes.ensures.value (report_in inputs metric bound c.bytes.result.now found c.in_ok-read_report.ensures.read) in
     text_read (IsReportIn inputs metric bound found) c.in_ok-read_file.ensures.ok
-    (λ content wanted. report_front inputs metric bound c.requires (omega arith) content front.bytes front.limit found limit wanted here)
+    (λ content wanted. report_front inputs metric bound c.requires c.read_report.ensures.width (omega arith) content front.bytes front.limit found limit wanted here)
 
 pub returns-clause-width : goal.returns-clause-width
-returns-clause-width g c = report_width c.args.inputs c.args.metric c.args.bound c.bytes.result.now c.in_ok-read_report.field-0 c.in_ok-read_report.ensures
+returns-clause-width g c = report_width c.args.inputs c.args.metric c.args.bound c.bytes.result.now c.in_ok-read_report.field-0 c.in_ok-read_report.ensures.read
