@@ -133,7 +133,7 @@ pub fn run<G: Program, R: rt::Files + Print + Eprint + Clock + Env + AllocGlobal
 ) -> ExitCode
     ensures { IsEnd G.says G.exit_number (exit_status result) }
 {
-    match hold_streams(rt) {
+    match hold_streams(&SystemPaths::new(rt)) {
         Ok(held) => {
             let exit = exit_of::<G, R>(rt, is_terminal);
             drop(held);

@@ -45,7 +45,7 @@ impl<R: Paths + Drop> RealFiles<R> {
 }
 
 /// How a file is opened to be read.
-fn options_of_open() -> OpenOptions
+pub(crate) fn options_of_open() -> OpenOptions
     ensures { result ≡ to_read }
 {
     let mut options = OpenOptions::new();

@@ -1,7 +1,12 @@
 //! The numbers of the three standard streams. Where a process was started with some of them closed, a file
 //! that it opens would get the number of a closed stream, and what goes to that stream would land in the
 //! file.
-use std::{fs, io, rt};
+ghost use Rattle.std.specs.Prelude.{IfOk};
+ghost use Rattle.console.specs.Streams.{IsNothing, AreHeld};
+
+use crate::paths::Paths;
+use crate::real_files::options_of_open;
+use std::io;
 
 /// What is opened in place of a closed stream: for reading alone, so that each write to it fails.
 const NOTHING: &str = "/dev/null";
@@ -13,24 +18,29 @@ const ROOT: &str = "/";
 /// value goes.
 #[derive(Drop)]
 pub struct HeldStreams<F: Drop> {
-    _first: F,
-    _second: F,
-    _third: F,
+    first: F,
+    second: F,
+    third: F,
 }
 
-fn open_nothing<R: rt::Files>(runtime: &R) -> io::Result<R::File> {
-    match fs::open(runtime, NOTHING) {
+/// A file that nothing can be written to.
+fn open_nothing<P: Paths>(paths: &P) -> io::Result<P::File>
+    ensures { IfOk result (IsNothing (P.opened paths.now)) }
+{
+    match paths.open_at(&options_of_open(), NOTHING) {
         Ok(file) => Ok(file),
-        Err(_) => fs::open(runtime, ROOT),
+        Err(_) => paths.open_at(&options_of_open(), ROOT),
     }
 }
 
 /// Holds the numbers of the three standard streams: each open takes the least number that is free. It is an
 /// error where three files cannot be opened.
-pub fn hold_streams<R: rt::Files>(runtime: &R) -> io::Result<HeldStreams<R::File>> {
+pub fn hold_streams<P: Paths>(paths: &P) -> io::Result<HeldStreams<P::File>>
+    ensures { IfOk result (AreHeld (P.opened paths.now)) }
+{
     Ok(HeldStreams {
-        _first: open_nothing(runtime)?,
-        _second: open_nothing(runtime)?,
-        _third: open_nothing(runtime)?,
+        first: open_nothing(paths)?,
+        second: open_nothing(paths)?,
+        third: open_nothing(paths)?,
     })
 }

@@ -1,5 +1,7 @@
 //! How far the work is, on a terminal: one line, made anew at most once a second, and taken away at the end;
 //! and how long its parts took, in one line at the end.
+ghost use Rattle.std.specs.Prelude.{◌≡◌, IsTrue};
+
 use progress::progress::Progress;
 use std::env::{self, VarError};
 use std::rt::Env;
@@ -58,7 +60,9 @@ fn milliseconds(from: Option<Instant>, to: Option<Instant>) -> u128 {
 
 impl<'a, R: Clock + Eprint + Env + AllocGlobal> Terminal<'a, R> {
     /// Standard error as the user's variables want it, which `is_terminal` or not.
-    pub fn of_user(runtime: &'a R, is_terminal: bool) -> Self {
+    pub fn of_user(runtime: &'a R, is_terminal: bool) -> Self
+        ensures { IsTrue result.is_shown → IsTrue is_terminal }
+    {
         let is_shown = is_terminal && matches!(env::var(runtime, QUIET), Err(VarError::NotPresent));
         let is_timed = env::var(runtime, TIMES).is_ok();
         Terminal::new(runtime, is_shown, is_timed)
@@ -68,7 +72,10 @@ impl<'a, R: Clock + Eprint + Env + AllocGlobal> Terminal<'a, R> {
 impl<'a, R: Clock + Eprint> Terminal<'a, R> {
     /// Nothing was told yet. A line is shown only where `is_shown`, and the parts are timed only where
     /// `is_timed`.
-    pub fn new(runtime: &'a R, is_shown: bool, is_timed: bool) -> Self {
+    pub fn new(runtime: &'a R, is_shown: bool, is_timed: bool) -> Self
+        ensures shown { result.is_shown ≡ is_shown }
+        ensures timed { result.parts.is_timed ≡ is_timed }
+    {
         Terminal {
             runtime,
             is_shown,
