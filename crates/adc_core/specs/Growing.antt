@@ -38,7 +38,7 @@ abbrev pub AreBlocksFor : Judged → List (List Bool) → List Block → Type 0
 AreBlocksFor j vectors blocks = (k : ℕ) (d : Block) → k < length blocks
     → IsBlockOf j vectors k (slice_index_or blocks k d)
 
--- as many blocks as so many patterns take, with a word for each signal, for each output and for each table
+-- as many blocks as `count` patterns take, with a word for each signal, for each output and for each table
 pub record FitBlocks (j : Judged) (count : ℕ) (blocks : List Block) : Type 0 where
   pub few : count < 2 ^ 64
   pub as_many : length blocks ≡ word_count count

@@ -1,19 +1,15 @@
 -- The diagram of the error, and what is decided by it.
 use Rattle.std.proofs.Common.{◌≡◌, ℕ, ◌<◌, ltb, Bool, false, List, [], ◌∷◌, ◌++◌, length, get_or, map, take, drop, refl, sym, ap, subst, ◌∙◌, arith}
-use Rattle.std.specs.Prelude.{All, decimal}
+use Rattle.std.specs.Prelude.{All}
 use Rattle.std.proofs.lemmas.Bool.{ltb-true, ltb-false}
 use Rattle.std.proofs.lemmas.List.{length-append, length-map, get_or-map, map-append}
 use Rattle.std.proofs.lemmas.List.Elements.{All-append}
-use Rattle.std.proofs.lemmas.List.FromFn.{length-map-range_with_len}
 use Rattle.std.proofs.Math.Seq.{take-append_seam, drop-append_seam}
 use Rattle.semantics.specs.Net.{NetValue, input_count, signal_names, name_of}
 use Rattle.semantics.specs.Value as nets
 use Rattle.semantics.specs.Value.{Assignment, outputs_of}
 use Rattle.semantics.specs.declared.metric.Metric.{Metric}
 use Rattle.semantics.specs.Error.{net_error, error_of, IsCandidate}
-use Rattle.quality_semantics.specs.Quality.{quality, quality_net}
-use Rattle.quality_semantics.proofs.Quality.{quality_inputs}
-use Rattle.quality_semantics.proofs.Sound.{TellsExcess-made}
 use Rattle.bdd_core.specs.declared.node.Node.{Node}
 use Rattle.bdd_core.specs.Diagrams.{IsValuation, Grows, HasOneValuation, value_of}
 use Rattle.bdd_core.proofs.Growing.{valuation_before}
@@ -63,14 +59,6 @@ same_outputs N M candidate =
 -- both words' diagrams
 pub both_within : (nodes : List Node) (first second both : List ℕ) → both ≡ first ++ second → All (λ f. f < length nodes) first → All (λ f. f < length nodes) second → All (λ f. f < length nodes) both
 both_within nodes first second both is a b = rw is (All-append (λ f. f < length nodes) first second a b)
-
--- the quality network of a level
-pub level_from : (metric : Metric) (w k : ℕ) (N : NetValue) → N ≡ quality_net metric w k → TellsLevel metric w k N
-level_from metric w k N is = record {
-  inputs = ap input_count is ∙ length-map-range_with_len (λ i. 120 ∷ decimal i) 0 (quality metric w k).net.inputs ∙ quality_inputs metric w k;
-  one = ap (λ (P : NetValue). length P.outputs) is;
-  tells = TellsExcess-made metric w k (quality metric w k).net (quality metric w k).signal N refl refl is;
-}
 
 pub both_count : (N M Q : NetValue) (metric : Metric) (w k : ℕ) (nodes after : List Node) (inputs first second both : List ℕ) → IsCandidate N M → w ≡ length N.outputs → TellsLevel metric w k Q
     → AreOutputsOf nodes N inputs first → AreOutputsOf after M inputs second → both ≡ first ++ second → length both ≡ input_count Q

@@ -1,4 +1,6 @@
 pub mod Drawing
 pub mod Farey
+pub mod Finished
+pub mod Joining
 pub mod Ratios
 pub mod Subtraction

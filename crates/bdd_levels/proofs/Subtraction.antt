@@ -1,32 +1,25 @@
--- A subtraction says how far two words are apart, and a network says whether that exceeds a level.
-use Rattle.std.proofs.Common.{◌≡◌, ℕ, zero, suc, ◌+◌, ◌-◌, ◌*◌, ◌^◌, ◌<◌, ◌≤◌, ltb, Bool, true, false, cond, List, [], ◌∷◌, ◌++◌, length, get_or, take, drop, map, refl, ap, sym, subst, ◌∙◌, arith}
-use Rattle.std.proofs.Common.{length-drop, drop-cons}
-use Rattle.std.specs.Prelude.{ℤ, pos, negsuc, ◌+ℤ◌, ◌-ℤ◌, unsigned_abs, decimal}
-use Rattle.std.specs.List.{range_with_len}
+-- A subtraction says how far two words are apart, and a signal says whether that exceeds a level.
+use Rattle.std.proofs.Common.{◌≡◌, ℕ, zero, suc, ◌+◌, ◌-◌, ◌*◌, ◌^◌, ◌<◌, ◌≤◌, ltb, Bool, true, false, cond, List, [], ◌∷◌, ◌++◌, length, get_or, take, map, refl, ap, sym, subst, ◌∙◌, arith}
+use Rattle.std.specs.Prelude.{ℤ, pos, negsuc, ◌+ℤ◌, ◌-ℤ◌, unsigned_abs}
 use Rattle.std.proofs.Math.Nat.{pow-succ', mul_comm, mul-sub, mul-add}
 use Rattle.std.proofs.lemmas.Int.{ints}
 use Rattle.std.proofs.lemmas.Bool.Decides.{nat_tests}
 use Rattle.std.proofs.lemmas.List.{take_more, take_all, length-take, length-map, length-set}
 use Rattle.std.proofs.lemmas.List.Elements.{All-push, All-nil}
-use Rattle.std.proofs.lemmas.List.FromFn.{length-map-range_with_len, length-range_with_len}
-use Rattle.semantics.specs.Net.{TableValue, NetValue, table_at, input_count, IsSound}
-use Rattle.semantics.specs.Value.{Assignment, table_value, value_of, outputs_of, IsConsistent}
-use Rattle.semantics.specs.declared.metric.Metric.{Metric}
-use Rattle.semantics.specs.declared.metric.Metric.TheVariants.{Abs, Sabs}
+use Rattle.semantics.specs.Value.{Assignment}
+use Rattle.semantics.specs.declared.metric.Kind.TheVariants.{Abs, Sabs}
 use Rattle.semantics.specs.declared.mark.Mark.TheVariants.{Zero, One, Dash}
-use Rattle.semantics.specs.Error.{bit_number, signed_number_of, distance, error_of}
-use Rattle.semantics.proofs.Values.{value_law}
+use Rattle.semantics.specs.Error.{bit_number, signed_number_of, distance, word_error}
 use Rattle.semantics.proofs.Vectors.{number_of-lt_width}
-use Rattle.quality_semantics.specs.Forms.{Form, form, xor2, zero_form, one_form}
-use Rattle.quality_semantics.specs.WordNets.{WordNetValue, signals, table_of, appended, started, net_of, BeginsWith, AreSignalsOf}
+use Rattle.quality_semantics.specs.Forms.{Form, form, xor2}
+use Rattle.quality_semantics.specs.WordNets.{WordNetValue, signals, appended, BeginsWith, AreSignalsOf}
 use Rattle.quality_semantics.specs.Buses.{flip_top}
-use Rattle.quality_semantics.specs.Quality.{exact_bus, approximate_bus}
 use Rattle.quality_semantics.specs.Laws.{Fits, number}
 use Rattle.quality_semantics.proofs.Tables.{form_value}
 use Rattle.quality_semantics.proofs.Growth.{begins_itself, begins_after as begins_through, begins_appended, signals_kept, Fits-earlier, Fits-newest}
 use Rattle.bus_nets.specs.Numbers.{HasNumber, HasBit, HasFlipped}
-use Rattle.bdd_levels.specs.Levels.{TellsLevel}
-use Rattle.bdd_levels.specs.Subtraction.{IsPlaceOf, IsDifferenceOf, SaysExcess}
+use Rattle.bdd_levels.specs.Subtraction.{IsPlaceOf, IsDifferenceOf}
+use Rattle.bdd_levels.specs.Words.{SaysWordExcess}
 
 pub begins_after : (W V U : WordNetValue) → BeginsWith U V → BeginsWith V W → BeginsWith U W
 begins_after = begins_through
@@ -223,93 +216,29 @@ far_made D S O U V x y d t z b o u s w q width is scaled to_D over to_S under to
 once : (n : ℕ) → n * 1 ≡ n
 once n = omega arith
 
-pub absolute_says : (w k : ℕ) (W V : WordNetValue) (e a z : List ℕ) (s : ℕ) → W ≡ started (w + w) → e ≡ exact_bus w → a ≡ approximate_bus w → HasNumber W z (λ v. k) → BeginsWith V W
-    → HasBit V s (λ v. ltb (number v z) (distance (number v e) (number v a) * 1)) → SaysExcess Abs w k V s
-absolute_says w k W V e a z s start he ha level begins far = record {
-  begins = subst (BeginsWith V) start begins;
+pub absolute_says : (k : ℕ) (W V : WordNetValue) (e a z : List ℕ) (s : ℕ) → HasNumber W z (λ v. k) → BeginsWith V W → HasBit V s (λ v. ltb (number v z) (distance (number v e) (number v a) * 1))
+    → SaysWordExcess Abs k e a V s
+absolute_says k W V e a z s level begins far = record {
   at = λ v fits.
-      far.at v fits ∙ ap (λ n. ltb n (distance (number v e) (number v a) * 1)) (level.at v (Fits-earlier v V W begins fits)) ∙ ap (ltb k) (once (distance (number v e) (number v a)))
-      ∙ (rw (he, ha) refl);
+      far.at v fits ∙ ap (λ n. ltb n (distance (number v e) (number v a) * 1)) (level.at v (Fits-earlier v V W begins fits)) ∙ ap (ltb k) (once (distance (number v e) (number v a)));
 }
 
 signed_apart : (z i j : ℤ) (n m h : ℕ) → z ≡ i -ℤ j → pos n ≡ i +ℤ pos h → pos m ≡ j +ℤ pos h → unsigned_abs z ≡ distance n m
 signed_apart (pos t) i j n m h is first second = omega (arith, ints, is, first, second)
 signed_apart (negsuc t) i j n m h is first second = omega (arith, ints, is, first, second)
 
-pub signed_says : (w k : ℕ) (S E A V : WordNetValue) (x y e a z : List ℕ) (s : ℕ) → S ≡ started (w + w) → x ≡ exact_bus w → y ≡ approximate_bus w → BeginsWith E S → HasFlipped E e x → BeginsWith A E
-    → HasFlipped A a y → HasNumber A z (λ v. k)
-    → BeginsWith V A → HasBit V s (λ v. ltb (number v z) (distance (number v e) (number v a) * 1)) → SaysExcess Sabs w k V s
-signed_says w k S E A V x y e a z s start hx hy to_S first to_E second level to_A far = record {
-  begins = subst (BeginsWith V) start (begins_through S E V (begins_through E A V to_A to_E) to_S);
+pub signed_says : (k : ℕ) (E A V : WordNetValue) (x y e a z : List ℕ) (s : ℕ) → length x ≡ length y → HasFlipped E e x → BeginsWith A E → HasFlipped A a y → HasNumber A z (λ v. k) → BeginsWith V A
+    → HasBit V s (λ v. ltb (number v z) (distance (number v e) (number v a) * 1)) → SaysWordExcess Sabs k x y V s
+signed_says k E A V x y e a z s widths first to_E second level to_A far = record {
   at = λ v fits.
       let at_A = Fits-earlier v V A to_A fits in
-      let at_E = Fits-earlier v A E to_E at_A in
-      let e_width : length x ≡ w = ap length hx ∙ length-range_with_len 0 w in
-      let a_width : length y ≡ w = ap length hy ∙ length-range_with_len w w in
-      let half_e : pos (number v e) ≡ signed_number_of (map v x) +ℤ pos (2 ^ (w - 1)) = first.at v at_E ∙ ap (λ n. signed_number_of (map v x) +ℤ pos (2 ^ (n - 1))) e_width in
-      let half_a : pos (number v a) ≡ signed_number_of (map v y) +ℤ pos (2 ^ (w - 1)) = second.at v at_A ∙ ap (λ n. signed_number_of (map v y) +ℤ pos (2 ^ (n - 1))) a_width in
-      let apart : error_of Sabs (map v x) (map v y) ≡ distance (number v e) (number v a) =
-      signed_apart (signed_number_of (map v x) -ℤ signed_number_of (map v y)) (signed_number_of (map v x)) (signed_number_of (map v y)) (number v e) (number v a) (2 ^ (w - 1)) refl half_e half_a in
-      far.at v fits ∙ ap (λ n. ltb n (distance (number v e) (number v a) * 1)) (level.at v at_A) ∙ ap (ltb k) (once (distance (number v e) (number v a)) ∙ sym apart) ∙ (rw (hx, hy) refl);
+      let half_e : pos (number v e) ≡ signed_number_of (map v x) +ℤ pos (2 ^ (length x - 1)) = first.at v (Fits-earlier v A E to_E at_A) in
+      let half_a : pos (number v a) ≡ signed_number_of (map v y) +ℤ pos (2 ^ (length x - 1)) = second.at v at_A ∙ ap (λ n. signed_number_of (map v y) +ℤ pos (2 ^ (n - 1))) (sym widths) in
+      let i = signed_number_of (map v x) in
+      let j = signed_number_of (map v y) in
+      let apart : word_error Sabs (map v x) (map v y) ≡ distance (number v e) (number v a) = signed_apart (i -ℤ j) i j (number v e) (number v a) (2 ^ (length x - 1)) refl half_e half_a in
+      far.at v fits ∙ ap (λ n. ltb n (distance (number v e) (number v a) * 1)) (level.at v at_A) ∙ ap (ltb k) (once (distance (number v e) (number v a)) ∙ sym apart);
 }
 
-pub flipped_width : (W : WordNetValue) (x bus : List ℕ) (w : ℕ) → length x ≡ w → bus ≡ (flip_top W x).bus → length bus ≡ w
-flipped_width W x bus w width is = ap length is ∙ length-set x (length x - 1) (signals W) ∙ width
-
-pub input_width : (from w : ℕ) (bus : List ℕ) → bus ≡ range_with_len from w → length bus ≡ w
-input_width from w bus is = ap length is ∙ length-range_with_len from w
-
--- ---- the net that was finished
-
-first_two : (ts : List TableValue) (a b : TableValue) → take 2 ts ≡ a ∷ b ∷ [] → (2 ≤ length ts) × (table_at ts 0 ≡ a) × (table_at ts 1 ≡ b)
-first_two [] a b e = cc
-first_two (s ∷ []) a b e = cc
-first_two (s ∷ (t ∷ ts)) a b e = (omega arith, cc, cc)
-
-fits_consistent : (v : Assignment) (W : WordNetValue) (x : List Bool) → BeginsWith W (started W.inputs) → IsConsistent W.inputs W.tables x v → Fits v W
-fits_consistent v W x b h =
-    let heads = first_two W.tables (table_of 0 zero_form) (table_of 1 one_form) b.tables in
-    let here : W.inputs + 0 ≡ W.inputs = omega arith in
-    let next : W.inputs + 1 ≡ suc W.inputs = omega arith in
-    record {
-      zero = subst (λ n. v n ≡ table_value (table_at W.tables 0) v) here (h.table 0 (omega (arith, heads.0))) ∙ ap (λ t. table_value t v) heads.1;
-      one = subst (λ n. v n ≡ table_value (table_at W.tables 1) v) next (h.table 1 (omega (arith, heads.0))) ∙ ap (λ t. table_value t v) heads.2;
-      table = h.table;
-    }
-
-inputs_bits : (v : Assignment) (x : List Bool) (from width : ℕ) → ((s : ℕ) → s < length x → v s ≡ get_or x s false) → from + width ≤ length x
-    → map v (range_with_len from width) ≡ take width (drop from x)
-inputs_bits v x from zero h few = refl
-inputs_bits v x from (suc width) h few =
-    let here : v from ≡ get_or x from false = h from (omega arith) in
-    let rest = inputs_bits v x (from + 1) width h (omega arith) in
-    let step = drop-cons x from false (omega arith) in
-    let next : from + 1 ≡ suc from = omega arith in
-    rw (step, here, rest, next) refl
-
-module _ (metric : Metric) (w k : ℕ) (W : WordNetValue) (s : ℕ) (is : SaysExcess metric w k W s) where
-  excess_value : (x : List Bool) (v : Assignment) → length x ≡ w + w → IsConsistent W.inputs W.tables x v → v s ≡ ltb k (error_of metric (take w x) (drop w x))
-  excess_value x v width consistent =
-      let inputs : W.inputs ≡ w + w = is.begins.inputs in
-      let fits : Fits v W = fits_consistent v W x (record { inputs = refl; tables = is.begins.tables }) consistent in
-      let bits : (j : ℕ) → j < length x → v j ≡ get_or x j false = λ j low. consistent.input j (omega (arith, low, width, inputs)) in
-      let first : map v (exact_bus w) ≡ take w x = inputs_bits v x 0 w bits (omega (arith, width)) in
-      let second : map v (approximate_bus w) ≡ take w (drop w x) = inputs_bits v x w w bits (omega (arith, width)) in
-      let rest : take w (drop w x) ≡ drop w x = take_all w (drop w x) (omega (arith, length-drop w x, width)) in
-      is.at v fits ∙ rw (first, second, rest) refl
-
-  count : input_count (net_of W (s ∷ [])) ≡ W.inputs
-  count = length-map-range_with_len (λ i. 120 ∷ decimal i) 0 W.inputs
-
-  told : IsSound (net_of W (s ∷ [])) → (x : List Bool) → length x ≡ w + w → outputs_of (net_of W (s ∷ [])) x ≡ ltb k (error_of metric (take w x) (drop w x)) ∷ []
-  unfolding outputs_of
-  told sound x width =
-      let law = value_law (input_count (net_of W (s ∷ []))) W.tables x sound.acyclic in
-      let consistent = subst (λ n. IsConsistent n W.tables x (value_of n W.tables x)) count law.consistent in
-      rw count (ap (λ bit. bit ∷ []) (excess_value x (value_of W.inputs W.tables x) width consistent))
-
-  told_level : IsSound (net_of W (s ∷ [])) → TellsLevel metric w k (net_of W (s ∷ []))
-  told_level sound = record { inputs = count ∙ is.begins.inputs; one = refl; tells = told sound }
-
-pub level_told : (W : WordNetValue) (s : ℕ) (N : NetValue) → N ≡ net_of W (s ∷ []) → IsSound N → (metric : Metric) (w k : ℕ) → SaysExcess metric w k W s → TellsLevel metric w k N
-level_told W s N made sound metric w k is = subst (TellsLevel metric w k) (sym made) (told_level metric w k W s is (subst IsSound made sound))
+pub flipped_width : (W : WordNetValue) (x bus : List ℕ) → bus ≡ (flip_top W x).bus → length bus ≡ length x
+flipped_width W x bus is = ap length is ∙ length-set x (length x - 1) (signals W)

@@ -1,3 +1,4 @@
 pub mod Levels
 pub mod Ratios
 pub mod Subtraction
+pub mod Words

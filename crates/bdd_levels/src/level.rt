@@ -3,14 +3,14 @@
 ghost use Rattle.std.specs.Prelude.{◌≡◌, ◌≤◌, length, IfOk};
 ghost use Rattle.bdd_levels.specs.Levels.{TellsLevel, IsLevelOf};
 
-use crate::distances::{absolute_quality, signed_quality};
-use crate::relative;
+use crate::words::excess;
+use bus_nets::word_net::WordNet;
 use net_core::net::Net;
 use semantics::limits::MOST_OUTPUTS;
 use semantics::metric::Metric;
 use std::alloc::{AllocError, Global};
 
-/// A level, and the network over two words that says whether their error exceeds it.
+/// A level, and the network over the outputs of two nets that says whether their error exceeds it.
 #[derive(Drop)]
 pub struct Level {
     pub metric: Metric,
@@ -18,18 +18,16 @@ pub struct Level {
     pub network: Net,
 }
 
-/// The net whose output says whether the error of two words of `width` bits exceeds `k`.
-#[tactic(auto, using(crate::proofs::Drawing::level_from))]
+/// The net whose output says whether the error of its last `width` inputs against the others exceeds `k`.
 fn quality(alloc: Global, metric: Metric, width: u32, k: u128) -> Result<Net, AllocError>
     requires { width ≤ MOST_OUTPUTS }
     ensures { IfOk result (TellsLevel metric width k) }
 {
-    match metric {
-        Metric::Abs => absolute_quality(alloc, width, k),
-        Metric::Rel => relative::quality(alloc, width, k),
-        Metric::Ham => quality_ham::quality(alloc, width, k),
-        Metric::Sabs => signed_quality(alloc, width, k),
-    }
+    let mut net = WordNet::new(alloc, width + width)?;
+    let output = excess(alloc, &mut net, metric, width, k)?;
+    let made: Net = net.finish(&[output])?;
+    made.see_sound();
+    Ok(made)
 }
 
 impl Level {

@@ -3,9 +3,10 @@
 //! `level` has the quality network of a level. `drawn` has the exact net's diagrams, which are made once, and
 //! over the same nodes the diagrams of each approximate net, so that what both nets have in common is found
 //! again. `orders` has orders of inputs, and `decider` keeps the diagrams in the best of these orders over
-//! many questions. `distances` has the networks of the absolute and the signed error, whose diagrams are
-//! small where two nets are nearly equal, and `relative` the network of the relative error, which has smaller
-//! numbers besides. What may be spent on each stands in `budgets`.
+//! many questions. `words` joins the networks of the words into which the outputs are cut. `distances` has
+//! the networks of the absolute and the signed error of a word, whose diagrams are small where two nets are
+//! nearly equal, and `relative` the network of the relative error, which has smaller numbers besides. What
+//! may be spent on each stands in `budgets`.
 #![tactic(auto)]
 
 pub mod budgets;
@@ -15,3 +16,4 @@ mod drawn;
 pub mod level;
 mod orders;
 mod relative;
+mod words;

@@ -5,16 +5,15 @@
 //! millionths, where no fraction above r and up to k millionths has a denominator below 2^w: then a distance
 //! exceeds the part r of the exact word exactly where it exceeds k millionths of that word. Such a fraction
 //! is found by the mediants of Farey, and tested.
-ghost use Rattle.std.specs.Prelude.{◌≡◌, ℕ, ◌+◌, ◌*◌, ◌^◌, ◌≤◌, ◌<◌, true, IfOk};
-ghost use Rattle.semantics.specs.declared.metric.Metric.TheVariants.{Rel};
-ghost use Rattle.quality_semantics.specs.WordNets.{started, signals};
-ghost use Rattle.bdd_levels.specs.Levels.{TellsLevel};
-ghost use Rattle.bdd_levels.specs.Subtraction.{SaysExcess};
+ghost use Rattle.std.specs.Prelude.{◌≡◌, ℕ, ◌+◌, ◌*◌, ◌^◌, ◌≤◌, ◌<◌, true, length, IfOk, OnOk};
+ghost use Rattle.semantics.specs.declared.metric.Kind.TheVariants.{Rel};
+ghost use Rattle.quality_semantics.specs.WordNets.{signals, BeginsWith, AreSignalsOf};
 ghost use Rattle.bdd_levels.specs.Ratios.{IsAtMost, IsExactly, IsAbove, AreNeighbours, IsRatioFor};
+ghost use Rattle.bdd_levels.specs.Words.{SaysWordExcess};
 
-use crate::distances::{far_apart, finished};
+use crate::distances::far_apart;
+use bus_nets::bus::Bus;
 use bus_nets::word_net::WordNet;
-use net_core::net::Net;
 use net_parts::items::Signal;
 use semantics::limits::MOST_OUTPUTS;
 use std::alloc::{AllocError, Global};
@@ -148,50 +147,52 @@ fn ratio_for(k: u128, width: u32) -> Ratio
     }
 }
 
-/// Appends a signal that says whether the relative error of the two words of `width` bits that are the inputs
-/// of the network exceeds the fraction: whether their distance times the denominator exceeds the numerator
-/// times the exact word, which counts as 1 where it is 0.
-fn excess(alloc: Global, net: &mut WordNet, width: u32, ratio: Ratio) -> Result<Signal, AllocError>
-    requires start { net.old ≡ started (width + width) }
-    requires some { 0 < width }
-    requires narrow { width ≤ MOST_OUTPUTS }
+/// Appends a signal that says whether the relative error of two words exceeds the fraction: whether their
+/// distance times the denominator exceeds the numerator times the exact word, which counts as 1 where it is
+/// 0.
+fn ratio_excess(
+    alloc: Global,
+    net: &mut WordNet,
+    exact: &Bus,
+    approximate: &Bus,
+    ratio: Ratio,
+) -> Result<Signal, AllocError>
+    requires exact_in { AreSignalsOf net.old exact.now }
+    requires approximate_in { AreSignalsOf net.old approximate.now }
+    requires widths { length exact.now ≡ length approximate.now }
+    requires some { 0 < length exact.now }
+    requires narrow { length exact.now ≤ MOST_OUTPUTS }
     ensures within { IfOk result (λ s. s < signals net.new) }
-    ensures says { IfOk result (λ s. (k : ℕ) → IsRatioFor width k ratio → SaysExcess Rel width k net.new s) }
+    ensures begins { OnOk result (BeginsWith net.new net.old) }
+    ensures says { IfOk result (λ s. (k : ℕ) → IsRatioFor (length exact.now) k ratio
+        → SaysWordExcess Rel k exact.now approximate.now net.new s) }
 {
-    let exact = net.input_bus(0, width)?;
-    let approximate = net.input_bus(width, width)?;
-    let divisor = net.not_zero_low(&exact)?;
+    let divisor = net.not_zero_low(exact)?;
     let level = net.times(&divisor, ratio.numerator)?;
-    far_apart(
-        alloc,
-        net,
-        width,
-        &exact,
-        &approximate,
-        ratio.denominator,
-        &level,
-    )
+    far_apart(alloc, net, exact, approximate, ratio.denominator, &level)
 }
 
-/// The network of a level that some relative error of words of `width` bits exceeds.
-fn ratio_network(alloc: Global, width: u32, k: u128) -> Result<Net, AllocError>
-    requires some { 0 < width }
-    requires narrow { width ≤ MOST_OUTPUTS }
-    ensures { IfOk result (TellsLevel Rel width k) }
+/// Appends a signal that says whether the relative error of two words exceeds `k` millionths: the constant 0
+/// where no relative error of words of their width does.
+pub(crate) fn relative_excess(
+    alloc: Global,
+    net: &mut WordNet,
+    exact: &Bus,
+    approximate: &Bus,
+    k: u128,
+) -> Result<Signal, AllocError>
+    requires exact_in { AreSignalsOf net.old exact.now }
+    requires approximate_in { AreSignalsOf net.old approximate.now }
+    requires widths { length exact.now ≡ length approximate.now }
+    requires some { 0 < length exact.now }
+    requires narrow { length exact.now ≤ MOST_OUTPUTS }
+    ensures within { IfOk result (λ s. s < signals net.new) }
+    ensures begins { OnOk result (BeginsWith net.new net.old) }
+    ensures says { IfOk result (SaysWordExcess Rel k exact.now approximate.now net.new) }
 {
-    let mut net = WordNet::new(alloc, width + width)?;
-    let output = excess(alloc, &mut net, width, ratio_for(k, width))?;
-    finished(net, output)
-}
-
-/// The net whose output says whether the relative error of two words of `width` bits exceeds `k` millionths.
-#[tactic(auto, using(crate::proofs::Drawing::level_from))]
-pub(crate) fn quality(alloc: Global, width: u32, k: u128) -> Result<Net, AllocError>
-    requires { width ≤ MOST_OUTPUTS }
-    ensures { IfOk result (TellsLevel Rel width k) }
-{
-    if width == 0 || k >= ((1u128 << width) - 1) * MILLION {
-        return quality_rel::quality(alloc, width, k);
+    let width = exact.len() as u32;
+    if k >= ((1u128 << width) - 1) * MILLION {
+        return Ok(net.zero());
     }
-    ratio_network(alloc, width, k)
+    ratio_excess(alloc, net, exact, approximate, ratio_for(k, width))
 }

@@ -1,5 +1,5 @@
 -- What was read back from a bundle's texts.
-use Rattle.std.specs.Prelude.{◌≡◌, ℕ, Bool, List, ◌∷◌}
+use Rattle.std.specs.Prelude.{◌≡◌, ℕ, ◌^◌, ◌<◌, Bool, List, ◌∷◌, IfSome}
 use Rattle.semantics.specs.Texts.{Bytes}
 use Rattle.semantics.specs.declared.metric.Metric.{Metric}
 use Rattle.job_semantics.specs.Report.{Report}
@@ -12,6 +12,10 @@ pub record HoldsVectors (inputs : ℕ) (text : Bytes) (witness : List Bool)
   pub pool : List (List Bool)
   pub vectors_are : vectors ≡ witness ∷ pool
   pub read : IsVectorsText inputs text witness pool
+
+-- the number of outputs in each word, if the metric has one, is a number of 32 bits, as in code
+abbrev pub HasShortWidth : Metric → Type 0
+HasShortWidth metric = IfSome metric.width (λ width. width < 2 ^ 32)
 
 -- the report that was read, with its metric and its bound
 abbrev pub report_read : Metric → ℕ → ReportRead → Report

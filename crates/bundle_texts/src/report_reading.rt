@@ -5,11 +5,11 @@ ghost use Rattle.job_semantics.specs.Certificate.{IsReportText};
 ghost use Rattle.bundle_texts.specs.Pieces.{bits_in};
 ghost use Rattle.bundle_texts.specs.ReportParts.{head_text, minimal_text, AreCountsBefore, IsFrontBefore};
 ghost use Rattle.bundle_texts.specs.ReportParts.{IsTail};
-ghost use Rattle.bundle_texts.specs.Reading.{report_read};
+ghost use Rattle.bundle_texts.specs.Reading.{HasShortWidth, report_read};
 
 use crate::bits::bits_of;
 use crate::pieces::{after, number_before, vector_before};
-use bundle_writing::report_lines::{ReportText, add_number, add_word, metric_word, version_word};
+use bundle_writing::report_lines::{ReportText, add_metric, add_number, add_word, version_word};
 use job_semantics::version::Version;
 use net_core::items::Bits;
 use semantics::limits::LARGEST_ERROR;
@@ -45,7 +45,7 @@ fn head(version: Version, metric: Metric, bound: u128) -> ReportText
 {
     let mut text = ReportText::new();
     add_word(&mut text, "salsa", version_word(version));
-    add_word(&mut text, "metric", metric_word(metric));
+    add_metric(&mut text, metric);
     add_number(&mut text, "bound", bound);
     text.push_str("maximum ");
     text
@@ -147,9 +147,10 @@ pub fn read_report(
     bound: u128,
     inputs: u32,
 ) -> Result<Option<ReportRead>, AllocError>
-    ensures { IfOk result (λ read. MatchOption read
+    ensures read { IfOk result (λ read. MatchOption read
         ((r : Report) → ¬ IsReportText inputs metric bound text.now r)
         (λ found. IsReportText inputs metric bound text.now (report_read metric bound found))) }
+    ensures width { HasShortWidth metric }
 {
     if let Some(read) = read_version(alloc, text, Version::Two, metric, bound, inputs)? {
         return Ok(Some(read));

@@ -1,13 +1,13 @@
 //! Lines of a report's text, made on the stack, both for writing a report and for reading one back.
-ghost use Rattle.std.specs.Prelude.{◌≡◌, ◌+◌, ◌≤◌, [], ◌∷◌, ◌++◌, length, decimal};
+ghost use Rattle.std.specs.Prelude.{◌≡◌, ◌+◌, ◌≤◌, [], ◌∷◌, ◌++◌, length, codes, decimal};
 ghost use Rattle.semantics.specs.Texts.{line_text};
-ghost use Rattle.job_semantics.specs.Report.{metric_word, version_word};
+ghost use Rattle.job_semantics.specs.Report.{kind_word, metric_word, version_word};
 ghost use Rattle.bundle_writing.specs.declared.report_lines.TheConstants.{REPORT_LIMIT};
 
 use arrayvec::ArrayString;
 use itoa::Buffer;
 use job_semantics::version::Version;
-use semantics::metric::Metric;
+use semantics::metric::{Kind, Metric};
 
 /// The most bytes of the report of a net within the limits.
 pub const REPORT_LIMIT: usize = 1024;
@@ -48,15 +48,31 @@ pub fn version_word(version: Version) -> &'static str
     }
 }
 
-/// The word of a metric.
-pub fn metric_word(metric: Metric) -> &'static str
-    ensures word { result.now ≡ metric_word metric }
+/// The word that says how two words of outputs are compared.
+fn kind_word(kind: Kind) -> &'static str
+    ensures word { result.now ≡ kind_word kind }
     ensures len { length result.now ≤ 4 }
 {
-    match metric {
-        Metric::Abs => "abs",
-        Metric::Rel => "rel",
-        Metric::Ham => "ham",
-        Metric::Sabs => "sabs",
+    match kind {
+        Kind::Abs => "abs",
+        Kind::Rel => "rel",
+        Kind::Ham => "ham",
+        Kind::Sabs => "sabs",
     }
+}
+
+/// Adds the line of the metric, in at most 23 bytes.
+pub fn add_metric(text: &mut ReportText, metric: Metric)
+    requires { length text.old.bytes + 23 ≤ REPORT_LIMIT }
+    ensures bytes { text.new.bytes ≡ text.old.bytes ++ line_text (codes "metric" ∷ metric_word metric ∷ []) }
+    ensures len { length text.new.bytes ≤ length text.old.bytes + 23 }
+{
+    text.push_str("metric ");
+    text.push_str(kind_word(metric.kind));
+    if let Some(width) = metric.width {
+        let mut digits = Buffer::new();
+        text.push_str("/");
+        text.push_str(digits.format(width));
+    }
+    text.push_str("\n");
 }

@@ -6,7 +6,7 @@ ghost use Rattle.bundle_writing.specs.declared.report_lines.TheConstants.{REPORT
 ghost use Rattle.bundle_writing.specs.Value.{report_of_bundle};
 
 use crate::bundle::Bundle;
-use crate::report_lines::{ReportText, add_number, add_word, metric_word, version_word};
+use crate::report_lines::{ReportText, add_metric, add_number, add_word, version_word};
 use itoa::Buffer;
 
 /// Adds a line of a key and two numbers.
@@ -62,7 +62,7 @@ pub(crate) fn report(b: &Bundle) -> ReportText
 {
     let mut text = ReportText::new();
     add_word(&mut text, "salsa", version_word(b.version));
-    add_word(&mut text, "metric", metric_word(b.metric));
+    add_metric(&mut text, b.metric);
     add_number(&mut text, "bound", b.bound);
     add_number(&mut text, "maximum", b.maximum);
     add_witness(&mut text, b.witness.as_slice());

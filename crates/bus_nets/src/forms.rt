@@ -17,7 +17,7 @@ use std::alloc::{AllocError, Global};
 pub(crate) const INV: [[Mark; 1]; 1] = [[Mark::Zero]];
 
 /// Whether one of two bits is 1.
-pub(crate) const OR2: [[Mark; 2]; 2] = [[Mark::One, Mark::Dash], [Mark::Dash, Mark::One]];
+pub const OR2: [[Mark; 2]; 2] = [[Mark::One, Mark::Dash], [Mark::Dash, Mark::One]];
 
 /// Whether both bits are 1: the carry of a half adder.
 pub const AND2: [[Mark; 2]; 1] = [[Mark::One, Mark::One]];

@@ -22,7 +22,7 @@ use proof_parts::clause::Lits;
 use proof_parts::cnf::Cnf;
 use proof_parts::literal::literal_at;
 use proof_parts::log::{Item, Log, Step};
-use semantics::limits::TRIED_INPUTS;
+use semantics::limits::MOST_CASE_INPUTS;
 use std::alloc::{AllocError, Global};
 
 /// The number of inputs all of whose vectors stand side by side in a word of 64 bits.
@@ -30,7 +30,7 @@ const SIDE_BY_SIDE: u32 = 6;
 
 /// The clause that is false exactly where the first inputs have these bits.
 fn negation(alloc: Global, front: &[bool]) -> Result<Lits, AllocError>
-    requires { length front.now ≤ TRIED_INPUTS }
+    requires { length front.now ≤ MOST_CASE_INPUTS }
     ensures { IfOk result (λ clause. clause ≡ negation front.now) }
 {
     let mut clause = Lits::new(alloc);
@@ -102,7 +102,7 @@ fn join_step(
     half: u64,
     other: u64,
 ) -> Result<Step, AllocError>
-    requires { length front.now ≤ TRIED_INPUTS }
+    requires { length front.now ≤ MOST_CASE_INPUTS }
     ensures { IfOk result (λ s. s ≡ join_step id front.now half other) }
 {
     let mut hints = Items::new(alloc);
@@ -185,7 +185,7 @@ fn clause_count(goal: &Cnf) -> u64
 /// A log that refutes the goal of a net whose one output is 0 at every input vector: one step for each input
 /// vector and one for each front of a vector, so at most 65,535 steps.
 pub fn refute(alloc: Global, joint: &Net, goal: &Cnf) -> Result<Log, AllocError>
-    requires few_inputs { input_count joint.now ≤ TRIED_INPUTS }
+    requires few_inputs { input_count joint.now ≤ MOST_CASE_INPUTS }
     requires its_goal { goal.now ≡ goal_of joint.now }
     requires always_0 { (x : List Bool) → length x ≡ input_count joint.now
         → outputs_of joint.now x ≡ false ∷ [] }

@@ -14,7 +14,7 @@
 //! many at a time.
 ghost use Rattle.std.specs.Prelude.{◌<◌, ◌≤◌};
 
-/// With at most so many inputs they come to be decided in the order of their numbers.
+/// The most inputs that come to be decided in the order of their numbers.
 const ORDERED_INPUTS: u32 = 16;
 
 /// The conflicts of a search, besides an eighth of the vectors, from which on it decides few inputs in the
@@ -68,7 +68,7 @@ impl Pace {
         }
     }
 
-    /// A clause of so many levels was learned.
+    /// Notes that a clause was learned whose literals stand on `levels` levels of decisions.
     pub fn note(&mut self, levels: u64) {
         self.fast = average(self.fast, levels, self.learned, FAST);
         self.slow = average(self.slow, levels, self.learned, SLOW);

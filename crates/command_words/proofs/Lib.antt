@@ -1,1 +1,2 @@
 pub mod JobWords
+pub mod MetricParts

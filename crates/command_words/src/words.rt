@@ -1,16 +1,16 @@
 //! The words of the command line, and the job that they name.
-ghost use Rattle.std.specs.Prelude.{◌≡◌, option_map, IfSome};
+ghost use Rattle.std.specs.Prelude.{◌≡◌, option_map, position, IfSome};
 ghost use Rattle.semantics.specs.Texts.{Bytes};
 ghost use Rattle.job_semantics.specs.Job.{Job, job_of, synth_of, check_of, demo_of, conversion_of, trim_of};
-ghost use Rattle.job_semantics.specs.Job.{flat, aag, blif, metric_of, bound_of, conflicts_of, are_file_words};
-ghost use Rattle.job_semantics.specs.Job.{is_output_word, are_trim_words};
+ghost use Rattle.job_semantics.specs.Job.{flat, aag, blif, kind_of, is_slash, metric_of, bound_of};
+ghost use Rattle.job_semantics.specs.Job.{conflicts_of, are_file_words, is_output_word, are_trim_words};
 ghost use Rattle.command_words.specs.Words.{job_meaning, HasRanges};
 
 use crate::bundle_names::is_bundle_name;
 use decimal_words::decimal::number_from_to;
 use file_core::word::Word;
-use semantics::limits::LARGEST_ERROR;
-use semantics::metric::Metric;
+use semantics::limits::{LARGEST_ERROR, MOST_OUTPUTS};
+use semantics::metric::{Kind, Metric};
 
 /// A job with its values. `input`, `stem` and `output` are names of files.
 #[derive(Clone, Copy, Debug)]
@@ -54,20 +54,47 @@ pub enum Command<'a> {
     },
 }
 
-fn metric(word: &[u8]) -> Option<Metric>
-    ensures { result ≡ metric_of word.now }
+/// How two words of outputs are compared, if the word names that.
+fn kind(word: &[u8]) -> Option<Kind>
+    ensures { result ≡ kind_of word.now }
 {
     if word == b"abs".as_slice() {
-        Some(Metric::Abs)
+        Some(Kind::Abs)
     } else if word == b"rel".as_slice() {
-        Some(Metric::Rel)
+        Some(Kind::Rel)
     } else if word == b"ham".as_slice() {
-        Some(Metric::Ham)
+        Some(Kind::Ham)
     } else if word == b"sabs".as_slice() {
-        Some(Metric::Sabs)
+        Some(Kind::Sabs)
     } else {
         None
     }
+}
+
+/// Where the first slash is.
+fn slash_at(word: &[u8]) -> Option<usize>
+    ensures { result ≡ position is_slash word.now }
+{
+    word.iter().position(|byte| *byte == b'/')
+}
+
+/// The metric that the word names. What stands behind a slash is the number of outputs in each word.
+#[tactic(auto, using(crate::proofs::JobWords::number_within))]
+fn metric(word: &[u8]) -> Option<Metric>
+    ensures { result ≡ metric_of word.now }
+{
+    let Some(at) = slash_at(word) else {
+        return Some(Metric {
+            kind: kind(word)?,
+            width: None,
+        });
+    };
+    let kind = kind(&word[..at])?;
+    let width = number_from_to(&word[at + 1..], 1, MOST_OUTPUTS as u128)?;
+    Some(Metric {
+        kind,
+        width: Some(width as u32),
+    })
 }
 
 fn are_file_words(input: &[u8], stem: &[u8]) -> bool

@@ -33,7 +33,7 @@ abbrev pub AreWeights : Hierarchy → List ℕ → (BlifModel → ℕ) → List 
 AreWeights h weights inside uses
     = AllByRecursion (λ c. weight_named h weights c.model ≡ capped (inside (model_named h c.model))) uses
 
--- the weights of all models over so many levels of models
+-- the weights of all models over a number of levels of models
 abbrev pub level_weights : Hierarchy → Weight → ℕ → List ℕ
 level_weights h w levels = map (λ m. capped (model_weight h w levels m)) h
 

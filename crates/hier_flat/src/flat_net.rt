@@ -118,7 +118,7 @@ fn main_signals(alloc: Global, plans: &Plans) -> Result<SignalList, AllocError>
     Ok(signals)
 }
 
-/// The flat tables of the main model, over so many levels of models, and the signals of its outputs.
+/// The flat tables of the main model, over `levels` levels of models, and the signals of its outputs.
 fn main_parts(
     alloc: Global,
     plans: &Plans,

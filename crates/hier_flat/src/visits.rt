@@ -29,7 +29,7 @@ pub struct Visit<'p, 'm, 'a> {
     pub buffers_own: bool,
 }
 
-/// The signal of the next flat table, where the main model has so many inputs.
+/// The signal of the next flat table, where the main model has `inputs` inputs.
 fn first_signal(inputs: usize, tables: &TableList) -> Result<Signal, AllocError>
     ensures { IfOk result (λ s. s ≡ inputs + length tables.now) }
 {
@@ -123,7 +123,7 @@ fn step<'p, 'm, 'a>(
     Ok(())
 }
 
-/// Adds all flat tables of a visit, where the main model has so many inputs.
+/// Adds all flat tables of a visit, where the main model has `inputs` inputs.
 pub fn add_visit<'p, 'm, 'a>(
     alloc: Global,
     tables: &mut TableList,

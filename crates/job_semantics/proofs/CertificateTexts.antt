@@ -8,7 +8,8 @@ use Rattle.semantics.specs.declared.limits.TheConstants.{MOST_BUNDLE_BYTES}
 use Rattle.semantics.specs.Texts.{Bytes, bit_byte, bits_word, line_text, text_of}
 use Rattle.semantics.specs.Refusals.{first_ungrounded}
 use Rattle.semantics.specs.Net.{NetValue, HasSamePorts}
-use Rattle.semantics.specs.declared.metric.Metric.TheVariants.{Abs}
+use Rattle.semantics.specs.declared.metric.Kind.TheVariants.{Abs}
+use Rattle.semantics.specs.Error.{one_word}
 use Rattle.semantics.specs.Examples.{half_adder, both_constant}
 use Rattle.blif_semantics.specs.Lines.{logical_lines}
 use Rattle.blif_semantics.specs.Statements.{first_wrong}
@@ -25,7 +26,7 @@ use Rattle.job_semantics.proofs.ReportTexts.{report_head, report_rest, report_te
 abbrev pub the_report : ℕ → ℕ → Bool → Report
 the_report maximum literals minimal = record {
   version = Two;
-  metric = Abs;
+  metric = one_word Abs;
   bound = 3;
   maximum = maximum;
   witness = true ∷ true ∷ [];
@@ -40,41 +41,41 @@ pub netlist_read : IsNetlist both_constant_texts both_constant
 unfolding text_of first_ungrounded logical_lines first_wrong named_net numbered blif_reading
 netlist_read = refl
 
-pub report_read : IsReportText 2 Abs 3 both_constant_report (the_report 2 0 false)
+pub report_read : IsReportText 2 (one_word Abs) 3 both_constant_report (the_report 2 0 false)
 unfolding text_of report_text digits
 report_read = record { spelled = refl; same_metric = refl; same_bound = refl; maximum = lit≤ tt; witness = refl; counts = (lit< tt, (lit< tt, (lit< tt, (lit< tt, tt)))) }
 
 abbrev pub large_report : Bytes
 large_report = report_with (codes "maximum 4") (codes "literals 6 0") (codes "minimal no")
 
-pub large_read : IsReportText 2 Abs 3 large_report (the_report 4 0 false)
+pub large_read : IsReportText 2 (one_word Abs) 3 large_report (the_report 4 0 false)
 unfolding text_of report_text digits
 large_read = record { spelled = refl; same_metric = refl; same_bound = refl; maximum = lit≤ tt; witness = refl; counts = (lit< tt, (lit< tt, (lit< tt, (lit< tt, tt)))) }
 
 abbrev pub zero_report : Bytes
 zero_report = report_with (codes "maximum 0") (codes "literals 6 0") (codes "minimal no")
 
-pub zero_read : IsReportText 2 Abs 3 zero_report (the_report 0 0 false)
+pub zero_read : IsReportText 2 (one_word Abs) 3 zero_report (the_report 0 0 false)
 unfolding text_of report_text digits
 zero_read = record { spelled = refl; same_metric = refl; same_bound = refl; maximum = lit≤ tt; witness = refl; counts = (lit< tt, (lit< tt, (lit< tt, (lit< tt, tt)))) }
 
 abbrev pub literal_report : Bytes
 literal_report = report_with (codes "maximum 2") (codes "literals 6 1") (codes "minimal no")
 
-pub literal_read : IsReportText 2 Abs 3 literal_report (the_report 2 1 false)
+pub literal_read : IsReportText 2 (one_word Abs) 3 literal_report (the_report 2 1 false)
 unfolding text_of report_text digits
 literal_read = record { spelled = refl; same_metric = refl; same_bound = refl; maximum = lit≤ tt; witness = refl; counts = (lit< tt, (lit< tt, (lit< tt, (lit< tt, tt)))) }
 
 abbrev pub minimal_report : Bytes
 minimal_report = report_with (codes "maximum 2") (codes "literals 6 0") (codes "minimal yes")
 
-pub minimal_read : IsReportText 2 Abs 3 minimal_report (the_report 2 0 true)
+pub minimal_read : IsReportText 2 (one_word Abs) 3 minimal_report (the_report 2 0 true)
 unfolding text_of report_text digits
 minimal_read = record { spelled = refl; same_metric = refl; same_bound = refl; maximum = lit≤ tt; witness = refl; counts = (lit< tt, (lit< tt, (lit< tt, (lit< tt, tt)))) }
 
 -- a text has one report
-pub the_one : (text : Bytes) (r s : Report) → IsReportText 2 Abs 3 text r → IsReportText 2 Abs 3 text s → r ≡ s
-the_one text r s = verified_law.one_report half_adder Abs 3 (texts_of_three both_constant_netlist both_constant_vectors text) r s
+pub the_one : (text : Bytes) (r s : Report) → IsReportText 2 (one_word Abs) 3 text r → IsReportText 2 (one_word Abs) 3 text s → r ≡ s
+the_one text r s = verified_law.one_report half_adder (one_word Abs) 3 (texts_of_three both_constant_netlist both_constant_vectors text) r s
 
 -- the inputs in the other order
 abbrev pub swapped : NetValue
@@ -114,12 +115,12 @@ whole_lines text witness pool h =
     let size = ap length h.spelled ∙ lines_length (witness ∷ pool) h.widths in omega (arith, size)
 
 -- the text says another bound
-other_head : (version : Version) (rest : Bytes) → both_constant_report ≡ report_head version Abs 2 rest → ⊥
+other_head : (version : Version) (rest : Bytes) → both_constant_report ≡ report_head version (one_word Abs) 2 rest → ⊥
 unfolding text_of digits
 other_head One rest same = let digit : ◌≡◌ {A = ℕ} 51 50 = ap (λ t. get_or t 25 0) same in omega arith
 other_head Two rest same = let digit : ◌≡◌ {A = ℕ} 51 50 = ap (λ t. get_or t 25 0) same in omega arith
 
-pub other_bound : (r : Report) → IsReportText 2 Abs 2 both_constant_report r → ⊥
+pub other_bound : (r : Report) → IsReportText 2 (one_word Abs) 2 both_constant_report r → ⊥
 other_bound r h =
     other_head r.version (report_rest r) (h.spelled ∙ report_text-is r ∙ (λ i. report_head r.version (h.same_metric i) (h.same_bound i) (report_rest r)))
 

@@ -3,7 +3,8 @@ use Rattle.std.specs.Prelude.{◌≡◌, true, false, [], ◌∷◌, map, codes}
 use Rattle.semantics.specs.declared.mark.Mark.TheVariants.{Zero, One}
 use Rattle.semantics.specs.Net.{table_count, literal_count, signal_names, name_of}
 use Rattle.semantics.specs.Value.{outputs_of}
-use Rattle.semantics.specs.declared.metric.Metric.TheVariants.{Abs}
+use Rattle.semantics.specs.declared.metric.Kind.TheVariants.{Abs}
+use Rattle.semantics.specs.Error.{one_word}
 use Rattle.semantics.specs.Blif.{blif_text}
 use Rattle.semantics.specs.Examples.{text}
 use Rattle.chain_semantics.specs.Flips.{flipped_outputs}
@@ -50,4 +51,5 @@ pub record DemoNetExamples : Type 0 where
   -- and the sum is 2
   pub carry_flipped : flipped_outputs (demo_net 2) (false ∷ false ∷ false ∷ false ∷ []) 1
       ≡ false ∷ true ∷ false ∷ []
-  pub carry_cared_for : IsCaredFor Abs (demo_net 2) 0 (demo_net 2) 1 (false ∷ false ∷ false ∷ false ∷ [])
+  pub carry_cared_for : IsCaredFor (one_word Abs) (demo_net 2) 0 (demo_net 2) 1
+      (false ∷ false ∷ false ∷ false ∷ [])

@@ -1,12 +1,15 @@
 -- The job that the words of the command line name. Source: this tool's own table of commands.
-use Rattle.std.specs.Prelude.{ℕ, Bool, true, false, not, ◌&&◌, List, [], ◌∷◌, codes, nat_le, bytes_eq}
-use Rattle.std.specs.Prelude.{Option, Some, None, if◌then◌else◌}
+use Rattle.std.specs.Prelude.{ℕ, ◌≤◌, Bool, true, false, not, ◌&&◌, ◌==◌, List, [], ◌∷◌, codes, nat_le}
+use Rattle.std.specs.Prelude.{bytes_eq, Option, Some, None, IfSome, if◌then◌else◌}
+use Rattle.std.specs.List.{slice_split}
 use Rattle.semantics.specs.Texts.{Bytes}
 use Rattle.semantics.specs.Optional.{◌>>=◌}
 use Rattle.semantics.specs.Decimal.{digits_number, is_decimal}
+use Rattle.semantics.specs.Error.{one_word, in_words}
 use Rattle.semantics.specs.declared.metric.Metric.{Metric}
-use Rattle.semantics.specs.declared.metric.Metric.TheVariants.{Abs, Rel, Ham, Sabs}
-use Rattle.semantics.specs.declared.limits.TheConstants.{LARGEST_ERROR}
+use Rattle.semantics.specs.declared.metric.Kind.{Kind}
+use Rattle.semantics.specs.declared.metric.Kind.TheVariants.{Abs, Rel, Ham, Sabs}
+use Rattle.semantics.specs.declared.limits.TheConstants.{MOST_OUTPUTS, LARGEST_ERROR}
 use Rattle.job_semantics.specs.Endings.{is_bundle_name}
 
 pub data Job : Type 0 where
@@ -38,13 +41,36 @@ conflicts_of = number_from_to 1 100000
 abbrev pub width_of : Bytes → Option ℕ
 width_of = number_from_to 1 32
 
-abbrev pub metric_of : Bytes → Option Metric
-metric_of word =
+abbrev pub kind_of : Bytes → Option Kind
+kind_of word =
     if bytes_eq word (codes "abs") then Some Abs
     else (if bytes_eq word (codes "rel") then Some Rel
     else (if bytes_eq word (codes "ham") then Some Ham
     else (if bytes_eq word (codes "sabs") then Some Sabs
     else None)))
+
+-- the metric that the parts of a word name, as slashes part the word: how two words are compared and, if a
+-- second part stands there, the number of outputs in each word
+abbrev pub metric_of_parts : List Bytes → Option Metric
+metric_of_parts (k ∷ []) = do
+  kind ← kind_of k
+  Some (one_word kind)
+metric_of_parts (k ∷ w ∷ []) = do
+  kind ← kind_of k
+  width ← number_from_to 1 MOST_OUTPUTS w
+  Some (in_words kind width)
+metric_of_parts _ = None
+
+abbrev pub is_slash : ℕ → Bool
+is_slash c = c == 47
+
+-- the metric that the word names, as `abs`, or `abs/8` for words of eight outputs
+abbrev pub metric_of : Bytes → Option Metric
+metric_of word = metric_of_parts (slice_split is_slash word)
+
+-- the number of outputs in a word, if the metric has one, is from 1 to the most outputs of a net
+abbrev pub HasNamedWidth : Metric → Type 0
+HasNamedWidth metric = IfSome metric.width (λ width. (1 ≤ width) × (width ≤ MOST_OUTPUTS))
 
 abbrev pub is_empty_word : Bytes → Bool
 is_empty_word [] = true

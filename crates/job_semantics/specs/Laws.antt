@@ -7,7 +7,7 @@ use Rattle.outside_semantics.specs.Outside.{Held}
 use Rattle.outside_semantics.specs.WrittenFiles.{with_files}
 use Rattle.job_semantics.specs.declared.ending.Ending.{Ending}
 use Rattle.semantics.specs.declared.metric.Metric.{Metric}
-use Rattle.job_semantics.specs.Job.{metric_of}
+use Rattle.job_semantics.specs.Job.{metric_of, HasNamedWidth}
 use Rattle.job_semantics.specs.Report.{metric_word}
 use Rattle.job_semantics.specs.Endings.{bundle_endings, bundle_name, bundle_files}
 
@@ -22,7 +22,8 @@ pub record BundleFilesLaw : Type 0 where
       → AllByRecursion (λ e. bundle_name stem e ≢ name) bundle_endings
       → get (with_files held (bundle_files stem text)) name ≡ get held name
 
--- a word names a metric exactly where it is the word by which a report names that metric
+-- a word names a metric exactly where it is the word by which a report names that metric, and the metric's
+-- words, if it has a number of outputs in each, are of one output at least and of no more than a net may have
 abbrev pub MetricWordLaw : Type 0
 MetricWordLaw = (word : Bytes) (metric : Metric)
-    → (metric_of word ≡ Some metric) ↔ (word ≡ metric_word metric)
+    → (metric_of word ≡ Some metric) ↔ ((word ≡ metric_word metric) × HasNamedWidth metric)

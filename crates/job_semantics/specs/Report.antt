@@ -1,9 +1,11 @@
 -- The report and the vectors text of a bundle. Source: this tool's own formats, `STEM.txt` and `STEM.wit`.
-use Rattle.std.specs.Prelude.{ℕ, Bool, true, false, List, [], ◌∷◌, map, codes, decimal}
+use Rattle.std.specs.Prelude.{ℕ, Bool, true, false, List, [], ◌∷◌, ◌++◌, map, codes, decimal, Option}
+use Rattle.std.specs.Prelude.{Some, None}
 use Rattle.semantics.specs.Texts.{Bytes, Line, text_of, bits_word}
 use Rattle.semantics.specs.Net.{NetValue, table_count, literal_count}
 use Rattle.semantics.specs.declared.metric.Metric.{Metric}
-use Rattle.semantics.specs.declared.metric.Metric.TheVariants.{Abs, Rel, Ham, Sabs}
+use Rattle.semantics.specs.declared.metric.Kind.{Kind}
+use Rattle.semantics.specs.declared.metric.Kind.TheVariants.{Abs, Rel, Ham, Sabs}
 use Rattle.job_semantics.specs.declared.version.Version.{Version}
 use Rattle.job_semantics.specs.declared.version.Version.TheVariants.{One, Two}
 
@@ -11,11 +13,19 @@ abbrev pub version_word : Version → Bytes
 version_word One = codes "1"
 version_word Two = codes "2"
 
+abbrev pub kind_word : Kind → Bytes
+kind_word Abs = codes "abs"
+kind_word Rel = codes "rel"
+kind_word Ham = codes "ham"
+kind_word Sabs = codes "sabs"
+
+-- a slash and the number of outputs in each word; nothing where all outputs are one word
+abbrev pub width_word : Option ℕ → Bytes
+width_word None = []
+width_word (Some width) = 47 ∷ decimal width
+
 abbrev pub metric_word : Metric → Bytes
-metric_word Abs = codes "abs"
-metric_word Rel = codes "rel"
-metric_word Ham = codes "ham"
-metric_word Sabs = codes "sabs"
+metric_word metric = kind_word metric.kind ++ width_word metric.width
 
 -- `old` counts the net as it was read, and `new` the written net
 pub record Report : Type 0 where

@@ -9,6 +9,7 @@ ghost use Rattle.quality_semantics.specs.Joint.{numbered_name, both_outputs, qua
 ghost use Rattle.joint_net.specs.Copies.{all_copies, joined, IsJoinable, TellsError};
 
 use crate::copies::{first_signals, model_name, push_copies, push_outputs};
+use crate::quality::quality;
 use net_core::items::{NameList, Signal, SignalList, TableList};
 use net_core::name::{Name, numbered_names};
 use net_core::net::Net;
@@ -18,19 +19,6 @@ use std::alloc::{AllocError, Global};
 
 /// The bound below which the number of signals and rows of a joint net stays.
 const ROOM: u32 = 1 << 31;
-
-/// The net whose output says whether the error of two words of `width` bits exceeds `k`.
-fn quality(alloc: Global, metric: Metric, width: u32, k: u128) -> Result<Net, AllocError>
-    requires { width ≤ MOST_OUTPUTS }
-    ensures { IfOk result (λ n. n ≡ quality_net metric width k) }
-{
-    match metric {
-        Metric::Abs => quality_abs::quality(alloc, width, k),
-        Metric::Rel => quality_rel::quality(alloc, width, k),
-        Metric::Ham => quality_ham::quality(alloc, width, k),
-        Metric::Sabs => quality_abs::quality_signed(alloc, width, k),
-    }
-}
 
 /// The signals that the quality network reads: the outputs of the exact net, and then those of the
 /// approximate one.

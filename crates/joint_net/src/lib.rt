@@ -3,3 +3,4 @@
 
 mod copies;
 pub mod joint;
+mod quality;

@@ -24,10 +24,10 @@ pub outputs_lane : (N M : NetValue) (words outputs : List ℕ) (b : ℕ) → M �
 outputs_lane N M words outputs b same is =
     ap (λ l. lane_at l b) is ∙ lane-outputs words b M.outputs ∙ ap (λ (K : NetValue). map (values_at words b) K.outputs) same
 
-pub over_lane : (metric : Metric) (level word b : ℕ) (exact outputs : List ℕ) (bits : List Bool) → lane_at outputs b ≡ bits
+pub over_lane : (metric : Metric) (level word b : ℕ) (exact outputs lane : List ℕ) → outputs ≡ lane
     → (IsTrue (word_bit word b) ↔ (level < error_of metric (lane_at exact b) (lane_at outputs b)))
-    → IsTrue (word_bit word b) ↔ (level < error_of metric (lane_at exact b) bits)
-over_lane metric level word b exact outputs bits is h = subst (λ l. IsTrue (word_bit word b) ↔ (level < error_of metric (lane_at exact b) l)) is h
+    → IsTrue (word_bit word b) ↔ (level < error_of metric (lane_at exact b) (lane_at lane b))
+over_lane metric level word b exact outputs lane is h = subst (λ (l : List ℕ). IsTrue (word_bit word b) ↔ (level < error_of metric (lane_at exact b) (lane_at l b))) is h
 
 module _ (N : NetValue) (vectors : List (List Bool)) (rows : List (List ℕ)) (k : ℕ) (row : List ℕ) (long : length rows ≡ k) where
   pub widths_more : length row ≡ length N.outputs → ((j : ℕ) → j < k → length (row_at rows j) ≡ length N.outputs)
@@ -38,15 +38,11 @@ module _ (N : NetValue) (vectors : List (List Bool)) (rows : List (List ℕ)) (k
         | inr other ↦ rw (get_or_append_left rows (row ∷ []) [] j (omega arith)) (before j (omega arith))
       ]
 
-  pub rows_more : (words : List ℕ) → IsSound N → IsBlock N vectors k words → row ≡ output_words N words
-      → ((j b : ℕ) → j < k → b < 64 → lane_at (row_at rows j) b ≡ outputs_of N (vector_at vectors (64 * j + b)))
+  pub rows_more : IsOutputBlock N vectors k row → ((j b : ℕ) → j < k → b < 64 → lane_at (row_at rows j) b ≡ outputs_of N (vector_at vectors (64 * j + b)))
       → (j b : ℕ) → j < k + 1 → b < 64 → lane_at (row_at (rows ++ row ∷ []) j) b ≡ outputs_of N (vector_at vectors (64 * j + b))
-  rows_more words sound block is before j b low within =
+  rows_more block before j b low within =
       elim (cases_eq j k) [
-        | inl e ↦
-            rw e
-            (ap (λ l. lane_at l b) (get_or_push rows row [] k long) ∙ outputs_lane N N words row b refl is
-            ∙ outputs_from_values N words b (vector_at vectors (64 * k + b)) sound (block.values b within))
+        | inl e ↦ rw e (ap (λ l. lane_at l b) (get_or_push rows row [] k long) ∙ block.lanes b within)
         | inr other ↦ rw (get_or_append_left rows (row ∷ []) [] j (omega arith)) (before j b (omega arith) within)
       ]
 
@@ -62,16 +58,14 @@ output_block_is N vectors k words row sound block is = record {
 
 -- ---- the errors of a block
 
-module _ (metric : Metric) (E N : NetValue) (vectors : List (List Bool)) (k : ℕ) (exact words : List ℕ) (sound : IsSound N) (block : IsBlock N vectors k words)
+module _ (metric : Metric) (E N : NetValue) (vectors : List (List Bool)) (k : ℕ) (exact outputs : List ℕ) (block : IsOutputBlock N vectors k outputs)
     (right : (b : ℕ) → b < 64 → lane_at exact b ≡ outputs_of E (vector_at vectors (64 * k + b))) where
-  pub error_in_block : (b : ℕ) → b < 64 → error_of metric (lane_at exact b) (map (values_at words b) N.outputs) ≡ net_error metric E N (vector_at vectors (64 * k + b))
+  pub error_in_block : (b : ℕ) → b < 64 → error_of metric (lane_at exact b) (lane_at outputs b) ≡ net_error metric E N (vector_at vectors (64 * k + b))
   unfolding net_error
-  error_in_block b low =
-      let outputs = outputs_from_values N words b (vector_at vectors (64 * k + b)) sound (block.values b low) in
-      (λ j. error_of metric (right b low j) (outputs j))
+  error_in_block b low = (λ j. error_of metric (right b low j) (block.lanes b low j))
 
   module _ (level over left : ℕ) (left_is : left ≡ min (length vectors - 64 * k) 64)
-      (bits : (b : ℕ) → b < 64 → IsTrue (word_bit over b) ↔ (level < error_of metric (lane_at exact b) (map (values_at words b) N.outputs)))
+      (bits : (b : ℕ) → b < 64 → IsTrue (word_bit over b) ↔ (level < error_of metric (lane_at exact b) (lane_at outputs b)))
       (before : (q : ℕ) → q < 64 * k → q < length vectors → net_error metric E N (vector_at vectors q) ≤ level) where
     one_word : (b : ℕ) → b < 64 → row_bit (over ∷ []) b ≡ word_bit over b
     one_word b low = let at : b ≡ 64 * 0 + b = omega arith in ap (row_bit (over ∷ [])) at ∙ row_bit-word (over ∷ []) 0 b low

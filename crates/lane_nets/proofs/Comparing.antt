@@ -134,6 +134,14 @@ module _ (low high : List ℕ) (i b rest carry above : ℕ) (P : Type 0) (same :
       compared_last true false = (λ set. omega arith, λ h. refl)
       compared_last true true = (λ set. absurd cc, λ h. absurd (omega (arith, h)))
 
+pub either : (s t : Bool) → (s || t) ≡ true → (s ≡ true) ⊎ (t ≡ true)
+either true t h = inl refl
+either false t h = inr h
+
+pub or_true : (s : Bool) → (s || true) ≡ true
+or_true true = refl
+or_true false = refl
+
 -- one number is further above the other than the level, or the other way round
 pub compared_both : (n m level first second b : ℕ) → (IsTrue (word_bit first b) ↔ (n + level < m)) → (IsTrue (word_bit second b) ↔ (m + level < n))
     → IsTrue (word_bit (bit_or first second) b) ↔ (level < distance n m)
@@ -148,11 +156,3 @@ compared_both n m level first second b one other =
         | inr more ↦ ap (λ t. word_bit first b || t) (other.1 (omega (arith, far, more))) ∙ or_true (word_bit first b)
       ],
     )
-  where
-    either : (s t : Bool) → (s || t) ≡ true → (s ≡ true) ⊎ (t ≡ true)
-    either true t h = inl refl
-    either false t h = inr h
-
-    or_true : (s : Bool) → (s || true) ≡ true
-    or_true true = refl
-    or_true false = refl

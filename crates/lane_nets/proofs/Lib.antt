@@ -8,3 +8,4 @@ pub mod Comparing
 pub mod LaneErrors
 pub mod Counting
 pub mod WideWords
+pub mod GraphWords

@@ -1,5 +1,5 @@
 -- Wide words lane by lane.
-use Rattle.std.proofs.Common.{◌≡◌, ℕ, zero, suc, ◌+◌, ◌-◌, ◌*◌, ◌/◌, ◌%◌, ◌<◌, ◌≤◌, Bool, true, false, not, cond, ◌&&◌, Fits, w64, List, [], ◌∷◌, length, map, get_or, set, take, drop, replicate}
+use Rattle.std.proofs.Common.{◌≡◌, ℕ, zero, suc, ◌+◌, ◌-◌, ◌*◌, ◌/◌, ◌%◌, ◌<◌, ◌≤◌, Bool, true, false, not, cond, ◌&&◌, Fits, w64, List, [], ◌∷◌, length, map, get_or, set, take, drop}
 use Rattle.std.proofs.Common.{refl, ap, sym, subst, ◌∙◌, inl, inr, arith, get_or-set_same, get_or-set_other}
 use Rattle.std.specs.Int.{bit_not}
 use Rattle.std.specs.Prelude.{bit_and}
@@ -7,7 +7,7 @@ use Rattle.std.proofs.lemmas.Bool.{cases_eq}
 use Rattle.std.specs.Simd.Lanes.{zip2, Each1, chunk}
 use Rattle.std.proofs.lemmas.Simd.{get_or-zip2, get_or-chunk, Each1-get_or}
 use Rattle.std.proofs.lemmas.List.{get_or-map, get_or-take, get_or-drop, length-take}
-use Rattle.semantics.specs.Net.{TableValue, NetValue, table_at, input_count, signal_count, IsAcyclic}
+use Rattle.semantics.specs.Net.{TableValue, NetValue, table_at, input_count, signal_count, IsAcyclic, IsSound}
 use Rattle.semantics.specs.declared.mark.Mark.{Mark}
 use Rattle.semantics.specs.Value.{mark_matches, row_matches, table_value, value_of}
 use Rattle.semantics.specs.Order.{IsNext, IsOrderOf}
@@ -16,9 +16,10 @@ use Rattle.semantics.proofs.Grounding.{next-value}
 use Rattle.net_core.proofs.InOrder.{HoldsBefore, next_at, holds_none, holds_more}
 use Rattle.lane_bits.specs.Rows.{row_bit}
 use Rattle.lane_bits.specs.Patterns.{pattern_bit}
-use Rattle.lane_nets.specs.Words.{word_bit, values_at, HasInputs, HasValues}
-use Rattle.lane_nets.specs.Blocks.{vector_at, IsBlock}
-use Rattle.lane_nets.specs.Wide.{lane_words, IsWideBlock}
+use Rattle.lane_nets.specs.Words.{word_bit, values_at, HasInputs}
+use Rattle.lane_nets.specs.Lanes.{IsOutputBlock}
+use Rattle.lane_nets.specs.Wide.{lane_words, IsWideBlock, AreWideOutputs}
+use Rattle.lane_nets.proofs.BlockErrors.{output_block_is}
 use Rattle.lane_nets.proofs.RowBits.{row_bit-word}
 use Rattle.lane_nets.proofs.WordBits.{not_bit, row_step}
 
@@ -118,15 +119,34 @@ wide_inputs_more vectors wides row wide q n room bits is before j b s lane low w
           ap (λ w. word_bit w b) (here ∙ get_or-set_other (lane_words wides j) n s (get_or wide j 0) 0 other) ∙ before j b s lane low (omega arith)
     ]
 
--- block k is lane k % 8 of its wide block
-pub lane_block : (N : NetValue) (vectors : List (List Bool)) (k : ℕ) (wides : List (List ℕ)) → IsWideBlock N vectors (k / 8) wides → IsBlock N vectors k (lane_words wides (k % 8))
-lane_block N vectors k wides are =
-    let at : 8 * (k / 8) + k % 8 ≡ k = omega arith in
-    subst (λ n. IsBlock N vectors n (lane_words wides (k % 8))) at (are (k % 8) (omega arith))
+-- ---- outputs
 
--- the next block stands in the same wide block, where it does not begin another
-pub there_more : (N : NetValue) (vectors : List (List Bool)) (k : ℕ) (wides : List (List ℕ)) → IsWideBlock N vectors (k / 8) wides
-    → 0 < (k + 1) % 8 → IsWideBlock N vectors ((k + 1) / 8) wides
-there_more N vectors k wides are some =
+lane-signals : (wides : List (List ℕ)) (j : ℕ) (outputs : List ℕ) → lane_words (map (λ s. get_or wides s []) outputs) j ≡ map (λ s. get_or (lane_words wides j) s 0) outputs
+lane-signals wides j [] = refl
+lane-signals wides j (s ∷ outputs) = (λ i. sym (lane_words_get wides j s) i ∷ lane-signals wides j outputs i)
+
+-- the outputs, from the values of the signals
+pub table_outputs : (N : NetValue) (vectors : List (List Bool)) (q : ℕ) (wides outputs : List (List ℕ)) → IsSound N → IsWideBlock N vectors q wides
+    → outputs ≡ map (λ s. get_or wides s []) N.outputs → AreWideOutputs N vectors q outputs
+table_outputs N vectors q wides outputs sound block is j lane =
+    output_block_is N vectors (8 * q + j) (lane_words wides j) (lane_words outputs j) sound (block j lane) (ap (λ (l : List (List ℕ)). lane_words l j) is ∙ lane-signals wides j N.outputs)
+
+-- block k is lane k % 8 of its wide block
+pub lane_block : (N : NetValue) (vectors : List (List Bool)) (k : ℕ) (outputs : List (List ℕ)) → AreWideOutputs N vectors (k / 8) outputs → IsOutputBlock N vectors k (lane_words outputs (k % 8))
+lane_block N vectors k outputs are =
+    let at : 8 * (k / 8) + k % 8 ≡ k = omega arith in
+    subst (λ n. IsOutputBlock N vectors n (lane_words outputs (k % 8))) at (are (k % 8) (omega arith))
+
+-- the outputs of block k, out of those that are held
+pub block_held : (N M : NetValue) (vectors : List (List Bool)) (k : ℕ) (held outputs : List (List ℕ)) → M ≡ N → outputs ≡ held → AreWideOutputs M vectors (k / 8) held
+    → IsOutputBlock N vectors k (lane_words outputs (k % 8))
+block_held N M vectors k held outputs same is are =
+    lane_block N vectors k outputs
+    (subst (λ (K : NetValue). AreWideOutputs K vectors (k / 8) outputs) same (subst (λ (l : List (List ℕ)). AreWideOutputs M vectors (k / 8) l) (sym is) are))
+
+-- the next block stands in the wide block that is held, where it does not begin another
+pub held_more : (N M : NetValue) (vectors : List (List Bool)) (k : ℕ) (held : List (List ℕ)) → N ≡ M → AreWideOutputs M vectors (k / 8) held
+    → 0 < (k + 1) % 8 → AreWideOutputs N vectors ((k + 1) / 8) held
+held_more N M vectors k held net are some =
     let same : k / 8 ≡ (k + 1) / 8 = omega arith in
-    subst (λ q. IsWideBlock N vectors q wides) same are
+    subst (λ q. AreWideOutputs N vectors q held) same (subst (λ (K : NetValue). AreWideOutputs K vectors (k / 8) held) (sym net) are)

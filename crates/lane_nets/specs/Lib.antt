@@ -3,3 +3,4 @@ pub mod Blocks
 pub mod Errors
 pub mod Lanes
 pub mod Wide
+pub mod Graphs

@@ -1,15 +1,17 @@
-//! Errors at 64 patterns at a time: outputs are a word each, the first for bit 0 of a number, and lane b has
-//! the outputs at pattern b.
+//! Errors at 64 patterns at a time: each output is a row of 64 lanes in a machine word, the first output for
+//! bit 0 of a number, and lane b has the outputs at pattern b.
 ghost use Rattle.std.specs.Prelude.{◌≡◌, ◌↔◌, ◌+◌, ◌<◌, ◌≤◌, ℕ, false, length, IsTrue};
-ghost use Rattle.semantics.specs.Error.{bit_number, number_of, sign_flipped, distance, differing, error_of};
-ghost use Rattle.semantics.specs.declared.metric.Metric.TheVariants.{Rel, Sabs};
+ghost use Rattle.semantics.specs.Error.{bit_number, number_of, sign_flipped, distance, differing};
+ghost use Rattle.semantics.specs.Error.{word_error, error_of};
+ghost use Rattle.semantics.specs.declared.metric.Kind.TheVariants.{Rel, Sabs};
 ghost use Rattle.lane_nets.specs.Words.{word_bit};
 ghost use Rattle.lane_nets.specs.Lanes.{lane_at, lane_number, HasReached, GoesOn};
 
 use crate::outputs::word_bit;
 use net_errors::error::error;
+use net_errors::words::{word_count, word_place};
 use semantics::limits::MOST_OUTPUTS;
-use semantics::metric::Metric;
+use semantics::metric::{Kind, Metric};
 
 /// How the bits so far compare: the carry of the sum of the lower number and the constant, and where the
 /// higher number is above that sum.
@@ -79,7 +81,7 @@ fn signed_apart_word(exact: &[u64], approx: &[u64], level: u128) -> u64
     requires same { length exact.now ≡ length approx.now }
     requires few { length exact.now ≤ MOST_OUTPUTS }
     ensures { (b : ℕ) → b < 64 → IsTrue (word_bit result b)
-        ↔ (level < error_of Sabs (lane_at exact.now b) (lane_at approx.now b)) }
+        ↔ (level < word_error Sabs (lane_at exact.now b) (lane_at approx.now b)) }
 {
     let mut exact_room = [0; MOST_OUTPUTS];
     let mut approx_room = [0; MOST_OUTPUTS];
@@ -180,7 +182,7 @@ fn is_over_relative(level: u64, exact: &[u64], approx: &[u64], b: u32) -> bool
     requires pattern { b < 64 }
     requires same { length exact.now ≡ length approx.now }
     requires few { length exact.now ≤ MOST_OUTPUTS }
-    ensures { IsTrue result ↔ (level < error_of Rel (lane_at exact.now b) (lane_at approx.now b)) }
+    ensures { IsTrue result ↔ (level < word_error Rel (lane_at exact.now b) (lane_at approx.now b)) }
 {
     let whole = lane_value(exact, b);
     let apart = u128::from(whole.abs_diff(lane_value(approx, b))) * 1_000_000;
@@ -193,7 +195,7 @@ fn relative_word(level: u64, exact: &[u64], approx: &[u64]) -> u64
     requires same { length exact.now ≡ length approx.now }
     requires few { length exact.now ≤ MOST_OUTPUTS }
     ensures { (b : ℕ) → b < 64
-        → IsTrue (word_bit result b) ↔ (level < error_of Rel (lane_at exact.now b) (lane_at approx.now b)) }
+        → IsTrue (word_bit result b) ↔ (level < word_error Rel (lane_at exact.now b) (lane_at approx.now b)) }
 {
     let unequal = unequal_word(exact, approx);
     let mut over = 0;
@@ -205,25 +207,45 @@ fn relative_word(level: u64, exact: &[u64], approx: &[u64]) -> u64
     over
 }
 
-/// The lanes where the error exceeds the level, found pattern by pattern where outputs differ.
-fn single_errors(metric: Metric, level: u128, exact: &[u64], approx: &[u64]) -> u64
+/// The lanes where the error of one word exceeds the level, found pattern by pattern where outputs differ.
+fn single_errors(kind: Kind, level: u128, exact: &[u64], approx: &[u64]) -> u64
     requires same { length exact.now ≡ length approx.now }
     requires few { length exact.now ≤ MOST_OUTPUTS }
     ensures { (b : ℕ) → b < 64
         → IsTrue (word_bit result b)
-        ↔ (level < error_of metric (lane_at exact.now b) (lane_at approx.now b)) }
+        ↔ (level < word_error kind (lane_at exact.now b) (lane_at approx.now b)) }
 {
+    let whole = Metric { kind, width: None };
     let unequal = unequal_word(exact, approx);
     let mut over = 0;
     for b in 0..64 {
-        if word_bit(unequal, b) && lane_error(metric, exact, approx, b) > level {
+        if word_bit(unequal, b) && lane_error(whole, exact, approx, b) > level {
             over |= 1 << b;
         }
     }
     over
 }
 
-/// The lanes where the error exceeds the level.
+/// The lanes where the error of one word exceeds the level.
+fn over_by_kind(kind: Kind, level: u128, exact: &[u64], approx: &[u64]) -> u64
+    requires same { length exact.now ≡ length approx.now }
+    requires few { length exact.now ≤ MOST_OUTPUTS }
+    ensures { (b : ℕ) → b < 64
+        → IsTrue (word_bit result b)
+        ↔ (level < word_error kind (lane_at exact.now b) (lane_at approx.now b)) }
+{
+    match kind {
+        Kind::Abs => apart_word(exact, approx, level),
+        Kind::Sabs => signed_apart_word(exact, approx, level),
+        Kind::Rel => match u64::try_from(level) {
+            Ok(level) => relative_word(level, exact, approx),
+            Err(_) => single_errors(kind, level, exact, approx),
+        },
+        Kind::Ham => differing_word(level, exact, approx),
+    }
+}
+
+/// The lanes where the error exceeds the level: those where the error of some word does.
 pub fn over_word(metric: Metric, level: u128, exact: &[u64], approx: &[u64]) -> u64
     requires same { length exact.now ≡ length approx.now }
     requires few { length exact.now ≤ MOST_OUTPUTS }
@@ -231,13 +253,12 @@ pub fn over_word(metric: Metric, level: u128, exact: &[u64], approx: &[u64]) -> 
         → IsTrue (word_bit result b)
         ↔ (level < error_of metric (lane_at exact.now b) (lane_at approx.now b)) }
 {
-    match metric {
-        Metric::Abs => apart_word(exact, approx, level),
-        Metric::Sabs => signed_apart_word(exact, approx, level),
-        Metric::Rel => match u64::try_from(level) {
-            Ok(level) => relative_word(level, exact, approx),
-            Err(_) => single_errors(metric, level, exact, approx),
-        },
-        Metric::Ham => differing_word(level, exact, approx),
+    let outputs = exact.len() as u32;
+    let mut over = 0;
+    for word in 0..word_count(metric, outputs) {
+        let (first, size) = word_place(metric, outputs, word);
+        let (begin, end) = (first as usize, (first + size) as usize);
+        over |= over_by_kind(metric.kind, level, &exact[begin..end], &approx[begin..end]);
     }
+    over
 }

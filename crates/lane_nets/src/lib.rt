@@ -4,6 +4,8 @@
 #![tactic(auto)]
 
 pub mod blocks;
+mod graph_blocks;
+mod graph_words;
 pub mod lanes;
 pub mod outputs;
 pub mod reference;
@@ -11,5 +13,6 @@ pub mod table_words;
 pub mod trials;
 pub mod values;
 mod wide_blocks;
+mod wide_outputs;
 mod wide_words;
 pub mod word_list;

@@ -6,6 +6,7 @@ ghost use Rattle.lane_nets.specs.Errors.{FindsFirstOver, IsFirstGreatest};
 
 use crate::outputs::output_rows;
 use crate::trials::{Greatest, first_over, greatest_error};
+use crate::wide_outputs::WideOutputs;
 use crate::word_list::WordList;
 use lane_bits::patterns::Patterns;
 use net_core::items::Items;
@@ -14,7 +15,6 @@ use net_errors::compared::Compared;
 use semantics::metric::Metric;
 use std::alloc::{AllocError, Global};
 use std::marker::Model;
-use std::simd::u64x8;
 
 /// An exact net, a set of patterns, and the words of the net's outputs at these patterns, in blocks of 64.
 #[derive(Drop)]
@@ -63,7 +63,7 @@ impl<'a> Reference<'a> {
     }
 
     /// The first pattern at which the error of a net exceeds the level. The search takes memory for eight
-    /// blocks of the net's values.
+    /// blocks of the net's values, and at many patterns for a graph of the net.
     pub fn first_over(
         &self,
         alloc: Global,
@@ -75,19 +75,19 @@ impl<'a> Reference<'a> {
         ensures { IfOk result (FindsFirstOver metric self.now.exact approx.now level
             self.now.patterns.vectors) }
     {
-        let mut wides = vec![in alloc; u64x8::splat(0); approx.signals() as usize]?;
+        let mut wide = WideOutputs::new(alloc, approx, self.outputs.len() as u64)?;
         Ok(first_over(
             &Compared::new(self.exact, approx),
             metric,
             level,
             &self.patterns,
             self.outputs.as_slice(),
-            &mut wides,
+            &mut wide,
         ))
     }
 
     /// The greatest error of a net at the patterns, and the first pattern that has it. The search takes
-    /// memory for eight blocks of the net's values.
+    /// memory for eight blocks of the net's values, and at many patterns for a graph of the net.
     pub fn greatest_error(
         &self,
         alloc: Global,
@@ -99,13 +99,13 @@ impl<'a> Reference<'a> {
         ensures { IfOk result
             (λ g. IsFirstGreatest metric self.now.exact approx.now self.now.patterns.vectors g.error g.at) }
     {
-        let mut wides = vec![in alloc; u64x8::splat(0); approx.signals() as usize]?;
+        let mut wide = WideOutputs::new(alloc, approx, self.outputs.len() as u64)?;
         Ok(greatest_error(
             &Compared::new(self.exact, approx),
             metric,
             &self.patterns,
             self.outputs.as_slice(),
-            &mut wides,
+            &mut wide,
         ))
     }
 }

@@ -1,15 +1,15 @@
 //! The first of some input vectors whose error exceeds a level, and the one with the greatest error.
-ghost use Rattle.std.specs.Prelude.{◌≡◌, ◌↔◌, ◌+◌, ◌<◌, ◌≤◌, ◌^◌, ℕ, map, length, IsTrue};
-ghost use Rattle.semantics.specs.Net.{input_count, signal_count};
+ghost use Rattle.std.specs.Prelude.{◌≡◌, ◌↔◌, ◌+◌, ◌<◌, ◌≤◌, ◌^◌, ℕ, length, IsTrue};
+ghost use Rattle.semantics.specs.Net.{input_count};
 ghost use Rattle.semantics.specs.Error.{error_of};
-ghost use Rattle.lane_nets.specs.Words.{word_bit, values_at};
+ghost use Rattle.lane_nets.specs.Words.{word_bit};
 ghost use Rattle.lane_nets.specs.Lanes.{lane_at, AreOutputWordsOf};
 ghost use Rattle.lane_nets.specs.Wide.{lane_words};
 ghost use Rattle.lane_nets.specs.Errors.{FindsFirstOver, IsFirstGreatest, IsGreatestSoFar};
 
 use crate::lanes::{lane_error, over_word};
 use crate::outputs::word_bit;
-use crate::wide_blocks::{reach_block, set_lane_outputs};
+use crate::wide_outputs::{WideOutputs, set_lane_words};
 use crate::word_list::WordList;
 use lane_bits::kernels::first_set;
 use lane_bits::patterns::Patterns;
@@ -36,37 +36,43 @@ fn block_over(
 ) -> u64
     requires lane { j < 8 }
     requires exact { length exact.now ≡ length nets.now.exact.outputs }
-    requires wides { length wides.now ≡ signal_count nets.now.approx }
+    requires wides { length wides.now ≡ length nets.now.approx.outputs }
     ensures { (b : ℕ) → b < 64 → IsTrue (word_bit result b)
         ↔ (level < error_of metric (lane_at exact.now b)
-        (map (values_at (lane_words wides.now j) b) nets.now.approx.outputs)) }
+        (lane_at (lane_words wides.now j) b)) }
 {
     let mut room = [0; MOST_OUTPUTS];
-    let approx = nets.approx();
-    let outputs = &mut room[..approx.outputs() as usize];
-    set_lane_outputs(approx, wides, j, outputs);
+    let outputs = &mut room[..nets.approx().outputs() as usize];
+    set_lane_words(wides, j, outputs);
     over_word(metric, level, exact, outputs)
 }
 
-/// The first pattern whose error exceeds the level, where `outputs` are those of the exact net. The values of
-/// the approximate net are computed into `wides`, eight blocks at a time, up to that pattern.
+/// The first pattern whose error exceeds the level, where `outputs` are those of the exact net. The outputs
+/// of the approximate net are computed into `wide`, eight blocks at a time, up to that pattern.
 pub(crate) fn first_over(
     nets: &Compared,
     metric: Metric,
     level: u128,
     patterns: &Patterns,
     outputs: &[WordList],
-    wides: &mut [u64x8],
+    wide: &mut WideOutputs,
 ) -> Option<u64>
-    requires inputs { patterns.now.inputs ≡ input_count nets.now.exact }
+    requires inputs { patterns.now.inputs ≡ input_count wide.old.net }
     requires outputs { AreOutputWordsOf nets.now.exact patterns.now.vectors outputs.now }
-    requires wides { length wides.old ≡ signal_count nets.now.approx }
+    requires wide { wide.old.net ≡ nets.now.approx }
     ensures { FindsFirstOver metric nets.now.exact nets.now.approx level patterns.now.vectors result }
 {
     let count = patterns.count();
     for k in 0..outputs.len() {
-        reach_block(nets.approx(), patterns, k, wides);
-        let over = block_over(nets, metric, level, outputs[k].as_slice(), wides, k % 8);
+        wide.reach(patterns, k);
+        let over = block_over(
+            nets,
+            metric,
+            level,
+            outputs[k].as_slice(),
+            wide.outputs(),
+            k % 8,
+        );
         let from = 64 * k as u64;
         if let Some(b) = first_set(&[over], (count - from).min(64)) {
             return Some(from + b);
@@ -101,19 +107,18 @@ fn greatest_in_block(
 ) -> Greatest
     requires lane { j < 8 }
     requires exact { length exact.now ≡ length nets.now.exact.outputs }
-    requires wides { length wides.now ≡ signal_count nets.now.approx }
+    requires wides { length wides.now ≡ length nets.now.approx.outputs }
     requires few { count ≤ 64 }
     requires room { from + count < 2 ^ 64 }
     ensures { (f : ℕ → ℕ) → ((b : ℕ) → b < 64 → f (from + b)
         ≡ error_of metric (lane_at exact.now b)
-        (map (values_at (lane_words wides.now j) b) nets.now.approx.outputs))
+        (lane_at (lane_words wides.now j) b))
         → IsGreatestSoFar f from so_far.at so_far.error
         → IsGreatestSoFar f (from + count) result.at result.error }
 {
     let mut room = [0; MOST_OUTPUTS];
-    let approx = nets.approx();
-    let outputs = &mut room[..approx.outputs() as usize];
-    set_lane_outputs(approx, wides, j, outputs);
+    let outputs = &mut room[..nets.approx().outputs() as usize];
+    set_lane_words(wides, j, outputs);
     let over = over_word(metric, so_far.error, exact, outputs);
     let mut greatest = so_far;
     for b in 0..count {
@@ -126,32 +131,32 @@ fn greatest_in_block(
 }
 
 /// The greatest error of the patterns, and the first pattern that has it, where `outputs` are those of the
-/// exact net.
+/// exact net. The outputs of the approximate net are computed into `wide`, eight blocks at a time.
 pub(crate) fn greatest_error(
     nets: &Compared,
     metric: Metric,
     patterns: &Patterns,
     outputs: &[WordList],
-    wides: &mut [u64x8],
+    wide: &mut WideOutputs,
 ) -> Greatest
-    requires inputs { patterns.now.inputs ≡ input_count nets.now.exact }
+    requires inputs { patterns.now.inputs ≡ input_count wide.old.net }
     requires some { 0 < length patterns.now.vectors }
     requires outputs { AreOutputWordsOf nets.now.exact patterns.now.vectors outputs.now }
-    requires wides { length wides.old ≡ signal_count nets.now.approx }
+    requires wide { wide.old.net ≡ nets.now.approx }
     ensures { IsFirstGreatest metric nets.now.exact nets.now.approx patterns.now.vectors result.error
         result.at }
 {
     let count = patterns.count();
     let mut greatest = Greatest { error: 0, at: 0 };
     for k in 0..outputs.len() {
-        reach_block(nets.approx(), patterns, k, wides);
+        wide.reach(patterns, k);
         let from = 64 * k as u64;
         let used = (count - from).min(64) as u32;
         greatest = greatest_in_block(
             nets,
             metric,
             outputs[k].as_slice(),
-            wides,
+            wide.outputs(),
             k % 8,
             from,
             used,

@@ -1,12 +1,11 @@
 //! The values of a net in blocks of 512 patterns: eight blocks of 64 at a time.
-ghost use Rattle.std.specs.Prelude.{◌≡◌, ◌+◌, ◌*◌, ◌/◌, ◌%◌, ◌<◌, ◌≤◌, ℕ, length, slice_index};
+ghost use Rattle.std.specs.Prelude.{◌≡◌, ◌+◌, ◌*◌, ◌<◌, ◌≤◌, ℕ, [], length, map, slice_index};
+ghost use Rattle.std.specs.Prelude.{slice_index_or};
 ghost use Rattle.semantics.specs.Net.{input_count, signal_count};
 ghost use Rattle.lane_bits.specs.Rows.{word_count};
 ghost use Rattle.lane_bits.specs.Patterns.{pattern_bit};
-ghost use Rattle.net_core.specs.Built.{IsBuilt};
 ghost use Rattle.lane_nets.specs.Words.{values_at};
-ghost use Rattle.lane_nets.specs.Lanes.{output_words};
-ghost use Rattle.lane_nets.specs.Wide.{lane_words, IsWideBlock};
+ghost use Rattle.lane_nets.specs.Wide.{lane_words, IsWideBlock, AreWideOutputs};
 
 use crate::wide_words::eval_wides;
 use lane_bits::patterns::Patterns;
@@ -14,7 +13,7 @@ use net_core::net::Net;
 use std::simd::u64x8;
 
 /// The eight words of a row from word `from` on, with zeros past the row's end.
-fn wide_at(row: &[u64], from: usize) -> u64x8
+pub(crate) fn wide_at(row: &[u64], from: usize) -> u64x8
     requires { from ≤ length row.now }
     ensures { (j : ℕ) → j < 8 → slice_index result j ≡ slice_index row.now (from + j) }
 {
@@ -51,33 +50,34 @@ fn set_wide_block(net: &Net, patterns: &Patterns, q: usize, wides: &mut [u64x8])
     eval_wides(net, wides);
 }
 
-/// Lets `wides` hold the wide block in which block k is. The wide block is computed where block k is its
-/// first; else it is there already.
-pub(crate) fn reach_block(net: &Net, patterns: &Patterns, k: usize, wides: &mut [u64x8])
-    requires inputs { patterns.now.inputs ≡ input_count net.now }
-    requires within { k < word_count (length patterns.now.vectors) }
-    requires room { length wides.old ≡ signal_count net.now }
-    requires there { 0 < k % 8 → IsWideBlock net.now patterns.now.vectors (k / 8) wides.old }
-    ensures block { IsWideBlock net.now patterns.now.vectors (k / 8) wides.new }
-    ensures built { IsBuilt net.now }
-{
-    net.see_sound();
-    if k % 8 != 0 {
-        return;
-    }
-    set_wide_block(net, patterns, k / 8, wides);
-}
-
-/// Sets `outputs` to the words of the outputs in one of the eight blocks.
-#[tactic(auto, using(crate::proofs::WideWords::lane_words_get))]
-pub(crate) fn set_lane_outputs(net: &Net, wides: &[u64x8], j: usize, outputs: &mut [u64])
-    requires lane { j < 8 }
+/// Sets `outputs` to the wide words of the outputs.
+fn set_signals(net: &Net, wides: &[u64x8], outputs: &mut [u64x8])
     requires wides { length wides.now ≡ signal_count net.now }
     requires room { length outputs.old ≡ length net.now.outputs }
-    ensures { outputs.new ≡ output_words net.now (lane_words wides.now j) }
+    ensures { outputs.new ≡ map (λ s. slice_index_or wides.now s []) net.now.outputs }
 {
     net.see_sound();
     for i in 0..net.outputs() {
-        outputs[i as usize] = wides[net.output(i) as usize].to_array()[j];
+        outputs[i as usize] = wides[net.output(i) as usize];
     }
+}
+
+/// Sets `outputs` to a net's outputs in wide block q, by the values of its signals, which are computed into
+/// `wides`.
+pub(crate) fn set_table_outputs(
+    net: &Net,
+    patterns: &Patterns,
+    q: usize,
+    wides: &mut [u64x8],
+    outputs: &mut [u64x8],
+)
+    requires inputs { patterns.now.inputs ≡ input_count net.now }
+    requires within { 8 * q ≤ word_count (length patterns.now.vectors) }
+    requires wides { length wides.old ≡ signal_count net.now }
+    requires room { length outputs.old ≡ length net.now.outputs }
+    ensures { AreWideOutputs net.now patterns.now.vectors q outputs.new }
+{
+    net.see_sound();
+    set_wide_block(net, patterns, q, wides);
+    set_signals(net, wides, outputs);
 }

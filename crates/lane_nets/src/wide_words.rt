@@ -1,7 +1,7 @@
 //! The values of tables and of all signals at 512 patterns at a time: eight words side by side, each with 64
 //! patterns.
 ghost use Rattle.std.specs.Prelude.{◌≡◌, ◌<◌, ℕ, List, Bool, true, false, length, slice_index, All};
-ghost use Rattle.std.specs.Prelude.{if◌then◌else◌, not, bit_and, bit_or};
+ghost use Rattle.std.specs.Prelude.{if◌then◌else◌, not, bit_and, bit_or, bit_xor};
 ghost use Rattle.std.specs.List.{list_any};
 ghost use Rattle.semantics.specs.Net.{signal_count};
 ghost use Rattle.semantics.specs.Value.{mark_matches, row_matches, table_value};
@@ -17,7 +17,7 @@ use std::simd::u64x8;
 
 /// The conjunction of two wide words.
 #[inline(always)]
-fn and_wide(a: u64x8, b: u64x8) -> u64x8
+pub(crate) fn and_wide(a: u64x8, b: u64x8) -> u64x8
     ensures { (j : ℕ) → j < 8 → slice_index result j ≡ bit_and (slice_index a j) (slice_index b j) }
 {
     a & b
@@ -31,9 +31,17 @@ fn or_wide(a: u64x8, b: u64x8) -> u64x8
     a | b
 }
 
+/// The bits in which two wide words differ.
+#[inline(always)]
+pub(crate) fn xor_wide(a: u64x8, b: u64x8) -> u64x8
+    ensures { (j : ℕ) → j < 8 → slice_index result j ≡ bit_xor (slice_index a j) (slice_index b j) }
+{
+    a ^ b
+}
+
 /// Eight equal words.
 #[inline(always)]
-fn equal_words(word: u64) -> u64x8
+pub(crate) fn equal_words(word: u64) -> u64x8
     ensures { (j : ℕ) → j < 8 → slice_index result j ≡ word }
 {
     u64x8::splat(word)

@@ -1,1 +1,2 @@
+pub mod WordSlices
 mod PortNames

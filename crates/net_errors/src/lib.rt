@@ -5,3 +5,4 @@ pub mod compared;
 pub mod error;
 pub mod net_error;
 pub mod ports;
+pub mod words;

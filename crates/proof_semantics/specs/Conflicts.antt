@@ -5,7 +5,7 @@
 use Rattle.std.specs.Prelude.{◌≡◌, ◌⊎◌, ℕ, ◌+◌, ◌^◌, ◌<◌, ◌≤◌, List, [], ◌∷◌, ◌++◌, take, length}
 use Rattle.std.specs.Prelude.{slice_index_or, ℤ, neg_ℤ, All}
 use Rattle.std.specs.List.{Contains}
-use Rattle.semantics.specs.declared.limits.TheConstants.{FEW_INPUTS, TRIED_INPUTS}
+use Rattle.semantics.specs.declared.limits.TheConstants.{FEW_INPUTS, MOST_CASE_INPUTS}
 use Rattle.proof_semantics.specs.declared.item.Item.TheVariants.{Add, Remove}
 use Rattle.proof_semantics.specs.Clauses.{Clause}
 use Rattle.proof_semantics.specs.Formula.{Formula}
@@ -45,4 +45,4 @@ pub record IsConflictChain (f : Formula) (merged conflicts : ℕ) (log : List Lo
 -- `limit` conflicts are enough for `inputs` inputs: the inputs are few, or there are two conflicts for each
 -- input vector
 abbrev pub IsEnough : ℕ → ℕ → Type 0
-IsEnough limit inputs = (inputs ≤ FEW_INPUTS) ⊎ ((inputs ≤ TRIED_INPUTS) × (2 ^ (inputs + 1) ≤ limit))
+IsEnough limit inputs = (inputs ≤ FEW_INPUTS) ⊎ ((inputs ≤ MOST_CASE_INPUTS) × (2 ^ (inputs + 1) ≤ limit))

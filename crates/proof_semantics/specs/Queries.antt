@@ -4,7 +4,7 @@
 use Rattle.std.specs.Prelude.{◌≡◌, ℕ, ◌<◌, ◌≤◌, Bool, List, take, length}
 use Rattle.semantics.specs.Net.{NetValue, input_count}
 use Rattle.semantics.specs.declared.metric.Metric.{Metric}
-use Rattle.semantics.specs.declared.limits.TheConstants.{FEW_INPUTS, TRIED_INPUTS}
+use Rattle.semantics.specs.declared.limits.TheConstants.{FEW_INPUTS, MOST_CASE_INPUTS}
 use Rattle.semantics.specs.Error.{number_of, net_error, IsWithin}
 use Rattle.semantics.specs.Vectors.{IsFirstGreatestAt}
 use Rattle.quality_semantics.specs.Joint.{joint_net}
@@ -26,7 +26,7 @@ pub record IsNever (metric : Metric) (exact approx : NetValue) (k : ℕ) (log : 
   pub refutes : Refutes (miter exact approx metric k).clauses log
   pub derivation : IsDerivation (miter exact approx metric k) log
   pub within : IsWithin metric exact k approx
-  pub merged : TRIED_INPUTS < input_count exact → BeginsWithMerges (joint_net exact approx metric k) log
+  pub merged : MOST_CASE_INPUTS < input_count exact → BeginsWithMerges (joint_net exact approx metric k) log
 
 -- a query that ended without an answer: the approximate net, the level, the number of merged steps, and the
 -- log

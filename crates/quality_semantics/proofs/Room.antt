@@ -1,5 +1,5 @@
 -- How large the networks are: tables and rows together.
-use Rattle.std.proofs.Common.{◌≡◌, ◌⊎◌, ℕ, zero, suc, ◌+◌, ◌-◌, ◌*◌, ◌/◌, ◌^◌, ◌<◌, ◌≤◌, min, max, cond, Bool, true, false, List, [], ◌∷◌, length, map, get_or, replicate, inl, inr, refl, ap, ◌∙◌, arith}
+use Rattle.std.proofs.Common.{◌≡◌, ◌⊎◌, ℕ, zero, suc, ◌+◌, ◌-◌, ◌*◌, ◌/◌, ◌^◌, ◌<◌, ◌≤◌, min, max, cond, Bool, true, false, List, [], ◌∷◌, length, map, get_or, replicate, inl, inr, refl, ap, arith}
 use Rattle.std.proofs.Common.{length-append, sum_by, le-mul_of_pos_right}
 use Rattle.std.specs.List.{range_with_len}
 use Rattle.std.proofs.Math.Nat.{pow-succ'}
@@ -17,15 +17,15 @@ use Rattle.semantics.specs.Error.{greatest_error, word_width, word_count}
 use Rattle.semantics.proofs.Words.{word_begins, word_width-some}
 use Rattle.quality_semantics.specs.Forms.{Form, inv, or2, xor2, xor3, maj, gt, grow, low}
 use Rattle.quality_semantics.specs.WordNets.{WordNetValue, signals, table_of, appended, started}
-use Rattle.quality_semantics.specs.Buses.{WithBus, places, adders, add, comparators, greater, exceed, binary, constant, times_bits, times, flip_top, not_zero_low, differences, differ, growers}
+use Rattle.quality_semantics.specs.Buses.{WithBus, WithSignal, places, adders, add, comparators, greater, exceed, binary, constant, times_bits, times, flip_top, not_zero_low, differences, differ, growers}
 use Rattle.quality_semantics.specs.Buses.{count_rows}
-use Rattle.quality_semantics.specs.Quality.{absolute_excess, relative_excess, differing_excess, signed_excess, excess, word_quality, exact_bus, approximate_bus, after_words, joined, any_of, quality}
+use Rattle.quality_semantics.specs.Quality.{absolute_excess, relative_excess, differing_excess, signed_excess, excess, word_quality, exact_bus, approximate_bus, joined, after_words, quality}
 use Rattle.quality_semantics.specs.Joint.{copied_from, copied, approximate_signal, quality_signal, numbered_name, joint_net}
 use Rattle.quality_semantics.specs.Sizes.{tables_and_rows}
 use Rattle.quality_semantics.proofs.Binary.{binary_none, binary_more}
 use Rattle.quality_semantics.proofs.Counts.{length-growers}
 use Rattle.quality_semantics.proofs.Quality.{quality_zero, quality_excess}
-use Rattle.quality_semantics.proofs.Words.{after_words_is, words_inside, as_one_word}
+use Rattle.quality_semantics.proofs.Words.{as_one_word}
 use Rattle.quality_semantics.proofs.Joint.{joint_tables, whole_length, length-copied, length-both_copies, exact_copies, approximate_copies, both_copies, quality_copies}
 
 abbrev size : WordNetValue → ℕ
@@ -242,13 +242,9 @@ word_room kind W e a k exact approximate =
 
 -- ---- the quality networks of at most 64 outputs
 
-size-joined : (W : WordNetValue) (s : ℕ) (bus : List ℕ) → size (joined W s bus).net ≡ size W + 3 * length bus
-size-joined W s [] = omega arith
-size-joined W s (t ∷ bus) = omega (arith, size-joined (appended W (or2 s t)) (signals W) bus, size-appended W (or2 s t))
-
-size-any_of : (W : WordNetValue) (bus : List ℕ) → size (any_of W bus).net ≤ size W + 3 * length bus
-size-any_of W [] = omega arith
-size-any_of W (s ∷ bus) = omega (arith, size-joined W s bus)
+size-joined : (j before : ℕ) (word : WithSignal) → size (joined j before word).net ≤ size word.net + 3
+size-joined zero before word = omega arith
+size-joined (suc j) before word = omega (arith, size-appended word.net (or2 before word.signal))
 
 exact_width : (w n j : ℕ) → n ≤ 64 → length (exact_bus w n j) ≤ 64
 exact_width w n j few = omega (arith, length-range_with_len (j * w) (min w (n - j * w)), few)
@@ -256,7 +252,7 @@ exact_width w n j few = omega (arith, length-range_with_len (j * w) (min w (n - 
 approximate_width : (w n j : ℕ) → n ≤ 64 → length (approximate_bus w n j) ≤ 64
 approximate_width w n j few = omega (arith, length-range_with_len (n + j * w) (min w (n - j * w)), few)
 
-size-after_words : (kind : Kind) (w n k j : ℕ) → n ≤ 64 → size (after_words kind w n k j).net ≤ 3 + j * word_room_most
+size-after_words : (kind : Kind) (w n k j : ℕ) → n ≤ 64 → size (after_words kind w n k j).net ≤ 3 + j * (word_room_most + 3)
 size-after_words kind w n k zero few = omega arith
 size-after_words kind w n k (suc j) few =
     let before = after_words kind w n k j in
@@ -264,6 +260,7 @@ size-after_words kind w n k (suc j) few =
       arith,
       size-after_words kind w n k j few,
       word_room kind before.net (exact_bus w n j) (approximate_bus w n j) k (exact_width w n j few) (approximate_width w n j few),
+      size-joined j before.signal (word_quality kind before.net (exact_bus w n j) (approximate_bus w n j) k),
     )
 
 few_words : (metric : Metric) (n : ℕ) → word_count metric n ≤ n
@@ -281,12 +278,7 @@ few_words metric n = at_count (cases_lt 0 (word_count metric n))
 
 pub quality_room : (metric : Metric) (n k : ℕ) → n ≤ MOST_OUTPUTS → tables_and_rows (quality metric n k).net.tables ≤ 9600000
 unfolding quality
-quality_room metric n k few =
-    let w : ℕ = word_width metric n in
-    let count : ℕ = word_count metric n in
-    let words = after_words metric.kind w n k count in
-    let each = after_words_is metric.kind w n k count (words_inside metric n) in
-    omega (arith, size-any_of words.net words.bus, each.count, size-after_words metric.kind w n k count few, few_words metric n, few)
+quality_room metric n k few = omega (arith, size-after_words metric.kind (word_width metric n) n k (word_count metric n) few, few_words metric n, few)
 
 pub one_word_room : (metric : Metric) (n k : ℕ) → n ≤ MOST_OUTPUTS → n ≤ word_width metric n → tables_and_rows (quality metric n k).net.tables ≤ 150000
 one_word_room metric n k few fits =

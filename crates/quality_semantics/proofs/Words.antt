@@ -1,85 +1,39 @@
 -- The quality network of several words, one behind another.
-use Rattle.std.proofs.Common.{◌≡◌, ◌⊎◌, ℕ, zero, suc, ◌+◌, ◌-◌, ◌*◌, ◌<◌, ◌≤◌, min, max, Bool, true, false, ◌||◌, List, [], ◌∷◌, ◌++◌, length, map, take, drop, ltb, refl, ap, sym, subst, ◌∙◌, arith, length-append, length-drop, length-take}
+use Rattle.std.proofs.Common.{◌≡◌, ◌⊎◌, ℕ, zero, suc, ◌+◌, ◌-◌, ◌*◌, ◌<◌, ◌≤◌, min, max, Bool, false, ◌||◌, List, length, map, take, drop, ltb, refl, ap, sym, subst, ◌∙◌, arith, length-drop, length-take}
 use Rattle.std.specs.List.{range_with_len}
 use Rattle.std.proofs.lemmas.Bool.{cases_lt}
 use Rattle.std.proofs.lemmas.Bool.Decides.{nat_tests}
 use Rattle.std.proofs.Common.{take-take, take_all, drop-drop, inl, inr}
-use Rattle.std.proofs.lemmas.List.{map-append, take_min, drop-take}
+use Rattle.std.proofs.lemmas.List.{take_min, drop-take}
 use Rattle.std.proofs.lemmas.List.FromFn.{length-range_with_len, get_or-range_with_len}
-use Rattle.std.proofs.lemmas.List.Elements.{All-from_get_or, All-append, All-head, All-tail, All-cons, All-nil}
+use Rattle.std.proofs.lemmas.List.Elements.{All-from_get_or}
 use Rattle.semantics.specs.Net.{IsAcyclic}
 use Rattle.semantics.specs.Value.{Assignment, value_of}
 use Rattle.semantics.specs.declared.metric.Metric.{Metric}
 use Rattle.semantics.specs.declared.metric.Kind.{Kind}
 use Rattle.semantics.specs.declared.metric.Kind.TheVariants.{Abs, Rel, Ham, Sabs}
-use Rattle.semantics.specs.Error.{word_error, greatest_error, one_word, in_words, word_width, word_count, word_at, greatest_of, error_of_word, error_of}
+use Rattle.semantics.specs.Error.{word_error, greatest_error, one_word, in_words, word_width, word_count, word_at, greatest_of, error_of}
 use Rattle.semantics.proofs.Order.{IsAcyclic-in_order}
 use Rattle.semantics.proofs.Words.{greatest_of-same, word_begins, word_width-some, no_words, single_word}
 use Rattle.quality_semantics.specs.Forms.{or2}
 use Rattle.quality_semantics.specs.WordNets.{WordNetValue, signals, appended, started, BeginsWith, AreSignalsOf, IsWordNet}
-use Rattle.quality_semantics.specs.Buses.{WithBus, WithSignal}
-use Rattle.quality_semantics.specs.Quality.{word_quality, word_size, exact_bus, approximate_bus, after_words, joined, any_of, quality}
+use Rattle.quality_semantics.specs.Buses.{WithSignal}
+use Rattle.quality_semantics.specs.Quality.{word_quality, word_size, exact_bus, approximate_bus, joined, after_words, quality}
 use Rattle.quality_semantics.specs.Laws.{Fits, IsWordPair}
 use Rattle.quality_semantics.proofs.Growth.{begins_itself, begins_after, begins_appended, begins_signals, signals_kept, Fits-earlier, Fits-newest, Fits-values}
 use Rattle.quality_semantics.proofs.Tables.{or2_value}
 use Rattle.quality_semantics.proofs.Numbers.{input_bits}
-use Rattle.quality_semantics.proofs.Formed.{HasBus, HasSignal, IsWordNet-started, IsWordNet-or2, signals-appended, zero_below}
+use Rattle.quality_semantics.proofs.Formed.{HasSignal, IsWordNet-started, IsWordNet-or2, signals-appended, zero_below}
 use Rattle.quality_semantics.proofs.Quality.{word_quality_is, quality_zero}
-
--- ---- whether one of the bits is 1
-
-abbrev pub any_true : List Bool → Bool
-any_true [] = false
-any_true (b ∷ bits) = b || any_true bits
-
-or_false : (b : Bool) → (b || false) ≡ b
-or_false true = refl
-or_false false = refl
-
-or_or : (a b c : Bool) → ((a || b) || c) ≡ (a || (b || c))
-or_or true b c = refl
-or_or false b c = refl
-
-any_true-append : (bits : List Bool) (b : Bool) → any_true (bits ++ b ∷ []) ≡ (any_true bits || b)
-any_true-append [] b = or_false b
-any_true-append (c ∷ bits) b = ap (λ rest. c || rest) (any_true-append bits b) ∙ sym (or_or c (any_true bits) b)
 
 over_greater : (k a b : ℕ) → ltb k (max a b) ≡ (ltb k a || ltb k b)
 over_greater k a b = grind (arith, nat_tests)
 
--- ---- a row of disjunctions
+over_first : (k a : ℕ) → ltb k a ≡ ltb k (max 0 a)
+over_first k a = grind (arith, nat_tests)
 
-record IsJoined (W : WordNetValue) (s : ℕ) (bus : List ℕ) (r : WithSignal) : Type 0 where
-  begins : BeginsWith r.net W
-  formed : HasSignal r
-  value : (v : Assignment) → Fits v r.net → v r.signal ≡ (v s || any_true (map v bus))
-
-joined_is : (W : WordNetValue) (s : ℕ) (bus : List ℕ) → IsWordNet W → s < signals W → AreSignalsOf W bus → IsJoined W s bus (joined W s bus)
-joined_is W s [] formed within bus_in = record { begins = begins_itself W; formed = record { net = formed; signal = within }; value = λ v h. sym (or_false (v s)) }
-joined_is W s (t ∷ bus) formed within bus_in =
-    let next = appended W (or2 s t) in
-    let to_next = begins_appended W (or2 s t) in
-    let first : t < signals W = All-head (λ p. p < signals W) t bus bus_in in
-    let rest_in = signals_kept W next bus to_next (All-tail (λ p. p < signals W) t bus bus_in) in
-    let rest = joined_is next (signals W) bus (IsWordNet-or2 W s t formed within first) (omega (arith, signals-appended W (or2 s t))) rest_in in
-    record {
-      begins = begins_after W next _ rest.begins to_next;
-      formed = rest.formed;
-      value = λ v h.
-          let here : v (signals W) ≡ (v s || v t) = Fits-newest v W (or2 s t) (Fits-earlier v _ next rest.begins h) ∙ or2_value v s t in
-          rest.value v h ∙ ap (λ b. b || any_true (map v bus)) here ∙ or_or (v s) (v t) (any_true (map v bus));
-    }
-
-record IsAnyOf (W : WordNetValue) (bus : List ℕ) (r : WithSignal) : Type 0 where
-  begins : BeginsWith r.net W
-  formed : HasSignal r
-  value : (v : Assignment) → Fits v r.net → v r.signal ≡ any_true (map v bus)
-
-any_of_is : (W : WordNetValue) (bus : List ℕ) → IsWordNet W → AreSignalsOf W bus → IsAnyOf W bus (any_of W bus)
-any_of_is W [] formed bus_in = record { begins = begins_itself W; formed = record { net = formed; signal = zero_below W formed }; value = λ v h. h.zero }
-any_of_is W (s ∷ bus) formed bus_in =
-    let is = joined_is W s bus formed (All-head (λ p. p < signals W) s bus bus_in) (All-tail (λ p. p < signals W) s bus bus_in) in
-    record { begins = is.begins; formed = is.formed; value = is.value }
+never_below : (k : ℕ) → false ≡ ltb k 0
+never_below k = grind (arith, nat_tests)
 
 -- ---- one word behind another
 
@@ -100,65 +54,61 @@ word_pair W w n j formed begins inside = record {
   widths = length-range_with_len (j * w) (word_size w n j) ∙ sym (length-range_with_len (n + j * w) (word_size w n j));
 }
 
-pub record AreExcesses (kind : Kind) (w n k j : ℕ) (r : WithBus) : Type 0 where
+-- a network over n exact and n approximate outputs, whose signal says whether the error of one of the first j
+-- words exceeds k
+pub record IsOverSome (kind : Kind) (w n k j : ℕ) (r : WithSignal) : Type 0 where
   pub begins : BeginsWith r.net (started (n + n))
-  pub formed : HasBus r
-  pub count : length r.bus ≡ j
-  pub value : (v : Assignment) → Fits v r.net → any_true (map v r.bus) ≡ ltb k (greatest_of (input_error kind w n v) j)
+  pub formed : HasSignal r
+  pub value : (v : Assignment) → Fits v r.net → v r.signal ≡ ltb k (greatest_of (input_error kind w n v) j)
 
-never_below : (k : ℕ) → false ≡ ltb k 0
-never_below k = grind (arith, nat_tests)
-
-pub after_words_is : (kind : Kind) (w n k j : ℕ) → ((i : ℕ) → i < j → i * w ≤ n) → AreExcesses kind w n k j (after_words kind w n k j)
-after_words_is kind w n k zero inside = record {
-  begins = begins_itself (started (n + n));
-  formed = record { net = IsWordNet-started (n + n); bus = All-nil _ };
-  count = refl;
-  value = λ v h. never_below k;
-}
-after_words_is kind w n k (suc j) inside =
-    let before = after_words kind w n k j in
-    let so_far = after_words_is kind w n k j (λ i low. inside i (omega (arith, low))) in
-    let e = exact_bus w n j in
-    let a = approximate_bus w n j in
-    let word = word_quality kind before.net e a k in
-    let is = word_quality_is kind before.net e a k (word_pair before.net w n j so_far.formed.net so_far.begins (inside j (omega arith))) in
+-- one word more
+one_more : (kind : Kind) (w n k j : ℕ) (before : WithSignal) → j * w ≤ n → IsOverSome kind w n k j before
+    → IsOverSome kind w n k (suc j) (joined j before.signal (word_quality kind before.net (exact_bus w n j) (approximate_bus w n j) k))
+one_more kind w n k zero before inside so_far =
+    let is = word_quality_is kind before.net (exact_bus w n 0) (approximate_bus w n 0) k (word_pair before.net w n 0 so_far.formed.net so_far.begins inside) in
     record {
-      begins = begins_after (started (n + n)) before.net word.net is.begins so_far.begins;
+      begins = begins_after (started (n + n)) before.net _ is.begins so_far.begins;
+      formed = is.formed;
+      value = λ v h. is.value v h ∙ over_first k (input_error kind w n v 0);
+    }
+one_more kind w n k (suc j) before inside so_far =
+    let e = exact_bus w n (suc j) in
+    let a = approximate_bus w n (suc j) in
+    let word = word_quality kind before.net e a k in
+    let is = word_quality_is kind before.net e a k (word_pair before.net w n (suc j) so_far.formed.net so_far.begins inside) in
+    let form = or2 before.signal word.signal in
+    let to_end = begins_appended word.net form in
+    let kept : before.signal < signals word.net = omega (arith, so_far.formed.signal, begins_signals before.net word.net is.begins) in
+    record {
+      begins = begins_after (started (n + n)) before.net (appended word.net form) (begins_after before.net word.net (appended word.net form) to_end is.begins) so_far.begins;
       formed = record {
-        net = is.formed.net;
-        bus = All-append (λ s. s < signals word.net) before.bus (word.signal ∷ []) (signals_kept before.net word.net before.bus is.begins so_far.formed.bus)
-            (All-cons (λ s. s < signals word.net) word.signal [] is.formed.signal (All-nil _));
+        net = IsWordNet-or2 word.net before.signal word.signal is.formed.net kept is.formed.signal;
+        signal = omega (arith, signals-appended word.net form);
       };
-      count = omega (arith, length-append before.bus (word.signal ∷ []), so_far.count);
       value = λ v h.
-          let old = so_far.value v (Fits-earlier v word.net before.net is.begins h) in
-          let new = is.value v h in
-          ap any_true (map-append v before.bus (word.signal ∷ [])) ∙ any_true-append (map v before.bus) (v word.signal) ∙ rw (old, new) (sym (over_greater k _ _));
+          let at_word = Fits-earlier v (appended word.net form) word.net to_end h in
+          let old = so_far.value v (Fits-earlier v word.net before.net is.begins at_word) in
+          let new = is.value v at_word in
+          Fits-newest v word.net form h ∙ or2_value v before.signal word.signal ∙ rw (old, new) (sym (over_greater k _ _));
     }
 
--- ---- the whole network
+pub after_words_is : (kind : Kind) (w n k j : ℕ) → ((i : ℕ) → i < j → i * w ≤ n) → IsOverSome kind w n k j (after_words kind w n k j)
+after_words_is kind w n k zero inside = record {
+  begins = begins_itself (started (n + n));
+  formed = record { net = IsWordNet-started (n + n); signal = zero_below (started (n + n)) (IsWordNet-started (n + n)) };
+  value = λ v h. h.zero ∙ never_below k;
+}
+after_words_is kind w n k (suc j) inside =
+    one_more kind w n k j (after_words kind w n k j) (inside j (omega arith)) (after_words_is kind w n k j (λ i low. inside i (omega (arith, low))))
 
-record IsQuality (metric : Metric) (n k : ℕ) (r : WithSignal) : Type 0 where
-  begins : BeginsWith r.net (started (n + n))
-  formed : HasSignal r
-  value : (v : Assignment) → Fits v r.net → v r.signal ≡ ltb k (greatest_of (input_error metric.kind (word_width metric n) n v) (word_count metric n))
+-- ---- the whole network
 
 pub words_inside : (metric : Metric) (n i : ℕ) → i < word_count metric n → i * word_width metric n ≤ n
 words_inside metric n i low = omega (arith, word_begins n (word_width metric n) i (word_width-some metric n) low)
 
-quality_is : (metric : Metric) (n k : ℕ) → IsQuality metric n k (quality metric n k)
+quality_is : (metric : Metric) (n k : ℕ) → IsOverSome metric.kind (word_width metric n) n k (word_count metric n) (quality metric n k)
 unfolding quality
-quality_is metric n k =
-    let w : ℕ = word_width metric n in
-    let words = after_words metric.kind w n k (word_count metric n) in
-    let each = after_words_is metric.kind w n k (word_count metric n) (words_inside metric n) in
-    let is = any_of_is words.net words.bus each.formed.net each.formed.bus in
-    record {
-      begins = begins_after (started (n + n)) words.net _ is.begins each.begins;
-      formed = is.formed;
-      value = λ v h. is.value v h ∙ each.value v (Fits-earlier v _ words.net is.begins h);
-    }
+quality_is metric n k = after_words_is metric.kind (word_width metric n) n k (word_count metric n) (words_inside metric n)
 
 pub quality_inputs : (metric : Metric) (n k : ℕ) → (quality metric n k).net.inputs ≡ n + n
 quality_inputs metric n k = (quality_is metric n k).begins.inputs
@@ -210,11 +160,11 @@ quality_value metric n k x width =
     let fits : Fits v Q.net = Fits-values Q.net x is.formed.net starts in
     let half : length (take n x) ≡ n = omega (arith, length-take n x, width) in
     let each : (j : ℕ) → j < word_count metric n → input_error metric.kind w n v j ≡ word_error metric.kind (word_at w j (take n x)) (word_at w j (drop n x)) =
-        λ j low.
-        let inside = words_inside metric n j low in
-        let exact = input_bits Q.net x (j * w) (word_size w n j) is.formed.net (omega (arith, width, inputs)) (omega (arith, inputs, inside)) ∙ exact_word x w n j inside in
-        let approximate = input_bits Q.net x (n + j * w) (word_size w n j) is.formed.net (omega (arith, width, inputs)) (omega (arith, inputs, inside)) ∙ approximate_word x w n j width in
-        rw (exact, approximate) refl in
+    λ j low.
+    let inside = words_inside metric n j low in
+    let exact = input_bits Q.net x (j * w) (word_size w n j) is.formed.net (omega (arith, width, inputs)) (omega (arith, inputs, inside)) ∙ exact_word x w n j inside in
+    let approximate = input_bits Q.net x (n + j * w) (word_size w n j) is.formed.net (omega (arith, width, inputs)) (omega (arith, inputs, inside)) ∙ approximate_word x w n j width in
+    rw (exact, approximate) refl in
     ap (λ m. value_of m Q.net.tables x Q.signal) (sym inputs)
     ∙ is.value v fits
     ∙ ap (ltb k) (greatest_of-same (input_error metric.kind w n v) _ (word_count metric n) each)
@@ -235,19 +185,17 @@ as_one_word metric n k fits = at_count (cases_lt 0 n)
     w : ℕ
     w = word_width metric n
 
-    at_count : (0 < n) ⊎ (n ≤ 0) → any_of (after_words metric.kind w n k (word_count metric n)).net (after_words metric.kind w n k (word_count metric n)).bus
-        ≡ word_quality metric.kind (started (n + n)) (range_with_len 0 n) (range_with_len n n) k
+    at_count : (0 < n) ⊎ (n ≤ 0) → after_words metric.kind w n k (word_count metric n) ≡ word_quality metric.kind (started (n + n)) (range_with_len 0 n) (range_with_len n n) k
     at_count (inl some) =
         let one : word_count metric n ≡ 1 = single_word n w some fits in
         let begin : 0 * w ≡ 0 = omega arith in
         let behind : n + 0 ≡ n = omega arith in
         let size : word_size w n 0 ≡ n = omega (arith, fits) in
-        ap (λ c. any_of (after_words metric.kind w n k c).net (after_words metric.kind w n k c).bus) one
-        ∙ rw (size, begin, behind) refl
+        ap (after_words metric.kind w n k) one ∙ rw (size, begin, behind) refl
     at_count (inr none) =
         let empty : n ≡ 0 = omega (arith, none) in
         let words : word_count metric n ≡ 0 = ap (word_count metric) empty ∙ no_words (word_width metric 0) (word_width-some metric 0) in
-        ap (λ c. any_of (after_words metric.kind w n k c).net (after_words metric.kind w n k c).bus) words
+        ap (after_words metric.kind w n k) words
         ∙ sym (quality_zero metric.kind (started (n + n)) (range_with_len 0 n) (range_with_len n n) k (none_errs metric.kind (length (range_with_len 0 n)) k (length-range_with_len 0 n ∙ empty)))
 
 pub in_one_word : (kind : Kind) (n k : ℕ) → quality (one_word kind) n k ≡ word_quality kind (started (n + n)) (range_with_len 0 n) (range_with_len n n) k

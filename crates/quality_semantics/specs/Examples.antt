@@ -127,11 +127,11 @@ pub record WordExamples : Type 0 where
       ≡ numbered 0 (zero_form ∷ one_form
       ∷ xor2 0 3 ∷ xor2 1 4 ∷ grow 6 8 7 ∷ grow 6 8 6 ∷ grow 10 9 7 ∷ grow 11 9 10
       ∷ or2 13 6 ∷ [])
-  -- each output a word: three differences, and whether one of the first two, or the third, is 1
+  -- each output a word: whether one of the first two differs stands before the third
   pub in_bits :
       (quality (in_words Ham 1) 3 0).net.tables
-      ≡ numbered 0 (zero_form ∷ one_form ∷ xor2 0 3 ∷ grow 6 8 7 ∷ xor2 1 4 ∷ grow 6 10 7 ∷ xor2 2 5
-      ∷ grow 6 12 7 ∷ or2 9 11 ∷ or2 14 13 ∷ [])
+      ≡ numbered 0 (zero_form ∷ one_form ∷ xor2 0 3 ∷ grow 6 8 7 ∷ xor2 1 4 ∷ grow 6 10 7 ∷ or2 9 11
+      ∷ xor2 2 5 ∷ grow 6 13 7 ∷ or2 12 14 ∷ [])
   pub one_for_all : (quality (in_words Abs 2) 2 1 ≡ quality (one_word Abs) 2 1)
       × (quality (in_words Abs 64) 2 1 ≡ quality (one_word Abs) 2 1)
   pub no_outputs : quality (in_words Rel 3) 0 0 ≡ record { net = started 0; signal = 0 }

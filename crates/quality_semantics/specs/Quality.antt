@@ -2,7 +2,7 @@
 -- that says whether the error exceeds k. It depends on the metric, the number of outputs and k alone. Source:
 -- SALSA's quality function circuit.
 use Rattle.std.specs.Prelude.{◌≡◌, ℕ, zero, suc, ◌+◌, ◌-◌, ◌*◌, min, nat_lt, nat_le, if◌then◌else◌, Bool, List}
-use Rattle.std.specs.Prelude.{[], ◌∷◌, ◌++◌, length, take, drop}
+use Rattle.std.specs.Prelude.{[], ◌∷◌, length, take, drop}
 use Rattle.std.specs.List.{range_with_len}
 use Rattle.semantics.specs.Net.{NetValue}
 use Rattle.semantics.specs.Value.{outputs_of}
@@ -12,7 +12,7 @@ use Rattle.semantics.specs.declared.metric.Kind.TheVariants.{Abs, Rel, Ham, Sabs
 use Rattle.semantics.specs.Error.{error_of, greatest_error, word_width, word_count}
 use Rattle.quality_semantics.specs.Forms.{or2}
 use Rattle.quality_semantics.specs.WordNets.{WordNetValue, signals, appended, started, net_of}
-use Rattle.quality_semantics.specs.Buses.{WithBus, WithSignal, exceed, constant, times, not_zero_low, flip_top}
+use Rattle.quality_semantics.specs.Buses.{WithSignal, exceed, constant, times, not_zero_low, flip_top}
 use Rattle.quality_semantics.specs.Buses.{differ, at_least}
 
 -- ---- one word: e is the bus of the exact word, and a that of the approximate one
@@ -69,30 +69,23 @@ exact_bus w n j = range_with_len (j * w) (word_size w n j)
 abbrev pub approximate_bus : ℕ → ℕ → ℕ → List ℕ
 approximate_bus w n j = range_with_len (n + j * w) (word_size w n j)
 
--- the network after the tables of the first words, and for each of these words the signal that says whether its
--- error exceeds k
-abbrev pub after_words : Kind → (w n k : ℕ) → ℕ → WithBus
-after_words kind w n k zero = record { net = started (n + n); bus = [] }
+-- the network after word j, and the signal that says whether this word or one before errs too much: word 0
+-- stands alone, and each later one is joined to those before by a disjunction
+abbrev pub joined : ℕ → ℕ → WithSignal → WithSignal
+joined zero before word = word
+joined (suc j) before word = record { net = appended word.net (or2 before word.signal); signal = signals word.net }
+
+-- the network after the tables of the first words, and the signal that says whether the error of one of these
+-- words exceeds k; where there are no words, it is the constant 0
+abbrev pub after_words : Kind → (w n k : ℕ) → ℕ → WithSignal
+after_words kind w n k zero = record { net = started (n + n); signal = n + n }
 after_words kind w n k (suc j) =
     let before = after_words kind w n k j in
-    let word = word_quality kind before.net (exact_bus w n j) (approximate_bus w n j) k in
-    record { net = word.net; bus = before.bus ++ word.signal ∷ [] }
-
--- whether the signal or one of the bus is 1
-abbrev pub joined : WordNetValue → ℕ → List ℕ → WithSignal
-joined W s [] = record { net = W; signal = s }
-joined W s (t ∷ bus) = joined (appended W (or2 s t)) (signals W) bus
-
--- whether some signal of the bus is 1
-abbrev pub any_of : WordNetValue → List ℕ → WithSignal
-any_of W [] = record { net = W; signal = W.inputs }
-any_of W (s ∷ bus) = joined W s bus
+    joined j before.signal (word_quality kind before.net (exact_bus w n j) (approximate_bus w n j) k)
 
 -- the network and its output: whether the error of some word exceeds k
 unfoldable pub quality : Metric → ℕ → ℕ → WithSignal
-quality metric n k =
-    let words = after_words metric.kind (word_width metric n) n k (word_count metric n) in
-    any_of words.net words.bus
+quality metric n k = after_words metric.kind (word_width metric n) n k (word_count metric n)
 
 abbrev pub quality_net : Metric → ℕ → ℕ → NetValue
 quality_net metric n k = net_of (quality metric n k).net ((quality metric n k).signal ∷ [])

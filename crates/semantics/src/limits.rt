@@ -23,7 +23,7 @@ pub const MOST_ROWS: usize = 32_768;
 pub const FEW_INPUTS: u32 = 8;
 
 /// The most inputs with which a query is answered by all cases, where the conflicts allow it.
-pub const TRIED_INPUTS: u32 = 15;
+pub const MOST_CASE_INPUTS: u32 = 15;
 
 /// The largest error, level and bound: with at most `MOST_OUTPUTS` outputs no error of any metric is larger.
 pub const LARGEST_ERROR: u128 = (1 << 84) - 1;

@@ -2,12 +2,12 @@
 ghost use Rattle.std.specs.Prelude.{◌≡◌, IfOk};
 ghost use Rattle.semantics.specs.Net.{IsSmall};
 
+use crate::metrics::ABSOLUTE;
 use crate::nets::net;
 use adc_core::adc::Adc;
 use lane_bits::patterns::Patterns;
 use net_core::net::Net;
 use net_errors::ports::same_ports;
-use semantics::metric::Metric;
 use std::alloc::{AllocError, Global};
 use std::test::Fail;
 
@@ -36,7 +36,7 @@ fn carry_care(alloc: Global, adder: &Net, patterns: &Patterns) -> Result<Option<
     if !same_ports(adder, adder) {
         return Err(Fail::new("no approximation of the adder"));
     }
-    let adc = Adc::new(alloc, adder, adder, Metric::Abs, 0, patterns)?;
+    let adc = Adc::new(alloc, adder, adder, ABSOLUTE, 0, patterns)?;
     Ok(adc.care(1).first().copied())
 }
 

@@ -18,6 +18,8 @@ mod merged_steps;
 #[cfg(test)]
 mod merges;
 #[cfg(test)]
+mod metrics;
+#[cfg(test)]
 mod nets;
 #[cfg(test)]
 mod parts;

@@ -4,13 +4,13 @@ ghost use Rattle.std.specs.Prelude.{◌≡◌, ◌<◌, IfOk, Contains};
 ghost use Rattle.semantics.specs.Net.{IsSmall, table_count};
 ghost use Rattle.chain_semantics.specs.Moves.{moves_of};
 
+use crate::metrics::ABSOLUTE;
 use crate::nets::{HALF_ADDER, move_of, net};
 use adc_core::adc::Adc;
 use chain_semantics::moves::Move;
 use lane_bits::patterns::Patterns;
 use net_core::net::Net;
 use net_errors::ports::same_ports;
-use semantics::metric::Metric;
 use std::alloc::{AllocError, Global};
 use std::test::Fail;
 
@@ -68,7 +68,7 @@ fn carry_as_zero(
     if !same_ports(exact, approx) {
         return Err(Fail::new("no approximation of the half adder"));
     }
-    let mut adc = Adc::new(alloc, exact, approx, Metric::Abs, 1, patterns)?;
+    let mut adc = Adc::new(alloc, exact, approx, ABSOLUTE, 1, patterns)?;
     Ok(told(&mut adc, step))
 }
 

@@ -1,5 +1,6 @@
 //! The merges of the half adder against itself: each table of the second copy is made equal to that of the
 //! first.
+use crate::metrics::ABSOLUTE;
 use crate::nets::{HALF_ADDER, net};
 use cnf_core::log::{Item, Log};
 use lrat_check::checker::Checker;
@@ -8,7 +9,6 @@ use miter::level::{Miter, joint_miter};
 use net_errors::compared::Compared;
 use net_errors::ports::same_ports;
 use semantics::limits::MOST_OUTPUTS;
-use semantics::metric::Metric;
 use std::alloc::Global;
 use std::test::Fail;
 
@@ -47,7 +47,7 @@ fn tables_are_merged(alloc: Global) -> Result<bool, Fail> {
         return Ok(false);
     }
     let nets = Compared::new(&half_adder, &half_adder);
-    let miter = joint_miter(alloc, &nets, Metric::Abs, 0)?;
+    let miter = joint_miter(alloc, &nets, ABSOLUTE, 0)?;
     let log = merges(alloc, &miter.net, &miter.formula)?;
     let sum = adds(&log, 5, -3) && adds(&log, -5, 3);
     let carry = adds(&log, 6, -4) && adds(&log, -6, 4);

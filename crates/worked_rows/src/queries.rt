@@ -1,6 +1,7 @@
 //! Queries on a multiplier and on a conjunction, each against an approximation of it.
 ghost use Rattle.semantics.specs.Net.{IsSmall};
 
+use crate::metrics::{ABSOLUTE, HAMMING};
 use crate::nets::{move_of, net, product};
 use chain_semantics::moves::Move;
 use cnf_core::cnf::Cnf;
@@ -112,7 +113,7 @@ fn multiplier_is_answered(
     is_answered(
         alloc,
         (&exact, &approx),
-        Metric::Abs,
+        ABSOLUTE,
         limit,
         over,
         may_be_spent,
@@ -137,7 +138,7 @@ fn a_multiplier(rt: HostRuntime) -> Result<(), Fail> {
 fn conjunction_is_answered(alloc: Global, text: &[u8], over: &[u8]) -> Result<bool, Fail> {
     let exact = net(alloc, CONJUNCTION)?;
     let approx = net(alloc, text)?;
-    is_answered(alloc, (&exact, &approx), Metric::Ham, 1000, over, false)
+    is_answered(alloc, (&exact, &approx), HAMMING, 1000, over, false)
 }
 
 #[test]

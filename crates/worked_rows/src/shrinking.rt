@@ -1,9 +1,9 @@
 //! The chain of simplifications of a multiplier whose every error is within the bound.
 ghost use Rattle.std.specs.Prelude.{◌≤◌};
 
+use crate::metrics::ABSOLUTE;
 use crate::nets::product;
 use net_core::net::Net;
-use semantics::metric::Metric;
 use std::alloc::{AllocError, Global};
 use std::test::Fail;
 use synth_core::shrink::shrink;
@@ -24,7 +24,7 @@ fn left_of_product(alloc: Global, bound: u128, limit: u64) -> Result<(u32, bool,
     requires { 1 ≤ limit }
 {
     let net = product(alloc)?;
-    let shrunk = shrink(alloc, &net, Metric::Abs, bound, limit)?;
+    let shrunk = shrink(alloc, &net, ABSOLUTE, bound, limit)?;
     Ok((
         shrunk.net.tables(),
         are_constant(&shrunk.net),

@@ -18,7 +18,7 @@ use miter::level::joint_miter;
 use net_errors::compared::Compared;
 use progress::progress::Progress;
 use proof_parts::log::Log;
-use semantics::limits::{FEW_INPUTS, TRIED_INPUTS};
+use semantics::limits::{FEW_INPUTS, MOST_CASE_INPUTS};
 use semantics::metric::Metric;
 use std::alloc::{AllocError, Global};
 
@@ -28,7 +28,7 @@ const FEW_CONFLICTS: u64 = 3000;
 
 /// The most conflicts of the solver where the log can go by cases instead.
 fn few_conflicts(inputs: u32) -> u64
-    requires { inputs ≤ TRIED_INPUTS }
+    requires { inputs ≤ MOST_CASE_INPUTS }
     ensures { 1 ≤ result }
 {
     FEW_CONFLICTS + 2u64.pow(inputs) / 2
@@ -38,7 +38,7 @@ fn few_conflicts(inputs: u32) -> u64
 fn is_enough(limit: u64, inputs: u32) -> bool
     ensures { IsTrue result ↔ IsEnough limit inputs }
 {
-    inputs <= FEW_INPUTS || inputs <= TRIED_INPUTS && 2u64.pow(inputs + 1) <= limit
+    inputs <= FEW_INPUTS || inputs <= MOST_CASE_INPUTS && 2u64.pow(inputs + 1) <= limit
 }
 
 /// The log by cases.
@@ -48,7 +48,7 @@ fn refute_by_cases(
     metric: Metric,
     k: u128,
 ) -> Result<Log, AllocError>
-    requires few_inputs { input_count nets.now.exact ≤ TRIED_INPUTS }
+    requires few_inputs { input_count nets.now.exact ≤ MOST_CASE_INPUTS }
     requires within { IsWithin metric nets.now.exact k nets.now.approx }
     ensures { IfOk result (IsNever metric nets.now.exact nets.now.approx k) }
 {
@@ -67,7 +67,7 @@ fn refute_by_few_conflicts<P: Progress>(
     progress: &mut P,
 ) -> Result<Log, AllocError>
     requires many_inputs { FEW_INPUTS < input_count nets.now.exact }
-    requires few_inputs { input_count nets.now.exact ≤ TRIED_INPUTS }
+    requires few_inputs { input_count nets.now.exact ≤ MOST_CASE_INPUTS }
     requires few { 1 ≤ few }
     requires within { IsWithin metric nets.now.exact k nets.now.approx }
     ensures { IfOk result (IsNever metric nets.now.exact nets.now.approx k) }

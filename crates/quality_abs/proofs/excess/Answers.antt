@@ -4,9 +4,7 @@ use Rattle.quality_abs.proofs.Steps.{absolute_from}
 use Rattle.quality_abs.proofs.excess.Goals as goal
 
 pub returns-clause-ok : goal.returns-clause-ok
-returns-clause-ok c = on_ok_weaker c.exceed.result
-    (λ e. e ∙ ap (λ r. r.net) (absolute_from _ _ _ _ _ _ c.requires c.in_ok-exact.ensures.value c.in_ok-approximate.ensures.value c.in_ok-bound.ensures.value)) c.exceed.ensures.ok
+returns-clause-ok c = on_ok_weaker c.exceed.result (λ e. e ∙ ap (λ r. r.net) (absolute_from _ _ _ _ _ c.in_ok-bound.ensures.value)) c.exceed.ensures.ok
 
 pub returns-clause-signal : goal.returns-clause-signal
-returns-clause-signal c = IfOk-weaker c.exceed.result _ _
-    (λ s e. e ∙ ap (λ r. r.signal) (absolute_from _ _ _ _ _ _ c.requires c.in_ok-exact.ensures.value c.in_ok-approximate.ensures.value c.in_ok-bound.ensures.value)) c.exceed.ensures.signal
+returns-clause-signal c = IfOk-weaker c.exceed.result _ _ (λ s e. e ∙ ap (λ r. r.signal) (absolute_from _ _ _ _ _ c.in_ok-bound.ensures.value)) c.exceed.ensures.signal

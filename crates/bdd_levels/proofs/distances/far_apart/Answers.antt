@@ -1,4 +1,4 @@
-use Rattle.std.proofs.Common.{◌∙◌, sym, arith}
+use Rattle.std.proofs.Common.{sym, arith}
 use Rattle.bus_nets.proofs.Numbers.{both_ok}
 use Rattle.quality_semantics.proofs.Growth.{begins_after, signals_kept}
 use Rattle.bdd_levels.proofs.Subtraction.{far_made}
@@ -6,11 +6,12 @@ use Rattle.bdd_levels.proofs.distances.far_apart.Goals as goal
 
 pub returns-clause-value : goal.returns-clause-value
 returns-clause-value c =
-    both_ok c.append_form.result _ _ (λ s signal net. far_made _ _ _ _ _ _ _ _ _ _ _ _ _ s _ _ c.requires.x_width c.in_ok-bits.ensures.is c.in_ok-scaled.ensures.number c.in_ok-scaled.ensures.begins
-    c.in_ok-over.ensures.value c.in_ok-over.ensures.begins c.in_ok-under.ensures.value c.in_ok-under.ensures.begins net signal) c.append_form.ensures.signal c.append_form.ensures.ok
+    both_ok c.append_form.result _ _ (λ s signal net. far_made _ _ _ _ _ _ _ _ _ _ _ _ _ s _ _ (sym c.len-width.ensures) c.in_ok-bits.ensures.is c.in_ok-scaled.ensures.number
+    c.in_ok-scaled.ensures.begins c.in_ok-over.ensures.value c.in_ok-over.ensures.begins c.in_ok-under.ensures.value c.in_ok-under.ensures.begins net signal)
+    c.append_form.ensures.signal c.append_form.ensures.ok
 
 pub difference-requires : goal.difference-requires
-difference-requires c = record { x_in = c.requires.x_in; y_in = c.requires.y_in; widths = c.requires.x_width ∙ sym c.requires.y_width }
+difference-requires c = record { x_in = c.requires.x_in; y_in = c.requires.y_in; widths = c.requires.widths }
 
 pub times-requires : goal.times-requires
 times-requires c = c.in_ok-bits.ensures.within.0
@@ -24,7 +25,7 @@ greater-requires c = record {
 
 pub is_short-requires : goal.is_short-requires
 is_short-requires c = record {
-  narrow = c.requires.narrow;
+  narrow = omega (arith, c.requires.narrow, c.len-width.ensures);
   x_in = signals_kept c.args.net.now c.greater.new.self c.args.level.now
       (begins_after c.args.net.now c.times.new.self c.greater.new.self c.in_ok-over.ensures.begins
       (begins_after c.args.net.now c.difference.new.net c.times.new.self c.in_ok-scaled.ensures.begins c.in_ok-bits.ensures.begins)) c.requires.level_in;

@@ -2,8 +2,8 @@ use Rattle.std.proofs.Common.{◌≡◌, ℕ, Bool, true, false, List, [], ◌�
 use Rattle.semantics.specs.Texts.{text_of}
 use Rattle.semantics.specs.Net.{HasSamePorts, literal_count}
 use Rattle.semantics.specs.Value.{after_rounds, value_of, outputs_of}
-use Rattle.semantics.specs.Error.{net_error}
-use Rattle.semantics.specs.declared.metric.Metric.TheVariants.{Abs}
+use Rattle.semantics.specs.Error.{error_of, net_error, one_word}
+use Rattle.semantics.specs.declared.metric.Kind.TheVariants.{Abs}
 use Rattle.semantics.specs.Examples.{text, half_adder, both_constant}
 use Rattle.job_semantics.specs.declared.certificate_clause.Clause.TheVariants as clause
 use Rattle.job_semantics.specs.Report.{vectors_text}
@@ -20,8 +20,8 @@ vectors_read : IsVectorsText 2 both_constant_vectors (true ∷ true ∷ []) ((fa
 unfolding text_of vectors_text
 vectors_read = record { spelled = refl; widths = (refl, (refl, (refl, tt))) }
 
-attained : net_error Abs half_adder both_constant (true ∷ true ∷ []) ≡ 2
-unfolding after_rounds value_of outputs_of net_error
+attained : net_error (one_word Abs) half_adder both_constant (true ∷ true ∷ []) ≡ 2
+unfolding after_rounds value_of outputs_of error_of net_error
 attained = refl
 
 -- the first line is not the witness
@@ -120,7 +120,7 @@ returns c = record {
     fails = λ h.
         let net = verified_law.one_net both_constant_texts h.0 both_constant h.1 the.netlist_read in
         let report = the.the_one the.zero_report h.2.0 (the.the_report 0 0 false) h.2.1 the.zero_read in
-        let two : ◌≡◌ {A = ℕ} 2 0 = sym attained ∙ sym (λ i. net_error Abs half_adder (net i) (report i).witness) ∙ h.2.2 ∙ ap (λ r. r.maximum) report in omega arith;
+        let two : ◌≡◌ {A = ℕ} 2 0 = sym attained ∙ sym (λ i. net_error (one_word Abs) half_adder (net i) (report i).witness) ∙ h.2.2 ∙ ap (λ r. r.maximum) report in omega arith;
   };
   other_literals = λ h.
       let net = verified_law.one_net both_constant_texts h.0 both_constant h.1 the.netlist_read in

@@ -1,14 +1,14 @@
 use Rattle.std.proofs.Common.{true, false, [], ◌∷◌, refl, lit≤}
 use Rattle.semantics.specs.Texts.{text_of}
 use Rattle.semantics.specs.Value.{after_rounds, value_of, outputs_of}
-use Rattle.semantics.specs.Error.{net_error}
+use Rattle.semantics.specs.Error.{error_of, net_error}
 use Rattle.semantics.specs.Examples.{both_constant}
 use Rattle.job_semantics.specs.Report.{vectors_text}
 use Rattle.job_semantics.proofs.CertificateTexts.{the_report, netlist_read, report_read}
 use Rattle.job_semantics.proofs.certificate_examples.holding.Goals as goal
 
 pub returns : goal.returns
-unfolding text_of vectors_text after_rounds value_of outputs_of net_error
+unfolding text_of vectors_text after_rounds value_of outputs_of error_of net_error
 returns c = record {
   netlist = (both_constant, netlist_read);
   ports = (both_constant, netlist_read, record { inputs = refl; outputs = refl });

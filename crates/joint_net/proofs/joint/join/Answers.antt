@@ -1,4 +1,3 @@
-use Rattle.std.proofs.lemmas.Result.{on_ok_weaker}
 use Rattle.std.proofs.Common.{sym, subst, ◌∙◌}
 use Rattle.std.proofs.lemmas.Result.{IfOk-weaker}
 use Rattle.semantics.specs.Net.{NetValue, input_count, IsAcyclic}

@@ -1,8 +1,7 @@
-use Rattle.std.proofs.Common.{◌-◌, ◌+◌, ◌*◌, length, get_or, ap, sym, ◌∙◌, arith}
+use Rattle.std.proofs.Common.{◌-◌, ◌+◌, ◌*◌, length, ap, sym, ◌∙◌, arith}
 use Rattle.std.specs.Int.{from_bool}
 use Rattle.std.proofs.lemmas.List.{drop_all}
 use Rattle.semantics.specs.Error.{number_of}
-use Rattle.lane_nets.specs.Words.{word_bit}
 use Rattle.lane_nets.specs.Lanes.{lane_at}
 use Rattle.lane_nets.proofs.Counting.{lane_value_more, lane_value_fits, bit_at_most}
 use Rattle.lane_nets.proofs.lanes.lane_value.Goals as goal

@@ -1,10 +1,10 @@
 use Rattle.std.proofs.Common.{ℕ, ◌↔◌, ◌<◌, IsTrue}
-use Rattle.semantics.specs.declared.metric.Metric.TheVariants.{Rel}
-use Rattle.semantics.specs.Error.{error_of}
+use Rattle.semantics.specs.declared.metric.Kind.TheVariants.{Rel}
+use Rattle.semantics.specs.Error.{word_error}
 use Rattle.lane_nets.specs.Words.{word_bit}
 use Rattle.lane_nets.specs.Lanes.{lane_at}
 use Rattle.lane_nets.proofs.lanes.relative_word.Given as goal
 
 abbrev pub invariant-loop-b : goal.invariant-loop-b
 invariant-loop-b l =
-    (b : ℕ) → b < 64 → IsTrue (word_bit l.over b) ↔ ((b < l.b) × (l.level < error_of Rel (lane_at l.exact b) (lane_at l.approx b)))
+    (b : ℕ) → b < 64 → IsTrue (word_bit l.over b) ↔ ((b < l.b) × (l.level < word_error Rel (lane_at l.exact b) (lane_at l.approx b)))

@@ -1,27 +1,28 @@
 use Rattle.std.proofs.Common.{ℕ, ◌<◌, ap, sym, ◌∙◌, arith}
-use Rattle.semantics.specs.Error.{error_of}
+use Rattle.semantics.specs.Error.{word_error}
 use Rattle.lane_nets.specs.Lanes.{lane_at}
 use Rattle.lane_nets.proofs.RowBits.{over_set, over_left}
-use Rattle.lane_nets.proofs.LaneErrors.{no_error}
+use Rattle.lane_nets.proofs.LaneErrors.{no_error, one_word_lane}
 use Rattle.lane_nets.proofs.lanes.single_errors.Goals as goal
 use Rattle.lane_nets.proofs.lanes.single_errors.Goals.{then-word_bit+then-lane_error-level, else-word_bit, else-word_bit-via-then-word_bit+else-lane_error-level, else-word_bit-via-else-word_bit}
 
 pub loop-b-preserved : goal.loop-b-preserved
 loop-b-preserved c =
-    let P : ℕ → Type 0 = λ b. c.args.level < error_of c.args.metric (lane_at c.args.exact.now b) (lane_at c.args.approx.now b) in
+    let P : ℕ → Type 0 = λ b. c.args.level < word_error c.args.kind (lane_at c.args.exact.now b) (lane_at c.args.approx.now b) in
     let low = c.loop-b-test.true in
+    let alone = one_word_lane c.args.kind c.args.exact.now c.args.approx.now c.loop-b.b c.requires.same in
     elim c.if-word_bit.branch [
       | then-word_bit+then-lane_error-level w ↦
-          rw w.over-is (over_set P c.loop-b.over c.loop-b.b low (omega (arith, w.lane_error.ensures, w.if-lane_error-level.true)) c.loop-b.invariant)
+          rw w.over-is (over_set P c.loop-b.over c.loop-b.b low (omega (arith, w.lane_error.ensures, alone, w.if-lane_error-level.true)) c.loop-b.invariant)
       | else-word_bit w ↦
           rw w.over-is
           (elim w.else-word_bit.branch [
             | else-word_bit-via-then-word_bit+else-lane_error-level w' ↦
-                over_left P c.loop-b.over c.loop-b.b (λ h. omega (arith, w'.lane_error.ensures, w'.if-lane_error-level.false, h)) c.loop-b.invariant
+                over_left P c.loop-b.over c.loop-b.b (λ h. omega (arith, w'.lane_error.ensures, alone, w'.if-lane_error-level.false, h)) c.loop-b.invariant
             | else-word_bit-via-else-word_bit w' ↦
                 let same = c.unequal_word-unequal.ensures c.loop-b.b low (sym c.word_bit.ensures ∙ w'.if-word_bit.false) in
                 over_left P c.loop-b.over c.loop-b.b
-                (λ h. omega (arith, h, ap (λ l. error_of c.args.metric l (lane_at c.args.approx.now c.loop-b.b)) same, no_error c.args.metric (lane_at c.args.approx.now c.loop-b.b)))
+                (λ h. omega (arith, h, ap (λ l. word_error c.args.kind l (lane_at c.args.approx.now c.loop-b.b)) same, no_error c.args.kind (lane_at c.args.approx.now c.loop-b.b)))
                 c.loop-b.invariant
           ])
     ]

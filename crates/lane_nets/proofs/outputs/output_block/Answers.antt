@@ -1,6 +1,5 @@
-use Rattle.std.proofs.Common.{List, ℕ}
 use Rattle.std.proofs.lemmas.Result.{IfOk-weaker}
-use Rattle.lane_nets.specs.Lanes.{output_words, IsOutputBlock}
+use Rattle.lane_nets.specs.Lanes.{IsOutputBlock}
 use Rattle.lane_nets.proofs.BlockErrors.{output_block_is}
 use Rattle.lane_nets.proofs.outputs.output_block.Goals as goal
 

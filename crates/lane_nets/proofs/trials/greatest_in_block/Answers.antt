@@ -1,8 +1,7 @@
-use Rattle.std.proofs.Common.{◌+◌, ◌<◌, List, Bool, ap, sym, ◌∙◌, arith}
+use Rattle.std.proofs.Common.{◌+◌, ◌<◌, ℕ, List, ap, sym, ◌∙◌, arith}
 use Rattle.semantics.specs.Error.{error_of}
 use Rattle.lane_nets.specs.Lanes.{lane_at}
-use Rattle.lane_nets.specs.Wide.{lane_words}
-use Rattle.lane_nets.proofs.BlockErrors.{outputs_lane, block_taken, block_kept, not_over}
+use Rattle.lane_nets.proofs.BlockErrors.{block_taken, block_kept, not_over}
 use Rattle.lane_nets.proofs.trials.greatest_in_block.Goals as goal
 use Rattle.lane_nets.proofs.trials.greatest_in_block.Goals.{then-word_bit, else-word_bit}
 
@@ -10,9 +9,7 @@ pub loop-b-preserved : goal.loop-b-preserved
 loop-b-preserved c = λ f value start.
     let b = c.loop-b.b in
     let low : c.loop-b.b < 64 = omega (arith, c.loop-b-test.true, c.requires.few) in
-    let outputs =
-    outputs_lane c.args.nets.now.approx c.approx-approx.result.now (lane_words c.args.wides.now c.args.j) c.set_lane_outputs.new.outputs b c.approx-approx.ensures.value c.set_lane_outputs.ensures in
-    let error = ap (λ (l : List Bool). error_of c.args.metric (lane_at c.args.exact.now c.loop-b.b) l) outputs in
+    let error = ap (λ (l : List ℕ). error_of c.args.metric (lane_at c.args.exact.now c.loop-b.b) (lane_at l c.loop-b.b)) c.set_lane_words.ensures in
     let before = c.loop-b.invariant f value start in
     elim c.if-word_bit.branch [
       | then-word_bit w ↦

@@ -1,4 +1,4 @@
-use Rattle.std.proofs.Common.{[], length, get_or, refl, sym, ap, ◌∙◌, arith}
+use Rattle.std.proofs.Common.{[], length, get_or, refl, ap, ◌∙◌, arith}
 use Rattle.net_core.proofs.InOrder.{next_at, holds_all}
 use Rattle.lane_nets.specs.Words.{word_bit}
 use Rattle.lane_nets.proofs.WideWords.{IsWideFrom, wides_none, wides_more, lane_words_get}

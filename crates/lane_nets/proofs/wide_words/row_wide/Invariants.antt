@@ -1,4 +1,4 @@
-use Rattle.std.proofs.Common.{◌≡◌, ℕ, ◌<◌, ◌&&◌, drop, length, get_or}
+use Rattle.std.proofs.Common.{◌≡◌, ℕ, ◌<◌, ◌&&◌, drop, get_or}
 use Rattle.semantics.specs.Value.{row_matches}
 use Rattle.lane_nets.specs.Words.{word_bit, values_at}
 use Rattle.lane_nets.specs.Wide.{lane_words}

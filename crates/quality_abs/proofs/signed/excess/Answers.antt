@@ -5,10 +5,10 @@ use Rattle.quality_abs.proofs.signed.excess.Goals as goal
 
 pub returns-clause-ok : goal.returns-clause-ok
 returns-clause-ok c = on_ok_weaker c.exceed.result
-    (λ e. e ∙ ap (λ r. r.net) (signed_from _ _ _ _ _ _ _ _ _ _ c.requires.start c.in_ok-exact.ensures.value c.in_ok-approximate.ensures.value c.in_ok-flipped_exact.ensures.ok
-    c.in_ok-flipped_exact.ensures.bus c.in_ok-flipped_approximate.ensures.ok c.in_ok-flipped_approximate.ensures.bus c.in_ok-bound.ensures.value)) c.exceed.ensures.ok
+    (λ e. e ∙ ap (λ r. r.net) (signed_from _ _ _ _ c.args.exact.now c.args.approx.now _ _ _ c.in_ok-flipped_exact.ensures.ok c.in_ok-flipped_exact.ensures.bus c.in_ok-flipped_approx.ensures.ok
+    c.in_ok-flipped_approx.ensures.bus c.in_ok-bound.ensures.value)) c.exceed.ensures.ok
 
 pub returns-clause-signal : goal.returns-clause-signal
 returns-clause-signal c = IfOk-weaker c.exceed.result _ _
-    (λ s e. e ∙ ap (λ r. r.signal) (signed_from _ _ _ _ _ _ _ _ _ _ c.requires.start c.in_ok-exact.ensures.value c.in_ok-approximate.ensures.value c.in_ok-flipped_exact.ensures.ok
-    c.in_ok-flipped_exact.ensures.bus c.in_ok-flipped_approximate.ensures.ok c.in_ok-flipped_approximate.ensures.bus c.in_ok-bound.ensures.value)) c.exceed.ensures.signal
+    (λ s e. e ∙ ap (λ r. r.signal) (signed_from _ _ _ _ c.args.exact.now c.args.approx.now _ _ _ c.in_ok-flipped_exact.ensures.ok c.in_ok-flipped_exact.ensures.bus c.in_ok-flipped_approx.ensures.ok
+    c.in_ok-flipped_approx.ensures.bus c.in_ok-bound.ensures.value)) c.exceed.ensures.signal
