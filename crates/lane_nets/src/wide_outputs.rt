@@ -13,11 +13,11 @@ use std::alloc::{AllocError, Global};
 use std::marker::Model;
 use std::simd::u64x8;
 
-/// From so many blocks of 64 patterns on a net is walked as a graph. A graph takes as long to make as some
-/// tens of wide blocks take over the tables, so a walk that ends early does not pay for it. With fewer blocks
-/// most walks end early: with up to sixteen inputs each net that is tried is walked at all vectors at once,
-/// and most nets err at one of the first. With more inputs only nets that passed thousands of vectors are
-/// walked at all of them.
+/// The least number of blocks of 64 patterns at which a net is walked as a graph. Over a graph a wide block
+/// takes less than half of the time over tables, and a graph takes as long to make as the tables take for
+/// about six wide blocks, so a walk that ends early does not pay for it. With fewer blocks most walks end
+/// early: with up to sixteen inputs each net that is tried is walked at all vectors at once, and most nets err
+/// at one of the first. With more inputs only nets that passed thousands of vectors are walked at all of them.
 const LEAST_GRAPH_BLOCKS: u64 = 2048;
 
 /// The outputs of a net in eight blocks at a time, with room for the values of its signals, or of the nodes
