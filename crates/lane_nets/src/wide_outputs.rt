@@ -16,8 +16,9 @@ use std::simd::u64x8;
 /// The least number of blocks of 64 patterns at which a net is walked as a graph. Over a graph a wide block
 /// takes less than half of the time over tables, and a graph takes as long to make as the tables take for
 /// about six wide blocks, so a walk that ends early does not pay for it. With fewer blocks most walks end
-/// early: with up to sixteen inputs each net that is tried is walked at all vectors at once, and most nets err
-/// at one of the first. With more inputs only nets that passed thousands of vectors are walked at all of them.
+/// early: with up to sixteen inputs each net that is tried is walked at all vectors at once, and most nets
+/// err at one of the first. With more inputs only nets that passed thousands of vectors are walked at all of
+/// them.
 const LEAST_GRAPH_BLOCKS: u64 = 2048;
 
 /// The outputs of a net in eight blocks at a time, with room for the values of its signals, or of the nodes
