@@ -1,8 +1,8 @@
 -- The simplifications of a net within a bound: from the tidied net, the first allowed move is made and the
--- moved net is tidied, until no move is allowed. Source: SALSA; tidying and the order of the moves are this
--- tool's own.
+-- moved net is tidied, until no move is allowed. Source: SALSA; tidying, the order of the moves, and that the
+-- chain may begin with another net than the exact one, are this tool's own.
 use Rattle.std.specs.Prelude.{ℕ}
-use Rattle.semantics.specs.Net.{NetValue}
+use Rattle.semantics.specs.Net.{NetValue, IsSound, HasSamePorts}
 use Rattle.semantics.specs.Error.{IsWithin}
 use Rattle.semantics.specs.declared.metric.Metric.{Metric}
 use Rattle.chain_semantics.specs.declared.moves.Move.{Move}
@@ -18,14 +18,31 @@ IsAllowedMove metric exact bound N move = IsWithin metric exact bound (moved N m
 abbrev pub IsTidiedMove : NetValue → Move → NetValue → Type 0
 IsTidiedMove N move = IsTidiedFrom (moved N move)
 
--- the chain begins with the net that the exact one is tidied to
-pub record IsInSimplification (metric : Metric) (exact : NetValue) (bound : ℕ) (N : NetValue) : Type 0 where
+-- A net that a chain may begin with: a sound net that has the ports of the exact one and keeps the bound on
+-- every input vector.
+pub record IsBeginning (metric : Metric) (exact : NetValue) (bound : ℕ) (begin : NetValue) : Type 0 where
+  pub sound : IsSound begin
+  pub ports : HasSamePorts exact begin
+  pub within : IsWithin metric exact bound begin
+
+-- The chain from a beginning starts with the net that the beginning is tidied to. Each move is judged against
+-- the exact net.
+pub record IsInSimplificationFrom (metric : Metric) (exact : NetValue) (bound : ℕ)
+    (begin N : NetValue) : Type 0 where
   pub start : NetValue
-  pub tidied : IsTidiedFrom exact start
+  pub tidied : IsTidiedFrom begin start
   pub member : IsInChain moves_of (IsAllowedMove metric exact bound) IsTidiedMove start N
 
 -- a member of which no move is allowed
-pub record IsSimplificationEnd (metric : Metric) (exact : NetValue) (bound : ℕ) (N : NetValue) : Type 0 where
+pub record IsSimplificationEndFrom (metric : Metric) (exact : NetValue) (bound : ℕ)
+    (begin N : NetValue) : Type 0 where
   pub start : NetValue
-  pub tidied : IsTidiedFrom exact start
+  pub tidied : IsTidiedFrom begin start
   pub end : IsChainEnd moves_of (IsAllowedMove metric exact bound) IsTidiedMove start N
+
+-- the chain that begins with the exact net itself, and its end
+abbrev pub IsInSimplification : Metric → NetValue → ℕ → NetValue → Type 0
+IsInSimplification metric exact bound = IsInSimplificationFrom metric exact bound exact
+
+abbrev pub IsSimplificationEnd : Metric → NetValue → ℕ → NetValue → Type 0
+IsSimplificationEnd metric exact bound = IsSimplificationEndFrom metric exact bound exact

@@ -1,4 +1,4 @@
--- The law about the simplifications of a net, the contract of a function without parameters.
+-- The laws about the simplifications of a net, each the contract of a function without parameters.
 use Rattle.std.specs.Prelude.{◌≡◌, ◌⊎◌, ℕ, ◌+◌, ◌<◌, ◌≤◌, Contains}
 use Rattle.semantics.specs.Net.{NetValue, literal_count, IsSound, IsSmall, HasSamePorts}
 use Rattle.semantics.specs.Error.{IsWithin}
@@ -9,17 +9,23 @@ use Rattle.chain_semantics.specs.Moves.{moves_of, moved}
 use Rattle.chain_semantics.specs.MoveLaws.{IsLoweredFrom}
 use Rattle.chain_semantics.specs.Tidy.{IsTidy}
 use Rattle.chain_semantics.specs.TidyLaws.{DoesNotGrow}
-use Rattle.chain_semantics.specs.Simplification.{IsAllowedMove, IsTidiedMove, IsInSimplification}
-use Rattle.chain_semantics.specs.Simplification.{IsSimplificationEnd}
+use Rattle.chain_semantics.specs.Simplification.{IsAllowedMove, IsTidiedMove, IsBeginning}
+use Rattle.chain_semantics.specs.Simplification.{IsInSimplification, IsSimplificationEnd}
+use Rattle.chain_semantics.specs.Simplification.{IsInSimplificationFrom, IsSimplificationEndFrom}
 
--- a sound tidy net that has the ports of the exact one, no larger counts, and an error within the bound
-pub record IsSimplifiedNet (metric : Metric) (exact : NetValue) (bound : ℕ) (N : NetValue) : Type 0 where
+-- a sound tidy net that has the ports of the exact one, no larger counts than the beginning, and an error
+-- within the bound
+pub record IsSimplifiedNetFrom (metric : Metric) (exact : NetValue) (bound : ℕ)
+    (begin N : NetValue) : Type 0 where
   pub sound : IsSound N
   pub tidy : IsTidy N
-  pub model : N.model ≡ exact.model
+  pub model : N.model ≡ begin.model
   pub ports : HasSamePorts exact N
-  pub no_growth : DoesNotGrow exact N
+  pub no_growth : DoesNotGrow begin N
   pub within : IsWithin metric exact bound N
+
+abbrev pub IsSimplifiedNet : Metric → NetValue → ℕ → NetValue → Type 0
+IsSimplifiedNet metric exact bound = IsSimplifiedNetFrom metric exact bound exact
 
 -- the first allowed move of a member, and what its net is tidied to
 pub record HasNext (metric : Metric) (exact : NetValue) (bound : ℕ) (N : NetValue) : Type 0 where
@@ -53,3 +59,31 @@ pub record SimplificationLaw : Type 0 where
       → (N : NetValue) × IsSimplificationEnd metric exact bound N
   pub only : (metric : Metric) (exact : NetValue) (bound : ℕ) (N M : NetValue)
       → IsSimplificationEnd metric exact bound N → IsSimplificationEnd metric exact bound M → N ≡ M
+
+-- The same of the chain from a beginning: each member is sound and tidy, keeps the bound, and does not grow
+-- from the beginning; the chain ends, at one net. A sound net is a beginning of its own chain.
+pub record BeginningLaw : Type 0 where
+  pub itself : (metric : Metric) (exact : NetValue) (bound : ℕ) → IsSound exact
+      → IsBeginning metric exact bound exact
+  pub members : (metric : Metric) (exact : NetValue) (bound : ℕ) (begin N : NetValue)
+      → IsBeginning metric exact bound begin → IsInSimplificationFrom metric exact bound begin N
+      → IsSimplifiedNetFrom metric exact bound begin N
+  pub small : (metric : Metric) (exact : NetValue) (bound : ℕ) (begin N : NetValue)
+      → IsBeginning metric exact bound begin → IsSmall begin
+      → IsInSimplificationFrom metric exact bound begin N → IsSmall N
+  pub goes_on : (metric : Metric) (exact : NetValue) (bound : ℕ) (begin N : NetValue)
+      → IsBeginning metric exact bound begin → IsInSimplificationFrom metric exact bound begin N
+      → IsSimplificationEndFrom metric exact bound begin N ⊎ HasNext metric exact bound N
+  pub falls : (metric : Metric) (exact : NetValue) (bound : ℕ) (begin N M : NetValue) (move : Move)
+      → IsBeginning metric exact bound begin → IsInSimplificationFrom metric exact bound begin N
+      → IsFirstAllowed (IsAllowedMove metric exact bound N) (moves_of N) move → IsTidiedMove N move M
+      → literal_count M < literal_count N
+  pub steps : (metric : Metric) (exact : NetValue) (bound : ℕ) (begin N : NetValue)
+      → IsBeginning metric exact bound begin → (h : IsInSimplificationFrom metric exact bound begin N)
+      → step_count N h.member + literal_count N ≤ literal_count begin
+  pub ends : (metric : Metric) (exact : NetValue) (bound : ℕ) (begin : NetValue)
+      → IsBeginning metric exact bound begin
+      → (N : NetValue) × IsSimplificationEndFrom metric exact bound begin N
+  pub only : (metric : Metric) (exact : NetValue) (bound : ℕ) (begin N M : NetValue)
+      → IsSimplificationEndFrom metric exact bound begin N
+      → IsSimplificationEndFrom metric exact bound begin M → N ≡ M
