@@ -14,9 +14,9 @@ use Rattle.chain_semantics.specs.Chain.IsInChain.{first, next}
 use Rattle.chain_semantics.specs.Moves.{depends_within, moves_of, moved}
 use Rattle.chain_semantics.specs.Tidy.{tidy_step}
 use Rattle.chain_semantics.specs.Tidy.IsReachedFrom.{start, next as reach}
-use Rattle.chain_semantics.specs.Simplification.{IsAllowedMove, IsSimplificationEnd}
+use Rattle.chain_semantics.specs.Simplification.{IsAllowedMove, IsSimplificationEnd, IsSimplificationEndFrom}
 use Rattle.chain_semantics.specs.SimplificationExamples.{carry_is_b}
-use Rattle.chain_semantics.proofs.Simplifications.{simplification_end-only}
+use Rattle.chain_semantics.proofs.Simplifications.{end_from-only}
 use Rattle.chain_semantics.proofs.simplification_examples.simplifications.Goals as goal
 
 Errs : NetValue → Bool → Bool → ℕ
@@ -84,8 +84,19 @@ within_one = record {
   };
 }
 
+-- the half adder whose sum is constant 0 is tidy
+from_a_beginning : IsSimplificationEndFrom (one_word Abs) half_adder 1 constant_sum carry_is_b
+unfolding tidy_step Allowed
+from_a_beginning = record {
+  start = constant_sum;
+  tidied = record { reached = start; tidy = refl };
+  end = record { member = next constant_sum carry_is_b (DropLiteral 1 0 0) first literal_goes (record { reached = reach start refl; tidy = refl }); none_allowed = none_goes };
+}
+
 pub returns : goal.returns
 returns c = record {
   within_one = within_one;
-  not_the_read_net = λ h. omega (arith, ap literal_count (simplification_end-only (one_word Abs) half_adder 1 half_adder carry_is_b h within_one));
+  not_the_read_net = λ h. omega (arith, ap literal_count (end_from-only (one_word Abs) half_adder 1 half_adder half_adder carry_is_b h within_one));
+  from_a_beginning = from_a_beginning;
+  not_the_beginning = λ h. omega (arith, ap literal_count (end_from-only (one_word Abs) half_adder 1 constant_sum constant_sum carry_is_b h from_a_beginning));
 }
