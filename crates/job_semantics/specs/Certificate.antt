@@ -1,5 +1,6 @@
--- The certificate that the five texts of a bundle are: ten clauses, tested in order. Source: this tool's own
--- bundles; that no error exceeds the maximum is shown by a refuted miter, as in equivalence checking by SAT.
+-- The certificate that the five texts of a bundle are: ten clauses, tested in order. The ninth of them refuses
+-- a net that is larger than the original, or allows it. Source: this tool's own bundles; that no error exceeds
+-- the maximum is shown by a refuted miter, as in equivalence checking by SAT.
 use Rattle.std.specs.Prelude.{◌≡◌, ℕ, ◌^◌, ◌<◌, ◌≤◌, Bool, IsTrue, nat_le, List, [], ◌∷◌, ◌++◌, length}
 use Rattle.std.specs.Prelude.{filter, Contains, Ok}
 use Rattle.std.specs.List.{AllByRecursion}
@@ -21,6 +22,8 @@ use Rattle.job_semantics.specs.declared.ending.Ending.{Ending}
 use Rattle.job_semantics.specs.declared.ending.Ending.TheVariants as file
 use Rattle.job_semantics.specs.declared.certificate_clause.Clause.{Clause}
 use Rattle.job_semantics.specs.declared.certificate_clause.Clause.TheVariants as clause
+use Rattle.job_semantics.specs.declared.growth.Growth.{Growth}
+use Rattle.job_semantics.specs.declared.growth.Growth.TheVariants.{Refused}
 use Rattle.job_semantics.specs.declared.version.Version.{Version}
 use Rattle.job_semantics.specs.declared.version.Version.TheVariants.{One, Two}
 use Rattle.outside_semantics.specs.Outside.{Held, FilesTold, WhereTold, bytes_of}
@@ -73,14 +76,18 @@ pub record IsRefutation (exact approx : NetValue) (metric : Metric) (maximum : �
   pub read : lrat_items (texts file.Log) ≡ Ok log
   pub refutes : Refutes (miter exact approx metric maximum).clauses log
 
--- the report's counts are those of the two nets, and none grew
-pub record AreCounts (exact approx : NetValue) (r : Report) : Type 0 where
+-- where growth is refused, the net has no more tables and no more literals than the original
+abbrev pub IsOfAllowedSize : Growth → NetValue → NetValue → Type 0
+IsOfAllowedSize growth exact approx = growth ≡ Refused
+    → (table_count approx ≤ table_count exact) × (literal_count approx ≤ literal_count exact)
+
+-- the report's counts are those of the two nets, and none grew where growth is refused
+pub record AreCounts (growth : Growth) (exact approx : NetValue) (r : Report) : Type 0 where
   pub old_tables : r.old_tables ≡ table_count exact
   pub new_tables : r.new_tables ≡ table_count approx
   pub old_literals : r.old_literals ≡ literal_count exact
   pub new_literals : r.new_literals ≡ literal_count approx
-  pub tables : table_count approx ≤ table_count exact
-  pub literals : literal_count approx ≤ literal_count exact
+  pub size : IsOfAllowedSize growth exact approx
 
 -- the moves that a version knows
 abbrev pub moves_in : Version → NetValue → List Move
@@ -105,26 +112,27 @@ OfReport exact metric bound texts P = (r : Report) × IsReport exact metric boun
 abbrev pub OfBoth : NetValue → Metric → ℕ → Texts → (NetValue → Report → Type 0) → Type 0
 OfBoth exact metric bound texts P = OfNet texts (λ M. OfReport exact metric bound texts (P M))
 
--- What each clause says. The net is as it was read, and need not be tidy.
-abbrev pub Holds : NetValue → Metric → ℕ → Texts → Clause → Type 0
-Holds exact metric bound texts clause.Netlist = (M : NetValue) × IsNetlist texts M
-Holds exact metric bound texts clause.Ports = OfNet texts (HasSamePorts exact)
-Holds exact metric bound texts clause.ReportForm = (r : Report) × IsReport exact metric bound texts r
-Holds exact metric bound texts clause.MaximumWithin
+-- What each clause says. The net is as it was read, and need not be tidy. The clause on the counts alone asks
+-- whether growth is allowed.
+abbrev pub Holds : Growth → NetValue → Metric → ℕ → Texts → Clause → Type 0
+Holds growth exact metric bound texts clause.Netlist = (M : NetValue) × IsNetlist texts M
+Holds growth exact metric bound texts clause.Ports = OfNet texts (HasSamePorts exact)
+Holds growth exact metric bound texts clause.ReportForm = (r : Report) × IsReport exact metric bound texts r
+Holds growth exact metric bound texts clause.MaximumWithin
     = OfReport exact metric bound texts (λ r. r.maximum ≤ bound)
-Holds exact metric bound texts clause.Witness
+Holds growth exact metric bound texts clause.Witness
     = OfReport exact metric bound texts
     (λ r. (pool : List (List Bool)) × AreVectors exact texts r.witness pool)
-Holds exact metric bound texts clause.Attained
+Holds growth exact metric bound texts clause.Attained
     = OfBoth exact metric bound texts (λ M r. net_error metric exact M r.witness ≡ r.maximum)
-Holds exact metric bound texts clause.Formula
+Holds growth exact metric bound texts clause.Formula
     = OfBoth exact metric bound texts
     (λ M r. texts file.Formula ≡ dimacs_text (miter exact M metric r.maximum))
-Holds exact metric bound texts clause.Log
+Holds growth exact metric bound texts clause.Log
     = OfBoth exact metric bound texts
     (λ M r. (log : List LogItem) × IsRefutation exact M metric r.maximum texts log)
-Holds exact metric bound texts clause.Counts = OfBoth exact metric bound texts (AreCounts exact)
-Holds exact metric bound texts clause.Minimal
+Holds growth exact metric bound texts clause.Counts = OfBoth exact metric bound texts (AreCounts growth exact)
+Holds growth exact metric bound texts clause.Minimal
     = OfBoth exact metric bound texts (IsShownMinimal exact metric bound texts)
 
 abbrev pub certificate_clauses : List Clause
@@ -132,18 +140,24 @@ certificate_clauses =
     clause.Netlist ∷ clause.Ports ∷ clause.ReportForm ∷ clause.MaximumWithin ∷ clause.Witness
     ∷ clause.Attained ∷ clause.Formula ∷ clause.Log ∷ clause.Counts ∷ clause.Minimal ∷ []
 
--- the texts are a certificate for the original net, the metric and the bound
+-- the texts are a certificate for the original net, the metric and the bound, of a net that may be larger or
+-- may not
+abbrev pub CertifiesWith : Growth → NetValue → Metric → ℕ → Texts → Type 0
+CertifiesWith growth exact metric bound texts
+    = AllByRecursion (Holds growth exact metric bound texts) certificate_clauses
+
+-- the texts are a certificate of a net that is not larger than the original
 abbrev pub Certifies : NetValue → Metric → ℕ → Texts → Type 0
-Certifies exact metric bound texts = AllByRecursion (Holds exact metric bound texts) certificate_clauses
+Certifies = CertifiesWith Refused
 
 -- the clauses before c hold, and c does not
-pub record IsFirstFailing (exact : NetValue) (metric : Metric) (bound : ℕ) (texts : Texts)
+pub record IsFirstFailing (growth : Growth) (exact : NetValue) (metric : Metric) (bound : ℕ) (texts : Texts)
     (c : Clause) : Type 0 where
   pub before : List Clause
   pub after : List Clause
   pub order : certificate_clauses ≡ before ++ c ∷ after
-  pub hold : AllByRecursion (Holds exact metric bound texts) before
-  pub fails : ¬ Holds exact metric bound texts c
+  pub hold : AllByRecursion (Holds growth exact metric bound texts) before
+  pub fails : ¬ Holds growth exact metric bound texts c
 
 -- the number of a clause, from 1
 abbrev pub clause_number : Clause → ℕ
@@ -172,12 +186,12 @@ needed_endings c = filter (λ ending. nat_le (clause_number (first_needing endin
     bundle_endings
 
 -- the file is needed for the verdict: where some clause fails first, that clause needs it
-abbrev pub IsNeededFor : NetValue → Metric → ℕ → Texts → Ending → Type 0
-IsNeededFor exact metric bound texts ending = (c : Clause) → IsFirstFailing exact metric bound texts c
-    → Contains (needed_endings c) ending
+abbrev pub IsNeededFor : Growth → NetValue → Metric → ℕ → Texts → Ending → Type 0
+IsNeededFor growth exact metric bound texts ending =
+    (c : Clause) → IsFirstFailing growth exact metric bound texts c → Contains (needed_endings c) ending
 
 -- each file that is needed for the verdict is held
-abbrev pub AreNeededHeld : NetValue → Metric → ℕ → Bytes → Held → Type 0
-AreNeededHeld exact metric bound stem held =
-    (ending : Ending) → IsNeededFor exact metric bound (texts_of held stem) ending
+abbrev pub AreNeededHeld : Growth → NetValue → Metric → ℕ → Bytes → Held → Type 0
+AreNeededHeld growth exact metric bound stem held =
+    (ending : Ending) → IsNeededFor growth exact metric bound (texts_of held stem) ending
     → IsTrue (contains_key held (bundle_name stem ending))

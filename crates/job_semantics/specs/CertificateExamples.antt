@@ -5,6 +5,7 @@ use Rattle.semantics.specs.declared.metric.Kind.TheVariants.{Abs}
 use Rattle.semantics.specs.Error.{one_word}
 use Rattle.semantics.specs.Examples.{text, half_adder}
 use Rattle.job_semantics.specs.declared.ending.Ending.TheVariants as file
+use Rattle.job_semantics.specs.declared.growth.Growth.TheVariants.{Refused, Allowed}
 use Rattle.job_semantics.specs.declared.certificate_clause.Clause.TheVariants as clause
 use Rattle.job_semantics.specs.Certificate.{Texts, Holds, IsFirstFailing, certificate_clauses, clause_number}
 use Rattle.job_semantics.specs.Certificate.{needed_endings}
@@ -53,48 +54,63 @@ abbrev pub both_constant_texts : Texts
 both_constant_texts = texts_of_three both_constant_netlist both_constant_vectors both_constant_report
 
 pub record HoldingExamples : Type 0 where
-  pub netlist : Holds half_adder (one_word Abs) 3 both_constant_texts clause.Netlist
-  pub ports : Holds half_adder (one_word Abs) 3 both_constant_texts clause.Ports
-  pub report : Holds half_adder (one_word Abs) 3 both_constant_texts clause.ReportForm
-  pub within : Holds half_adder (one_word Abs) 3 both_constant_texts clause.MaximumWithin
-  pub witness : Holds half_adder (one_word Abs) 3 both_constant_texts clause.Witness
-  pub attained : Holds half_adder (one_word Abs) 3 both_constant_texts clause.Attained
-  pub counts : Holds half_adder (one_word Abs) 3 both_constant_texts clause.Counts
-  pub minimal : Holds half_adder (one_word Abs) 3 both_constant_texts clause.Minimal
+  pub netlist : Holds Refused half_adder (one_word Abs) 3 both_constant_texts clause.Netlist
+  pub ports : Holds Refused half_adder (one_word Abs) 3 both_constant_texts clause.Ports
+  pub report : Holds Refused half_adder (one_word Abs) 3 both_constant_texts clause.ReportForm
+  pub within : Holds Refused half_adder (one_word Abs) 3 both_constant_texts clause.MaximumWithin
+  pub witness : Holds Refused half_adder (one_word Abs) 3 both_constant_texts clause.Witness
+  pub attained : Holds Refused half_adder (one_word Abs) 3 both_constant_texts clause.Attained
+  pub counts : Holds Refused half_adder (one_word Abs) 3 both_constant_texts clause.Counts
+  pub minimal : Holds Refused half_adder (one_word Abs) 3 both_constant_texts clause.Minimal
 
 -- the first clause that fails, for texts of which one is damaged; clauses behind it may fail too
 pub record FailingExamples : Type 0 where
-  pub no_formula : IsFirstFailing half_adder (one_word Abs) 3 both_constant_texts clause.Formula
-  pub other_bound : IsFirstFailing half_adder (one_word Abs) 2 both_constant_texts clause.ReportForm
-  pub no_netlist : IsFirstFailing half_adder (one_word Abs) 3
+  pub no_formula : IsFirstFailing Refused half_adder (one_word Abs) 3 both_constant_texts clause.Formula
+  pub other_bound : IsFirstFailing Refused half_adder (one_word Abs) 2 both_constant_texts clause.ReportForm
+  pub no_netlist : IsFirstFailing Refused half_adder (one_word Abs) 3
       (texts_of_three [] both_constant_vectors both_constant_report) clause.Netlist
-  pub other_ports : IsFirstFailing half_adder (one_word Abs) 3
+  pub other_ports : IsFirstFailing Refused half_adder (one_word Abs) 3
       (texts_of_three (netlist_with (codes ".inputs b a")) both_constant_vectors both_constant_report)
       clause.Ports
   pub large_maximum :
-      IsFirstFailing half_adder (one_word Abs) 3
+      IsFirstFailing Refused half_adder (one_word Abs) 3
       (texts_of_three both_constant_netlist both_constant_vectors
       (report_with (codes "maximum 4") (codes "literals 6 0") (codes "minimal no")))
       clause.MaximumWithin
   pub other_first_line :
-      IsFirstFailing half_adder (one_word Abs) 3
+      IsFirstFailing Refused half_adder (one_word Abs) 3
       (texts_of_three both_constant_netlist (text (codes "00" ∷ codes "11" ∷ [])) both_constant_report)
       clause.Witness
   pub no_last_line_end :
-      IsFirstFailing half_adder (one_word Abs) 3
+      IsFirstFailing Refused half_adder (one_word Abs) 3
       (texts_of_three both_constant_netlist (text (codes "11" ∷ []) ++ codes "00") both_constant_report)
       clause.Witness
   pub other_maximum :
-      IsFirstFailing half_adder (one_word Abs) 3
+      IsFirstFailing Refused half_adder (one_word Abs) 3
       (texts_of_three both_constant_netlist both_constant_vectors
       (report_with (codes "maximum 0") (codes "literals 6 0") (codes "minimal no")))
       clause.Attained
   pub other_literals :
-      Holds half_adder (one_word Abs) 3
+      Holds Refused half_adder (one_word Abs) 3
       (texts_of_three both_constant_netlist both_constant_vectors
       (report_with (codes "maximum 2") (codes "literals 6 1") (codes "minimal no")))
       clause.Counts
       → ⊥
+
+-- the half adder whose carry reads the sum too: seven literals, where the original has six
+abbrev pub larger_netlist : Bytes
+larger_netlist =
+    text (codes ".model ha" ∷ codes ".inputs a b" ∷ codes ".outputs s c" ∷ codes ".names a b s"
+    ∷ codes "10 1" ∷ codes "01 1" ∷ codes ".names a b s c" ∷ codes "110 1" ∷ codes ".end" ∷ [])
+
+abbrev pub larger_texts : Texts
+larger_texts = texts_of_three larger_netlist (text (codes "00" ∷ []))
+    (text (codes "salsa 2" ∷ codes "metric abs" ∷ codes "bound 0" ∷ codes "maximum 0" ∷ codes "witness 00"
+    ∷ codes "tables 2 2" ∷ codes "literals 6 7" ∷ codes "minimal no" ∷ []))
+
+pub record GrowthExamples : Type 0 where
+  pub allowed : Holds Allowed half_adder (one_word Abs) 0 larger_texts clause.Counts
+  pub refused : Holds Refused half_adder (one_word Abs) 0 larger_texts clause.Counts → ⊥
 
 -- the half adder with its sum constant and its carry a copy of b; no move of this net keeps the bound 1
 abbrev pub carry_copied_netlist : Bytes
@@ -116,13 +132,13 @@ carry_copied_texts vectors = texts_of_three carry_copied_netlist vectors carry_c
 -- The clause on further moves: with all vectors each move is broken; with the witness alone some move is not;
 -- a net without moves needs no vector.
 pub record MinimalExamples : Type 0 where
-  pub each_broken : Holds half_adder (one_word Abs) 1
+  pub each_broken : Holds Refused half_adder (one_word Abs) 1
       (carry_copied_texts (text (codes "10" ∷ codes "00" ∷ codes "10" ∷ codes "01" ∷ codes "11" ∷ [])))
       clause.Minimal
-  pub witness_alone : Holds half_adder (one_word Abs) 1
+  pub witness_alone : Holds Refused half_adder (one_word Abs) 1
       (carry_copied_texts (text (codes "10" ∷ []))) clause.Minimal → ⊥
   pub without_moves :
-      Holds half_adder (one_word Abs) 3
+      Holds Refused half_adder (one_word Abs) 3
       (texts_of_three both_constant_netlist both_constant_vectors
       (report_with (codes "maximum 2") (codes "literals 6 0") (codes "minimal yes")))
       clause.Minimal

@@ -1,27 +1,41 @@
 -- The laws about the words of jobs and about checks of told files, each the contract of a function without
 -- parameters.
-use Rattle.std.specs.Prelude.{◌≡◌, ◌⊎◌, ℕ, IsTrue, Option, Some, List}
+use Rattle.std.specs.Prelude.{◌≡◌, ◌⊎◌, ℕ, ◌≤◌, IsTrue, Option, Some, List, [], ◌∷◌, codes}
 use Rattle.semantics.specs.Texts.{Bytes}
-use Rattle.semantics.specs.Net.{NetValue}
+use Rattle.semantics.specs.Net.{NetValue, table_count, literal_count}
 use Rattle.semantics.specs.declared.metric.Metric.{Metric}
 use Rattle.outside_semantics.specs.Outside.{Held, FilesTold, SinkTold, WhereTold, bytes_of}
 use Rattle.proof_semantics.specs.Queries.{SpentValue}
-use Rattle.job_semantics.specs.Job.{synth, check, flat, aag, blif, trim, are_file_words}
-use Rattle.job_semantics.specs.Job.{are_conversion_words, are_trim_words, job_of}
+use Rattle.job_semantics.specs.declared.growth.Growth.{Growth}
+use Rattle.job_semantics.specs.declared.growth.Growth.TheVariants.{Allowed}
+use Rattle.job_semantics.specs.declared.task.Task.{Task}
+use Rattle.job_semantics.specs.Job.{synth, against, check, confirm, flat, aag, blif, trim, are_file_words}
+use Rattle.job_semantics.specs.Job.{are_second_words, are_conversion_words, are_trim_words, job_of}
 use Rattle.job_semantics.specs.Input.{IsReadAs}
-use Rattle.job_semantics.specs.Certificate.{texts_of, Certifies}
+use Rattle.job_semantics.specs.Certificate.{texts_of, CertifiesWith}
 use Rattle.job_semantics.specs.Synthesis.{SynthDone}
 use Rattle.job_semantics.specs.Checking.{AreCheckFilesHeld, CheckEnd, IsQuietCheck, AreShort, IsVerifiedEnd}
-use Rattle.job_semantics.specs.Checking.{IsEndlessEnd, IsVerifiedOrNoMemory, Verifies}
+use Rattle.job_semantics.specs.Checking.{IsEndlessEnd, IsVerifiedOrNoMemory, VerifiesWith, Verifies}
+use Rattle.job_semantics.specs.SecondNetlist.{TaskDone}
 
--- Where words are a synth or a check job, IN and STEM are not empty, and IN is no file of the bundle. Where
--- they are a conversion, IN and OUT are not empty and differ. Where they are a trim job, IN, STEM and OUT are
+-- Where words are a synth, a check or a confirm job, IN and STEM are not empty, and IN is no file of the
+-- bundle. Where they are a certify or a refine job, the same holds of the second netlist. To refine IN itself
+-- is to simplify it: the words `refine` with one name twice are the job of `synth`. Where they are a conversion, IN and OUT are not empty and differ. Where they are a trim job, IN, STEM and OUT are
 -- as in both of these, and OUT is no file of the bundle.
 pub record FileWordsLaw : Type 0 where
   pub synthesis : (words : List Bytes) (metric : Metric) (bound conflicts : ℕ) (input stem : Bytes)
       → job_of words ≡ Some (synth metric bound conflicts input stem) → IsTrue (are_file_words input stem)
   pub checking : (words : List Bytes) (metric : Metric) (bound : ℕ) (input stem : Bytes)
       → job_of words ≡ Some (check metric bound input stem) → IsTrue (are_file_words input stem)
+  pub confirming : (words : List Bytes) (metric : Metric) (bound : ℕ) (input stem : Bytes)
+      → job_of words ≡ Some (confirm metric bound input stem) → IsTrue (are_file_words input stem)
+  pub tasks : (words : List Bytes) (task : Task) (metric : Metric) (bound conflicts : ℕ)
+      (input second stem : Bytes)
+      → job_of words ≡ Some (against task metric bound conflicts input second stem)
+      → IsTrue (are_second_words input second stem)
+  pub refined_itself : (metric bound conflicts input stem : Bytes)
+      → job_of (codes "refine" ∷ metric ∷ bound ∷ conflicts ∷ input ∷ input ∷ stem ∷ [])
+      ≡ job_of (codes "synth" ∷ metric ∷ bound ∷ conflicts ∷ input ∷ stem ∷ [])
   pub flat_conversion : (words : List Bytes) (input output : Bytes)
       → job_of words ≡ Some (flat input output) → IsTrue (are_conversion_words input output)
   pub conversion : (words : List Bytes) (input output : Bytes)
@@ -31,27 +45,27 @@ pub record FileWordsLaw : Type 0 where
   pub trimming : (words : List Bytes) (metric : Metric) (bound : ℕ) (input stem output : Bytes)
       → job_of words ≡ Some (trim metric bound input stem output) → IsTrue (are_trim_words input stem output)
 
--- A check that is verified found a certificate. A quiet check of files that are told, whose texts are a
+-- A check, or a confirmation, that is verified found a certificate. A quiet one of files that are told, whose texts are a
 -- certificate for the net of IN, is verified unless memory is wanting or a file goes on without an end. Where
 -- the needed files are held, a file goes on without an end only if some file of the bundle has at least 2^40
 -- bytes.
 pub record CheckedFilesLaw : Type 0 where
-  pub only_certificates : {metric : Metric} {bound : ℕ} {input stem : Bytes} {old new : FilesTold}
+  pub only_certificates : {growth : Growth} {metric : Metric} {bound : ℕ} {input stem : Bytes} {old new : FilesTold}
       {said says : SinkTold}
-      (end : CheckEnd metric bound input stem old new said says) → IsVerifiedEnd end
+      (end : CheckEnd growth metric bound input stem old new said says) → IsVerifiedEnd end
       → WhereTold old new (λ a b. (exact : NetValue) → IsReadAs (bytes_of a input) exact
-      → Certifies exact metric bound (texts_of b stem))
-  pub each_certificate : {metric : Metric} {bound : ℕ} {input stem : Bytes} {old new : FilesTold}
+      → CertifiesWith growth exact metric bound (texts_of b stem))
+  pub each_certificate : {growth : Growth} {metric : Metric} {bound : ℕ} {input stem : Bytes} {old new : FilesTold}
       {said says : SinkTold}
-      (end : CheckEnd metric bound input stem old new said says) (a : Held) (exact : NetValue)
+      (end : CheckEnd growth metric bound input stem old new said says) (a : Held) (exact : NetValue)
       → old.held ≡ Some a
-      → IsReadAs (bytes_of a input) exact → Certifies exact metric bound (texts_of a stem)
-      → IsQuietCheck metric bound input stem old new said says
+      → IsReadAs (bytes_of a input) exact → CertifiesWith growth exact metric bound (texts_of a stem)
+      → IsQuietCheck growth metric bound input stem old new said says
       → IsVerifiedOrNoMemory end ⊎ IsEndlessEnd end
-  pub with_an_end : {metric : Metric} {bound : ℕ} {input stem : Bytes} {old new : FilesTold}
+  pub with_an_end : {growth : Growth} {metric : Metric} {bound : ℕ} {input stem : Bytes} {old new : FilesTold}
       {said says : SinkTold}
-      (end : CheckEnd metric bound input stem old new said says) (a : Held) → old.held ≡ Some a
-      → AreCheckFilesHeld metric bound input stem a
+      (end : CheckEnd growth metric bound input stem old new said says) (a : Held) → old.held ≡ Some a
+      → AreCheckFilesHeld growth metric bound input stem a
       → AreShort stem a → ¬ IsEndlessEnd end
 
 -- Two runs joined: a synthesis that is done, over files that are told, leaves a bundle that verifies.
@@ -60,3 +74,15 @@ JoinedRunsLaw = (metric : Metric) (bound limit : ℕ) (input stem : Bytes) (spen
     (old new : FilesTold) (said says : SinkTold)
     → IsTrue (are_file_words input stem) → SynthDone metric bound limit input stem spent old new said says
     → WhereTold old new (λ a b. Verifies metric bound input stem b)
+
+-- So does a task that is done, over files that are told: what it leaves is confirmed and, where its net is not
+-- larger than the original, verifies.
+abbrev pub JoinedTaskLaw : Type 0
+JoinedTaskLaw = (task : Task) (metric : Metric) (bound limit : ℕ) (input second stem : Bytes)
+    (spent : Option SpentValue) (old new : FilesTold) (said says : SinkTold)
+    → IsTrue (are_file_words input stem)
+    → (done : TaskDone task metric bound limit input second stem spent old new said says)
+    → WhereTold old new (λ a b. VerifiesWith Allowed metric bound input stem b
+    × (table_count done.written.result.net ≤ table_count done.exact
+    → literal_count done.written.result.net ≤ literal_count done.exact
+    → Verifies metric bound input stem b))

@@ -5,9 +5,11 @@ use Rattle.semantics.specs.declared.metric.Kind.TheVariants.{Abs, Rel, Ham, Sabs
 use Rattle.semantics.specs.Error.{one_word, in_words}
 use Rattle.semantics.specs.Vectors.{all_vectors}
 use Rattle.semantics.specs.Examples.{text, half_adder, both_constant, constant_one}
+use Rattle.job_semantics.specs.declared.task.Task.TheVariants.{Certify, Refine}
 use Rattle.job_semantics.specs.declared.version.Version.TheVariants.{One, Two}
 use Rattle.job_semantics.specs.Report.{report_text, report_of, vectors_text}
-use Rattle.job_semantics.specs.Job.{synth, check, demo, flat, aag, blif, trim, metric_of, job_of}
+use Rattle.job_semantics.specs.Job.{synth, against, check, confirm, demo, flat, aag, blif, trim}
+use Rattle.job_semantics.specs.Job.{metric_of, job_of}
 
 pub record ReportExamples : Type 0 where
   pub both_constant_report :
@@ -64,6 +66,10 @@ synth_words metric bound conflicts input stem = codes "synth" ∷ metric ∷ bou
 abbrev pub trim_words : List ℕ → List ℕ → List ℕ → List Bytes
 trim_words input stem output = codes "trim" ∷ codes "sabs" ∷ codes "7" ∷ input ∷ stem ∷ output ∷ []
 
+abbrev pub task_words : List ℕ → List ℕ → List ℕ → List ℕ → List Bytes
+task_words task input second stem
+    = task ∷ codes "abs" ∷ codes "3" ∷ codes "10" ∷ input ∷ second ∷ stem ∷ []
+
 pub record JobExamples : Type 0 where
   pub no_words : job_of [] ≡ None
   pub other_word : job_of (codes "--help" ∷ []) ≡ None
@@ -115,3 +121,18 @@ pub record JobExamples : Type 0 where
   pub trimmed_into_the_bundle : job_of (trim_words (codes "a") (codes "b") (codes "b.lrat")) ≡ None
   pub trimmed_from_the_bundle : job_of (trim_words (codes "b.blif") (codes "b") (codes "c")) ≡ None
   pub trimmed_into_nothing : job_of (trim_words (codes "a") (codes "b") []) ≡ None
+  pub a_certify : job_of (task_words (codes "certify") (codes "a") (codes "b") (codes "c"))
+      ≡ Some (against Certify (one_word Abs) 3 10 (codes "a") (codes "b") (codes "c"))
+  pub a_refine : job_of (task_words (codes "refine") (codes "a") (codes "b") (codes "c"))
+      ≡ Some (against Refine (one_word Abs) 3 10 (codes "a") (codes "b") (codes "c"))
+  pub certified_itself : job_of (task_words (codes "certify") (codes "a") (codes "a") (codes "c"))
+      ≡ Some (against Certify (one_word Abs) 3 10 (codes "a") (codes "a") (codes "c"))
+  pub refined_itself : job_of (task_words (codes "refine") (codes "a") (codes "a") (codes "c"))
+      ≡ Some (synth (one_word Abs) 3 10 (codes "a") (codes "c"))
+  pub certified_from_the_bundle : job_of
+      (task_words (codes "certify") (codes "a") (codes "c.blif") (codes "c")) ≡ None
+  pub refined_against_the_bundle : job_of
+      (task_words (codes "refine") (codes "c.wit") (codes "a") (codes "c")) ≡ None
+  pub no_second : job_of (task_words (codes "refine") (codes "a") [] (codes "c")) ≡ None
+  pub a_confirm : job_of (codes "confirm" ∷ codes "ham" ∷ codes "7" ∷ codes "a" ∷ codes "b" ∷ [])
+      ≡ Some (confirm (one_word Ham) 7 (codes "a") (codes "b"))

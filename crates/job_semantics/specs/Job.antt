@@ -10,11 +10,17 @@ use Rattle.semantics.specs.declared.metric.Metric.{Metric}
 use Rattle.semantics.specs.declared.metric.Kind.{Kind}
 use Rattle.semantics.specs.declared.metric.Kind.TheVariants.{Abs, Rel, Ham, Sabs}
 use Rattle.semantics.specs.declared.limits.TheConstants.{MOST_OUTPUTS, LARGEST_ERROR}
+use Rattle.job_semantics.specs.declared.task.Task.{Task}
+use Rattle.job_semantics.specs.declared.task.Task.TheVariants.{Certify, Refine}
 use Rattle.job_semantics.specs.Endings.{is_bundle_name}
 
 pub data Job : Type 0 where
   synth : Metric → (bound conflicts : ℕ) → (input stem : Bytes) → Job
+  -- a second netlist is certified or refined against the first
+  against : Task → Metric → (bound conflicts : ℕ) → (input second stem : Bytes) → Job
   check : Metric → (bound : ℕ) → (input stem : Bytes) → Job
+  -- a check that allows a net that is larger than the original
+  confirm : Metric → (bound : ℕ) → (input stem : Bytes) → Job
   demo : (width bound conflicts : ℕ) → Job
   -- a hierarchy of models is turned into one flat net
   flat : (input output : Bytes) → Job
@@ -85,6 +91,10 @@ are_file_words input stem = not (is_empty_word input)
 abbrev pub is_output_word : Bytes → Bytes → Bool
 is_output_word input output = not (is_empty_word output) && not (bytes_eq input output)
 
+-- IN, the name of the second netlist, and STEM: neither name is a file of the bundle
+abbrev pub are_second_words : Bytes → Bytes → Bytes → Bool
+are_second_words input second stem = are_file_words input stem && are_file_words second stem
+
 -- IN and OUT of a conversion
 abbrev pub are_conversion_words : Bytes → Bytes → Bool
 are_conversion_words input output = not (is_empty_word input) && is_output_word input output
@@ -102,12 +112,31 @@ synth_of (m ∷ b ∷ c ∷ input ∷ stem ∷ []) = do
   if are_file_words input stem then Some (synth metric bound conflicts input stem) else None
 synth_of _ = None
 
-abbrev pub check_of : List Bytes → Option Job
-check_of (m ∷ b ∷ input ∷ stem ∷ []) = do
+-- the job of a task and a second netlist; to refine IN itself is to simplify it
+abbrev pub task_job : Task → Metric → (bound conflicts : ℕ) → (input second stem : Bytes) → Job
+task_job Certify metric bound conflicts input second stem
+    = against Certify metric bound conflicts input second stem
+task_job Refine metric bound conflicts input second stem =
+    if bytes_eq input second then synth metric bound conflicts input stem
+    else against Refine metric bound conflicts input second stem
+
+abbrev pub task_of : Task → List Bytes → Option Job
+task_of task (m ∷ b ∷ c ∷ input ∷ second ∷ stem ∷ []) = do
   metric ← metric_of m
   bound ← bound_of b
-  if are_file_words input stem then Some (check metric bound input stem) else None
-check_of _ = None
+  conflicts ← conflicts_of c
+  if are_second_words input second stem
+  then Some (task_job task metric bound conflicts input second stem)
+  else None
+task_of task _ = None
+
+-- the job of a check or of a confirmation
+abbrev pub check_of : (Metric → ℕ → Bytes → Bytes → Job) → List Bytes → Option Job
+check_of job (m ∷ b ∷ input ∷ stem ∷ []) = do
+  metric ← metric_of m
+  bound ← bound_of b
+  if are_file_words input stem then Some (job metric bound input stem) else None
+check_of job _ = None
 
 abbrev pub demo_of : List Bytes → Option Job
 demo_of (w ∷ b ∷ c ∷ []) = do
@@ -133,10 +162,13 @@ unfoldable pub job_of : List Bytes → Option Job
 job_of [] = None
 job_of (command ∷ words) =
     if bytes_eq command (codes "synth") then synth_of words
-    else (if bytes_eq command (codes "check") then check_of words
+    else (if bytes_eq command (codes "certify") then task_of Certify words
+    else (if bytes_eq command (codes "refine") then task_of Refine words
+    else (if bytes_eq command (codes "check") then check_of check words
+    else (if bytes_eq command (codes "confirm") then check_of confirm words
     else (if bytes_eq command (codes "demo") then demo_of words
     else (if bytes_eq command (codes "flat") then conversion_of flat words
     else (if bytes_eq command (codes "aag") then conversion_of aag words
     else (if bytes_eq command (codes "blif") then conversion_of blif words
     else (if bytes_eq command (codes "trim") then trim_of words
-    else None))))))
+    else None)))))))))

@@ -19,4 +19,6 @@ pub mod DemoLaws
 pub mod DemoExamples
 pub mod Demonstration
 pub mod Headline
+pub mod SecondNetlist
+pub mod SecondHeadline
 pub mod VersionExamples

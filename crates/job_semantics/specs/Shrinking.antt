@@ -1,4 +1,4 @@
--- What the search along the chain of simplifications comes to within a limit of conflicts for each query.
+-- What the search along a chain of simplifications comes to within a limit of conflicts for each query.
 -- Source: SALSA; the limit and the vectors that are kept are this tool's own.
 use Rattle.std.specs.Prelude.{◌≡◌, ◌≢◌, ℕ, ◌<◌, ◌≤◌, Bool, Option, MatchOption, List, [], ◌∷◌, ◌++◌, length}
 use Rattle.std.specs.Prelude.{slice_index_or}
@@ -10,7 +10,7 @@ use Rattle.semantics.specs.Vectors.{all_vectors}
 use Rattle.chain_semantics.specs.declared.moves.Move.{Move}
 use Rattle.chain_semantics.specs.Moves.{moves_of, moved}
 use Rattle.chain_semantics.specs.Minimality.{AreBrokenBySome, IsMinimalBy}
-use Rattle.chain_semantics.specs.Simplification.{IsInSimplification, IsSimplificationEnd}
+use Rattle.chain_semantics.specs.Simplification.{IsInSimplificationFrom, IsSimplificationEndFrom}
 use Rattle.proof_semantics.specs.Queries.{SpentValue, IsSpentQuery}
 
 -- a member of the chain, the vectors that broke moves, and the spent query, where one was spent
@@ -37,17 +37,18 @@ pub record IsSpentMove (metric : Metric) (exact : NetValue) (bound limit : ℕ) 
   pub net : q.net ≡ moved N move
   pub broken : AreBrokenBySome metric exact bound N pool before
 
--- the end of the chain, each move of which is broken by a vector
-pub record IsShownEnd (metric : Metric) (exact : NetValue) (bound : ℕ) (N : NetValue)
+-- the end of the chain from a beginning, each move of which is broken by a vector
+pub record IsShownEnd (metric : Metric) (exact : NetValue) (bound : ℕ) (begin N : NetValue)
     (pool : List (List Bool)) : Type 0 where
-  pub end : IsSimplificationEnd metric exact bound N
+  pub end : IsSimplificationEndFrom metric exact bound begin N
   pub minimal : IsMinimalBy metric exact bound N pool
 
--- The net is a member of the chain, and its end unless a query was spent. The vectors are of the inputs'
--- width and differ pairwise; with at most eight inputs they are all vectors in counting order.
-pub record IsShrinking (metric : Metric) (exact : NetValue) (bound limit : ℕ) (s : Shrinking) : Type 0 where
-  pub member : IsInSimplification metric exact bound s.net
-  pub outcome : MatchOption s.spent (IsShownEnd metric exact bound s.net s.pool)
+-- The net is a member of the chain from a beginning, and its end unless a query was spent. The vectors are of
+-- the inputs' width and differ pairwise; with at most eight inputs they are all vectors in counting order.
+pub record IsShrinking (metric : Metric) (exact : NetValue) (bound limit : ℕ) (begin : NetValue)
+    (s : Shrinking) : Type 0 where
+  pub member : IsInSimplificationFrom metric exact bound begin s.net
+  pub outcome : MatchOption s.spent (IsShownEnd metric exact bound begin s.net s.pool)
       (IsSpentMove metric exact bound limit s.net s.pool)
   pub widths : AllByRecursion (λ x. length x ≡ input_count exact) s.pool
   pub apart : AreApart s.pool

@@ -1,6 +1,6 @@
--- What a synth or a demo job comes to, by its answer. Source: SALSA, simplification within a bound on the
--- error.
-use Rattle.std.specs.Prelude.{◌≡◌, ◌⊎◌, ℕ, ◌≤◌, Bool, false, IsTrue, Option, Some, is_none, List}
+-- What a synth or a demo job comes to, by its answer, and what the bundle of every job holds. Source: SALSA,
+-- simplification within a bound on the error.
+use Rattle.std.specs.Prelude.{◌≡◌, ◌⊎◌, ℕ, ◌≤◌, Bool, false, IsTrue, Option, Some, None, is_none, List, []}
 use Rattle.std.specs.FinMap.{contains_key}
 use Rattle.semantics.specs.Texts.{Bytes}
 use Rattle.semantics.specs.Net.{NetValue, table_count, literal_count}
@@ -17,13 +17,16 @@ use Rattle.job_semantics.specs.declared.ending.Ending.TheVariants.{Report}
 use Rattle.job_semantics.specs.declared.version.Version.TheVariants.{Two}
 use Rattle.job_semantics.specs.Endings.{bundle_files, are_bundle_names_steady}
 use Rattle.job_semantics.specs.Bundle.{BundleValue, bundle_text}
-use Rattle.job_semantics.specs.Certificate.{OfBundle, OfReport, IsNetlist, Certifies}
+use Rattle.job_semantics.specs.Certificate.{OfBundle, OfReport, IsNetlist, IsOfAllowedSize, CertifiesWith}
+use Rattle.job_semantics.specs.declared.growth.Growth.{Growth}
+use Rattle.job_semantics.specs.declared.task.Task.{Task}
+use Rattle.job_semantics.specs.declared.task.Task.TheVariants.{Certify, Refine}
 use Rattle.job_semantics.specs.Shrinking.{Shrinking, IsShrinking}
 use Rattle.job_semantics.specs.Input.{IsReadAs, IsAccepted}
 
--- What a net is simplified to within a limit of conflicts for each query: the member of the chain that was
--- reached; the vectors that broke moves; the spent query, where a query was spent; the exact maximum error,
--- and an input that attains the maximum.
+-- What a net comes to within a limit of conflicts for each query: the net itself, or the member of the chain
+-- that was reached; the vectors that broke moves; the spent query, where a query was spent; the exact maximum
+-- error, and an input that attains the maximum.
 pub record Simplified : Type 0 where
   pub net : NetValue
   pub pool : List (List Bool)
@@ -34,16 +37,22 @@ pub record Simplified : Type 0 where
 abbrev pub shrinking_of : Simplified → Shrinking
 shrinking_of s = record { net = s.net; pool = s.pool; spent = s.spent }
 
--- The net is a member of the chain, and the end of the chain unless a query was spent. The maximum is the
--- greatest error, is attained at the witness and is within the bound; the log shows that no error exceeds the
--- maximum; no count of the net grew.
-pub record IsSimplifiedFrom (exact : NetValue) (metric : Metric) (bound limit : ℕ) (s : Simplified)
-    (log : List LogItem) : Type 0 where
-  pub search : IsShrinking metric exact bound limit (shrinking_of s)
+-- What is done with the beginning: it is certified as it is, without a vector; or it is refined along the
+-- chain that begins with it.
+abbrev pub IsTaskDone : Task → Metric → NetValue → ℕ → ℕ → NetValue → Shrinking → Type 0
+IsTaskDone Certify metric exact bound limit begin s = s ≡ record { net = begin; pool = []; spent = None }
+IsTaskDone Refine metric exact bound limit begin s = IsShrinking metric exact bound limit begin s
+
+-- The net is the beginning, or a member of its chain, and the end of the chain unless a query was spent. The
+-- maximum is the greatest error, is attained at the witness and is within the bound; the log shows that no
+-- error exceeds the maximum; no count of the net grew from the beginning.
+pub record IsSimplifiedFrom (task : Task) (exact begin : NetValue) (metric : Metric) (bound limit : ℕ)
+    (s : Simplified) (log : List LogItem) : Type 0 where
+  pub search : IsTaskDone task metric exact bound limit begin (shrinking_of s)
   pub most : IsMaximum metric exact s.net s.maximum s.witness log
   pub within : s.maximum ≤ bound
-  pub tables : table_count s.net ≤ table_count exact
-  pub literals : literal_count s.net ≤ literal_count exact
+  pub tables : table_count s.net ≤ table_count begin
+  pub literals : literal_count s.net ≤ literal_count begin
 
 -- The log refutes the formula and is a derivation over the formula; so no assignment satisfies the formula.
 pub record IsRefutedBy (f : Formula) (log : List LogItem) : Type 0 where
@@ -51,11 +60,15 @@ pub record IsRefutedBy (f : Formula) (log : List LogItem) : Type 0 where
   pub derivation : IsDerivation f log
   pub unsatisfiable : IsUnsatisfiable f.clauses
 
+-- whether the report says that no further move is allowed: where the net was refined and no query was spent
+abbrev pub is_shown_minimal : Task → Option SpentValue → Bool
+is_shown_minimal Certify spent = false
+is_shown_minimal Refine spent = is_none spent
+
 -- The bundle is of version 2. The formula says that some error exceeds the maximum. Behind the witness stand
--- the vectors that break moves. The report says that no further move is allowed exactly where no query was
--- spent.
-abbrev pub synth_bundle : NetValue → Metric → ℕ → Simplified → List LogItem → BundleValue
-synth_bundle exact metric bound s log = record {
+-- the vectors that break moves.
+abbrev pub synth_bundle : Task → NetValue → Metric → ℕ → Simplified → List LogItem → BundleValue
+synth_bundle task exact metric bound s log = record {
   version = Two;
   exact = exact;
   approx = s.net;
@@ -64,18 +77,18 @@ synth_bundle exact metric bound s log = record {
   maximum = s.maximum;
   witness = s.witness;
   pool = s.pool;
-  minimal = is_none s.spent;
+  minimal = is_shown_minimal task s.spent;
   goal = miter exact s.net metric s.maximum;
   log = log;
 }
 
--- the files of a synth job in the order in which they are written
-abbrev pub synth_files : NetValue → Metric → ℕ → Bytes → Simplified → List LogItem → List File
-synth_files exact metric bound stem s log
-    = bundle_files stem (bundle_text (synth_bundle exact metric bound s log))
+-- the files of a bundle in the order in which they are written
+abbrev pub synth_files : Task → NetValue → Metric → ℕ → Bytes → Simplified → List LogItem → List File
+synth_files task exact metric bound stem s log
+    = bundle_files stem (bundle_text (synth_bundle task exact metric bound s log))
 
-abbrev pub synth_report : NetValue → Metric → ℕ → Simplified → List LogItem → Bytes
-synth_report exact metric bound s log = bundle_text (synth_bundle exact metric bound s log) Report
+abbrev pub synth_report : Task → NetValue → Metric → ℕ → Simplified → List LogItem → Bytes
+synth_report task exact metric bound s log = bundle_text (synth_bundle task exact metric bound s log) Report
 
 -- P of the files at entry, where they are told and hold the name
 abbrev pub WhereHeld : FilesTold → Bytes → (Held → Type 0) → Type 0
@@ -95,40 +108,42 @@ pub record IsUntouched (input : Bytes) (old new : FilesTold) (said says : SinkTo
   pub still_told : WhereHeld old input (λ a. new.held ≡ Some a)
   pub sink : says ≡ said
 
--- The net was simplified, the files were written, and then the report was put to the sink; the texts of the
--- files are a certificate, and their report is of version 2.
-pub record BundleWritten (metric : Metric) (bound limit : ℕ) (exact : NetValue) (stem : Bytes)
-    (spent : Option SpentValue) (old new : FilesTold) (said says : SinkTold) : Type 0 where
+-- The task was done, the files were written, and then the report was put to the sink. The texts of the files
+-- are a certificate, by which the net may be larger than the original; where it is not larger, they are one by
+-- which it may not be. Their report is of version 2.
+pub record BundleWritten (task : Task) (metric : Metric) (bound limit : ℕ) (exact begin : NetValue)
+    (stem : Bytes) (spent : Option SpentValue) (old new : FilesTold) (said says : SinkTold) : Type 0 where
   pub result : Simplified
   pub log : List LogItem
-  pub right : IsSimplifiedFrom exact metric bound limit result log
+  pub right : IsSimplifiedFrom task exact begin metric bound limit result log
   pub is_spent : spent ≡ result.spent
   pub refuted : IsRefutedBy (miter exact result.net metric result.maximum) log
-  pub files : FilesWritten old new (synth_files exact metric bound stem result log)
-  pub report : Took said says (synth_report exact metric bound result log)
+  pub files : FilesWritten old new (synth_files task exact metric bound stem result log)
+  pub report : Took said says (synth_report task exact metric bound result log)
   pub netlist : OfBundle old new stem (λ texts. IsNetlist texts result.net)
-  pub certificate : OfBundle old new stem (Certifies exact metric bound)
+  pub certificate : (growth : Growth) → IsOfAllowedSize growth exact result.net
+      → OfBundle old new stem (CertifiesWith growth exact metric bound)
   pub version : OfBundle old new stem (λ texts. OfReport exact metric bound texts (λ r. r.version ≡ Two))
 
--- The net was simplified. Either a file could not be written whole, and nothing was put to the sink; or all
--- files were written, and a first part of the report was put.
-pub record BundleCutShort (metric : Metric) (bound limit : ℕ) (exact : NetValue) (stem : Bytes)
-    (old new : FilesTold) (said says : SinkTold) : Type 0 where
+-- The task was done. Either a file could not be written whole, and nothing was put to the sink; or all files
+-- were written, and a first part of the report was put.
+pub record BundleCutShort (task : Task) (metric : Metric) (bound limit : ℕ) (exact begin : NetValue)
+    (stem : Bytes) (old new : FilesTold) (said says : SinkTold) : Type 0 where
   pub result : Simplified
   pub log : List LogItem
-  pub right : IsSimplifiedFrom exact metric bound limit result log
+  pub right : IsSimplifiedFrom task exact begin metric bound limit result log
   pub refuted : IsRefutedBy (miter exact result.net metric result.maximum) log
   pub left :
-      (FilesCutShort old new (synth_files exact metric bound stem result log) × (says ≡ said))
-      ⊎ (FilesWritten old new (synth_files exact metric bound stem result log)
-      × TakeFailed said says (synth_report exact metric bound result log))
+      (FilesCutShort old new (synth_files task exact metric bound stem result log) × (says ≡ said))
+      ⊎ (FilesWritten old new (synth_files task exact metric bound stem result log)
+      × TakeFailed said says (synth_report task exact metric bound result log))
 
--- A member of the chain was reached, and the search for its maximum was spent at a level within the bound.
--- `spent` is the query on a move that was spent before, where one was.
-pub record MaximumSpent (metric : Metric) (bound limit : ℕ) (exact : NetValue) (spent : Option SpentValue)
-    (level : SpentValue) : Type 0 where
+-- The task was done, and the search for the maximum of its net was spent at a level within the bound. `spent`
+-- is the query on a move that was spent before, where one was.
+pub record MaximumSpent (task : Task) (metric : Metric) (bound limit : ℕ) (exact begin : NetValue)
+    (spent : Option SpentValue) (level : SpentValue) : Type 0 where
   pub result : Shrinking
-  pub search : IsShrinking metric exact bound limit result
+  pub search : IsTaskDone task metric exact bound limit begin result
   pub is_spent : spent ≡ result.spent
   pub query : IsSpentLevel metric exact result.net bound limit level
 
@@ -137,7 +152,7 @@ pub record SynthDone (metric : Metric) (bound limit : ℕ) (input stem : Bytes) 
     (old new : FilesTold) (said says : SinkTold) : Type 0 where
   pub exact : NetValue
   pub read : OfInput old new input (λ text. IsReadAs text exact)
-  pub written : BundleWritten metric bound limit exact stem spent old new said says
+  pub written : BundleWritten Refine metric bound limit exact exact stem spent old new said says
 
 -- conflicts spent: IN was read as the exact net, the search for the maximum was spent, and nothing was
 -- touched
@@ -146,7 +161,7 @@ pub record SynthBudget (metric : Metric) (bound limit : ℕ) (input : Bytes) (sp
   pub untouched : IsUntouched input old new said says
   pub exact : NetValue
   pub read : OfInput old new input (λ text. IsReadAs text exact)
-  pub search : MaximumSpent metric bound limit exact spent level
+  pub search : MaximumSpent Refine metric bound limit exact exact spent level
 
 -- IN is held and is refused
 pub record InputRefused (IsRefused : Bytes → Type 0) (input : Bytes) (old new : FilesTold)
@@ -166,7 +181,7 @@ pub record SynthWriteFault (metric : Metric) (bound limit : ℕ) (input stem : B
     (said says : SinkTold) : Type 0 where
   pub exact : NetValue
   pub read : OfInput old new input (λ text. IsReadAs text exact)
-  pub left : BundleCutShort metric bound limit exact stem old new said says
+  pub left : BundleCutShort Refine metric bound limit exact exact stem old new said says
 
 -- IN is accepted; where the files are not told both at entry and at exit, IN counts as accepted
 abbrev pub CountsAs : (Bytes → Type 0) → FilesTold → FilesTold → Bytes → Type 0

@@ -10,6 +10,7 @@ use Rattle.proof_semantics.specs.Lrat.{lrat_text}
 use Rattle.proof_semantics.specs.Miter.{miter}
 use Rattle.trim_semantics.specs.Trimmed.{IsTrimmed}
 use Rattle.job_semantics.specs.Certificate.{Texts, texts_of, OfBundle, OfBoth, IsRefutation, Certifies}
+use Rattle.job_semantics.specs.declared.growth.Growth.TheVariants.{Refused}
 use Rattle.job_semantics.specs.Input.{IsReadAs}
 use Rattle.job_semantics.specs.Synthesis.{OfInput, IsQuiet}
 use Rattle.job_semantics.specs.Checking.{CheckEnd, IsVerifiedEnd, AreCheckFilesSteady}
@@ -57,7 +58,7 @@ pub data TrimEnd (metric : Metric) (bound : ℕ) (input stem output : Bytes) (ol
       → TrimEnd metric bound input stem output old new said says
   not_written : TrimCutShort metric bound input stem output old new said says
       → TrimEnd metric bound input stem output old new said says
-  not_verified : (end : CheckEnd metric bound input stem old new said says) → ¬ IsVerifiedEnd end
+  not_verified : (end : CheckEnd Refused metric bound input stem old new said says) → ¬ IsVerifiedEnd end
       → TrimEnd metric bound input stem output old new said says
 
 -- IN is accepted and no clause fails; where the files are not told both at entry and at exit, this counts as
@@ -71,7 +72,7 @@ CountsAsCertified metric bound input stem old new =
 -- these is steady
 pub record AreTrimFilesSteady (metric : Metric) (bound : ℕ) (input stem output : Bytes)
     (old new : FilesTold) : Type 0 where
-  pub read : AreCheckFilesSteady metric bound input stem old new
+  pub read : AreCheckFilesSteady Refused metric bound input stem old new
   pub written : CountsAsCertified metric bound input stem old new → IsTrue (old.steady_write output)
 
 abbrev pub IsQuietTrim : Metric → ℕ → Bytes → Bytes → Bytes → FilesTold → FilesTold → SinkTold → SinkTold

@@ -7,6 +7,7 @@ use Rattle.semantics.specs.declared.metric.Kind.TheVariants.{Abs}
 use Rattle.semantics.specs.Error.{one_word}
 use Rattle.semantics.specs.Examples.{text}
 use Rattle.job_semantics.specs.declared.ending.Ending.TheVariants as file
+use Rattle.job_semantics.specs.declared.growth.Growth.TheVariants.{Refused}
 use Rattle.job_semantics.specs.declared.certificate_clause.Clause.TheVariants as clause
 use Rattle.job_semantics.specs.Certificate.{Texts, Holds, Certifies, IsFirstFailing}
 
@@ -70,13 +71,13 @@ parity_texts first_line formula log file.Report = parity_report first_line
 -- its last clause fails, and no other.
 pub record VersionExamples : Type 0 where
   pub first_version : (formula log : Bytes)
-      → Holds conjunction_by_parity (one_word Abs) 0
+      → Holds Refused conjunction_by_parity (one_word Abs) 0
       (parity_texts (codes "salsa 1") formula log) clause.Formula
-      → Holds conjunction_by_parity (one_word Abs) 0 (parity_texts (codes "salsa 1") formula log) clause.Log
+      → Holds Refused conjunction_by_parity (one_word Abs) 0 (parity_texts (codes "salsa 1") formula log) clause.Log
       → Certifies conjunction_by_parity (one_word Abs) 0 (parity_texts (codes "salsa 1") formula log)
   pub second_version : (formula log : Bytes)
-      → Holds conjunction_by_parity (one_word Abs) 0
+      → Holds Refused conjunction_by_parity (one_word Abs) 0
       (parity_texts (codes "salsa 2") formula log) clause.Formula
-      → Holds conjunction_by_parity (one_word Abs) 0 (parity_texts (codes "salsa 2") formula log) clause.Log
-      → IsFirstFailing conjunction_by_parity (one_word Abs) 0
+      → Holds Refused conjunction_by_parity (one_word Abs) 0 (parity_texts (codes "salsa 2") formula log) clause.Log
+      → IsFirstFailing Refused conjunction_by_parity (one_word Abs) 0
       (parity_texts (codes "salsa 2") formula log) clause.Minimal

@@ -1,6 +1,6 @@
 //! Worked examples of certificates, computed by the checker: each function's contract is its examples.
 ghost use Rattle.job_semantics.specs.CertificateExamples.{CertificateClauseExamples, HoldingExamples};
-ghost use Rattle.job_semantics.specs.CertificateExamples.{FailingExamples, MinimalExamples};
+ghost use Rattle.job_semantics.specs.CertificateExamples.{FailingExamples, GrowthExamples, MinimalExamples};
 
 /// The numbers of the clauses, and the files that they need.
 pub fn clauses()
@@ -20,4 +20,9 @@ pub fn failing()
 /// Vectors that break each move, and vectors that do not.
 pub fn minimal()
     ensures { MinimalExamples }
+{}
+
+/// A net that is larger than the original, which one of the two clauses on the counts allows.
+pub fn growth()
+    ensures { GrowthExamples }
 {}

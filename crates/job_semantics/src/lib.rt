@@ -1,5 +1,5 @@
 //! Jobs, reports, certificates, and what each answer of a run says. It has no code but the types `Ending`,
-//! `Clause` and `Version`.
+//! `Clause`, `Version`, `Growth` and `Task`.
 #![tactic(auto)]
 
 pub mod certificate_clause;
@@ -10,6 +10,8 @@ pub mod demo_examples;
 pub mod demo_laws;
 pub mod ending;
 pub mod examples;
+pub mod growth;
 pub mod laws;
+pub mod task;
 pub mod version;
 pub mod version_examples;
