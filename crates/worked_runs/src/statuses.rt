@@ -19,6 +19,7 @@ fn exit_numbers_and_lines(rt: HostRuntime) -> Result<(), Fail> {
         (Status::ReadFault, 5, "read fault"),
         (Status::WriteFault, 6, "write fault"),
         (Status::Budget, 4, "conflicts spent"),
+        (Status::Ports, 13, "other ports"),
         (
             Status::Usage,
             1,
