@@ -67,7 +67,7 @@ fn a_larger_net_is_confirmed_and_not_checked(rt: HostRuntime) -> Result<(), Fail
 fn a_second_netlist_is_refined(rt: HostRuntime) -> Result<(), Fail> {
     let done = run_beside(rt.alloc(), b"refine abs 1 1 ha.blif second.blif out", OR)?;
     let report =
-        b"salsa 2\nmetric abs\nbound 1\nmaximum 1\nwitness 10\ntables 2 2\nliterals 6 1\nminimal yes\n";
+        b"salsa 2\nmetric abs\nbound 1\nmaximum 1\nwitness 00\ntables 2 2\nliterals 6 0\nminimal yes\n";
     assert_eq!(rt; done.status.exit(), 0);
     assert!(rt; done.sink.bytes() == report.as_slice());
     let checked = run_after(rt.alloc(), b"check abs 1 ha.blif out", done)?;
