@@ -99,8 +99,7 @@ with_size growth other exact metric bound texts M net size c =
       old_literals = counts.old_literals;
       new_literals = counts.new_literals;
       size = subst (IsOfAllowedSize other exact) (same_net texts M counted.0 net counted.1) size;
-    } in
-    (
+    } in (
       c.0,
       (
         c.1.0,

@@ -152,7 +152,7 @@ module _ (metric : Metric) (bound : ℕ) (input stem : Bytes) (words : IsTrue (a
   written_verifies growth reads certified = certificate-verifies b exact (reads_after reads) certified
 
 -- the files of a bundle whose net is of an allowed size were written, and IN is none of them
-bundle_verifies : (growth : Growth) (task : Task) (metric : Metric) (bound limit : ℕ) (exact begin : NetValue) (input stem : Bytes) (spent : Option SpentValue) (old new : FilesTold)
+pub bundle_verifies : (growth : Growth) (task : Task) (metric : Metric) (bound limit : ℕ) (exact begin : NetValue) (input stem : Bytes) (spent : Option SpentValue) (old new : FilesTold)
     (said says : SinkTold) → IsTrue (are_file_words input stem) → OfInput old new input (λ text. IsReadAs text exact)
     → (w : BundleWritten task metric bound limit exact begin stem spent old new said says) → IsOfAllowedSize growth exact w.result.net
     → WhereTold old new (λ a b. VerifiesWith growth metric bound input stem b)

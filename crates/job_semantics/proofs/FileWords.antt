@@ -7,8 +7,8 @@ use Rattle.job_semantics.specs.declared.task.Task.{Task}
 use Rattle.job_semantics.specs.declared.task.Task.TheVariants.{Certify, Refine}
 use Rattle.semantics.specs.Texts.{Bytes}
 use Rattle.semantics.specs.Optional.{◌>>=◌}
-use Rattle.job_semantics.specs.Job.{Job, synth, against, check, confirm, demo, flat, aag, blif, trim, metric_of, bound_of, conflicts_of, width_of, are_file_words, are_second_words, are_conversion_words, are_trim_words, synth_of}
-use Rattle.job_semantics.specs.Job.{task_job, task_of, check_of, demo_of, conversion_of, trim_of, job_of}
+use Rattle.job_semantics.specs.Job.{Job, synth, against, check, confirm, demo, flat, aag, blif, trim, metric_of, bound_of, conflicts_of, width_of, are_file_words, are_second_words}
+use Rattle.job_semantics.specs.Job.{are_conversion_words, are_trim_words, synth_of, task_job, task_of, check_of, demo_of, conversion_of, trim_of, job_of}
 use Rattle.job_semantics.specs.CheckingLaws.{FileWordsLaw}
 
 -- the job's files are named as they must be
@@ -50,6 +50,7 @@ second_names Refine metric bound conflicts input second stem is = one_name (byte
     first : (p q : Bool) → (p && q) ≡ true → p ≡ true
     first true q both = refl
     first false q both = cc
+
     one_name : (t : Bool) → NamesFiles (if t then synth metric bound conflicts input stem else against Refine metric bound conflicts input second stem)
     one_name true = first (are_file_words input stem) (are_file_words second stem) is
     one_name false = is

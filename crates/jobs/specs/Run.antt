@@ -140,8 +140,8 @@ IsAnswerTo limit spent reading (Text reason) = Refuses reading reason
 IsAnswerTo limit spent reading NoMemory = Unit {0}
 IsAnswerTo limit spent reading _ = ⊥
 
--- the answer that the reading of IN alone asks a certify or a refine job for, unless memory is wanting: where IN
--- gives a net, the second netlist decides
+-- the answer that the reading of IN alone asks a certify or a refine job for, unless memory is wanting: where
+-- IN gives a net, the second netlist decides
 abbrev pub IsInputAnswerTo : Result NetValue Refusal → Status → Type 0
 IsInputAnswerTo reading (Text reason) = Refuses reading reason
 IsInputAnswerTo reading NoMemory = Unit {0}
@@ -204,7 +204,7 @@ IsOnFiles job = Unit {0}
 
 -- What every run says, by its words, its answer, and what files and sink told at entry and at exit. Words
 -- that are no job, and no other words, are answered `Usage`. A spent query is told with `Budget` and with
--- `Done` alone, and one of the search for the greatest error exactly with `Budget`. The answer to a job says
+-- `Done` alone, and one on a level of the error exactly with `Budget`. The answer to a job says
 -- what the job comes to.
 pub record RunSays (words : List Bytes) (old new : FilesTold) (said says : SinkTold)
     (o : Outcome) : Type 0 where

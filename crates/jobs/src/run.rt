@@ -42,8 +42,8 @@ pub fn run<F: Files, K: Sink>(alloc: Global, words: &[Word], files: &mut F, say:
         (K.told say.old)
         (K.told say.new) }
 
-    // When `confirm` verifies a bundle it keeps the bound; unless conflicts were spent, a second netlist within
-    // the bound gets a bundle that is confirmed.
+    // When `confirm` verifies a bundle it keeps the bound; unless conflicts were spent, a second netlist
+    // within the bound gets a bundle that is confirmed.
     ensures second_headline { SecondHeadline
         words.now
         (result.status ≡ Status.Verified)
@@ -93,8 +93,8 @@ pub fn run_followed<F: Files, K: Sink, P: Progress>(
         (K.told say.old)
         (K.told say.new) }
 
-    // When `confirm` verifies a bundle it keeps the bound; unless conflicts were spent, a second netlist within
-    // the bound gets a bundle that is confirmed.
+    // When `confirm` verifies a bundle it keeps the bound; unless conflicts were spent, a second netlist
+    // within the bound gets a bundle that is confirmed.
     ensures second_headline { SecondHeadline
         words.now
         (result.status ≡ Status.Verified)
