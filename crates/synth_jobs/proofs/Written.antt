@@ -39,7 +39,8 @@ of_written P stem {old} {new} b written p =
     let texts = ap (λ h. texts_of h stem) (written.held a held told tells) ∙ texts_are a stem (bundle_text b) in
     subst P (sym texts) p
 
-pub BundleWritten-from : {task : Task} {metric : Metric} {bound limit : ℕ} {exact begin : NetValue} {stem names : Bytes} {old new : FilesTold} {said says : SinkTold} {b : BundleValue} {spent : Option spent.Spent}
+pub BundleWritten-from : {task : Task} {metric : Metric} {bound limit : ℕ} {exact begin : NetValue} {stem names : Bytes}
+    {old new : FilesTold} {said says : SinkTold} {b : BundleValue} {spent : Option spent.Spent}
     → names ≡ stem → IsReady task exact begin metric bound limit b spent → IsDelivered b names old new said says
     → BundleWritten task metric bound limit exact begin stem (told_query spent) old new said says
 BundleWritten-from {task} {metric} {bound} {limit} {exact} {begin} {stem} {names} {old} {new} {said} {says} {b} {spent} same ready delivered =
@@ -57,7 +58,8 @@ BundleWritten-from {task} {metric} {bound} {limit} {exact} {begin} {stem} {names
       version = of_written (λ texts. OfReport exact metric bound texts (λ r. r.version ≡ Two)) stem b all ready.version;
     }
 
-pub BundleCutShort-from : {task : Task} {metric : Metric} {bound limit : ℕ} {exact begin : NetValue} {stem names : Bytes} {old new : FilesTold} {said says : SinkTold} {b : BundleValue} {spent : Option spent.Spent}
+pub BundleCutShort-from : {task : Task} {metric : Metric} {bound limit : ℕ} {exact begin : NetValue} {stem names : Bytes}
+    {old new : FilesTold} {said says : SinkTold} {b : BundleValue} {spent : Option spent.Spent}
     → names ≡ stem → IsReady task exact begin metric bound limit b spent → IsDeliveredInPart b names old new said says
     → BundleCutShort task metric bound limit exact begin stem old new said says
 BundleCutShort-from {task} {metric} {bound} {limit} {exact} {begin} {stem} {names} {old} {new} {said} {says} {b} {spent} same ready part = record {
