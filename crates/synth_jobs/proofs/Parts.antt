@@ -1,10 +1,10 @@
 -- What is ready before the first file is touched, from its parts.
 use Rattle.std.proofs.Common.{◌≡◌, ◌^◌, ◌<◌, ◌≤◌, ℕ, Option, Some, None, is_none, MatchOption, List, [], ◌∷◌, refl, ap, sym, subst, ◌∙◌, arith}
-use Rattle.std.specs.Prelude.{Bool, IsTrue}
+use Rattle.std.specs.Prelude.{Bool, IsTrue, length}
 use Rattle.std.specs.List.{AllByRecursion}
 use Rattle.semantics.specs.declared.limits.TheConstants.{LARGEST_ERROR}
 use Rattle.semantics.specs.Net.{NetValue, input_count, table_count, literal_count, IsSound, IsSmall, HasSamePorts}
-use Rattle.semantics.specs.Error.{IsWithin}
+use Rattle.semantics.specs.Error.{IsWithin, IsCandidate}
 use Rattle.semantics.specs.declared.metric.Metric.{Metric}
 use Rattle.chain_semantics.specs.declared.moves.Move.{Move}
 use Rattle.chain_semantics.specs.Moves.{moves_of}
@@ -222,3 +222,8 @@ module _ (task : Task) (exact begin : NetValue) (aim : Constraint) (found : Find
 
     pub gathered-ready : IsReady task exact begin aim.metric aim.bound aim.limit (bundle_of task exact aim found goal) found.shrunk.spent
     gathered-ready = ready parts_found (bundle_of task exact aim found goal) found.shrunk.spent refl refl (bundle_of-is is)
+
+-- a net that a task makes of the beginning can be compared with the exact one
+pub kept-candidate : (task : Task) (metric : Metric) (exact : NetValue) (bound limit : ℕ) (begin : NetValue) (s : Shrinking) → IsSmall exact → IsBeginning metric exact bound begin
+    → IsTaskDone task metric exact bound limit begin s → IsCandidate exact s.net
+kept-candidate task metric exact bound limit begin s small is done = record { ports = (kept task metric exact bound limit begin s is done).ports; few_outputs = small.outputs }
