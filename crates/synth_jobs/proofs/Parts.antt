@@ -34,7 +34,9 @@ use Rattle.bundle_writing.specs.Value.{FitsReport}
 use Rattle.synth_jobs.specs.Spent.{told_query}
 use Rattle.synth_jobs.specs.declared.preparing.Constraint.{Constraint}
 use Rattle.synth_jobs.specs.declared.preparing.Findings.{Findings}
-use Rattle.synth_jobs.specs.Prepared.{IsReady, AreFound, bundle_of}
+use Rattle.synth_jobs.specs.declared.preparing.Prepared.{Prepared}
+use Rattle.synth_jobs.specs.declared.preparing.Prepared.TheVariants.{Ready}
+use Rattle.synth_jobs.specs.Prepared.{IsReady, AreFound, IsPrepared, bundle_of}
 
 -- one vector more breaks no fewer moves
 minimal-with : (metric : Metric) (exact : NetValue) (bound : ℕ) (N : NetValue) (x : List Bool) (vectors : List (List Bool)) (moves : List Move)
@@ -220,8 +222,12 @@ module _ (task : Task) (exact begin : NetValue) (aim : Constraint) (found : Find
     pub gathered-fits : FitsReport exact found.shrunk.net found.witness
     gathered-fits = fits parts_found
 
-    pub gathered-ready : IsReady task exact begin aim.metric aim.bound aim.limit (bundle_of task exact aim found goal) found.shrunk.spent
+    gathered-ready : IsReady task exact begin aim.metric aim.bound aim.limit (bundle_of task exact aim found goal) found.shrunk.spent
     gathered-ready = ready parts_found (bundle_of task exact aim found goal) found.shrunk.spent refl refl (bundle_of-is is)
+
+    pub gathered-prepared : (made : Prepared) → made ≡ Ready (bundle_of task exact aim found goal) found.shrunk.spent
+        → IsPrepared task exact begin aim.metric aim.bound aim.limit made
+    gathered-prepared made is_ready = subst (IsPrepared task exact begin aim.metric aim.bound aim.limit) (sym is_ready) gathered-ready
 
 -- a net that a task makes of the beginning can be compared with the exact one
 pub kept-candidate : (task : Task) (metric : Metric) (exact : NetValue) (bound limit : ℕ) (begin : NetValue) (s : Shrinking) → IsSmall exact → IsBeginning metric exact bound begin

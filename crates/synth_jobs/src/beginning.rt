@@ -60,8 +60,6 @@ pub fn judge_beginning<S: Search, P: Progress>(
     }
     begin.see_sound();
     let nets = Compared::new(exact, begin);
-    let margin = S::within(
-        alloc, &nets, aim.metric, aim.bound, aim.limit, progress,
-    )?;
+    let margin = S::within(alloc, &nets, aim.metric, aim.bound, aim.limit, progress)?;
     Ok(judged(margin))
 }

@@ -166,9 +166,7 @@ fn carried_out<S: Search, P: Progress>(
         }),
         Task::Refine => {
             let nets = Compared::new(exact, &begin);
-            S::shrink(
-                alloc, &nets, aim.metric, aim.bound, aim.limit, progress,
-            )
+            S::shrink(alloc, &nets, aim.metric, aim.bound, aim.limit, progress)
         }
     }
 }
@@ -190,19 +188,12 @@ fn search<S: Search, P: Progress>(
 {
     let shrunk = carried_out::<S, P>(alloc, task, exact, begin, aim, progress)?;
     let nets = Compared::new(exact, &shrunk.net);
-    let maximum = S::maximum(
-        alloc, &nets, aim.metric, aim.bound, aim.limit, progress,
-    )?;
+    let maximum = S::maximum(alloc, &nets, aim.metric, aim.bound, aim.limit, progress)?;
     Ok(together(shrunk, maximum))
 }
 
 /// The formula that the log of what was found refutes.
-fn goal_for(
-    alloc: Global,
-    exact: &Net,
-    metric: Metric,
-    found: &Findings,
-) -> Result<Cnf, AllocError>
+fn goal_for(alloc: Global, exact: &Net, metric: Metric, found: &Findings) -> Result<Cnf, AllocError>
     requires { IsCandidate exact.now found.now.shrunk.net }
     ensures formula { IfOk result
         (λ goal. goal ≡ miter exact.now found.now.shrunk.net metric found.now.maximum) }

@@ -1,6 +1,5 @@
-use Rattle.std.proofs.Common.{sym, subst}
-use Rattle.synth_jobs.specs.Prepared.{told_shrinking, IsPrepared}
-use Rattle.synth_jobs.proofs.Parts.{kept-candidate, gathered-fits, gathered-ready}
+use Rattle.synth_jobs.specs.Prepared.{told_shrinking}
+use Rattle.synth_jobs.proofs.Parts.{kept-candidate, gathered-fits, gathered-prepared}
 use Rattle.synth_jobs.proofs.preparing.prepare.Goals as goal
 
 pub goal_for-requires : goal.goal_for-requires
@@ -23,6 +22,5 @@ returns-in_ok-goal-in-Found g c =
     let are_found = rw c.in-Found.is at c.in_ok-level.ensures in
     let given = c.args.assignment in
     let made = c.in_ok-goal-in-Found in
-    subst (IsPrepared given.task given.exact given.begin given.aim.metric given.aim.bound given.aim.limit) (sym c.gathered.ensures)
-    (gathered-ready given.task given.exact given.begin given.aim c.in-Found.found made.goal made.ensures.exact_sound c.requires.small c.requires.begin_small c.requires.beginning
-    made.ensures.approx_sound c.requires.bound are_found made.ensures.formula made.ensures.few_variables)
+    gathered-prepared given.task given.exact given.begin given.aim c.in-Found.found made.goal made.ensures.exact_sound c.requires.small c.requires.begin_small c.requires.beginning
+    made.ensures.approx_sound c.requires.bound are_found made.ensures.formula made.ensures.few_variables c.gathered.result c.gathered.ensures
