@@ -47,17 +47,9 @@ pub(crate) fn take_turn<P: Progress>(
         pool.new.vectors) }
 {
     progress.reached(member.literals());
-    let member_nets = Compared::new(nets.exact(), member);
+    let pair = Compared::new(nets.exact(), member);
     let mut scratch = member.copy()?;
-    match find_step(
-        alloc,
-        &member_nets,
-        judge,
-        terms,
-        pool,
-        &mut scratch,
-        progress,
-    )? {
+    match find_step(alloc, &pair, judge, terms, pool, &mut scratch, progress)? {
         Step::Moved => Ok(Turn::Next(tidy(alloc, scratch)?)),
         Step::End => Ok(Turn::End(None)),
         Step::Spent(spent) => Ok(Turn::End(Some(spent))),
