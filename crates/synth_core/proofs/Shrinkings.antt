@@ -1,5 +1,5 @@
 -- The members of the chain from a beginning, and what its search comes to.
-use Rattle.std.proofs.Common.{◌≡◌, ℕ, ◌≤◌, Some, None, ap, subst, sym, ◌∙◌}
+use Rattle.std.proofs.Common.{◌≡◌, ℕ, Some, None, ap, subst, sym, ◌∙◌}
 use Rattle.semantics.specs.Net.{NetValue}
 use Rattle.semantics.specs.declared.metric.Metric.{Metric}
 use Rattle.chain_semantics.specs.Chain.IsInChain.{next}

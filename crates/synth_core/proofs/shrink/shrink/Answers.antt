@@ -1,4 +1,4 @@
-use Rattle.std.proofs.Common.{sym, subst}
+use Rattle.std.proofs.Common.{refl, sym, subst}
 use Rattle.semantics.specs.Error.{IsWithin}
 use Rattle.chain_semantics.proofs.SameNets.{IsWithin-same}
 use Rattle.synth_core.proofs.shrink.shrink.Goals as goal
