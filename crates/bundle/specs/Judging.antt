@@ -127,7 +127,7 @@ pub record ReportKnown (exact : NetValue) (metric : Metric) (bound : ℕ) (M : N
   pub within : r.maximum ≤ bound
 
 -- the text is that of vectors with the witness first, and `shown` says whether they show what the report says
--- of the moves, where its counts are right
+-- of the moves, where the clause on the counts holds
 pub record AreVectorsJudged (growth : Growth) (exact : NetValue) (metric : Metric) (bound : ℕ) (M : NetValue)
     (r : Report) (shown : Bool) (text : Bytes) : Type 0 where
   pub pool : List (List Bool)

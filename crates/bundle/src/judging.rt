@@ -105,8 +105,8 @@ fn check_formula<F: Files, L: ItemSink>(
     check_log(alloc, claim, contents, formula, files)
 }
 
-/// Whether what the vectors show of the moves can decide: the witness attains the maximum, and the report's
-/// counts are right.
+/// Whether what the vectors show of the moves can decide: the witness attains the maximum, and the clause on
+/// the counts holds.
 fn decides_by_moves(claim: &Claim, report: &ReportRead, is_attained: bool) -> bool
     requires exact { IsSmall claim.now.nets.now.exact }
     requires approx { IsSmall claim.now.nets.now.approx }
