@@ -106,7 +106,8 @@ module _ (growth : Growth) (exact : NetValue) (metric : Metric) (bound : ℕ) (t
       }
 
       module _ (shown : Bool) where
-        pub other_formula : WitnessKnown growth exact metric bound M r shown texts → texts file.Formula ≢ dimacs_text (miter exact M metric r.maximum) → IsFirstFailing growth exact metric bound texts clause.Formula
+        pub other_formula : WitnessKnown growth exact metric bound M r shown texts → texts file.Formula ≢ dimacs_text (miter exact M metric r.maximum)
+            → IsFirstFailing growth exact metric bound texts clause.Formula
         other_formula known other =
             let k = known.report in
             record {

@@ -19,8 +19,8 @@ use Rattle.bundle.specs.declared.loaded.Loaded.TheVariants.{Good, Refuted}
 
 -- the texts are a certificate, of a net that may be larger than the original or may not, with this miter as
 -- its formula and these items as its log
-pub record IsCertificateWith (growth : Growth) (exact : NetValue) (metric : Metric) (bound : ℕ) (texts : Texts)
-    (goal : Formula) (log : List LogItem) : Type 0 where
+pub record IsCertificateWith (growth : Growth) (exact : NetValue) (metric : Metric) (bound : ℕ)
+    (texts : Texts) (goal : Formula) (log : List LogItem) : Type 0 where
   pub certifies : CertifiesWith growth exact metric bound texts
   pub parts : OfBoth exact metric bound texts
       (λ M r. (goal ≡ miter exact M metric r.maximum) × IsRefutation exact M metric r.maximum texts log)

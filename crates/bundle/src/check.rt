@@ -17,8 +17,8 @@ use std::alloc::Global;
 
 /// Whether the files of the stem are a certificate that the bundle's net is within the bound: the ten clauses
 /// are tested in their order, on what the files hold and nothing else. A file that neither the first failing
-/// clause nor a clause before it needs is not opened. Where `growth` is `Refused`, the bundle's net may have no
-/// more tables and no more literals than the original; where it is `Allowed`, it may have more of both, and the
+/// clause nor a clause before it needs is not opened. Where `growth` is `Refused`, the bundle's net may have
+/// no more tables and no more literals than the original; where it is `Allowed`, it may have more, and the
 /// report's counts are compared all the same.
 pub fn check_bundle<F: Files>(
     alloc: Global,

@@ -12,8 +12,8 @@ use job_semantics::growth::Growth;
 use net_errors::compared::Compared;
 use semantics::metric::Metric;
 
-/// What the files of a stem are to show of a net, with which the net of the bundle is compared, and whether the
-/// latter may be larger.
+/// What the files of a stem are to show of a net, with which the net of the bundle is compared, and whether
+/// the latter may be larger.
 #[derive(Clone, Copy)]
 pub(crate) struct Claim<'a> {
     pub nets: &'a Compared<'a>,

@@ -42,7 +42,8 @@ fn check_counts(claim: &Claim, contents: &Contents) -> Option<Clause>
         → LogKnown claim.now.growth claim.now.nets.now.exact claim.now.metric claim.now.bound
         claim.now.nets.now.approx (report_read claim.now.metric claim.now.bound contents.now.report.now)
         contents.now.is_shown texts
-        → IsFirstFault claim.now.growth claim.now.nets.now.exact claim.now.metric claim.now.bound texts result }
+        → IsFirstFault claim.now.growth claim.now.nets.now.exact claim.now.metric claim.now.bound texts
+        result }
 {
     if !are_counts(claim, contents.report) {
         return Some(Clause::Counts);

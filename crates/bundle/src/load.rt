@@ -16,7 +16,8 @@ use semantics::metric::Metric;
 use std::alloc::Global;
 
 /// The formula and the log of the bundle of the stem, if its files are a certificate that a simplified net is
-/// within the bound and is not larger than the original. Reads and judges the files as [`check_bundle`] does, and keeps the log's items besides.
+/// within the bound and not larger than the original. Reads and judges the files as [`check_bundle`] does
+/// where growth is refused, and keeps the log's items besides.
 pub fn load_bundle<F: Files>(
     alloc: Global,
     net: &Net,

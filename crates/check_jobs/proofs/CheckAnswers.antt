@@ -126,7 +126,8 @@ module _ {growth : Growth} {metric : Metric} {bound : ℕ} {input stem : Bytes} 
   by_verdict : {said : SinkTold} → IsSound N → (v : Verdict) → IsVerdict growth N metric bound stem mid new v → CheckAnswer growth metric bound input stem old new said said (status_of_check (Ok v))
   by_verdict {said} sound v h = subst (λ u. CheckAnswer growth metric bound input stem old new said said (status_of_check (Ok u))) (sym h.is) (by_clause sound h.failing h.judged)
 
-  pub by_cause : {said : SinkTold} (reason : Unread) → IsCause growth N metric bound stem NothingKnown mid new reason → CheckAnswer growth metric bound input stem old new said said (status_of_unread reason)
+  pub by_cause : {said : SinkTold} (reason : Unread) → IsCause growth N metric bound stem NothingKnown mid new reason
+      → CheckAnswer growth metric bound input stem old new said said (status_of_unread reason)
   by_cause unread.Fault cause = (
     not_read (record {
       untouched = left_alone;
@@ -156,8 +157,8 @@ module _ {growth : Growth} {metric : Metric} {bound : ℕ} {input stem : Bytes} 
   check-judged sound (Err reason) ok err = by_cause reason err
 
 -- the bundle's names are those of the stem
-pub check-judged_at : {growth : Growth} {metric : Metric} {bound : ℕ} {input stem names : Bytes} {old mid new : FilesTold} {said : SinkTold} {N : NetValue} → names ≡ stem → IsSound N → NetRead old mid input N
-    → FilesKept growth N metric bound names NothingKnown mid new → (checked : Result Verdict Unread) → IfOk checked (IsVerdict growth N metric bound names mid new)
+pub check-judged_at : {growth : Growth} {metric : Metric} {bound : ℕ} {input stem names : Bytes} {old mid new : FilesTold} {said : SinkTold} {N : NetValue} → names ≡ stem → IsSound N
+    → NetRead old mid input N → FilesKept growth N metric bound names NothingKnown mid new → (checked : Result Verdict Unread) → IfOk checked (IsVerdict growth N metric bound names mid new)
     → IfErr checked (IsCause growth N metric bound names NothingKnown mid new) → CheckAnswer growth metric bound input stem old new said said (status_of_check checked)
 check-judged_at {growth} {metric} {bound} {input} {stem} {names} {old} {mid} {new} {said} same sound read kept checked ok err =
     subst (λ s. CheckAnswer growth metric bound input s old new said said (status_of_check checked)) same (check-judged read kept sound checked ok err)

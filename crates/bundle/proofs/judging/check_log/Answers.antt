@@ -62,7 +62,8 @@ returns-in-None g c =
     (subst (λ o. IfSome o (IsOfRefutation holds c.args.formula.clauses)) c.in-Some.is c.in_ok-log.ensures.refutes)
     (λ texts known found.
     certificate_of claim.growth claim.nets.now.exact metric claim.bound texts claim.nets.now.approx r contents.is_shown holds known c.args.formula c.requires.formula c.in-Some.log found
-    (c.in-None.ensures texts (known_log claim.growth claim.nets.now.exact metric claim.bound texts claim.nets.now.approx r contents.is_shown holds known c.args.formula c.requires.formula c.in-Some.log found)))
+    (c.in-None.ensures texts
+    (known_log claim.growth claim.nets.now.exact metric claim.bound texts claim.nets.now.approx r contents.is_shown holds known c.args.formula c.requires.formula c.in-Some.log found)))
 
 pub returns-in-Some-check_counts : goal.returns-in-Some-check_counts
 returns-in-Some-check_counts g c =
@@ -79,5 +80,6 @@ returns-in-Some-check_counts g c =
     answers_failing holds claim.growth claim.nets.now.exact metric claim.bound claim.stem.now old new file.Log Q K c.in-Some-check_counts.clause read
     (λ texts known. log_needed claim.growth claim.nets.now.exact metric claim.bound texts claim.nets.now.approx r contents.is_shown known)
     (λ texts known found.
-    c.in-Some-check_counts.ensures texts (known_log claim.growth claim.nets.now.exact metric claim.bound texts claim.nets.now.approx r contents.is_shown holds known c.args.formula c.requires.formula c.in-Some.log
+    c.in-Some-check_counts.ensures texts
+    (known_log claim.growth claim.nets.now.exact metric claim.bound texts claim.nets.now.approx r contents.is_shown holds known c.args.formula c.requires.formula c.in-Some.log
     found))

@@ -128,7 +128,9 @@ returns g c =
       report = known;
       vectors =
           vectors_judged N M metric claim.bound r witness c.as_slice-witness.ensures c.requires.width by_moves claim.growth (texts file.Vectors) shown
-          (λ counts. c.decides_by_moves-by_moves.ensures.1 (eq-eqb c.in_ok-error.error r.maximum c.if-not-is_attained.false, counts_at claim.growth N M c.args.report.now metric (one_word Abs) claim.bound 0 counts))
+          (λ counts.
+          c.decides_by_moves-by_moves.ensures.1
+          (eq-eqb c.in_ok-error.error r.maximum c.if-not-is_attained.false, counts_at claim.growth N M c.args.report.now metric (one_word Abs) claim.bound 0 counts))
           (subst (λ (a : AskedValue). AreShown a shown (texts file.Vectors)) is holds);
       attained =
           sym (ap (net_error metric N M) c.as_slice-witness.ensures) ∙ sym c.in_ok-error.ensures
