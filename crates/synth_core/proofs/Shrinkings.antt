@@ -22,7 +22,8 @@ module _ (metric : Metric) (exact : NetValue) (bound : ℕ) (begin : NetValue) w
   pub tidied_move : (N M K : NetValue) (step : IsFirstMoved metric exact bound N M) → IsTidiedFrom M K → IsTidiedMove N step.move K
   tidied_move N M K step tidied = subst (λ L. IsTidiedFrom L K) step.net tidied
 
-  pub next-in_simplification : (N M K : NetValue) → IsInSimplificationFrom metric exact bound begin N → IsFirstMoved metric exact bound N M → IsTidiedFrom M K → IsInSimplificationFrom metric exact bound begin K
+  pub next-in_simplification : (N M K : NetValue) → IsInSimplificationFrom metric exact bound begin N → IsFirstMoved metric exact bound N M → IsTidiedFrom M K
+      → IsInSimplificationFrom metric exact bound begin K
   next-in_simplification N M K h step tidied =
       record { start = h.start; tidied = h.tidied; member = next N K step.move h.member step.first (tidied_move N M K step tidied) }
 
