@@ -126,8 +126,7 @@ task_of task (m ∷ b ∷ c ∷ input ∷ second ∷ stem ∷ []) = do
   bound ← bound_of b
   conflicts ← conflicts_of c
   if are_second_words input second stem
-  then Some (task_job task metric bound conflicts input second stem)
-  else None
+      then Some (task_job task metric bound conflicts input second stem) else None
 task_of task _ = None
 
 -- the job of a check or of a confirmation
