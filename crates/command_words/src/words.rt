@@ -96,7 +96,7 @@ fn synth(words: &[Word]) -> Option<Command<'_>>
 }
 
 /// The job of a task and a second netlist. To refine IN itself is to simplify it.
-#[tactic(auto, using(crate::proofs::JobWords::number_within))]
+#[tactic(auto, using(crate::proofs::JobWords::number_within, crate::proofs::JobWords::refined_itself, crate::proofs::JobWords::certified, crate::proofs::JobWords::refined_another))]
 fn task(task: Task, words: &[Word]) -> Option<Command<'_>>
     ensures job { option_map job_meaning result ≡ task_of task words.now }
     ensures ranges { IfSome result HasRanges }
@@ -113,24 +113,24 @@ fn task(task: Task, words: &[Word]) -> Option<Command<'_>>
     if !are_second_words(input, second, stem) {
         return None;
     }
-    if task == Task::Refine && input == second {
-        return Some(Command::Synth {
+    match task {
+        Task::Refine if input == second => Some(Command::Synth {
             metric,
             bound,
             conflicts: conflicts as u32,
             input,
             stem,
-        });
+        }),
+        _ => Some(Command::Against {
+            task,
+            metric,
+            bound,
+            conflicts: conflicts as u32,
+            input,
+            second,
+            stem,
+        }),
     }
-    Some(Command::Against {
-        task,
-        metric,
-        bound,
-        conflicts: conflicts as u32,
-        input,
-        second,
-        stem,
-    })
 }
 
 /// METRIC, BOUND, IN and STEM of a check or of a confirmation.
