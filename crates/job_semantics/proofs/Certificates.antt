@@ -23,8 +23,10 @@ use Rattle.job_semantics.specs.Endings.{bundle_files}
 use Rattle.job_semantics.specs.declared.certificate_clause.Clause.{Clause}
 use Rattle.job_semantics.specs.Report.{Report}
 use Rattle.job_semantics.specs.Bundle.{BundleValue, bundle_report, bundle_text}
-use Rattle.job_semantics.specs.Certificate.{Texts, texts_of, moves_in, IsNetlist, IsReport, AreVectors, IsRefutation, IsShownMinimal, AreCounts, OfNet, OfReport, OfBoth, Holds, Certifies}
-use Rattle.job_semantics.specs.Certificate.{IsFirstFailing}
+use Rattle.job_semantics.specs.Certificate.{Texts, texts_of, moves_in, IsNetlist, IsReport, AreVectors, IsRefutation, IsShownMinimal, AreCounts, OfNet, OfReport, OfBoth, Holds, CertifiesWith}
+use Rattle.job_semantics.specs.Certificate.{IsFirstFailing, IsOfAllowedSize}
+use Rattle.job_semantics.specs.declared.growth.Growth.{Growth}
+use Rattle.job_semantics.specs.declared.growth.Growth.TheVariants.{Refused, Allowed}
 use Rattle.job_semantics.specs.CertificateLaws.{IsVerified, VerifiedLaw, IsRightBundle, HeldCertificateLaw, FirstFailingLaw}
 use Rattle.job_semantics.proofs.BundleFiles.{bundle_files-holds}
 use Rattle.job_semantics.proofs.ReportTexts.{AreFew, one_report}
@@ -58,18 +60,18 @@ module _ (exact : NetValue) (metric : Metric) (bound : ℕ) (texts : Texts) wher
 
 -- ---- what a certificate shows
 
-module _ (exact : NetValue) (metric : Metric) (bound : ℕ) (texts : Texts) (sound : IsSound exact) (c : Certifies exact metric bound texts)
-    (M : NetValue) (r : Report) (net : IsNetlist texts M) (report : IsReport exact metric bound texts r) where
+module _ (growth : Growth) (exact : NetValue) (metric : Metric) (bound : ℕ) (texts : Texts) (sound : IsSound exact)
+    (c : CertifiesWith growth exact metric bound texts) (M : NetValue) (r : Report) (net : IsNetlist texts M) (report : IsReport exact metric bound texts r) where
   with_ports : HasSamePorts exact M
   with_ports = of_net texts (HasSamePorts exact) M net c.1.0
 
   refuted : (log : List LogItem) × IsRefutation exact M metric r.maximum texts log
   refuted = of_both exact metric bound texts (λ N s. (log : List LogItem) × IsRefutation exact N metric s.maximum texts log) M r net report c.1.1.1.1.1.1.1.0
 
-  counted : AreCounts exact M r
-  counted = of_both exact metric bound texts (AreCounts exact) M r net report c.1.1.1.1.1.1.1.1.0
+  counted : AreCounts growth exact M r
+  counted = of_both exact metric bound texts (AreCounts growth exact) M r net report c.1.1.1.1.1.1.1.1.0
 
-  verified : IsVerified exact metric bound M r
+  verified : IsVerified growth exact metric bound M r
   verified = record {
     ports = with_ports;
     safe =
@@ -78,26 +80,62 @@ module _ (exact : NetValue) (metric : Metric) (bound : ℕ) (texts : Texts) (sou
     within = of_report exact metric bound texts (λ s. s.maximum ≤ bound) r report c.1.1.1.0;
     width = report.witness;
     attained = of_both exact metric bound texts (λ N s. net_error metric exact N s.witness ≡ s.maximum) M r net report c.1.1.1.1.1.0;
-    tables = counted.tables;
-    literals = counted.literals;
+    size = counted.size;
     minimal = λ yes.
         let shown = of_both exact metric bound texts (IsShownMinimal exact metric bound texts) M r net report c.1.1.1.1.1.1.1.1.1.0 in
         let pool = shown yes in
         minimal-none_allowed metric exact bound M (r.witness ∷ pool.0) (moves_in r.version M) pool.1.widths pool.2;
   }
 
+-- a certificate is one with another growth too, by which its net is of an allowed size
+with_size : (growth other : Growth) (exact : NetValue) (metric : Metric) (bound : ℕ) (texts : Texts) (M : NetValue) → IsNetlist texts M → IsOfAllowedSize other exact M
+    → CertifiesWith growth exact metric bound texts → CertifiesWith other exact metric bound texts
+with_size growth other exact metric bound texts M net size c =
+    let counted = c.1.1.1.1.1.1.1.1.0 in
+    let counts = counted.2.2 in
+    let resized : AreCounts other exact counted.0 counted.2.0 = record {
+      old_tables = counts.old_tables;
+      new_tables = counts.new_tables;
+      old_literals = counts.old_literals;
+      new_literals = counts.new_literals;
+      size = subst (IsOfAllowedSize other exact) (same_net texts M counted.0 net counted.1) size;
+    } in (
+      c.0,
+      (
+        c.1.0,
+        (
+          c.1.1.0,
+          (
+            c.1.1.1.0,
+            (
+              c.1.1.1.1.0,
+              (
+                c.1.1.1.1.1.0,
+                (
+                  c.1.1.1.1.1.1.0,
+                  (c.1.1.1.1.1.1.1.0, ((counted.0, counted.1, (counted.2.0, counted.2.1, resized)), c.1.1.1.1.1.1.1.1.1)),
+                ),
+              ),
+            ),
+          ),
+        ),
+      ),
+    )
+
 pub verified_law : VerifiedLaw
 verified_law = record {
-  read = λ exact metric bound texts c. (c.0.0, c.1.1.0.0, c.0.1, c.1.1.0.1);
+  read = λ growth exact metric bound texts c. (c.0.0, c.1.1.0.0, c.0.1, c.1.1.0.1);
   one_net = same_net;
   one_report = same_report;
   one_pool = λ exact texts witness pool others v w. one_pool (input_count exact) (texts file.Vectors) witness pool others v w;
   verified = verified;
+  weaker = λ exact metric bound texts c. with_size Refused Allowed exact metric bound texts c.0.0 c.0.1 (λ no. absurd (cc no)) c;
+  not_larger = λ exact metric bound texts approx c net tables literals. with_size Allowed Refused exact metric bound texts approx net (λ is. (tables, literals)) c;
 }
 
 -- ---- which bundles are written as certificates
 
-module _ (b : BundleValue) (h : IsRightBundle b) where
+module _ (growth : Growth) (b : BundleValue) (h : IsRightBundle growth b) where
   pub net_read : IsNetlist (bundle_text b) b.approx
   net_read = read b.approx h.approx_sound h.approx_small
 
@@ -123,14 +161,13 @@ module _ (b : BundleValue) (h : IsRightBundle b) where
   pool_read : AreVectors b.exact (bundle_text b) b.witness b.pool
   pool_read = record { spelled = refl; widths = (h.width, h.pool) }
 
-  counts_right : AreCounts b.exact b.approx (bundle_report b)
+  counts_right : AreCounts growth b.exact b.approx (bundle_report b)
   counts_right = record {
     old_tables = refl;
     new_tables = refl;
     old_literals = refl;
     new_literals = refl;
-    tables = h.tables;
-    literals = h.literals;
+    size = h.size;
   }
 
   log_read : IsRefutation b.exact b.approx b.metric b.maximum (bundle_text b) b.log
@@ -143,7 +180,7 @@ module _ (b : BundleValue) (h : IsRightBundle b) where
   pub written_version : OfReport b.exact b.metric b.bound (bundle_text b) (λ r. r.version ≡ b.version)
   written_version = (bundle_report b, report_read, refl)
 
-  pub written_certifies : Certifies b.exact b.metric b.bound (bundle_text b)
+  pub written_certifies : CertifiesWith growth b.exact b.metric b.bound (bundle_text b)
   written_certifies = (
     (b.approx, net_read),
     (
@@ -183,10 +220,10 @@ held_text held stem text file.Vectors = ap (λ found. unwrap_or found []) (bundl
 held_text held stem text file.Report = ap (λ found. unwrap_or found []) (bundle_files-holds held stem text).1.1.1.1.0
 
 pub held_certificate_law : HeldCertificateLaw
-held_certificate_law b h stem old new written = λ before now told tells.
+held_certificate_law growth b h stem old new written = λ before now told tells.
     let texts : bundle_text b ≡ texts_of now stem =
     sym ((λ i. texts_of (written.held before now told tells i) stem) ∙ (λ i e. held_text before stem (bundle_text b) e i)) in
-    subst (Certifies b.exact b.metric b.bound) texts (written_certifies b h)
+    subst (CertifiesWith growth b.exact b.metric b.bound) texts (written_certifies growth b h)
 
 -- ---- texts that are no certificate
 
@@ -195,9 +232,10 @@ in_middle : (P : Clause → Type 0) (before after : List Clause) (c : Clause) �
 in_middle P [] after c all = all.0
 in_middle P (d ∷ before) after c all = in_middle P before after c all.1
 
-refuted_by : (exact : NetValue) (metric : Metric) (bound : ℕ) (texts : Texts) (c : Clause) → IsFirstFailing exact metric bound texts c → ¬ Certifies exact metric bound texts
-refuted_by exact metric bound texts c f all =
-    f.fails (in_middle (Holds exact metric bound texts) f.before f.after c (subst (AllByRecursion (Holds exact metric bound texts)) f.order all))
+refuted_by : (growth : Growth) (exact : NetValue) (metric : Metric) (bound : ℕ) (texts : Texts) (c : Clause) → IsFirstFailing growth exact metric bound texts c
+    → ¬ CertifiesWith growth exact metric bound texts
+refuted_by growth exact metric bound texts c f all =
+    f.fails (in_middle (Holds growth exact metric bound texts) f.before f.after c (subst (AllByRecursion (Holds growth exact metric bound texts)) f.order all))
 
 -- two places in one list, each of which fails while the clauses before it hold, are one place
 one_place : (P : Clause → Type 0) (before after before' after' : List Clause) (c d : Clause) → before ++ c ∷ after ≡ before' ++ d ∷ after'
@@ -211,6 +249,6 @@ one_place P (e ∷ before) after (e' ∷ before') after' c d same all all' fails
 pub first_failing_law : FirstFailingLaw
 first_failing_law = record {
   refuted = refuted_by;
-  only = λ exact metric bound texts c d f g.
-      one_place (Holds exact metric bound texts) f.before f.after g.before g.after c d (sym f.order ∙ g.order) f.hold g.hold f.fails g.fails;
+  only = λ growth exact metric bound texts c d f g.
+      one_place (Holds growth exact metric bound texts) f.before f.after g.before g.after c d (sym f.order ∙ g.order) f.hold g.hold f.fails g.fails;
 }

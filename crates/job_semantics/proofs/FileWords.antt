@@ -1,16 +1,22 @@
 -- What the words of a job say of its files.
-use Rattle.std.proofs.Common.{◌≡◌, Bool, true, false, List, [], ◌∷◌, Option, Some, None, refl, subst, if◌then◌else◌}
+use Rattle.std.proofs.Common.{◌≡◌, ℕ, Bool, true, false, ◌&&◌, List, [], ◌∷◌, Option, Some, None, refl, subst, if◌then◌else◌}
 use Rattle.std.specs.Prelude.{IsTrue, IfSome, bytes_eq, codes}
+use Rattle.std.proofs.lemmas.Slice.Eq.{bytes_eq-Decides}
+use Rattle.semantics.specs.declared.metric.Metric.{Metric}
+use Rattle.job_semantics.specs.declared.task.Task.{Task}
+use Rattle.job_semantics.specs.declared.task.Task.TheVariants.{Certify, Refine}
 use Rattle.semantics.specs.Texts.{Bytes}
 use Rattle.semantics.specs.Optional.{◌>>=◌}
-use Rattle.job_semantics.specs.Job.{Job, synth, check, demo, flat, aag, blif, trim, metric_of, bound_of, conflicts_of, width_of, are_file_words, are_conversion_words, are_trim_words, synth_of}
-use Rattle.job_semantics.specs.Job.{check_of, demo_of, conversion_of, trim_of, job_of}
+use Rattle.job_semantics.specs.Job.{Job, synth, against, check, confirm, demo, flat, aag, blif, trim, metric_of, bound_of, conflicts_of, width_of, are_file_words, are_second_words}
+use Rattle.job_semantics.specs.Job.{are_conversion_words, are_trim_words, synth_of, task_job, task_of, check_of, demo_of, conversion_of, trim_of, job_of}
 use Rattle.job_semantics.specs.CheckingLaws.{FileWordsLaw}
 
 -- the job's files are named as they must be
 abbrev NamesFiles : Job → Type 0
 NamesFiles (synth metric bound conflicts input stem) = IsTrue (are_file_words input stem)
+NamesFiles (against task metric bound conflicts input second stem) = IsTrue (are_second_words input second stem)
 NamesFiles (check metric bound input stem) = IsTrue (are_file_words input stem)
+NamesFiles (confirm metric bound input stem) = IsTrue (are_file_words input stem)
 NamesFiles (demo width bound conflicts) = Unit {0}
 NamesFiles (flat input output) = IsTrue (are_conversion_words input output)
 NamesFiles (aag input output) = IsTrue (are_conversion_words input output)
@@ -36,15 +42,43 @@ synth_names (m ∷ b ∷ c ∷ input ∷ stem ∷ []) =
     either (are_file_words input stem) (Some (synth metric bound conflicts input stem)) None (λ is. is) tt)))
 synth_names (m ∷ b ∷ c ∷ input ∷ stem ∷ w ∷ words) = tt
 
-check_names : (words : List Bytes) → IfSome (check_of words) NamesFiles
-check_names [] = tt
-check_names (m ∷ []) = tt
-check_names (m ∷ b ∷ []) = tt
-check_names (m ∷ b ∷ input ∷ []) = tt
-check_names (m ∷ b ∷ input ∷ stem ∷ []) =
+second_names : (task : Task) (metric : Metric) (bound conflicts : ℕ) (input second stem : Bytes) → IsTrue (are_second_words input second stem)
+    → NamesFiles (task_job task metric bound conflicts input second stem)
+second_names Certify metric bound conflicts input second stem is = is
+second_names Refine metric bound conflicts input second stem is = one_name (bytes_eq input second)
+  where
+    first : (p q : Bool) → (p && q) ≡ true → p ≡ true
+    first true q both = refl
+    first false q both = cc
+
+    one_name : (t : Bool) → NamesFiles (if t then synth metric bound conflicts input stem else against Refine metric bound conflicts input second stem)
+    one_name true = first (are_file_words input stem) (are_file_words second stem) is
+    one_name false = is
+
+task_names : (task : Task) (words : List Bytes) → IfSome (task_of task words) NamesFiles
+task_names task [] = tt
+task_names task (m ∷ []) = tt
+task_names task (m ∷ b ∷ []) = tt
+task_names task (m ∷ b ∷ c ∷ []) = tt
+task_names task (m ∷ b ∷ c ∷ input ∷ []) = tt
+task_names task (m ∷ b ∷ c ∷ input ∷ second ∷ []) = tt
+task_names task (m ∷ b ∷ c ∷ input ∷ second ∷ stem ∷ []) =
+    after (metric_of m) _ (λ metric. after (bound_of b) _ (λ bound. after (conflicts_of c) _ (λ conflicts.
+    either (are_second_words input second stem) (Some (task_job task metric bound conflicts input second stem)) None
+    (second_names task metric bound conflicts input second stem) tt)))
+task_names task (m ∷ b ∷ c ∷ input ∷ second ∷ stem ∷ w ∷ words) = tt
+
+check_names : (job : Metric → ℕ → Bytes → Bytes → Job)
+    → ((metric : Metric) (bound : ℕ) (input stem : Bytes) → IsTrue (are_file_words input stem) → NamesFiles (job metric bound input stem))
+    → (words : List Bytes) → IfSome (check_of job words) NamesFiles
+check_names job names [] = tt
+check_names job names (m ∷ []) = tt
+check_names job names (m ∷ b ∷ []) = tt
+check_names job names (m ∷ b ∷ input ∷ []) = tt
+check_names job names (m ∷ b ∷ input ∷ stem ∷ []) =
     after (metric_of m) _ (λ metric. after (bound_of b) _ (λ bound.
-    either (are_file_words input stem) (Some (check metric bound input stem)) None (λ is. is) tt))
-check_names (m ∷ b ∷ input ∷ stem ∷ w ∷ words) = tt
+    either (are_file_words input stem) (Some (job metric bound input stem)) None (names metric bound input stem) tt))
+check_names job names (m ∷ b ∷ input ∷ stem ∷ w ∷ words) = tt
 
 demo_names : (words : List Bytes) → IfSome (demo_of words) NamesFiles
 demo_names [] = tt
@@ -76,20 +110,49 @@ unfolding job_of
 job_names [] = tt
 job_names (command ∷ words) =
     either (bytes_eq command (codes "synth")) (synth_of words) _ (λ is. synth_names words)
-    (either (bytes_eq command (codes "check")) (check_of words) _ (λ is. check_names words)
+    (either (bytes_eq command (codes "certify")) (task_of Certify words) _ (λ is. task_names Certify words)
+    (either (bytes_eq command (codes "refine")) (task_of Refine words) _ (λ is. task_names Refine words)
+    (either (bytes_eq command (codes "check")) (check_of check words) _ (λ is. check_names check (λ metric bound input stem named. named) words)
+    (either (bytes_eq command (codes "confirm")) (check_of confirm words) _ (λ is. check_names confirm (λ metric bound input stem named. named) words)
     (either (bytes_eq command (codes "demo")) (demo_of words) _ (λ is. demo_names words)
     (either (bytes_eq command (codes "flat")) (conversion_of flat words) _ (λ is. conversion_names flat (λ input output named. named) words)
     (either (bytes_eq command (codes "aag")) (conversion_of aag words) _ (λ is. conversion_names aag (λ input output named. named) words)
     (either (bytes_eq command (codes "blif")) (conversion_of blif words) _ (λ is. conversion_names blif (λ input output named. named) words)
-    (either (bytes_eq command (codes "trim")) (trim_of words) None (λ is. trim_names words) tt))))))
+    (either (bytes_eq command (codes "trim")) (trim_of words) None (λ is. trim_names words) tt)))))))))
 
 names_of : (words : List Bytes) (job : Job) → job_of words ≡ Some job → NamesFiles job
 names_of words job named = subst (λ (o : Option Job). IfSome o NamesFiles) named (job_names words)
+
+-- ---- to refine IN itself
+
+both_the_same : (p : Bool) → (p && p) ≡ p
+both_the_same true = refl
+both_the_same false = refl
+
+same_bytes : (word : Bytes) → bytes_eq word word ≡ true
+same_bytes word = (bytes_eq-Decides word word).1 refl
+
+same_job : (metric : Metric) (bound conflicts : ℕ) (input stem : Bytes)
+    → (if are_second_words input input stem then Some (task_job Refine metric bound conflicts input input stem) else None)
+    ≡ (if are_file_words input stem then Some (synth metric bound conflicts input stem) else None)
+same_job metric bound conflicts input stem = λ i.
+    if both_the_same (are_file_words input stem) i
+    then Some (if same_bytes input i then synth metric bound conflicts input stem else against Refine metric bound conflicts input input stem)
+    else None
+
+refined_itself : (metric bound conflicts input stem : Bytes)
+    → job_of (codes "refine" ∷ metric ∷ bound ∷ conflicts ∷ input ∷ input ∷ stem ∷ [])
+    ≡ job_of (codes "synth" ∷ metric ∷ bound ∷ conflicts ∷ input ∷ stem ∷ [])
+unfolding job_of
+refined_itself m b c input stem = λ i. metric_of m >>= (λ metric. bound_of b >>= (λ bound. conflicts_of c >>= (λ conflicts. same_job metric bound conflicts input stem i)))
 
 pub file_words_law : FileWordsLaw
 file_words_law = record {
   synthesis = λ words metric bound conflicts input stem named. names_of words _ named;
   checking = λ words metric bound input stem named. names_of words _ named;
+  confirming = λ words metric bound input stem named. names_of words _ named;
+  tasks = λ words task metric bound conflicts input second stem named. names_of words _ named;
+  refined_itself = refined_itself;
   flat_conversion = λ words input output named. names_of words _ named;
   conversion = λ words input output named. names_of words _ named;
   blif_conversion = λ words input output named. names_of words _ named;

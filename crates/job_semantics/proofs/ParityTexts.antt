@@ -16,6 +16,7 @@ use Rattle.chain_semantics.specs.declared.moves.Move.{Move}
 use Rattle.chain_semantics.specs.declared.moves.Move.TheVariants.{Pair}
 use Rattle.chain_semantics.specs.Moves.{depends_within, near_signals, moves_of, old_moves_of, moved}
 use Rattle.chain_semantics.specs.Minimality.{IsBrokenBySome, AreBrokenBySome}
+use Rattle.job_semantics.specs.declared.growth.Growth.TheVariants.{Refused}
 use Rattle.job_semantics.specs.declared.version.Version.{Version}
 use Rattle.job_semantics.specs.declared.version.Version.TheVariants.{One, Two}
 use Rattle.job_semantics.specs.Report.{Report, report_text, vectors_text}
@@ -67,8 +68,8 @@ pub attained : net_error (one_word Abs) conjunction_by_parity conjunction_by_par
 unfolding after_rounds value_of outputs_of error_of net_error
 attained = refl
 
-pub counts : (version : Version) → AreCounts conjunction_by_parity conjunction_by_parity (parity_report_of version)
-counts version = record { old_tables = refl; new_tables = refl; old_literals = refl; new_literals = refl; tables = lit≤ tt; literals = lit≤ tt }
+pub counts : (version : Version) → AreCounts Refused conjunction_by_parity conjunction_by_parity (parity_report_of version)
+counts version = record { old_tables = refl; new_tables = refl; old_literals = refl; new_literals = refl; size = λ is. (lit≤ tt, lit≤ tt) }
 
 -- each move of version 1 is broken by some vector
 pub old_moves_break : AreBrokenBySome (one_word Abs) conjunction_by_parity 0 conjunction_by_parity ((false ∷ false ∷ false ∷ []) ∷ all_eight) (old_moves_of conjunction_by_parity)
@@ -202,7 +203,7 @@ module _ (formula log : Bytes) where
   abbrev second_texts : Texts
   second_texts = parity_texts (codes "salsa 2") formula log
 
-  pub not_minimal : Holds conjunction_by_parity (one_word Abs) 0 second_texts clause.Minimal → ⊥
+  pub not_minimal : Holds Refused conjunction_by_parity (one_word Abs) 0 second_texts clause.Minimal → ⊥
   unfolding all_nine
   not_minimal h =
       let N = conjunction_by_parity in

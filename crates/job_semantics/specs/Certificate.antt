@@ -1,6 +1,6 @@
--- The certificate that the five texts of a bundle are: ten clauses, tested in order. The ninth of them refuses
--- a net that is larger than the original, or allows it. Source: this tool's own bundles; that no error exceeds
--- the maximum is shown by a refuted miter, as in equivalence checking by SAT.
+-- The certificate that the five texts of a bundle are: ten clauses, tested in order. The ninth of them
+-- refuses a net that is larger than the original, or allows it. Source: this tool's own bundles; that no
+-- error exceeds the maximum is shown by a refuted miter, as in equivalence checking by SAT.
 use Rattle.std.specs.Prelude.{◌≡◌, ℕ, ◌^◌, ◌<◌, ◌≤◌, Bool, IsTrue, nat_le, List, [], ◌∷◌, ◌++◌, length}
 use Rattle.std.specs.Prelude.{filter, Contains, Ok}
 use Rattle.std.specs.List.{AllByRecursion}

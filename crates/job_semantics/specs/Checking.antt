@@ -23,25 +23,27 @@ use Rattle.job_semantics.specs.Synthesis.{OfInput, InputRefused, IsQuiet}
 
 -- each file that a check job needs is held: IN and, where IN is accepted, the files that are needed for the
 -- verdict
-pub record AreCheckFilesHeld (growth : Growth) (metric : Metric) (bound : ℕ) (input stem : Bytes) (held : Held) : Type 0 where
+pub record AreCheckFilesHeld (growth : Growth) (metric : Metric) (bound : ℕ) (input stem : Bytes)
+    (held : Held) : Type 0 where
   pub input_held : IsTrue (contains_key held input)
   pub bundle_held : (exact : NetValue) → IsReadAs (bytes_of held input) exact
       → AreNeededHeld growth exact metric bound stem held
 
 -- No file changed, no count of faults fell, no steady name was lost, and the sink tells what it told. Where
 -- the files that are needed are held, what was told is still told.
-pub record IsLeftAlone (growth : Growth) (metric : Metric) (bound : ℕ) (input stem : Bytes) (old new : FilesTold)
-    (said says : SinkTold) : Type 0 where
+pub record IsLeftAlone (growth : Growth) (metric : Metric) (bound : ℕ) (input stem : Bytes)
+    (old new : FilesTold) (said says : SinkTold) : Type 0 where
   pub goes : Goes old new
   pub files : WhereTold old new (λ a b. b ≡ a)
   pub still_told : (a : Held) → old.held ≡ Some a → AreCheckFilesHeld growth metric bound input stem a
       → new.held ≡ Some a
   pub sink : says ≡ said
 
--- on every input the error of the bundle's net against the original is at most the report's maximum, which is
--- within the bound and attained at the report's witness; where growth is refused, the bundle's net has no more
--- tables and no more literals than the original
-pub record ShowsItsBound (growth : Growth) (exact : NetValue) (metric : Metric) (bound : ℕ) (texts : Texts) : Type 0 where
+-- on every input the error of the bundle's net against the original is at most the report's maximum, which
+-- is within the bound and attained at the report's witness; where growth is refused, the bundle's net has no
+-- more tables and no more literals than the original
+pub record ShowsItsBound (growth : Growth) (exact : NetValue) (metric : Metric) (bound : ℕ)
+    (texts : Texts) : Type 0 where
   pub approx : NetValue
   pub report : Report
   pub netlist : IsNetlist texts approx
@@ -49,8 +51,8 @@ pub record ShowsItsBound (growth : Growth) (exact : NetValue) (metric : Metric) 
   pub verified : IsVerified growth exact metric bound approx report
 
 -- verified: the texts are a certificate, and this is what it shows
-pub record CheckVerified (growth : Growth) (metric : Metric) (bound : ℕ) (input stem : Bytes) (old new : FilesTold)
-    (said says : SinkTold) : Type 0 where
+pub record CheckVerified (growth : Growth) (metric : Metric) (bound : ℕ) (input stem : Bytes)
+    (old new : FilesTold) (said says : SinkTold) : Type 0 where
   pub untouched : IsLeftAlone growth metric bound input stem old new said says
   pub exact : NetValue
   pub read : OfInput old new input (λ text. IsReadAs text exact)
@@ -58,8 +60,8 @@ pub record CheckVerified (growth : Growth) (metric : Metric) (bound : ℕ) (inpu
   pub shows : OfBundle old new stem (ShowsItsBound growth exact metric bound)
 
 -- refuted: this clause is the first that fails
-pub record CheckRefuted (c : Clause) (growth : Growth) (metric : Metric) (bound : ℕ) (input stem : Bytes) (old new : FilesTold)
-    (said says : SinkTold) : Type 0 where
+pub record CheckRefuted (c : Clause) (growth : Growth) (metric : Metric) (bound : ℕ) (input stem : Bytes)
+    (old new : FilesTold) (said says : SinkTold) : Type 0 where
   pub untouched : IsLeftAlone growth metric bound input stem old new said says
   pub exact : NetValue
   pub read : OfInput old new input (λ text. IsReadAs text exact)
@@ -73,8 +75,8 @@ IsNeeded growth metric bound input stem old new ending =
     × IsNeededFor growth exact metric bound (texts_of b stem) ending)
 
 -- a fault came while a needed file was read, and that file is not steady
-pub record CheckReadFault (growth : Growth) (metric : Metric) (bound : ℕ) (input stem : Bytes) (old new : FilesTold)
-    (said says : SinkTold) : Type 0 where
+pub record CheckReadFault (growth : Growth) (metric : Metric) (bound : ℕ) (input stem : Bytes)
+    (old new : FilesTold) (said says : SinkTold) : Type 0 where
   pub untouched : IsLeftAlone growth metric bound input stem old new said says
   pub rose : Rose old.faults new.faults
   pub not_steady :
@@ -85,8 +87,8 @@ pub record CheckReadFault (growth : Growth) (metric : Metric) (bound : ℕ) (inp
 -- A needed file goes on past the budget of turns: in this call there were at least `turn_budget` read turns
 -- on the file, each of which asked for at most 65,536 bytes and gave at least one. So, where the files are
 -- told, the file has at least `turn_budget` bytes.
-pub record CheckEndless (growth : Growth) (metric : Metric) (bound : ℕ) (input stem : Bytes) (old new : FilesTold)
-    (said says : SinkTold) : Type 0 where
+pub record CheckEndless (growth : Growth) (metric : Metric) (bound : ℕ) (input stem : Bytes)
+    (old new : FilesTold) (said says : SinkTold) : Type 0 where
   pub untouched : IsLeftAlone growth metric bound input stem old new said says
   pub exact : NetValue
   pub read : OfInput old new input (λ text. IsReadAs text exact)
@@ -102,7 +104,8 @@ pub record AreCheckFilesSteady (growth : Growth) (metric : Metric) (bound : ℕ)
   pub bundle : (ending : Ending) → IsNeeded growth metric bound input stem old new ending
       → IsTrue (old.steady_read (bundle_name stem ending))
 
-abbrev pub IsQuietCheck : Growth → Metric → ℕ → Bytes → Bytes → FilesTold → FilesTold → SinkTold → SinkTold → Type 0
+abbrev pub IsQuietCheck : Growth → Metric → ℕ → Bytes → Bytes → FilesTold → FilesTold → SinkTold → SinkTold
+    → Type 0
 IsQuietCheck growth metric bound input stem old new said says
     = IsQuiet (AreCheckFilesSteady growth metric bound input stem old new) old new said says
 
@@ -126,8 +129,8 @@ pub data CheckEnd (growth : Growth) (metric : Metric) (bound : ℕ) (input stem 
 abbrev pub AreShort : Bytes → Held → Type 0
 AreShort stem held = (ending : Ending) → length (texts_of held stem ending) < turn_budget
 
-abbrev pub IsVerifiedEnd : {growth : Growth} {metric : Metric} {bound : ℕ} {input stem : Bytes} {old new : FilesTold}
-    {said says : SinkTold}
+abbrev pub IsVerifiedEnd : {growth : Growth} {metric : Metric} {bound : ℕ} {input stem : Bytes}
+    {old new : FilesTold} {said says : SinkTold}
     → CheckEnd growth metric bound input stem old new said says → Type 0
 IsVerifiedEnd (verified v) = Unit {0}
 IsVerifiedEnd (refuted c r) = ⊥
@@ -136,8 +139,8 @@ IsVerifiedEnd (out_of_memory left) = ⊥
 IsVerifiedEnd (not_read fault) = ⊥
 IsVerifiedEnd (endless e) = ⊥
 
-abbrev pub IsEndlessEnd : {growth : Growth} {metric : Metric} {bound : ℕ} {input stem : Bytes} {old new : FilesTold}
-    {said says : SinkTold}
+abbrev pub IsEndlessEnd : {growth : Growth} {metric : Metric} {bound : ℕ} {input stem : Bytes}
+    {old new : FilesTold} {said says : SinkTold}
     → CheckEnd growth metric bound input stem old new said says → Type 0
 IsEndlessEnd (verified v) = ⊥
 IsEndlessEnd (refuted c r) = ⊥
@@ -147,8 +150,8 @@ IsEndlessEnd (not_read fault) = ⊥
 IsEndlessEnd (endless e) = Unit {0}
 
 -- verified, unless memory is wanting
-abbrev pub IsVerifiedOrNoMemory : {growth : Growth} {metric : Metric} {bound : ℕ} {input stem : Bytes} {old new : FilesTold}
-    {said says : SinkTold}
+abbrev pub IsVerifiedOrNoMemory : {growth : Growth} {metric : Metric} {bound : ℕ} {input stem : Bytes}
+    {old new : FilesTold} {said says : SinkTold}
     → CheckEnd growth metric bound input stem old new said says → Type 0
 IsVerifiedOrNoMemory (verified v) = Unit {0}
 IsVerifiedOrNoMemory (refuted c r) = ⊥
@@ -160,8 +163,8 @@ IsVerifiedOrNoMemory (endless e) = ⊥
 -- A bundle that verifies: where each file of the bundle has fewer than 2^40 bytes, each quiet check of these
 -- files, or each quiet confirmation, is verified, unless memory is wanting.
 abbrev pub VerifiesWith : Growth → Metric → ℕ → Bytes → Bytes → Held → Type 0
-VerifiesWith growth metric bound input stem held = (old new : FilesTold) (said says : SinkTold) → old.held ≡ Some held
-    → AreShort stem held
+VerifiesWith growth metric bound input stem held = (old new : FilesTold) (said says : SinkTold)
+    → old.held ≡ Some held → AreShort stem held
     → IsQuietCheck growth metric bound input stem old new said says
     → (end : CheckEnd growth metric bound input stem old new said says) → IsVerifiedOrNoMemory end
 

@@ -20,8 +20,9 @@ use Rattle.job_semantics.specs.SecondNetlist.{TaskDone}
 
 -- Where words are a synth, a check or a confirm job, IN and STEM are not empty, and IN is no file of the
 -- bundle. Where they are a certify or a refine job, the same holds of the second netlist. To refine IN itself
--- is to simplify it: the words `refine` with one name twice are the job of `synth`. Where they are a conversion, IN and OUT are not empty and differ. Where they are a trim job, IN, STEM and OUT are
--- as in both of these, and OUT is no file of the bundle.
+-- is to simplify it: the words `refine` with one name twice are the job of `synth`. Where they are a
+-- conversion, IN and OUT are not empty and differ. Where they are a trim job, IN, STEM and OUT are as in both
+-- of these, and OUT is no file of the bundle.
 pub record FileWordsLaw : Type 0 where
   pub synthesis : (words : List Bytes) (metric : Metric) (bound conflicts : ℕ) (input stem : Bytes)
       → job_of words ≡ Some (synth metric bound conflicts input stem) → IsTrue (are_file_words input stem)
@@ -45,25 +46,25 @@ pub record FileWordsLaw : Type 0 where
   pub trimming : (words : List Bytes) (metric : Metric) (bound : ℕ) (input stem output : Bytes)
       → job_of words ≡ Some (trim metric bound input stem output) → IsTrue (are_trim_words input stem output)
 
--- A check, or a confirmation, that is verified found a certificate. A quiet one of files that are told, whose texts are a
--- certificate for the net of IN, is verified unless memory is wanting or a file goes on without an end. Where
--- the needed files are held, a file goes on without an end only if some file of the bundle has at least 2^40
--- bytes.
+-- A check, or a confirmation, that is verified found a certificate. A quiet one of files that are told, whose
+-- texts are a certificate for the net of IN, is verified unless memory is wanting or a file goes on without
+-- an end. Where the needed files are held, a file goes on without an end only if some file of the bundle has
+-- at least 2^40 bytes.
 pub record CheckedFilesLaw : Type 0 where
-  pub only_certificates : {growth : Growth} {metric : Metric} {bound : ℕ} {input stem : Bytes} {old new : FilesTold}
-      {said says : SinkTold}
+  pub only_certificates : {growth : Growth} {metric : Metric} {bound : ℕ} {input stem : Bytes}
+      {old new : FilesTold} {said says : SinkTold}
       (end : CheckEnd growth metric bound input stem old new said says) → IsVerifiedEnd end
       → WhereTold old new (λ a b. (exact : NetValue) → IsReadAs (bytes_of a input) exact
       → CertifiesWith growth exact metric bound (texts_of b stem))
-  pub each_certificate : {growth : Growth} {metric : Metric} {bound : ℕ} {input stem : Bytes} {old new : FilesTold}
-      {said says : SinkTold}
+  pub each_certificate : {growth : Growth} {metric : Metric} {bound : ℕ} {input stem : Bytes}
+      {old new : FilesTold} {said says : SinkTold}
       (end : CheckEnd growth metric bound input stem old new said says) (a : Held) (exact : NetValue)
       → old.held ≡ Some a
       → IsReadAs (bytes_of a input) exact → CertifiesWith growth exact metric bound (texts_of a stem)
       → IsQuietCheck growth metric bound input stem old new said says
       → IsVerifiedOrNoMemory end ⊎ IsEndlessEnd end
-  pub with_an_end : {growth : Growth} {metric : Metric} {bound : ℕ} {input stem : Bytes} {old new : FilesTold}
-      {said says : SinkTold}
+  pub with_an_end : {growth : Growth} {metric : Metric} {bound : ℕ} {input stem : Bytes}
+      {old new : FilesTold} {said says : SinkTold}
       (end : CheckEnd growth metric bound input stem old new said says) (a : Held) → old.held ≡ Some a
       → AreCheckFilesHeld growth metric bound input stem a
       → AreShort stem a → ¬ IsEndlessEnd end
@@ -75,8 +76,8 @@ JoinedRunsLaw = (metric : Metric) (bound limit : ℕ) (input stem : Bytes) (spen
     → IsTrue (are_file_words input stem) → SynthDone metric bound limit input stem spent old new said says
     → WhereTold old new (λ a b. Verifies metric bound input stem b)
 
--- So does a task that is done, over files that are told: what it leaves is confirmed and, where its net is not
--- larger than the original, verifies.
+-- So does a task that is done, over files that are told: what it leaves is confirmed and, where its net is
+-- not larger than the original, verifies.
 abbrev pub JoinedTaskLaw : Type 0
 JoinedTaskLaw = (task : Task) (metric : Metric) (bound limit : ℕ) (input second stem : Bytes)
     (spent : Option SpentValue) (old new : FilesTold) (said says : SinkTold)

@@ -1,5 +1,5 @@
--- The promise about second netlists as sentences about one run: the job, what was answered, and what files and
--- sink told at entry and at exit. Source: this tool's own promise.
+-- The promise about second netlists as sentences about one run: the job, what was answered, and what files
+-- and sink told at entry and at exit. Source: this tool's own promise.
 --
 -- When `confirm` verifies a bundle, on every input the approximate circuit's error against the original is at
 -- most the stated maximum, which is within the bound and attained at the witness; unless the stated conflicts
@@ -38,16 +38,16 @@ pub record KeepsTheBound (metric : Metric) (bound : ℕ) (exact : NetValue) (tex
   pub within_the_bound : report.maximum ≤ bound
   pub attained_at_the_witness : net_error metric exact approx report.witness ≡ report.maximum
 
--- the circuit is the second netlist's as it is, or the end of the chain of simplifications that begins with it:
--- no single move of that keeps the bound
+-- the circuit is the second netlist's as it is, or the end of the chain of simplifications that begins with
+-- it: no single move of that keeps the bound
 abbrev pub IsAsAsked : Task → Metric → NetValue → ℕ → NetValue → NetValue → Type 0
 IsAsAsked Certify metric exact bound begin approx = approx ≡ begin
 IsAsAsked Refine metric exact bound begin approx = IsSimplificationEndFrom metric exact bound begin approx
 
 -- The files hold a bundle that verifies: its texts are a certificate, by which the circuit may be larger than
 -- the original, and each quiet confirmation of these files is verified, where each of the five has fewer than
--- 2^40 bytes, unless memory is wanting. So is each quiet check where the circuit is not larger. The circuit has
--- the original's inputs and outputs by their names, and is what was asked for.
+-- 2^40 bytes, unless memory is wanting. So is each quiet check where the circuit is not larger. The circuit
+-- has the original's inputs and outputs by their names, and is what was asked for.
 pub record IsCertifiedAs (task : Task) (metric : Metric) (bound : ℕ) (input stem : Bytes)
     (exact begin : NetValue) (held : Held) : Type 0 where
   pub certificate : CertifiesWith Allowed exact metric bound (texts_of held stem)

@@ -21,8 +21,8 @@ abbrev pub WhereBothHeld : FilesTold → Bytes → Bytes → (Held → Type 0) �
 WhereBothHeld old input second P = (a : Held) → old.held ≡ Some a → IsTrue (contains_key a input)
     → IsTrue (contains_key a second) → P a
 
--- P of the bytes of the second netlist, which is read behind IN: once where the files are told at entry and at
--- exit, and once where they are told at entry and hold both
+-- P of the bytes of the second netlist, which is read behind IN: once where the files are told at entry and
+-- at exit, and once where they are told at entry and hold both
 pub record OfSecond (old new : FilesTold) (input second : Bytes) (P : Bytes → Type 0) : Type 0 where
   pub told : WhereTold old new (λ a b. P (bytes_of a second))
   pub at_entry : WhereBothHeld old input second (λ a. P (bytes_of a second))
@@ -62,8 +62,8 @@ pub record AreBothRead (input second : Bytes) (old new : FilesTold) (said says :
 abbrev pub HasOtherPorts : NetValue → NetValue → Type 0
 HasOtherPorts exact begin = ¬ HasSamePorts exact begin
 
--- the second net has IN's ports, and its error exceeds the bound at x; with at most eight inputs x is the first
--- such vector in counting order
+-- the second net has IN's ports, and its error exceeds the bound at x; with at most eight inputs x is the
+-- first such vector in counting order
 pub record IsAboveBound (metric : Metric) (bound : ℕ) (x : List Bool) (exact begin : NetValue) : Type 0 where
   pub ports : HasSamePorts exact begin
   pub over : IsOver metric exact begin bound x
@@ -76,9 +76,10 @@ pub record IsBoundSpent (metric : Metric) (bound limit : ℕ) (exact begin : Net
   pub net : level.net ≡ begin
   pub at_bound : level.k ≡ bound
 
--- The conflicts of a question were spent: of the question whether the second net's error exceeds the bound, or
--- of the one for the maximum.
-abbrev pub IsTaskSpent : Task → Metric → ℕ → ℕ → Option SpentValue → SpentValue → NetValue → NetValue → Type 0
+-- The conflicts of a question were spent: of the question whether the second net's error exceeds the bound,
+-- or of the one for the maximum.
+abbrev pub IsTaskSpent : Task → Metric → ℕ → ℕ → Option SpentValue → SpentValue → NetValue → NetValue
+    → Type 0
 IsTaskSpent task metric bound limit spent level exact begin =
     (IsBoundSpent metric bound limit exact begin level × (spent ≡ None))
     ⊎ (IsBeginning metric exact bound begin × MaximumSpent task metric bound limit exact begin spent level)

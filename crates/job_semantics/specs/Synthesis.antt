@@ -109,8 +109,8 @@ pub record IsUntouched (input : Bytes) (old new : FilesTold) (said says : SinkTo
   pub sink : says ≡ said
 
 -- The task was done, the files were written, and then the report was put to the sink. The texts of the files
--- are a certificate, by which the net may be larger than the original; where it is not larger, they are one by
--- which it may not be. Their report is of version 2.
+-- are a certificate, by which the net may be larger than the original; where it is not larger, they are one
+-- by which it may not be. Their report is of version 2.
 pub record BundleWritten (task : Task) (metric : Metric) (bound limit : ℕ) (exact begin : NetValue)
     (stem : Bytes) (spent : Option SpentValue) (old new : FilesTold) (said says : SinkTold) : Type 0 where
   pub result : Simplified

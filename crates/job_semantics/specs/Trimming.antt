@@ -1,6 +1,6 @@
 -- What a trim job comes to, by its answer: the job checks the bundle and, where the certificate stands,
 -- writes the trimmed log to OUT. Source: this tool's own bundles; proof trimming by backward checking.
-use Rattle.std.specs.Prelude.{◌≡◌, ℕ, IsTrue, List, Ok}
+use Rattle.std.specs.Prelude.{◌≡◌, ℕ, IsTrue, List}
 use Rattle.semantics.specs.Texts.{Bytes}
 use Rattle.semantics.specs.Net.{NetValue}
 use Rattle.semantics.specs.declared.metric.Metric.{Metric}

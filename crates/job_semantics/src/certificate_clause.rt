@@ -19,7 +19,7 @@ pub enum Clause {
     Formula,
     /// `.lrat` is a log that refutes the miter.
     Log,
-    /// The counts are those of the two nets, and none grew.
+    /// The counts are those of the two nets, and none grew where growth is refused.
     Counts,
     /// Where the report says `minimal yes`: each move of the bundle's net, as it was read, that the report's
     /// version knows is broken by some line of `.wit`.

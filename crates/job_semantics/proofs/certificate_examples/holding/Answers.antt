@@ -22,7 +22,7 @@ returns c = record {
     (
       the_report 2 0 false,
       report_read,
-      record { old_tables = refl; new_tables = refl; old_literals = refl; new_literals = refl; tables = lit≤ tt; literals = lit≤ tt },
+      record { old_tables = refl; new_tables = refl; old_literals = refl; new_literals = refl; size = λ is. (lit≤ tt, lit≤ tt) },
     ),
   );
   minimal = (both_constant, netlist_read, (the_report 2 0 false, report_read, λ yes. absurd (cc yes)));

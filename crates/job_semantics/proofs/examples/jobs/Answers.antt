@@ -41,4 +41,12 @@ returns c = record {
   trimmed_into_the_bundle = refl;
   trimmed_from_the_bundle = refl;
   trimmed_into_nothing = refl;
+  a_certify = refl;
+  a_refine = refl;
+  certified_itself = refl;
+  refined_itself = refl;
+  certified_from_the_bundle = refl;
+  refined_against_the_bundle = refl;
+  no_second = refl;
+  a_confirm = refl;
 }
