@@ -96,7 +96,7 @@ fn synth(words: &[Word]) -> Option<Command<'_>>
 }
 
 /// The job of a task and a second netlist. To refine IN itself is to simplify it.
-#[tactic(auto, using(crate::proofs::JobWords::number_within, crate::proofs::JobWords::refined_itself, crate::proofs::JobWords::certified, crate::proofs::JobWords::refined_another))]
+#[tactic(auto, using(crate::proofs::JobWords::number_within))]
 fn task(task: Task, words: &[Word]) -> Option<Command<'_>>
     ensures job { option_map job_meaning result ≡ task_of task words.now }
     ensures ranges { IfSome result HasRanges }
