@@ -2,16 +2,18 @@
 _salsa() {
     local word=${COMP_WORDS[COMP_CWORD]} job=${COMP_WORDS[1]} files=
     case $COMP_CWORD,$job in
-    1,*) mapfile -t COMPREPLY < <(compgen -W 'synth check flat aag blif trim demo approximate explain outputs --hints --help --version' -- "$word") ;;
-    2,synth | 2,check | 2,trim)
+    1,*) mapfile -t COMPREPLY < <(compgen -W 'synth certify refine check confirm flat aag blif trim demo approximate explain outputs --hints --help --version' -- "$word") ;;
+    2,synth | 2,certify | 2,refine | 2,check | 2,confirm | 2,trim)
         local metrics='abs sabs rel ham'
         [[ $word != @(abs|sabs|rel|ham)/* ]] || metrics=$(printf "${word%%/*}/%s " {1..64})
         mapfile -t COMPREPLY < <(compgen -W "$metrics" -- "$word")
         ;;
-    5,synth | 4,check | 4,trim | 2,flat | 2,aag | 2,outputs) files='!*.blif' ;;
+    5,synth | 5,certify | 5,refine | 6,certify | 6,refine | 4,check | 4,confirm | 4,trim | 2,flat | 2,aag | 2,outputs)
+        files='!*.blif'
+        ;;
     2,blif) files='!*.aag' ;;
-    6,synth | 6,trim | 3,flat | 3,aag | 3,blif) mapfile -t COMPREPLY < <(compgen -f -- "$word") ;;
-    5,check | 5,trim) mapfile -t COMPREPLY < <(compgen -f -X '!*.txt' -- "$word" | sed 's/\.txt$//') ;;
+    6,synth | 7,certify | 7,refine | 6,trim | 3,flat | 3,aag | 3,blif) mapfile -t COMPREPLY < <(compgen -f -- "$word") ;;
+    5,check | 5,confirm | 5,trim) mapfile -t COMPREPLY < <(compgen -f -X '!*.txt' -- "$word" | sed 's/\.txt$//') ;;
     esac
     if [ "$job" = approximate ] && [ "$COMP_CWORD" -gt 1 ]; then
         if [[ $word == -* ]]; then

@@ -3,7 +3,8 @@
 nothing of salsa: it reads both netlists, computes all vectors at once, one bit of a large number for each, and
 compares the words that the outputs make, the first output of each being bit 0.
 
-Usage: greatest_error.py METRIC EXACT APPROX     METRIC is abs, rel, ham or sabs, or one of these with /W, the number of
+Usage: greatest_error.py METRIC EXACT APPROX [BITS]
+                                                 the greatest error, or the one at an input vector; METRIC is abs, rel, ham or sabs, or one of these with /W, the number of
                                                  outputs of a word, from 1 to 64; up to 20 inputs
        greatest_error.py --self-test             the errors of small words, and netlists made here
 """
@@ -138,6 +139,10 @@ def self_test():
 if __name__ == "__main__":
     if sys.argv[1:] == ["--self-test"]:
         sys.exit(self_test())
-    if len(sys.argv) != 4 or not METRIC.fullmatch(sys.argv[1]):
+    if len(sys.argv) not in (4, 5) or not METRIC.fullmatch(sys.argv[1]):
         sys.exit(__doc__.strip())
-    print(greatest(sys.argv[1], open(sys.argv[2], errors="replace").read(), open(sys.argv[3], errors="replace").read()))
+    texts = [open(it, errors="replace").read() for it in sys.argv[2:4]]
+    if len(sys.argv) == 5:
+        print(error(sys.argv[1], *[output_words(it)[int(sys.argv[4][::-1] or "0", 2)] for it in texts]))
+    else:
+        print(greatest(sys.argv[1], *texts))

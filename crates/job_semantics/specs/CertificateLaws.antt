@@ -38,7 +38,8 @@ pub record IsVerified (growth : Growth) (exact : NetValue) (metric : Metric) (bo
       → AllByRecursion (λ m. ¬ IsAllowedMove metric exact bound approx m) (moves_in r.version approx)
 
 -- The verified-bundle theorem: the texts of a certificate have one net, one report and one list of vectors,
--- and these are verified. A certificate of a net that may not be larger is one of a net that may be.
+-- and these are verified. A certificate of a net that may not be larger is one of a net that may be, and the
+-- other way where the net is not larger.
 pub record VerifiedLaw : Type 0 where
   pub read : (growth : Growth) (exact : NetValue) (metric : Metric) (bound : ℕ) (texts : Texts)
       → CertifiesWith growth exact metric bound texts

@@ -21,7 +21,7 @@ use Rattle.job_semantics.specs.Input.{IsReadAs, IsRefusedFor}
 use Rattle.job_semantics.specs.Report.{Report}
 use Rattle.job_semantics.specs.Synthesis.{OfInput, InputRefused, IsQuiet}
 
--- each file that a check job needs is held: IN and, where IN is accepted, the files that are needed for the
+-- each file that the job needs is held: IN and, where IN is accepted, the files that are needed for the
 -- verdict
 pub record AreCheckFilesHeld (growth : Growth) (metric : Metric) (bound : ℕ) (input stem : Bytes)
     (held : Held) : Type 0 where
@@ -97,7 +97,7 @@ pub record CheckEndless (growth : Growth) (metric : Metric) (bound : ℕ) (input
   pub read_out : IsReadOut old new (bundle_name stem ending)
   pub long : OfBundle old new stem (λ texts. turn_budget ≤ length (texts ending))
 
--- the files that a check job needs can be read
+-- the files that the job needs can be read
 pub record AreCheckFilesSteady (growth : Growth) (metric : Metric) (bound : ℕ) (input stem : Bytes)
     (old new : FilesTold) : Type 0 where
   pub read : IsTrue (old.steady_read input)
@@ -109,7 +109,7 @@ abbrev pub IsQuietCheck : Growth → Metric → ℕ → Bytes → Bytes → File
 IsQuietCheck growth metric bound input stem old new said says
     = IsQuiet (AreCheckFilesSteady growth metric bound input stem old new) old new said says
 
--- The answers of a check job, each with what it says.
+-- The answers of a check or a confirm job, each with what it says.
 pub data CheckEnd (growth : Growth) (metric : Metric) (bound : ℕ) (input stem : Bytes) (old new : FilesTold)
     (said says : SinkTold) : Type 0 where
   verified : CheckVerified growth metric bound input stem old new said says
@@ -161,7 +161,7 @@ IsVerifiedOrNoMemory (not_read fault) = ⊥
 IsVerifiedOrNoMemory (endless e) = ⊥
 
 -- A bundle that verifies: where each file of the bundle has fewer than 2^40 bytes, each quiet check of these
--- files, or each quiet confirmation, is verified, unless memory is wanting.
+-- files, or each quiet confirm job over them, is verified, unless memory is wanting.
 abbrev pub VerifiesWith : Growth → Metric → ℕ → Bytes → Bytes → Held → Type 0
 VerifiesWith growth metric bound input stem held = (old new : FilesTold) (said says : SinkTold)
     → old.held ≡ Some held → AreShort stem held

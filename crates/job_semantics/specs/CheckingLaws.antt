@@ -46,7 +46,7 @@ pub record FileWordsLaw : Type 0 where
   pub trimming : (words : List Bytes) (metric : Metric) (bound : ℕ) (input stem output : Bytes)
       → job_of words ≡ Some (trim metric bound input stem output) → IsTrue (are_trim_words input stem output)
 
--- A check, or a confirmation, that is verified found a certificate. A quiet one of files that are told, whose
+-- A check or a confirm job that is verified found a certificate. A quiet one over files that are told, whose
 -- texts are a certificate for the net of IN, is verified unless memory is wanting or a file goes on without
 -- an end. Where the needed files are held, a file goes on without an end only if some file of the bundle has
 -- at least 2^40 bytes.

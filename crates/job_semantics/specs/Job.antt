@@ -129,7 +129,7 @@ task_of task (m ∷ b ∷ c ∷ input ∷ second ∷ stem ∷ []) = do
       then Some (task_job task metric bound conflicts input second stem) else None
 task_of task _ = None
 
--- the job of a check or of a confirmation
+-- a check or a confirm job
 abbrev pub check_of : (Metric → ℕ → Bytes → Bytes → Job) → List Bytes → Option Job
 check_of job (m ∷ b ∷ input ∷ stem ∷ []) = do
   metric ← metric_of m

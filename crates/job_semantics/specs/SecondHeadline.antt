@@ -4,7 +4,8 @@
 -- When `confirm` verifies a bundle, on every input the approximate circuit's error against the original is at
 -- most the stated maximum, which is within the bound and attained at the witness; unless the stated conflicts
 -- were spent, every second netlist within the bound gets a bundle that `confirm` verifies: from `certify` for
--- the netlist as it is, from `refine` for one that admits no further single simplification.
+-- the netlist as it is, from `refine` for one that admits no further single simplification. To refine IN
+-- itself is a synthesis, of which the headline speaks.
 use Rattle.std.specs.Prelude.{◌≡◌, ◌⊎◌, ℕ, ◌≤◌, Bool, Option, Some, None, List, length, Contains}
 use Rattle.semantics.specs.Texts.{Bytes}
 use Rattle.semantics.specs.Net.{NetValue, input_count, table_count, literal_count, HasSamePorts}
@@ -45,9 +46,9 @@ IsAsAsked Certify metric exact bound begin approx = approx ≡ begin
 IsAsAsked Refine metric exact bound begin approx = IsSimplificationEndFrom metric exact bound begin approx
 
 -- The files hold a bundle that verifies: its texts are a certificate, by which the circuit may be larger than
--- the original, and each quiet confirmation of these files is verified, where each of the five has fewer than
--- 2^40 bytes, unless memory is wanting. So is each quiet check where the circuit is not larger. The circuit
--- has the original's inputs and outputs by their names, and is what was asked for.
+-- the original, and each quiet confirm job over these files is verified, where each of the five has fewer
+-- than 2^40 bytes, unless memory is wanting. So is each quiet check where the circuit is not larger. The
+-- circuit has the original's inputs and outputs by their names, and is what was asked for.
 pub record IsCertifiedAs (task : Task) (metric : Metric) (bound : ℕ) (input stem : Bytes)
     (exact begin : NetValue) (held : Held) : Type 0 where
   pub certificate : CertifiesWith Allowed exact metric bound (texts_of held stem)
@@ -66,13 +67,19 @@ pub record IsOfTheChainFrom (metric : Metric) (exact : NetValue) (bound : ℕ)
   pub in_the_chain : IsInSimplificationFrom metric exact bound begin member
   pub at_most_a_move : (N ≡ member) ⊎ ((m : Move) × Contains (moves_of member) m × (N ≡ moved member m))
 
--- The stated conflicts were spent on the question whether the error of the second net, or of a net of its
--- chain, exceeds a level within the bound: the log is a chain of exactly `conflicts` conflicts over the miter
--- of that question, and `conflicts` conflicts are not enough for the inputs.
-pub record AreSpentOnSecond (metric : Metric) (exact begin : NetValue) (bound conflicts : ℕ)
+-- the nets that a task asks about: the second net and, to refine it, those of its chain
+abbrev pub IsAskedAbout : Task → Metric → NetValue → ℕ → NetValue → NetValue → Type 0
+IsAskedAbout Certify metric exact bound begin N = N ≡ begin
+IsAskedAbout Refine metric exact bound begin N
+    = (N ≡ begin) ⊎ IsOfTheChainFrom metric exact bound begin N
+
+-- The stated conflicts were spent on the question whether the error of such a net exceeds a level within the
+-- bound: the log is a chain of exactly `conflicts` conflicts over the miter of that question, and `conflicts`
+-- conflicts are not enough for the inputs.
+pub record AreSpentOnSecond (task : Task) (metric : Metric) (exact begin : NetValue) (bound conflicts : ℕ)
     (q : SpentValue) : Type 0 where
   pub level : q.k ≤ bound
-  pub net : (q.net ≡ begin) ⊎ IsOfTheChainFrom metric exact bound begin q.net
+  pub net : IsAskedAbout task metric exact bound begin q.net
   pub query : IsSpentQuery metric exact conflicts q
 
 -- `Verified`, `Done` and `NoMemory` say that this was answered; `spent` and `level` are the queries that were
@@ -96,4 +103,4 @@ pub record SecondHeadline (words : List Bytes) (Verified Done NoMemory : Type 0)
       → job_of words ≡ Some (against task metric bound conflicts input second stem)
       → (q : SpentValue) → (spent ≡ Some q) ⊎ (level ≡ Some q)
       → (exact : NetValue) × (begin : NetValue) × AreRead input second old new exact begin
-      × AreSpentOnSecond metric exact begin bound conflicts q
+      × AreSpentOnSecond task metric exact begin bound conflicts q

@@ -12,7 +12,7 @@ use Rattle.jobs.specs.declared.outcome.Outcome.{Outcome}
 abbrev pub NothingSpent : Option SpentValue → Option SpentValue → Type 0
 NothingSpent spent level = (spent ≡ None) × (level ≡ None)
 
--- A query of the search for the greatest error was spent exactly with `Budget`; a query of the search along
+-- A query on a level of the error was spent exactly with `Budget`; a query of the search along
 -- the chain may have been spent with `Budget` and with `Done`, and with no other status.
 abbrev pub SpendsAs : Option SpentValue → Option SpentValue → Status → Type 0
 SpendsAs spent level Done = level ≡ None

@@ -1,7 +1,7 @@
 -- What each answer of a run says.
 use Rattle.std.specs.Prelude.{◌≡◌, ◌↔◌, ℕ, Option, Some, None, Result, Ok, List}
 use Rattle.semantics.specs.Texts.{Bytes}
-use Rattle.semantics.specs.Net.{NetValue, input_count}
+use Rattle.semantics.specs.Net.{NetValue, input_count, HasSamePorts}
 use Rattle.semantics.specs.declared.metric.Metric.{Metric}
 use Rattle.semantics.specs.declared.metric.Kind.TheVariants.{Abs}
 use Rattle.semantics.specs.Error.{one_word}
@@ -9,7 +9,14 @@ use Rattle.outside_semantics.specs.Outside.{FilesTold, SinkTold}
 use Rattle.blif_semantics.specs.Reading.{Refusal}
 use Rattle.proof_semantics.specs.Conflicts.{IsEnough}
 use Rattle.proof_semantics.specs.Queries.{SpentValue}
-use Rattle.job_semantics.specs.Job.{Job, synth, check, demo, flat, aag, blif, trim, job_of}
+use Rattle.chain_semantics.specs.Simplification.{IsBeginning}
+use Rattle.job_semantics.specs.declared.growth.Growth.TheVariants.{Refused, Allowed}
+use Rattle.job_semantics.specs.declared.task.Task.{Task}
+use Rattle.job_semantics.specs.declared.task.Task.TheVariants.{Refine}
+use Rattle.job_semantics.specs.Job.{Job, synth, against, check, confirm, demo, flat, aag, blif, trim, job_of}
+use Rattle.job_semantics.specs.SecondNetlist.{AreUntouched, AreBothRead, SecondRefused, HasOtherPorts}
+use Rattle.job_semantics.specs.SecondNetlist.{IsAboveBound, IsTaskSpent, TaskDone, TaskWriteFault}
+use Rattle.job_semantics.specs.SecondNetlist.{TaskReadFault, IsQuietTask}
 use Rattle.job_semantics.specs.Input.{input_reading, IsRefusedFor}
 use Rattle.job_semantics.specs.Synthesis.{IsUntouched, InputRefused, InputReadFault, BundleWritten}
 use Rattle.job_semantics.specs.Synthesis.{BundleCutShort, MaximumSpent, SynthDone, SynthBudget}
@@ -22,10 +29,10 @@ use Rattle.job_semantics.specs.Demonstration.{demo_stem, IsQuietDemo}
 use Rattle.blif_text.specs.Refusals.{refusal_of}
 use Rattle.blif_text.specs.declared.refusal.BlifRefusal.{BlifRefusal}
 use Rattle.job_answers.specs.declared.status.Status.{Status}
-use Rattle.job_answers.specs.declared.status.Status.TheVariants.{Done, Usage, Text, NoMemory, Budget}
-use Rattle.job_answers.specs.declared.status.Status.TheVariants.{ReadFault, WriteFault}
+use Rattle.job_answers.specs.declared.status.Status.TheVariants.{Done, Usage, Text, NoMemory, Budget, Second}
+use Rattle.job_answers.specs.declared.status.Status.TheVariants.{ReadFault, WriteFault, Ports, Over}
 use Rattle.job_answers.specs.Refused.{TellsBlif, TellsHier, TellsAiger}
-use Rattle.job_answers.specs.Ends.{EndsWell}
+use Rattle.job_answers.specs.Ends.{EndsWell, EndsWellOnBoth}
 use Rattle.check_jobs.specs.Answers.{CheckAnswer, TrimAnswer, Refuses, IsCheckAnswerTo, IsTrimAnswerTo}
 use Rattle.conversions.specs.Texts.{flat_text, aag_text, netlist_text}
 use Rattle.conversions.specs.Answers.{ConversionAnswer, IsConvertedAs}
@@ -62,26 +69,57 @@ SynthAnswer metric bound limit input stem old new said says o =
     SynthAnswerAt metric bound limit input stem old new said says (told_query o.spent) (told_query o.level)
     o.status
 
--- what a job on a net that was read or generated comes to: nothing was touched, or the net's bundle was
--- written under the stem, whole or in part
-abbrev pub BundleAnswerAt : Metric → ℕ → ℕ → NetValue → Bytes → FilesTold → FilesTold → SinkTold → SinkTold
-    → Option SpentValue → Option SpentValue → Status → Type 0
-BundleAnswerAt metric bound limit exact stem old new said says spent level Done
-    = BundleWritten metric bound limit exact stem spent old new said says × (level ≡ None)
-BundleAnswerAt metric bound limit exact stem old new said says spent level Budget =
+-- what a task on nets that were read or generated comes to: nothing was touched, or the bundle was written
+-- under the stem, whole or in part
+abbrev pub BundleAnswerAt : Task → Metric → ℕ → ℕ → NetValue → NetValue → Bytes → FilesTold → FilesTold
+    → SinkTold → SinkTold → Option SpentValue → Option SpentValue → Status → Type 0
+BundleAnswerAt task metric bound limit exact begin stem old new said says spent level Done
+    = BundleWritten task metric bound limit exact begin stem spent old new said says × (level ≡ None)
+BundleAnswerAt task metric bound limit exact begin stem old new said says spent level Budget =
     (new ≡ old) × (says ≡ said) × (q : SpentValue) × (level ≡ Some q)
-    × MaximumSpent metric bound limit exact spent q
-BundleAnswerAt metric bound limit exact stem old new said says spent level NoMemory = (new ≡ old)
+    × MaximumSpent task metric bound limit exact begin spent q
+BundleAnswerAt task metric bound limit exact begin stem old new said says spent level NoMemory = (new ≡ old)
     × (says ≡ said) × NothingSpent spent level
-BundleAnswerAt metric bound limit exact stem old new said says spent level WriteFault
-    = BundleCutShort metric bound limit exact stem old new said says × NothingSpent spent level
-BundleAnswerAt metric bound limit exact stem old new said says spent level _ = ⊥
+BundleAnswerAt task metric bound limit exact begin stem old new said says spent level WriteFault
+    = BundleCutShort task metric bound limit exact begin stem old new said says × NothingSpent spent level
+BundleAnswerAt task metric bound limit exact begin stem old new said says spent level _ = ⊥
 
-abbrev pub BundleAnswer : Metric → ℕ → ℕ → NetValue → Bytes → FilesTold → FilesTold → SinkTold → SinkTold
-    → Outcome → Type 0
-BundleAnswer metric bound limit exact stem old new said says o =
-    BundleAnswerAt metric bound limit exact stem old new said says (told_query o.spent) (told_query o.level)
-    o.status
+abbrev pub BundleAnswer : Task → Metric → ℕ → ℕ → NetValue → NetValue → Bytes → FilesTold → FilesTold
+    → SinkTold → SinkTold → Outcome → Type 0
+BundleAnswer task metric bound limit exact begin stem old new said says o =
+    BundleAnswerAt task metric bound limit exact begin stem old new said says (told_query o.spent)
+    (told_query o.level) o.status
+
+-- what a certify or a refine job comes to, by its answer and the queries that are told as spent
+abbrev pub TaskAnswerAt : Task → Metric → ℕ → ℕ → Bytes → Bytes → Bytes → FilesTold → FilesTold → SinkTold
+    → SinkTold → Option SpentValue → Option SpentValue → Status → Type 0
+TaskAnswerAt task metric bound limit input second stem old new said says spent level Done
+    = TaskDone task metric bound limit input second stem spent old new said says × (level ≡ None)
+TaskAnswerAt task metric bound limit input second stem old new said says spent level Budget =
+    (q : SpentValue) × (level ≡ Some q)
+    × AreBothRead input second old new said says (IsTaskSpent task metric bound limit spent q)
+TaskAnswerAt task metric bound limit input second stem old new said says spent level (Text reason)
+    = IsToldRefused reason input old new said says × NothingSpent spent level
+TaskAnswerAt task metric bound limit input second stem old new said says spent level (Second reason) =
+    ((refusal : Refusal) × (refusal_of reason ≡ Some refusal)
+    × SecondRefused refusal input second old new said says) × NothingSpent spent level
+TaskAnswerAt task metric bound limit input second stem old new said says spent level Ports
+    = AreBothRead input second old new said says HasOtherPorts × NothingSpent spent level
+TaskAnswerAt task metric bound limit input second stem old new said says spent level (Over x)
+    = AreBothRead input second old new said says (IsAboveBound metric bound x) × NothingSpent spent level
+TaskAnswerAt task metric bound limit input second stem old new said says spent level NoMemory
+    = AreUntouched input second old new said says × NothingSpent spent level
+TaskAnswerAt task metric bound limit input second stem old new said says spent level ReadFault
+    = TaskReadFault input second old new said says × NothingSpent spent level
+TaskAnswerAt task metric bound limit input second stem old new said says spent level WriteFault
+    = TaskWriteFault task metric bound limit input second stem old new said says × NothingSpent spent level
+TaskAnswerAt task metric bound limit input second stem old new said says spent level _ = ⊥
+
+abbrev pub TaskAnswer : Task → Metric → ℕ → ℕ → Bytes → Bytes → Bytes → FilesTold → FilesTold → SinkTold
+    → SinkTold → Outcome → Type 0
+TaskAnswer task metric bound limit input second stem old new said says o =
+    TaskAnswerAt task metric bound limit input second stem old new said says (told_query o.spent)
+    (told_query o.level) o.status
 
 -- Where `limit` conflicts are enough for `inputs` inputs, a bundle is written and no query is spent.
 abbrev pub IsWorkOf : ℕ → ℕ → Option SpentValue → Status → Type 0
@@ -102,6 +140,35 @@ IsAnswerTo limit spent reading (Text reason) = Refuses reading reason
 IsAnswerTo limit spent reading NoMemory = Unit {0}
 IsAnswerTo limit spent reading _ = ⊥
 
+-- the answer that the reading of IN alone asks a certify or a refine job for, unless memory is wanting: where
+-- IN gives a net, the second netlist decides
+abbrev pub IsInputAnswerTo : Result NetValue Refusal → Status → Type 0
+IsInputAnswerTo reading (Text reason) = Refuses reading reason
+IsInputAnswerTo reading NoMemory = Unit {0}
+IsInputAnswerTo reading _ = (N : NetValue) × (reading ≡ Ok N)
+
+-- both readings give nets of which P holds
+abbrev pub GivesNets : Result NetValue Refusal → Result NetValue Refusal → (NetValue → NetValue → Type 0)
+    → Type 0
+GivesNets reading second P = GivesNet reading (λ N. GivesNet second (P N))
+
+-- the answer that both readings ask a certify or a refine job for, unless memory is wanting
+abbrev pub IsTaskAnswerTo : Metric → ℕ → ℕ → Option SpentValue → Result NetValue Refusal
+    → Result NetValue Refusal → Status → Type 0
+IsTaskAnswerTo metric bound limit spent reading second Done =
+    GivesNets reading second
+    (λ N S. IsBeginning metric N bound S × IsWorkOf limit (input_count N) spent Done)
+IsTaskAnswerTo metric bound limit spent reading second Budget =
+    GivesNets reading second (λ N S. HasSamePorts N S × IsWorkOf limit (input_count N) spent Budget)
+IsTaskAnswerTo metric bound limit spent reading second (Text reason) = Refuses reading reason
+IsTaskAnswerTo metric bound limit spent reading second (Second reason)
+    = GivesNet reading (λ N. Refuses second reason)
+IsTaskAnswerTo metric bound limit spent reading second Ports = GivesNets reading second HasOtherPorts
+IsTaskAnswerTo metric bound limit spent reading second (Over x)
+    = GivesNets reading second (IsAboveBound metric bound x)
+IsTaskAnswerTo metric bound limit spent reading second NoMemory = Unit {0}
+IsTaskAnswerTo metric bound limit spent reading second _ = ⊥
+
 -- the solver was asked nothing
 abbrev pub AsksNoQuery : Outcome → Type 0
 AsksNoQuery o = NothingSpent (told_query o.spent) (told_query o.level)
@@ -110,10 +177,15 @@ AsksNoQuery o = NothingSpent (told_query o.spent) (told_query o.level)
 abbrev pub JobAnswer : Job → FilesTold → FilesTold → SinkTold → SinkTold → Outcome → Type 0
 JobAnswer (synth metric bound conflicts input stem) old new said says o
     = SynthAnswer metric bound conflicts input stem old new said says o
+JobAnswer (against task metric bound conflicts input second stem) old new said says o
+    = TaskAnswer task metric bound conflicts input second stem old new said says o
 JobAnswer (check metric bound input stem) old new said says o
-    = CheckAnswer metric bound input stem old new said says o.status
-JobAnswer (demo width bound conflicts) old new said says o
-    = BundleAnswer (one_word Abs) bound conflicts (demo_net width) demo_stem old new said says o
+    = CheckAnswer Refused metric bound input stem old new said says o.status
+JobAnswer (confirm metric bound input stem) old new said says o
+    = CheckAnswer Allowed metric bound input stem old new said says o.status
+JobAnswer (demo width bound conflicts) old new said says o =
+    BundleAnswer Refine (one_word Abs) bound conflicts (demo_net width) (demo_net width) demo_stem old new
+    said says o
 JobAnswer (flat input output) old new said says o
     = ConversionAnswer flat_text TellsHier input output old new said says o.status × AsksNoQuery o
 JobAnswer (aag input output) old new said says o
@@ -126,12 +198,13 @@ JobAnswer (trim metric bound input stem output) old new said says o
 -- the job is done with files alone: no net is simplified, and no report is put
 abbrev pub IsOnFiles : Job → Type 0
 IsOnFiles (synth metric bound conflicts input stem) = ⊥
+IsOnFiles (against task metric bound conflicts input second stem) = ⊥
 IsOnFiles (demo width bound conflicts) = ⊥
 IsOnFiles job = Unit {0}
 
 -- What every run says, by its words, its answer, and what files and sink told at entry and at exit. Words
 -- that are no job, and no other words, are answered `Usage`. A spent query is told with `Budget` and with
--- `Done` alone, and one of the search for the greatest error exactly with `Budget`. The answer to a job says
+-- `Done` alone, and one on a level of the error exactly with `Budget`. The answer to a job says
 -- what the job comes to.
 pub record RunSays (words : List Bytes) (old new : FilesTold) (said says : SinkTold)
     (o : Outcome) : Type 0 where
@@ -143,8 +216,12 @@ pub record RunSays (words : List Bytes) (old new : FilesTold) (said says : SinkT
 abbrev pub IsQuietJob : Job → FilesTold → FilesTold → SinkTold → SinkTold → Type 0
 IsQuietJob (synth metric bound conflicts input stem) old new said says
     = IsQuietSynth input stem old new said says
+IsQuietJob (against task metric bound conflicts input second stem) old new said says
+    = IsQuietTask input second stem old new said says
 IsQuietJob (check metric bound input stem) old new said says
-    = IsQuietCheck metric bound input stem old new said says
+    = IsQuietCheck Refused metric bound input stem old new said says
+IsQuietJob (confirm metric bound input stem) old new said says
+    = IsQuietCheck Allowed metric bound input stem old new said says
 IsQuietJob (demo width bound conflicts) old new said says = IsQuietDemo old new said says
 IsQuietJob (flat input output) old new said says = IsQuietConversion flat_text input output old new said says
 IsQuietJob (aag input output) old new said says = IsQuietConversion aag_text input output old new said says
@@ -153,11 +230,16 @@ IsQuietJob (blif input output) old new said says
 IsQuietJob (trim metric bound input stem output) old new said says
     = IsQuietTrim metric bound input stem output old new said says
 
--- the job ends without a fault, and as the reading of IN and the conflicts ask, unless memory is wanting
+-- the job ends without a fault, and as the readings and the conflicts ask, unless memory is wanting
 abbrev pub EndsAsAsked : Job → FilesTold → Outcome → Type 0
 EndsAsAsked (synth metric bound conflicts input stem) old o
     = EndsWell input_reading (IsAnswerTo conflicts (told_query o.spent)) input old o.status
+EndsAsAsked (against task metric bound conflicts input second stem) old o =
+    EndsWellOnBoth input_reading IsInputAnswerTo
+    (IsTaskAnswerTo metric bound conflicts (told_query o.spent)) input second old o.status
 EndsAsAsked (check metric bound input stem) old o = EndsWell input_reading IsCheckAnswerTo input old o.status
+EndsAsAsked (confirm metric bound input stem) old o
+    = EndsWell input_reading IsCheckAnswerTo input old o.status
 EndsAsAsked (demo width bound conflicts) old o
     = IsWorkOf conflicts (input_count (demo_net width)) (told_query o.spent) o.status
 EndsAsAsked (flat input output) old o = EndsWell flat_text (IsConvertedAs TellsHier) input old o.status

@@ -8,6 +8,7 @@ ghost use Rattle.jobs.specs.Run.{IsOnFiles, JobAnswer, RunSays};
 
 use crate::demonstration::demonstrate;
 use crate::outcome::{Outcome, Status, only};
+use crate::second::{Names, against};
 use crate::synthesis::synthesize;
 use check_jobs::checking::check;
 use check_jobs::trimming::trim_bundle;
@@ -16,11 +17,12 @@ use conversions::conversion::{aag, blif, flat};
 use file_core::files::Files;
 use file_core::sink::Sink;
 use file_core::word::Word;
+use job_semantics::growth::Growth;
 use progress::progress::Progress;
 use std::alloc::Global;
 use synth_jobs::preparing::Constraint;
 
-/// Carries out a job that uses files alone: a check, a conversion, or the trimming of a log.
+/// Carries out a job that uses files alone: a check, a confirmation, a conversion, or the trimming of a log.
 fn on_files<F: Files>(alloc: Global, command: Command, files: &mut F) -> Status
     requires on_files { IsOnFiles (job_meaning command) }
     requires named { (words : List Bytes) × (job_of words ≡ Some (job_meaning command)) }
@@ -38,7 +40,13 @@ fn on_files<F: Files>(alloc: Global, command: Command, files: &mut F) -> Status
             bound,
             input,
             stem,
-        } => check(alloc, metric, bound, input, stem, files),
+        } => check(alloc, Growth::Refused, metric, bound, input, stem, files),
+        Command::Confirm {
+            metric,
+            bound,
+            input,
+            stem,
+        } => check(alloc, Growth::Allowed, metric, bound, input, stem, files),
         Command::Flat { input, output } => flat(alloc, input, output, files),
         Command::Aag { input, output } => aag(alloc, input, output, files),
         Command::Blif { input, output } => blif(alloc, input, output, files),
@@ -50,6 +58,7 @@ fn on_files<F: Files>(alloc: Global, command: Command, files: &mut F) -> Status
             output,
         } => trim_bundle(alloc, metric, bound, input, stem, output, files),
         Command::Synth { .. } => unreachable!(),
+        Command::Against { .. } => unreachable!(),
         Command::Demo { .. } => unreachable!(),
     }
 }
@@ -84,6 +93,27 @@ pub fn carry_out<F: Files, K: Sink, P: Progress>(
                 limit: u64::from(conflicts),
             };
             synthesize(alloc, aim, input, stem, files, say, progress)
+        }
+        Command::Against {
+            task,
+            metric,
+            bound,
+            conflicts,
+            input,
+            second,
+            stem,
+        } => {
+            let aim = Constraint {
+                metric,
+                bound,
+                limit: u64::from(conflicts),
+            };
+            let names = Names {
+                input,
+                second,
+                stem,
+            };
+            against(alloc, task, aim, names, files, say, progress)
         }
         Command::Demo {
             width,

@@ -2,6 +2,7 @@
 ghost use Rattle.std.specs.Prelude.{◌≤◌};
 ghost use Rattle.semantics.specs.declared.metric.Kind.TheVariants.{Abs};
 ghost use Rattle.semantics.specs.Error.{one_word};
+ghost use Rattle.job_semantics.specs.declared.task.Task.TheVariants.{Refine};
 ghost use Rattle.job_semantics.specs.Demo.{demo_net};
 ghost use Rattle.job_semantics.specs.Demonstration.{demo_stem};
 ghost use Rattle.jobs.specs.Run.{BundleAnswer};
@@ -29,9 +30,11 @@ pub fn demonstrate<F: Files, K: Sink, P: Progress>(
     requires bound { bound ≤ LARGEST_ERROR }
     requires limit { 1 ≤ limit }
     ensures { BundleAnswer
+        Refine
         (one_word Abs)
         bound
         limit
+        (demo_net width)
         (demo_net width)
         demo_stem
         (F.told files.old)

@@ -3,7 +3,9 @@
 #![tactic(auto)]
 
 mod commands;
+mod delivery;
 mod demonstration;
 pub mod outcome;
 pub mod run;
+mod second;
 mod synthesis;

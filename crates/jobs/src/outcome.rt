@@ -13,7 +13,8 @@ pub struct Outcome {
     /// The spent query of the search along the chain: with `Budget`, or with `Done` where the report says
     /// `minimal no`.
     pub spent: Option<Spent>,
-    /// The spent query of the search for the greatest error: with `Budget` alone.
+    /// The spent query of the search for the greatest error, or of the question whether a second net keeps
+    /// the bound: with `Budget` alone.
     pub level: Option<Spent>,
 }
 

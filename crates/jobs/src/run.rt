@@ -8,6 +8,7 @@ ghost use Rattle.semantics.specs.Texts.{Bytes};
 ghost use Rattle.semantics.specs.Net.{input_count};
 ghost use Rattle.semantics.specs.declared.metric.Metric.{Metric};
 ghost use Rattle.job_semantics.specs.Headline.{Headline};
+ghost use Rattle.job_semantics.specs.SecondHeadline.{SecondHeadline};
 ghost use Rattle.job_semantics.specs.Job.{Job, synth, check, demo, job_of};
 ghost use Rattle.job_semantics.specs.Demo.{demo_net};
 ghost use Rattle.file_core.specs.Sure.{sure_told, sure_sink_told};
@@ -41,14 +42,27 @@ pub fn run<F: Files, K: Sink>(alloc: Global, words: &[Word], files: &mut F, say:
         (K.told say.old)
         (K.told say.new) }
 
+    // When `confirm` verifies a bundle it keeps the bound; unless conflicts were spent, a second netlist
+    // within the bound gets a bundle that is confirmed.
+    ensures second_headline { SecondHeadline
+        words.now
+        (result.status ≡ Status.Verified)
+        (result.status ≡ Status.Done)
+        (result.status ≡ Status.NoMemory)
+        (told_query result.spent)
+        (told_query result.level)
+        (F.told files.old)
+        (F.told files.new)
+        (K.told say.old)
+        (K.told say.new) }
+
     // What each answer says.
     ensures says { RunSays words.now (F.told files.old) (F.told files.new) (K.told say.old) (K.told say.new)
         result }
     ensures usage_touches_nothing { result.status ≡ Status.Usage
         → (files.new ≡ files.old) × (say.new ≡ say.old) }
 
-    // A quiet call has no fault, and ends as the reading of IN and the conflicts ask, unless memory is
-    // wanting.
+    // A quiet call has no fault, and ends as the readings and the conflicts ask, unless memory is wanting.
     ensures complete { (job : Job) → job_of words.now ≡ Some job
         → IsQuietJob job (F.told files.old) (F.told files.new) (K.told say.old) (K.told say.new)
         → EndsAsAsked job (F.told files.old) result }
@@ -79,14 +93,27 @@ pub fn run_followed<F: Files, K: Sink, P: Progress>(
         (K.told say.old)
         (K.told say.new) }
 
+    // When `confirm` verifies a bundle it keeps the bound; unless conflicts were spent, a second netlist
+    // within the bound gets a bundle that is confirmed.
+    ensures second_headline { SecondHeadline
+        words.now
+        (result.status ≡ Status.Verified)
+        (result.status ≡ Status.Done)
+        (result.status ≡ Status.NoMemory)
+        (told_query result.spent)
+        (told_query result.level)
+        (F.told files.old)
+        (F.told files.new)
+        (K.told say.old)
+        (K.told say.new) }
+
     // What each answer says.
     ensures says { RunSays words.now (F.told files.old) (F.told files.new) (K.told say.old) (K.told say.new)
         result }
     ensures usage_touches_nothing { result.status ≡ Status.Usage
         → (files.new ≡ files.old) × (say.new ≡ say.old) }
 
-    // A quiet call has no fault, and ends as the reading of IN and the conflicts ask, unless memory is
-    // wanting.
+    // A quiet call has no fault, and ends as the readings and the conflicts ask, unless memory is wanting.
     ensures complete { (job : Job) → job_of words.now ≡ Some job
         → IsQuietJob job (F.told files.old) (F.told files.new) (K.told say.old) (K.told say.new)
         → EndsAsAsked job (F.told files.old) result }
@@ -103,6 +130,17 @@ pub fn run_surely(
     say: &mut SureSink,
 ) -> Outcome
     ensures headline { Headline
+        words.now
+        (result.status ≡ Status.Verified)
+        (result.status ≡ Status.Done)
+        (result.status ≡ Status.NoMemory)
+        (told_query result.spent)
+        (told_query result.level)
+        (sure_told files.old)
+        (sure_told files.new)
+        sure_sink_told
+        sure_sink_told }
+    ensures second_headline { SecondHeadline
         words.now
         (result.status ≡ Status.Verified)
         (result.status ≡ Status.Done)

@@ -2,17 +2,16 @@
 ghost use Rattle.std.specs.Prelude.{◌≤◌};
 ghost use Rattle.jobs.specs.Run.{SynthAnswer};
 
-use crate::outcome::{Outcome, Status, only, outcome_of};
-use bundle_writing::stem::Stem;
+use crate::delivery::deliver;
+use crate::outcome::{Outcome, Status, only};
 use conversions::input::read_net;
 use file_core::files::Files;
 use file_core::sink::Sink;
+use job_semantics::task::Task;
 use progress::progress::Progress;
 use semantics::limits::LARGEST_ERROR;
 use std::alloc::Global;
-use synth_core::chain::Chain;
-use synth_jobs::delivery::finish;
-use synth_jobs::preparing::Constraint;
+use synth_jobs::preparing::{Assignment, Constraint};
 
 /// Carries out a synth job.
 pub fn synthesize<F: Files, K: Sink, P: Progress>(
@@ -42,8 +41,15 @@ pub fn synthesize<F: Files, K: Sink, P: Progress>(
         Ok(net) => net,
         Err(answer) => return only(answer),
     };
-    let Ok(names) = Stem::new(alloc, stem) else {
+    let Ok(begin) = exact.copy() else {
         return only(Status::NoMemory);
     };
-    outcome_of(finish::<Chain, F, K, P>(alloc, exact, aim, &names, files, say, progress))
+    exact.see_sound();
+    let assignment = Assignment {
+        task: Task::Refine,
+        exact,
+        begin,
+        aim,
+    };
+    deliver(alloc, assignment, stem, files, say, progress)
 }

@@ -14,6 +14,8 @@ mod larger;
 #[cfg(test)]
 mod refused;
 #[cfg(test)]
+mod second;
+#[cfg(test)]
 mod simplified;
 #[cfg(test)]
 mod statuses;

@@ -19,10 +19,11 @@ fn exit_numbers_and_lines(rt: HostRuntime) -> Result<(), Fail> {
         (Status::ReadFault, 5, "read fault"),
         (Status::WriteFault, 6, "write fault"),
         (Status::Budget, 4, "conflicts spent"),
+        (Status::Ports, 13, "other ports"),
         (
             Status::Usage,
             1,
-            "usage: synth METRIC BOUND CONFLICTS IN STEM, check METRIC BOUND IN STEM, flat IN OUT, aag IN OUT, blif IN OUT, trim METRIC BOUND IN STEM OUT, or demo WIDTH BOUND CONFLICTS",
+            "usage: synth METRIC BOUND CONFLICTS IN STEM, certify METRIC BOUND CONFLICTS IN APPROX STEM, refine METRIC BOUND CONFLICTS IN START STEM, check METRIC BOUND IN STEM, confirm METRIC BOUND IN STEM, flat IN OUT, aag IN OUT, blif IN OUT, trim METRIC BOUND IN STEM OUT, or demo WIDTH BOUND CONFLICTS",
         ),
     ];
     for (status, exit, line) in rows {

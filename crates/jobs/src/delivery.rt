@@ -1,0 +1,51 @@
+//! The bundle of a task is written under a stem.
+ghost use Rattle.std.specs.Prelude.{◌≤◌};
+ghost use Rattle.semantics.specs.Net.{IsSmall};
+ghost use Rattle.chain_semantics.specs.Simplification.{IsBeginning};
+ghost use Rattle.jobs.specs.Run.{BundleAnswer};
+
+use crate::outcome::{Outcome, Status, only, outcome_of};
+use bundle_writing::stem::Stem;
+use file_core::files::Files;
+use file_core::sink::Sink;
+use progress::progress::Progress;
+use semantics::limits::LARGEST_ERROR;
+use std::alloc::Global;
+use synth_core::chain::Chain;
+use synth_jobs::delivery::finish;
+use synth_jobs::preparing::Assignment;
+
+/// Carries out an assignment: writes its bundle under the stem, and puts its report.
+pub(crate) fn deliver<F: Files, K: Sink, P: Progress>(
+    alloc: Global,
+    assignment: Assignment,
+    stem: &[u8],
+    files: &mut F,
+    say: &mut K,
+    progress: &mut P,
+) -> Outcome
+    requires exact { IsSmall assignment.exact }
+    requires begin { IsSmall assignment.begin }
+    requires beginning { IsBeginning assignment.aim.metric assignment.exact assignment.aim.bound
+        assignment.begin }
+    requires bound { assignment.aim.bound ≤ LARGEST_ERROR }
+    requires limit { 1 ≤ assignment.aim.limit }
+    ensures { BundleAnswer
+        assignment.task
+        assignment.aim.metric
+        assignment.aim.bound
+        assignment.aim.limit
+        assignment.exact
+        assignment.begin
+        stem.now
+        (F.told files.old)
+        (F.told files.new)
+        (K.told say.old)
+        (K.told say.new)
+        result }
+{
+    let Ok(names) = Stem::new(alloc, stem) else {
+        return only(Status::NoMemory);
+    };
+    outcome_of(finish::<Chain, F, K, P>(alloc, assignment, &names, files, say, progress))
+}
