@@ -1,4 +1,4 @@
--- What the words of a job say of its numbers.
+-- What the words of a job say of its numbers, and which job the words of a task are.
 use Rattle.std.proofs.Common.{◌≡◌, ◌≤◌, ℕ, Bool, true, false, ◌&&◌, if◌then◌else◌, Some, None, nat_le, bytes_eq, ◌<◌, List, [], ◌∷◌, length, get_or, refl, sym, subst, arith}
 use Rattle.std.proofs.lemmas.Bool.Decides.{nat_tests}
 use Rattle.semantics.specs.Texts.{Bytes}
