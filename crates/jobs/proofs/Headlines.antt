@@ -1,21 +1,21 @@
--- The headline, from what each answer says.
-use Rattle.std.proofs.Common.{◌≡◌, ◌≢◌, ◌⊎◌, ℕ, Bool, List, ◌∷◌, ◌++◌, Option, Some, None, MatchOption, Result, Ok, Err, Contains, inl, inr, refl, sym, subst, ◌∙◌, arith}
+-- The headline of synth and check jobs, from what each answer says.
+use Rattle.std.proofs.Common.{◌≡◌, ◌≢◌, ◌⊎◌, ◌×◌, ℕ, Bool, List, Option, Some, None, MatchOption, Result, Ok, Err, inl, inr, refl, sym, subst, ◌∙◌}
 use Rattle.std.specs.Prelude.{IsTrue}
-use Rattle.std.proofs.lemmas.List.Elements.{Contains-append_right}
-use Rattle.chain_semantics.proofs.MoveLists.{Contains-here}
 use Rattle.semantics.specs.Texts.{Bytes}
 use Rattle.semantics.specs.Net.{NetValue, HasSamePorts}
 use Rattle.semantics.specs.declared.metric.Metric.{Metric}
 use Rattle.outside_semantics.specs.Outside.{Held, FilesTold, SinkTold, bytes_of}
 use Rattle.blif_semantics.specs.Reading.{Refusal}
-use Rattle.chain_semantics.specs.Simplification.{IsInSimplification, IsSimplificationEnd}
-use Rattle.proof_semantics.specs.Queries.{SpentValue, IsSpentLevel}
+use Rattle.chain_semantics.specs.Simplification.{IsSimplificationEndFrom}
+use Rattle.proof_semantics.specs.Queries.{SpentValue}
+use Rattle.job_semantics.specs.declared.growth.Growth.{Growth}
+use Rattle.job_semantics.specs.declared.growth.Growth.TheVariants.{Refused}
 use Rattle.job_semantics.specs.Job.{synth, check, are_file_words}
 use Rattle.job_semantics.specs.Input.{IsReadAs}
-use Rattle.job_semantics.specs.Certificate.{Texts, texts_of, IsNetlist, Certifies}
+use Rattle.job_semantics.specs.Certificate.{Texts, texts_of, IsNetlist, CertifiesWith, Certifies}
 use Rattle.job_semantics.specs.Checking.{ShowsItsBound}
 use Rattle.job_semantics.specs.Shrinking.{IsShownEnd, IsSpentMove}
-use Rattle.job_semantics.specs.Synthesis.{OfInput, MaximumSpent, SynthDone}
+use Rattle.job_semantics.specs.Synthesis.{shrinking_of, OfInput, SynthDone}
 use Rattle.job_semantics.specs.Headline.{KeepsItsPromise, AdmitsNoMore, AreSpentOn, Headline}
 use Rattle.job_semantics.proofs.Certificates.{verified_law}
 use Rattle.job_semantics.proofs.FileWords.{file_words_law}
@@ -24,12 +24,12 @@ use Rattle.job_answers.specs.declared.status.Status.{Status}
 use Rattle.job_answers.specs.declared.status.Status.TheVariants.{Done, Verified, Text, NoMemory, Budget, ReadFault, WriteFault}
 use Rattle.jobs.specs.declared.outcome.Outcome.{Outcome}
 use Rattle.synth_jobs.specs.Spent.{told_query}
-use Rattle.jobs.specs.Outcome.{NothingSpent}
 use Rattle.jobs.specs.Run.{SynthAnswerAt, RunSays}
 use Rattle.check_jobs.proofs.CheckAnswers.{verified_end}
 use Rattle.jobs.proofs.SynthAnswers.{quiet_ends}
+use Rattle.jobs.proofs.SpentQueries.{none_is, same_query, of_refined, of_maximum, on_chain}
 
-keeps : {exact : NetValue} {metric : Metric} {bound : ℕ} {texts : Texts} → ShowsItsBound exact metric bound texts → KeepsItsPromise metric bound exact texts
+keeps : {exact : NetValue} {metric : Metric} {bound : ℕ} {texts : Texts} → ShowsItsBound Refused exact metric bound texts → KeepsItsPromise metric bound exact texts
 keeps s = record {
   approx = s.approx;
   report = s.report;
@@ -39,19 +39,20 @@ keeps s = record {
   on_every_input = s.verified.safe;
   within_the_bound = s.verified.within;
   attained_at_the_witness = s.verified.attained;
-  no_more_tables = s.verified.tables;
-  no_more_literals = s.verified.literals;
+  no_more_tables = (s.verified.size refl).0;
+  no_more_literals = (s.verified.size refl).1;
 }
 
 -- where no query of the chain was spent, its end was reached
-end_reached : (metric : Metric) (exact : NetValue) (bound limit : ℕ) (N : NetValue) (pool : List (List Bool)) (spent : Option SpentValue) → spent ≡ None
-    → MatchOption spent (IsShownEnd metric exact bound N pool) (IsSpentMove metric exact bound limit N pool) → IsSimplificationEnd metric exact bound N
-end_reached metric exact bound limit N pool None is h = h.end
-end_reached metric exact bound limit N pool (Some q) is h = cc
+pub end_reached : (metric : Metric) (exact : NetValue) (bound limit : ℕ) (begin N : NetValue) (pool : List (List Bool)) (spent : Option SpentValue) → spent ≡ None
+    → MatchOption spent (IsShownEnd metric exact bound begin N pool) (IsSpentMove metric exact bound limit N pool) → IsSimplificationEndFrom metric exact bound begin N
+end_reached metric exact bound limit begin N pool None is h = h.end
+end_reached metric exact bound limit begin N pool (Some q) is h = cc
 
 -- the net of a certificate has the original's ports
-same_ports : {exact : NetValue} {metric : Metric} {bound : ℕ} (texts : Texts) (approx : NetValue) → Certifies exact metric bound texts → IsNetlist texts approx → HasSamePorts exact approx
-same_ports {exact} texts approx certified reads = subst (HasSamePorts exact) (verified_law.one_net texts certified.1.0.0 approx certified.1.0.1 reads) certified.1.0.2
+pub same_ports : {growth : Growth} {exact : NetValue} {metric : Metric} {bound : ℕ} (texts : Texts) (approx : NetValue) → CertifiesWith growth exact metric bound texts → IsNetlist texts approx
+    → HasSamePorts exact approx
+same_ports {exact = exact} texts approx certified reads = subst (HasSamePorts exact) (verified_law.one_net texts certified.1.0.0 approx certified.1.0.1 reads) certified.1.0.2
 
 module _ (metric : Metric) (bound limit : ℕ) (input stem : Bytes) (files_named : IsTrue (are_file_words input stem)) (old new : FilesTold) (said says : SinkTold)
     (spent level : Option SpentValue) where
@@ -59,7 +60,7 @@ module _ (metric : Metric) (bound limit : ℕ) (input stem : Bytes) (files_named
       → AdmitsNoMore metric bound input stem d.exact b
   admits a b d none told tells =
       let w = d.written in
-      let certified : Certifies d.exact metric bound (texts_of b stem) = w.certificate a b told tells in
+      let certified : Certifies d.exact metric bound (texts_of b stem) = w.certificate Refused (λ is. (w.right.tables, w.right.literals)) a b told tells in
       let reads : IsNetlist (texts_of b stem) w.result.net = w.netlist a b told tells in
       record {
         certificate = certified;
@@ -67,7 +68,7 @@ module _ (metric : Metric) (bound limit : ℕ) (input stem : Bytes) (files_named
         approx = w.result.net;
         netlist = reads;
         the_same_ports = same_ports (texts_of b stem) w.result.net certified reads;
-        end_of_the_chain = end_reached metric d.exact bound limit w.result.net w.result.pool w.result.spent (sym w.is_spent ∙ none) w.right.search.outcome;
+        end_of_the_chain = end_reached metric d.exact bound limit d.exact w.result.net w.result.pool w.result.spent (sym w.is_spent ∙ none) w.right.search.outcome;
       }
 
   settled : (status : Status) → SynthAnswerAt metric bound limit input stem old new said says spent level status → status ≢ ReadFault → status ≢ WriteFault → status ≢ NoMemory
@@ -87,38 +88,6 @@ module _ (metric : Metric) (bound limit : ℕ) (input stem : Bytes) (files_named
 
 -- ---- what a spent query is
 
-module _ (metric : Metric) (exact : NetValue) (bound limit : ℕ) where
-  move_spent : (N : NetValue) (pool : List (List Bool)) (q : SpentValue) → IsInSimplification metric exact bound N → IsSpentMove metric exact bound limit N pool q
-      → AreSpentOn metric exact bound limit q
-  move_spent N pool q member s =
-      let among : Contains (s.before ++ s.move ∷ s.after) s.move = Contains-append_right s.before (s.move ∷ s.after) s.move (Contains-here s.move s.after) in
-      record {
-        level = omega (arith, s.level);
-        net = record { member = N; in_the_chain = member; at_most_a_move = inr (s.move, subst (λ l. Contains l s.move) (sym s.stands) among, s.net) };
-        query = s.query;
-      }
-
-  level_spent : (N : NetValue) (q : SpentValue) → IsInSimplification metric exact bound N → IsSpentLevel metric exact N bound limit q → AreSpentOn metric exact bound limit q
-  level_spent N q member s = record { level = s.level; net = record { member = N; in_the_chain = member; at_most_a_move = inl s.net }; query = s.query }
-
-  -- the query of the chain
-  of_chain : (N : NetValue) (pool : List (List Bool)) (told : Option SpentValue) (q : SpentValue) → IsInSimplification metric exact bound N → told ≡ Some q
-      → MatchOption told (IsShownEnd metric exact bound N pool) (IsSpentMove metric exact bound limit N pool) → AreSpentOn metric exact bound limit q
-  of_chain N pool None q member is h = let bad : ◌≡◌ {A = Option SpentValue} None (Some q) = is in cc
-  of_chain N pool (Some s) q member is h = let same : s ≡ q = cc is in subst (AreSpentOn metric exact bound limit) same (move_spent N pool s member h)
-
-  of_maximum : (spent : Option SpentValue) (s q : SpentValue) → MaximumSpent metric bound limit exact spent s → (spent ≡ Some q) ⊎ (s ≡ q) → AreSpentOn metric exact bound limit q
-  of_maximum spent s q m (inl is) = of_chain m.result.net m.result.pool m.result.spent q m.search.member (sym m.is_spent ∙ is) m.search.outcome
-  of_maximum spent s q m (inr same) = subst (AreSpentOn metric exact bound limit) same (level_spent m.result.net s m.search.member m.query)
-
-none_is : (q : SpentValue) (spent level : Option SpentValue) → NothingSpent spent level → (spent ≡ Some q) ⊎ (level ≡ Some q) → ⊥
-none_is q spent level nothing (inl is) = let bad : ◌≡◌ {A = Option SpentValue} None (Some q) = sym nothing.0 ∙ is in cc
-none_is q spent level nothing (inr is) = let bad : ◌≡◌ {A = Option SpentValue} None (Some q) = sym nothing.1 ∙ is in cc
-
-same_query : (spent level : Option SpentValue) (s q : SpentValue) → level ≡ Some s → (spent ≡ Some q) ⊎ (level ≡ Some q) → (spent ≡ Some q) ⊎ (s ≡ q)
-same_query spent level s q at (inl is) = inl is
-same_query spent level s q at (inr is) = inr (let both : ◌≡◌ {A = Option SpentValue} (Some s) (Some q) = sym at ∙ is in cc)
-
 abbrev SpentIn : Metric → ℕ → ℕ → Bytes → FilesTold → FilesTold → SpentValue → Type 0
 SpentIn metric bound limit input old new q = (exact : NetValue) × OfInput old new input (λ text. IsReadAs text exact) × AreSpentOn metric exact bound limit q
 
@@ -126,10 +95,10 @@ spent_in : (metric : Metric) (bound limit : ℕ) (input stem : Bytes) (old new :
     → SynthAnswerAt metric bound limit input stem old new said says spent level status → (spent ≡ Some q) ⊎ (level ≡ Some q) → SpentIn metric bound limit input old new q
 spent_in metric bound limit input stem old new said says spent level Done q (d, no_level) (inl is) =
     let w = d.written in
-    (d.exact, d.read, of_chain metric d.exact bound limit w.result.net w.result.pool w.result.spent q w.right.search.member (sym w.is_spent ∙ is) w.right.search.outcome)
+    (d.exact, d.read, on_chain metric d.exact bound limit q (of_refined metric d.exact d.exact bound limit (shrinking_of w.result) q w.right.search (sym w.is_spent ∙ is)))
 spent_in metric bound limit input stem old new said says spent level Done q (d, no_level) (inr is) = let bad : ◌≡◌ {A = Option SpentValue} None (Some q) = sym no_level ∙ is in cc
 spent_in metric bound limit input stem old new said says spent level Budget q (s, at, b) is =
-    (b.exact, b.read, of_maximum metric b.exact bound limit spent s q b.search (same_query spent level s q at is))
+    (b.exact, b.read, on_chain metric b.exact bound limit q (of_maximum metric b.exact b.exact bound limit spent s q b.search (same_query spent level s q at is)))
 spent_in metric bound limit input stem old new said says spent level (Text reason) q answer is = absurd (none_is q spent level answer.1 is)
 spent_in metric bound limit input stem old new said says spent level NoMemory q answer is = absurd (none_is q spent level answer.1 is)
 spent_in metric bound limit input stem old new said says spent level ReadFault q answer is = absurd (none_is q spent level answer.1 is)

@@ -7,11 +7,13 @@ use Rattle.semantics.specs.declared.metric.Kind.TheVariants.{Abs}
 use Rattle.semantics.specs.Error.{one_word}
 use Rattle.outside_semantics.specs.Outside.{FilesTold, SinkTold}
 use Rattle.proof_semantics.specs.Queries.{SpentValue}
-use Rattle.job_semantics.specs.Job.{Job, synth, check, demo, flat, aag, blif, trim, job_of}
+use Rattle.job_semantics.specs.declared.task.Task.{Task}
+use Rattle.job_semantics.specs.declared.task.Task.TheVariants.{Refine}
+use Rattle.job_semantics.specs.Job.{Job, synth, against, check, confirm, demo, flat, aag, blif, trim, job_of}
 use Rattle.job_semantics.specs.Demo.{demo_net}
 use Rattle.job_semantics.specs.Demonstration.{demo_stem}
 use Rattle.job_answers.specs.declared.status.Status.{Status}
-use Rattle.job_answers.specs.declared.status.Status.TheVariants.{Done, Usage, Text, NoMemory, Budget, ReadFault, WriteFault}
+use Rattle.job_answers.specs.declared.status.Status.TheVariants.{Done, Usage, Text, NoMemory, Budget, ReadFault, WriteFault, Second, Ports, Over}
 use Rattle.jobs.specs.declared.outcome.Outcome.{Outcome}
 use Rattle.synth_jobs.specs.Spent.{told_query}
 use Rattle.jobs.specs.Outcome.{SpendsAs, SpendsAsTold}
@@ -19,10 +21,11 @@ use Rattle.job_answers.specs.Refused.{TellsBlif, TellsHier, TellsAiger}
 use Rattle.job_answers.proofs.Refusals.{AsksNothing, no_usage_asked, blif_is_refusal, hier_is_refusal, aiger_is_refusal}
 use Rattle.conversions.specs.Texts.{flat_text, aag_text, netlist_text}
 use Rattle.conversions.proofs.Conversions.{quiet_conversion_ends, conversion_asks_nothing}
-use Rattle.jobs.specs.Run.{SynthAnswerAt, SynthAnswer, BundleAnswerAt, BundleAnswer, JobAnswer, IsOnFiles, RunSays, IsQuietJob, EndsAsAsked}
+use Rattle.jobs.specs.Run.{SynthAnswerAt, SynthAnswer, BundleAnswerAt, BundleAnswer, TaskAnswerAt, TaskAnswer, JobAnswer, IsOnFiles, RunSays, IsQuietJob, EndsAsAsked}
 use Rattle.jobs.proofs.BundleAnswers.{quiet_demo_ends}
 use Rattle.check_jobs.proofs.CheckAnswers.{check_asks_nothing, quiet_check_ends}
 use Rattle.jobs.proofs.SynthAnswers.{quiet_ends}
+use Rattle.jobs.proofs.TaskAnswers.{quiet_task_ends}
 use Rattle.check_jobs.proofs.TrimAnswers.{trim_asks_nothing, quiet_trim_ends}
 
 module _ (metric : Metric) (bound limit : ℕ) (input stem : Bytes) (old new : FilesTold) (said says : SinkTold) (spent level : Option SpentValue) where
@@ -38,16 +41,32 @@ module _ (metric : Metric) (bound limit : ℕ) (input stem : Bytes) (old new : F
   synth_is_no_usage : (status : Status) → SynthAnswerAt metric bound limit input stem old new said says spent level status → status ≢ Usage
   synth_is_no_usage status answer usage = subst (SynthAnswerAt metric bound limit input stem old new said says spent level) usage answer
 
-module _ (metric : Metric) (bound limit : ℕ) (exact : NetValue) (stem : Bytes) (old new : FilesTold) (said says : SinkTold) (spent level : Option SpentValue) where
-  bundle_spends : (status : Status) → BundleAnswerAt metric bound limit exact stem old new said says spent level status → SpendsAs spent level status
+module _ (task : Task) (metric : Metric) (bound limit : ℕ) (exact begin : NetValue) (stem : Bytes) (old new : FilesTold) (said says : SinkTold) (spent level : Option SpentValue) where
+  bundle_spends : (status : Status) → BundleAnswerAt task metric bound limit exact begin stem old new said says spent level status → SpendsAs spent level status
   bundle_spends Done answer = answer.1
   bundle_spends Budget answer = (answer.2, answer.3)
   bundle_spends NoMemory answer = answer.2
   bundle_spends WriteFault answer = answer.1
   bundle_spends _ answer = absurd answer
 
-  bundle_is_no_usage : (status : Status) → BundleAnswerAt metric bound limit exact stem old new said says spent level status → status ≢ Usage
-  bundle_is_no_usage status answer usage = subst (BundleAnswerAt metric bound limit exact stem old new said says spent level) usage answer
+  bundle_is_no_usage : (status : Status) → BundleAnswerAt task metric bound limit exact begin stem old new said says spent level status → status ≢ Usage
+  bundle_is_no_usage status answer usage = subst (BundleAnswerAt task metric bound limit exact begin stem old new said says spent level) usage answer
+
+module _ (task : Task) (metric : Metric) (bound limit : ℕ) (input second stem : Bytes) (old new : FilesTold) (said says : SinkTold) (spent level : Option SpentValue) where
+  task_spends : (status : Status) → TaskAnswerAt task metric bound limit input second stem old new said says spent level status → SpendsAs spent level status
+  task_spends Done answer = answer.1
+  task_spends Budget answer = (answer.0, answer.1)
+  task_spends (Text reason) answer = answer.1
+  task_spends (Second reason) answer = answer.1
+  task_spends Ports answer = answer.1
+  task_spends (Over x) answer = answer.1
+  task_spends NoMemory answer = answer.1
+  task_spends ReadFault answer = answer.1
+  task_spends WriteFault answer = answer.1
+  task_spends _ answer = absurd answer
+
+  task_is_no_usage : (status : Status) → TaskAnswerAt task metric bound limit input second stem old new said says spent level status → status ≢ Usage
+  task_is_no_usage status answer usage = subst (TaskAnswerAt task metric bound limit input second stem old new said says spent level) usage answer
 
 asks_nothing_spends : (status : Status) → AsksNothing status → SpendsAs None None status
 asks_nothing_spends Done is = refl
@@ -58,7 +77,9 @@ asks_nothing_spends _ is = (refl, refl)
 files_ask_nothing : (old new : FilesTold) (said says : SinkTold) (job : Job) (status : Status) → IsOnFiles job
     → JobAnswer job old new said says (record { status = status; spent = None; level = None }) → AsksNothing status
 files_ask_nothing old new said says (synth metric bound conflicts input stem) status on answer = absurd on
+files_ask_nothing old new said says (against task metric bound conflicts input second stem) status on answer = absurd on
 files_ask_nothing old new said says (check metric bound input stem) status on answer = check_asks_nothing status answer.0 answer.1
+files_ask_nothing old new said says (confirm metric bound input stem) status on answer = check_asks_nothing status answer.0 answer.1
 files_ask_nothing old new said says (demo width bound conflicts) status on answer = absurd on
 files_ask_nothing old new said says (flat input output) status on answer =
     conversion_asks_nothing flat_text TellsHier hier_is_refusal input output status answer.0.0 answer.0.1
@@ -91,6 +112,13 @@ module _ {words : List Bytes} {old new : FilesTold} {said says : SinkTold} where
       job_says (synth metric bound limit input stem) o named (synth_is_no_usage metric bound limit input stem old new said says (told_query o.spent) (told_query o.level) o.status answer)
       (synth_spends metric bound limit input stem old new said says (told_query o.spent) (told_query o.level) o.status answer) answer
 
+  pub task-says : {task : Task} {metric : Metric} {bound limit : ℕ} {input second stem : Bytes} (o : Outcome) → job_of words ≡ Some (against task metric bound limit input second stem)
+      → TaskAnswer task metric bound limit input second stem old new said says o → RunSays words old new said says o
+  task-says {task} {metric} {bound} {limit} {input} {second} {stem} o named answer =
+      job_says (against task metric bound limit input second stem) o named
+      (task_is_no_usage task metric bound limit input second stem old new said says (told_query o.spent) (told_query o.level) o.status answer)
+      (task_spends task metric bound limit input second stem old new said says (told_query o.spent) (told_query o.level) o.status answer) answer
+
   -- a job that asks the solver nothing
   asking_nothing : (job : Job) (o : Outcome) (status : Status) → o ≡ record { status = status; spent = None; level = None } → job_of words ≡ Some job → AsksNothing status
       → JobAnswer job old new said says (record { status = status; spent = None; level = None }) → RunSays words old new said says o
@@ -106,18 +134,21 @@ module _ {words : List Bytes} {old new : FilesTold} {said says : SinkTold} where
   named_is_no_usage job o named run usage = let bad : ◌≡◌ {A = Option Job} None (Some job) = sym (run.usage.0 usage) ∙ named in cc
 
   pub demo-says : {width bound limit : ℕ} (o : Outcome) → job_of words ≡ Some (demo width bound limit)
-      → BundleAnswer (one_word Abs) bound limit (demo_net width) demo_stem old new said says o → RunSays words old new said says o
+      → BundleAnswer Refine (one_word Abs) bound limit (demo_net width) (demo_net width) demo_stem old new said says o → RunSays words old new said says o
   demo-says {width} {bound} {limit} o named answer =
-      job_says (demo width bound limit) o named (bundle_is_no_usage (one_word Abs) bound limit (demo_net width) demo_stem old new said says (told_query o.spent) (told_query o.level) o.status answer)
-      (bundle_spends (one_word Abs) bound limit (demo_net width) demo_stem old new said says (told_query o.spent) (told_query o.level) o.status answer) answer
+      job_says (demo width bound limit) o named (bundle_is_no_usage Refine (one_word Abs) bound limit (demo_net width) (demo_net width) demo_stem old new said says (told_query o.spent) (told_query o.level) o.status answer)
+      (bundle_spends Refine (one_word Abs) bound limit (demo_net width) (demo_net width) demo_stem old new said says (told_query o.spent) (told_query o.level) o.status answer) answer
 
 -- a quiet run ends as it was asked to
 pub quiet_job_ends : (job : Job) (old new : FilesTold) (said says : SinkTold) (o : Outcome) → JobAnswer job old new said says o → IsQuietJob job old new said says → EndsAsAsked job old o
 quiet_job_ends (synth metric bound conflicts input stem) old new said says o answer quiet =
     quiet_ends metric bound conflicts input stem old new said says (told_query o.spent) (told_query o.level) o.status answer quiet
+quiet_job_ends (against task metric bound conflicts input second stem) old new said says o answer quiet =
+    quiet_task_ends task metric bound conflicts input second stem old new said says (told_query o.spent) (told_query o.level) o.status answer quiet
 quiet_job_ends (check metric bound input stem) old new said says o answer quiet = quiet_check_ends o.status answer.0 answer.1 quiet
+quiet_job_ends (confirm metric bound input stem) old new said says o answer quiet = quiet_check_ends o.status answer.0 answer.1 quiet
 quiet_job_ends (demo width bound conflicts) old new said says o answer quiet =
-    quiet_demo_ends (one_word Abs) bound conflicts (demo_net width) old new said says (told_query o.spent) (told_query o.level) o.status answer quiet
+    quiet_demo_ends Refine (one_word Abs) bound conflicts (demo_net width) (demo_net width) old new said says (told_query o.spent) (told_query o.level) o.status answer quiet
 quiet_job_ends (flat input output) old new said says o answer quiet =
     quiet_conversion_ends flat_text TellsHier hier_is_refusal input output o.status answer.0.0 answer.0.1 quiet
 quiet_job_ends (aag input output) old new said says o answer quiet =

@@ -5,13 +5,10 @@ use Rattle.semantics.specs.Net.{NetValue}
 use Rattle.semantics.specs.declared.metric.Metric.{Metric}
 use Rattle.outside_semantics.specs.Outside.{FilesTold, SinkTold, Goes, bytes_of}
 use Rattle.outside_semantics.specs.WrittenFiles.{FilesWritten}
-use Rattle.file_core.proofs.Told.{held_before}
 use Rattle.proof_semantics.specs.Queries.{SpentValue}
-use Rattle.job_semantics.specs.declared.version.Version.TheVariants.{Two}
-use Rattle.job_semantics.specs.Certificate.{Texts, OfBundle, OfReport, IsNetlist, Certifies}
-use Rattle.job_semantics.specs.Synthesis.{WhereHeld, OfInput, IsUntouched, BundleWritten, BundleCutShort, SynthWriteFault, CountsAs, IsQuietSynth}
+use Rattle.job_semantics.specs.declared.task.Task.TheVariants.{Refine}
+use Rattle.job_semantics.specs.Synthesis.{WhereHeld, OfInput, IsUntouched, SynthWriteFault, CountsAs, IsQuietSynth}
 use Rattle.job_semantics.specs.Input.{input_reading, IsReadAs, IsAccepted}
-use Rattle.bundle_writing.proofs.FilesInOrder.{FilesWritten-then, FilesCutShort-after}
 use Rattle.job_answers.specs.declared.status.Status.{Status}
 use Rattle.job_answers.specs.declared.status.Status.TheVariants.{Done, Text, NoMemory, Budget, ReadFault, WriteFault}
 use Rattle.jobs.specs.declared.outcome.Outcome.{Outcome}
@@ -23,13 +20,10 @@ use Rattle.conversions.proofs.Conversions as conversions
 use Rattle.synth_jobs.specs.Spent.{told_query}
 use Rattle.jobs.specs.Run.{SynthAnswerAt, SynthAnswer, BundleAnswerAt, BundleAnswer, IsAnswerTo}
 use Rattle.check_jobs.proofs.CheckAnswers.{input_refused}
-use Rattle.synth_jobs.specs.declared.work.Work.{Work}
-use Rattle.synth_jobs.specs.Work.{WorkSays}
-use Rattle.jobs.specs.Outcome.{outcome_of}
-use Rattle.jobs.proofs.BundleAnswers.{BundleAnswer-told, enough_spends_nothing, not_quiet_cut}
+use Rattle.jobs.proofs.BundleAnswers.{written_since, cut_since, goes_cut, enough_spends_nothing, not_quiet_cut}
 
--- nothing was written while IN was read
-none_written : {old mid : FilesTold} {input : Bytes} {N : NetValue} → NetRead old mid input N → FilesWritten old mid []
+-- nothing was written while a netlist was read
+pub none_written : {old mid : FilesTold} {input : Bytes} {N : NetValue} → NetRead old mid input N → FilesWritten old mid []
 none_written was = record { goes = was.stay.goes; held = was.stay.stays }
 
 untouched : {old mid : FilesTold} {input : Bytes} {N : NetValue} {said : SinkTold} → NetRead old mid input N → (new : FilesTold) (says : SinkTold) → new ≡ mid → says ≡ said
@@ -42,43 +36,8 @@ untouched {old} {mid} {input} {N} {said} was new says same quiet =
       sink = quiet;
     })
 
-read_later : {old mid new : FilesTold} {input : Bytes} {N : NetValue} → NetRead old mid input N → Goes mid new → OfInput old new input (λ text. IsReadAs text N)
+pub read_later : {old mid new : FilesTold} {input : Bytes} {N : NetValue} → NetRead old mid input N → Goes mid new → OfInput old new input (λ text. IsReadAs text N)
 read_later {N = N} was goes = OfInput-later (λ text. IsReadAs text N) goes was.read
-
--- what is said of the bundle's texts from the reading of IN on
-since : (stem : Bytes) (old mid new : FilesTold) (P : Texts → Type 0) → Goes mid new → OfBundle mid new stem P → OfBundle old new stem P
-since stem old mid new P goes h = λ a b told tells. let m = held_before mid new goes b tells in h m.0 b m.1 tells
-
-written_since : {metric : Metric} {bound limit : ℕ} {input stem : Bytes} {old mid new : FilesTold} {said says : SinkTold} {N : NetValue} {spent : Option SpentValue}
-    → NetRead old mid input N → BundleWritten metric bound limit N stem spent mid new said says → BundleWritten metric bound limit N stem spent old new said says
-written_since {metric} {bound} {limit} {input} {stem} {old} {mid} {new} {said} {says} {N} {spent} read w = record {
-  result = w.result;
-  log = w.log;
-  right = w.right;
-  is_spent = w.is_spent;
-  refuted = w.refuted;
-  files = FilesWritten-then (none_written read) w.files;
-  report = w.report;
-  netlist = since stem old mid new (λ texts. IsNetlist texts w.result.net) w.files.goes w.netlist;
-  certificate = since stem old mid new (Certifies N metric bound) w.files.goes w.certificate;
-  version = since stem old mid new (λ texts. OfReport N metric bound texts (λ r. r.version ≡ Two)) w.files.goes w.version;
-}
-
-cut_since : {metric : Metric} {bound limit : ℕ} {input stem : Bytes} {old mid new : FilesTold} {said says : SinkTold} {N : NetValue}
-    → NetRead old mid input N → BundleCutShort metric bound limit N stem mid new said says → BundleCutShort metric bound limit N stem old new said says
-cut_since read c = record {
-  result = c.result;
-  log = c.log;
-  right = c.right;
-  refuted = c.refuted;
-  left = elim c.left [
-    | inl cut ↦ inl (FilesCutShort-after (none_written read) cut.0, cut.1)
-    | inr put ↦ inr (FilesWritten-then (none_written read) put.0, put.1)
-  ];
-}
-
-goes_cut : {metric : Metric} {bound limit : ℕ} {stem : Bytes} {mid new : FilesTold} {said says : SinkTold} {N : NetValue} → BundleCutShort metric bound limit N stem mid new said says → Goes mid new
-goes_cut c = elim c.left [ inl cut ↦ cut.0.goes | inr put ↦ put.0.goes ]
 
 -- IN gives no net
 synth-no_net : (metric : Metric) (bound limit : ℕ) (input stem : Bytes) (old new : FilesTold) (said : SinkTold) (answer : Status) → NetUnread old new input answer
@@ -93,11 +52,11 @@ pub synth_answer-no_net : (metric : Metric) (bound limit : ℕ) (input stem : By
 synth_answer-no_net metric bound limit input stem old new said answer o is unread =
     subst (SynthAnswer metric bound limit input stem old new said said) (sym is) (synth-no_net metric bound limit input stem old new said answer unread)
 
-pub SynthAnswer-from : (metric : Metric) (bound limit : ℕ) (input stem : Bytes) (old mid new : FilesTold) (said says : SinkTold) (N : NetValue) (spent level : Option SpentValue) (status : Status)
-    → NetRead old mid input N → BundleAnswerAt metric bound limit N stem mid new said says spent level status
+SynthAnswer-from : (metric : Metric) (bound limit : ℕ) (input stem : Bytes) (old mid new : FilesTold) (said says : SinkTold) (N : NetValue) (spent level : Option SpentValue) (status : Status)
+    → NetRead old mid input N → BundleAnswerAt Refine metric bound limit N N stem mid new said says spent level status
     → SynthAnswerAt metric bound limit input stem old new said says spent level status
 SynthAnswer-from metric bound limit input stem old mid new said says N spent level Done read answer =
-    (record { exact = N; read = read_later read answer.0.files.goes; written = written_since read answer.0 }, answer.1)
+    (record { exact = N; read = read_later read answer.0.files.goes; written = written_since (none_written read) answer.0 }, answer.1)
 SynthAnswer-from metric bound limit input stem old mid new said says N spent level Budget read answer = (
   answer.2,
   answer.3,
@@ -110,20 +69,15 @@ SynthAnswer-from metric bound limit input stem old mid new said says N spent lev
 )
 SynthAnswer-from metric bound limit input stem old mid new said says N spent level NoMemory read answer = (untouched read new says answer.0 answer.1, answer.2)
 SynthAnswer-from metric bound limit input stem old mid new said says N spent level WriteFault read answer =
-    (record { exact = N; read = read_later read (goes_cut answer.0); left = cut_since read answer.0 }, answer.1)
+    (record { exact = N; read = read_later read (goes_cut answer.0); left = cut_since (none_written read) answer.0 }, answer.1)
 SynthAnswer-from metric bound limit input stem old mid new said says N spent level _ read answer = absurd answer
 
-SynthAnswer-of : (metric : Metric) (bound limit : ℕ) (input stem : Bytes) {names : Bytes} {old mid : FilesTold} (new : FilesTold) (said says : SinkTold) {N : NetValue} (o : Outcome)
-    → names ≡ stem → NetRead old mid input N → BundleAnswer metric bound limit N names mid new said says o → SynthAnswer metric bound limit input stem old new said says o
-SynthAnswer-of metric bound limit input stem {names} {old} {mid} new said says {N} o same read answer =
+-- the answer of a synth job: IN itself is refined
+pub SynthAnswer-of : (metric : Metric) (bound limit : ℕ) (input stem : Bytes) {old mid : FilesTold} (new : FilesTold) (said says : SinkTold) {N begin : NetValue} (o : Outcome)
+    → begin ≡ N → NetRead old mid input N → BundleAnswer Refine metric bound limit N begin stem mid new said says o → SynthAnswer metric bound limit input stem old new said says o
+SynthAnswer-of metric bound limit input stem {old} {mid} new said says {N} o same read answer =
     SynthAnswer-from metric bound limit input stem old mid new said says N (told_query o.spent) (told_query o.level) o.status read
-    (subst (λ s. BundleAnswer metric bound limit N s mid new said says o) same answer)
-
--- the answer of a synth job, from what the work on the net says
-pub SynthAnswer-told : (metric : Metric) (bound limit : ℕ) (input stem : Bytes) {names : Bytes} {old mid : FilesTold} (new : FilesTold) (said says : SinkTold) {N : NetValue} (o : Outcome) (w : Work)
-    → names ≡ stem → NetRead old mid input N → o ≡ outcome_of w → WorkSays metric bound limit N names mid new said says w → SynthAnswer metric bound limit input stem old new said says o
-SynthAnswer-told metric bound limit input stem {names} {old} {mid} new said says {N} o w same read is work_says =
-    SynthAnswer-of metric bound limit input stem new said says o same read (BundleAnswer-told metric bound limit N names mid new said says o w is work_says)
+    (subst (λ B. BundleAnswer Refine metric bound limit N B stem mid new said says o) same answer)
 
 -- what could not be written is read as some net
 accepted_at_fault : {metric : Metric} {bound limit : ℕ} {input stem : Bytes} {old new : FilesTold} {said says : SinkTold}

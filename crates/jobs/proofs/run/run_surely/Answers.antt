@@ -6,7 +6,9 @@ use Rattle.semantics.specs.declared.metric.Kind.TheVariants.{Abs}
 use Rattle.semantics.specs.Error.{one_word}
 use Rattle.outside_semantics.specs.Outside.{Rose}
 use Rattle.proof_semantics.specs.Queries.{SpentValue}
-use Rattle.job_semantics.specs.Job.{Job, synth, check, demo, flat, aag, blif, trim, job_of}
+use Rattle.job_semantics.specs.declared.task.Task.{Task}
+use Rattle.job_semantics.specs.declared.task.Task.TheVariants.{Refine}
+use Rattle.job_semantics.specs.Job.{Job, synth, against, check, confirm, demo, flat, aag, blif, trim, job_of}
 use Rattle.job_semantics.specs.Synthesis.{BundleCutShort}
 use Rattle.job_semantics.specs.Demo.{demo_net}
 use Rattle.job_semantics.specs.Demonstration.{demo_stem}
@@ -26,7 +28,12 @@ module _ (old new : SureValue) where
 
   quiet : (job : Job) → IsQuietJob job (sure_told old) (sure_told new) sure_sink_told sure_sink_told
   quiet (synth metric bound conflicts input stem) = record { files = inr (record { read = refl; written = λ accepted. refl }); sink = no_rise }
+  quiet (against task metric bound conflicts input second stem) = record {
+    files = inr (record { read = refl; second_read = λ accepted. refl; written = λ accepted begun. refl });
+    sink = no_rise;
+  }
   quiet (check metric bound input stem) = record { files = inr (record { read = refl; bundle = λ ending needed. refl }); sink = no_rise }
+  quiet (confirm metric bound input stem) = record { files = inr (record { read = refl; bundle = λ ending needed. refl }); sink = no_rise }
   quiet (demo width bound conflicts) = record { files = inr refl; sink = no_rise }
   quiet (flat input output) = record { files = inr (record { read = refl; written = λ accepted. refl }); sink = no_rise }
   quiet (aag input output) = record { files = inr (record { read = refl; written = λ accepted. refl }); sink = no_rise }
@@ -39,24 +46,24 @@ module _ (old new : SureValue) where
   well : (job : Job) (o : Outcome) → JobAnswer job (sure_told old) (sure_told new) sure_sink_told sure_sink_told o → EndsAsAsked job (sure_told old) o
   well job o answer = quiet_job_ends job (sure_told old) (sure_told new) sure_sink_told sure_sink_told o answer (quiet job)
 
-  cut_short : (metric : Metric) (bound limit : ℕ) (exact : NetValue) (stem : Bytes)
-      → BundleCutShort metric bound limit exact stem (sure_told old) (sure_told new) sure_sink_told sure_sink_told → ⊥
-  cut_short metric bound limit exact stem fault =
+  cut_short : (task : Task) (metric : Metric) (bound limit : ℕ) (exact begin : NetValue) (stem : Bytes)
+      → BundleCutShort task metric bound limit exact begin stem (sure_told old) (sure_told new) sure_sink_told sure_sink_told → ⊥
+  cut_short task metric bound limit exact begin stem fault =
       elim fault.left [
         | inl files ↦ let steady : true ≡ false = files.0.not_steady in cc
         | inr all ↦ absurd (omega (arith, all.1.rose))
       ]
 
-  module _ (status : Status) (bound limit : ℕ) (exact : NetValue) (spent level : Option SpentValue)
-      (answer : BundleAnswerAt (one_word Abs) bound limit exact demo_stem (sure_told old) (sure_told new) sure_sink_told sure_sink_told spent level status) where
+  module _ (status : Status) (bound limit : ℕ) (exact begin : NetValue) (spent level : Option SpentValue)
+      (answer : BundleAnswerAt Refine (one_word Abs) bound limit exact begin demo_stem (sure_told old) (sure_told new) sure_sink_told sure_sink_told spent level status) where
     no_demo_write_fault : status ≢ WriteFault
     no_demo_write_fault is =
-        cut_short (one_word Abs) bound limit exact demo_stem
-        (subst (BundleAnswerAt (one_word Abs) bound limit exact demo_stem (sure_told old) (sure_told new) sure_sink_told sure_sink_told spent level) is answer).0
+        cut_short Refine (one_word Abs) bound limit exact begin demo_stem
+        (subst (BundleAnswerAt Refine (one_word Abs) bound limit exact begin demo_stem (sure_told old) (sure_told new) sure_sink_told sure_sink_told spent level) is answer).0
 
     no_demo_read_fault : status ≢ ReadFault
     no_demo_read_fault is =
-        subst (BundleAnswerAt (one_word Abs) bound limit exact demo_stem (sure_told old) (sure_told new) sure_sink_told sure_sink_told spent level) is answer
+        subst (BundleAnswerAt Refine (one_word Abs) bound limit exact begin demo_stem (sure_told old) (sure_told new) sure_sink_told sure_sink_told spent level) is answer
 
   -- no job has a fault
   no_fault : (words : List Bytes) (o : Outcome) → RunSays words (sure_told old) (sure_told new) sure_sink_told sure_sink_told o → (o.status ≢ ReadFault) × (o.status ≢ WriteFault)
@@ -69,13 +76,17 @@ module _ (old new : SureValue) where
       )
       of_job (Some (demo width bound conflicts)) is =
           let answer = says.answer (demo width bound conflicts) is in (
-            no_demo_read_fault o.status bound conflicts (demo_net width) (told_query o.spent) (told_query o.level) answer,
-            no_demo_write_fault o.status bound conflicts (demo_net width) (told_query o.spent) (told_query o.level) answer,
+            no_demo_read_fault o.status bound conflicts (demo_net width) (demo_net width) (told_query o.spent) (told_query o.level) answer,
+            no_demo_write_fault o.status bound conflicts (demo_net width) (demo_net width) (told_query o.spent) (told_query o.level) answer,
           )
       of_job (Some (synth metric bound conflicts input stem)) is =
           let ends = well (synth metric bound conflicts input stem) o (says.answer (synth metric bound conflicts input stem) is) in (ends.read, ends.written)
+      of_job (Some (against task metric bound conflicts input second stem)) is =
+          let ends = well (against task metric bound conflicts input second stem) o (says.answer (against task metric bound conflicts input second stem) is) in (ends.read, ends.written)
       of_job (Some (check metric bound input stem)) is =
           let ends = well (check metric bound input stem) o (says.answer (check metric bound input stem) is) in (ends.read, ends.written)
+      of_job (Some (confirm metric bound input stem)) is =
+          let ends = well (confirm metric bound input stem) o (says.answer (confirm metric bound input stem) is) in (ends.read, ends.written)
       of_job (Some (flat input output)) is = let ends = well (flat input output) o (says.answer (flat input output) is) in (ends.read, ends.written)
       of_job (Some (aag input output)) is = let ends = well (aag input output) o (says.answer (aag input output) is) in (ends.read, ends.written)
       of_job (Some (blif input output)) is = let ends = well (blif input output) o (says.answer (blif input output) is) in (ends.read, ends.written)

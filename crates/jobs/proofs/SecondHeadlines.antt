@@ -1,0 +1,145 @@
+-- The headline of jobs on two netlists, from what each answer says.
+use Rattle.std.proofs.Common.{◌≡◌, ◌≢◌, ◌⊎◌, ◌×◌, ℕ, ◌<◌, ◌≤◌, Bool, List, Option, Some, None, Result, Ok, Err, inl, inr, refl, ap, sym, subst, ◌∙◌, arith}
+use Rattle.std.specs.Prelude.{IsTrue}
+use Rattle.std.proofs.lemmas.Bool.{and_parts}
+use Rattle.semantics.specs.Texts.{Bytes}
+use Rattle.semantics.specs.Net.{NetValue, HasSamePorts, table_count, literal_count}
+use Rattle.semantics.specs.Error.{IsWithin}
+use Rattle.semantics.specs.declared.metric.Metric.{Metric}
+use Rattle.outside_semantics.specs.Outside.{Held, FilesTold, SinkTold, bytes_of}
+use Rattle.blif_semantics.specs.Reading.{Refusal}
+use Rattle.proof_semantics.specs.Queries.{SpentValue, IsOver}
+use Rattle.job_semantics.specs.declared.growth.Growth.TheVariants.{Allowed}
+use Rattle.job_semantics.specs.declared.task.Task.{Task}
+use Rattle.job_semantics.specs.declared.task.Task.TheVariants.{Certify, Refine}
+use Rattle.job_semantics.specs.Job.{against, confirm, are_file_words}
+use Rattle.job_semantics.specs.Input.{IsReadAs}
+use Rattle.job_semantics.specs.Certificate.{Texts, texts_of, IsNetlist, CertifiesWith}
+use Rattle.job_semantics.specs.Checking.{ShowsItsBound, Verifies}
+use Rattle.job_semantics.specs.Shrinking.{Shrinking}
+use Rattle.job_semantics.specs.Synthesis.{shrinking_of, IsTaskDone}
+use Rattle.job_semantics.specs.SecondNetlist.{AreRead, TaskDone}
+use Rattle.job_semantics.specs.SecondHeadline.{KeepsTheBound, IsAsAsked, IsCertifiedAs, AreSpentOnSecond, SecondHeadline}
+use Rattle.job_semantics.proofs.FileWords.{file_words_law}
+use Rattle.job_semantics.proofs.CheckedFiles.{one_net, joined_task_law}
+use Rattle.job_answers.specs.declared.status.Status.{Status}
+use Rattle.job_answers.specs.declared.status.Status.TheVariants.{Done, Verified, Text, NoMemory, Budget, ReadFault, WriteFault, Second, Ports, Over}
+use Rattle.jobs.specs.declared.outcome.Outcome.{Outcome}
+use Rattle.synth_jobs.specs.Spent.{told_query}
+use Rattle.jobs.specs.Run.{TaskAnswerAt, RunSays}
+use Rattle.check_jobs.proofs.CheckAnswers.{verified_end}
+use Rattle.jobs.proofs.TaskAnswers.{quiet_task_ends}
+use Rattle.jobs.proofs.SpentQueries.{none_is, same_query, of_task, of_task_spent}
+use Rattle.jobs.proofs.Headlines.{end_reached, same_ports}
+
+keeps : {exact : NetValue} {metric : Metric} {bound : ℕ} {texts : Texts} → ShowsItsBound Allowed exact metric bound texts → KeepsTheBound metric bound exact texts
+keeps s = record {
+  approx = s.approx;
+  report = s.report;
+  netlist = s.netlist;
+  reported = s.reported;
+  the_same_ports = s.verified.ports;
+  on_every_input = s.verified.safe;
+  within_the_bound = s.verified.within;
+  attained_at_the_witness = s.verified.attained;
+}
+
+-- where no query was spent, what was asked for was made
+as_asked : (task : Task) (metric : Metric) (exact : NetValue) (bound limit : ℕ) (begin : NetValue) (s : Shrinking) → s.spent ≡ None → IsTaskDone task metric exact bound limit begin s
+    → IsAsAsked task metric exact bound begin s.net
+as_asked Certify metric exact bound limit begin s none certified = ap (λ (t : Shrinking). t.net) certified
+as_asked Refine metric exact bound limit begin s none search = end_reached metric exact bound limit begin s.net s.pool s.spent none search.outcome
+
+-- an input whose error exceeds the bound contradicts that the bound is kept
+not_over : {metric : Metric} {exact begin : NetValue} {bound : ℕ} (x : List Bool) → IsOver metric exact begin bound x → IsWithin metric exact bound begin → ⊥
+not_over x over within = absurd (omega (arith, over.exceeds, within x over.width))
+
+module _ (task : Task) (metric : Metric) (bound limit : ℕ) (input second stem : Bytes) (files_named : IsTrue (are_file_words input stem)) (old new : FilesTold) (said says : SinkTold)
+    (spent level : Option SpentValue) where
+  certifies : (a b : Held) (d : TaskDone task metric bound limit input second stem spent old new said says) → spent ≡ None → old.held ≡ Some a → new.held ≡ Some b
+      → IsCertifiedAs task metric bound input stem d.exact d.begin b
+  certifies a b d none told tells =
+      let w = d.written in
+      let certified : CertifiesWith Allowed d.exact metric bound (texts_of b stem) = w.certificate Allowed (λ no. absurd (cc no)) a b told tells in
+      let reads : IsNetlist (texts_of b stem) w.result.net = w.netlist a b told tells in
+      let joined = joined_task_law task metric bound limit input second stem spent old new said says files_named d a b told tells in
+      record {
+        certificate = certified;
+        confirmed = joined.0;
+        approx = w.result.net;
+        netlist = reads;
+        the_same_ports = same_ports (texts_of b stem) w.result.net certified reads;
+        as_asked = as_asked task metric d.exact bound limit d.begin (shrinking_of w.result) (sym w.is_spent ∙ none) w.right.search;
+        checked = joined.1;
+      }
+
+  -- the nets that were read are those of the files
+  module _ (a b : Held) (told : old.held ≡ Some a) (tells : new.held ≡ Some b) (exact begin : NetValue) (reads : IsReadAs (bytes_of a input) exact)
+      (begins : IsReadAs (bytes_of a second) begin) where
+    of_both : (P : NetValue → NetValue → Type 0) (N S : NetValue) → AreRead input second old new N S → P N S → P exact begin
+    of_both P N S read holds =
+        let same : N ≡ exact = one_net (bytes_of a input) N exact (read.input_read.told a b told tells) reads in
+        let same_begin : S ≡ begin = one_net (bytes_of a second) S begin (read.second_read.told a b told tells) begins in
+        subst (λ M. P exact M) same_begin (subst (λ M. P M S) same holds)
+
+    settled : (status : Status) → TaskAnswerAt task metric bound limit input second stem old new said says spent level status → status ≢ ReadFault → status ≢ WriteFault → status ≢ NoMemory
+        → spent ≡ None → level ≡ None → HasSamePorts exact begin → IsWithin metric exact bound begin → (status ≡ Done) × IsCertifiedAs task metric bound input stem exact begin b
+    settled Done answer read written memory none no_level ports within =
+        (refl, of_both (λ N S. IsCertifiedAs task metric bound input stem N S b) answer.0.exact answer.0.begin answer.0.read (certifies a b answer.0 none told tells))
+    settled Budget answer read written memory none no_level ports within = let bad : ◌≡◌ {A = Option SpentValue} (Some answer.0) None = sym answer.1 ∙ no_level in cc
+    settled (Text reason) answer read written memory none no_level ports within =
+        let bad : ◌≡◌ {A = Result NetValue Refusal} (Err answer.0.0) (Ok exact) = sym (answer.0.2.refused.told a b told tells) ∙ reads in cc
+    settled (Second reason) answer read written memory none no_level ports within =
+        let bad : ◌≡◌ {A = Result NetValue Refusal} (Err answer.0.0) (Ok begin) = sym (answer.0.2.refused.told a b told tells) ∙ begins in cc
+    settled Ports answer read written memory none no_level ports within =
+        absurd (of_both (λ N S. ¬ HasSamePorts N S) answer.0.exact answer.0.begin answer.0.read answer.0.holds ports)
+    settled (Over x) answer read written memory none no_level ports within =
+        absurd (not_over x (of_both (λ N S. IsOver metric N S bound x) answer.0.exact answer.0.begin answer.0.read answer.0.holds.over) within)
+    settled NoMemory answer read written memory none no_level ports within = absurd (memory refl)
+    settled ReadFault answer read written memory none no_level ports within = absurd (read refl)
+    settled WriteFault answer read written memory none no_level ports within = absurd (written refl)
+    settled _ answer read written memory none no_level ports within = absurd answer
+
+-- ---- what a spent query is
+
+abbrev SpentIn : Metric → ℕ → ℕ → Bytes → Bytes → FilesTold → FilesTold → SpentValue → Type 0
+SpentIn metric bound limit input second old new q =
+    (exact : NetValue) × (begin : NetValue) × AreRead input second old new exact begin × AreSpentOnSecond metric exact begin bound limit q
+
+module _ (task : Task) (metric : Metric) (bound limit : ℕ) (input second stem : Bytes) (old new : FilesTold) (said says : SinkTold) (spent level : Option SpentValue) (q : SpentValue) where
+  spent_in : (status : Status) → TaskAnswerAt task metric bound limit input second stem old new said says spent level status → (spent ≡ Some q) ⊎ (level ≡ Some q)
+      → SpentIn metric bound limit input second old new q
+  spent_in Done (d, no_level) (inl is) =
+      let w = d.written in
+      (d.exact, d.begin, d.read, of_task metric d.exact d.begin bound limit task (shrinking_of w.result) q w.right.search (sym w.is_spent ∙ is))
+  spent_in Done (d, no_level) (inr is) = let bad : ◌≡◌ {A = Option SpentValue} None (Some q) = sym no_level ∙ is in cc
+  spent_in Budget (s, at, b) is =
+      (b.exact, b.begin, b.read, of_task_spent metric b.exact b.begin bound limit task spent s q b.holds (same_query spent level s q at is))
+  spent_in (Text reason) answer is = absurd (none_is q spent level answer.1 is)
+  spent_in (Second reason) answer is = absurd (none_is q spent level answer.1 is)
+  spent_in Ports answer is = absurd (none_is q spent level answer.1 is)
+  spent_in (Over x) answer is = absurd (none_is q spent level answer.1 is)
+  spent_in NoMemory answer is = absurd (none_is q spent level answer.1 is)
+  spent_in ReadFault answer is = absurd (none_is q spent level answer.1 is)
+  spent_in WriteFault answer is = absurd (none_is q spent level answer.1 is)
+  spent_in _ answer is = absurd answer
+
+pub second_headline-from : (words : List Bytes) (old new : FilesTold) (said says : SinkTold) (o : Outcome) → RunSays words old new said says o
+    → SecondHeadline words (o.status ≡ Verified) (o.status ≡ Done) (o.status ≡ NoMemory) (told_query o.spent) (told_query o.level) old new said says
+second_headline-from words old new said says o says_all = record {
+  when_confirm_verifies = λ metric bound input stem named verified.
+      let answer = says_all.answer (confirm metric bound input stem) named in
+      let v = verified_end o.status answer.0 answer.1 verified in
+      λ a b told tells. (v.exact, v.read.told a b told tells, keeps (v.shows a b told tells));
+  unless_conflicts_were_spent = λ task metric bound conflicts input second stem named quiet memory none no_level.
+      let answer = says_all.answer (against task metric bound conflicts input second stem) named in
+      let well = quiet_task_ends task metric bound conflicts input second stem old new said says (told_query o.spent) (told_query o.level) o.status answer quiet in
+      let files_named : IsTrue (are_file_words input stem) =
+          (and_parts (are_file_words input stem) (are_file_words second stem) (file_words_law.tasks words task metric bound conflicts input second stem named)).0 in
+      λ a b told tells exact begin reads begins ports within.
+      settled task metric bound conflicts input second stem files_named old new said says (told_query o.spent) (told_query o.level) a b told tells exact begin reads begins o.status
+      answer well.read well.written memory none no_level ports within;
+  the_conflicts_that_were_spent = λ task metric bound conflicts input second stem named q is.
+      spent_in task metric bound conflicts input second stem old new said says (told_query o.spent) (told_query o.level) q o.status
+      (says_all.answer (against task metric bound conflicts input second stem) named) is;
+}

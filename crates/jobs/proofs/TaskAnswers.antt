@@ -1,0 +1,264 @@
+-- What a certify or a refine job comes to, from the readings of IN and of the second netlist and what is made of
+-- their nets; and that a quiet call has no fault.
+use Rattle.std.proofs.Common.{◌≡◌, ◌≢◌, ◌×◌, ℕ, Bool, true, false, Option, Some, None, [], inl, inr, refl, sym, subst, ◌∙◌, arith}
+use Rattle.std.specs.Prelude.{IsTrue}
+use Rattle.std.proofs.lemmas.Bool.{false_from_ne_true}
+use Rattle.std.specs.FinMap.{contains_key}
+use Rattle.semantics.specs.Texts.{Bytes}
+use Rattle.semantics.specs.Net.{NetValue}
+use Rattle.semantics.specs.declared.metric.Metric.{Metric}
+use Rattle.outside_semantics.specs.Outside.{FilesTold, SinkTold, Goes, bytes_of}
+use Rattle.outside_semantics.specs.WrittenFiles.{FilesWritten}
+use Rattle.file_core.proofs.Told.{Goes-same, Goes-Goes, held_before}
+use Rattle.file_reading.specs.Reading.{FilesStay}
+use Rattle.chain_semantics.specs.Simplification.{IsBeginning}
+use Rattle.proof_semantics.specs.Queries.{SpentValue}
+use Rattle.job_semantics.specs.declared.task.Task.{Task}
+use Rattle.job_semantics.specs.Input.{input_reading, IsReadAs, IsRefusedFor, IsAccepted}
+use Rattle.job_semantics.specs.Synthesis.{WhereHeld, OfInput, CountsAs}
+use Rattle.job_semantics.specs.SecondNetlist.{WhereBothHeld, OfSecond, AreUntouched, AreRead, AreBothRead, HasOtherPorts, IsAboveBound, IsBoundSpent, IsTaskSpent, TaskReadFault, TaskWriteFault, IsQuietTask}
+use Rattle.bundle_writing.proofs.FilesInOrder.{FilesWritten-then}
+use Rattle.job_answers.specs.declared.status.Status.{Status}
+use Rattle.job_answers.specs.declared.status.Status.TheVariants.{Done, Text, NoMemory, Budget, ReadFault, WriteFault, Second, Ports, Over}
+use Rattle.job_answers.specs.Ends.{EndsWellOnBoth}
+use Rattle.conversions.specs.Input.{NetRead, NetUnread, TextRefused}
+use Rattle.conversions.proofs.InputReadings.{OfInput-later}
+use Rattle.synth_jobs.specs.Spent.{told_query}
+use Rattle.check_jobs.proofs.CheckAnswers.{input_refused}
+use Rattle.jobs.specs.declared.outcome.Outcome.{Outcome}
+use Rattle.jobs.specs.Run.{TaskAnswerAt, TaskAnswer, BundleAnswerAt, IsInputAnswerTo, IsTaskAnswerTo}
+use Rattle.jobs.specs.Second.{SecondUnread, JudgedAnswerAt, JudgedAnswer}
+use Rattle.jobs.proofs.BundleAnswers.{written_since, cut_since, goes_cut, enough_spends_nothing, not_quiet_cut}
+use Rattle.jobs.proofs.SynthAnswers.{none_written, read_later}
+
+-- ---- IN gives no net
+
+module _ (task : Task) (metric : Metric) (bound limit : ℕ) (input second stem : Bytes) (old new : FilesTold) (said : SinkTold) where
+  at_input : FilesStay old new input → AreUntouched input second old new said said
+  at_input stay = record { goes = stay.goes; files = stay.stays; still_told = λ a told has_input has_second. stay.still_told a told has_input; sink = refl }
+
+  task-no_net : (answer : Status) → NetUnread old new input answer → TaskAnswerAt task metric bound limit input second stem old new said said None None answer
+  task-no_net (Text reason) (refusal, told, r) = ((refusal, told, input_refused refusal r), (refl, refl))
+  task-no_net ReadFault failed = (record { untouched = at_input failed.stay; rose = failed.rose; not_steady = inl failed.not_steady }, (refl, refl))
+  task-no_net NoMemory stay = (at_input stay, (refl, refl))
+  task-no_net _ bad = absurd bad
+
+  pub task_answer-no_net : (answer : Status) (o : Outcome) → o ≡ record { status = answer; spent = None; level = None } → NetUnread old new input answer
+      → TaskAnswer task metric bound limit input second stem old new said said o
+  task_answer-no_net answer o is unread = subst (TaskAnswer task metric bound limit input second stem old new said said) (sym is) (task-no_net answer unread)
+
+-- ---- IN was read, and then the second netlist
+
+-- a name that is not steady was not steady before
+unsteady_before : {old mid : FilesTold} {name : Bytes} → Goes old mid → mid.steady_read name ≡ false → old.steady_read name ≡ false
+unsteady_before goes h = false_from_ne_true _ (λ steady. cc (goes.steady_read _ steady, h))
+
+module _ {input second : Bytes} {old mid : FilesTold} {N : NetValue} (read : NetRead old mid input N) where
+  both_untouched : {new : FilesTold} {said says : SinkTold} → FilesStay mid new second → says ≡ said → AreUntouched input second old new said says
+  both_untouched {new} stay quiet = record {
+    goes = Goes-Goes read.stay.goes stay.goes;
+    files = λ a b told tells. let m = held_before mid new stay.goes b tells in stay.stays m.0 b m.1 tells ∙ read.stay.stays a m.0 told m.1;
+    still_told = λ a told has_input has_second. stay.still_told a (read.stay.still_told a told has_input) has_second;
+    sink = quiet;
+  }
+
+  -- what is said of the bytes of the second netlist where it is read is said of them behind IN
+  of_second : {new : FilesTold} (P : Bytes → Type 0) → Goes mid new → OfInput mid new second P → OfSecond old new input second P
+  of_second {new} P goes h = record {
+    told = λ a b told tells.
+        let m = held_before mid new goes b tells in
+        subst (λ x. P (bytes_of x second)) (read.stay.stays a m.0 told m.1) (h.told m.0 b m.1 tells);
+    at_entry = λ a told has_input has_second. h.at_entry a (read.stay.still_told a told has_input) has_second;
+  }
+
+  accepted : {new : FilesTold} → Goes mid new → CountsAs IsAccepted old new input
+  accepted goes = λ a b told tells. (N, (read_later read goes).told a b told tells)
+
+  second_held : {new : FilesTold} {refusal : Refusal} (r : TextRefused refusal mid new second) → WhereTold old new (λ a b. IsTrue (contains_key a second))
+  second_held {new} r = λ a b told tells.
+      let m = held_before mid new r.stay.goes b tells in
+      subst (λ x. IsTrue (contains_key x second)) (read.stay.stays a m.0 told m.1) (r.held m.0 b m.1 tells)
+
+  module _ (task : Task) (metric : Metric) (bound limit : ℕ) (stem : Bytes) (new : FilesTold) (said : SinkTold) where
+    -- the second netlist gives no net
+    task-no_second : (answer : Status) → SecondUnread mid new second answer → TaskAnswerAt task metric bound limit input second stem old new said said None None answer
+    task-no_second (Second reason) (refusal, told, r) = (
+      (
+        refusal,
+        told,
+        record {
+          untouched = both_untouched r.stay refl;
+          exact = N;
+          input_read = read_later read r.stay.goes;
+          held = second_held r;
+          refused = of_second (λ text. IsRefusedFor text refusal) r.stay.goes r.refused;
+        },
+      ),
+      (refl, refl),
+    )
+    task-no_second ReadFault failed = (
+      record {
+        untouched = both_untouched failed.stay refl;
+        rose = omega (arith, read.stay.goes.counts, failed.rose);
+        not_steady = inr (accepted failed.stay.goes, unsteady_before read.stay.goes failed.not_steady);
+      },
+      (refl, refl),
+    )
+    task-no_second NoMemory stay = (both_untouched stay refl, (refl, refl))
+    task-no_second _ bad = absurd bad
+
+    pub task_answer-no_second : (answer : Status) (o : Outcome) → o ≡ record { status = answer; spent = None; level = None } → SecondUnread mid new second answer
+        → TaskAnswer task metric bound limit input second stem old new said said o
+    task_answer-no_second answer o is unread = subst (TaskAnswer task metric bound limit input second stem old new said said) (sym is) (task-no_second answer unread)
+
+-- a refusal of the second netlist is told as that of the second, and every other answer as it is
+pub SecondUnread-refused : {old new : FilesTold} {name : Bytes} (reason : BlifRefusal) → NetUnread old new name (Text reason) → SecondUnread old new name (Second reason)
+SecondUnread-refused reason unread = unread
+
+pub SecondUnread-other : (old new : FilesTold) (name : Bytes) (answer : Status) → ((reason : BlifRefusal) → answer ≢ Text reason) → NetUnread old new name answer → SecondUnread old new name answer
+SecondUnread-other old new name (Text reason) other unread = absurd (other reason refl)
+SecondUnread-other old new name ReadFault other failed = failed
+SecondUnread-other old new name NoMemory other stay = stay
+SecondUnread-other old new name _ other bad = absurd bad
+
+-- ---- the second net is judged
+
+-- what the work on a net that keeps the bound comes to
+pub judged_within : (task : Task) (metric : Metric) (bound limit : ℕ) (exact begin : NetValue) (stem : Bytes) (old new : FilesTold) (said says : SinkTold) (spent level : Option SpentValue) (status : Status)
+    → IsBeginning metric exact bound begin → BundleAnswerAt task metric bound limit exact begin stem old new said says spent level status
+    → JudgedAnswerAt task metric bound limit exact begin stem old new said says spent level status
+judged_within task metric bound limit exact begin stem old new said says spent level Done beginning answer = (beginning, answer)
+judged_within task metric bound limit exact begin stem old new said says spent level Budget beginning answer =
+    (answer.2, answer.3, (answer.0, answer.1, inr (beginning, answer.4)))
+judged_within task metric bound limit exact begin stem old new said says spent level NoMemory beginning answer = (answer.0, answer.1, answer.2)
+judged_within task metric bound limit exact begin stem old new said says spent level WriteFault beginning answer = (beginning, answer)
+judged_within task metric bound limit exact begin stem old new said says spent level _ beginning answer = absurd answer
+
+-- ---- both were read
+
+module _ {input second : Bytes} {old mid next : FilesTold} {N S : NetValue} (read : NetRead old mid input N) (begun : NetRead mid next second S) where
+  both_unwritten : FilesWritten old next []
+  both_unwritten = FilesWritten-then (none_written read) (none_written begun)
+
+  are_read : {new : FilesTold} → Goes next new → AreRead input second old new N S
+  are_read {new} goes =
+      let later : Goes mid new = Goes-Goes begun.stay.goes goes in
+      record { input_read = read_later read later; second_read = of_second read (λ text. IsReadAs text S) later (read_later begun goes) }
+
+  both_read : (new : FilesTold) (said says : SinkTold) (P : NetValue → NetValue → Type 0) → new ≡ next → says ≡ said → P N S → AreBothRead input second old new said says P
+  both_read new said says P same quiet holds = subst (λ n. AreBothRead input second old n said says P) (sym same) (record {
+    untouched = both_untouched read begun.stay quiet;
+    exact = N;
+    begin = S;
+    read = are_read (Goes-same next);
+    holds = holds;
+  })
+
+  nothing_touched : (new : FilesTold) (said says : SinkTold) → new ≡ next → says ≡ said → AreUntouched input second old new said says
+  nothing_touched new said says same quiet = subst (λ n. AreUntouched input second old n said says) (sym same) (both_untouched read begun.stay quiet)
+
+  TaskAnswer-from : (task : Task) (metric : Metric) (bound limit : ℕ) (stem : Bytes) (new : FilesTold) (said says : SinkTold) (spent level : Option SpentValue) (status : Status)
+      → JudgedAnswerAt task metric bound limit N S stem next new said says spent level status → TaskAnswerAt task metric bound limit input second stem old new said says spent level status
+  TaskAnswer-from task metric bound limit stem new said says spent level Done answer = (
+    record { exact = N; begin = S; read = are_read answer.1.0.files.goes; beginning = answer.0; written = written_since both_unwritten answer.1.0 },
+    answer.1.1,
+  )
+  TaskAnswer-from task metric bound limit stem new said says spent level Budget answer =
+      (answer.0, answer.1, both_read new said says (IsTaskSpent task metric bound limit spent answer.0) answer.2.0 answer.2.1 answer.2.2)
+  TaskAnswer-from task metric bound limit stem new said says spent level Ports answer = (both_read new said says HasOtherPorts answer.0 answer.1 answer.2.0, answer.2.1)
+  TaskAnswer-from task metric bound limit stem new said says spent level (Over x) answer =
+      (both_read new said says (IsAboveBound metric bound x) answer.0 answer.1 answer.2.0, answer.2.1)
+  TaskAnswer-from task metric bound limit stem new said says spent level NoMemory answer = (nothing_touched new said says answer.0 answer.1, answer.2)
+  TaskAnswer-from task metric bound limit stem new said says spent level WriteFault answer = (
+    record { exact = N; begin = S; read = are_read (goes_cut answer.1.0); beginning = answer.0; left = cut_since both_unwritten answer.1.0 },
+    answer.1.1,
+  )
+  TaskAnswer-from task metric bound limit stem new said says spent level _ answer = absurd answer.1
+
+-- the answer of a task, from what the judging of the second net and the work on it say
+pub TaskAnswer-of : (task : Task) (metric : Metric) (bound limit : ℕ) (input second stem : Bytes) {old mid next : FilesTold} (new : FilesTold) (said says : SinkTold) {N S : NetValue} (o : Outcome)
+    → NetRead old mid input N → NetRead mid next second S → JudgedAnswer task metric bound limit N S stem next new said says o
+    → TaskAnswer task metric bound limit input second stem old new said says o
+TaskAnswer-of task metric bound limit input second stem new said says o read begun answer =
+    TaskAnswer-from read begun task metric bound limit stem new said says (told_query o.spent) (told_query o.level) o.status answer
+
+-- ---- a quiet call
+
+module _ {task : Task} {metric : Metric} {bound limit : ℕ} {input second stem : Bytes} {old new : FilesTold} {said says : SinkTold} where
+  -- a call with a fault in reading is not quiet
+  not_quiet_read : TaskReadFault input second old new said says → IsQuietTask input second stem old new said says → ⊥
+  not_quiet_read fault quiet =
+      elim quiet.files [
+        | inl calm ↦ calm fault.rose
+        | inr steady ↦ elim fault.not_steady [
+          | inl first ↦ let yes : old.steady_read input ≡ true = steady.read in let no : old.steady_read input ≡ false = first in cc
+          | inr later ↦ let yes : old.steady_read second ≡ true = steady.second_read later.0 in let no : old.steady_read second ≡ false = later.1 in cc
+        ]
+      ]
+
+  -- nor is one with a fault in writing
+  not_quiet_write : TaskWriteFault task metric bound limit input second stem old new said says → IsQuietTask input second stem old new said says → ⊥
+  not_quiet_write fault quiet =
+      elim quiet.files [
+        | inl calm ↦ not_quiet_cut fault.left (inl calm) quiet.sink
+        | inr steady ↦
+            let first : CountsAs IsAccepted old new input = λ a b told tells. (fault.exact, fault.read.input_read.told a b told tells) in
+            let then : CountsAs IsAccepted old new second = λ a b told tells. (fault.begin, fault.read.second_read.told a b told tells) in
+            not_quiet_cut fault.left (inr (steady.written first then)) quiet.sink
+      ]
+
+module _ (task : Task) (metric : Metric) (bound limit : ℕ) (input second stem : Bytes) (old new : FilesTold) (said says : SinkTold) (spent level : Option SpentValue) where
+  -- an answer without a fault is the one that the reading of IN asks for
+  answers_input : (status : Status) → TaskAnswerAt task metric bound limit input second stem old new said says spent level status → status ≢ ReadFault → status ≢ WriteFault
+      → WhereHeld old input (λ a. IsInputAnswerTo (input_reading (bytes_of a input)) status)
+  answers_input Done answer no_read no_write = λ a told has. (answer.0.exact, answer.0.read.input_read.at_entry a told has)
+  answers_input Budget answer no_read no_write = λ a told has. (answer.2.exact, answer.2.read.input_read.at_entry a told has)
+  answers_input (Text reason) answer no_read no_write = λ a told has. (answer.0.0, answer.0.2.refused.at_entry a told has, answer.0.1)
+  answers_input (Second reason) answer no_read no_write = λ a told has. (answer.0.2.exact, answer.0.2.input_read.at_entry a told has)
+  answers_input Ports answer no_read no_write = λ a told has. (answer.0.exact, answer.0.read.input_read.at_entry a told has)
+  answers_input (Over x) answer no_read no_write = λ a told has. (answer.0.exact, answer.0.read.input_read.at_entry a told has)
+  answers_input NoMemory answer no_read no_write = λ a told has. tt
+  answers_input ReadFault answer no_read no_write = absurd (no_read refl)
+  answers_input WriteFault answer no_read no_write = absurd (no_write refl)
+  answers_input _ answer no_read no_write = absurd answer
+
+  -- where conflicts were spent, the nets have the same ports, and the conflicts are not enough
+  spent_ends : (q : SpentValue) (exact begin : NetValue) → IsTaskSpent task metric bound limit spent q exact begin → HasSamePorts exact begin × ¬ IsEnough limit (input_count exact)
+  spent_ends q exact begin (inl (spent_on, none)) = (spent_on.ports, spent_on.query.not_enough)
+  spent_ends q exact begin (inr (beginning, search)) = (beginning.ports, search.query.query.not_enough)
+
+  -- and the one that both readings and the conflicts ask for
+  answers_both : (status : Status) → TaskAnswerAt task metric bound limit input second stem old new said says spent level status → status ≢ ReadFault → status ≢ WriteFault
+      → WhereBothHeld old input second (λ a. IsTaskAnswerTo metric bound limit spent (input_reading (bytes_of a input)) (input_reading (bytes_of a second)) status)
+  answers_both Done answer no_read no_write = λ a told has_input has_second.
+      let d = answer.0 in
+      (d.exact, d.read.input_read.at_entry a told has_input, (d.begin, d.read.second_read.at_entry a told has_input has_second, (d.beginning, enough_spends_nothing d.written)))
+  answers_both Budget answer no_read no_write = λ a told has_input has_second.
+      let d = answer.2 in
+      (d.exact, d.read.input_read.at_entry a told has_input, (d.begin, d.read.second_read.at_entry a told has_input has_second, spent_ends answer.0 d.exact d.begin d.holds))
+  answers_both (Text reason) answer no_read no_write = λ a told has_input has_second. (answer.0.0, answer.0.2.refused.at_entry a told has_input, answer.0.1)
+  answers_both (Second reason) answer no_read no_write = λ a told has_input has_second.
+      let d = answer.0.2 in (d.exact, d.input_read.at_entry a told has_input, (answer.0.0, d.refused.at_entry a told has_input has_second, answer.0.1))
+  answers_both Ports answer no_read no_write = λ a told has_input has_second.
+      let d = answer.0 in
+      (d.exact, d.read.input_read.at_entry a told has_input, (d.begin, d.read.second_read.at_entry a told has_input has_second, d.holds))
+  answers_both (Over x) answer no_read no_write = λ a told has_input has_second.
+      let d = answer.0 in
+      (d.exact, d.read.input_read.at_entry a told has_input, (d.begin, d.read.second_read.at_entry a told has_input has_second, d.holds))
+  answers_both NoMemory answer no_read no_write = λ a told has_input has_second. tt
+  answers_both ReadFault answer no_read no_write = absurd (no_read refl)
+  answers_both WriteFault answer no_read no_write = absurd (no_write refl)
+  answers_both _ answer no_read no_write = absurd answer
+
+  -- a quiet call has no fault, and is answered as the readings and the conflicts ask
+  pub quiet_task_ends : (status : Status) → TaskAnswerAt task metric bound limit input second stem old new said says spent level status → IsQuietTask input second stem old new said says
+      → EndsWellOnBoth input_reading IsInputAnswerTo (IsTaskAnswerTo metric bound limit spent) input second old status
+  quiet_task_ends status answer quiet =
+      let no_read : status ≢ ReadFault = λ is. not_quiet_read (subst (TaskAnswerAt task metric bound limit input second stem old new said says spent level) is answer).0 quiet in
+      let no_write : status ≢ WriteFault = λ is. not_quiet_write (subst (TaskAnswerAt task metric bound limit input second stem old new said says spent level) is answer).0 quiet in
+      record {
+        read = no_read;
+        written = no_write;
+        input_answers = answers_input status answer no_read no_write;
+        answers = answers_both status answer no_read no_write;
+      }
