@@ -25,7 +25,7 @@ pub enum Status {
     Text(BlifRefusal),
     /// Want of memory.
     NoMemory,
-    /// The search for the greatest error spent its conflicts.
+    /// A question about a level of the error spent its conflicts.
     Budget,
     /// A file that is needed could not be read.
     ReadFault,
