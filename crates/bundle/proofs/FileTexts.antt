@@ -17,6 +17,7 @@ use Rattle.semantics.specs.declared.metric.Metric.{Metric}
 use Rattle.job_semantics.specs.Report.{Report}
 use Rattle.job_semantics.specs.Certificate.{IsReportText, IsVectorsText, moves_in, AreCounts}
 use Rattle.job_semantics.specs.declared.version.Version.{Version}
+use Rattle.job_semantics.specs.declared.growth.Growth.{Growth}
 use Rattle.chain_semantics.specs.Minimality.{AreBrokenBySome}
 use Rattle.bundle_texts.specs.declared.report_reading.ReportRead.{ReportRead}
 use Rattle.bundle_texts.specs.Reading.{report_read}
@@ -105,8 +106,9 @@ module _ (exact M : NetValue) (metric : Metric) (bound : ℕ) (r : Report) (held
   pub vectors_told : (text : Bytes) (shown : Bool) (h : AreShown asked_for shown text) → IsVectorsText (input_count exact) text r.witness h.pool
   vectors_told text shown h = subst (λ w. IsVectorsText (input_count exact) text w h.pool) same (subst (λ n. IsVectorsText n text held h.pool) wide h.read)
 
-  pub vectors_judged : (text : Bytes) (shown : Bool) → (AreCounts exact M r → by_moves ≡ true) → AreShown asked_for shown text → AreVectorsJudged exact metric bound M r shown text
-  vectors_judged text shown decides h = record {
+  pub vectors_judged : (growth : Growth) (text : Bytes) (shown : Bool) → (AreCounts growth exact M r → by_moves ≡ true) → AreShown asked_for shown text
+      → AreVectorsJudged growth exact metric bound M r shown text
+  vectors_judged growth text shown decides h = record {
     pool = h.pool;
     read = vectors_told text shown h;
     decided = λ counts.

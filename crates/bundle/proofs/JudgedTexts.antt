@@ -9,8 +9,9 @@ use Rattle.proof_semantics.specs.Logs.{LogItem, Refutes}
 use Rattle.proof_semantics.specs.Miter.{miter}
 use Rattle.job_semantics.specs.declared.ending.Ending.TheVariants as file
 use Rattle.job_semantics.specs.declared.certificate_clause.Clause.TheVariants as clause
+use Rattle.job_semantics.specs.declared.growth.Growth.{Growth}
 use Rattle.job_semantics.specs.Report.{Report}
-use Rattle.job_semantics.specs.Certificate.{IsNeededFor, Texts, moves_in, IsNetlist, IsReport, AreVectors, IsRefutation, AreCounts, OfNet, OfReport, IsShownMinimal, OfBoth, Holds, Certifies}
+use Rattle.job_semantics.specs.Certificate.{IsNeededFor, Texts, moves_in, IsNetlist, IsReport, AreVectors, IsRefutation, AreCounts, OfNet, OfReport, IsShownMinimal, OfBoth, Holds, CertifiesWith}
 use Rattle.job_semantics.specs.Certificate.{IsFirstFailing}
 use Rattle.job_semantics.proofs.Certificates.{verified_law}
 use Rattle.bundle_texts.specs.declared.report_reading.ReportRead.{ReportRead}
@@ -25,17 +26,17 @@ abbrev pub BreaksAll : NetValue → Metric → ℕ → NetValue → Report → L
 BreaksAll exact metric bound M r vectors = AreBrokenBySome metric exact bound M vectors (moves_in r.version M)
 
 -- the counts do not depend on the metric and the bound
-pub counts_at : (N M : NetValue) (read : ReportRead) (m k : Metric) (a b : ℕ) → AreCounts N M (report_read m a read) → AreCounts N M (report_read k b read)
-counts_at N M read m k a b h = record {
+pub counts_at : (growth : Growth) (N M : NetValue) (read : ReportRead) (m k : Metric) (a b : ℕ) → AreCounts growth N M (report_read m a read)
+    → AreCounts growth N M (report_read k b read)
+counts_at growth N M read m k a b h = record {
   old_tables = h.old_tables;
   new_tables = h.new_tables;
   old_literals = h.old_literals;
   new_literals = h.new_literals;
-  tables = h.tables;
-  literals = h.literals;
+  size = h.size;
 }
 
-module _ (exact : NetValue) (metric : Metric) (bound : ℕ) (texts : Texts) where
+module _ (growth : Growth) (exact : NetValue) (metric : Metric) (bound : ℕ) (texts : Texts) where
   of_net : (P : NetValue → Type 0) (M : NetValue) → IsNetlist texts M → OfNet texts P → P M
   of_net P M is some = subst P (verified_law.one_net texts some.0 M some.1 is) some.2
 
@@ -47,7 +48,7 @@ module _ (exact : NetValue) (metric : Metric) (bound : ℕ) (texts : Texts) wher
 
   -- ---- the first that fails
 
-  pub no_netlist : ((M : NetValue) → ¬ IsNetlist texts M) → IsFirstFailing exact metric bound texts clause.Netlist
+  pub no_netlist : ((M : NetValue) → ¬ IsNetlist texts M) → IsFirstFailing growth exact metric bound texts clause.Netlist
   no_netlist none = record {
     before = [];
     after = clause.Ports ∷ clause.ReportForm ∷ clause.MaximumWithin ∷ clause.Witness ∷ clause.Attained ∷ clause.Formula ∷ clause.Log ∷ clause.Counts ∷ clause.Minimal ∷ [];
@@ -56,7 +57,7 @@ module _ (exact : NetValue) (metric : Metric) (bound : ℕ) (texts : Texts) wher
     fails = λ (M, is). none M is;
   }
 
-  pub other_ports : (M : NetValue) → IsNetlist texts M → ¬ HasSamePorts exact M → IsFirstFailing exact metric bound texts clause.Ports
+  pub other_ports : (M : NetValue) → IsNetlist texts M → ¬ HasSamePorts exact M → IsFirstFailing growth exact metric bound texts clause.Ports
   other_ports M net other = record {
     before = clause.Netlist ∷ [];
     after = clause.ReportForm ∷ clause.MaximumWithin ∷ clause.Witness ∷ clause.Attained ∷ clause.Formula ∷ clause.Log ∷ clause.Counts ∷ clause.Minimal ∷ [];
@@ -66,7 +67,7 @@ module _ (exact : NetValue) (metric : Metric) (bound : ℕ) (texts : Texts) wher
   }
 
   module _ (M : NetValue) where
-    pub no_report : NetKnown exact M texts → ((r : Report) → ¬ IsReport exact metric bound texts r) → IsFirstFailing exact metric bound texts clause.ReportForm
+    pub no_report : NetKnown exact M texts → ((r : Report) → ¬ IsReport exact metric bound texts r) → IsFirstFailing growth exact metric bound texts clause.ReportForm
     no_report known none = record {
       before = clause.Netlist ∷ clause.Ports ∷ [];
       after = clause.MaximumWithin ∷ clause.Witness ∷ clause.Attained ∷ clause.Formula ∷ clause.Log ∷ clause.Counts ∷ clause.Minimal ∷ [];
@@ -75,7 +76,7 @@ module _ (exact : NetValue) (metric : Metric) (bound : ℕ) (texts : Texts) wher
       fails = λ (r, is). none r is;
     }
 
-    pub above_bound : (r : Report) → NetKnown exact M texts → IsReport exact metric bound texts r → ¬ (r.maximum ≤ bound) → IsFirstFailing exact metric bound texts clause.MaximumWithin
+    pub above_bound : (r : Report) → NetKnown exact M texts → IsReport exact metric bound texts r → ¬ (r.maximum ≤ bound) → IsFirstFailing growth exact metric bound texts clause.MaximumWithin
     above_bound r known report above = record {
       before = clause.Netlist ∷ clause.Ports ∷ clause.ReportForm ∷ [];
       after = clause.Witness ∷ clause.Attained ∷ clause.Formula ∷ clause.Log ∷ clause.Counts ∷ clause.Minimal ∷ [];
@@ -85,7 +86,7 @@ module _ (exact : NetValue) (metric : Metric) (bound : ℕ) (texts : Texts) wher
     }
 
     module _ (r : Report) where
-      pub other_vectors : ReportKnown exact metric bound M r texts → ((pool : List (List Bool)) → ¬ AreVectors exact texts r.witness pool) → IsFirstFailing exact metric bound texts clause.Witness
+      pub other_vectors : ReportKnown exact metric bound M r texts → ((pool : List (List Bool)) → ¬ AreVectors exact texts r.witness pool) → IsFirstFailing growth exact metric bound texts clause.Witness
       other_vectors known none = record {
         before = clause.Netlist ∷ clause.Ports ∷ clause.ReportForm ∷ clause.MaximumWithin ∷ [];
         after = clause.Attained ∷ clause.Formula ∷ clause.Log ∷ clause.Counts ∷ clause.Minimal ∷ [];
@@ -95,7 +96,7 @@ module _ (exact : NetValue) (metric : Metric) (bound : ℕ) (texts : Texts) wher
       }
 
       pub not_attained : ReportKnown exact metric bound M r texts → (pool : List (List Bool)) → AreVectors exact texts r.witness pool → net_error metric exact M r.witness ≢ r.maximum
-          → IsFirstFailing exact metric bound texts clause.Attained
+          → IsFirstFailing growth exact metric bound texts clause.Attained
       not_attained known pool vectors other = record {
         before = clause.Netlist ∷ clause.Ports ∷ clause.ReportForm ∷ clause.MaximumWithin ∷ clause.Witness ∷ [];
         after = clause.Formula ∷ clause.Log ∷ clause.Counts ∷ clause.Minimal ∷ [];
@@ -105,7 +106,8 @@ module _ (exact : NetValue) (metric : Metric) (bound : ℕ) (texts : Texts) wher
       }
 
       module _ (shown : Bool) where
-        pub other_formula : WitnessKnown exact metric bound M r shown texts → texts file.Formula ≢ dimacs_text (miter exact M metric r.maximum) → IsFirstFailing exact metric bound texts clause.Formula
+        pub other_formula : WitnessKnown growth exact metric bound M r shown texts → texts file.Formula ≢ dimacs_text (miter exact M metric r.maximum)
+            → IsFirstFailing growth exact metric bound texts clause.Formula
         other_formula known other =
             let k = known.report in
             record {
@@ -125,8 +127,8 @@ module _ (exact : NetValue) (metric : Metric) (bound : ℕ) (texts : Texts) wher
               fails = λ some. other (of_both (λ N s. texts file.Formula ≡ dimacs_text (miter exact N metric s.maximum)) M r k.net.netlist k.report some);
             }
 
-        pub no_refutation : FormulaKnown exact metric bound M r shown texts → ¬ IsRefutingText (miter exact M metric r.maximum).clauses (texts file.Log)
-            → IsFirstFailing exact metric bound texts clause.Log
+        pub no_refutation : FormulaKnown growth exact metric bound M r shown texts → ¬ IsRefutingText (miter exact M metric r.maximum).clauses (texts file.Log)
+            → IsFirstFailing growth exact metric bound texts clause.Log
         no_refutation known other =
             let w = known.witness in
             let k = w.report in
@@ -153,14 +155,14 @@ module _ (exact : NetValue) (metric : Metric) (bound : ℕ) (texts : Texts) wher
             }
 
         -- what was kept of the log's text, which refutes the formula
-        module _ {L : Type 0} (holds : L → List LogItem → Type 0) (known : FormulaKnown exact metric bound M r shown texts) (goal : Formula) (same : goal ≡ miter exact M metric r.maximum)
+        module _ {L : Type 0} (holds : L → List LogItem → Type 0) (known : FormulaKnown growth exact metric bound M r shown texts) (goal : Formula) (same : goal ≡ miter exact M metric r.maximum)
             (kept : L) (found : IsLogIn holds goal.clauses (Some kept) (texts file.Log)) where
-          pub known_log : LogKnown exact metric bound M r shown texts
+          pub known_log : LogKnown growth exact metric bound M r shown texts
           known_log =
               let (log, read, refutes, held) = found in
               record { formula = known; refutation = (log, read, subst (λ (f : Formula). Refutes f.clauses log) same refutes) }
 
-          pub certificate_of : Certifies exact metric bound texts → IsJudged holds exact metric bound texts (Good goal kept)
+          pub certificate_of : CertifiesWith growth exact metric bound texts → IsJudged holds growth exact metric bound texts (Good goal kept)
           certificate_of certifies =
               let (log, read, refutes, held) = found in
               let k = known.witness.report in (
@@ -172,26 +174,26 @@ module _ (exact : NetValue) (metric : Metric) (bound : ℕ) (texts : Texts) wher
                 },
               )
 
-        module _ (known : LogKnown exact metric bound M r shown texts) where
+        module _ (known : LogKnown growth exact metric bound M r shown texts) where
           n : IsNetlist texts M
           n = known.formula.witness.report.net.netlist
 
           k : ReportKnown exact metric bound M r texts
           k = known.formula.witness.report
 
-          w : WitnessKnown exact metric bound M r shown texts
+          w : WitnessKnown growth exact metric bound M r shown texts
           w = known.formula.witness
 
-          log_holds : Holds exact metric bound texts clause.Log
+          log_holds : Holds growth exact metric bound texts clause.Log
           log_holds = (M, n, (r, k.report, (known.refutation.0, record { read = known.refutation.1; refutes = known.refutation.2 })))
 
-          formula_holds : Holds exact metric bound texts clause.Formula
+          formula_holds : Holds growth exact metric bound texts clause.Formula
           formula_holds = (M, n, (r, k.report, known.formula.formula))
 
-          attained_holds : Holds exact metric bound texts clause.Attained
+          attained_holds : Holds growth exact metric bound texts clause.Attained
           attained_holds = (M, n, (r, k.report, w.attained))
 
-          pub other_counts : ¬ AreCounts exact M r → IsFirstFailing exact metric bound texts clause.Counts
+          pub other_counts : ¬ AreCounts growth exact M r → IsFirstFailing growth exact metric bound texts clause.Counts
           other_counts other = record {
             before = clause.Netlist ∷ clause.Ports ∷ clause.ReportForm ∷ clause.MaximumWithin ∷ clause.Witness ∷ clause.Attained ∷ clause.Formula ∷ clause.Log ∷ [];
             after = clause.Minimal ∷ [];
@@ -200,7 +202,7 @@ module _ (exact : NetValue) (metric : Metric) (bound : ℕ) (texts : Texts) wher
               (M, n),
               ((M, n, k.net.ports), ((r, k.report), ((r, k.report, k.within), ((r, k.report, (w.vectors.pool, w.vectors.read)), (attained_holds, (formula_holds, (log_holds, tt))))))),
             );
-            fails = λ some. other (of_both (AreCounts exact) M r n k.report some);
+            fails = λ some. other (of_both (AreCounts growth exact) M r n k.report some);
           }
 
           -- the vectors that were read are those of the text, which has no others
@@ -210,10 +212,10 @@ module _ (exact : NetValue) (metric : Metric) (bound : ℕ) (texts : Texts) wher
               subst (BreaksAll exact metric bound M r)
               (ap (λ others. r.witness ∷ others) (verified_law.one_pool exact texts r.witness pool w.vectors.pool vectors w.vectors.read)) minimal
 
-          shown_minimal : AreCounts exact M r → IsTrue shown → IsShownMinimal exact metric bound texts M r
+          shown_minimal : AreCounts growth exact M r → IsTrue shown → IsShownMinimal exact metric bound texts M r
           shown_minimal counts is minimal = (w.vectors.pool, w.vectors.read, (w.vectors.decided counts).0 is minimal)
 
-          pub not_shown : AreCounts exact M r → ¬ IsTrue shown → IsFirstFailing exact metric bound texts clause.Minimal
+          pub not_shown : AreCounts growth exact M r → ¬ IsTrue shown → IsFirstFailing growth exact metric bound texts clause.Minimal
           not_shown counts other = record {
             before =
                 clause.Netlist ∷ clause.Ports ∷ clause.ReportForm ∷ clause.MaximumWithin ∷ clause.Witness ∷ clause.Attained ∷ clause.Formula ∷ clause.Log ∷ clause.Counts ∷ [];
@@ -235,7 +237,7 @@ module _ (exact : NetValue) (metric : Metric) (bound : ℕ) (texts : Texts) wher
             fails = λ some. other ((w.vectors.decided counts).1 (λ minimal. held_minimal (of_both (IsShownMinimal exact metric bound texts) M r n k.report some minimal)));
           }
 
-          pub all_hold : AreCounts exact M r → IsTrue shown → Certifies exact metric bound texts
+          pub all_hold : AreCounts growth exact M r → IsTrue shown → CertifiesWith growth exact metric bound texts
           all_hold counts is = (
             (M, n),
             (
@@ -255,7 +257,7 @@ module _ (exact : NetValue) (metric : Metric) (bound : ℕ) (texts : Texts) wher
 
   -- ---- which clauses need a file
 
-  pub netlist_needed : IsNeededFor exact metric bound texts file.Netlist
+  pub netlist_needed : IsNeededFor growth exact metric bound texts file.Netlist
   netlist_needed clause.Netlist f = (0, omega arith, refl)
   netlist_needed clause.Ports f = (0, omega arith, refl)
   netlist_needed clause.ReportForm f = (0, omega arith, refl)
@@ -267,7 +269,7 @@ module _ (exact : NetValue) (metric : Metric) (bound : ℕ) (texts : Texts) wher
   netlist_needed clause.Counts f = (0, omega arith, refl)
   netlist_needed clause.Minimal f = (0, omega arith, refl)
 
-  pub report_needed : (M : NetValue) → NetKnown exact M texts → IsNeededFor exact metric bound texts file.Report
+  pub report_needed : (M : NetValue) → NetKnown exact M texts → IsNeededFor growth exact metric bound texts file.Report
   report_needed M known clause.Netlist f = absurd (f.fails (M, known.netlist))
   report_needed M known clause.Ports f = absurd (f.fails (M, known.netlist, known.ports))
   report_needed M known clause.ReportForm f = (1, omega arith, refl)
@@ -279,7 +281,7 @@ module _ (exact : NetValue) (metric : Metric) (bound : ℕ) (texts : Texts) wher
   report_needed M known clause.Counts f = (4, omega arith, refl)
   report_needed M known clause.Minimal f = (4, omega arith, refl)
 
-  pub vectors_needed : (M : NetValue) (r : Report) → ReportKnown exact metric bound M r texts → IsNeededFor exact metric bound texts file.Vectors
+  pub vectors_needed : (M : NetValue) (r : Report) → ReportKnown exact metric bound M r texts → IsNeededFor growth exact metric bound texts file.Vectors
   vectors_needed M r known clause.Netlist f = absurd (f.fails (M, known.net.netlist))
   vectors_needed M r known clause.Ports f = absurd (f.fails (M, known.net.netlist, known.net.ports))
   vectors_needed M r known clause.ReportForm f = absurd (f.fails (r, known.report))
@@ -291,7 +293,7 @@ module _ (exact : NetValue) (metric : Metric) (bound : ℕ) (texts : Texts) wher
   vectors_needed M r known clause.Counts f = (3, omega arith, refl)
   vectors_needed M r known clause.Minimal f = (3, omega arith, refl)
 
-  pub formula_needed : (M : NetValue) (r : Report) (shown : Bool) → WitnessKnown exact metric bound M r shown texts → IsNeededFor exact metric bound texts file.Formula
+  pub formula_needed : (M : NetValue) (r : Report) (shown : Bool) → WitnessKnown growth exact metric bound M r shown texts → IsNeededFor growth exact metric bound texts file.Formula
   formula_needed M r shown known clause.Netlist f = absurd (f.fails (M, known.report.net.netlist))
   formula_needed M r shown known clause.Ports f = absurd (f.fails (M, known.report.net.netlist, known.report.net.ports))
   formula_needed M r shown known clause.ReportForm f = absurd (f.fails (r, known.report.report))
@@ -303,7 +305,7 @@ module _ (exact : NetValue) (metric : Metric) (bound : ℕ) (texts : Texts) wher
   formula_needed M r shown known clause.Counts f = (1, omega arith, refl)
   formula_needed M r shown known clause.Minimal f = (1, omega arith, refl)
 
-  pub log_needed : (M : NetValue) (r : Report) (shown : Bool) → FormulaKnown exact metric bound M r shown texts → IsNeededFor exact metric bound texts file.Log
+  pub log_needed : (M : NetValue) (r : Report) (shown : Bool) → FormulaKnown growth exact metric bound M r shown texts → IsNeededFor growth exact metric bound texts file.Log
   log_needed M r shown known clause.Netlist f = absurd (f.fails (M, known.witness.report.net.netlist))
   log_needed M r shown known clause.Ports f = absurd (f.fails (M, known.witness.report.net.netlist, known.witness.report.net.ports))
   log_needed M r shown known clause.ReportForm f = absurd (f.fails (r, known.witness.report.report))

@@ -14,6 +14,8 @@ use Rattle.job_semantics.specs.declared.ending.Ending.{Ending}
 use Rattle.job_semantics.specs.Endings.{bundle_name}
 use Rattle.job_semantics.specs.Certificate.{Texts, texts_of, OfBundle, IsNeededFor, IsFirstFailing}
 use Rattle.job_semantics.specs.declared.certificate_clause.Clause.{Clause}
+use Rattle.job_semantics.specs.declared.growth.Growth.{Growth}
+use Rattle.job_semantics.specs.declared.growth.Growth.TheVariants.{Refused}
 use Rattle.bundle.specs.declared.verdict.Verdict.{Verdict}
 use Rattle.bundle.specs.declared.judged.Judged.{Judged}
 use Rattle.bundle.specs.declared.judged.Judged.TheVariants.{Good, Failing}
@@ -37,12 +39,12 @@ text_unread old new name text unread.Endless h = (h.stay, h.read_out, h.long)
 
 -- ---- the answers behind it
 
-module _ {L : Type 0} (holds : L → List LogItem → Type 0) (exact : NetValue) (metric : Metric) (bound : ℕ) (stem : Bytes) where
+module _ {L : Type 0} (holds : L → List LogItem → Type 0) (growth : Growth) (exact : NetValue) (metric : Metric) (bound : ℕ) (stem : Bytes) where
   abbrev Keeps : (Texts → Type 0) → FilesTold → FilesTold → Type 0
-  Keeps K old new = FilesKept exact metric bound stem K old new
+  Keeps K old new = FilesKept growth exact metric bound stem K old new
 
   abbrev Needs : Ending → Texts → Type 0
-  Needs ending texts = IsNeededFor exact metric bound texts ending
+  Needs ending texts = IsNeededFor growth exact metric bound texts ending
 
   -- a needed file was opened and perhaps read, and no other
   kept_by : (old new : FilesTold) (ending : Ending) (K : Texts → Type 0) → FilesStay old new (bundle_name stem ending) → ((texts : Texts) → K texts → Needs ending texts) → Keeps K old new
@@ -80,7 +82,7 @@ module _ {L : Type 0} (holds : L → List LogItem → Type 0) (exact : NetValue)
     not_steady_before : (name : Bytes) → mid.steady_read name ≡ false → old.steady_read name ≡ false
     not_steady_before name h = false_from_ne_true _ (λ steady. cc (read.stay.goes.steady_read name steady, h))
 
-    cause_later : (reason : Unread) → IsCause exact metric bound stem K' mid new reason → IsCause exact metric bound stem K old new reason
+    cause_later : (reason : Unread) → IsCause growth exact metric bound stem K' mid new reason → IsCause growth exact metric bound stem K old new reason
     cause_later unread.Fault (rose, (other, unread, unsteady)) =
         (omega (arith, read.stay.goes.counts, rose), (other, later (Needs other) unread, not_steady_before (bundle_name stem other) unsteady))
     cause_later unread.OutOfMemory h = tt
@@ -94,19 +96,19 @@ module _ {L : Type 0} (holds : L → List LogItem → Type 0) (exact : NetValue)
   -- a file was read, and the check went on with what is known of it
   pub answers_later : (old mid new : FilesTold) (ending : Ending) (Q : Bytes → Type 0) (K K' : Texts → Type 0) → TextRead old mid (bundle_name stem ending) Q
       → ((texts : Texts) → K texts → Needs ending texts) → ((texts : Texts) → K texts → Q (texts ending) → K' texts)
-      → (answer : Result (Judged L) Unread) → Answers holds exact metric bound stem K' mid new answer → Answers holds exact metric bound stem K old new answer
+      → (answer : Result (Judged L) Unread) → Answers holds growth exact metric bound stem K' mid new answer → Answers holds growth exact metric bound stem K old new answer
   answers_later old mid new ending Q K K' read needed step (Ok judged) (kept, proved, h) = (
     kept_later old mid new ending Q K K' read needed step kept,
     proved,
-    later old mid new ending Q K K' read needed step kept (λ texts. IsJudged holds exact metric bound texts judged) h,
+    later old mid new ending Q K K' read needed step kept (λ texts. IsJudged holds growth exact metric bound texts judged) h,
   )
   answers_later old mid new ending Q K K' read needed step (Err reason) (kept, cause) =
       (kept_later old mid new ending Q K K' read needed step kept, cause_later old mid new ending Q K K' read needed step kept reason cause)
 
   -- a file was read, and what the clauses come to is known
   pub answers_now : (old new : FilesTold) (ending : Ending) (Q : Bytes → Type 0) (K : Texts → Type 0) (judged : Judged L) → TextRead old new (bundle_name stem ending) Q
-      → ((texts : Texts) → K texts → Needs ending texts) → IsProved holds judged → ((texts : Texts) → K texts → Q (texts ending) → IsJudged holds exact metric bound texts judged)
-      → Answers holds exact metric bound stem K old new (Ok judged)
+      → ((texts : Texts) → K texts → Needs ending texts) → IsProved holds judged → ((texts : Texts) → K texts → Q (texts ending) → IsJudged holds growth exact metric bound texts judged)
+      → Answers holds growth exact metric bound stem K old new (Ok judged)
   answers_now old new ending Q K judged read needed proved step = (
     kept_by old new ending K read.stay needed,
     proved,
@@ -117,13 +119,13 @@ module _ {L : Type 0} (holds : L → List LogItem → Type 0) (exact : NetValue)
 
   -- a file was read, and this clause is the first that fails
   pub answers_failing : (old new : FilesTold) (ending : Ending) (Q : Bytes → Type 0) (K : Texts → Type 0) (c : Clause) → TextRead old new (bundle_name stem ending) Q
-      → ((texts : Texts) → K texts → Needs ending texts) → ((texts : Texts) → K texts → Q (texts ending) → IsFirstFailing exact metric bound texts c)
-      → Answers holds exact metric bound stem K old new (Ok (Failing c))
+      → ((texts : Texts) → K texts → Needs ending texts) → ((texts : Texts) → K texts → Q (texts ending) → IsFirstFailing growth exact metric bound texts c)
+      → Answers holds growth exact metric bound stem K old new (Ok (Failing c))
   answers_failing old new ending Q K c read needed step = answers_now old new ending Q K (Failing c) read needed tt step
 
   -- a file was not read
   pub answers_unread : (old new : FilesTold) (ending : Ending) (K : Texts → Type 0) (reason : Unread) → TextUnread old new (bundle_name stem ending) reason
-      → ((texts : Texts) → K texts → Needs ending texts) → Answers holds exact metric bound stem K old new (Err reason)
+      → ((texts : Texts) → K texts → Needs ending texts) → Answers holds growth exact metric bound stem K old new (Err reason)
   answers_unread old new ending K unread.Fault h needed =
       (kept_by old new ending K h.stay needed, (h.rose, (ending, (λ a b told tells k. needed (texts_of b stem) k), h.not_steady)))
   answers_unread old new ending K unread.OutOfMemory h needed = (kept_by old new ending K h needed, tt)
@@ -138,32 +140,32 @@ module _ {L : Type 0} (holds : L → List LogItem → Type 0) (exact : NetValue)
   )
 
   -- no file was touched, and there was no memory
-  pub answers_memory : (told : FilesTold) (K : Texts → Type 0) → Answers holds exact metric bound stem K told told (Err unread.OutOfMemory)
+  pub answers_memory : (told : FilesTold) (K : Texts → Type 0) → Answers holds growth exact metric bound stem K told told (Err unread.OutOfMemory)
   answers_memory told K = (record { goes = Goes-same told; stays = λ h k old new. cc; still_told = λ a was known held. was }, tt)
 
   -- a file was read, and then there was no memory
   pub answers_then_memory : (old new : FilesTold) (ending : Ending) (Q : Bytes → Type 0) (K : Texts → Type 0) → TextRead old new (bundle_name stem ending) Q
-      → ((texts : Texts) → K texts → Needs ending texts) → Answers holds exact metric bound stem K old new (Err unread.OutOfMemory)
+      → ((texts : Texts) → K texts → Needs ending texts) → Answers holds growth exact metric bound stem K old new (Err unread.OutOfMemory)
   answers_then_memory old new ending Q K read needed = (kept_by old new ending K read.stay needed, tt)
 
   -- the parts of an answer
   module _ (old new : FilesTold) where
-    pub answer_kept : (answer : Result (Judged L) Unread) → Answers holds exact metric bound stem NothingKnown old new answer → Keeps NothingKnown old new
+    pub answer_kept : (answer : Result (Judged L) Unread) → Answers holds growth exact metric bound stem NothingKnown old new answer → Keeps NothingKnown old new
     answer_kept (Ok failing) h = h.0
     answer_kept (Err reason) h = h.0
 
     -- the certificate's clauses hold, or this one fails first
-    first_fault : (judged : Judged L) (texts : Texts) → IsJudged holds exact metric bound texts judged → IsFirstFault exact metric bound texts (failing_of judged)
+    first_fault : (judged : Judged L) (texts : Texts) → IsJudged holds growth exact metric bound texts judged → IsFirstFault growth exact metric bound texts (failing_of judged)
     first_fault (Good goal kept) texts (log, held, certificate) = certificate.certifies
     first_fault (Failing c) texts h = h
 
-    pub verdict_told : (judged : Judged L) (verdict : Verdict) → verdict ≡ verdict_of (failing_of judged) → Answers holds exact metric bound stem NothingKnown old new (Ok judged)
-        → IsVerdict exact metric bound stem old new verdict
+    pub verdict_told : (judged : Judged L) (verdict : Verdict) → verdict ≡ verdict_of (failing_of judged) → Answers holds growth exact metric bound stem NothingKnown old new (Ok judged)
+        → IsVerdict growth exact metric bound stem old new verdict
     verdict_told judged verdict is (kept, proved, h) = record { failing = failing_of judged; is = is; judged = λ a b told tells. first_fault judged (texts_of b stem) (h a b told tells tt) }
 
 -- what was loaded
 pub loaded_told : (exact : NetValue) (metric : Metric) (bound : ℕ) (stem : Bytes) (old new : FilesTold) (judged : Judged (List LogItem))
-    → Answers (λ kept log. kept ≡ log) exact metric bound stem NothingKnown old new (Ok judged) → IsLoaded exact metric bound stem old new (loaded_of judged)
+    → Answers (λ kept log. kept ≡ log) Refused exact metric bound stem NothingKnown old new (Ok judged) → IsLoaded exact metric bound stem old new (loaded_of judged)
 loaded_told exact metric bound stem old new (Good goal kept) (stays, (log, refutes, held), h) = (
   subst (Refutes goal.clauses) (sym held) refutes,
   λ a b told tells. let (other, same, certificate) = h a b told tells tt in subst (IsCertificateOf exact metric bound (texts_of b stem) goal) (sym same) certificate,

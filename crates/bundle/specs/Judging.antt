@@ -16,24 +16,25 @@ use Rattle.proof_semantics.specs.Miter.{miter}
 use Rattle.job_semantics.specs.declared.ending.Ending.{Ending}
 use Rattle.job_semantics.specs.declared.ending.Ending.TheVariants as file
 use Rattle.job_semantics.specs.declared.certificate_clause.Clause.{Clause}
+use Rattle.job_semantics.specs.declared.growth.Growth.{Growth}
 use Rattle.job_semantics.specs.Endings.{bundle_name}
 use Rattle.job_semantics.specs.Report.{Report}
 use Rattle.job_semantics.specs.Certificate.{Texts, texts_of, IsVectorsText, moves_in, AreCounts, OfBundle}
-use Rattle.job_semantics.specs.Certificate.{AreNeededHeld, IsNetlist, IsReport, Certifies, IsFirstFailing}
+use Rattle.job_semantics.specs.Certificate.{AreNeededHeld, IsNetlist, IsReport, CertifiesWith, IsFirstFailing}
 use Rattle.job_semantics.specs.Certificate.{IsNeededFor, clause_number}
 use Rattle.chain_semantics.specs.Minimality.{AreBrokenBySome}
 use Rattle.bundle_texts.specs.LogTold.{IsRefutingText}
 use Rattle.bundle_texts.specs.LogJudged.{IsOfRefutation}
-use Rattle.bundle.specs.Loading.{IsCertificateOf}
+use Rattle.bundle.specs.Loading.{IsCertificateWith}
 use Rattle.bundle.specs.declared.judged.Judged.{Judged}
 use Rattle.bundle.specs.declared.judged.Judged.TheVariants.{Good, Failing}
 use Rattle.bundle.specs.declared.verdict.Verdict.{Verdict}
 use Rattle.bundle.specs.declared.verdict.Verdict.TheVariants.{Verified, Refuted}
 
 -- no clause fails, or this one is the first that does
-abbrev pub IsFirstFault : NetValue → Metric → ℕ → Texts → Option Clause → Type 0
-IsFirstFault exact metric bound texts None = Certifies exact metric bound texts
-IsFirstFault exact metric bound texts (Some c) = IsFirstFailing exact metric bound texts c
+abbrev pub IsFirstFault : Growth → NetValue → Metric → ℕ → Texts → Option Clause → Type 0
+IsFirstFault growth exact metric bound texts None = CertifiesWith growth exact metric bound texts
+IsFirstFault growth exact metric bound texts (Some c) = IsFirstFailing growth exact metric bound texts c
 
 abbrev pub verdict_of : Option Clause → Verdict
 verdict_of None = Verified
@@ -41,32 +42,33 @@ verdict_of (Some c) = Refuted (clause_number c)
 
 -- Calls changed no file. Where K holds of the texts and the files that the verdict needs are held, what was
 -- told is still told.
-pub record FilesKept (exact : NetValue) (metric : Metric) (bound : ℕ) (stem : Bytes) (K : Texts → Type 0)
-    (old new : FilesTold) : Type 0 where
+pub record FilesKept (growth : Growth) (exact : NetValue) (metric : Metric) (bound : ℕ) (stem : Bytes)
+    (K : Texts → Type 0) (old new : FilesTold) : Type 0 where
   pub goes : Goes old new
   pub stays : WhereTold old new (λ a b. b ≡ a)
   pub still_told : (a : Held) → old.held ≡ Some a → K (texts_of a stem)
-      → AreNeededHeld exact metric bound stem a → new.held ≡ Some a
+      → AreNeededHeld growth exact metric bound stem a → new.held ≡ Some a
 
 -- the verdict by the first clause that fails
-pub record IsVerdict (exact : NetValue) (metric : Metric) (bound : ℕ) (stem : Bytes) (old new : FilesTold)
-    (verdict : Verdict) : Type 0 where
+pub record IsVerdict (growth : Growth) (exact : NetValue) (metric : Metric) (bound : ℕ) (stem : Bytes)
+    (old new : FilesTold) (verdict : Verdict) : Type 0 where
   pub failing : Option Clause
   pub is : verdict ≡ verdict_of failing
-  pub judged : OfBundle old new stem (λ texts. IsFirstFault exact metric bound texts failing)
+  pub judged : OfBundle old new stem (λ texts. IsFirstFault growth exact metric bound texts failing)
 
 -- why there is no verdict, where K holds of the texts: a needed file could not be read, or goes on past the
 -- budget of turns
-abbrev pub IsCause : NetValue → Metric → ℕ → Bytes → (Texts → Type 0) → FilesTold → FilesTold → Unread
-    → Type 0
-IsCause exact metric bound stem K old new Fault =
+abbrev pub IsCause : Growth → NetValue → Metric → ℕ → Bytes → (Texts → Type 0) → FilesTold → FilesTold
+    → Unread → Type 0
+IsCause growth exact metric bound stem K old new Fault =
     Rose old.faults new.faults
     × ((ending : Ending) × OfBundle old new stem
-    (λ texts. K texts → IsNeededFor exact metric bound texts ending)
+    (λ texts. K texts → IsNeededFor growth exact metric bound texts ending)
     × (old.steady_read (bundle_name stem ending) ≡ false))
-IsCause exact metric bound stem K old new OutOfMemory = Unit {0}
-IsCause exact metric bound stem K old new Endless =
-    (ending : Ending) × OfBundle old new stem (λ texts. K texts → IsNeededFor exact metric bound texts ending)
+IsCause growth exact metric bound stem K old new OutOfMemory = Unit {0}
+IsCause growth exact metric bound stem K old new Endless =
+    (ending : Ending) × OfBundle old new stem
+    (λ texts. K texts → IsNeededFor growth exact metric bound texts ending)
     × IsReadOut old new (bundle_name stem ending)
     × OfBundle old new stem (λ texts. turn_budget ≤ length (texts ending))
 
@@ -77,10 +79,10 @@ failing_of (Failing c) = Some c
 
 module _ {L : Type 0} (holds : L → List LogItem → Type 0) where
   -- the certificate's formula and what was kept of its log, or the first clause that fails
-  abbrev pub IsJudged : NetValue → Metric → ℕ → Texts → Judged L → Type 0
-  IsJudged exact metric bound texts (Good goal kept) = (log : List LogItem) × holds kept log
-      × IsCertificateOf exact metric bound texts goal log
-  IsJudged exact metric bound texts (Failing c) = IsFirstFailing exact metric bound texts c
+  abbrev pub IsJudged : Growth → NetValue → Metric → ℕ → Texts → Judged L → Type 0
+  IsJudged growth exact metric bound texts (Good goal kept) = (log : List LogItem) × holds kept log
+      × IsCertificateWith growth exact metric bound texts goal log
+  IsJudged growth exact metric bound texts (Failing c) = IsFirstFailing growth exact metric bound texts c
 
   -- whatever the files tell, the log that was kept refutes the formula
   abbrev pub IsProved : Judged L → Type 0
@@ -88,13 +90,14 @@ module _ {L : Type 0} (holds : L → List LogItem → Type 0) where
   IsProved (Failing c) = Unit {0}
 
   -- what the check answers, where K holds of the texts
-  abbrev pub Answers : NetValue → Metric → ℕ → Bytes → (Texts → Type 0) → FilesTold → FilesTold
+  abbrev pub Answers : Growth → NetValue → Metric → ℕ → Bytes → (Texts → Type 0) → FilesTold → FilesTold
       → Result (Judged L) Unread → Type 0
-  Answers exact metric bound stem K old new (Ok judged) =
-      FilesKept exact metric bound stem K old new × IsProved judged
-      × OfBundle old new stem (λ texts. K texts → IsJudged exact metric bound texts judged)
-  Answers exact metric bound stem K old new (Err reason) = FilesKept exact metric bound stem K old new
-      × IsCause exact metric bound stem K old new reason
+  Answers growth exact metric bound stem K old new (Ok judged) =
+      FilesKept growth exact metric bound stem K old new × IsProved judged
+      × OfBundle old new stem (λ texts. K texts → IsJudged growth exact metric bound texts judged)
+  Answers growth exact metric bound stem K old new (Err reason) =
+      FilesKept growth exact metric bound stem K old new
+      × IsCause growth exact metric bound stem K old new reason
 
 -- a file was read to its end, or as far as Q of its bytes needs
 pub record TextRead (old new : FilesTold) (name : Bytes) (Q : Bytes → Type 0) : Type 0 where
@@ -124,27 +127,27 @@ pub record ReportKnown (exact : NetValue) (metric : Metric) (bound : ℕ) (M : N
   pub within : r.maximum ≤ bound
 
 -- the text is that of vectors with the witness first, and `shown` says whether they show what the report says
--- of the moves, where its counts are right
-pub record AreVectorsJudged (exact : NetValue) (metric : Metric) (bound : ℕ) (M : NetValue) (r : Report)
-    (shown : Bool) (text : Bytes) : Type 0 where
+-- of the moves, where the clause on the counts holds
+pub record AreVectorsJudged (growth : Growth) (exact : NetValue) (metric : Metric) (bound : ℕ) (M : NetValue)
+    (r : Report) (shown : Bool) (text : Bytes) : Type 0 where
   pub pool : List (List Bool)
   pub read : IsVectorsText (input_count exact) text r.witness pool
-  pub decided : AreCounts exact M r
+  pub decided : AreCounts growth exact M r
       → IsTrue shown ↔ (IsTrue r.minimal
       → AreBrokenBySome metric exact bound M (r.witness ∷ pool) (moves_in r.version M))
 
-pub record WitnessKnown (exact : NetValue) (metric : Metric) (bound : ℕ) (M : NetValue) (r : Report)
-    (shown : Bool) (texts : Texts) : Type 0 where
+pub record WitnessKnown (growth : Growth) (exact : NetValue) (metric : Metric) (bound : ℕ) (M : NetValue)
+    (r : Report) (shown : Bool) (texts : Texts) : Type 0 where
   pub report : ReportKnown exact metric bound M r texts
-  pub vectors : AreVectorsJudged exact metric bound M r shown (texts file.Vectors)
+  pub vectors : AreVectorsJudged growth exact metric bound M r shown (texts file.Vectors)
   pub attained : net_error metric exact M r.witness ≡ r.maximum
 
-pub record FormulaKnown (exact : NetValue) (metric : Metric) (bound : ℕ) (M : NetValue) (r : Report)
-    (shown : Bool) (texts : Texts) : Type 0 where
-  pub witness : WitnessKnown exact metric bound M r shown texts
+pub record FormulaKnown (growth : Growth) (exact : NetValue) (metric : Metric) (bound : ℕ) (M : NetValue)
+    (r : Report) (shown : Bool) (texts : Texts) : Type 0 where
+  pub witness : WitnessKnown growth exact metric bound M r shown texts
   pub formula : texts file.Formula ≡ dimacs_text (miter exact M metric r.maximum)
 
-pub record LogKnown (exact : NetValue) (metric : Metric) (bound : ℕ) (M : NetValue) (r : Report)
-    (shown : Bool) (texts : Texts) : Type 0 where
-  pub formula : FormulaKnown exact metric bound M r shown texts
+pub record LogKnown (growth : Growth) (exact : NetValue) (metric : Metric) (bound : ℕ) (M : NetValue)
+    (r : Report) (shown : Bool) (texts : Texts) : Type 0 where
+  pub formula : FormulaKnown growth exact metric bound M r shown texts
   pub refutation : IsRefutingText (miter exact M metric r.maximum).clauses (texts file.Log)

@@ -8,19 +8,26 @@ use Rattle.proof_semantics.specs.Formula.{Formula}
 use Rattle.proof_semantics.specs.Logs.{LogItem, Refutes}
 use Rattle.proof_semantics.specs.Miter.{miter}
 use Rattle.job_semantics.specs.declared.certificate_clause.Clause.{Clause}
-use Rattle.job_semantics.specs.Certificate.{Texts, OfBundle, OfBoth, IsRefutation, Certifies, IsFirstFailing}
-use Rattle.job_semantics.specs.Certificate.{clause_number}
+use Rattle.job_semantics.specs.declared.growth.Growth.{Growth}
+use Rattle.job_semantics.specs.declared.growth.Growth.TheVariants.{Refused}
+use Rattle.job_semantics.specs.Certificate.{Texts, OfBundle, OfBoth, IsRefutation, CertifiesWith}
+use Rattle.job_semantics.specs.Certificate.{IsFirstFailing, clause_number}
 use Rattle.bundle.specs.declared.judged.Judged.{Judged}
 use Rattle.bundle.specs.declared.judged.Judged.TheVariants as judged
 use Rattle.bundle.specs.declared.loaded.Loaded.{Loaded}
 use Rattle.bundle.specs.declared.loaded.Loaded.TheVariants.{Good, Refuted}
 
--- the texts are a certificate, with this miter as its formula and these items as its log
-pub record IsCertificateOf (exact : NetValue) (metric : Metric) (bound : ℕ) (texts : Texts) (goal : Formula)
-    (log : List LogItem) : Type 0 where
-  pub certifies : Certifies exact metric bound texts
+-- the texts are a certificate, of a net that may be larger than the original or may not, with this miter as
+-- its formula and these items as its log
+pub record IsCertificateWith (growth : Growth) (exact : NetValue) (metric : Metric) (bound : ℕ)
+    (texts : Texts) (goal : Formula) (log : List LogItem) : Type 0 where
+  pub certifies : CertifiesWith growth exact metric bound texts
   pub parts : OfBoth exact metric bound texts
       (λ M r. (goal ≡ miter exact M metric r.maximum) × IsRefutation exact M metric r.maximum texts log)
+
+-- the same of a net that is not larger than the original
+abbrev pub IsCertificateOf : NetValue → Metric → ℕ → Texts → Formula → List LogItem → Type 0
+IsCertificateOf = IsCertificateWith Refused
 
 -- a certificate all items of whose log were kept, or the number of the first clause that fails
 abbrev pub loaded_of : Judged (List LogItem) → Loaded
@@ -35,4 +42,4 @@ IsLoaded exact metric bound stem old new (Good goal log) =
     (λ texts. IsCertificateOf exact metric bound texts goal log)
 IsLoaded exact metric bound stem old new (Refuted number) =
     (c : Clause) × (number ≡ clause_number c)
-    × OfBundle old new stem (λ texts. IsFirstFailing exact metric bound texts c)
+    × OfBundle old new stem (λ texts. IsFirstFailing Refused exact metric bound texts c)

@@ -10,29 +10,33 @@ use bundle_texts::item_sink::NoItems;
 use bundle_writing::stem::Stem;
 use file_core::files::Files;
 use file_reading::unread::Unread;
+use job_semantics::growth::Growth;
 use net_core::net::Net;
 use semantics::metric::Metric;
 use std::alloc::Global;
 
-/// Whether the files of the stem are a certificate that a simplified net is within the bound: the ten clauses
+/// Whether the files of the stem are a certificate that the bundle's net is within the bound: the ten clauses
 /// are tested in their order, on what the files hold and nothing else. A file that neither the first failing
-/// clause nor a clause before it needs is not opened.
+/// clause nor a clause before it needs is not opened. Where `growth` is `Refused`, the bundle's net may have
+/// no more tables and no more literals than the original; where it is `Allowed`, it may have more, and the
+/// report's counts are compared all the same.
 pub fn check_bundle<F: Files>(
     alloc: Global,
     net: &Net,
     metric: Metric,
     bound: u128,
+    growth: Growth,
     stem: &Stem,
     files: &mut F,
 ) -> Result<Verdict, Unread>
     requires { IsSmall net.now }
-    ensures kept { FilesKept net.now metric bound stem.now NothingKnown (F.told files.old)
+    ensures kept { FilesKept growth net.now metric bound stem.now NothingKnown (F.told files.old)
         (F.told files.new) }
     ensures verdict { IfOk result
-        (IsVerdict net.now metric bound stem.now (F.told files.old) (F.told files.new)) }
+        (IsVerdict growth net.now metric bound stem.now (F.told files.old) (F.told files.new)) }
     ensures cause { IfErr result
-        (IsCause net.now metric bound stem.now NothingKnown (F.told files.old) (F.told files.new)) }
+        (IsCause growth net.now metric bound stem.now NothingKnown (F.told files.old) (F.told files.new)) }
 {
-    let judged: Judged<NoItems> = check_netlist(alloc, net, metric, bound, stem, files)?;
+    let judged: Judged<NoItems> = check_netlist(alloc, net, metric, bound, growth, stem, files)?;
     Ok(Verdict::of(judged.failing()))
 }

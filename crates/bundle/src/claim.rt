@@ -8,15 +8,18 @@ ghost use Rattle.bundle_texts.specs.Reading.{report_read};
 
 use bundle_texts::report_reading::ReportRead;
 use bundle_writing::stem::Stem;
+use job_semantics::growth::Growth;
 use net_errors::compared::Compared;
 use semantics::metric::Metric;
 
-/// What the files of a stem are to show of a net, with which the net of the bundle is compared.
+/// What the files of a stem are to show of a net, with which the net of the bundle is compared, and whether
+/// the latter may be larger.
 #[derive(Clone, Copy)]
 pub(crate) struct Claim<'a> {
     pub nets: &'a Compared<'a>,
     pub metric: Metric,
     pub bound: u128,
+    pub growth: Growth,
     pub stem: &'a Stem,
 }
 
@@ -28,23 +31,24 @@ pub(crate) struct Contents<'a> {
     pub is_shown: bool,
 }
 
-/// Whether the report's counts are those of the two nets, and none grew.
-pub(crate) fn are_counts(nets: &Compared, report: &ReportRead) -> bool
-    requires exact { IsSmall nets.now.exact }
-    requires approx { IsSmall nets.now.approx }
+/// Whether the report's counts are those of the two nets, and none grew where growth is refused.
+pub(crate) fn are_counts(claim: &Claim, report: &ReportRead) -> bool
+    requires exact { IsSmall claim.now.nets.now.exact }
+    requires approx { IsSmall claim.now.nets.now.approx }
     ensures { IsTrue result
-        ↔ AreCounts nets.now.exact nets.now.approx (report_read (one_word Abs) 0 report.now) }
+        ↔ AreCounts claim.now.growth claim.now.nets.now.exact claim.now.nets.now.approx
+        (report_read (one_word Abs) 0 report.now) }
 {
-    let exact = nets.exact();
-    let approx = nets.approx();
+    let exact = claim.nets.exact();
+    let approx = claim.nets.approx();
     exact.see_sound();
     approx.see_sound();
     let old_literals = exact.literals();
     let new_literals = approx.literals();
+    let may_grow = claim.growth == Growth::Allowed;
     report.counts.old_tables == exact.tables()
         && report.counts.new_tables == approx.tables()
         && u64::from(report.counts.old_literals) == old_literals
         && u64::from(report.counts.new_literals) == new_literals
-        && approx.tables() <= exact.tables()
-        && new_literals <= old_literals
+        && (may_grow || (approx.tables() <= exact.tables() && new_literals <= old_literals))
 }

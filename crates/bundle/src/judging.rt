@@ -23,6 +23,7 @@ use file_core::files::Files;
 use file_reading::unread::Unread;
 use job_semantics::certificate_clause::Clause;
 use job_semantics::ending::Ending;
+use job_semantics::growth::Growth;
 use job_semantics::version::Version;
 use miter::level::miter_of;
 use net_core::net::Net;
@@ -38,11 +39,13 @@ fn check_counts(claim: &Claim, contents: &Contents) -> Option<Clause>
     requires exact { IsSmall claim.now.nets.now.exact }
     requires approx { IsSmall claim.now.nets.now.approx }
     ensures { (texts : Texts)
-        → LogKnown claim.now.nets.now.exact claim.now.metric claim.now.bound claim.now.nets.now.approx
-        (report_read claim.now.metric claim.now.bound contents.now.report.now) contents.now.is_shown texts
-        → IsFirstFault claim.now.nets.now.exact claim.now.metric claim.now.bound texts result }
+        → LogKnown claim.now.growth claim.now.nets.now.exact claim.now.metric claim.now.bound
+        claim.now.nets.now.approx (report_read claim.now.metric claim.now.bound contents.now.report.now)
+        contents.now.is_shown texts
+        → IsFirstFault claim.now.growth claim.now.nets.now.exact claim.now.metric claim.now.bound texts
+        result }
 {
-    if !are_counts(claim.nets, contents.report) {
+    if !are_counts(claim, contents.report) {
         return Some(Clause::Counts);
     }
     if !contents.is_shown {
@@ -63,9 +66,11 @@ fn check_log<F: Files, L: ItemSink>(
     requires approx { IsSmall claim.now.nets.now.approx }
     requires formula { formula ≡ miter claim.now.nets.now.exact claim.now.nets.now.approx claim.now.metric
         contents.now.report.now.maximum }
-    ensures { Answers L.holds claim.now.nets.now.exact claim.now.metric claim.now.bound claim.now.stem.now
-        (FormulaKnown claim.now.nets.now.exact claim.now.metric claim.now.bound claim.now.nets.now.approx
-        (report_read claim.now.metric claim.now.bound contents.now.report.now) contents.now.is_shown)
+    ensures { Answers L.holds claim.now.growth claim.now.nets.now.exact claim.now.metric claim.now.bound
+        claim.now.stem.now
+        (FormulaKnown claim.now.growth claim.now.nets.now.exact claim.now.metric claim.now.bound
+        claim.now.nets.now.approx (report_read claim.now.metric claim.now.bound contents.now.report.now)
+        contents.now.is_shown)
         (F.told files.old) (F.told files.new) result }
 {
     let Some(log) = read_log(alloc, files, claim.stem.name(Ending::Log), &formula)? else {
@@ -86,9 +91,11 @@ fn check_formula<F: Files, L: ItemSink>(
 ) -> Result<Judged<L>, Unread>
     requires exact { IsSmall claim.now.nets.now.exact }
     requires approx { IsSmall claim.now.nets.now.approx }
-    ensures { Answers L.holds claim.now.nets.now.exact claim.now.metric claim.now.bound claim.now.stem.now
-        (WitnessKnown claim.now.nets.now.exact claim.now.metric claim.now.bound claim.now.nets.now.approx
-        (report_read claim.now.metric claim.now.bound contents.now.report.now) contents.now.is_shown)
+    ensures { Answers L.holds claim.now.growth claim.now.nets.now.exact claim.now.metric claim.now.bound
+        claim.now.stem.now
+        (WitnessKnown claim.now.growth claim.now.nets.now.exact claim.now.metric claim.now.bound
+        claim.now.nets.now.approx (report_read claim.now.metric claim.now.bound contents.now.report.now)
+        contents.now.is_shown)
         (F.told files.old) (F.told files.new) result }
 {
     let level = contents.report.maximum;
@@ -99,16 +106,16 @@ fn check_formula<F: Files, L: ItemSink>(
     check_log(alloc, claim, contents, formula, files)
 }
 
-/// Whether what the vectors show of the moves can decide: the witness attains the maximum, and the report's
-/// counts are right.
+/// Whether what the vectors show of the moves can decide: the witness attains the maximum, and the clause on
+/// the counts holds.
 fn decides_by_moves(claim: &Claim, report: &ReportRead, is_attained: bool) -> bool
     requires exact { IsSmall claim.now.nets.now.exact }
     requires approx { IsSmall claim.now.nets.now.approx }
     ensures { IsTrue result ↔ (IsTrue is_attained
-        × AreCounts claim.now.nets.now.exact claim.now.nets.now.approx
+        × AreCounts claim.now.growth claim.now.nets.now.exact claim.now.nets.now.approx
         (report_read (one_word Abs) 0 report.now)) }
 {
-    is_attained && are_counts(claim.nets, report)
+    is_attained && are_counts(claim, report)
 }
 
 /// The version whose moves are to be broken; none where the report does not say that they are, or no move can
@@ -134,7 +141,8 @@ fn check_witness<F: Files, L: ItemSink>(
     requires exact { IsSmall claim.now.nets.now.exact }
     requires approx { IsSmall claim.now.nets.now.approx }
     requires width { length report.now.witness ≡ input_count claim.now.nets.now.exact }
-    ensures { Answers L.holds claim.now.nets.now.exact claim.now.metric claim.now.bound claim.now.stem.now
+    ensures { Answers L.holds claim.now.growth claim.now.nets.now.exact claim.now.metric claim.now.bound
+        claim.now.stem.now
         (ReportKnown claim.now.nets.now.exact claim.now.metric claim.now.bound claim.now.nets.now.approx
         (report_read claim.now.metric claim.now.bound report.now))
         (F.told files.old) (F.told files.new) result }
@@ -164,7 +172,8 @@ fn check_report<F: Files, L: ItemSink>(
 ) -> Result<Judged<L>, Unread>
     requires exact { IsSmall claim.now.nets.now.exact }
     requires approx { IsSmall claim.now.nets.now.approx }
-    ensures { Answers L.holds claim.now.nets.now.exact claim.now.metric claim.now.bound claim.now.stem.now
+    ensures { Answers L.holds claim.now.growth claim.now.nets.now.exact claim.now.metric claim.now.bound
+        claim.now.stem.now
         (NetKnown claim.now.nets.now.exact claim.now.nets.now.approx)
         (F.told files.old) (F.told files.new) result }
 {
@@ -187,11 +196,12 @@ pub(crate) fn check_netlist<F: Files, L: ItemSink>(
     net: &Net,
     metric: Metric,
     bound: u128,
+    growth: Growth,
     stem: &Stem,
     files: &mut F,
 ) -> Result<Judged<L>, Unread>
     requires { IsSmall net.now }
-    ensures { Answers L.holds net.now metric bound stem.now NothingKnown (F.told files.old)
+    ensures { Answers L.holds growth net.now metric bound stem.now NothingKnown (F.told files.old)
         (F.told files.new) result }
 {
     let Some(approx) = read_netlist(alloc, files, stem.name(Ending::Netlist))? else {
@@ -205,6 +215,7 @@ pub(crate) fn check_netlist<F: Files, L: ItemSink>(
         nets: &nets,
         metric,
         bound,
+        growth,
         stem,
     };
     check_report(alloc, &claim, files)

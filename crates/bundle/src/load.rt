@@ -1,6 +1,7 @@
 //! A bundle is checked, and the proof in it is kept.
 ghost use Rattle.std.specs.Prelude.{IfOk, IfErr};
 ghost use Rattle.semantics.specs.Net.{IsSmall};
+ghost use Rattle.job_semantics.specs.declared.growth.Growth.TheVariants.{Refused};
 ghost use Rattle.bundle.specs.Judging.{FilesKept, IsCause, NothingKnown};
 ghost use Rattle.bundle.specs.Loading.{IsLoaded};
 
@@ -9,12 +10,14 @@ use crate::loaded::Loaded;
 use bundle_writing::stem::Stem;
 use file_core::files::Files;
 use file_reading::unread::Unread;
+use job_semantics::growth::Growth;
 use net_core::net::Net;
 use semantics::metric::Metric;
 use std::alloc::Global;
 
 /// The formula and the log of the bundle of the stem, if its files are a certificate that a simplified net is
-/// within the bound. Reads and judges the files as [`check_bundle`] does, and keeps the log's items besides.
+/// within the bound and not larger than the original. Reads and judges the files as [`check_bundle`] does
+/// where growth is refused, and keeps the log's items besides.
 pub fn load_bundle<F: Files>(
     alloc: Global,
     net: &Net,
@@ -24,13 +27,13 @@ pub fn load_bundle<F: Files>(
     files: &mut F,
 ) -> Result<Loaded, Unread>
     requires { IsSmall net.now }
-    ensures kept { FilesKept net.now metric bound stem.now NothingKnown (F.told files.old)
+    ensures kept { FilesKept Refused net.now metric bound stem.now NothingKnown (F.told files.old)
         (F.told files.new) }
     ensures loaded { IfOk result
         (IsLoaded net.now metric bound stem.now (F.told files.old) (F.told files.new)) }
     ensures cause { IfErr result
-        (IsCause net.now metric bound stem.now NothingKnown (F.told files.old) (F.told files.new)) }
+        (IsCause Refused net.now metric bound stem.now NothingKnown (F.told files.old) (F.told files.new)) }
 {
-    let judged = check_netlist(alloc, net, metric, bound, stem, files)?;
+    let judged = check_netlist(alloc, net, metric, bound, Growth::Refused, stem, files)?;
     Ok(Loaded::of(judged))
 }

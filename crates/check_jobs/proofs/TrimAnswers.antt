@@ -18,6 +18,7 @@ use Rattle.proof_semantics.specs.Lrat.{lrat_text}
 use Rattle.trim_semantics.specs.Trimmed.{IsTrimmed}
 use Rattle.job_semantics.specs.Endings.{is_bundle_name}
 use Rattle.job_semantics.specs.Job.{are_file_words, is_output_word, are_trim_words}
+use Rattle.job_semantics.specs.declared.growth.Growth.TheVariants.{Refused}
 use Rattle.job_semantics.specs.Certificate.{Texts, texts_of, OfBundle}
 use Rattle.job_semantics.specs.Checking.{CheckEnd, verified, refuted, refused, out_of_memory, not_read, endless, IsLeftAlone, IsQuietCheck}
 use Rattle.job_semantics.specs.Conversion.{output_file}
@@ -42,7 +43,7 @@ use Rattle.check_jobs.proofs.CheckAnswers.{check-no_net, check-no_names, left_al
 -- ---- a check that is not verified
 
 module _ (metric : Metric) (bound : ℕ) (input stem output : Bytes) (old new : FilesTold) (said : SinkTold) where
-  as_checked : (answer : Status) (end : CheckEnd metric bound input stem old new said said) → IsAnswerFor end answer → answer ≢ Verified
+  as_checked : (answer : Status) (end : CheckEnd Refused metric bound input stem old new said said) → IsAnswerFor end answer → answer ≢ Verified
       → TrimAnswer metric bound input stem output old new said said answer
   as_checked answer (verified v) is other = absurd (other is)
   as_checked answer (refuted c r) is other = (not_verified (refuted c r) (λ h. h), is)
@@ -51,7 +52,7 @@ module _ (metric : Metric) (bound : ℕ) (input stem output : Bytes) (old new : 
   as_checked answer (not_read fault) is other = (not_verified (not_read fault) (λ h. h), is)
   as_checked answer (endless e) is other = (not_verified (endless e) (λ h. h), is)
 
-  pub from_check : (answer : Status) → CheckAnswer metric bound input stem old new said said answer → answer ≢ Verified → TrimAnswer metric bound input stem output old new said said answer
+  pub from_check : (answer : Status) → CheckAnswer Refused metric bound input stem old new said said answer → answer ≢ Verified → TrimAnswer metric bound input stem output old new said said answer
   from_check answer checked other = as_checked answer checked.0 checked.1 other
 
   pub trim-no_net : (answer : Status) → NetUnread old new input answer → TrimAnswer metric bound input stem output old new said said answer
@@ -117,14 +118,14 @@ trimmed_bundle N metric bound goal log short texts t c = record {
 }
 
 module _ (metric : Metric) (bound : ℕ) (input stem output : Bytes) (old mid kept : FilesTold) (said : SinkTold) (N : NetValue) (read : NetRead old mid input N)
-    (keeps : FilesKept N metric bound stem NothingKnown mid kept) where
+    (keeps : FilesKept Refused N metric bound stem NothingKnown mid kept) where
   trim-refuted : (number : ℕ) → IsLoaded N metric bound stem mid kept (load.Refuted number) → TrimAnswer metric bound input stem output old kept said said (Refuted number)
   trim-refuted number judged = (not_verified (refuted judged.0 (failing_first read keeps judged.0 judged.2)) (λ h. h), ap Refuted judged.1)
 
-  trim-unread : (reason : Unread) → IsCause N metric bound stem NothingKnown mid kept reason → TrimAnswer metric bound input stem output old kept said said (status_of_unread reason)
+  trim-unread : (reason : Unread) → IsCause Refused N metric bound stem NothingKnown mid kept reason → TrimAnswer metric bound input stem output old kept said said (status_of_unread reason)
   trim-unread reason cause = from_check metric bound input stem output old kept said (status_of_unread reason) (by_cause read keeps reason cause) (unread_is_not_verified reason)
 
-  left : IsLeftAlone metric bound input stem old kept said said
+  left : IsLeftAlone Refused metric bound input stem old kept said said
   left = left_alone read keeps
 
   module _ (other : is_bundle_name stem output ≡ false) (goal : Formula) (log : List LogItem)
@@ -159,24 +160,24 @@ module _ (metric : Metric) (bound : ℕ) (input stem output : Bytes) (old mid ke
       refl,
     )
     trim-stands NoMemory same =
-        (not_verified (out_of_memory (subst (λ n. IsLeftAlone metric bound input stem old n said said) (sym same) left)) (λ h. h), refl)
+        (not_verified (out_of_memory (subst (λ n. IsLeftAlone Refused metric bound input stem old n said said) (sym same) left)) (λ h. h), refl)
     trim-stands _ bad = absurd bad
 
 -- the bundle's names are those of the stem
 module _ (metric : Metric) (bound : ℕ) (input stem output names : Bytes) (old mid kept : FilesTold) (said : SinkTold) (N : NetValue) (same : names ≡ stem)
-    (read : NetRead old mid input N) (keeps : FilesKept N metric bound names NothingKnown mid kept) where
-  of_stem : FilesKept N metric bound stem NothingKnown mid kept
-  of_stem = subst (λ s. FilesKept N metric bound s NothingKnown mid kept) same keeps
+    (read : NetRead old mid input N) (keeps : FilesKept Refused N metric bound names NothingKnown mid kept) where
+  of_stem : FilesKept Refused N metric bound stem NothingKnown mid kept
+  of_stem = subst (λ s. FilesKept Refused N metric bound s NothingKnown mid kept) same keeps
 
   pub trim-refuted_at : (number : ℕ) → IsLoaded N metric bound names mid kept (load.Refuted number) → TrimAnswer metric bound input stem output old kept said said (Refuted number)
   trim-refuted_at number judged =
       trim-refuted metric bound input stem output old mid kept said N read of_stem number (subst (λ s. IsLoaded N metric bound s mid kept (load.Refuted number)) same judged)
 
-  pub trim-unread_at : (reason : Unread) (answer : Status) → IsCause N metric bound names NothingKnown mid kept reason → answer ≡ status_of_unread reason
+  pub trim-unread_at : (reason : Unread) (answer : Status) → IsCause Refused N metric bound names NothingKnown mid kept reason → answer ≡ status_of_unread reason
       → TrimAnswer metric bound input stem output old kept said said answer
   trim-unread_at reason answer cause is =
       subst (TrimAnswer metric bound input stem output old kept said said) (sym is)
-      (trim-unread metric bound input stem output old mid kept said N read of_stem reason (subst (λ s. IsCause N metric bound s NothingKnown mid kept reason) same cause))
+      (trim-unread metric bound input stem output old mid kept said N read of_stem reason (subst (λ s. IsCause Refused N metric bound s NothingKnown mid kept reason) same cause))
 
   pub trim-stands_at : IsTrue (are_trim_words input stem output) → (goal : Formula) (log : List LogItem) → IsLoaded N metric bound names mid kept (load.Good goal log)
       → (new : FilesTold) (answer : Status) → TrimmedAnswer goal.clauses log output kept new answer → TrimAnswer metric bound input stem output old new said said answer
@@ -214,7 +215,7 @@ module _ {metric : Metric} {bound : ℕ} {input stem output : Bytes} {old new : 
             cc
       ]
 
-  as_quiet_check : IsQuietTrim metric bound input stem output old new said says → IsQuietCheck metric bound input stem old new said says
+  as_quiet_check : IsQuietTrim metric bound input stem output old new said says → IsQuietCheck Refused metric bound input stem old new said says
   as_quiet_check quiet = record { files = elim quiet.files [ inl calm ↦ inl calm | inr steady ↦ inr steady.read ]; sink = quiet.sink }
 
   -- a quiet call has no fault, and is answered as the reading of IN asks

@@ -1,4 +1,4 @@
--- What each answer of a check or a trim job says.
+-- What each answer of a check, a confirm or a trim job says.
 use Rattle.std.specs.Prelude.{◌≡◌, ℕ, Some, Result, Ok, Err}
 use Rattle.semantics.specs.Texts.{Bytes}
 use Rattle.semantics.specs.Net.{NetValue}
@@ -7,6 +7,7 @@ use Rattle.outside_semantics.specs.Outside.{FilesTold, SinkTold}
 use Rattle.blif_semantics.specs.Reading.{Refusal}
 use Rattle.file_reading.specs.declared.unread.Unread.{Unread}
 use Rattle.file_reading.specs.declared.unread.Unread.TheVariants as unread
+use Rattle.job_semantics.specs.declared.growth.Growth.{Growth}
 use Rattle.job_semantics.specs.Certificate.{clause_number}
 use Rattle.job_semantics.specs.Checking.{CheckEnd, verified, refuted, refused, out_of_memory, not_read}
 use Rattle.job_semantics.specs.Checking.{endless}
@@ -26,16 +27,16 @@ status_of_unread unread.Fault = ReadFault
 status_of_unread unread.OutOfMemory = NoMemory
 status_of_unread unread.Endless = Endless
 
--- the answer to a check job whose IN gives a net
+-- the answer to a check or a confirm job whose IN gives a net
 abbrev pub status_of_check : Result Verdict Unread → Status
 status_of_check (Ok verdict.Verified) = Verified
 status_of_check (Ok (verdict.Refuted number)) = Refuted number
 status_of_check (Err reason) = status_of_unread reason
 
 -- the answer for each end of a check
-abbrev pub IsAnswerFor : {metric : Metric} {bound : ℕ} {input stem : Bytes} {old new : FilesTold}
-    {said says : SinkTold}
-    → CheckEnd metric bound input stem old new said says → Status → Type 0
+abbrev pub IsAnswerFor : {growth : Growth} {metric : Metric} {bound : ℕ} {input stem : Bytes}
+    {old new : FilesTold} {said says : SinkTold}
+    → CheckEnd growth metric bound input stem old new said says → Status → Type 0
 IsAnswerFor (verified v) status = status ≡ Verified
 IsAnswerFor (refuted c r) status = status ≡ Refuted (clause_number c)
 IsAnswerFor (refused refusal r) status = TellsBlif refusal status
@@ -43,11 +44,11 @@ IsAnswerFor (out_of_memory left) status = status ≡ NoMemory
 IsAnswerFor (not_read fault) status = status ≡ ReadFault
 IsAnswerFor (endless e) status = status ≡ Endless
 
--- what a check job comes to, by its answer
-abbrev pub CheckAnswer : Metric → ℕ → Bytes → Bytes → FilesTold → FilesTold → SinkTold → SinkTold → Status
-    → Type 0
-CheckAnswer metric bound input stem old new said says status
-    = (end : CheckEnd metric bound input stem old new said says) × IsAnswerFor end status
+-- what a check job comes to, by its answer, or a confirm job, where growth is allowed
+abbrev pub CheckAnswer : Growth → Metric → ℕ → Bytes → Bytes → FilesTold → FilesTold → SinkTold → SinkTold
+    → Status → Type 0
+CheckAnswer growth metric bound input stem old new said says status
+    = (end : CheckEnd growth metric bound input stem old new said says) × IsAnswerFor end status
 
 -- the answer for each end of a trim job
 abbrev pub IsTrimAnswer : {metric : Metric} {bound : ℕ} {input stem output : Bytes} {old new : FilesTold}

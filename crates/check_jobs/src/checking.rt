@@ -1,4 +1,5 @@
-//! A check job: IN is read, and then the files of the bundle are checked against it. No file is changed.
+//! A check or a confirm job: IN is read, and then the files of the bundle are checked against it. No file is
+//! changed.
 ghost use Rattle.std.specs.Prelude.{◌≡◌};
 ghost use Rattle.outside_semantics.specs.Outside.{SinkTold};
 ghost use Rattle.check_jobs.specs.Answers.{status_of_unread, status_of_check, CheckAnswer};
@@ -10,6 +11,7 @@ use conversions::input::read_net;
 use file_core::files::Files;
 use file_reading::unread::Unread;
 use job_answers::status::Status;
+use job_semantics::growth::Growth;
 use semantics::metric::Metric;
 use std::alloc::Global;
 
@@ -35,9 +37,11 @@ fn answer_of_check(checked: Result<Verdict, Unread>) -> Status
     }
 }
 
-/// Carries out a check job.
+/// Carries out a check job where `growth` is `Refused`: the net of the bundle may have no more tables and no
+/// more literals than that of IN. Where it is `Allowed`, carries out a confirm job: it may have more.
 pub fn check<F: Files>(
     alloc: Global,
+    growth: Growth,
     metric: Metric,
     bound: u128,
     input: &[u8],
@@ -45,6 +49,7 @@ pub fn check<F: Files>(
     files: &mut F,
 ) -> Status
     ensures { (said : SinkTold) → CheckAnswer
+        growth
         metric
         bound
         input.now
@@ -62,5 +67,5 @@ pub fn check<F: Files>(
     let Ok(names) = Stem::new(alloc, stem) else {
         return Status::NoMemory;
     };
-    answer_of_check(check_bundle(alloc, &exact, metric, bound, &names, files))
+    answer_of_check(check_bundle(alloc, &exact, metric, bound, growth, &names, files))
 }

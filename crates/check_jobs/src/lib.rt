@@ -1,4 +1,4 @@
-//! Jobs that check a bundle: a check, and the trimming of a log whose certificate stands.
+//! Jobs that check a bundle: a check, a confirmation, and the trimming of a log whose certificate stands.
 #![tactic(auto)]
 
 pub mod checking;

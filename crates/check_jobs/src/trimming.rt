@@ -1,5 +1,5 @@
-//! A trim job: IN is read, and then the bundle is checked against it. Where its certificate stands, its log
-//! is trimmed and written.
+//! A trim job: IN is read, and then the bundle is checked against it as by a check job. Where its certificate
+//! stands, its log is trimmed and written.
 ghost use Rattle.std.specs.Prelude.{[], ◌∷◌, IsTrue};
 ghost use Rattle.outside_semantics.specs.Outside.{SinkTold};
 ghost use Rattle.proof_semantics.specs.Logs.{Refutes};
@@ -52,7 +52,7 @@ fn write_trimmed<F: Files>(
     answer_of_writing(write_log(&short, output, files))
 }
 
-/// Carries out a trim job.
+/// Carries out a trim job. A net that is larger than that of IN is refused, as by a check job.
 pub fn trim_bundle<F: Files>(
     alloc: Global,
     metric: Metric,

@@ -1,12 +1,58 @@
--- What the words of a job say of its numbers.
-use Rattle.std.proofs.Common.{◌≡◌, ◌≤◌, ℕ, Bool, ◌&&◌, if◌then◌else◌, Some, None, nat_le, arith}
+-- What the words of a job say of its numbers, and which job the words of a task are.
+use Rattle.std.proofs.Common.{◌≡◌, ◌≤◌, ℕ, Bool, true, false, ◌&&◌, if◌then◌else◌, Some, None, nat_le, bytes_eq, ◌<◌, List, [], ◌∷◌, length, get_or, refl, sym, subst, arith}
 use Rattle.std.proofs.lemmas.Bool.Decides.{nat_tests}
 use Rattle.semantics.specs.Texts.{Bytes}
+use Rattle.semantics.specs.declared.metric.Metric.{Metric}
 use Rattle.semantics.specs.Decimal.{digits_number, is_decimal}
-use Rattle.job_semantics.specs.Job.{number_from_to}
+use Rattle.job_semantics.specs.declared.task.Task.{Task}
+use Rattle.job_semantics.specs.declared.task.Task.TheVariants.{Certify, Refine}
+use Rattle.job_semantics.specs.Job.{number_from_to, synth, against, metric_of, bound_of, conflicts_of, are_second_words, task_job, task_of}
 
 within_if : (is_digits : Bool) (low high d n : ℕ) → (if is_digits && (nat_le low d && nat_le d high) then Some d else None) ≡ Some n → (low ≤ n) × (n ≤ high)
 within_if is_digits low high d n is = (grind (arith, nat_tests), grind (arith, nat_tests))
 
 pub number_within : (low high : ℕ) (word : Bytes) (n : ℕ) → number_from_to low high word ≡ Some n → (low ≤ n) × (n ≤ high)
 number_within low high word n is = within_if (is_decimal word) low high (digits_number word) n is
+
+-- ---- the words of a task
+
+all_six : (ws : List Bytes) (m b c input second stem : Bytes) → 6 ≤ length ws → length ws < 7 → m ≡ get_or ws 0 m → b ≡ get_or ws 1 b → c ≡ get_or ws 2 c
+    → input ≡ get_or ws 3 input → second ≡ get_or ws 4 second → stem ≡ get_or ws 5 stem → ws ≡ m ∷ b ∷ c ∷ input ∷ second ∷ stem ∷ []
+all_six (m' ∷ b' ∷ c' ∷ input' ∷ second' ∷ stem' ∷ []) m b c input second stem least most is-m is-b is-c is-input is-second is-stem =
+    rw (is-m, is-b, is-c, is-input, is-second, is-stem) refl
+all_six [] m b c input second stem least most is-m is-b is-c is-input is-second is-stem = absurd (omega (arith, least))
+all_six (v ∷ []) m b c input second stem least most is-m is-b is-c is-input is-second is-stem = absurd (omega (arith, least))
+all_six (v ∷ w ∷ []) m b c input second stem least most is-m is-b is-c is-input is-second is-stem = absurd (omega (arith, least))
+all_six (v ∷ w ∷ x ∷ []) m b c input second stem least most is-m is-b is-c is-input is-second is-stem = absurd (omega (arith, least))
+all_six (v ∷ w ∷ x ∷ y ∷ []) m b c input second stem least most is-m is-b is-c is-input is-second is-stem = absurd (omega (arith, least))
+all_six (v ∷ w ∷ x ∷ y ∷ z ∷ []) m b c input second stem least most is-m is-b is-c is-input is-second is-stem = absurd (omega (arith, least))
+all_six (v ∷ w ∷ x ∷ y ∷ z ∷ u ∷ t ∷ more) m b c input second stem least most is-m is-b is-c is-input is-second is-stem = absurd (omega (arith, most))
+
+-- the word is the one at this place
+abbrev pub IsWordOf : List Bytes → ℕ → Bytes → Type 0
+IsWordOf ws at word = (item : Bytes) × (word ≡ item) × (item ≡ get_or ws at item)
+
+at_word : (ws : List Bytes) (at : ℕ) (word : Bytes) → IsWordOf ws at word → word ≡ get_or ws at word
+at_word ws at word is = subst (λ w. w ≡ get_or ws at w) (sym is.1) is.2
+
+pub task_words : (task : Task) (ws : List Bytes) (m b c input second stem : Bytes) (metric : Metric) (bound conflicts : ℕ) → 6 ≤ length ws → length ws < 7 → IsWordOf ws 0 m
+    → IsWordOf ws 1 b → IsWordOf ws 2 c → IsWordOf ws 3 input → IsWordOf ws 4 second → IsWordOf ws 5 stem → metric_of m ≡ Some metric → bound_of b ≡ Some bound
+    → conflicts_of c ≡ Some conflicts → are_second_words input second stem ≡ true → task_of task ws ≡ Some (task_job task metric bound conflicts input second stem)
+task_words task ws m b c input second stem metric bound conflicts least most is-m is-b is-c is-input is-second is-stem named bounded limited allowed =
+    let six = all_six ws m b c input second stem least most (at_word ws 0 m is-m) (at_word ws 1 b is-b) (at_word ws 2 c is-c) (at_word ws 3 input is-input)
+    (at_word ws 4 second is-second) (at_word ws 5 stem is-stem) in
+    rw (six, named, bounded, limited, allowed) refl
+
+-- to refine IN itself is to simplify it
+pub refined_itself : (task : Task) (metric : Metric) (bound conflicts : ℕ) (input second stem : Bytes) → task ≡ Refine → bytes_eq input second ≡ true
+    → task_job task metric bound conflicts input second stem ≡ synth metric bound conflicts input stem
+refined_itself task metric bound conflicts input second stem refines itself = rw (refines, itself) refl
+
+pub certified : (task : Task) (metric : Metric) (bound conflicts : ℕ) (input second stem : Bytes) → task ≡ Certify
+    → task_job task metric bound conflicts input second stem ≡ against task metric bound conflicts input second stem
+certified task metric bound conflicts input second stem certifies = rw certifies refl
+
+pub refined_another : (task : Task) (metric : Metric) (bound conflicts : ℕ) (input second stem : Bytes) → bytes_eq input second ≡ false
+    → task_job task metric bound conflicts input second stem ≡ against task metric bound conflicts input second stem
+refined_another Certify metric bound conflicts input second stem another = refl
+refined_another Refine metric bound conflicts input second stem another = rw another refl

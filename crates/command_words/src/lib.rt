@@ -2,5 +2,7 @@
 #![tactic(auto)]
 
 mod bundle_names;
+mod file_words;
+mod metric_words;
 pub mod usage;
 pub mod words;

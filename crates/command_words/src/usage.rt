@@ -6,5 +6,5 @@ ghost use Rattle.command_words.specs.Usage.{usage_line};
 pub fn usage_line() -> &'static str
     ensures { result.now ≡ usage_line }
 {
-    "usage: synth METRIC BOUND CONFLICTS IN STEM, check METRIC BOUND IN STEM, flat IN OUT, aag IN OUT, blif IN OUT, trim METRIC BOUND IN STEM OUT, or demo WIDTH BOUND CONFLICTS"
+    "usage: synth METRIC BOUND CONFLICTS IN STEM, certify METRIC BOUND CONFLICTS IN APPROX STEM, refine METRIC BOUND CONFLICTS IN START STEM, check METRIC BOUND IN STEM, confirm METRIC BOUND IN STEM, flat IN OUT, aag IN OUT, blif IN OUT, trim METRIC BOUND IN STEM OUT, or demo WIDTH BOUND CONFLICTS"
 }

@@ -1,18 +1,19 @@
 //! The words of the command line, and the job that they name.
-ghost use Rattle.std.specs.Prelude.{◌≡◌, option_map, position, IfSome};
+ghost use Rattle.std.specs.Prelude.{◌≡◌, ℕ, ◌≤◌, option_map, IfSome};
 ghost use Rattle.semantics.specs.Texts.{Bytes};
-ghost use Rattle.job_semantics.specs.Job.{Job, job_of, synth_of, check_of, demo_of, conversion_of, trim_of};
-ghost use Rattle.job_semantics.specs.Job.{flat, aag, blif, kind_of, is_slash, metric_of, bound_of};
-ghost use Rattle.job_semantics.specs.Job.{conflicts_of, are_file_words, is_output_word, are_trim_words};
+ghost use Rattle.job_semantics.specs.Job.{Job, job_of, synth_of, task_of, check_of, demo_of, conversion_of};
+ghost use Rattle.job_semantics.specs.Job.{trim_of, check, confirm, flat, aag, blif};
 ghost use Rattle.command_words.specs.Words.{job_meaning, HasRanges};
 
-use crate::bundle_names::is_bundle_name;
+use crate::file_words::{are_file_words, are_second_words, are_trim_words, is_output_word};
+use crate::metric_words::metric;
 use decimal_words::decimal::number_from_to;
 use file_core::word::Word;
-use semantics::limits::{LARGEST_ERROR, MOST_OUTPUTS};
-use semantics::metric::{Kind, Metric};
+use job_semantics::task::Task;
+use semantics::limits::LARGEST_ERROR;
+use semantics::metric::Metric;
 
-/// A job with its values. `input`, `stem` and `output` are names of files.
+/// A job with its values. `input`, `second`, `stem` and `output` are names of files.
 #[derive(Clone, Copy, Debug)]
 pub enum Command<'a> {
     Synth {
@@ -22,7 +23,22 @@ pub enum Command<'a> {
         input: &'a [u8],
         stem: &'a [u8],
     },
+    Against {
+        task: Task,
+        metric: Metric,
+        bound: u128,
+        conflicts: u32,
+        input: &'a [u8],
+        second: &'a [u8],
+        stem: &'a [u8],
+    },
     Check {
+        metric: Metric,
+        bound: u128,
+        input: &'a [u8],
+        stem: &'a [u8],
+    },
+    Confirm {
         metric: Metric,
         bound: u128,
         input: &'a [u8],
@@ -54,67 +70,6 @@ pub enum Command<'a> {
     },
 }
 
-/// How two words of outputs are compared, if the word names that.
-fn kind(word: &[u8]) -> Option<Kind>
-    ensures { result ≡ kind_of word.now }
-{
-    if word == b"abs".as_slice() {
-        Some(Kind::Abs)
-    } else if word == b"rel".as_slice() {
-        Some(Kind::Rel)
-    } else if word == b"ham".as_slice() {
-        Some(Kind::Ham)
-    } else if word == b"sabs".as_slice() {
-        Some(Kind::Sabs)
-    } else {
-        None
-    }
-}
-
-/// Where the first slash is.
-fn slash_at(word: &[u8]) -> Option<usize>
-    ensures { result ≡ position is_slash word.now }
-{
-    word.iter().position(|byte| *byte == b'/')
-}
-
-/// The metric that the word names. What stands behind a slash is the number of outputs in each word.
-#[tactic(auto, using(crate::proofs::JobWords::number_within))]
-fn metric(word: &[u8]) -> Option<Metric>
-    ensures { result ≡ metric_of word.now }
-{
-    let Some(at) = slash_at(word) else {
-        return Some(Metric {
-            kind: kind(word)?,
-            width: None,
-        });
-    };
-    let kind = kind(&word[..at])?;
-    let width = number_from_to(&word[at + 1..], 1, MOST_OUTPUTS as u128)?;
-    Some(Metric {
-        kind,
-        width: Some(width as u32),
-    })
-}
-
-fn are_file_words(input: &[u8], stem: &[u8]) -> bool
-    ensures { result ≡ are_file_words input.now stem.now }
-{
-    !input.is_empty() && !stem.is_empty() && !is_bundle_name(stem, input)
-}
-
-fn is_output_word(input: &[u8], output: &[u8]) -> bool
-    ensures { result ≡ is_output_word input.now output.now }
-{
-    !output.is_empty() && input != output
-}
-
-fn are_trim_words(input: &[u8], stem: &[u8], output: &[u8]) -> bool
-    ensures { result ≡ are_trim_words input.now stem.now output.now }
-{
-    are_file_words(input, stem) && is_output_word(input, output) && !is_bundle_name(stem, output)
-}
-
 #[tactic(auto, using(crate::proofs::JobWords::number_within))]
 fn synth(words: &[Word]) -> Option<Command<'_>>
     ensures job { option_map job_meaning result ≡ synth_of words.now }
@@ -140,10 +95,50 @@ fn synth(words: &[Word]) -> Option<Command<'_>>
     })
 }
 
+/// The job of a task and a second netlist. To refine IN itself is to simplify it.
 #[tactic(auto, using(crate::proofs::JobWords::number_within))]
-fn check(words: &[Word]) -> Option<Command<'_>>
-    ensures job { option_map job_meaning result ≡ check_of words.now }
+fn task(task: Task, words: &[Word]) -> Option<Command<'_>>
+    ensures job { option_map job_meaning result ≡ task_of task words.now }
     ensures ranges { IfSome result HasRanges }
+{
+    let [metric_word, bound_word, conflicts_word, input, second, stem] = words else {
+        return None;
+    };
+    let metric = metric(metric_word.bytes())?;
+    let bound = number_from_to(bound_word.bytes(), 0, LARGEST_ERROR)?;
+    let conflicts = number_from_to(conflicts_word.bytes(), 1, 100_000)?;
+    let input = input.bytes();
+    let second = second.bytes();
+    let stem = stem.bytes();
+    if !are_second_words(input, second, stem) {
+        return None;
+    }
+    match task {
+        Task::Refine if input == second => Some(Command::Synth {
+            metric,
+            bound,
+            conflicts: conflicts as u32,
+            input,
+            stem,
+        }),
+        _ => Some(Command::Against {
+            task,
+            metric,
+            bound,
+            conflicts: conflicts as u32,
+            input,
+            second,
+            stem,
+        }),
+    }
+}
+
+/// METRIC, BOUND, IN and STEM of a check or of a confirmation.
+#[tactic(auto, using(crate::proofs::JobWords::number_within))]
+fn bundle_words(words: &[Word]) -> Option<(Metric, u128, &[u8], &[u8])>
+    ensures job { (job : Metric → ℕ → Bytes → Bytes → Job)
+        → option_map (λ it. job it.0 it.1 it.2.now it.3.now) result ≡ check_of job words.now }
+    ensures range { IfSome result (λ it. it.1 ≤ LARGEST_ERROR) }
 {
     let [metric_word, bound_word, input, stem] = words else {
         return None;
@@ -155,7 +150,28 @@ fn check(words: &[Word]) -> Option<Command<'_>>
     if !are_file_words(input, stem) {
         return None;
     }
+    Some((metric, bound, input, stem))
+}
+
+fn check(words: &[Word]) -> Option<Command<'_>>
+    ensures job { option_map job_meaning result ≡ check_of check words.now }
+    ensures ranges { IfSome result HasRanges }
+{
+    let (metric, bound, input, stem) = bundle_words(words)?;
     Some(Command::Check {
+        metric,
+        bound,
+        input,
+        stem,
+    })
+}
+
+fn confirm(words: &[Word]) -> Option<Command<'_>>
+    ensures job { option_map job_meaning result ≡ check_of confirm words.now }
+    ensures ranges { IfSome result HasRanges }
+{
+    let (metric, bound, input, stem) = bundle_words(words)?;
+    Some(Command::Confirm {
         metric,
         bound,
         input,
@@ -256,8 +272,14 @@ pub fn command_named(words: &[Word]) -> Option<Command<'_>>
     let command = command.bytes();
     if command == b"synth".as_slice() {
         synth(rest)
+    } else if command == b"certify".as_slice() {
+        task(Task::Certify, rest)
+    } else if command == b"refine".as_slice() {
+        task(Task::Refine, rest)
     } else if command == b"check".as_slice() {
         check(rest)
+    } else if command == b"confirm".as_slice() {
+        confirm(rest)
     } else if command == b"demo".as_slice() {
         demo(rest)
     } else if command == b"flat".as_slice() {

@@ -3,6 +3,7 @@ use Rattle.std.specs.Prelude.{◌≢◌}
 use Rattle.semantics.specs.Texts.{Bytes}
 use Rattle.outside_semantics.specs.Outside.{FilesTold, bytes_of}
 use Rattle.job_semantics.specs.Synthesis.{WhereHeld}
+use Rattle.job_semantics.specs.SecondNetlist.{WhereBothHeld}
 use Rattle.job_answers.specs.declared.status.Status.{Status}
 use Rattle.job_answers.specs.declared.status.Status.TheVariants.{ReadFault, WriteFault}
 
@@ -13,3 +14,13 @@ pub record EndsWell {X : Type 0} (reading : Bytes → X) (P : X → Status → T
   pub read : answer ≢ ReadFault
   pub written : answer ≢ WriteFault
   pub answers : WhereHeld old input (λ a. P (reading (bytes_of a input)) answer)
+
+-- the run of a job on two netlists ends without a fault; where IN is held at entry, it ends as P requires by
+-- the reading of IN, and where both are held, as Q requires by both readings
+pub record EndsWellOnBoth {X : Type 0} (reading : Bytes → X) (P : X → Status → Type 0)
+    (Q : X → X → Status → Type 0) (input second : Bytes) (old : FilesTold) (answer : Status) : Type 0 where
+  pub read : answer ≢ ReadFault
+  pub written : answer ≢ WriteFault
+  pub input_answers : WhereHeld old input (λ a. P (reading (bytes_of a input)) answer)
+  pub answers : WhereBothHeld old input second
+      (λ a. Q (reading (bytes_of a input)) (reading (bytes_of a second)) answer)

@@ -2,5 +2,6 @@
 //! tells a refusal.
 #![tactic(auto)]
 
+mod bits_text;
 pub mod refused;
 pub mod status;

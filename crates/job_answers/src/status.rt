@@ -2,14 +2,16 @@
 ghost use Rattle.std.specs.Prelude.{◌≡◌};
 ghost use Rattle.job_answers.specs.Exit.{exit_number};
 
+use crate::bits_text::BitsText;
 use aiger_text::refusal::AigerRefusal;
 use blif_text::refusal::BlifRefusal;
 use command_words::usage::usage_line;
 use hier_blif::refusal::HierRefusal;
+use net_core::items::Bits;
 use std::fmt;
 
 /// The answer of a run.
-#[derive(Debug, Drop)]
+#[derive(Drop)]
 pub enum Status {
     /// The files were written, and the report of a bundle was put.
     Done,
@@ -23,7 +25,7 @@ pub enum Status {
     Text(BlifRefusal),
     /// Want of memory.
     NoMemory,
-    /// The search for the greatest error spent its conflicts.
+    /// A question about a level of the error spent its conflicts.
     Budget,
     /// A file that is needed could not be read.
     ReadFault,
@@ -35,6 +37,12 @@ pub enum Status {
     Hier(HierRefusal),
     /// The input is refused as an AND circuit.
     Aiger(AigerRefusal),
+    /// The second netlist is refused.
+    Second(BlifRefusal),
+    /// The second netlist has other ports than the input.
+    Ports,
+    /// The error of the second netlist exceeds the bound at this input vector.
+    Over(Bits),
 }
 
 impl Status {
@@ -54,6 +62,9 @@ impl Status {
             Status::Endless => 8,
             Status::Hier(_) => 10,
             Status::Aiger(_) => 11,
+            Status::Second(_) => 12,
+            Status::Ports => 13,
+            Status::Over(_) => 14,
         }
     }
 }
@@ -75,6 +86,9 @@ impl fmt::Display for Status {
             Status::Text(reason) => reason.fmt(f),
             Status::Hier(reason) => write!(f, "hierarchy refusal {}", reason.number()),
             Status::Aiger(reason) => write!(f, "aiger refusal {}", reason.number()),
+            Status::Second(reason) => write!(f, "second netlist: {reason}"),
+            Status::Ports => f.write_str("other ports"),
+            Status::Over(x) => write!(f, "error above the bound at {}", BitsText(x.as_slice())),
             Status::NoMemory => f.write_str("out of memory"),
             Status::Budget => f.write_str("conflicts spent"),
             Status::ReadFault => f.write_str("read fault"),

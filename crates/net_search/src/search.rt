@@ -1,19 +1,20 @@
-//! The two searches that make a simplification: the search along the chain, and the search for the greatest
-//! error.
-ghost use Rattle.std.specs.Prelude.{◌≡◌, ◌≤◌, length, option_map, IfOk};
+//! The three searches that make a simplification: whether the net to begin with keeps the bound, the search
+//! along the chain, and the search for the greatest error.
+ghost use Rattle.std.specs.Prelude.{◌≡◌, ◌≤◌, option_map, IfOk};
 ghost use Rattle.semantics.specs.Net.{input_count, IsSmall};
 ghost use Rattle.semantics.specs.Error.{IsWithin};
 ghost use Rattle.job_semantics.specs.Shrinking.{IsShrinking};
 ghost use Rattle.worst_case.specs.Exceeds.{spent_value};
 ghost use Rattle.worst_case.specs.Maximum.{IsMaximumAnswer};
+ghost use Rattle.net_search.specs.Bounds.{IsBoundAnswer};
 
 use lane_bits::patterns::Patterns;
 use net_core::net::Net;
 use net_errors::compared::Compared;
 use progress::progress::Progress;
-use semantics::limits::MOST_OUTPUTS;
 use semantics::metric::Metric;
 use std::alloc::{AllocError, Global};
+use worst_case::margin::Margin;
 use worst_case::query::{Maximum, Spent};
 
 /// The last member of the chain that was reached, the vectors that break moves, and the spent query, where
@@ -25,24 +26,39 @@ pub struct Shrunk {
     pub spent: Option<Spent>,
 }
 
-/// The two searches. Each query may cost at most `limit` conflicts.
+/// The three searches. Each query may cost at most `limit` conflicts.
 pub trait Search {
-    /// Follows the chain of simplifications of a net within a bound, and tells `progress` how far the search
-    /// is.
+    /// Whether the error of an approximate net stays within a bound: an input at which it does not, with few
+    /// inputs the first in counting order, or that there is none.
+    fn within<P: Progress>(
+        alloc: Global,
+        nets: &Compared,
+        metric: Metric,
+        bound: u128,
+        limit: u64,
+        progress: &mut P,
+    ) -> Result<Margin, AllocError>
+        requires small { IsSmall nets.now.exact }
+        requires limit { 1 ≤ limit }
+        ensures { IfOk result (IsBoundAnswer metric nets.now.exact nets.now.approx bound limit) };
+
+    /// Follows the chain of simplifications that begins with the approximate net, within a bound on the error
+    /// against the exact one, and tells `progress` how far the search is.
     fn shrink<P: Progress>(
         alloc: Global,
-        net: &Net,
+        nets: &Compared,
         metric: Metric,
         bound: u128,
         limit: u64,
         progress: &mut P,
     ) -> Result<Shrunk, AllocError>
-        requires few_outputs { length net.now.outputs ≤ MOST_OUTPUTS }
-        requires small { IsSmall net.now }
+        requires exact { IsSmall nets.now.exact }
+        requires begin { IsSmall nets.now.approx }
+        requires within { IsWithin metric nets.now.exact bound nets.now.approx }
         requires limit { 1 ≤ limit }
-        ensures shrinking { IfOk result (λ s. IsShrinking metric net.now bound limit
+        ensures shrinking { IfOk result (λ s. IsShrinking metric nets.now.exact bound limit nets.now.approx
             (record { net = s.net; pool = s.pool.vectors; spent = option_map spent_value s.spent })) }
-        ensures pool { IfOk result (λ s. s.pool.inputs ≡ input_count net.now) };
+        ensures pool { IfOk result (λ s. s.pool.inputs ≡ input_count nets.now.exact) };
 
     /// Finds the greatest error of an approximate net that is within the bound, and tells `progress` how far
     /// the search is.

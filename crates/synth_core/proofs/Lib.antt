@@ -1,3 +1,4 @@
+pub mod Beginnings
 pub mod Pools
 pub mod Trying
 pub mod Searching

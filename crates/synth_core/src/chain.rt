@@ -1,27 +1,40 @@
-//! The search of `salsa`: along the chain of simplifications, and for the greatest error.
-use crate::shrink::shrink_followed;
-use net_core::net::Net;
+//! The searches of `salsa`: whether the net to begin with keeps the bound, along the chain, and for the
+//! greatest error.
+use crate::beginning::within_bound;
+use crate::shrink::shrink_from;
 use net_errors::compared::Compared;
 use net_search::search::{Search, Shrunk};
 use progress::progress::Progress;
 use semantics::metric::Metric;
 use std::alloc::{AllocError, Global};
+use worst_case::margin::Margin;
 use worst_case::maximum::maximum_followed;
 use worst_case::query::Maximum;
 
-/// The search along the chain, and for the greatest error by queries.
+/// The search along the chain, and the searches by queries.
 pub struct Chain;
 
 impl Search for Chain {
+    fn within<P: Progress>(
+        alloc: Global,
+        nets: &Compared,
+        metric: Metric,
+        bound: u128,
+        limit: u64,
+        progress: &mut P,
+    ) -> Result<Margin, AllocError> {
+        within_bound(alloc, nets, metric, bound, limit, progress)
+    }
+
     fn shrink<P: Progress>(
         alloc: Global,
-        net: &Net,
+        nets: &Compared,
         metric: Metric,
         bound: u128,
         limit: u64,
         progress: &mut P,
     ) -> Result<Shrunk, AllocError> {
-        shrink_followed(alloc, net, metric, bound, limit, progress)
+        shrink_from(alloc, nets, metric, bound, limit, progress)
     }
 
     fn maximum<P: Progress>(

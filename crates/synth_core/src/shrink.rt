@@ -1,4 +1,5 @@
-//! The chain of simplifications, from the tidied net to the member of which no move is allowed.
+//! The chain of simplifications, from the net that the beginning is tidied to, to the member of which no move
+//! is allowed.
 //!
 //! A move that some known input vector breaks is refused by the masks of the member, without making the moved
 //! net. With few inputs every vector is known, so every other move is allowed. With more inputs the known
@@ -10,7 +11,8 @@
 //! removes literals, or it stops at the first spent query.
 ghost use Rattle.std.specs.Prelude.{◌≡◌, ◌≤◌, length, option_map, IfOk};
 ghost use Rattle.semantics.specs.Net.{input_count, IsSmall};
-ghost use Rattle.chain_semantics.specs.Simplification.{IsInSimplification};
+ghost use Rattle.semantics.specs.Error.{IsWithin};
+ghost use Rattle.chain_semantics.specs.Simplification.{IsBeginning, IsInSimplificationFrom};
 ghost use Rattle.job_semantics.specs.Shrinking.{IsShrinking};
 ghost use Rattle.worst_case.specs.Exceeds.{spent_value};
 ghost use Rattle.synth_core.specs.Steps.{IsPool};
@@ -20,6 +22,7 @@ use crate::move_trial::Terms;
 use crate::turn::{Turn, take_turn};
 use lane_bits::patterns::Patterns;
 use net_core::net::Net;
+use net_errors::compared::Compared;
 use net_search::search::Shrunk;
 use net_tidy::tidy::tidy;
 use progress::progress::{Progress, Silent};
@@ -44,75 +47,84 @@ fn first_pool(alloc: Global, net: &Net) -> Result<Patterns, AllocError>
 /// Goes from member to member of the chain, up to its end or to a spent query. Returns the spent query.
 fn follow<P: Progress>(
     alloc: Global,
-    net: &Net,
+    nets: &Compared,
     judge: &mut Judge,
     terms: Terms,
     member: &mut Net,
     pool: &mut Patterns,
     progress: &mut P,
 ) -> Result<Option<Spent>, AllocError>
-    requires ready { IsReadyFor net.now judge.old }
+    requires ready { IsReadyFor terms.metric nets.now.exact terms.bound nets.now.approx judge.old }
     requires limit { 1 ≤ terms.limit }
-    requires member { IsInSimplification terms.metric net.now terms.bound member.old }
-    requires pool { IsPool net.now pool.old }
-    ensures pool { IfOk result (λ _. IsPool net.now pool.new) }
-    ensures shrinking { IfOk result (λ spent. IsShrinking terms.metric net.now terms.bound terms.limit
+    requires member { IsInSimplificationFrom terms.metric nets.now.exact terms.bound nets.now.approx
+        member.old }
+    requires pool { IsPool nets.now.exact pool.old }
+    ensures pool { IfOk result (λ _. IsPool nets.now.exact pool.new) }
+    ensures shrinking { IfOk result
+        (λ spent. IsShrinking terms.metric nets.now.exact terms.bound terms.limit nets.now.approx
         (record { net = member.new; pool = pool.new.vectors; spent = option_map spent_value spent })) }
 {
     loop {
-        match take_turn(alloc, net, judge, terms, member, pool, progress)? {
+        match take_turn(alloc, nets, judge, terms, member, pool, progress)? {
             Turn::Next(next) => *member = next,
             Turn::End(spent) => return Ok(spent),
         }
     }
 }
 
-/// Makes the judge of the net, and goes along the chain with it.
+/// Makes the judge of the exact net, and goes along the chain with it.
 fn search_from<P: Progress>(
     alloc: Global,
-    net: &Net,
+    nets: &Compared,
     terms: Terms,
     member: &mut Net,
     pool: &mut Patterns,
     progress: &mut P,
 ) -> Result<Option<Spent>, AllocError>
-    requires few_outputs { length net.now.outputs ≤ MOST_OUTPUTS }
-    requires small { IsSmall net.now }
+    requires exact { IsSmall nets.now.exact }
+    requires begin { IsSmall nets.now.approx }
+    requires beginning { IsBeginning terms.metric nets.now.exact terms.bound nets.now.approx }
     requires limit { 1 ≤ terms.limit }
-    requires member { IsInSimplification terms.metric net.now terms.bound member.old }
-    requires pool { IsPool net.now pool.old }
-    ensures pool { IfOk result (λ _. IsPool net.now pool.new) }
-    ensures shrinking { IfOk result (λ spent. IsShrinking terms.metric net.now terms.bound terms.limit
+    requires member { IsInSimplificationFrom terms.metric nets.now.exact terms.bound nets.now.approx
+        member.old }
+    requires pool { IsPool nets.now.exact pool.old }
+    ensures pool { IfOk result (λ _. IsPool nets.now.exact pool.new) }
+    ensures shrinking { IfOk result
+        (λ spent. IsShrinking terms.metric nets.now.exact terms.bound terms.limit nets.now.approx
         (record { net = member.new; pool = pool.new.vectors; spent = option_map spent_value spent })) }
 {
-    let mut judge = Judge::new(alloc, net)?;
-    follow(alloc, net, &mut judge, terms, member, pool, progress)
+    let mut judge = Judge::new(alloc, nets.exact())?;
+    follow(alloc, nets, &mut judge, terms, member, pool, progress)
 }
 
-/// Follows the chain of simplifications as [`shrink`] does, and tells `progress` how far the search is.
-pub fn shrink_followed<P: Progress>(
+/// Follows the chain of simplifications that begins with the approximate net, within a bound on the error
+/// against the exact one, where each query may cost at most `limit` conflicts. Tells `progress` how far the
+/// search is.
+pub fn shrink_from<P: Progress>(
     alloc: Global,
-    net: &Net,
+    nets: &Compared,
     metric: Metric,
     bound: u128,
     limit: u64,
     progress: &mut P,
 ) -> Result<Shrunk, AllocError>
-    requires few_outputs { length net.now.outputs ≤ MOST_OUTPUTS }
-    requires small { IsSmall net.now }
+    requires exact { IsSmall nets.now.exact }
+    requires begin { IsSmall nets.now.approx }
+    requires within { IsWithin metric nets.now.exact bound nets.now.approx }
     requires limit { 1 ≤ limit }
-    ensures shrinking { IfOk result (λ s. IsShrinking metric net.now bound limit
+    ensures shrinking { IfOk result (λ s. IsShrinking metric nets.now.exact bound limit nets.now.approx
         (record { net = s.net; pool = s.pool.vectors; spent = option_map spent_value s.spent })) }
-    ensures pool { IfOk result (λ s. s.pool.inputs ≡ input_count net.now) }
+    ensures pool { IfOk result (λ s. s.pool.inputs ≡ input_count nets.now.exact) }
 {
     let terms = Terms {
         metric,
         bound,
         limit,
     };
-    let mut pool = first_pool(alloc, net)?;
-    let mut member = tidy(alloc, net.copy()?)?;
-    let spent = search_from(alloc, net, terms, &mut member, &mut pool, progress)?;
+    nets.approx().see_sound();
+    let mut pool = first_pool(alloc, nets.exact())?;
+    let mut member = tidy(alloc, nets.approx().copy()?)?;
+    let spent = search_from(alloc, nets, terms, &mut member, &mut pool, progress)?;
     Ok(Shrunk {
         net: member,
         pool,
@@ -120,8 +132,7 @@ pub fn shrink_followed<P: Progress>(
     })
 }
 
-/// Follows the chain of simplifications of a net within a bound, where each query may cost at most `limit`
-/// conflicts.
+/// Follows the chain of simplifications that begins with the exact net itself, as [`shrink_from`] does.
 pub fn shrink(
     alloc: Global,
     net: &Net,
@@ -132,9 +143,10 @@ pub fn shrink(
     requires few_outputs { length net.now.outputs ≤ MOST_OUTPUTS }
     requires small { IsSmall net.now }
     requires limit { 1 ≤ limit }
-    ensures shrinking { IfOk result (λ s. IsShrinking metric net.now bound limit
+    ensures shrinking { IfOk result (λ s. IsShrinking metric net.now bound limit net.now
         (record { net = s.net; pool = s.pool.vectors; spent = option_map spent_value s.spent })) }
     ensures pool { IfOk result (λ s. s.pool.inputs ≡ input_count net.now) }
 {
-    shrink_followed(alloc, net, metric, bound, limit, &mut Silent)
+    let nets = Compared::new(net, net);
+    shrink_from(alloc, &nets, metric, bound, limit, &mut Silent)
 }

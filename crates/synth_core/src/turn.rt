@@ -1,6 +1,6 @@
 //! One turn of the search: from a member of the chain to the next, or to the end.
 ghost use Rattle.std.specs.Prelude.{◌≡◌, ◌≤◌, IfOk};
-ghost use Rattle.chain_semantics.specs.Simplification.{IsInSimplification};
+ghost use Rattle.chain_semantics.specs.Simplification.{IsInSimplificationFrom};
 ghost use Rattle.synth_core.specs.Steps.{IsPool};
 ghost use Rattle.synth_core.specs.Turns.{IsReadyFor, IsTurn};
 
@@ -28,27 +28,28 @@ pub(crate) enum Turn {
 /// literals of the member, and then each table as its moves begin.
 pub(crate) fn take_turn<P: Progress>(
     alloc: Global,
-    net: &Net,
+    nets: &Compared,
     judge: &mut Judge,
     terms: Terms,
     member: &Net,
     pool: &mut Patterns,
     progress: &mut P,
 ) -> Result<Turn, AllocError>
-    requires ready { IsReadyFor net.now judge.old }
+    requires ready { IsReadyFor terms.metric nets.now.exact terms.bound nets.now.approx judge.old }
     requires limit { 1 ≤ terms.limit }
-    requires member { IsInSimplification terms.metric net.now terms.bound member.now }
-    requires pool { IsPool net.now pool.old }
+    requires member { IsInSimplificationFrom terms.metric nets.now.exact terms.bound nets.now.approx
+        member.now }
+    requires pool { IsPool nets.now.exact pool.old }
     ensures same { judge.new ≡ judge.old }
-    ensures pool { IfOk result (λ _. IsPool net.now pool.new) }
+    ensures pool { IfOk result (λ _. IsPool nets.now.exact pool.new) }
     ensures turn { IfOk result
-        (IsTurn terms.metric net.now terms.bound terms.limit member.now pool.new.vectors) }
+        (IsTurn terms.metric nets.now.exact terms.bound terms.limit nets.now.approx member.now
+        pool.new.vectors) }
 {
-    net.see_sound();
     progress.reached(member.literals());
-    let nets = Compared::new(net, member);
+    let pair = Compared::new(nets.exact(), member);
     let mut scratch = member.copy()?;
-    match find_step(alloc, &nets, judge, terms, pool, &mut scratch, progress)? {
+    match find_step(alloc, &pair, judge, terms, pool, &mut scratch, progress)? {
         Step::Moved => Ok(Turn::Next(tidy(alloc, scratch)?)),
         Step::End => Ok(Turn::End(None)),
         Step::Spent(spent) => Ok(Turn::End(Some(spent))),

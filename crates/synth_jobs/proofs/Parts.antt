@@ -1,15 +1,17 @@
 -- What is ready before the first file is touched, from its parts.
 use Rattle.std.proofs.Common.{◌≡◌, ◌^◌, ◌<◌, ◌≤◌, ℕ, Option, Some, None, is_none, MatchOption, List, [], ◌∷◌, refl, ap, sym, subst, ◌∙◌, arith}
-use Rattle.std.specs.Prelude.{Bool, IsTrue}
+use Rattle.std.specs.Prelude.{Bool, IsTrue, length}
+use Rattle.std.specs.List.{AllByRecursion}
 use Rattle.semantics.specs.declared.limits.TheConstants.{LARGEST_ERROR}
-use Rattle.semantics.specs.Net.{NetValue, IsSound, IsSmall}
+use Rattle.semantics.specs.Net.{NetValue, input_count, table_count, literal_count, IsSound, IsSmall, HasSamePorts}
+use Rattle.semantics.specs.Error.{IsWithin, IsCandidate}
 use Rattle.semantics.specs.declared.metric.Metric.{Metric}
 use Rattle.chain_semantics.specs.declared.moves.Move.{Move}
 use Rattle.chain_semantics.specs.Moves.{moves_of}
 use Rattle.chain_semantics.specs.Minimality.{AreBrokenBySome}
-use Rattle.chain_semantics.specs.SimplificationLaws.{IsSimplifiedNet}
+use Rattle.chain_semantics.specs.Simplification.{IsBeginning}
 use Rattle.chain_semantics.proofs.MoveLists.{Contains-later}
-use Rattle.chain_semantics.proofs.Simplifications.{simplified, simplified-small}
+use Rattle.chain_semantics.proofs.Simplifications.{simplified_from, simplified_from-small}
 use Rattle.proof_semantics.specs.Miter.{miter}
 use Rattle.proof_semantics.specs.Formula.{Formula}
 use Rattle.proof_semantics.specs.Logs.{LogItem}
@@ -17,18 +19,24 @@ use Rattle.proof_semantics.specs.Queries.{SpentValue, IsMaximum}
 use Rattle.proof_semantics.proofs.Refutations.{refutes_sound}
 use Rattle.job_semantics.specs.declared.version.Version.TheVariants.{Two}
 use Rattle.job_semantics.specs.Bundle.{BundleValue, bundle_text}
-use Rattle.job_semantics.specs.Certificate.{IsNetlist, OfReport, Certifies}
+use Rattle.job_semantics.specs.declared.growth.Growth.{Growth}
+use Rattle.job_semantics.specs.declared.growth.Growth.TheVariants.{Allowed}
+use Rattle.job_semantics.specs.declared.task.Task.{Task}
+use Rattle.job_semantics.specs.declared.task.Task.TheVariants.{Certify, Refine}
+use Rattle.job_semantics.specs.Certificate.{IsNetlist, OfReport, IsOfAllowedSize, CertifiesWith}
 use Rattle.job_semantics.specs.CertificateLaws.{IsRightBundle}
 use Rattle.job_semantics.proofs.Certificates.{net_read, written_version, written_certifies}
 use Rattle.job_semantics.proofs.SmallNets.{literals_at_most}
-use Rattle.job_semantics.specs.Shrinking.{Shrinking, IsSpentMove, IsShownEnd, IsShrinking}
-use Rattle.job_semantics.specs.Synthesis.{Simplified, shrinking_of, IsSimplifiedFrom, IsRefutedBy, synth_bundle}
+use Rattle.job_semantics.specs.Shrinking.{Shrinking, IsSpentMove, IsShownEnd}
+use Rattle.job_semantics.specs.Synthesis.{Simplified, shrinking_of, IsTaskDone, IsSimplifiedFrom, IsRefutedBy, is_shown_minimal, synth_bundle}
 use Rattle.worst_case.specs.declared.query.Spent as spent
 use Rattle.bundle_writing.specs.Value.{FitsReport}
 use Rattle.synth_jobs.specs.Spent.{told_query}
 use Rattle.synth_jobs.specs.declared.preparing.Constraint.{Constraint}
 use Rattle.synth_jobs.specs.declared.preparing.Findings.{Findings}
-use Rattle.synth_jobs.specs.Prepared.{IsReady, AreFound, bundle_of}
+use Rattle.synth_jobs.specs.declared.preparing.Prepared.{Prepared}
+use Rattle.synth_jobs.specs.declared.preparing.Prepared.TheVariants.{Ready}
+use Rattle.synth_jobs.specs.Prepared.{IsReady, AreFound, IsPrepared, bundle_of}
 
 -- one vector more breaks no fewer moves
 minimal-with : (metric : Metric) (exact : NetValue) (bound : ℕ) (N : NetValue) (x : List Bool) (vectors : List (List Bool)) (moves : List Move)
@@ -38,31 +46,76 @@ minimal-with metric exact bound N x vectors (m ∷ moves) broken =
     ((broken.0.0, Contains-later x vectors broken.0.0 broken.0.1, broken.0.2), minimal-with metric exact bound N x vectors moves broken.1)
 
 -- where no query was spent, the net is shown to be the end
-shown_end : (metric : Metric) (exact : NetValue) (bound limit : ℕ) (N : NetValue) (pool : List (List Bool)) (spent : Option SpentValue) → IsTrue (is_none spent)
-    → MatchOption spent (IsShownEnd metric exact bound N pool) (IsSpentMove metric exact bound limit N pool) → IsShownEnd metric exact bound N pool
-shown_end metric exact bound limit N pool None none h = h
-shown_end metric exact bound limit N pool (Some q) none h = cc
+shown_end : (metric : Metric) (exact : NetValue) (bound limit : ℕ) (begin N : NetValue) (pool : List (List Bool)) (spent : Option SpentValue) → IsTrue (is_none spent)
+    → MatchOption spent (IsShownEnd metric exact bound begin N pool) (IsSpentMove metric exact bound limit N pool) → IsShownEnd metric exact bound begin N pool
+shown_end metric exact bound limit begin N pool None none h = h
+shown_end metric exact bound limit begin N pool (Some q) none h = cc
+
+-- what each task keeps: the net has the exact one's ports and keeps the bound, is small with the beginning and no larger, its vectors are of the inputs'
+-- width, and where it is said to be the end, each move is broken by a vector
+pub record IsKept (task : Task) (metric : Metric) (exact : NetValue) (bound : ℕ) (begin : NetValue) (s : Shrinking) : Type 0 where
+  pub ports : HasSamePorts exact s.net
+  pub within : IsWithin metric exact bound s.net
+  pub small : IsSmall begin → IsSmall s.net
+  pub tables : table_count s.net ≤ table_count begin
+  pub literals : literal_count s.net ≤ literal_count begin
+  pub widths : AllByRecursion (λ x. length x ≡ input_count exact) s.pool
+  pub minimal : IsTrue (is_shown_minimal task s.spent) → AreBrokenBySome metric exact bound s.net s.pool (moves_of s.net)
+
+-- the beginning itself, without a vector
+kept_itself : (metric : Metric) (exact : NetValue) (bound : ℕ) (begin : NetValue) → IsBeginning metric exact bound begin
+    → IsKept Certify metric exact bound begin (record { net = begin; pool = []; spent = None })
+kept_itself metric exact bound begin is = record {
+  ports = is.ports;
+  within = is.within;
+  small = λ small. small;
+  tables = omega arith;
+  literals = omega arith;
+  widths = tt;
+  minimal = λ no. cc;
+}
+
+pub kept : (task : Task) (metric : Metric) (exact : NetValue) (bound limit : ℕ) (begin : NetValue) (s : Shrinking) → IsBeginning metric exact bound begin
+    → IsTaskDone task metric exact bound limit begin s → IsKept task metric exact bound begin s
+kept Certify metric exact bound limit begin s is done = subst (IsKept Certify metric exact bound begin) (sym done) (kept_itself metric exact bound begin is)
+kept Refine metric exact bound limit begin s is done =
+    let member = simplified_from metric exact bound begin is s.net done.member in
+    record {
+      ports = member.ports;
+      within = member.within;
+      small = λ small. simplified_from-small metric exact bound begin is s.net small done.member;
+      tables = member.no_growth.tables;
+      literals = member.no_growth.literals;
+      widths = done.widths;
+      minimal = λ none. (shown_end metric exact bound limit begin s.net s.pool s.spent none done.outcome).minimal;
+    }
 
 -- what the parts of a bundle are
-record AreParts (exact : NetValue) (metric : Metric) (bound limit : ℕ) (s : Simplified) (log : List LogItem) (goal : Formula) : Type 0 where
+record AreParts (task : Task) (exact begin : NetValue) (metric : Metric) (bound limit : ℕ) (s : Simplified) (log : List LogItem) (goal : Formula) : Type 0 where
   pub exact_sound : IsSound exact
   pub exact_small : IsSmall exact
+  pub begin_small : IsSmall begin
+  pub beginning : IsBeginning metric exact bound begin
   pub approx_sound : IsSound s.net
-  pub search : IsShrinking metric exact bound limit (shrinking_of s)
+  pub search : IsTaskDone task metric exact bound limit begin (shrinking_of s)
   pub most : IsMaximum metric exact s.net s.maximum s.witness log
   pub few_bits : bound ≤ LARGEST_ERROR
   pub goal_is : goal ≡ miter exact s.net metric s.maximum
   pub variables : goal.variables < 2 ^ 31
 
-module _ {exact : NetValue} {metric : Metric} {bound limit : ℕ} {s : Simplified} {log : List LogItem} {goal : Formula} (parts : AreParts exact metric bound limit s log goal) where
-  member : IsSimplifiedNet metric exact bound s.net
-  member = simplified metric exact bound parts.exact_sound s.net parts.search.member
+module _ {task : Task} {exact begin : NetValue} {metric : Metric} {bound limit : ℕ} {s : Simplified} {log : List LogItem} {goal : Formula}
+    (parts : AreParts task exact begin metric bound limit s log goal) where
+  keeps : IsKept task metric exact bound begin (shrinking_of s)
+  keeps = kept task metric exact bound limit begin (shrinking_of s) parts.beginning parts.search
 
   within : s.maximum ≤ bound
-  within = subst (λ k. k ≤ bound) parts.most.attained (member.within s.witness parts.most.width)
+  within = subst (λ k. k ≤ bound) parts.most.attained (keeps.within s.witness parts.most.width)
 
-  right : IsSimplifiedFrom exact metric bound limit s log
-  right = record { search = parts.search; most = parts.most; within = within; tables = member.no_growth.tables; literals = member.no_growth.literals }
+  approx_small : IsSmall s.net
+  approx_small = keeps.small parts.begin_small
+
+  right : IsSimplifiedFrom task exact begin metric bound limit s log
+  right = record { search = parts.search; most = parts.most; within = within; tables = keeps.tables; literals = keeps.literals }
 
   refuted : IsRefutedBy (miter exact s.net metric s.maximum) log
   refuted = record {
@@ -71,57 +124,55 @@ module _ {exact : NetValue} {metric : Metric} {bound limit : ℕ} {s : Simplifie
     unsatisfiable = refutes_sound (miter exact s.net metric s.maximum).clauses log parts.most.never.refutes;
   }
 
-  right_bundle : IsRightBundle (synth_bundle exact metric bound s log)
-  right_bundle = record {
+  right_bundle : (growth : Growth) → IsOfAllowedSize growth exact s.net → IsRightBundle growth (synth_bundle task exact metric bound s log)
+  right_bundle growth size = record {
     exact_sound = parts.exact_sound;
     exact_small = parts.exact_small;
     approx_sound = parts.approx_sound;
-    approx_small = simplified-small metric exact bound parts.exact_sound s.net parts.exact_small parts.search.member;
-    ports = member.ports;
+    approx_small = approx_small;
+    ports = keeps.ports;
     bound = omega (arith, parts.few_bits);
     within = within;
     width = parts.most.width;
     attained = parts.most.attained;
-    pool = parts.search.widths;
+    pool = keeps.widths;
     goal = refl;
     variables = subst (λ f. f.variables < 2 ^ 31) parts.goal_is parts.variables;
     refutes = parts.most.never.refutes;
     derivation = parts.most.never.derivation;
-    tables = member.no_growth.tables;
-    literals = member.no_growth.literals;
-    minimal = λ none.
-        minimal-with metric exact bound s.net s.witness s.pool (moves_of s.net)
-        (shown_end metric exact bound limit s.net s.pool s.spent none parts.search.outcome).minimal;
+    size = size;
+    minimal = λ none. minimal-with metric exact bound s.net s.witness s.pool (moves_of s.net) (keeps.minimal none);
   }
 
-  fits : FitsReport exact s.net s.witness
-  fits =
-      let most = literals_at_most exact parts.exact_small parts.exact_sound.tables_formed in
-      record {
-        few_bits = omega (arith, parts.most.width, parts.exact_small.inputs);
-        few_exact = omega (arith, most);
-        few_approx = omega (arith, member.no_growth.literals, most);
-      }
+  -- where growth is allowed, every size is
+  bundle_allowed : IsRightBundle Allowed (synth_bundle task exact metric bound s log)
+  bundle_allowed = right_bundle Allowed (λ refused. cc)
 
-  ready : (b : BundleValue) (spent : Option spent.Spent) → b.log ≡ log → told_query spent ≡ s.spent → b ≡ synth_bundle exact metric bound s b.log
-      → IsReady exact metric bound limit b spent
+  fits : FitsReport exact s.net s.witness
+  fits = record {
+    few_bits = omega (arith, parts.most.width, parts.exact_small.inputs);
+    few_exact = omega (arith, literals_at_most exact parts.exact_small parts.exact_sound.tables_formed);
+    few_approx = omega (arith, literals_at_most s.net approx_small parts.approx_sound.tables_formed);
+  }
+
+  ready : (b : BundleValue) (spent : Option spent.Spent) → b.log ≡ log → told_query spent ≡ s.spent → b ≡ synth_bundle task exact metric bound s b.log
+      → IsReady task exact begin metric bound limit b spent
   ready b spent same_log is_spent is =
-      let whole : b ≡ synth_bundle exact metric bound s log = is ∙ ap (λ l. synth_bundle exact metric bound s l) same_log in
+      let whole : b ≡ synth_bundle task exact metric bound s log = is ∙ ap (λ l. synth_bundle task exact metric bound s l) same_log in
       record {
         result = s;
-        right = subst (IsSimplifiedFrom exact metric bound limit s) (sym same_log) right;
+        right = subst (IsSimplifiedFrom task exact begin metric bound limit s) (sym same_log) right;
         is_spent = is_spent;
         refuted = subst (IsRefutedBy (miter exact s.net metric s.maximum)) (sym same_log) refuted;
         is = is;
-        netlist = subst (λ v. IsNetlist (bundle_text v) s.net) (sym whole) (net_read (synth_bundle exact metric bound s log) right_bundle);
-        certificate = subst (λ v. Certifies exact metric bound (bundle_text v)) (sym whole) (written_certifies (synth_bundle exact metric bound s log) right_bundle);
-        version = subst (λ v. OfReport exact metric bound (bundle_text v) (λ r. r.version ≡ Two)) (sym whole) (written_version (synth_bundle exact metric bound s log) right_bundle);
+        netlist = subst (λ v. IsNetlist (bundle_text v) s.net) (sym whole) (net_read Allowed (synth_bundle task exact metric bound s log) bundle_allowed);
+        certificate = λ growth size.
+            subst (λ v. CertifiesWith growth exact metric bound (bundle_text v)) (sym whole)
+            (written_certifies growth (synth_bundle task exact metric bound s log) (right_bundle growth size));
+        version =
+            subst (λ v. OfReport exact metric bound (bundle_text v) (λ r. r.version ≡ Two)) (sym whole)
+            (written_version Allowed (synth_bundle task exact metric bound s log) bundle_allowed);
       }
-
--- a query is told exactly where one is held
-told_none : (s : Option spent.Spent) → is_none s ≡ is_none (told_query s)
-told_none None = refl
-told_none (Some s) = refl
 
 -- what was found, as the parts of a bundle
 abbrev simplified_found : Findings → Simplified
@@ -134,9 +185,9 @@ simplified_found found = record {
 }
 
 -- the bundle of what was found, whose formula is the miter
-module _ (exact : NetValue) (aim : Constraint) (found : Findings) (goal : Formula) where
+module _ (task : Task) (exact begin : NetValue) (aim : Constraint) (found : Findings) (goal : Formula) where
   bundle_of-is : goal ≡ miter exact found.shrunk.net aim.metric found.maximum
-      → bundle_of exact aim found goal ≡ synth_bundle exact aim.metric aim.bound (simplified_found found) found.log
+      → bundle_of task exact aim found goal ≡ synth_bundle task exact aim.metric aim.bound (simplified_found found) found.log
   bundle_of-is is = λ i. record {
     version = Two;
     exact = exact;
@@ -146,17 +197,20 @@ module _ (exact : NetValue) (aim : Constraint) (found : Findings) (goal : Formul
     maximum = found.maximum;
     witness = found.witness;
     pool = found.shrunk.pool.vectors;
-    minimal = told_none found.shrunk.spent i;
+    minimal = is_shown_minimal task (told_query found.shrunk.spent);
     goal = is i;
     log = found.log;
   }
 
-  module _ (sound : IsSound exact) (small : IsSmall exact) (approx_sound : IsSound found.shrunk.net) (few_bits : aim.bound ≤ LARGEST_ERROR)
-      (are : AreFound exact aim.metric aim.bound aim.limit found) (is : goal ≡ miter exact found.shrunk.net aim.metric found.maximum) (variables : goal.variables < 2 ^ 31) where
-    parts_found : AreParts exact aim.metric aim.bound aim.limit (simplified_found found) found.log goal
+  module _ (sound : IsSound exact) (small : IsSmall exact) (begin_small : IsSmall begin) (beginning : IsBeginning aim.metric exact aim.bound begin) (approx_sound : IsSound found.shrunk.net)
+      (few_bits : aim.bound ≤ LARGEST_ERROR) (are : AreFound task exact begin aim.metric aim.bound aim.limit found) (is : goal ≡ miter exact found.shrunk.net aim.metric found.maximum)
+      (variables : goal.variables < 2 ^ 31) where
+    parts_found : AreParts task exact begin aim.metric aim.bound aim.limit (simplified_found found) found.log goal
     parts_found = record {
       exact_sound = sound;
       exact_small = small;
+      begin_small = begin_small;
+      beginning = beginning;
       approx_sound = approx_sound;
       search = are.search;
       most = are.most;
@@ -168,9 +222,14 @@ module _ (exact : NetValue) (aim : Constraint) (found : Findings) (goal : Formul
     pub gathered-fits : FitsReport exact found.shrunk.net found.witness
     gathered-fits = fits parts_found
 
-    pub gathered-ready : IsReady exact aim.metric aim.bound aim.limit (bundle_of exact aim found goal) found.shrunk.spent
-    gathered-ready = ready parts_found (bundle_of exact aim found goal) found.shrunk.spent refl refl (bundle_of-is is)
+    gathered-ready : IsReady task exact begin aim.metric aim.bound aim.limit (bundle_of task exact aim found goal) found.shrunk.spent
+    gathered-ready = ready parts_found (bundle_of task exact aim found goal) found.shrunk.spent refl refl (bundle_of-is is)
 
--- the simplified net has the original's ports, and is within the bound
-pub found_net : (metric : Metric) (exact : NetValue) (bound limit : ℕ) (s : Shrinking) → IsSound exact → IsShrinking metric exact bound limit s → IsSimplifiedNet metric exact bound s.net
-found_net metric exact bound limit s sound search = simplified metric exact bound sound s.net search.member
+    pub gathered-prepared : (made : Prepared) → made ≡ Ready (bundle_of task exact aim found goal) found.shrunk.spent
+        → IsPrepared task exact begin aim.metric aim.bound aim.limit made
+    gathered-prepared made is_ready = subst (IsPrepared task exact begin aim.metric aim.bound aim.limit) (sym is_ready) gathered-ready
+
+-- a net that a task makes of the beginning can be compared with the exact one
+pub kept-candidate : (task : Task) (metric : Metric) (exact : NetValue) (bound limit : ℕ) (begin : NetValue) (s : Shrinking) → IsSmall exact → IsBeginning metric exact bound begin
+    → IsTaskDone task metric exact bound limit begin s → IsCandidate exact s.net
+kept-candidate task metric exact bound limit begin s small is done = record { ports = (kept task metric exact bound limit begin s is done).ports; few_outputs = small.outputs }

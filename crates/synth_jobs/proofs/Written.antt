@@ -11,7 +11,8 @@ use Rattle.job_semantics.specs.declared.ending.Ending.TheVariants as file
 use Rattle.job_semantics.specs.declared.version.Version.TheVariants.{Two}
 use Rattle.job_semantics.specs.Endings.{bundle_files}
 use Rattle.job_semantics.specs.Bundle.{BundleValue, bundle_text}
-use Rattle.job_semantics.specs.Certificate.{Texts, texts_of, OfBundle, OfReport, IsNetlist, Certifies}
+use Rattle.job_semantics.specs.declared.task.Task.{Task}
+use Rattle.job_semantics.specs.Certificate.{Texts, texts_of, OfBundle, OfReport, IsNetlist, CertifiesWith}
 use Rattle.job_semantics.proofs.BundleFiles.{bundle_files-holds}
 use Rattle.job_semantics.specs.Synthesis.{BundleWritten, BundleCutShort}
 use Rattle.worst_case.specs.declared.query.Spent as spent
@@ -38,10 +39,11 @@ of_written P stem {old} {new} b written p =
     let texts = ap (λ h. texts_of h stem) (written.held a held told tells) ∙ texts_are a stem (bundle_text b) in
     subst P (sym texts) p
 
-pub BundleWritten-from : {metric : Metric} {bound limit : ℕ} {exact : NetValue} {stem names : Bytes} {old new : FilesTold} {said says : SinkTold} {b : BundleValue} {spent : Option spent.Spent}
-    → names ≡ stem → IsReady exact metric bound limit b spent → IsDelivered b names old new said says
-    → BundleWritten metric bound limit exact stem (told_query spent) old new said says
-BundleWritten-from {metric} {bound} {limit} {exact} {stem} {names} {old} {new} {said} {says} {b} {spent} same ready delivered =
+pub BundleWritten-from : {task : Task} {metric : Metric} {bound limit : ℕ} {exact begin : NetValue} {stem names : Bytes}
+    {old new : FilesTold} {said says : SinkTold} {b : BundleValue} {spent : Option spent.Spent}
+    → names ≡ stem → IsReady task exact begin metric bound limit b spent → IsDelivered b names old new said says
+    → BundleWritten task metric bound limit exact begin stem (told_query spent) old new said says
+BundleWritten-from {task} {metric} {bound} {limit} {exact} {begin} {stem} {names} {old} {new} {said} {says} {b} {spent} same ready delivered =
     let all : FilesWritten old new (files_of stem b) = subst (λ s. FilesWritten old new (files_of s b)) same delivered.0 in
     record {
       result = ready.result;
@@ -52,14 +54,15 @@ BundleWritten-from {metric} {bound} {limit} {exact} {stem} {names} {old} {new} {
       files = subst (λ v. FilesWritten old new (bundle_files stem (bundle_text v))) ready.is all;
       report = subst (λ v. Took said says (bundle_text v file.Report)) ready.is delivered.1;
       netlist = of_written (λ texts. IsNetlist texts ready.result.net) stem b all ready.netlist;
-      certificate = of_written (Certifies exact metric bound) stem b all ready.certificate;
+      certificate = λ growth size. of_written (CertifiesWith growth exact metric bound) stem b all (ready.certificate growth size);
       version = of_written (λ texts. OfReport exact metric bound texts (λ r. r.version ≡ Two)) stem b all ready.version;
     }
 
-pub BundleCutShort-from : {metric : Metric} {bound limit : ℕ} {exact : NetValue} {stem names : Bytes} {old new : FilesTold} {said says : SinkTold} {b : BundleValue} {spent : Option spent.Spent}
-    → names ≡ stem → IsReady exact metric bound limit b spent → IsDeliveredInPart b names old new said says
-    → BundleCutShort metric bound limit exact stem old new said says
-BundleCutShort-from {metric} {bound} {limit} {exact} {stem} {names} {old} {new} {said} {says} {b} {spent} same ready part = record {
+pub BundleCutShort-from : {task : Task} {metric : Metric} {bound limit : ℕ} {exact begin : NetValue} {stem names : Bytes}
+    {old new : FilesTold} {said says : SinkTold} {b : BundleValue} {spent : Option spent.Spent}
+    → names ≡ stem → IsReady task exact begin metric bound limit b spent → IsDeliveredInPart b names old new said says
+    → BundleCutShort task metric bound limit exact begin stem old new said says
+BundleCutShort-from {task} {metric} {bound} {limit} {exact} {begin} {stem} {names} {old} {new} {said} {says} {b} {spent} same ready part = record {
   result = ready.result;
   log = b.log;
   right = ready.right;

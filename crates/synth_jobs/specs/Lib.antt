@@ -2,3 +2,4 @@ pub mod Spent
 pub mod Work
 pub mod Prepared
 pub mod Delivered
+pub mod Beginnings

@@ -1,5 +1,5 @@
 -- What is ready before the first file is touched.
-use Rattle.std.specs.Prelude.{◌≡◌, ℕ, Option, is_none}
+use Rattle.std.specs.Prelude.{◌≡◌, ℕ, Option}
 use Rattle.semantics.specs.Net.{NetValue}
 use Rattle.semantics.specs.declared.metric.Metric.{Metric}
 use Rattle.proof_semantics.specs.Formula.{Formula}
@@ -7,10 +7,13 @@ use Rattle.proof_semantics.specs.Miter.{miter}
 use Rattle.proof_semantics.specs.Queries.{IsMaximum}
 use Rattle.job_semantics.specs.declared.version.Version.TheVariants.{Two}
 use Rattle.job_semantics.specs.Bundle.{BundleValue, bundle_text}
-use Rattle.job_semantics.specs.Certificate.{IsNetlist, OfReport, Certifies}
-use Rattle.job_semantics.specs.Shrinking.{Shrinking, IsShrinking}
-use Rattle.job_semantics.specs.Synthesis.{Simplified, IsSimplifiedFrom, IsRefutedBy, MaximumSpent}
-use Rattle.job_semantics.specs.Synthesis.{synth_bundle}
+use Rattle.job_semantics.specs.declared.growth.Growth.{Growth}
+use Rattle.job_semantics.specs.declared.task.Task.{Task}
+use Rattle.job_semantics.specs.Certificate.{IsNetlist, OfReport, IsOfAllowedSize, CertifiesWith}
+use Rattle.job_semantics.specs.Shrinking.{Shrinking}
+use Rattle.job_semantics.specs.Synthesis.{Simplified, IsTaskDone, IsSimplifiedFrom, IsRefutedBy}
+use Rattle.job_semantics.specs.Synthesis.{MaximumSpent, is_shown_minimal, synth_bundle}
+use Rattle.net_search.specs.declared.search.Shrunk.{Shrunk}
 use Rattle.worst_case.specs.declared.query.Spent as spent
 use Rattle.worst_case.specs.Exceeds.{spent_value}
 use Rattle.synth_jobs.specs.declared.preparing.Constraint.{Constraint}
@@ -20,22 +23,23 @@ use Rattle.synth_jobs.specs.declared.preparing.Prepared.{Prepared}
 use Rattle.synth_jobs.specs.declared.preparing.Prepared.TheVariants.{Ready, Budget}
 use Rattle.synth_jobs.specs.Spent.{told_query}
 
--- b is the bundle of a simplification of the exact net; its log refutes its formula, and its texts are a
--- certificate, whose report is of version 2
-pub record IsReady (exact : NetValue) (metric : Metric) (bound limit : ℕ) (b : BundleValue)
-    (spent : Option spent.Spent) : Type 0 where
+-- b is the bundle of what the task makes of the beginning; its log refutes its formula, and its texts are a
+-- certificate for each growth that the net's size allows, whose report is of version 2
+pub record IsReady (task : Task) (exact begin : NetValue) (metric : Metric) (bound limit : ℕ)
+    (b : BundleValue) (spent : Option spent.Spent) : Type 0 where
   pub result : Simplified
-  pub right : IsSimplifiedFrom exact metric bound limit result b.log
+  pub right : IsSimplifiedFrom task exact begin metric bound limit result b.log
   pub is_spent : told_query spent ≡ result.spent
   pub refuted : IsRefutedBy (miter exact result.net metric result.maximum) b.log
-  pub is : b ≡ synth_bundle exact metric bound result b.log
+  pub is : b ≡ synth_bundle task exact metric bound result b.log
   pub netlist : IsNetlist (bundle_text b) result.net
-  pub certificate : Certifies exact metric bound (bundle_text b)
+  pub certificate : (growth : Growth) → IsOfAllowedSize growth exact result.net
+      → CertifiesWith growth exact metric bound (bundle_text b)
   pub version : OfReport exact metric bound (bundle_text b) (λ r. r.version ≡ Two)
 
 -- the bundle of what was found, with its formula
-abbrev pub bundle_of : NetValue → Constraint → Findings → Formula → BundleValue
-bundle_of exact aim found goal = record {
+abbrev pub bundle_of : Task → NetValue → Constraint → Findings → Formula → BundleValue
+bundle_of task exact aim found goal = record {
   version = Two;
   exact = exact;
   approx = found.shrunk.net;
@@ -44,28 +48,30 @@ bundle_of exact aim found goal = record {
   maximum = found.maximum;
   witness = found.witness;
   pool = found.shrunk.pool.vectors;
-  minimal = is_none found.shrunk.spent;
+  minimal = is_shown_minimal task (told_query found.shrunk.spent);
   goal = goal;
   log = found.log;
 }
 
-abbrev pub shrinking_found : Findings → Shrinking
-shrinking_found found = record
-    { net = found.shrunk.net; pool = found.shrunk.pool.vectors; spent = told_query found.shrunk.spent }
+-- what is told of the net that was reached, its vectors and the spent query
+abbrev pub told_shrinking : Shrunk → Shrinking
+told_shrinking s = record { net = s.net; pool = s.pool.vectors; spent = told_query s.spent }
 
--- the search came to this member of the chain, whose greatest error this is
-pub record AreFound (exact : NetValue) (metric : Metric) (bound limit : ℕ) (found : Findings) : Type 0 where
-  pub search : IsShrinking metric exact bound limit (shrinking_found found)
+-- the task came to this net, whose greatest error this is
+pub record AreFound (task : Task) (exact begin : NetValue) (metric : Metric) (bound limit : ℕ)
+    (found : Findings) : Type 0 where
+  pub search : IsTaskDone task metric exact bound limit begin (told_shrinking found.shrunk)
   pub most : IsMaximum metric exact found.shrunk.net found.maximum found.witness found.log
 
--- what the two searches come to
-abbrev pub IsSearched : NetValue → Metric → ℕ → ℕ → searched.Searched → Type 0
-IsSearched exact metric bound limit (searched.TheVariants.Found found)
-    = AreFound exact metric bound limit found
-IsSearched exact metric bound limit (searched.TheVariants.Budget level spent)
-    = MaximumSpent metric bound limit exact (told_query spent) (spent_value level)
+-- what the task and the search for the greatest error come to
+abbrev pub IsSearched : Task → NetValue → NetValue → Metric → ℕ → ℕ → searched.Searched → Type 0
+IsSearched task exact begin metric bound limit (searched.TheVariants.Found found)
+    = AreFound task exact begin metric bound limit found
+IsSearched task exact begin metric bound limit (searched.TheVariants.Budget level spent)
+    = MaximumSpent task metric bound limit exact begin (told_query spent) (spent_value level)
 
-abbrev pub IsPrepared : NetValue → Metric → ℕ → ℕ → Prepared → Type 0
-IsPrepared exact metric bound limit (Ready bundle spent) = IsReady exact metric bound limit bundle spent
-IsPrepared exact metric bound limit (Budget level spent)
-    = MaximumSpent metric bound limit exact (told_query spent) (spent_value level)
+abbrev pub IsPrepared : Task → NetValue → NetValue → Metric → ℕ → ℕ → Prepared → Type 0
+IsPrepared task exact begin metric bound limit (Ready bundle spent)
+    = IsReady task exact begin metric bound limit bundle spent
+IsPrepared task exact begin metric bound limit (Budget level spent)
+    = MaximumSpent task metric bound limit exact begin (told_query spent) (spent_value level)

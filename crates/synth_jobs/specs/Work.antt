@@ -1,25 +1,27 @@
--- What the work on a net that was read or generated comes to.
+-- What the work on nets that were read or generated comes to.
 use Rattle.std.specs.Prelude.{◌≡◌, ℕ}
 use Rattle.semantics.specs.Texts.{Bytes}
 use Rattle.semantics.specs.Net.{NetValue}
 use Rattle.semantics.specs.declared.metric.Metric.{Metric}
 use Rattle.outside_semantics.specs.Outside.{FilesTold, SinkTold}
+use Rattle.job_semantics.specs.declared.task.Task.{Task}
 use Rattle.job_semantics.specs.Synthesis.{BundleWritten, BundleCutShort, MaximumSpent}
 use Rattle.worst_case.specs.Exceeds.{spent_value}
 use Rattle.synth_jobs.specs.declared.work.Work.{Work}
 use Rattle.synth_jobs.specs.declared.work.Work.TheVariants.{Done, Budget, NoMemory, WriteFault}
 use Rattle.synth_jobs.specs.Spent.{told_query}
 
--- the net's bundle was written under the stem, whole or in part, or nothing was touched
-abbrev pub WorkSays : Metric → ℕ → ℕ → NetValue → Bytes → FilesTold → FilesTold → SinkTold → SinkTold → Work
-    → Type 0
-WorkSays metric bound limit exact stem old new said says (Done spent)
-    = BundleWritten metric bound limit exact stem (told_query spent) old new said says
-WorkSays metric bound limit exact stem old new said says (Budget level spent) =
-    (new ≡ old) × (says ≡ said) × MaximumSpent metric bound limit exact (told_query spent) (spent_value level)
-WorkSays metric bound limit exact stem old new said says NoMemory = (new ≡ old) × (says ≡ said)
-WorkSays metric bound limit exact stem old new said says WriteFault
-    = BundleCutShort metric bound limit exact stem old new said says
+-- the bundle was written under the stem, whole or in part, or nothing was touched
+abbrev pub WorkSays : Task → Metric → ℕ → ℕ → NetValue → NetValue → Bytes → FilesTold → FilesTold → SinkTold
+    → SinkTold → Work → Type 0
+WorkSays task metric bound limit exact begin stem old new said says (Done spent)
+    = BundleWritten task metric bound limit exact begin stem (told_query spent) old new said says
+WorkSays task metric bound limit exact begin stem old new said says (Budget level spent) =
+    (new ≡ old) × (says ≡ said)
+    × MaximumSpent task metric bound limit exact begin (told_query spent) (spent_value level)
+WorkSays task metric bound limit exact begin stem old new said says NoMemory = (new ≡ old) × (says ≡ said)
+WorkSays task metric bound limit exact begin stem old new said says WriteFault
+    = BundleCutShort task metric bound limit exact begin stem old new said says
 
 -- the exit number of the process
 abbrev pub work_exit : Work → ℕ

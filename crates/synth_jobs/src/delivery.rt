@@ -1,13 +1,15 @@
-//! A net is simplified, its bundle is written, and its report is put to the sink: what a synth and a demo job
-//! have in common.
+//! A net is certified or simplified, its bundle is written, and its report is put to the sink: what the jobs
+//! that write a bundle have in common.
 ghost use Rattle.std.specs.Prelude.{◌≤◌, ℕ, OnOk, OnErr};
 ghost use Rattle.semantics.specs.Net.{NetValue, IsSmall};
 ghost use Rattle.semantics.specs.declared.metric.Metric.{Metric};
+ghost use Rattle.chain_semantics.specs.Simplification.{IsBeginning};
+ghost use Rattle.job_semantics.specs.declared.task.Task.{Task};
 ghost use Rattle.synth_jobs.specs.Prepared.{IsReady};
 ghost use Rattle.synth_jobs.specs.Delivered.{IsDelivered, IsDeliveredInPart};
 ghost use Rattle.synth_jobs.specs.Work.{WorkSays};
 
-use crate::preparing::{Constraint, Prepared, prepare};
+use crate::preparing::{Assignment, Prepared, prepare};
 use crate::work::Work;
 use bundle_writing::bundle::Bundle;
 use bundle_writing::stem::Stem;
@@ -15,7 +17,6 @@ use bundle_writing::writing::{put_report, write_bundle};
 use file_core::fault::FileFault;
 use file_core::files::Files;
 use file_core::sink::Sink;
-use net_core::net::Net;
 use net_search::search::Search;
 use progress::progress::Progress;
 use semantics::limits::LARGEST_ERROR;
@@ -41,7 +42,7 @@ fn deliver<F: Files, K: Sink>(
     put_report(bundle, say)
 }
 
-/// What the work on a net comes to once its bundle is ready and the files and the report are delivered, or
+/// What the work comes to once its bundle is ready and the files and the report are delivered, or
 /// could not be.
 fn delivered<F: Files, K: Sink>(
     bundle: &Bundle,
@@ -50,10 +51,10 @@ fn delivered<F: Files, K: Sink>(
     files: &mut F,
     say: &mut K,
 ) -> Work
-    ensures { (exact : NetValue) (metric : Metric) (bound limit : ℕ)
-        → IsReady exact metric bound limit bundle.now spent
-        → WorkSays metric bound limit exact names.now (F.told files.old) (F.told files.new) (K.told say.old)
-        (K.told say.new) result }
+    ensures { (task : Task) (exact begin : NetValue) (metric : Metric) (bound limit : ℕ)
+        → IsReady task exact begin metric bound limit bundle.now spent
+        → WorkSays task metric bound limit exact begin names.now (F.told files.old) (F.told files.new)
+        (K.told say.old) (K.told say.new) result }
 {
     match deliver(bundle, names, files, say) {
         Ok(()) => Work::Done(spent),
@@ -61,25 +62,29 @@ fn delivered<F: Files, K: Sink>(
     }
 }
 
-/// Simplifies a net, writes its bundle under the stem's names, and puts the report. Everything is computed
-/// before a file is touched.
+/// Does the task, writes the bundle of what it makes of the second net under the stem's names, and puts the
+/// report. Everything is computed before a file is touched.
 pub fn finish<S: Search, F: Files, K: Sink, P: Progress>(
     alloc: Global,
-    exact: Net,
-    aim: Constraint,
+    assignment: Assignment,
     names: &Stem,
     files: &mut F,
     say: &mut K,
     progress: &mut P,
 ) -> Work
-    requires small { IsSmall exact }
-    requires bound { aim.bound ≤ LARGEST_ERROR }
-    requires limit { 1 ≤ aim.limit }
+    requires small { IsSmall assignment.exact }
+    requires begin_small { IsSmall assignment.begin }
+    requires beginning { IsBeginning assignment.aim.metric assignment.exact assignment.aim.bound
+        assignment.begin }
+    requires bound { assignment.aim.bound ≤ LARGEST_ERROR }
+    requires limit { 1 ≤ assignment.aim.limit }
     ensures { WorkSays
-        aim.metric
-        aim.bound
-        aim.limit
-        exact
+        assignment.task
+        assignment.aim.metric
+        assignment.aim.bound
+        assignment.aim.limit
+        assignment.exact
+        assignment.begin
         names.now
         (F.told files.old)
         (F.told files.new)
@@ -87,7 +92,7 @@ pub fn finish<S: Search, F: Files, K: Sink, P: Progress>(
         (K.told say.new)
         result }
 {
-    match prepare::<S, P>(alloc, exact, aim, progress) {
+    match prepare::<S, P>(alloc, assignment, progress) {
         Err(_) => Work::NoMemory,
         Ok(Prepared::Budget { level, spent }) => Work::Budget { level, spent },
         Ok(Prepared::Ready { bundle, spent }) => { delivered(&bundle, spent, names, files, say) }

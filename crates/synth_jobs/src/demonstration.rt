@@ -2,17 +2,19 @@
 ghost use Rattle.std.specs.Prelude.{◌≤◌};
 ghost use Rattle.semantics.specs.declared.metric.Kind.TheVariants.{Abs};
 ghost use Rattle.semantics.specs.Error.{one_word};
+ghost use Rattle.job_semantics.specs.declared.task.Task.TheVariants.{Refine};
 ghost use Rattle.job_semantics.specs.Demo.{demo_net};
 ghost use Rattle.job_semantics.specs.Demonstration.{demo_stem};
 ghost use Rattle.synth_jobs.specs.Work.{WorkSays};
 
 use crate::delivery::finish;
-use crate::preparing::Constraint;
+use crate::preparing::{Assignment, Constraint};
 use crate::work::Work;
 use bundle_writing::stem::Stem;
 use demo_adder::adder::demo_net;
 use file_core::files::Files;
 use file_core::sink::Sink;
+use job_semantics::task::Task;
 use net_search::search::Search;
 use progress::progress::Progress;
 use semantics::limits::LARGEST_ERROR;
@@ -33,9 +35,11 @@ pub fn demonstrate<S: Search, F: Files, K: Sink, P: Progress>(
     requires bound { bound ≤ LARGEST_ERROR }
     requires limit { 1 ≤ limit }
     ensures { WorkSays
+        Refine
         (one_word Abs)
         bound
         limit
+        (demo_net width)
         (demo_net width)
         demo_stem
         (F.told files.old)
@@ -45,6 +49,9 @@ pub fn demonstrate<S: Search, F: Files, K: Sink, P: Progress>(
         result }
 {
     let Ok(exact) = demo_net(alloc, width) else {
+        return Work::NoMemory;
+    };
+    let Ok(begin) = exact.copy() else {
         return Work::NoMemory;
     };
     let Ok(names) = Stem::new(alloc, b"demo") else {
@@ -58,5 +65,12 @@ pub fn demonstrate<S: Search, F: Files, K: Sink, P: Progress>(
         bound,
         limit,
     };
-    finish::<S, F, K, P>(alloc, exact, aim, &names, files, say, progress)
+    exact.see_sound();
+    let assignment = Assignment {
+        task: Task::Refine,
+        exact,
+        begin,
+        aim,
+    };
+    finish::<S, F, K, P>(alloc, assignment, &names, files, say, progress)
 }

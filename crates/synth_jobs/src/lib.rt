@@ -1,7 +1,8 @@
-//! What is done with a net that was read or generated: it is simplified, and its bundle is written. A
-//! demonstration does this with an adder.
+//! What is done with nets that were read or generated: a second net is judged against the exact one; it is
+//! certified or simplified, and its bundle is written. A demonstration simplifies an adder.
 #![tactic(auto)]
 
+pub mod beginning;
 pub mod delivery;
 pub mod demonstration;
 pub mod preparing;

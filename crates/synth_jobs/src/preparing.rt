@@ -1,19 +1,24 @@
-//! All that is computed of a net before a file is touched: the search along the chain, the search for the
-//! greatest error, and the formula.
+//! All that is computed of two nets before a file is touched: what the task makes of the second, the search
+//! for the greatest error, and the formula.
 ghost use Rattle.std.specs.Prelude.{◌≡◌, ◌≤◌, ◌<◌, ◌^◌, ℕ, IfOk};
 ghost use Rattle.semantics.specs.Net.{NetValue, IsSmall, IsSound};
+ghost use Rattle.semantics.specs.Error.{IsCandidate};
 ghost use Rattle.semantics.specs.declared.metric.Metric.{Metric};
+ghost use Rattle.chain_semantics.specs.Simplification.{IsBeginning};
 ghost use Rattle.proof_semantics.specs.Miter.{miter};
 ghost use Rattle.synth_jobs.specs.declared.preparing.Prepared.TheVariants.{Ready};
 ghost use Rattle.bundle_writing.specs.Value.{FitsReport};
-ghost use Rattle.job_semantics.specs.Shrinking.{IsShrinking};
+ghost use Rattle.job_semantics.specs.declared.task.Task.{Task};
+ghost use Rattle.job_semantics.specs.Synthesis.{IsTaskDone, is_shown_minimal};
 ghost use Rattle.worst_case.specs.Maximum.{IsMaximumAnswer};
 ghost use Rattle.synth_jobs.specs.Spent.{told_query};
-ghost use Rattle.synth_jobs.specs.Prepared.{bundle_of, AreFound, IsSearched, IsPrepared};
+ghost use Rattle.synth_jobs.specs.Prepared.{told_shrinking, bundle_of, AreFound, IsSearched, IsPrepared};
 
 use bundle_writing::bundle::{Bundle, Version};
 use cnf_core::cnf::Cnf;
 use cnf_core::log::Log;
+use job_semantics::task::Task;
+use lane_bits::patterns::Patterns;
 use miter::level::miter_of;
 use net_core::items::Bits;
 use net_core::net::Net;
@@ -33,6 +38,17 @@ pub struct Constraint {
     pub limit: u64,
 }
 
+/// Two nets, and what is done with the second.
+#[derive(Drop)]
+pub struct Assignment {
+    pub task: Task,
+    /// The net against which errors are counted.
+    pub exact: Net,
+    /// The net that is certified or refined.
+    pub begin: Net,
+    pub aim: Constraint,
+}
+
 /// What is ready before the first file is touched.
 #[derive(Drop)]
 pub enum Prepared {
@@ -49,7 +65,7 @@ pub enum Prepared {
     },
 }
 
-/// What was found of a net: its simplification, the greatest error of the simplified net, an input that
+/// What was found: the second net or its simplification, the greatest error of that net, an input that
 /// attains this error, and the log that refutes the formula.
 #[derive(Drop)]
 struct Findings {
@@ -59,10 +75,20 @@ struct Findings {
     log: Log,
 }
 
+/// Whether the report says that no further move is allowed: where the net was refined and no query was spent.
+fn is_minimal(task: Task, spent: &Option<Spent>) -> bool
+    ensures { result ≡ is_shown_minimal task (told_query spent.now) }
+{
+    match task {
+        Task::Certify => false,
+        Task::Refine => spent.is_none(),
+    }
+}
+
 /// The bundle of what was found, of version 2.
-fn gathered(exact: Net, aim: Constraint, found: Findings, goal: Cnf) -> Prepared
+fn gathered(task: Task, exact: Net, aim: Constraint, found: Findings, goal: Cnf) -> Prepared
     requires { FitsReport exact found.shrunk.net found.witness }
-    ensures { result ≡ Ready (bundle_of exact aim found goal) found.shrunk.spent }
+    ensures { result ≡ Ready (bundle_of task exact aim found goal) found.shrunk.spent }
 {
     let shrunk = found.shrunk;
     let bundle = Bundle {
@@ -74,7 +100,7 @@ fn gathered(exact: Net, aim: Constraint, found: Findings, goal: Cnf) -> Prepared
         maximum: found.maximum,
         witness: found.witness,
         pool: shrunk.pool,
-        minimal: shrunk.spent.is_none(),
+        minimal: is_minimal(task, &shrunk.spent),
         goal,
         log: found.log,
     };
@@ -84,7 +110,7 @@ fn gathered(exact: Net, aim: Constraint, found: Findings, goal: Cnf) -> Prepared
     }
 }
 
-/// What the search along the chain and the search for the greatest error come to.
+/// What the task and the search for the greatest error come to.
 #[derive(Drop)]
 enum Searched {
     /// The greatest error was found.
@@ -94,13 +120,12 @@ enum Searched {
     Budget { level: Spent, spent: Option<Spent> },
 }
 
-/// The findings of both searches, or the spent query of the search for the greatest error.
+/// The findings of both, or the spent query of the search for the greatest error.
 fn together(shrunk: Shrunk, maximum: Maximum) -> Searched
-    ensures { (exact : NetValue) (metric : Metric) (bound limit : ℕ)
-        → IsShrinking metric exact bound limit
-        (record { net = shrunk.net; pool = shrunk.pool.vectors; spent = told_query shrunk.spent })
+    ensures { (task : Task) (exact begin : NetValue) (metric : Metric) (bound limit : ℕ)
+        → IsTaskDone task metric exact bound limit begin (told_shrinking shrunk)
         → IsMaximumAnswer metric exact shrunk.net bound limit maximum
-        → IsSearched exact metric bound limit result }
+        → IsSearched task exact begin metric bound limit result }
 {
     match maximum {
         Maximum::Spent(level) => Searched::Budget {
@@ -116,40 +141,62 @@ fn together(shrunk: Shrunk, maximum: Maximum) -> Searched
     }
 }
 
-/// The simplification of a net, and its greatest error.
+/// What the task makes of the second net: the net itself without a vector, or the member of its chain that is
+/// reached.
+fn carried_out<S: Search, P: Progress>(
+    alloc: Global,
+    task: Task,
+    exact: &Net,
+    begin: Net,
+    aim: Constraint,
+    progress: &mut P,
+) -> Result<Shrunk, AllocError>
+    requires small { IsSmall exact.now }
+    requires begin_small { IsSmall begin }
+    requires beginning { IsBeginning aim.metric exact.now aim.bound begin }
+    requires limit { 1 ≤ aim.limit }
+    ensures { IfOk result
+        (λ s. IsTaskDone task aim.metric exact.now aim.bound aim.limit begin (told_shrinking s)) }
+{
+    match task {
+        Task::Certify => Ok(Shrunk {
+            net: begin,
+            pool: Patterns::new(alloc, exact.inputs()),
+            spent: None,
+        }),
+        Task::Refine => {
+            let nets = Compared::new(exact, &begin);
+            S::shrink(alloc, &nets, aim.metric, aim.bound, aim.limit, progress)
+        }
+    }
+}
+
+/// What the task makes of the second net, and the greatest error of that.
 fn search<S: Search, P: Progress>(
     alloc: Global,
+    task: Task,
     exact: &Net,
+    begin: Net,
     aim: Constraint,
     progress: &mut P,
 ) -> Result<Searched, AllocError>
     requires small { IsSmall exact.now }
+    requires begin_small { IsSmall begin }
+    requires beginning { IsBeginning aim.metric exact.now aim.bound begin }
     requires limit { 1 ≤ aim.limit }
-    ensures { IfOk result (IsSearched exact.now aim.metric aim.bound aim.limit) }
+    ensures { IfOk result (IsSearched task exact.now begin aim.metric aim.bound aim.limit) }
 {
-    exact.see_sound();
-    let Constraint {
-        metric,
-        bound,
-        limit,
-    } = aim;
-    let shrunk = S::shrink(alloc, exact, metric, bound, limit, progress)?;
+    let shrunk = carried_out::<S, P>(alloc, task, exact, begin, aim, progress)?;
     let nets = Compared::new(exact, &shrunk.net);
-    let maximum = S::maximum(alloc, &nets, metric, bound, limit, progress)?;
+    let maximum = S::maximum(alloc, &nets, aim.metric, aim.bound, aim.limit, progress)?;
     Ok(together(shrunk, maximum))
 }
 
 /// The formula that the log of what was found refutes.
-fn goal_for(
-    alloc: Global,
-    exact: &Net,
-    aim: Constraint,
-    found: &Findings,
-) -> Result<Cnf, AllocError>
-    requires small { IsSmall exact.now }
-    requires found { AreFound exact.now aim.metric aim.bound aim.limit found.now }
+fn goal_for(alloc: Global, exact: &Net, metric: Metric, found: &Findings) -> Result<Cnf, AllocError>
+    requires { IsCandidate exact.now found.now.shrunk.net }
     ensures formula { IfOk result
-        (λ goal. goal ≡ miter exact.now found.now.shrunk.net aim.metric found.now.maximum) }
+        (λ goal. goal ≡ miter exact.now found.now.shrunk.net metric found.now.maximum) }
     ensures few_variables { IfOk result (λ goal. goal.variables < 2 ^ 31) }
     ensures exact_sound { IsSound exact.now }
     ensures approx_sound { IsSound found.now.shrunk.net }
@@ -157,26 +204,35 @@ fn goal_for(
     exact.see_sound();
     found.shrunk.net.see_sound();
     let nets = Compared::new(exact, &found.shrunk.net);
-    miter_of(alloc, &nets, aim.metric, found.maximum)
+    miter_of(alloc, &nets, metric, found.maximum)
 }
 
-/// The bundle of the simplification of a net, or the spent query for which there is none.
+/// The bundle of what the task makes of the second net, or the spent query for which there is none.
 pub fn prepare<S: Search, P: Progress>(
     alloc: Global,
-    exact: Net,
-    aim: Constraint,
+    assignment: Assignment,
     progress: &mut P,
 ) -> Result<Prepared, AllocError>
-    requires small { IsSmall exact }
-    requires bound { aim.bound ≤ LARGEST_ERROR }
-    requires limit { 1 ≤ aim.limit }
-    ensures { IfOk result (IsPrepared exact aim.metric aim.bound aim.limit) }
+    requires small { IsSmall assignment.exact }
+    requires begin_small { IsSmall assignment.begin }
+    requires beginning { IsBeginning assignment.aim.metric assignment.exact assignment.aim.bound
+        assignment.begin }
+    requires bound { assignment.aim.bound ≤ LARGEST_ERROR }
+    requires limit { 1 ≤ assignment.aim.limit }
+    ensures { IfOk result (IsPrepared assignment.task assignment.exact assignment.begin assignment.aim.metric
+        assignment.aim.bound assignment.aim.limit) }
 {
-    match search::<S, P>(alloc, &exact, aim, progress)? {
+    let Assignment {
+        task,
+        exact,
+        begin,
+        aim,
+    } = assignment;
+    match search::<S, P>(alloc, task, &exact, begin, aim, progress)? {
         Searched::Budget { level, spent } => Ok(Prepared::Budget { level, spent }),
         Searched::Found(found) => {
-            let goal = goal_for(alloc, &exact, aim, &found)?;
-            Ok(gathered(exact, aim, found, goal))
+            let goal = goal_for(alloc, &exact, aim.metric, &found)?;
+            Ok(gathered(task, exact, aim, found, goal))
         }
     }
 }

@@ -17,11 +17,11 @@ returns-in_err-formula g c =
     let contents = c.args.contents.now in
     let metric = claim.metric in
     let r = report_read metric claim.bound contents.report.now in
-    let K = WitnessKnown claim.nets.now.exact metric claim.bound claim.nets.now.approx r contents.is_shown in
+    let K = WitnessKnown claim.growth claim.nets.now.exact metric claim.bound claim.nets.now.approx r contents.is_shown in
     let old = g.F.Files.told c.args.files.now in
     let p = err_from_is_err_and c.from_residual.result c.from_residual.ensures.1 in
-    rw p.1 (subst (λ e. Answers g.L.ItemSink.holds claim.nets.now.exact metric claim.bound claim.stem.now K old old (Err e)) (sym p.2)
-    (answers_memory g.L.ItemSink.holds claim.nets.now.exact metric claim.bound claim.stem.now old K))
+    rw p.1 (subst (λ e. Answers g.L.ItemSink.holds claim.growth claim.nets.now.exact metric claim.bound claim.stem.now K old old (Err e)) (sym p.2)
+    (answers_memory g.L.ItemSink.holds claim.growth claim.nets.now.exact metric claim.bound claim.stem.now old K))
 
 pub returns-in_err-is_formula : goal.returns-in_err-is_formula
 returns-in_err-is_formula g c =
@@ -29,14 +29,14 @@ returns-in_err-is_formula g c =
     let contents = c.args.contents.now in
     let metric = claim.metric in
     let r = report_read metric claim.bound contents.report.now in
-    let K = WitnessKnown claim.nets.now.exact metric claim.bound claim.nets.now.approx r contents.is_shown in
+    let K = WitnessKnown claim.growth claim.nets.now.exact metric claim.bound claim.nets.now.approx r contents.is_shown in
     let old = g.F.Files.told c.args.files.now in
     let new = g.F.Files.told c.is_formula.new.files in
     let p = err_from_is_err_and c.from_residual-in_err-is_formula.result c.from_residual-in_err-is_formula.ensures.1 in
     rw p.1
-    (answers_unread g.L.ItemSink.holds claim.nets.now.exact metric claim.bound claim.stem.now old new file.Formula K p.0
+    (answers_unread g.L.ItemSink.holds claim.growth claim.nets.now.exact metric claim.bound claim.stem.now old new file.Formula K p.0
     (subst (λ n. TextUnread old new n p.0) c.name.ensures (subst (TextUnread old new c.name.result.now) (sym p.2) c.in_err-is_formula.ensures.err))
-    (λ texts known. formula_needed claim.nets.now.exact metric claim.bound texts claim.nets.now.approx r contents.is_shown known))
+    (λ texts known. formula_needed claim.growth claim.nets.now.exact metric claim.bound texts claim.nets.now.approx r contents.is_shown known))
 
 pub returns-then-not-branch : goal.returns-then-not-branch
 returns-then-not-branch g c =
@@ -44,15 +44,15 @@ returns-then-not-branch g c =
     let contents = c.args.contents.now in
     let metric = claim.metric in
     let r = report_read metric claim.bound contents.report.now in
-    let K = WitnessKnown claim.nets.now.exact metric claim.bound claim.nets.now.approx r contents.is_shown in
+    let K = WitnessKnown claim.growth claim.nets.now.exact metric claim.bound claim.nets.now.approx r contents.is_shown in
     let old = g.F.Files.told c.args.files.now in
     let new = g.F.Files.told c.is_formula.new.files in
     let yes = c.in_ok-is_formula.field-0 in
     let Q = λ (content : Bytes). IsTrue yes ↔ (content ≡ dimacs_text c.in_ok-formula.formula) in
-    answers_failing g.L.ItemSink.holds claim.nets.now.exact metric claim.bound claim.stem.now old new file.Formula Q K clause.Formula
+    answers_failing g.L.ItemSink.holds claim.growth claim.nets.now.exact metric claim.bound claim.stem.now old new file.Formula Q K clause.Formula
     (subst (λ n. TextRead old new n Q) c.name.ensures c.in_ok-is_formula.ensures.ok)
-    (λ texts known. formula_needed claim.nets.now.exact metric claim.bound texts claim.nets.now.approx r contents.is_shown known)
-    (λ texts known q. other_formula claim.nets.now.exact metric claim.bound texts claim.nets.now.approx r contents.is_shown known
+    (λ texts known. formula_needed claim.growth claim.nets.now.exact metric claim.bound texts claim.nets.now.approx r contents.is_shown known)
+    (λ texts known q. other_formula claim.growth claim.nets.now.exact metric claim.bound texts claim.nets.now.approx r contents.is_shown known
     (λ same. let is : yes ≡ true = q.1 (same ∙ ap dimacs_text (sym c.in_ok-formula.ensures.formula)) in cc))
 
 pub returns : goal.returns
@@ -61,13 +61,13 @@ returns g c =
     let contents = c.args.contents.now in
     let metric = claim.metric in
     let r = report_read metric claim.bound contents.report.now in
-    let K = WitnessKnown claim.nets.now.exact metric claim.bound claim.nets.now.approx r contents.is_shown in
+    let K = WitnessKnown claim.growth claim.nets.now.exact metric claim.bound claim.nets.now.approx r contents.is_shown in
     let old = g.F.Files.told c.args.files.now in
     let mid = g.F.Files.told c.is_formula.new.files in
     let new = g.F.Files.told c.check_log.new.files in
     let yes = c.in_ok-is_formula.field-0 in
     let Q = λ (content : Bytes). IsTrue yes ↔ (content ≡ dimacs_text c.in_ok-formula.formula) in
-    answers_later g.L.ItemSink.holds claim.nets.now.exact metric claim.bound claim.stem.now old mid new file.Formula Q K
-    (FormulaKnown claim.nets.now.exact metric claim.bound claim.nets.now.approx r contents.is_shown) (subst (λ n. TextRead old mid n Q) c.name.ensures c.in_ok-is_formula.ensures.ok)
-    (λ texts known. formula_needed claim.nets.now.exact metric claim.bound texts claim.nets.now.approx r contents.is_shown known)
+    answers_later g.L.ItemSink.holds claim.growth claim.nets.now.exact metric claim.bound claim.stem.now old mid new file.Formula Q K
+    (FormulaKnown claim.growth claim.nets.now.exact metric claim.bound claim.nets.now.approx r contents.is_shown) (subst (λ n. TextRead old mid n Q) c.name.ensures c.in_ok-is_formula.ensures.ok)
+    (λ texts known. formula_needed claim.growth claim.nets.now.exact metric claim.bound texts claim.nets.now.approx r contents.is_shown known)
     (λ texts known q. record { witness = known; formula = q.0 c.if-not-branch.false ∙ ap dimacs_text c.in_ok-formula.ensures.formula }) c.check_log.result c.check_log.ensures

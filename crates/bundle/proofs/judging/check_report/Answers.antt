@@ -25,9 +25,9 @@ returns-in_err-report g c =
     let new = g.F.Files.told c.read_report_file.new.files in
     let p = err_from_is_err_and c.from_residual.result c.from_residual.ensures.1 in
     rw p.1
-    (answers_unread g.L.ItemSink.holds N metric claim.bound claim.stem.now old new file.Report K p.0
+    (answers_unread g.L.ItemSink.holds claim.growth N metric claim.bound claim.stem.now old new file.Report K p.0
     (subst (λ n. TextUnread old new n p.0) c.name-name.ensures (subst (TextUnread old new c.name-name.result.now) (sym p.2) c.in_err-report.ensures.err))
-    (λ texts known. report_needed N metric claim.bound texts M known))
+    (λ texts known. report_needed claim.growth N metric claim.bound texts M known))
 
 pub returns-in_default : goal.returns-in_default
 returns-in_default g c =
@@ -43,9 +43,9 @@ returns-in_default g c =
     let was =
     subst (λ n. TextRead old new n Q) c.name-name.ensures
     (subst (λ o. TextRead old new c.name-name.result.now (IsReportIn inputs metric claim.bound o)) c.in_default.is c.in_ok-report.ensures.ok) in
-    answers_failing g.L.ItemSink.holds N metric claim.bound claim.stem.now old new file.Report Q K clause.ReportForm was
-    (λ texts known. report_needed N metric claim.bound texts M known)
-    (λ texts known none. no_report N metric claim.bound texts M known
+    answers_failing g.L.ItemSink.holds claim.growth N metric claim.bound claim.stem.now old new file.Report Q K clause.ReportForm was
+    (λ texts known. report_needed claim.growth N metric claim.bound texts M known)
+    (λ texts known none. no_report claim.growth N metric claim.bound texts M known
     (λ r is. none r (subst (λ k. IsReportText k metric claim.bound (texts file.Report) r) (sym (c.inputs-inputs.ensures.value ∙ ap input_count c.exact.ensures.value)) is)))
 
 pub returns-then-report-claim : goal.returns-then-report-claim
@@ -64,9 +64,9 @@ returns-then-report-claim g c =
     let was =
     subst (λ n. TextRead old new n Q) c.name-name.ensures
     (subst (λ o. TextRead old new c.name-name.result.now (IsReportIn inputs metric claim.bound o)) c.in-Some.is c.in_ok-report.ensures.ok) in
-    answers_failing g.L.ItemSink.holds N metric claim.bound claim.stem.now old new file.Report Q K clause.MaximumWithin was
-    (λ texts known. report_needed N metric claim.bound texts M known)
-    (λ texts known is. above_bound N metric claim.bound texts M r known
+    answers_failing g.L.ItemSink.holds claim.growth N metric claim.bound claim.stem.now old new file.Report Q K clause.MaximumWithin was
+    (λ texts known. report_needed claim.growth N metric claim.bound texts M known)
+    (λ texts known is. above_bound claim.growth N metric claim.bound texts M r known
     (subst (λ k. IsReportText k metric claim.bound (texts file.Report) r) (c.inputs-inputs.ensures.value ∙ ap input_count c.exact.ensures.value) is)
     (λ within. omega (arith, within, c.if-report-claim.true)))
 
@@ -87,8 +87,8 @@ returns g c =
     let was =
     subst (λ n. TextRead old mid n Q) c.name-name.ensures
     (subst (λ o. TextRead old mid c.name-name.result.now (IsReportIn inputs metric claim.bound o)) c.in-Some.is c.in_ok-report.ensures.ok) in
-    answers_later g.L.ItemSink.holds N metric claim.bound claim.stem.now old mid new file.Report Q K (ReportKnown N metric claim.bound M r) was
-    (λ texts known. report_needed N metric claim.bound texts M known)
+    answers_later g.L.ItemSink.holds claim.growth N metric claim.bound claim.stem.now old mid new file.Report Q K (ReportKnown N metric claim.bound M r) was
+    (λ texts known. report_needed claim.growth N metric claim.bound texts M known)
     (λ texts known is.
     record {
       net = known;

@@ -29,9 +29,9 @@ returns-in_err-is_shown g c =
     let new = g.F.Files.told c.read_vectors_file.new.files in
     let p = err_from_is_err_and c.from_residual-in_err-is_shown.result c.from_residual-in_err-is_shown.ensures.1 in
     rw p.1
-    (answers_unread g.L.ItemSink.holds N metric claim.bound claim.stem.now old new file.Vectors K p.0
+    (answers_unread g.L.ItemSink.holds claim.growth N metric claim.bound claim.stem.now old new file.Vectors K p.0
     (subst (λ n. TextUnread old new n p.0) c.name-name.ensures (subst (TextUnread old new c.name-name.result.now) (sym p.2) c.in_err-is_shown.ensures.err))
-    (λ texts known. vectors_needed N metric claim.bound texts M r known))
+    (λ texts known. vectors_needed claim.growth N metric claim.bound texts M r known))
 
 pub returns-in_default : goal.returns-in_default
 returns-in_default g c =
@@ -52,10 +52,10 @@ returns-in_default g c =
     let was =
     subst (λ n. TextRead old new n Q) c.name-name.ensures
     (subst (λ o. TextRead old new c.name-name.result.now (AreShownIn asked o)) c.in_default.is c.in_ok-is_shown.ensures.ok) in
-    answers_failing g.L.ItemSink.holds N metric claim.bound claim.stem.now old new file.Vectors Q K clause.Witness was
-    (λ texts known. vectors_needed N metric claim.bound texts M r known)
+    answers_failing g.L.ItemSink.holds claim.growth N metric claim.bound claim.stem.now old new file.Vectors Q K clause.Witness was
+    (λ texts known. vectors_needed claim.growth N metric claim.bound texts M r known)
     (λ texts known none.
-    other_vectors N metric claim.bound texts M r known
+    other_vectors claim.growth N metric claim.bound texts M r known
     (λ pool vectors.
     subst (λ (a : AskedValue). AreShownIn a None (texts file.Vectors)) is none pool
     (vectors_read N M metric claim.bound r witness c.as_slice-witness.ensures c.requires.width by_moves (texts file.Vectors) pool vectors)))
@@ -69,8 +69,8 @@ returns-in_err-error g c =
     let old = g.F.Files.told c.args.files.now in
     let p = err_from_is_err_and c.from_residual.result c.from_residual.ensures.1 in
     rw p.1
-    (subst (λ e. Answers g.L.ItemSink.holds N metric claim.bound claim.stem.now K old old (Err e)) (sym p.2)
-    (answers_memory g.L.ItemSink.holds N metric claim.bound claim.stem.now old K))
+    (subst (λ e. Answers g.L.ItemSink.holds claim.growth N metric claim.bound claim.stem.now K old old (Err e)) (sym p.2)
+    (answers_memory g.L.ItemSink.holds claim.growth N metric claim.bound claim.stem.now old K))
 
 pub returns-then-not-is_attained : goal.returns-then-not-is_attained
 returns-then-not-is_attained g c =
@@ -92,11 +92,11 @@ returns-then-not-is_attained g c =
     let was =
     subst (λ n. TextRead old new n Q) c.name-name.ensures
     (subst (λ o. TextRead old new c.name-name.result.now (AreShownIn asked o)) c.in-Some.is c.in_ok-is_shown.ensures.ok) in
-    answers_failing g.L.ItemSink.holds N metric claim.bound claim.stem.now old new file.Vectors Q K clause.Attained was
-    (λ texts known. vectors_needed N metric claim.bound texts M r known)
+    answers_failing g.L.ItemSink.holds claim.growth N metric claim.bound claim.stem.now old new file.Vectors Q K clause.Attained was
+    (λ texts known. vectors_needed claim.growth N metric claim.bound texts M r known)
     (λ texts known holds.
     let told = subst (λ (a : AskedValue). AreShown a shown (texts file.Vectors)) is holds in
-    not_attained N metric claim.bound texts M r known told.pool
+    not_attained claim.growth N metric claim.bound texts M r known told.pool
     (vectors_told N M metric claim.bound r witness c.as_slice-witness.ensures c.requires.width by_moves (texts file.Vectors) shown told)
     (λ same. c.if-not-is_attained.true (c.in_ok-error.ensures ∙ ap (net_error metric N M) c.as_slice-witness.ensures ∙ same)))
 
@@ -121,14 +121,16 @@ returns g c =
     let was =
     subst (λ n. TextRead old mid n Q) c.name-name.ensures
     (subst (λ o. TextRead old mid c.name-name.result.now (AreShownIn asked o)) c.in-Some.is c.in_ok-is_shown.ensures.ok) in
-    answers_later g.L.ItemSink.holds N metric claim.bound claim.stem.now old mid new file.Vectors Q K (WitnessKnown N metric claim.bound M r shown) was
-    (λ texts known. vectors_needed N metric claim.bound texts M r known)
+    answers_later g.L.ItemSink.holds claim.growth N metric claim.bound claim.stem.now old mid new file.Vectors Q K (WitnessKnown claim.growth N metric claim.bound M r shown) was
+    (λ texts known. vectors_needed claim.growth N metric claim.bound texts M r known)
     (λ texts known holds.
     record {
       report = known;
       vectors =
-          vectors_judged N M metric claim.bound r witness c.as_slice-witness.ensures c.requires.width by_moves (texts file.Vectors) shown
-          (λ counts. c.decides_by_moves-by_moves.ensures.1 (eq-eqb c.in_ok-error.error r.maximum c.if-not-is_attained.false, counts_at N M c.args.report.now metric (one_word Abs) claim.bound 0 counts))
+          vectors_judged N M metric claim.bound r witness c.as_slice-witness.ensures c.requires.width by_moves claim.growth (texts file.Vectors) shown
+          (λ counts.
+          c.decides_by_moves-by_moves.ensures.1
+          (eq-eqb c.in_ok-error.error r.maximum c.if-not-is_attained.false, counts_at claim.growth N M c.args.report.now metric (one_word Abs) claim.bound 0 counts))
           (subst (λ (a : AskedValue). AreShown a shown (texts file.Vectors)) is holds);
       attained =
           sym (ap (net_error metric N M) c.as_slice-witness.ensures) ∙ sym c.in_ok-error.ensures

@@ -12,6 +12,6 @@ returns-in_default g c said = check-no_names c.in-Ok.ensures.ok
 
 pub returns : goal.returns
 returns g c said =
-    subst (CheckAnswer c.args.metric c.args.bound c.args.input.now c.args.stem.now (g.F.Files.told c.args.files.now) (g.F.Files.told c.check_bundle.new.files) said said)
+    subst (CheckAnswer c.args.growth c.args.metric c.args.bound c.args.input.now c.args.stem.now (g.F.Files.told c.args.files.now) (g.F.Files.told c.check_bundle.new.files) said said)
     (sym c.answer_of_check.ensures)
     (check-judged_at c.in-Ok-new.ensures c.in-Ok.ensures.ok.sound c.in-Ok.ensures.ok c.check_bundle.ensures.kept c.check_bundle.result c.check_bundle.ensures.verdict c.check_bundle.ensures.cause)

@@ -18,9 +18,10 @@ loop-next-smaller g c = let turned = rw c.in-Next.is at c.in_ok-next.ensures.tur
 
 pub loop-next-preserved : goal.loop-next-preserved
 loop-next-preserved g c =
+    let nets = c.args.nets.now in
     let turned = rw c.in-Next.is at c.in_ok-next.ensures.turn in
     record {
-      ready = still_ready c.args.net.now c.loop-next.judge c.take_turn.new.judge c.take_turn.ensures.same c.loop-next.invariant.ready;
+      ready = still_ready c.args.terms.metric nets.exact c.args.terms.bound nets.approx c.loop-next.judge c.take_turn.new.judge c.take_turn.ensures.same c.loop-next.invariant.ready;
       member = turned.member;
       pool = c.in_ok-next.ensures.pool;
     }

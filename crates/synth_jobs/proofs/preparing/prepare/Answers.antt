@@ -1,17 +1,26 @@
-use Rattle.std.proofs.Common.{sym, subst}
-use Rattle.synth_jobs.specs.Prepared.{IsPrepared}
-use Rattle.synth_jobs.proofs.Parts.{gathered-fits, gathered-ready}
+use Rattle.synth_jobs.specs.Prepared.{told_shrinking}
+use Rattle.synth_jobs.proofs.Parts.{kept-candidate, gathered-fits, gathered-prepared}
 use Rattle.synth_jobs.proofs.preparing.prepare.Goals as goal
+
+pub goal_for-requires : goal.goal_for-requires
+goal_for-requires g c =
+    let are_found = rw c.in-Found.is at c.in_ok-level.ensures in
+    let given = c.args.assignment in
+    kept-candidate given.task given.aim.metric given.exact given.aim.bound given.aim.limit given.begin (told_shrinking c.in-Found.found.shrunk) c.requires.small
+    c.requires.beginning are_found.search
 
 pub gathered-requires : goal.gathered-requires
 gathered-requires g c =
     let are_found = rw c.in-Found.is at c.in_ok-level.ensures in
-    gathered-fits c.args.exact c.args.aim c.in-Found.found c.in_ok-goal-in-Found.goal c.in_ok-goal-in-Found.ensures.exact_sound c.requires.small
-    c.in_ok-goal-in-Found.ensures.approx_sound c.requires.bound are_found c.in_ok-goal-in-Found.ensures.formula c.in_ok-goal-in-Found.ensures.few_variables
+    let given = c.args.assignment in
+    let made = c.in_ok-goal-in-Found in
+    gathered-fits given.task given.exact given.begin given.aim c.in-Found.found made.goal made.ensures.exact_sound c.requires.small c.requires.begin_small c.requires.beginning
+    made.ensures.approx_sound c.requires.bound are_found made.ensures.formula made.ensures.few_variables
 
 pub returns-in_ok-goal-in-Found : goal.returns-in_ok-goal-in-Found
 returns-in_ok-goal-in-Found g c =
     let are_found = rw c.in-Found.is at c.in_ok-level.ensures in
-    subst (IsPrepared c.args.exact c.args.aim.metric c.args.aim.bound c.args.aim.limit) (sym c.gathered.ensures)
-    (gathered-ready c.args.exact c.args.aim c.in-Found.found c.in_ok-goal-in-Found.goal c.in_ok-goal-in-Found.ensures.exact_sound c.requires.small
-    c.in_ok-goal-in-Found.ensures.approx_sound c.requires.bound are_found c.in_ok-goal-in-Found.ensures.formula c.in_ok-goal-in-Found.ensures.few_variables)
+    let given = c.args.assignment in
+    let made = c.in_ok-goal-in-Found in
+    gathered-prepared given.task given.exact given.begin given.aim c.in-Found.found made.goal made.ensures.exact_sound c.requires.small c.requires.begin_small c.requires.beginning
+    made.ensures.approx_sound c.requires.bound are_found made.ensures.formula made.ensures.few_variables c.gathered.result c.gathered.ensures

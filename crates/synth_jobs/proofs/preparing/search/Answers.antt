@@ -1,15 +1,15 @@
 use Rattle.std.proofs.Common.{sym, subst}
 use Rattle.semantics.specs.Error.{IsWithin}
-use Rattle.synth_jobs.proofs.Parts.{found_net}
+use Rattle.synth_jobs.specs.Prepared.{told_shrinking}
+use Rattle.synth_jobs.proofs.Parts.{kept, kept-candidate}
 use Rattle.synth_jobs.proofs.preparing.search.Goals as goal
 
 pub new-nets-requires : goal.new-nets-requires
-new-nets-requires g c = record {
-  ports = (found_net c.args.aim.metric c.args.exact.now c.args.aim.bound c.args.aim.limit _ c.see_sound.ensures.sound c.in_ok-shrunk.ensures.shrinking).ports;
-  few_outputs = c.requires.small.outputs;
-}
+new-nets-requires g c =
+    kept-candidate c.args.task c.args.aim.metric c.args.exact.now c.args.aim.bound c.args.aim.limit c.args.begin (told_shrinking c.in_ok-shrunk.shrunk) c.requires.small
+    c.requires.beginning c.in_ok-shrunk.ensures
 
 pub maximum-requires-clause-within : goal.maximum-requires-clause-within
 maximum-requires-clause-within g c =
     subst (λ P. IsWithin c.args.aim.metric P.exact c.args.aim.bound P.approx) (sym c.new-nets.ensures)
-    (found_net c.args.aim.metric c.args.exact.now c.args.aim.bound c.args.aim.limit _ c.see_sound.ensures.sound c.in_ok-shrunk.ensures.shrinking).within
+    (kept c.args.task c.args.aim.metric c.args.exact.now c.args.aim.bound c.args.aim.limit c.args.begin (told_shrinking c.in_ok-shrunk.shrunk) c.requires.beginning c.in_ok-shrunk.ensures).within

@@ -3,7 +3,7 @@ use Rattle.std.proofs.lemmas.List.{take_rest}
 use Rattle.semantics.specs.declared.limits.TheConstants.{MOST_OUTPUTS}
 use Rattle.job_semantics.specs.Job.{number_from_to}
 use Rattle.command_words.proofs.MetricParts.{metric-no_kind, metric-no_kind_before, metric-no_width, metric-named}
-use Rattle.command_words.proofs.words.metric.Goals as goal
+use Rattle.command_words.proofs.metric_words.metric.Goals as goal
 
 pub returns-in_err-kind : goal.returns-in_err-kind
 returns-in_err-kind c =

@@ -1,0 +1,13 @@
+use Rattle.std.proofs.Common.{ap, ◌∙◌, arith}
+use Rattle.std.proofs.lemmas.Result.{IfOk-weaker}
+use Rattle.semantics.specs.Net.{input_count}
+use Rattle.synth_core.proofs.Beginnings.{bound_answer}
+use Rattle.synth_core.proofs.beginning.within_bound.Goals as goal
+
+pub returns : goal.returns
+returns g c =
+    let nets = c.args.nets.now in
+    let count = c.inputs.ensures.value ∙ ap input_count c.exact.ensures.value in
+    IfOk-weaker c.within_level.result _ _
+    (λ m answer. bound_answer c.args.metric nets.exact nets.approx c.args.bound c.args.limit m (omega (arith, count, c.if-inputs-le-FEW_INPUTS.false)) answer)
+    c.within_level.ensures.answer

@@ -1,0 +1,55 @@
+//! Whether the net that the chain is to begin with keeps the bound. With few inputs every vector is tried in
+//! counting order, so the first at which the error exceeds the bound is told. With more inputs the ways of
+//! [`within_level`] are tried in their order: the solver is asked last.
+ghost use Rattle.std.specs.Prelude.{◌≤◌, IfOk};
+ghost use Rattle.semantics.specs.Net.{IsSmall};
+ghost use Rattle.net_search.specs.Bounds.{IsBoundAnswer};
+
+use net_errors::compared::Compared;
+use progress::progress::Progress;
+use semantics::limits::FEW_INPUTS;
+use semantics::metric::Metric;
+use std::alloc::{AllocError, Global};
+use worst_case::exceeds::exceeds;
+use worst_case::judge::{Judge, within_level};
+use worst_case::margin::Margin;
+use worst_case::query::Exceed;
+
+/// The answer with the first vector at which the error exceeds the bound.
+fn first_over(
+    alloc: Global,
+    nets: &Compared,
+    metric: Metric,
+    bound: u128,
+    limit: u64,
+) -> Result<Margin, AllocError>
+    requires limit { 1 ≤ limit }
+    ensures { IfOk result (IsBoundAnswer metric nets.now.exact nets.now.approx bound limit) }
+{
+    match exceeds(alloc, nets.exact(), nets.approx(), metric, bound, limit)? {
+        Exceed::Over(x) => Ok(Margin::Over(x)),
+        Exceed::Never(_) => Ok(Margin::Within),
+        Exceed::Spent(spent) => Ok(Margin::Spent(spent)),
+    }
+}
+
+/// Whether the error of the approximate net stays within the bound: an input at which it does not, with few
+/// inputs the first in counting order, or that there is none. A query may cost at most `limit` conflicts.
+pub fn within_bound<P: Progress>(
+    alloc: Global,
+    nets: &Compared,
+    metric: Metric,
+    bound: u128,
+    limit: u64,
+    progress: &mut P,
+) -> Result<Margin, AllocError>
+    requires small { IsSmall nets.now.exact }
+    requires limit { 1 ≤ limit }
+    ensures { IfOk result (IsBoundAnswer metric nets.now.exact nets.now.approx bound limit) }
+{
+    if nets.exact().inputs() <= FEW_INPUTS {
+        return first_over(alloc, nets, metric, bound, limit);
+    }
+    let mut judge = Judge::new(alloc, nets.exact())?;
+    within_level(alloc, nets, &mut judge, metric, bound, limit, progress)
+}
