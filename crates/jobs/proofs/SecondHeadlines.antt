@@ -1,9 +1,9 @@
 -- The headline of jobs on two netlists, from what each answer says.
-use Rattle.std.proofs.Common.{◌≡◌, ◌≢◌, ◌⊎◌, ℕ, ◌<◌, ◌≤◌, Bool, List, Option, Some, None, Result, Ok, Err, inl, inr, refl, ap, sym, subst, ◌∙◌, arith}
+use Rattle.std.proofs.Common.{◌≡◌, ◌≢◌, ◌⊎◌, ℕ, Bool, List, Option, Some, None, Result, Ok, Err, inl, inr, refl, ap, sym, subst, ◌∙◌, arith}
 use Rattle.std.specs.Prelude.{IsTrue}
 use Rattle.std.proofs.lemmas.Bool.{and_parts}
 use Rattle.semantics.specs.Texts.{Bytes}
-use Rattle.semantics.specs.Net.{NetValue, HasSamePorts, table_count, literal_count}
+use Rattle.semantics.specs.Net.{NetValue, HasSamePorts}
 use Rattle.semantics.specs.Error.{IsWithin}
 use Rattle.semantics.specs.declared.metric.Metric.{Metric}
 use Rattle.outside_semantics.specs.Outside.{Held, FilesTold, SinkTold, bytes_of}
@@ -15,7 +15,7 @@ use Rattle.job_semantics.specs.declared.task.Task.TheVariants.{Certify, Refine}
 use Rattle.job_semantics.specs.Job.{against, confirm, are_file_words}
 use Rattle.job_semantics.specs.Input.{IsReadAs}
 use Rattle.job_semantics.specs.Certificate.{Texts, texts_of, IsNetlist, CertifiesWith}
-use Rattle.job_semantics.specs.Checking.{ShowsItsBound, Verifies}
+use Rattle.job_semantics.specs.Checking.{ShowsItsBound}
 use Rattle.job_semantics.specs.Shrinking.{Shrinking}
 use Rattle.job_semantics.specs.Synthesis.{shrinking_of, IsTaskDone}
 use Rattle.job_semantics.specs.SecondNetlist.{AreRead, TaskDone}

@@ -1,5 +1,5 @@
 -- What the spent query of a job is, from what the job comes to.
-use Rattle.std.proofs.Common.{◌≡◌, ◌⊎◌, ℕ, ◌≤◌, Bool, List, ◌∷◌, ◌++◌, Option, Some, None, MatchOption, Contains, inl, inr, refl, ap, sym, subst, ◌∙◌, arith}
+use Rattle.std.proofs.Common.{◌≡◌, ◌⊎◌, ℕ, ◌≤◌, Bool, List, ◌∷◌, ◌++◌, Option, Some, None, MatchOption, Contains, inl, inr, ap, sym, subst, ◌∙◌, arith}
 use Rattle.std.proofs.lemmas.List.Elements.{Contains-append_right}
 use Rattle.chain_semantics.proofs.MoveLists.{Contains-here}
 use Rattle.semantics.specs.Net.{NetValue}
