@@ -1,5 +1,5 @@
 -- The headline of jobs on two netlists, from what each answer says.
-use Rattle.std.proofs.Common.{◌≡◌, ◌≢◌, ◌⊎◌, ◌×◌, ℕ, ◌<◌, ◌≤◌, Bool, List, Option, Some, None, Result, Ok, Err, inl, inr, refl, ap, sym, subst, ◌∙◌, arith}
+use Rattle.std.proofs.Common.{◌≡◌, ◌≢◌, ◌⊎◌, ℕ, ◌<◌, ◌≤◌, Bool, List, Option, Some, None, Result, Ok, Err, inl, inr, refl, ap, sym, subst, ◌∙◌, arith}
 use Rattle.std.specs.Prelude.{IsTrue}
 use Rattle.std.proofs.lemmas.Bool.{and_parts}
 use Rattle.semantics.specs.Texts.{Bytes}
@@ -102,13 +102,13 @@ module _ (task : Task) (metric : Metric) (bound limit : ℕ) (input second stem 
 
 -- ---- what a spent query is
 
-abbrev SpentIn : Metric → ℕ → ℕ → Bytes → Bytes → FilesTold → FilesTold → SpentValue → Type 0
-SpentIn metric bound limit input second old new q =
-    (exact : NetValue) × (begin : NetValue) × AreRead input second old new exact begin × AreSpentOnSecond metric exact begin bound limit q
+abbrev SpentIn : Task → Metric → ℕ → ℕ → Bytes → Bytes → FilesTold → FilesTold → SpentValue → Type 0
+SpentIn task metric bound limit input second old new q =
+    (exact : NetValue) × (begin : NetValue) × AreRead input second old new exact begin × AreSpentOnSecond task metric exact begin bound limit q
 
 module _ (task : Task) (metric : Metric) (bound limit : ℕ) (input second stem : Bytes) (old new : FilesTold) (said says : SinkTold) (spent level : Option SpentValue) (q : SpentValue) where
   spent_in : (status : Status) → TaskAnswerAt task metric bound limit input second stem old new said says spent level status → (spent ≡ Some q) ⊎ (level ≡ Some q)
-      → SpentIn metric bound limit input second old new q
+      → SpentIn task metric bound limit input second old new q
   spent_in Done (d, no_level) (inl is) =
       let w = d.written in
       (d.exact, d.begin, d.read, of_task metric d.exact d.begin bound limit task (shrinking_of w.result) q w.right.search (sym w.is_spent ∙ is))

@@ -1,5 +1,5 @@
 -- What the spent query of a job is, from what the job comes to.
-use Rattle.std.proofs.Common.{◌≡◌, ◌⊎◌, ◌×◌, ℕ, ◌≤◌, Bool, List, ◌∷◌, ◌++◌, Option, Some, None, MatchOption, Contains, inl, inr, refl, ap, sym, subst, ◌∙◌, arith}
+use Rattle.std.proofs.Common.{◌≡◌, ◌⊎◌, ℕ, ◌≤◌, Bool, List, ◌∷◌, ◌++◌, Option, Some, None, MatchOption, Contains, inl, inr, refl, ap, sym, subst, ◌∙◌, arith}
 use Rattle.std.proofs.lemmas.List.Elements.{Contains-append_right}
 use Rattle.chain_semantics.proofs.MoveLists.{Contains-here}
 use Rattle.semantics.specs.Net.{NetValue}
@@ -58,28 +58,29 @@ module _ (metric : Metric) (exact begin : NetValue) (bound limit : ℕ) where
 
   -- ---- a query of a task
 
-  on_second : (q : SpentValue) → AreSpentOnChain metric exact begin bound limit q → AreSpentOnSecond metric exact begin bound limit q
+  on_second : (q : SpentValue) → AreSpentOnChain metric exact begin bound limit q → AreSpentOnSecond Refine metric exact begin bound limit q
   on_second q s = record { level = s.0; net = inr s.1; query = s.2 }
 
-  pub of_task : (task : Task) (s : Shrinking) (q : SpentValue) → IsTaskDone task metric exact bound limit begin s → s.spent ≡ Some q → AreSpentOnSecond metric exact begin bound limit q
+  pub of_task : (task : Task) (s : Shrinking) (q : SpentValue) → IsTaskDone task metric exact bound limit begin s → s.spent ≡ Some q → AreSpentOnSecond task metric exact begin bound limit q
   of_task Certify s q certified is = let bad : ◌≡◌ {A = Option SpentValue} None (Some q) = sym (ap (λ (t : Shrinking). t.spent) certified) ∙ is in cc
   of_task Refine s q search is = on_second q (of_refined s q search is)
 
   of_task_maximum : (task : Task) (spent : Option SpentValue) (s q : SpentValue) → MaximumSpent task metric bound limit exact begin spent s → (spent ≡ Some q) ⊎ (s ≡ q)
-      → AreSpentOnSecond metric exact begin bound limit q
+      → AreSpentOnSecond task metric exact begin bound limit q
   of_task_maximum Certify spent s q m (inl is) = of_task Certify m.result q m.search (sym m.is_spent ∙ is)
-  of_task_maximum Certify spent s q m (inr same) = subst (AreSpentOnSecond metric exact begin bound limit) same
-      (record { level = m.query.level; net = inl (m.query.net ∙ ap (λ (t : Shrinking). t.net) m.search); query = m.query.query })
+  of_task_maximum Certify spent s q m (inr same) = subst (AreSpentOnSecond Certify metric exact begin bound limit) same
+      (record { level = m.query.level; net = m.query.net ∙ ap (λ (t : Shrinking). t.net) m.search; query = m.query.query })
   of_task_maximum Refine spent s q m is = on_second q (of_maximum spent s q m is)
 
   -- the query whether the second net keeps the bound
-  of_bound : (q : SpentValue) → IsBoundSpent metric bound limit exact begin q → AreSpentOnSecond metric exact begin bound limit q
-  of_bound q s = record { level = omega (arith, s.at_bound); net = inl s.net; query = s.query }
+  of_bound : (task : Task) (q : SpentValue) → IsBoundSpent metric bound limit exact begin q → AreSpentOnSecond task metric exact begin bound limit q
+  of_bound Certify q s = record { level = omega (arith, s.at_bound); net = s.net; query = s.query }
+  of_bound Refine q s = record { level = omega (arith, s.at_bound); net = inl s.net; query = s.query }
 
   pub of_task_spent : (task : Task) (spent : Option SpentValue) (s q : SpentValue) → IsTaskSpent task metric bound limit spent s exact begin → (spent ≡ Some q) ⊎ (s ≡ q)
-      → AreSpentOnSecond metric exact begin bound limit q
+      → AreSpentOnSecond task metric exact begin bound limit q
   of_task_spent task spent s q (inl (on_bound, none)) (inl is) = let bad : ◌≡◌ {A = Option SpentValue} None (Some q) = sym none ∙ is in cc
-  of_task_spent task spent s q (inl (on_bound, none)) (inr same) = subst (AreSpentOnSecond metric exact begin bound limit) same (of_bound s on_bound)
+  of_task_spent task spent s q (inl (on_bound, none)) (inr same) = subst (AreSpentOnSecond task metric exact begin bound limit) same (of_bound task s on_bound)
   of_task_spent task spent s q (inr (beginning, search)) is = of_task_maximum task spent s q search is
 
 -- where the chain begins with the exact net itself

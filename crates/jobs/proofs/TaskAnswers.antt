@@ -1,22 +1,25 @@
 -- What a certify or a refine job comes to, from the readings of IN and of the second netlist and what is made of
 -- their nets; and that a quiet call has no fault.
-use Rattle.std.proofs.Common.{◌≡◌, ◌≢◌, ◌×◌, ℕ, Bool, true, false, Option, Some, None, [], inl, inr, refl, sym, subst, ◌∙◌, arith}
+use Rattle.std.proofs.Common.{◌≡◌, ◌≢◌, ℕ, Bool, true, false, Option, Some, None, [], inl, inr, refl, sym, subst, ◌∙◌, arith}
 use Rattle.std.specs.Prelude.{IsTrue}
 use Rattle.std.proofs.lemmas.Bool.{false_from_ne_true}
 use Rattle.std.specs.FinMap.{contains_key}
 use Rattle.semantics.specs.Texts.{Bytes}
-use Rattle.semantics.specs.Net.{NetValue}
+use Rattle.semantics.specs.Net.{NetValue, input_count, HasSamePorts}
 use Rattle.semantics.specs.declared.metric.Metric.{Metric}
-use Rattle.outside_semantics.specs.Outside.{FilesTold, SinkTold, Goes, bytes_of}
+use Rattle.outside_semantics.specs.Outside.{FilesTold, SinkTold, Goes, WhereTold, bytes_of}
 use Rattle.outside_semantics.specs.WrittenFiles.{FilesWritten}
 use Rattle.file_core.proofs.Told.{Goes-same, Goes-Goes, held_before}
 use Rattle.file_reading.specs.Reading.{FilesStay}
+use Rattle.blif_semantics.specs.Reading.{Refusal}
 use Rattle.chain_semantics.specs.Simplification.{IsBeginning}
+use Rattle.proof_semantics.specs.Conflicts.{IsEnough}
 use Rattle.proof_semantics.specs.Queries.{SpentValue}
 use Rattle.job_semantics.specs.declared.task.Task.{Task}
 use Rattle.job_semantics.specs.Input.{input_reading, IsReadAs, IsRefusedFor, IsAccepted}
 use Rattle.job_semantics.specs.Synthesis.{WhereHeld, OfInput, CountsAs}
 use Rattle.job_semantics.specs.SecondNetlist.{WhereBothHeld, OfSecond, AreUntouched, AreRead, AreBothRead, HasOtherPorts, IsAboveBound, IsBoundSpent, IsTaskSpent, TaskReadFault, TaskWriteFault, IsQuietTask}
+use Rattle.blif_text.specs.declared.refusal.BlifRefusal.{BlifRefusal}
 use Rattle.bundle_writing.proofs.FilesInOrder.{FilesWritten-then}
 use Rattle.job_answers.specs.declared.status.Status.{Status}
 use Rattle.job_answers.specs.declared.status.Status.TheVariants.{Done, Text, NoMemory, Budget, ReadFault, WriteFault, Second, Ports, Over}
@@ -53,6 +56,10 @@ module _ (task : Task) (metric : Metric) (bound limit : ℕ) (input second stem 
 unsteady_before : {old mid : FilesTold} {name : Bytes} → Goes old mid → mid.steady_read name ≡ false → old.steady_read name ≡ false
 unsteady_before goes h = false_from_ne_true _ (λ steady. cc (goes.steady_read _ steady, h))
 
+-- IN is accepted
+accepted : {input : Bytes} {old mid new : FilesTold} {N : NetValue} → NetRead old mid input N → Goes mid new → CountsAs IsAccepted old new input
+accepted {N = N} read goes = λ a b told tells. (N, (read_later read goes).told a b told tells)
+
 module _ {input second : Bytes} {old mid : FilesTold} {N : NetValue} (read : NetRead old mid input N) where
   both_untouched : {new : FilesTold} {said says : SinkTold} → FilesStay mid new second → says ≡ said → AreUntouched input second old new said says
   both_untouched {new} stay quiet = record {
@@ -71,45 +78,43 @@ module _ {input second : Bytes} {old mid : FilesTold} {N : NetValue} (read : Net
     at_entry = λ a told has_input has_second. h.at_entry a (read.stay.still_told a told has_input) has_second;
   }
 
-  accepted : {new : FilesTold} → Goes mid new → CountsAs IsAccepted old new input
-  accepted goes = λ a b told tells. (N, (read_later read goes).told a b told tells)
-
   second_held : {new : FilesTold} {refusal : Refusal} (r : TextRefused refusal mid new second) → WhereTold old new (λ a b. IsTrue (contains_key a second))
   second_held {new} r = λ a b told tells.
       let m = held_before mid new r.stay.goes b tells in
       subst (λ x. IsTrue (contains_key x second)) (read.stay.stays a m.0 told m.1) (r.held m.0 b m.1 tells)
 
-  module _ (task : Task) (metric : Metric) (bound limit : ℕ) (stem : Bytes) (new : FilesTold) (said : SinkTold) where
-    -- the second netlist gives no net
-    task-no_second : (answer : Status) → SecondUnread mid new second answer → TaskAnswerAt task metric bound limit input second stem old new said said None None answer
-    task-no_second (Second reason) (refusal, told, r) = (
-      (
-        refusal,
-        told,
-        record {
-          untouched = both_untouched r.stay refl;
-          exact = N;
-          input_read = read_later read r.stay.goes;
-          held = second_held r;
-          refused = of_second (λ text. IsRefusedFor text refusal) r.stay.goes r.refused;
-        },
-      ),
-      (refl, refl),
-    )
-    task-no_second ReadFault failed = (
+module _ (task : Task) (metric : Metric) (bound limit : ℕ) (input second stem : Bytes) {old mid : FilesTold} (new : FilesTold) (said : SinkTold) {N : NetValue}
+    (read : NetRead old mid input N) where
+  -- the second netlist gives no net
+  task-no_second : (answer : Status) → SecondUnread mid new second answer → TaskAnswerAt task metric bound limit input second stem old new said said None None answer
+  task-no_second (Second reason) (refusal, told, r) = (
+    (
+      refusal,
+      told,
       record {
-        untouched = both_untouched failed.stay refl;
-        rose = omega (arith, read.stay.goes.counts, failed.rose);
-        not_steady = inr (accepted failed.stay.goes, unsteady_before read.stay.goes failed.not_steady);
+        untouched = both_untouched read r.stay refl;
+        exact = N;
+        input_read = read_later read r.stay.goes;
+        held = second_held read r;
+        refused = of_second read (λ text. IsRefusedFor text refusal) r.stay.goes r.refused;
       },
-      (refl, refl),
-    )
-    task-no_second NoMemory stay = (both_untouched stay refl, (refl, refl))
-    task-no_second _ bad = absurd bad
+    ),
+    (refl, refl),
+  )
+  task-no_second ReadFault failed = (
+    record {
+      untouched = both_untouched read failed.stay refl;
+      rose = omega (arith, read.stay.goes.counts, failed.rose);
+      not_steady = inr (accepted read failed.stay.goes, unsteady_before read.stay.goes failed.not_steady);
+    },
+    (refl, refl),
+  )
+  task-no_second NoMemory stay = (both_untouched read stay refl, (refl, refl))
+  task-no_second _ bad = absurd bad
 
-    pub task_answer-no_second : (answer : Status) (o : Outcome) → o ≡ record { status = answer; spent = None; level = None } → SecondUnread mid new second answer
-        → TaskAnswer task metric bound limit input second stem old new said said o
-    task_answer-no_second answer o is unread = subst (TaskAnswer task metric bound limit input second stem old new said said) (sym is) (task-no_second answer unread)
+  pub task_answer-no_second : (answer : Status) (o : Outcome) → o ≡ record { status = answer; spent = None; level = None } → SecondUnread mid new second answer
+      → TaskAnswer task metric bound limit input second stem old new said said o
+  task_answer-no_second answer o is unread = subst (TaskAnswer task metric bound limit input second stem old new said said) (sym is) (task-no_second answer unread)
 
 -- a refusal of the second netlist is told as that of the second, and every other answer as it is
 pub SecondUnread-refused : {old new : FilesTold} {name : Bytes} (reason : BlifRefusal) → NetUnread old new name (Text reason) → SecondUnread old new name (Second reason)
@@ -184,7 +189,7 @@ TaskAnswer-of task metric bound limit input second stem new said says o read beg
 
 -- ---- a quiet call
 
-module _ {task : Task} {metric : Metric} {bound limit : ℕ} {input second stem : Bytes} {old new : FilesTold} {said says : SinkTold} where
+module _ {input second stem : Bytes} {old new : FilesTold} {said says : SinkTold} where
   -- a call with a fault in reading is not quiet
   not_quiet_read : TaskReadFault input second old new said says → IsQuietTask input second stem old new said says → ⊥
   not_quiet_read fault quiet =
@@ -197,7 +202,7 @@ module _ {task : Task} {metric : Metric} {bound limit : ℕ} {input second stem 
       ]
 
   -- nor is one with a fault in writing
-  not_quiet_write : TaskWriteFault task metric bound limit input second stem old new said says → IsQuietTask input second stem old new said says → ⊥
+  not_quiet_write : {task : Task} {metric : Metric} {bound limit : ℕ} → TaskWriteFault task metric bound limit input second stem old new said says → IsQuietTask input second stem old new said says → ⊥
   not_quiet_write fault quiet =
       elim quiet.files [
         | inl calm ↦ not_quiet_cut fault.left (inl calm) quiet.sink

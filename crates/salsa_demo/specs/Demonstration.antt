@@ -4,6 +4,7 @@ use Rattle.semantics.specs.Texts.{Bytes}
 use Rattle.semantics.specs.declared.metric.Kind.TheVariants.{Abs}
 use Rattle.semantics.specs.Error.{one_word}
 use Rattle.outside_semantics.specs.Outside.{FilesTold, SinkTold}
+use Rattle.job_semantics.specs.declared.task.Task.TheVariants.{Refine}
 use Rattle.job_semantics.specs.Job.{Job, demo, job_of}
 use Rattle.job_semantics.specs.Demo.{demo_net}
 use Rattle.job_semantics.specs.Demonstration.{demo_stem}
@@ -21,7 +22,8 @@ IsUsage old new said says answer = (answer ≡ Usage) × (new ≡ old) × (says 
 -- the answer tells what the work on the generated adder came to
 abbrev pub IsWorked : ℕ → ℕ → ℕ → FilesTold → FilesTold → SinkTold → SinkTold → Answer → Type 0
 IsWorked width bound limit old new said says answer = (work : Work) × (answer ≡ Worked work)
-    × WorkSays (one_word Abs) bound limit (demo_net width) demo_stem old new said says work
+    × WorkSays Refine (one_word Abs) bound limit (demo_net width) (demo_net width) demo_stem old new said says
+    work
 
 -- what the answer to a job says
 abbrev pub JobAnswer : Job → FilesTold → FilesTold → SinkTold → SinkTold → Answer → Type 0
