@@ -1,5 +1,5 @@
 -- What a synth job comes to, from the reading of IN and what is made of its net.
-use Rattle.std.proofs.Common.{◌≡◌, ◌≢◌, ℕ, Option, None, [], inl, inr, refl, sym, subst}
+use Rattle.std.proofs.Common.{◌≡◌, ◌≢◌, ℕ, Option, [], inl, inr, refl, sym, subst}
 use Rattle.semantics.specs.Texts.{Bytes}
 use Rattle.semantics.specs.Net.{NetValue}
 use Rattle.semantics.specs.declared.metric.Metric.{Metric}
@@ -13,13 +13,11 @@ use Rattle.job_answers.specs.declared.status.Status.{Status}
 use Rattle.job_answers.specs.declared.status.Status.TheVariants.{Done, Text, NoMemory, Budget, ReadFault, WriteFault}
 use Rattle.jobs.specs.declared.outcome.Outcome.{Outcome}
 use Rattle.job_answers.specs.Ends.{EndsWell}
-use Rattle.conversions.specs.Input.{NetRead, NetUnread}
+use Rattle.conversions.specs.Input.{NetRead}
 use Rattle.conversions.proofs.InputReadings.{OfInput-later}
-use Rattle.conversions.proofs.Conversions.{read_fault, not_quiet_read}
-use Rattle.conversions.proofs.Conversions as conversions
+use Rattle.conversions.proofs.Conversions.{not_quiet_read}
 use Rattle.synth_jobs.specs.Spent.{told_query}
 use Rattle.jobs.specs.Run.{SynthAnswerAt, SynthAnswer, BundleAnswerAt, BundleAnswer, IsAnswerTo}
-use Rattle.check_jobs.proofs.CheckAnswers.{input_refused}
 use Rattle.jobs.proofs.BundleAnswers.{written_since, cut_since, goes_cut, enough_spends_nothing, not_quiet_cut}
 
 -- nothing was written while a netlist was read
@@ -38,19 +36,6 @@ untouched {old} {mid} {input} {N} {said} was new says same quiet =
 
 pub read_later : {old mid new : FilesTold} {input : Bytes} {N : NetValue} → NetRead old mid input N → Goes mid new → OfInput old new input (λ text. IsReadAs text N)
 read_later {N = N} was goes = OfInput-later (λ text. IsReadAs text N) goes was.read
-
--- IN gives no net
-synth-no_net : (metric : Metric) (bound limit : ℕ) (input stem : Bytes) (old new : FilesTold) (said : SinkTold) (answer : Status) → NetUnread old new input answer
-    → SynthAnswerAt metric bound limit input stem old new said said None None answer
-synth-no_net metric bound limit input stem old new said (Text reason) (refusal, told, r) = ((refusal, told, input_refused refusal r), (refl, refl))
-synth-no_net metric bound limit input stem old new said ReadFault failed = (read_fault failed, (refl, refl))
-synth-no_net metric bound limit input stem old new said NoMemory stay = (conversions.untouched stay, (refl, refl))
-synth-no_net metric bound limit input stem old new said _ bad = absurd bad
-
-pub synth_answer-no_net : (metric : Metric) (bound limit : ℕ) (input stem : Bytes) (old new : FilesTold) (said : SinkTold) (answer : Status) (o : Outcome)
-    → o ≡ record { status = answer; spent = None; level = None } → NetUnread old new input answer → SynthAnswer metric bound limit input stem old new said said o
-synth_answer-no_net metric bound limit input stem old new said answer o is unread =
-    subst (SynthAnswer metric bound limit input stem old new said said) (sym is) (synth-no_net metric bound limit input stem old new said answer unread)
 
 SynthAnswer-from : (metric : Metric) (bound limit : ℕ) (input stem : Bytes) (old mid new : FilesTold) (said says : SinkTold) (N : NetValue) (spent level : Option SpentValue) (status : Status)
     → NetRead old mid input N → BundleAnswerAt Refine metric bound limit N N stem mid new said says spent level status

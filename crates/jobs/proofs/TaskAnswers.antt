@@ -1,6 +1,6 @@
 -- What a certify or a refine job comes to, from the readings of IN and of the second netlist and what is made of
 -- their nets; and that a quiet call has no fault.
-use Rattle.std.proofs.Common.{◌≡◌, ◌≢◌, ℕ, Bool, true, false, Option, Some, None, [], inl, inr, refl, sym, subst, ◌∙◌, arith}
+use Rattle.std.proofs.Common.{◌≡◌, ◌≢◌, ℕ, true, false, Option, None, [], inl, inr, refl, sym, subst, ◌∙◌, arith}
 use Rattle.std.specs.Prelude.{IsTrue}
 use Rattle.std.proofs.lemmas.Bool.{false_from_ne_true}
 use Rattle.std.specs.FinMap.{contains_key}
@@ -12,43 +12,23 @@ use Rattle.outside_semantics.specs.WrittenFiles.{FilesWritten}
 use Rattle.file_core.proofs.Told.{Goes-same, Goes-Goes, held_before}
 use Rattle.file_reading.specs.Reading.{FilesStay}
 use Rattle.blif_semantics.specs.Reading.{Refusal}
-use Rattle.chain_semantics.specs.Simplification.{IsBeginning}
 use Rattle.proof_semantics.specs.Conflicts.{IsEnough}
 use Rattle.proof_semantics.specs.Queries.{SpentValue}
 use Rattle.job_semantics.specs.declared.task.Task.{Task}
 use Rattle.job_semantics.specs.Input.{input_reading, IsReadAs, IsRefusedFor, IsAccepted}
 use Rattle.job_semantics.specs.Synthesis.{WhereHeld, OfInput, CountsAs}
-use Rattle.job_semantics.specs.SecondNetlist.{WhereBothHeld, OfSecond, AreUntouched, AreRead, AreBothRead, HasOtherPorts, IsAboveBound, IsBoundSpent, IsTaskSpent, TaskReadFault, TaskWriteFault, IsQuietTask}
-use Rattle.blif_text.specs.declared.refusal.BlifRefusal.{BlifRefusal}
+use Rattle.job_semantics.specs.SecondNetlist.{WhereBothHeld, OfSecond, AreUntouched, AreRead, AreBothRead, HasOtherPorts, IsAboveBound, IsTaskSpent, TaskReadFault, TaskWriteFault, IsQuietTask}
 use Rattle.bundle_writing.proofs.FilesInOrder.{FilesWritten-then}
 use Rattle.job_answers.specs.declared.status.Status.{Status}
 use Rattle.job_answers.specs.declared.status.Status.TheVariants.{Done, Text, NoMemory, Budget, ReadFault, WriteFault, Second, Ports, Over}
 use Rattle.job_answers.specs.Ends.{EndsWellOnBoth}
-use Rattle.conversions.specs.Input.{NetRead, NetUnread, TextRefused}
-use Rattle.conversions.proofs.InputReadings.{OfInput-later}
+use Rattle.conversions.specs.Input.{NetRead, TextRefused}
 use Rattle.synth_jobs.specs.Spent.{told_query}
-use Rattle.check_jobs.proofs.CheckAnswers.{input_refused}
 use Rattle.jobs.specs.declared.outcome.Outcome.{Outcome}
-use Rattle.jobs.specs.Run.{TaskAnswerAt, TaskAnswer, BundleAnswerAt, IsInputAnswerTo, IsTaskAnswerTo}
+use Rattle.jobs.specs.Run.{TaskAnswerAt, TaskAnswer, IsInputAnswerTo, IsTaskAnswerTo}
 use Rattle.jobs.specs.Second.{SecondUnread, JudgedAnswerAt, JudgedAnswer}
 use Rattle.jobs.proofs.BundleAnswers.{written_since, cut_since, goes_cut, enough_spends_nothing, not_quiet_cut}
 use Rattle.jobs.proofs.SynthAnswers.{none_written, read_later}
-
--- ---- IN gives no net
-
-module _ (task : Task) (metric : Metric) (bound limit : ℕ) (input second stem : Bytes) (old new : FilesTold) (said : SinkTold) where
-  at_input : FilesStay old new input → AreUntouched input second old new said said
-  at_input stay = record { goes = stay.goes; files = stay.stays; still_told = λ a told has_input has_second. stay.still_told a told has_input; sink = refl }
-
-  task-no_net : (answer : Status) → NetUnread old new input answer → TaskAnswerAt task metric bound limit input second stem old new said said None None answer
-  task-no_net (Text reason) (refusal, told, r) = ((refusal, told, input_refused refusal r), (refl, refl))
-  task-no_net ReadFault failed = (record { untouched = at_input failed.stay; rose = failed.rose; not_steady = inl failed.not_steady }, (refl, refl))
-  task-no_net NoMemory stay = (at_input stay, (refl, refl))
-  task-no_net _ bad = absurd bad
-
-  pub task_answer-no_net : (answer : Status) (o : Outcome) → o ≡ record { status = answer; spent = None; level = None } → NetUnread old new input answer
-      → TaskAnswer task metric bound limit input second stem old new said said o
-  task_answer-no_net answer o is unread = subst (TaskAnswer task metric bound limit input second stem old new said said) (sym is) (task-no_net answer unread)
 
 -- ---- IN was read, and then the second netlist
 
@@ -115,29 +95,6 @@ module _ (task : Task) (metric : Metric) (bound limit : ℕ) (input second stem 
   pub task_answer-no_second : (answer : Status) (o : Outcome) → o ≡ record { status = answer; spent = None; level = None } → SecondUnread mid new second answer
       → TaskAnswer task metric bound limit input second stem old new said said o
   task_answer-no_second answer o is unread = subst (TaskAnswer task metric bound limit input second stem old new said said) (sym is) (task-no_second answer unread)
-
--- a refusal of the second netlist is told as that of the second, and every other answer as it is
-pub SecondUnread-refused : {old new : FilesTold} {name : Bytes} (reason : BlifRefusal) → NetUnread old new name (Text reason) → SecondUnread old new name (Second reason)
-SecondUnread-refused reason unread = unread
-
-pub SecondUnread-other : (old new : FilesTold) (name : Bytes) (answer : Status) → ((reason : BlifRefusal) → answer ≢ Text reason) → NetUnread old new name answer → SecondUnread old new name answer
-SecondUnread-other old new name (Text reason) other unread = absurd (other reason refl)
-SecondUnread-other old new name ReadFault other failed = failed
-SecondUnread-other old new name NoMemory other stay = stay
-SecondUnread-other old new name _ other bad = absurd bad
-
--- ---- the second net is judged
-
--- what the work on a net that keeps the bound comes to
-pub judged_within : (task : Task) (metric : Metric) (bound limit : ℕ) (exact begin : NetValue) (stem : Bytes) (old new : FilesTold) (said says : SinkTold) (spent level : Option SpentValue) (status : Status)
-    → IsBeginning metric exact bound begin → BundleAnswerAt task metric bound limit exact begin stem old new said says spent level status
-    → JudgedAnswerAt task metric bound limit exact begin stem old new said says spent level status
-judged_within task metric bound limit exact begin stem old new said says spent level Done beginning answer = (beginning, answer)
-judged_within task metric bound limit exact begin stem old new said says spent level Budget beginning answer =
-    (answer.2, answer.3, (answer.0, answer.1, inr (beginning, answer.4)))
-judged_within task metric bound limit exact begin stem old new said says spent level NoMemory beginning answer = (answer.0, answer.1, answer.2)
-judged_within task metric bound limit exact begin stem old new said says spent level WriteFault beginning answer = (beginning, answer)
-judged_within task metric bound limit exact begin stem old new said says spent level _ beginning answer = absurd answer
 
 -- ---- both were read
 

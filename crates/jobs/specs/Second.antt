@@ -1,5 +1,5 @@
 -- What the reading of a second netlist and its judging come to.
-use Rattle.std.specs.Prelude.{◌≡◌, ℕ, Option, Some, None}
+use Rattle.std.specs.Prelude.{◌≡◌, ℕ, Option, Some}
 use Rattle.semantics.specs.Texts.{Bytes}
 use Rattle.semantics.specs.Net.{NetValue}
 use Rattle.semantics.specs.declared.metric.Metric.{Metric}
@@ -13,8 +13,8 @@ use Rattle.job_semantics.specs.SecondNetlist.{HasOtherPorts, IsAboveBound, IsTas
 use Rattle.blif_text.specs.Refusals.{refusal_of}
 use Rattle.conversions.specs.Input.{TextRefused}
 use Rattle.job_answers.specs.declared.status.Status.{Status}
-use Rattle.job_answers.specs.declared.status.Status.TheVariants.{Done, NoMemory, Budget, ReadFault}
-use Rattle.job_answers.specs.declared.status.Status.TheVariants.{WriteFault, Second, Ports, Over}
+use Rattle.job_answers.specs.declared.status.Status.TheVariants.{NoMemory, Budget, ReadFault}
+use Rattle.job_answers.specs.declared.status.Status.TheVariants.{Second, Ports, Over}
 use Rattle.synth_jobs.specs.Spent.{told_query}
 use Rattle.jobs.specs.declared.outcome.Outcome.{Outcome}
 use Rattle.jobs.specs.Outcome.{NothingSpent}

@@ -103,9 +103,9 @@ pub(crate) fn against<F: Files, K: Sink, P: Progress>(
         aim.metric
         aim.bound
         aim.limit
-        names.input.now
-        names.second.now
-        names.stem.now
+        names.entry.input.now
+        names.entry.second.now
+        names.entry.stem.now
         (F.told files.old)
         (F.told files.new)
         (K.told say.old)

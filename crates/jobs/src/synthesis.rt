@@ -44,7 +44,6 @@ pub fn synthesize<F: Files, K: Sink, P: Progress>(
     let Ok(begin) = exact.copy() else {
         return only(Status::NoMemory);
     };
-    exact.see_sound();
     let assignment = Assignment {
         task: Task::Refine,
         exact,
