@@ -135,7 +135,7 @@ second_headline-from words old new said says o says_all = record {
       let answer = says_all.answer (against task metric bound conflicts input second stem) named in
       let well = quiet_task_ends task metric bound conflicts input second stem old new said says (told_query o.spent) (told_query o.level) o.status answer quiet in
       let files_named : IsTrue (are_file_words input stem) =
-          (and_parts (are_file_words input stem) (are_file_words second stem) (file_words_law.tasks words task metric bound conflicts input second stem named)).0 in
+      (and_parts (are_file_words input stem) (are_file_words second stem) (file_words_law.tasks words task metric bound conflicts input second stem named)).0 in
       λ a b told tells exact begin reads begins ports within.
       settled task metric bound conflicts input second stem files_named old new said says (told_query o.spent) (told_query o.level) a b told tells exact begin reads begins o.status
       answer well.read well.written memory none no_level ports within;
