@@ -42,7 +42,8 @@ module _ (task : Task) (metric : Metric) (bound limit : ℕ) (exact begin : NetV
   BundleAnswer-told o w is work_says = subst (BundleAnswer task metric bound limit exact begin stem old new said says) (sym is) (answer_of w work_says)
 
 -- so it is where the names are those of the stem
-pub BundleAnswer-told_at : (task : Task) (metric : Metric) (bound limit : ℕ) (exact begin : NetValue) (stem : Bytes) {names : Bytes} (old new : FilesTold) (said says : SinkTold) (o : Outcome) (w : Work)
+pub BundleAnswer-told_at : (task : Task) (metric : Metric) (bound limit : ℕ) (exact begin : NetValue) (stem : Bytes) {names : Bytes} (old new : FilesTold) (said says : SinkTold)
+    (o : Outcome) (w : Work)
     → names ≡ stem → o ≡ outcome_of w → WorkSays task metric bound limit exact begin names old new said says w → BundleAnswer task metric bound limit exact begin stem old new said says o
 BundleAnswer-told_at task metric bound limit exact begin stem {names} old new said says o w same is work_says =
     subst (λ s. BundleAnswer task metric bound limit exact begin s old new said says o) same

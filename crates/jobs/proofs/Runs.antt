@@ -136,7 +136,8 @@ module _ {words : List Bytes} {old new : FilesTold} {said says : SinkTold} where
   pub demo-says : {width bound limit : ℕ} (o : Outcome) → job_of words ≡ Some (demo width bound limit)
       → BundleAnswer Refine (one_word Abs) bound limit (demo_net width) (demo_net width) demo_stem old new said says o → RunSays words old new said says o
   demo-says {width} {bound} {limit} o named answer =
-      job_says (demo width bound limit) o named (bundle_is_no_usage Refine (one_word Abs) bound limit (demo_net width) (demo_net width) demo_stem old new said says (told_query o.spent) (told_query o.level) o.status answer)
+      job_says (demo width bound limit) o named
+      (bundle_is_no_usage Refine (one_word Abs) bound limit (demo_net width) (demo_net width) demo_stem old new said says (told_query o.spent) (told_query o.level) o.status answer)
       (bundle_spends Refine (one_word Abs) bound limit (demo_net width) (demo_net width) demo_stem old new said says (told_query o.spent) (told_query o.level) o.status answer) answer
 
 -- a quiet run ends as it was asked to

@@ -9,5 +9,6 @@ use Rattle.jobs.proofs.demonstration.demonstrate.Goals as goal
 
 pub returns : goal.returns
 returns g c =
-    BundleAnswer-told_at Refine (one_word Abs) c.args.bound c.args.limit (demo_net c.args.width) (demo_net c.args.width) demo_stem (g.F.Files.told c.args.files.now) (g.F.Files.told c.demonstrate.new.files)
+    BundleAnswer-told_at Refine (one_word Abs) c.args.bound c.args.limit (demo_net c.args.width) (demo_net c.args.width) demo_stem (g.F.Files.told c.args.files.now)
+    (g.F.Files.told c.demonstrate.new.files)
     (g.K.Sink.told c.args.say.now) (g.K.Sink.told c.demonstrate.new.say) c.outcome_of.result c.demonstrate.result refl c.outcome_of.ensures c.demonstrate.ensures
