@@ -15,7 +15,8 @@ returns-in-Check g c = λ said.
 pub returns-in-Confirm : goal.returns-in-Confirm
 returns-in-Confirm g c = λ said.
     subst
-    (λ (f : Command). JobAnswer (job_meaning f) (g.F.Files.told c.args.files.now) (g.F.Files.told c.check-in-Confirm.new.files) said said (record { status = c.check-in-Confirm.result; spent = None; level = None }))
+    (λ (f : Command). JobAnswer (job_meaning f) (g.F.Files.told c.args.files.now) (g.F.Files.told c.check-in-Confirm.new.files) said said
+    (record { status = c.check-in-Confirm.result; spent = None; level = None }))
     (sym c.in-Confirm.is)
     (c.check-in-Confirm.ensures said)
 
