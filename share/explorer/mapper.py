@@ -44,6 +44,11 @@ def found():
     return next((path for path in map(shutil.which, NAMES) if path), None)
 
 
+def undated(data):
+    """A netlist without its comments: ABC writes the time into one, and the same netlist is to have the same bytes."""
+    return b"".join(line for line in data.splitlines(keepends=True) if not line.startswith(b"#"))
+
+
 class Mapper:
     """ABC at its path, run by the children of a run."""
 
@@ -61,7 +66,7 @@ class Mapper:
             number, said, told, _ = self.children.run(words, folder, SECONDS)
             try:
                 with open(os.path.join(folder, "out.blif"), "rb") as file:
-                    return said, file.read()
+                    return said, undated(file.read())
             except OSError:
                 lines = (told + said).strip().split("\n")
                 raise Failed("ABC failed (%d) on `%s`: %s" % (number, script, lines[-1])) from None

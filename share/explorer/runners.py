@@ -12,9 +12,11 @@ import threading
 import time
 
 from explorer import store
-from explorer.children import Ended
+from explorer.children import Ended, end
 
 PAUSE = 0.2
+# Seconds that an answer from another machine may take to be seen, behind the end of its job.
+GRACE = 3.0
 # The most elements of an array job; each performs several lines where there are more.
 MOST_ELEMENTS = 1000
 
@@ -77,15 +79,17 @@ class Remote:
         forwarding = threading.Thread(target=forward, args=(child.stderr,), daemon=True)
         forwarding.start()
         try:
+            ended = None
             while left and not is_over():
-                has_ended = child.poll() is not None
+                if ended is None and child.poll() is not None:
+                    ended = time.monotonic()
                 for key in list(left):
                     recipe, asked = left[key]
                     answer = self.trial.store.answer(asked)
                     if answer is not None:
                         del left[key]
                         yield recipe, dict(answer, is_kept=False)
-                if has_ended:
+                if ended is not None and time.monotonic() - ended >= self.grace():
                     break
                 time.sleep(PAUSE)
             for recipe, _ in left.values() if child.poll() is not None else ():
@@ -104,6 +108,10 @@ class Remote:
         self.trial.store.write("jobs.%d" % self.round, ("\n".join(lines) + "\n").encode())
         return self.trial.store.path("jobs.%d" % self.round)
 
+    def grace(self):
+        """Only where other machines may be at work, answers may come later than the end of their jobs."""
+        return GRACE if self.words else 0.0
+
     def stop(self, child):
         """Ends what runs the jobs, where it still runs."""
         for _ in range(2):
@@ -113,8 +121,7 @@ class Remote:
                     child.wait(5)
                 except subprocess.TimeoutExpired:
                     pass
-        if child.poll() is None:
-            child.kill()
+        end(child)
         child.wait()
 
     def refuse_failure(self, child):
@@ -163,6 +170,9 @@ class Slurm(Remote):
         child = begun(["sbatch", "--wait", "--parsable", *self.words, script], stdin=subprocess.DEVNULL, stdout=subprocess.PIPE)
         threading.Thread(target=self.read_number, args=(child.stdout,), daemon=True).start()
         return child
+
+    def grace(self):
+        return GRACE
 
     def read_number(self, source):
         for line in source:

@@ -32,10 +32,10 @@ class Search:
     def __init__(self, performed, options, tell):
         self.runner, self.options, self.tell = performed, options, tell
         self.tries, self.done, self.told = [], set(), set()
+        self.planned = 0
         self.rewritings = [*trial.OWN, *(mapper.REWRITINGS if options.abc else ())]
         self.is_stopped = False
         self.end = self.asked = None
-        self.good = []
 
     # What is tried.
 
@@ -91,7 +91,7 @@ class Search:
         while idle < PATIENCE and not self.is_over():
             turn += 1
             before = rank(self.best(bound)[0])[:1] if self.best(bound) else None
-            parents = self.best(bound)[idle * KEPT:(idle + 1) * KEPT]
+            parents = (self.best(bound) or self.best(bound, is_any_depth=True))[idle * KEPT:(idle + 1) * KEPT]
             recipes = self.onward(bound, parents, turn)
             number = 1 + turn
             recipes += [(it, None) for it in self.fresh(bound, number)[-len(self.rewritings):][:FRESH]]
@@ -121,15 +121,19 @@ class Search:
             todo = todo[:max(0, self.asked)]
         if not todo or self.is_over(until, is_waited):
             return
+        # A try has the number of its place in the plan, whoever ends first, so that the same words find the same winner.
+        numbers = {tuple(sorted(recipe.items())): self.planned + at for at, recipe in enumerate(todo, 1)}
+        self.planned += len(todo)
         for recipe, answer in self.runner.run(todo, lambda: self.is_over(until, is_waited) or self.tell(self)):
-            self.add(number, recipe, beginnings[tuple(sorted(recipe.items()))], answer)
+            key = tuple(sorted(recipe.items()))
+            self.add(numbers[key], number, recipe, beginnings[key], answer)
 
-    def add(self, number, recipe, parent, answer):
+    def add(self, place, number, recipe, parent, answer):
         """One more try; what can't be used is told once."""
         beginning = "IN" if parent is None else "try %d" % parent.number
         if recipe["rewriting"] != "as it is":
             beginning += ", " + recipe["rewriting"]
-        one = Try(len(self.tries) + 1, number, recipe["bound"], beginning, recipe["order"], recipe["is_refined"], answer)
+        one = Try(place, number, recipe["bound"], beginning, recipe["order"], recipe["is_refined"], answer)
         self.tries.append(one)
         if self.asked is not None:
             self.asked -= one.is_refined
@@ -139,9 +143,10 @@ class Search:
 
     # What was found.
 
-    def best(self, bound, exactly=False):
+    def best(self, bound, exactly=False, is_any_depth=False):
         """The tries within a bound from the best on, one for each netlist that would be built."""
-        fitting = [it for it in self.tries if not it.answer["number"] and depth_fits(it, self.options.most_depth)
+        most_depth = None if is_any_depth else self.options.most_depth
+        fitting = [it for it in self.tries if not it.answer["number"] and depth_fits(it, most_depth)
                    and (it.bound == str(bound) if exactly else int(it.bound) <= bound)]
         found = {}
         for one in sorted(fitting, key=rank):

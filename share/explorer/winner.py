@@ -43,7 +43,8 @@ class Bundle:
         """The report of a bundle that is verified, and by which job; else None and why it is not."""
         setting, nets = self.trial.setting, one.answer["nets"]
         # Literals are those that the program leaves, so its own bundle, which may say `minimal yes`, is taken.
-        job = "refine" if setting["area"] == "literals" and one.is_refined else "certify"
+        is_own = setting["area"] == "literals" and one.is_refined and one.bound == str(self.bound)
+        job = "refine" if is_own else "certify"
         second = nets["start"] if job == "refine" else nets["built"]
         for name, data in (("in.blif", self.trial.exact), ("second.blif", self.trial.store.net(second))):
             with open(os.path.join(folder, name), "wb") as file:
