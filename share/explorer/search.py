@@ -16,6 +16,10 @@ WAY = 0.3
 Try = collections.namedtuple("Try", "number round bound beginning order is_refined answer")
 
 
+def key_of(recipe):
+    return tuple(sorted(recipe.items()))
+
+
 def depth_fits(one, most_depth):
     return most_depth is None or one.answer["depth"] <= most_depth
 
@@ -35,7 +39,7 @@ class Search:
         self.planned = 0
         self.rewritings = [*trial.OWN, *(mapper.REWRITINGS if options.abc else ())]
         self.is_stopped = False
-        self.end = self.asked = None
+        self.end = self.asked = self.awaited = None
 
     # What is tried.
 
@@ -62,19 +66,28 @@ class Search:
     # Rounds.
 
     def at(self, bound, smaller):
-        """Searches at a bound, with the results of smaller ones as beginnings: the best first of all that fit in."""
+        """Searches at a bound, from IN and from the results of smaller bounds: what fits in, the best first."""
         self.end = time.monotonic() + self.options.seconds if self.options.seconds else None
         self.asked = self.options.tries
         self.bound = bound
-        unrefined = [self.recipe(bound, self.options.exact, "as it is", "as it is", False)]
-        self.round(0, [(it, None) for it in unrefined + self.fresh(bound, 0)[:1]], is_waited=True)
-        first = self.fresh(bound, 1)
+        self.awaited = None
+        below = self.handed_on(bound)
+        self.round(0, [(self.recipe(bound, self.options.exact, "as it is", "as it is", False), None)])
+        first = [(it, None) for it in self.fresh(bound, 1)]
+        # The first try is that of `synth`, which is waited for.
+        self.awaited = key_of(first[0][0])
+        self.round(1, first[:1] + self.onward(bound, below, 0) + first[1:])
+        self.awaited = None
         for rung in self.rungs(bound, smaller):
-            self.round(0, [(it, None) for it in self.fresh(rung, 0)[:2 * len(self.rewritings)]], until=self.way_end())
-        below = [it for rung in {int(it.bound) for it in self.tries} if rung < bound for it in self.best(rung, exactly=True)[:HANDED_ON]]
-        self.round(1, [(it, None) for it in first] + self.onward(bound, below, 0) + self.onward(bound, below, 1))
+            self.round(1, [(it, None) for it in self.fresh(rung, 0)[:2 * len(self.rewritings)]], until=self.way_end())
+        self.round(1, self.onward(bound, self.handed_on(bound), 1))
         self.rounds(bound)
         return self.best(bound)
+
+    def handed_on(self, bound):
+        """The best few of the two greatest smaller bounds."""
+        rungs = sorted({int(it.bound) for it in self.tries if int(it.bound) < bound})
+        return [it for rung in rungs[-2:] for it in self.best(rung, exactly=True)[:HANDED_ON]]
 
     def rungs(self, bound, smaller):
         """The smaller bounds on the way to this one that are not searched by themselves."""
@@ -83,12 +96,14 @@ class Search:
         return sorted({bound // 4, bound // 2} - set(smaller) - {bound})
 
     def way_end(self):
-        return self.end and self.end - (1 - WAY) * self.options.seconds
+        """Until when a smaller bound on the way is searched."""
+        now = time.monotonic()
+        return self.end and now + WAY * max(0, self.end - now)
 
     def rounds(self, bound):
         """Rounds until one after another has brought nothing."""
         turn, idle = 1, 0
-        while idle < PATIENCE and not self.is_over():
+        while idle < PATIENCE and not self.is_over(self.end) and self.asked != 0:
             turn += 1
             before = rank(self.best(bound)[0])[:1] if self.best(bound) else None
             parents = (self.best(bound) or self.best(bound, is_any_depth=True))[idle * KEPT:(idle + 1) * KEPT]
@@ -102,30 +117,31 @@ class Search:
             if len(self.tries) == count and not parents:
                 return
 
-    def is_over(self, until=None, is_waited=False):
-        if self.is_stopped or (self.asked is not None and self.asked <= 0):
+    def is_over(self, until):
+        """Whether nothing more is to be waited for."""
+        if self.is_stopped:
             return True
-        until = until or self.end
-        return until is not None and not is_waited and time.monotonic() > until
+        return until is not None and self.awaited is None and time.monotonic() > until
 
-    def round(self, number, recipes, until=None, is_waited=False):
+    def round(self, number, recipes, until=None):
         """Performs what was not performed before, and keeps what comes of it."""
+        until = until or self.end
         beginnings, todo = {}, []
         for recipe, parent in recipes:
-            key = tuple(sorted(recipe.items()))
-            if key not in self.done:
-                self.done.add(key)
-                beginnings[key] = parent
+            if key_of(recipe) not in self.done:
+                self.done.add(key_of(recipe))
+                beginnings[key_of(recipe)] = parent
                 todo.append(recipe)
         if self.asked is not None:
-            todo = todo[:max(0, self.asked)]
-        if not todo or self.is_over(until, is_waited):
+            todo = todo[:max(self.asked, number == 0)]
+        if not todo or self.is_over(until):
             return
         # A try has the number of its place in the plan, whoever ends first, so that the same words find the same winner.
-        numbers = {tuple(sorted(recipe.items())): self.planned + at for at, recipe in enumerate(todo, 1)}
+        numbers = {key_of(recipe): self.planned + at for at, recipe in enumerate(todo, 1)}
         self.planned += len(todo)
-        for recipe, answer in self.runner.run(todo, lambda: self.is_over(until, is_waited) or self.tell(self)):
-            key = tuple(sorted(recipe.items()))
+        for recipe, answer in self.runner.run(todo, lambda: self.tell(self) or self.is_over(until)):
+            key = key_of(recipe)
+            self.awaited = None if key == self.awaited else self.awaited
             self.add(numbers[key], number, recipe, beginnings[key], answer)
 
     def add(self, place, number, recipe, parent, answer):

@@ -10,7 +10,7 @@ NUMBER = re.compile(r"0|[1-9][0-9]*")
 AREAS = ("ands", "luts4", "luts6", "literals", "cells")
 RUNS = ("local", "parallel", "slurm")
 # Options that take a number, with the least one.
-COUNTS = {"--tries": 1, "--seconds": 0, "--jobs": 1, "--seed": 0, "--most-depth": 0}
+COUNTS = {"--tries": 1, "--seconds": 1, "--jobs": 1, "--seed": 0, "--most-depth": 0}
 DEFAULT_SECONDS = 60
 
 
