@@ -78,8 +78,8 @@ class Remote:
         child = self.started(file, len(left))
         forwarding = threading.Thread(target=forward, args=(child.stderr,), daemon=True)
         forwarding.start()
+        ended = None
         try:
-            ended = None
             while left and not is_over():
                 if ended is None and child.poll() is not None:
                     ended = time.monotonic()
@@ -92,11 +92,12 @@ class Remote:
                 if ended is not None and time.monotonic() - ended >= self.grace():
                     break
                 time.sleep(PAUSE)
-            for recipe, _ in left.values() if child.poll() is not None else ():
+            if left and ended is not None:
+                self.refuse_failure(child)
+            for recipe, _ in left.values() if ended is not None else ():
                 yield recipe, {"number": 26, "line": "salsa: a job left no answer", "nets": {}, "is_kept": False}
         finally:
-            self.stop(child)
-        self.refuse_failure(child)
+            self.stop(child, is_done=not left)
 
     def job_file(self, left):
         """The file of lines, each of which performs one try, with a file for each try beside it."""
@@ -112,8 +113,13 @@ class Remote:
         """Only where other machines may be at work, answers may come later than the end of their jobs."""
         return GRACE if self.words else 0.0
 
-    def stop(self, child):
-        """Ends what runs the jobs, where it still runs."""
+    def stop(self, child, is_done):
+        """Ends what runs the jobs, where it still runs; where all is done it ends by itself."""
+        if is_done:
+            try:
+                child.wait(60)
+            except subprocess.TimeoutExpired:
+                pass
         for _ in range(2):
             if child.poll() is None:
                 child.send_signal(signal.SIGTERM)
@@ -125,7 +131,7 @@ class Remote:
         child.wait()
 
     def refuse_failure(self, child):
-        """Only the store says what was done."""
+        """Refuses what ended by itself and failed; else only the store says what was done."""
 
 
 def forward(source):
@@ -178,10 +184,10 @@ class Slurm(Remote):
         for line in source:
             self.number = self.number or line.strip().partition(";")[0]
 
-    def stop(self, child):
-        if child.poll() is None and self.number:
+    def stop(self, child, is_done):
+        if child.poll() is None and self.number and not is_done:
             subprocess.run(["scancel", self.number], stdin=subprocess.DEVNULL, check=False)
-        super().stop(child)
+        super().stop(child, is_done)
 
     def refuse_failure(self, child):
         if child.returncode > 0 and not self.number:
