@@ -3,13 +3,17 @@
 A literal is twice the number of a node, and one more where it is turned over. Node 0 is the constant false, then come
 the inputs, and then the ANDs, each behind its operands.
 """
+import collections
+
 from explorer.netlist import Net, Table, topological
 
 FALSE, TRUE = 0, 1
+# Tables of more rows are joined row by row.
+MOST_FACTORED = 1000
 
 
 class Graph:
-    """ANDs over inputs. `turned` joins operands from the right, which makes another graph of the same function."""
+    """ANDs over inputs. `turned` takes operands from the last on, which makes another graph of the same function."""
 
     def __init__(self, inputs, turned=False):
         self.inputs, self.turned = inputs, turned
@@ -60,8 +64,30 @@ class Graph:
 
     def table(self, pins, rows, plane):
         """The literal of a table over literals."""
-        products = [self.all_of(pin ^ (mark == "0") for mark, pin in zip(marks, pins) if mark != "-") for marks in rows]
-        return self.all_of(it ^ 1 for it in products) ^ (plane == "1")
+        products = [frozenset(pin ^ (mark == "0") for mark, pin in zip(marks, pins) if mark != "-") for marks in rows]
+        return self.any_of(products) ^ (plane == "0")
+
+    def any_of(self, products):
+        """The literal that some of these products holds: the literal that most of them have stands before a bracket, as long
+        as two have it."""
+        terms = []
+        while products:
+            literal, count = self.most_common(products)
+            if count < 2 or len(products) > MOST_FACTORED:
+                terms += map(self.all_of, products)
+                break
+            inner = self.any_of([it - {literal} for it in products if literal in it])
+            terms.append(self.conjunction(literal, inner))
+            products = [it for it in products if literal not in it]
+        none = TRUE
+        for it in terms:
+            none = self.conjunction(none, it ^ 1)
+        return none ^ 1
+
+    def most_common(self, products):
+        """The literal that most products have, and how many have it."""
+        counts = collections.Counter(it for product in products for it in product)
+        return max(counts.items(), key=lambda it: (it[1], it[0] if self.turned else -it[0]), default=(TRUE, 0))
 
 
 def graph_of(net, turned=False):
@@ -118,6 +144,11 @@ def net_of_graph(net, graph, outputs):
 def and_table(names, node, pair):
     marks = "".join("0" if it & 1 else "1" for it in pair)
     return Table(names[node], tuple(names[it >> 1] for it in pair), (marks,), "1")
+
+
+def smaller(net):
+    """The smaller of both graphs, as `hashed` gives them."""
+    return min((hashed(net, it) for it in (False, True)), key=lambda it: it[1:])
 
 
 def hashed(net, turned=False):

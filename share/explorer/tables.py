@@ -37,7 +37,7 @@ def bound_row(words, bound, found, before, count, seconds):
     """The row of a bound with its winner."""
     one, report, verified_by = found
     answer = one.answer
-    return [words.metric, bound, report["maximum"][0], words.area, shown(before["area"]), shown(answer["area"]), before["depth"],
+    return [words.metric, bound, report["maximum"][0], words.told_area, shown(before["area"]), shown(answer["area"]), before["depth"],
             answer["depth"], *report["literals"], shown(answer["mean"]), shown(answer["rate"]), counted(answer), verified_by,
             report["minimal"][0], count, "%.1f" % seconds, one.beginning, one.order]
 

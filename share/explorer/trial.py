@@ -142,7 +142,7 @@ class Trial:
             net = netlist.net_of(data.decode("latin-1"))
             if area == "literals":
                 return netlist.literals_of(net), netlist.depth_of(net), data
-            made, ands, depth = graph.hashed(net)
+            made, ands, depth = graph.smaller(net)
             return ands, depth, netlist.text_of(made).encode("latin-1")
         return self.mapper.built(area, data, self.library)
 
