@@ -79,8 +79,7 @@ class Mapper:
         """The area, the depth, and the netlist as it is built."""
         script, word = BUILDINGS[area]
         if area == "cells":
-            reads = "read_lib" if library[0].endswith(".lib") else "read_genlib"
-            script = "%s %s; %s; print_stats; unmap" % (reads, library[0], script)
+            script = "read_genlib %s; %s; print_stats; unmap" % (library[0], script)
         else:
             script += "; print_stats"
         said, net = self.script(script, data, library)

@@ -70,8 +70,8 @@ def option(found, word, left):
             raise Usage("--area is one of %s, not `%s`" % (", ".join(AREAS[:-1]) + " or cells FILE", value))
         found.area = value
         if value == "cells":
-            if not left or not left[0].endswith((".lib", ".genlib")):
-                raise Usage("--area cells takes a library, FILE.lib or FILE.genlib")
+            if not left or not left[0].endswith(".genlib"):
+                raise Usage("--area cells takes a library, FILE.genlib")
             found.library_path = left.pop(0)
     elif word == "--run":
         if value not in RUNS:
