@@ -2,17 +2,17 @@
 _salsa() {
     local word=${COMP_WORDS[COMP_CWORD]} job=${COMP_WORDS[1]} files=
     case $COMP_CWORD,$job in
-    1,*) mapfile -t COMPREPLY < <(compgen -W 'synth certify refine check confirm flat aag blif trim demo approximate explain outputs --hints --help --version' -- "$word") ;;
-    2,synth | 2,certify | 2,refine | 2,check | 2,confirm | 2,trim)
+    1,*) mapfile -t COMPREPLY < <(compgen -W 'synth certify refine check confirm flat aag blif trim demo approximate explore explain outputs --hints --help --version' -- "$word") ;;
+    2,synth | 2,certify | 2,refine | 2,check | 2,confirm | 2,trim | 2,explore)
         local metrics='abs sabs rel ham'
         [[ $word != @(abs|sabs|rel|ham)/* ]] || metrics=$(printf "${word%%/*}/%s " {1..64})
         mapfile -t COMPREPLY < <(compgen -W "$metrics" -- "$word")
         ;;
-    5,synth | 5,certify | 5,refine | 6,certify | 6,refine | 4,check | 4,confirm | 4,trim | 2,flat | 2,aag | 2,outputs)
+    5,synth | 5,explore | 5,certify | 5,refine | 6,certify | 6,refine | 4,check | 4,confirm | 4,trim | 2,flat | 2,aag | 2,outputs)
         files='!*.blif'
         ;;
     2,blif) files='!*.aag' ;;
-    6,synth | 7,certify | 7,refine | 6,trim | 3,flat | 3,aag | 3,blif) mapfile -t COMPREPLY < <(compgen -f -- "$word") ;;
+    6,synth | 6,explore | 7,certify | 7,refine | 6,trim | 3,flat | 3,aag | 3,blif) mapfile -t COMPREPLY < <(compgen -f -- "$word") ;;
     5,check | 5,confirm | 5,trim) mapfile -t COMPREPLY < <(compgen -f -X '!*.txt' -- "$word" | sed 's/\.txt$//') ;;
     esac
     if [ "$job" = approximate ] && [ "$COMP_CWORD" -gt 1 ]; then
@@ -21,6 +21,16 @@ _salsa() {
         else
             files='!*.@(v|sv)'
         fi
+    fi
+    if [ "$job" = explore ] && [[ $word == -* ]]; then
+        mapfile -t COMPREPLY < <(compgen -W '--area --most-depth --tries --seconds --jobs --seed --abc --without-abc --run --help' -- "$word")
+    fi
+    if [ "$job" = explore ] && [ "$COMP_CWORD" -gt 6 ]; then
+        case ${COMP_WORDS[COMP_CWORD-1]} in
+        --area) mapfile -t COMPREPLY < <(compgen -W 'ands luts4 luts6 literals cells' -- "$word") ;;
+        --run) mapfile -t COMPREPLY < <(compgen -W 'local parallel slurm' -- "$word") ;;
+        cells) files='!*.@(lib|genlib)' ;;
+        esac
     fi
     if [ -n "$files" ]; then
         compopt -o filenames 2>/dev/null

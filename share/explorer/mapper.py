@@ -1,0 +1,91 @@
+"""ABC, where it is there: other ways of writing a function, and the area of a netlist as it would be built. No script
+here looks at a bound or changes a function, and where one did, the program would refuse what comes of it.
+"""
+import os
+import re
+import shutil
+import tempfile
+
+NAMES = ("berkeley-abc", "abc", "yosys-abc")
+SECONDS = 120
+RESYN = ("balance; rewrite; refactor; balance; rewrite; rewrite -z; balance; refactor -z; rewrite -z; balance")
+RESUB = ("balance -l; resub -K 6 -l; rewrite -l; resub -K 6 -N 2 -l; refactor -l; resub -K 8 -l; balance -l; "
+         "resub -K 8 -N 2 -l; rewrite -l; resub -K 10 -l; rewrite -z -l; resub -K 10 -N 2 -l; balance -l; resub -K 12 -l; "
+         "refactor -z -l; resub -K 12 -N 2 -l; rewrite -z -l; balance -l")
+# The names of the ways of writing, as the table of tries tells them, in the order in which they are tried.
+REWRITINGS = {
+    "dch": "strash; dc2; dc2; dch",
+    "resyn2": "strash; " + RESYN,
+    "strash": "strash",
+    "lut4": "strash; dch; if -K 4; mfs",
+    "ifraig": "strash; ifraig; " + RESYN + "; dc2",
+    "resub": "strash; " + RESUB,
+    "gates": "strash; dch; dc2; if -g -K 4; strash",
+    "lut6": "strash; dch; if -K 6; mfs",
+    "fx": "strash; dch; if -K 4; sop; fx",
+    "balance": "strash; balance",
+}
+CLEAN = "strash; dc2; %s; dc2; %s" % (RESYN, RESYN)
+# How a netlist is built for each area, and the words of ABC's counts that are its area.
+BUILDINGS = {
+    "ands": (CLEAN, "and"),
+    "luts4": (CLEAN + "; dch; if -K 4; mfs", "nd"),
+    "luts6": (CLEAN + "; dch; if -K 6; mfs", "nd"),
+    "cells": (CLEAN + "; dch; map -a", "area"),
+}
+
+
+class Failed(Exception):
+    """ABC is missing, or did not do what it was asked."""
+
+
+def found():
+    """The path of ABC, or None."""
+    return next((path for path in map(shutil.which, NAMES) if path), None)
+
+
+def undated(data):
+    """A netlist without its comments: ABC writes the time into one, and the same netlist is to have the same bytes."""
+    return b"".join(line for line in data.splitlines(keepends=True) if not line.startswith(b"#"))
+
+
+class Mapper:
+    """ABC at its path, run by the children of a run."""
+
+    def __init__(self, path, children):
+        self.path, self.children = path, children
+
+    def script(self, script, data, library=None):
+        """Runs a script over a netlist, `in.blif`: what ABC said, and the bytes of `out.blif`."""
+        with tempfile.TemporaryDirectory(prefix="salsa-explore-") as folder:
+            for name, bytes_of in (("in.blif", data), library or (None, None)):
+                if name:
+                    with open(os.path.join(folder, name), "wb") as file:
+                        file.write(bytes_of)
+            words = [self.path, "-q", "read_blif in.blif; %s; write_blif out.blif" % script]
+            number, said, told, _ = self.children.run(words, folder, SECONDS)
+            try:
+                with open(os.path.join(folder, "out.blif"), "rb") as file:
+                    return said, undated(file.read())
+            except OSError:
+                lines = (told + said).strip().split("\n")
+                raise Failed("ABC failed (%d) on `%s`: %s" % (number, script, lines[-1])) from None
+
+    def rewritten(self, name, data):
+        """Another netlist of the same function."""
+        return self.script(REWRITINGS[name], data)[1]
+
+    def built(self, area, data, library=None):
+        """The area, the depth, and the netlist as it is built."""
+        script, word = BUILDINGS[area]
+        if area == "cells":
+            reads = "read_lib" if library[0].endswith(".lib") else "read_genlib"
+            script = "%s %s; %s; print_stats; unmap" % (reads, library[0], script)
+        else:
+            script += "; print_stats"
+        said, net = self.script(script, data, library)
+        told = re.search(r"\b%s *= *([0-9.]+).*\blev *= *(\d+)" % word, said)
+        if not told:
+            raise Failed("ABC does not tell the area: %s" % said.strip()[-200:])
+        size = float(told.group(1))
+        return int(size) if size == int(size) else size, int(told.group(2)), net
