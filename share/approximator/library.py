@@ -9,7 +9,8 @@ ENDINGS = (".lib", ".genlib")
 READ_LIBERTY = "read_liberty -ignore_miss_func -ignore_miss_dir -ignore_miss_data_latch library.lib"
 # The functions of the cells, in the place of black boxes of their names.
 READ_CELLS = "read_rtlil -overwrite library.il"
-GATE = re.compile(r'GATE\s+("[^"\n]+"|[^\s"]+)\s+([0-9.]+(?:[eE][-+]?[0-9]+)?)\s+("[^"\n]+"|[^\s="]+)\s*=\s*([\s()!\'*+&|^\w.\[\]<>]+);')
+GATE = re.compile(r"""GATE\s+("[^"\n]+"|[^\s"]+)\s+([0-9.]+(?:[eE][-+]?[0-9]+)?)\s+("[^"\n]+"|[^\s="]+)\s*"""
+                  r"""=\s*([\s()!'*+&|^\w.\[\]<>]+);""")
 CONSTANTS = {"CONST0": "0", "CONST1": "1"}
 PIN = re.compile(r"[A-Za-z_][\w.\[\]<>]*")
 
