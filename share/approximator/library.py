@@ -1,0 +1,54 @@
+"""Libraries of cells: Liberty as Yosys reads it, and genlib as a Liberty file of the same cells."""
+import json
+import re
+
+from approximator.tools import READ, Refused, put_text, text_of, yosys
+
+ENDINGS = (".lib", ".genlib")
+# Registers and cells without a function are no fault of a library: no netlist here has them.
+READ_LIBERTY = "read_liberty -ignore_miss_func -ignore_miss_dir -ignore_miss_data_latch library.lib"
+# The functions of the cells, in the place of black boxes of their names.
+READ_CELLS = "read_rtlil -overwrite library.il"
+GATE = re.compile(r"""GATE\s+("[^"\n]+"|[^\s"]+)\s+([0-9.]+(?:[eE][-+]?[0-9]+)?)\s+("[^"\n]+"|[^\s="]+)\s*"""
+                  r"""=\s*([\s()!'*+&|^\w.\[\]<>]+);""")
+CONSTANTS = {"CONST0": "0", "CONST1": "1"}
+PIN = re.compile(r"[A-Za-z_][\w.\[\]<>]*")
+
+
+def liberty_of(text):
+    """The Liberty text of a genlib's cells; a refusal with the line of the first that is none."""
+    text, cells = re.sub(r"#.*", "", text), {}
+    for begun in re.finditer(r"^[ \t]*(?=GATE\b)", text, re.M):
+        gate = GATE.match(text, begun.end())
+        if not gate:
+            raise Refused(READ, "line %d: wanted is GATE NAME AREA OUTPUT=FUNCTION;" % (text.count("\n", 0, begun.end()) + 1))
+        name, output = gate[1].strip('"'), gate[3].strip('"')
+        # A cell of several outputs stands there several times, and no mapper here takes it.
+        cells[name] = "" if name in cells else cell_text(name, gate[2], output, gate[4])
+    if not cells:
+        raise Refused(READ, "it has no line of GATE")
+    return "library(genlib) {\n%s}\n" % "".join(cells.values())
+
+
+def cell_text(name, area, output, function):
+    """One cell of a genlib as Liberty."""
+    pins = [it for it in dict.fromkeys(PIN.findall(function)) if it not in CONSTANTS]
+    for word, digit in CONSTANTS.items():
+        function = re.sub(r"\b%s\b" % word, digit, function)
+    text = '  cell("%s") {\n    area : %s;\n' % (name, area)
+    text += "".join('    pin("%s") { direction : input; }\n' % it for it in pins)
+    return text + '    pin("%s") { direction : output; function : "%s"; }\n  }\n' % (output, " ".join(function.split()))
+
+
+def prepare(path, scratch):
+    """Puts a library into the folder, and gives back the names of its cells."""
+    try:
+        text = text_of(path)
+        put_text(liberty_of(text) if path.endswith(".genlib") else text, scratch, "library.lib")
+        yosys("read it as Liberty", READ_LIBERTY + "; write_rtlil library.il; write_json library.json", scratch)
+    except Refused as refused:
+        raise Refused(READ, "the library `%s` can't be read: %s" % (path, refused.lines[0]), heard=refused.heard) from None
+    cells = json.loads(text_of(scratch, "library.json"))["modules"]
+    if not cells:
+        raise Refused(READ, "the library `%s` can't be read: no cell in it has a function" % path)
+    return frozenset(cells)
