@@ -19,6 +19,7 @@ use file_core::sink::Sink;
 use file_core::word::Word;
 use job_semantics::growth::Growth;
 use progress::progress::Progress;
+use semantics::metric::Metric;
 use std::alloc::Global;
 use synth_jobs::preparing::Constraint;
 
@@ -63,6 +64,17 @@ fn on_files<F: Files>(alloc: Global, command: Command, files: &mut F) -> Status
     }
 }
 
+/// The error, the bound and the conflicts that words name, as a search takes them.
+fn constraint(metric: Metric, bound: u128, conflicts: u32) -> Constraint
+    ensures { result ≡ record { metric = metric; bound = bound; limit = conflicts } }
+{
+    Constraint {
+        metric,
+        bound,
+        limit: u64::from(conflicts),
+    }
+}
+
 /// Carries out the job that the words name, and tells `progress` how far a search is.
 pub fn carry_out<F: Files, K: Sink, P: Progress>(
     alloc: Global,
@@ -87,11 +99,7 @@ pub fn carry_out<F: Files, K: Sink, P: Progress>(
             input,
             stem,
         } => {
-            let aim = Constraint {
-                metric,
-                bound,
-                limit: u64::from(conflicts),
-            };
+            let aim = constraint(metric, bound, conflicts);
             synthesize(alloc, aim, input, stem, files, say, progress)
         }
         Command::Against {
@@ -103,11 +111,7 @@ pub fn carry_out<F: Files, K: Sink, P: Progress>(
             second,
             stem,
         } => {
-            let aim = Constraint {
-                metric,
-                bound,
-                limit: u64::from(conflicts),
-            };
+            let aim = constraint(metric, bound, conflicts);
             let names = Names {
                 input,
                 second,
