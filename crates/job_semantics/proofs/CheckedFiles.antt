@@ -29,14 +29,17 @@ use Rattle.job_semantics.specs.CheckingLaws.{CheckedFilesLaw, JoinedRunsLaw, Joi
 use Rattle.job_semantics.proofs.BundleFiles.{bundle_files-others}
 use Rattle.job_semantics.proofs.Certificates.{first_failing_law}
 use Rattle.job_semantics.proofs.CertifiedFiles.{certified_files_held}
+use Rattle.proof_semantics.specs.declared.constraint.Constraint.{Constraint}
+use Rattle.job_semantics.specs.Call.{Call}
+use Rattle.job_semantics.specs.declared.claim.Claim.{Claim}
 
 -- a text is read as one net
 pub one_net : (text : Bytes) (N M : NetValue) → IsReadAs text N → IsReadAs text M → N ≡ M
 one_net text N M n m = let both : ◌≡◌ {A = Result NetValue Refusal} (Ok N) (Ok M) = sym n ∙ m in cc
 
 -- a call with a fault is not quiet
-pub not_quiet_check : {growth : Growth} {metric : Metric} {bound : ℕ} {input stem : Bytes} {old new : FilesTold} {said says : SinkTold}
-    → CheckReadFault growth metric bound input stem old new said says → IsQuietCheck growth metric bound input stem old new said says → ⊥
+pub not_quiet_check : {claim : Claim} {input stem : Bytes} {call : Call}
+    → CheckReadFault claim input stem call → IsQuietCheck claim input stem call → ⊥
 not_quiet_check {growth} {metric} {bound} {input} {stem} {old} {new} fault quiet =
     elim quiet.files [
       | inl calm ↦ calm fault.rose
@@ -49,9 +52,9 @@ not_quiet_check {growth} {metric} {bound} {input} {stem} {old} {new} fault quiet
       ]
     ]
 
-module _ {growth : Growth} {metric : Metric} {bound : ℕ} {input stem : Bytes} {old new : FilesTold} {said says : SinkTold} where
-  only_certificates : (end : CheckEnd growth metric bound input stem old new said says) → IsVerifiedEnd end → (a b : Held) → old.held ≡ Some a → new.held ≡ Some b
-      → (exact : NetValue) → IsReadAs (bytes_of a input) exact → CertifiesWith growth exact metric bound (texts_of b stem)
+module _ {claim : Claim} {input stem : Bytes} {call : Call} where
+  only_certificates : (end : CheckEnd claim input stem call) → IsVerifiedEnd end → (a b : Held) → old.held ≡ Some a → new.held ≡ Some b
+      → (exact : NetValue) → IsReadAs (bytes_of a input) exact → CertifiesWith claim exact (texts_of b stem)
   only_certificates (verified v) is a b told tells exact reads =
       subst (λ N. CertifiesWith growth N metric bound (texts_of b stem)) (one_net (bytes_of a input) v.exact exact (v.read.told a b told tells) reads) (v.certificate a b told tells)
   only_certificates (refuted c r) is a b told tells exact reads = absurd is
@@ -60,23 +63,23 @@ module _ {growth : Growth} {metric : Metric} {bound : ℕ} {input stem : Bytes} 
   only_certificates (not_read f) is a b told tells exact reads = absurd is
   only_certificates (endless e) is a b told tells exact reads = absurd is
 
-  module _ (a : Held) (exact : NetValue) (told : old.held ≡ Some a) (held : AreCheckFilesHeld growth metric bound input stem a) where
-    stays_told : IsLeftAlone growth metric bound input stem old new said says → new.held ≡ Some a
+  module _ (a : Held) (exact : NetValue) (told : old.held ≡ Some a) (held : AreCheckFilesHeld claim input stem a) where
+    stays_told : IsLeftAlone claim input stem call → new.held ≡ Some a
     stays_told left = left.still_told a told held
 
-    not_refused : (refusal : Refusal) → InputRefused (λ text. IsRefusedFor text refusal) input old new said says → IsReadAs (bytes_of a input) exact → ⊥
+    not_refused : (refusal : Refusal) → InputRefused (λ text. IsRefusedFor text refusal) input call → IsReadAs (bytes_of a input) exact → ⊥
     not_refused refusal r reads =
         let both : ◌≡◌ {A = Result NetValue Refusal} (Err refusal) (Ok exact) = sym (r.refused.at_entry a told held.input_held) ∙ reads in cc
 
-    not_refuted : (c : Clause) → CheckRefuted c growth metric bound input stem old new said says → IsReadAs (bytes_of a input) exact → CertifiesWith growth exact metric bound (texts_of a stem) → ⊥
+    not_refuted : (c : Clause) → CheckRefuted c claim input stem call → IsReadAs (bytes_of a input) exact → CertifiesWith claim exact (texts_of a stem) → ⊥
     not_refuted c r reads certified =
         let still = stays_told r.untouched in
         let same = one_net (bytes_of a input) r.exact exact (r.read.told a a told still) reads in
-        first_failing_law.refuted growth exact metric bound (texts_of a stem) c
+        first_failing_law.refuted claim exact (texts_of a stem) c
         (subst (λ N. IsFirstFailing growth N metric bound (texts_of a stem) c) same (r.failing a a told still)) certified
 
-    each_certificate : (end : CheckEnd growth metric bound input stem old new said says) → IsReadAs (bytes_of a input) exact → CertifiesWith growth exact metric bound (texts_of a stem)
-        → IsQuietCheck growth metric bound input stem old new said says → IsVerifiedOrNoMemory end ⊎ IsEndlessEnd end
+    each_certificate : (end : CheckEnd claim input stem call) → IsReadAs (bytes_of a input) exact → CertifiesWith claim exact (texts_of a stem)
+        → IsQuietCheck claim input stem call → IsVerifiedOrNoMemory end ⊎ IsEndlessEnd end
     each_certificate (verified v) reads certified quiet = inl tt
     each_certificate (refuted c r) reads certified quiet = absurd (not_refuted c r reads certified)
     each_certificate (refused refusal r) reads certified quiet = absurd (not_refused refusal r reads)
@@ -84,7 +87,7 @@ module _ {growth : Growth} {metric : Metric} {bound : ℕ} {input stem : Bytes} 
     each_certificate (not_read f) reads certified quiet = absurd (not_quiet_check f quiet)
     each_certificate (endless e) reads certified quiet = inr tt
 
-  with_an_end : (end : CheckEnd growth metric bound input stem old new said says) (a : Held) → old.held ≡ Some a → AreCheckFilesHeld growth metric bound input stem a
+  with_an_end : (end : CheckEnd claim input stem call) (a : Held) → old.held ≡ Some a → AreCheckFilesHeld claim input stem a
       → AreShort stem a → ¬ IsEndlessEnd end
   with_an_end (endless e) a told held short is =
       let still = e.untouched.still_told a told held in
@@ -105,16 +108,16 @@ checked_files_law = record {
 
 -- ---- two runs joined
 
-no_end : (growth : Growth) (metric : Metric) (bound : ℕ) (input stem : Bytes) (old new : FilesTold) (said says : SinkTold) (end : CheckEnd growth metric bound input stem old new said says)
+no_end : (claim : Claim) (input stem : Bytes) (call : Call) (end : CheckEnd claim input stem call)
     → IsVerifiedOrNoMemory end ⊎ IsEndlessEnd end → ¬ IsEndlessEnd end → IsVerifiedOrNoMemory end
-no_end growth metric bound input stem old new said says end (inl well) ends = well
-no_end growth metric bound input stem old new said says end (inr is) ends = absurd (ends is)
+no_end claim input stem call end (inl well) ends = well
+no_end claim input stem call end (inr is) ends = absurd (ends is)
 
-pub certificate-verifies : {growth : Growth} {metric : Metric} {bound : ℕ} {input stem : Bytes} (held : Held) (exact : NetValue)
-    → IsReadAs (bytes_of held input) exact → CertifiesWith growth exact metric bound (texts_of held stem) → VerifiesWith growth metric bound input stem held
-certificate-verifies {growth} {metric} {bound} {input} {stem} held exact reads certified = λ old new said says told short quiet end.
-    let files : AreCheckFilesHeld growth metric bound input stem held = certified_files_held growth exact metric bound stem held certified reads in
-    no_end growth metric bound input stem old new said says end (each_certificate held exact told files end reads certified quiet) (with_an_end end held told files short)
+pub certificate-verifies : {claim : Claim} {input stem : Bytes} (held : Held) (exact : NetValue)
+    → IsReadAs (bytes_of held input) exact → CertifiesWith claim exact (texts_of held stem) → VerifiesWith claim input stem held
+certificate-verifies {growth} {metric} {bound} {input} {stem} held exact reads certified = λ call told short quiet end.
+    let files : AreCheckFilesHeld claim input stem held = certified_files_held claim exact stem held certified reads in
+    no_end claim input stem call end (each_certificate held exact told files end reads certified quiet) (with_an_end end held told files short)
 
 -- a name that is no file of the bundle is none of the five
 pub apart : (name stem : Bytes) (endings : List Ending) → list_any (λ ending. bytes_eq name (bundle_name stem ending)) endings ≡ false
@@ -148,26 +151,25 @@ module _ (metric : Metric) (bound : ℕ) (input stem : Bytes) (words : IsTrue (a
   reads_after : IsReadAs (bytes_of a input) exact → IsReadAs (bytes_of b input) exact
   reads_after reads = subst (λ found. IsReadAs (unwrap_or found []) exact) (sym input_stays) reads
 
-  pub written_verifies : (growth : Growth) → IsReadAs (bytes_of a input) exact → CertifiesWith growth exact metric bound (texts_of b stem) → VerifiesWith growth metric bound input stem b
+  pub written_verifies : (growth : Growth) → IsReadAs (bytes_of a input) exact → CertifiesWith claim exact (texts_of b stem) → VerifiesWith claim input stem b
   written_verifies growth reads certified = certificate-verifies b exact (reads_after reads) certified
 
 -- the files of a bundle whose net is of an allowed size were written, and IN is none of them
-pub bundle_verifies : (growth : Growth) (task : Task) (metric : Metric) (bound limit : ℕ) (exact begin : NetValue) (input stem : Bytes) (spent : Option SpentValue) (old new : FilesTold)
-    (said says : SinkTold) → IsTrue (are_file_words input stem) → OfInput old new input (λ text. IsReadAs text exact)
-    → (w : BundleWritten task metric bound limit exact begin stem spent old new said says) → IsOfAllowedSize growth exact w.result.net
-    → WhereTold old new (λ a b. VerifiesWith growth metric bound input stem b)
-bundle_verifies growth task metric bound limit exact begin input stem spent old new said says words read w size a b told tells =
-    written_verifies metric bound input stem words a b (bundle_text (synth_bundle task exact metric bound w.result w.log)) exact (w.files.held a b told tells) growth
+pub bundle_verifies : (growth : Growth) (task : Task) (aim : Constraint) (exact begin : NetValue) (input stem : Bytes) (spent : Option SpentValue) (call : Call) → IsTrue (are_file_words input stem) → OfInput old new input (λ text. IsReadAs text exact)
+    → (w : BundleWritten task aim exact begin stem spent call) → IsOfAllowedSize growth exact w.result.net
+    → WhereTold old new (λ a b. VerifiesWith claim input stem b)
+bundle_verifies growth task aim exact begin input stem spent call words read w size a b told tells =
+    written_verifies metric bound input stem words a b (bundle_text (synth_bundle task metric bound exact w.result w.log)) exact (w.files.held a b told tells) growth
     (read.told a b told tells) (w.certificate growth size a b told tells)
 
 pub joined_runs_law : JoinedRunsLaw
-joined_runs_law metric bound limit input stem spent old new said says words done =
-    bundle_verifies Refused Refine metric bound limit done.exact done.exact input stem spent old new said says words done.read done.written
+joined_runs_law aim input stem spent call words done =
+    bundle_verifies Refused Refine aim done.exact done.exact input stem spent call words done.read done.written
     (λ is. (done.written.right.tables, done.written.right.literals))
 
 pub joined_task_law : JoinedTaskLaw
-joined_task_law task metric bound limit input second stem spent old new said says words done a b told tells = (
-  bundle_verifies Allowed task metric bound limit done.exact done.begin input stem spent old new said says words done.read.input_read done.written (λ no. absurd (cc no)) a b told tells,
+joined_task_law task aim input second stem spent call words done a b told tells = (
+  bundle_verifies Allowed task aim done.exact done.begin input stem spent call words done.read.input_read done.written (λ no. absurd (cc no)) a b told tells,
   λ tables literals.
-      bundle_verifies Refused task metric bound limit done.exact done.begin input stem spent old new said says words done.read.input_read done.written (λ is. (tables, literals)) a b told tells,
+      bundle_verifies Refused task aim done.exact done.begin input stem spent call words done.read.input_read done.written (λ is. (tables, literals)) a b told tells,
 )

@@ -1,9 +1,11 @@
+use Rattle.job_semantics.specs.Call.{Call}
 pub mod Endings
 pub mod Job
 pub mod Report
 pub mod Bundle
 pub mod Input
 pub mod Shrinking
+pub mod Call
 pub mod Synthesis
 pub mod Laws
 pub mod Examples
