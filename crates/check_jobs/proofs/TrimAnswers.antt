@@ -3,7 +3,6 @@ use Rattle.std.proofs.Common.{◌≡◌, ◌≢◌, ℕ, Bool, true, false, not,
 use Rattle.std.specs.Prelude.{IsTrue}
 use Rattle.semantics.specs.Texts.{Bytes}
 use Rattle.semantics.specs.Net.{NetValue}
-use Rattle.semantics.specs.declared.metric.Metric.{Metric}
 use Rattle.blif_semantics.specs.Reading.{Refusal}
 use Rattle.outside_semantics.specs.Outside.{Held, FilesTold, SinkTold, Goes, bytes_of}
 use Rattle.outside_semantics.specs.WrittenFiles.{File, with_files, IsCutAt, IsCutShort}
@@ -18,7 +17,8 @@ use Rattle.proof_semantics.specs.Lrat.{lrat_text}
 use Rattle.trim_semantics.specs.Trimmed.{IsTrimmed}
 use Rattle.job_semantics.specs.Endings.{is_bundle_name}
 use Rattle.job_semantics.specs.Job.{are_file_words, is_output_word, are_trim_words}
-use Rattle.job_semantics.specs.declared.growth.Growth.TheVariants.{Refused}
+use Rattle.job_semantics.specs.Call.{Call}
+use Rattle.job_semantics.specs.declared.claim.Claim.{Claim}
 use Rattle.job_semantics.specs.Certificate.{Texts, texts_of, OfBundle}
 use Rattle.job_semantics.specs.Checking.{CheckEnd, verified, refuted, refused, out_of_memory, not_read, endless, IsLeftAlone, IsQuietCheck}
 use Rattle.job_semantics.specs.Conversion.{output_file}
@@ -26,25 +26,27 @@ use Rattle.job_semantics.specs.Trimming.{IsTrimmedBundle, TrimCutShort, TrimEnd,
 use Rattle.job_semantics.proofs.BundleNames.{texts_stay}
 use Rattle.job_semantics.specs.Input.{input_reading, IsReadAs}
 use Rattle.bundle.specs.Judging.{FilesKept, IsCause, NothingKnown}
-use Rattle.bundle.specs.Loading.{IsCertificateOf, IsLoaded}
+use Rattle.bundle.specs.Loading.{IsCertificateWith, IsLoaded}
 use Rattle.bundle.specs.declared.loaded.Loaded.TheVariants as load
 use Rattle.job_answers.specs.declared.status.Status.{Status}
 use Rattle.job_answers.specs.declared.status.Status.TheVariants.{Done, Verified, Refuted, NoMemory, WriteFault}
 use Rattle.job_answers.specs.Ends.{EndsWell}
+use Rattle.job_answers.specs.OnFiles.{on_files}
+use Rattle.job_answers.specs.Unread.{answer_of_unread}
 use Rattle.job_answers.proofs.Refusals.{AsksNothing}
 use Rattle.conversions.specs.Input.{NetRead, NetUnread}
 use Rattle.conversions.specs.Answers.{answer_of_writing}
 use Rattle.conversions.proofs.InputReadings.{OfInput-later}
 use Rattle.conversions.proofs.OneFile.{one_steady, written_after, cut_after}
-use Rattle.check_jobs.specs.Answers.{status_of_unread, IsAnswerFor, CheckAnswer, IsTrimAnswer, TrimAnswer, IsCheckAnswerTo, IsTrimAnswerTo}
+use Rattle.check_jobs.specs.Answers.{IsAnswerFor, CheckAnswer, IsTrimAnswer, TrimAnswer, IsCheckAnswerTo, IsTrimAnswerTo}
 use Rattle.check_jobs.specs.Trimmed.{IsTrimmedTo, log_file, TrimmedAnswer}
 use Rattle.check_jobs.proofs.CheckAnswers.{check-no_net, check-no_names, left_alone, original, failing_first, by_cause, check_asks_nothing, is_verified_end, quiet_check_ends}
 
 -- ---- a check that is not verified
 
-module _ (metric : Metric) (bound : ℕ) (input stem output : Bytes) (old new : FilesTold) (said : SinkTold) where
-  as_checked : (answer : Status) (end : CheckEnd Refused metric bound input stem old new said said) → IsAnswerFor end answer → answer ≢ Verified
-      → TrimAnswer metric bound input stem output old new said said answer
+module _ (claim : Claim) (input stem output : Bytes) (old new : FilesTold) (said : SinkTold) where
+  as_checked : (answer : Status) (end : CheckEnd claim input stem (on_files old new said)) → IsAnswerFor end answer → answer ≢ Verified
+      → TrimAnswer claim input stem output (on_files old new said) answer
   as_checked answer (verified v) is other = absurd (other is)
   as_checked answer (refuted c r) is other = (not_verified (refuted c r) (λ h. h), is)
   as_checked answer (refused refusal r) is other = (not_verified (refused refusal r) (λ h. h), is)
@@ -52,16 +54,16 @@ module _ (metric : Metric) (bound : ℕ) (input stem output : Bytes) (old new : 
   as_checked answer (not_read fault) is other = (not_verified (not_read fault) (λ h. h), is)
   as_checked answer (endless e) is other = (not_verified (endless e) (λ h. h), is)
 
-  pub from_check : (answer : Status) → CheckAnswer Refused metric bound input stem old new said said answer → answer ≢ Verified → TrimAnswer metric bound input stem output old new said said answer
+  pub from_check : (answer : Status) → CheckAnswer claim input stem (on_files old new said) answer → answer ≢ Verified → TrimAnswer claim input stem output (on_files old new said) answer
   from_check answer checked other = as_checked answer checked.0 checked.1 other
 
-  pub trim-no_net : (answer : Status) → NetUnread old new input answer → TrimAnswer metric bound input stem output old new said said answer
+  pub trim-no_net : (answer : Status) → NetUnread old new input answer → TrimAnswer claim input stem output (on_files old new said) answer
   trim-no_net answer unread = from_check answer (check-no_net answer unread) (λ is. subst (NetUnread old new input) is unread)
 
-  pub trim-no_names : (N : NetValue) → NetRead old new input N → TrimAnswer metric bound input stem output old new said said NoMemory
+  pub trim-no_names : (N : NetValue) → NetRead old new input N → TrimAnswer claim input stem output (on_files old new said) NoMemory
   trim-no_names N read = from_check NoMemory (check-no_names read) (λ e. cc)
 
-unread_is_not_verified : (reason : Unread) → status_of_unread reason ≢ Verified
+unread_is_not_verified : (reason : Unread) → answer_of_unread reason ≢ Verified
 unread_is_not_verified unread.Fault e = cc
 unread_is_not_verified unread.OutOfMemory e = cc
 unread_is_not_verified unread.Endless e = cc
@@ -95,9 +97,9 @@ module _ (stem output : Bytes) (other : is_bundle_name stem output ≡ false) (a
       texts_at_cut (subst (λ f. IsCutAt a f b) one.1 (subst (λ w. IsCutAt (with_files a w) short.failed b) one.0 short.cut))
 
 -- the texts are a certificate of this formula and this log, and this is the trimmed log
-trimmed_bundle : (N : NetValue) (metric : Metric) (bound : ℕ) (goal : Formula) (log short : List LogItem) (texts : Texts) → IsTrimmedTo goal.clauses log short
-    → IsCertificateOf N metric bound texts goal log → IsTrimmedBundle N metric bound (lrat_text short) texts
-trimmed_bundle N metric bound goal log short texts t c = record {
+trimmed_bundle : (claim : Claim) (N : NetValue) (goal : Formula) (log short : List LogItem) (texts : Texts) → IsTrimmedTo goal.clauses log short
+    → IsCertificateWith claim N texts goal log → IsTrimmedBundle claim N (lrat_text short) texts
+trimmed_bundle claim N goal log short texts t c = record {
   certificate = c.certifies;
   trimmed = (
     c.parts.0,
@@ -117,28 +119,28 @@ trimmed_bundle N metric bound goal log short texts t c = record {
   );
 }
 
-module _ (metric : Metric) (bound : ℕ) (input stem output : Bytes) (old mid kept : FilesTold) (said : SinkTold) (N : NetValue) (read : NetRead old mid input N)
-    (keeps : FilesKept Refused N metric bound stem NothingKnown mid kept) where
-  trim-refuted : (number : ℕ) → IsLoaded N metric bound stem mid kept (load.Refuted number) → TrimAnswer metric bound input stem output old kept said said (Refuted number)
+module _ (claim : Claim) (input stem output : Bytes) (old mid kept : FilesTold) (said : SinkTold) (N : NetValue) (read : NetRead old mid input N)
+    (keeps : FilesKept claim N stem NothingKnown mid kept) where
+  trim-refuted : (number : ℕ) → IsLoaded claim N stem mid kept (load.Refuted number) → TrimAnswer claim input stem output (on_files old kept said) (Refuted number)
   trim-refuted number judged = (not_verified (refuted judged.0 (failing_first read keeps judged.0 judged.2)) (λ h. h), ap Refuted judged.1)
 
-  trim-unread : (reason : Unread) → IsCause Refused N metric bound stem NothingKnown mid kept reason → TrimAnswer metric bound input stem output old kept said said (status_of_unread reason)
-  trim-unread reason cause = from_check metric bound input stem output old kept said (status_of_unread reason) (by_cause read keeps reason cause) (unread_is_not_verified reason)
+  trim-unread : (reason : Unread) → IsCause claim N stem NothingKnown mid kept reason → TrimAnswer claim input stem output (on_files old kept said) (answer_of_unread reason)
+  trim-unread reason cause = from_check claim input stem output old kept said (answer_of_unread reason) (by_cause read keeps reason cause) (unread_is_not_verified reason)
 
-  left : IsLeftAlone Refused metric bound input stem old kept said said
+  left : IsLeftAlone claim input stem (on_files old kept said)
   left = left_alone read keeps
 
   module _ (other : is_bundle_name stem output ≡ false) (goal : Formula) (log : List LogItem)
-      (certified : OfBundle mid kept stem (λ texts. IsCertificateOf N metric bound texts goal log)) (new : FilesTold) where
+      (certified : OfBundle mid kept stem (λ texts. IsCertificateWith claim N texts goal log)) (new : FilesTold) where
     bundle_at : (short : List LogItem) → IsTrimmedTo goal.clauses log short → Goes kept new
-        → ((a b : Held) → kept.held ≡ Some a → new.held ≡ Some b → texts_of b stem ≡ texts_of a stem) → OfBundle old new stem (IsTrimmedBundle N metric bound (lrat_text short))
+        → ((a b : Held) → kept.held ≡ Some a → new.held ≡ Some b → texts_of b stem ≡ texts_of a stem) → OfBundle old new stem (IsTrimmedBundle claim N (lrat_text short))
     bundle_at short t goes same = λ a b told tells.
         let k = held_before kept new goes b tells in
         let m = held_before mid kept keeps.goes k.0 k.1 in
-        subst (IsTrimmedBundle N metric bound (lrat_text short)) (sym (same k.0 b k.1 tells))
-        (trimmed_bundle N metric bound goal log short (texts_of k.0 stem) t (certified m.0 k.0 m.1 k.1))
+        subst (IsTrimmedBundle claim N (lrat_text short)) (sym (same k.0 b k.1 tells))
+        (trimmed_bundle claim N goal log short (texts_of k.0 stem) t (certified m.0 k.0 m.1 k.1))
 
-    trim-stands : (answer : Status) → TrimmedAnswer goal.clauses log output kept new answer → TrimAnswer metric bound input stem output old new said said answer
+    trim-stands : (answer : Status) → TrimmedAnswer goal.clauses log output kept new answer → TrimAnswer claim input stem output (on_files old new said) answer
     trim-stands Done (short, t, w) = (
       done (record {
         exact = N;
@@ -160,30 +162,30 @@ module _ (metric : Metric) (bound : ℕ) (input stem output : Bytes) (old mid ke
       refl,
     )
     trim-stands NoMemory same =
-        (not_verified (out_of_memory (subst (λ n. IsLeftAlone Refused metric bound input stem old n said said) (sym same) left)) (λ h. h), refl)
+        (not_verified (out_of_memory (subst (λ n. IsLeftAlone claim input stem (on_files old n said)) (sym same) left)) (λ h. h), refl)
     trim-stands _ bad = absurd bad
 
 -- the bundle's names are those of the stem
-module _ (metric : Metric) (bound : ℕ) (input stem output names : Bytes) (old mid kept : FilesTold) (said : SinkTold) (N : NetValue) (same : names ≡ stem)
-    (read : NetRead old mid input N) (keeps : FilesKept Refused N metric bound names NothingKnown mid kept) where
-  of_stem : FilesKept Refused N metric bound stem NothingKnown mid kept
-  of_stem = subst (λ s. FilesKept Refused N metric bound s NothingKnown mid kept) same keeps
+module _ (claim : Claim) (input stem output names : Bytes) (old mid kept : FilesTold) (said : SinkTold) (N : NetValue) (same : names ≡ stem)
+    (read : NetRead old mid input N) (keeps : FilesKept claim N names NothingKnown mid kept) where
+  of_stem : FilesKept claim N stem NothingKnown mid kept
+  of_stem = subst (λ s. FilesKept claim N s NothingKnown mid kept) same keeps
 
-  pub trim-refuted_at : (number : ℕ) → IsLoaded N metric bound names mid kept (load.Refuted number) → TrimAnswer metric bound input stem output old kept said said (Refuted number)
+  pub trim-refuted_at : (number : ℕ) → IsLoaded claim N names mid kept (load.Refuted number) → TrimAnswer claim input stem output (on_files old kept said) (Refuted number)
   trim-refuted_at number judged =
-      trim-refuted metric bound input stem output old mid kept said N read of_stem number (subst (λ s. IsLoaded N metric bound s mid kept (load.Refuted number)) same judged)
+      trim-refuted claim input stem output old mid kept said N read of_stem number (subst (λ s. IsLoaded claim N s mid kept (load.Refuted number)) same judged)
 
-  pub trim-unread_at : (reason : Unread) (answer : Status) → IsCause Refused N metric bound names NothingKnown mid kept reason → answer ≡ status_of_unread reason
-      → TrimAnswer metric bound input stem output old kept said said answer
+  pub trim-unread_at : (reason : Unread) (answer : Status) → IsCause claim N names NothingKnown mid kept reason → answer ≡ answer_of_unread reason
+      → TrimAnswer claim input stem output (on_files old kept said) answer
   trim-unread_at reason answer cause is =
-      subst (TrimAnswer metric bound input stem output old kept said said) (sym is)
-      (trim-unread metric bound input stem output old mid kept said N read of_stem reason (subst (λ s. IsCause Refused N metric bound s NothingKnown mid kept reason) same cause))
+      subst (TrimAnswer claim input stem output (on_files old kept said)) (sym is)
+      (trim-unread claim input stem output old mid kept said N read of_stem reason (subst (λ s. IsCause claim N s NothingKnown mid kept reason) same cause))
 
-  pub trim-stands_at : IsTrue (are_trim_words input stem output) → (goal : Formula) (log : List LogItem) → IsLoaded N metric bound names mid kept (load.Good goal log)
-      → (new : FilesTold) (answer : Status) → TrimmedAnswer goal.clauses log output kept new answer → TrimAnswer metric bound input stem output old new said said answer
+  pub trim-stands_at : IsTrue (are_trim_words input stem output) → (goal : Formula) (log : List LogItem) → IsLoaded claim N names mid kept (load.Good goal log)
+      → (new : FilesTold) (answer : Status) → TrimmedAnswer goal.clauses log output kept new answer → TrimAnswer claim input stem output (on_files old new said) answer
   trim-stands_at words goal log judged new answer trimmed =
-      trim-stands metric bound input stem output old mid kept said N read of_stem (no_bundle_name input stem output words) goal log
-      (subst (λ s. OfBundle mid kept s (λ texts. IsCertificateOf N metric bound texts goal log)) same judged.1) new answer trimmed
+      trim-stands claim input stem output old mid kept said N read of_stem (no_bundle_name input stem output words) goal log
+      (subst (λ s. OfBundle mid kept s (λ texts. IsCertificateWith claim N texts goal log)) same judged.1) new answer trimmed
 
 -- the writing of the trimmed log
 pub trimmed-written : {T E : Type 0} (clauses : List clauses.Clause) (log short : List LogItem) (output : Bytes) (old new : FilesTold) (written : Result T E) → IsTrimmed log short
@@ -198,30 +200,30 @@ trim_answer reading Verified other is = absurd (other refl)
 trim_answer reading Done other is = absurd is
 trim_answer reading _ other is = is
 
-module _ {metric : Metric} {bound : ℕ} {input stem output : Bytes} {old new : FilesTold} {said says : SinkTold} where
-  pub trim_asks_nothing : (answer : Status) (end : TrimEnd metric bound input stem output old new said says) → IsTrimAnswer end answer → AsksNothing answer
+module _ {claim : Claim} {input stem output : Bytes} {call : Call} where
+  pub trim_asks_nothing : (answer : Status) (end : TrimEnd claim input stem output call) → IsTrimAnswer end answer → AsksNothing answer
   trim_asks_nothing answer (done d) is = subst AsksNothing (sym is) tt
   trim_asks_nothing answer (not_written cut) is = subst AsksNothing (sym is) tt
   trim_asks_nothing answer (not_verified end other) is = check_asks_nothing answer end is
 
   -- a call with a fault in writing is not quiet
-  not_quiet_write : TrimCutShort metric bound input stem output old new said says → IsQuietTrim metric bound input stem output old new said says → ⊥
+  not_quiet_write : TrimCutShort claim input stem output call → IsQuietTrim claim input stem output call → ⊥
   not_quiet_write cut quiet =
       elim quiet.files [
         | inl calm ↦ calm cut.left.files.rose
         | inr steady ↦
-            let yes : old.steady_write output ≡ true = steady.written (λ a b told tells. (cut.exact, cut.read.told a b told tells, (cut.bundle a b told tells).certificate)) in
-            let not_so : old.steady_write output ≡ false = one_steady old (output_file output cut.text) cut.left.files.not_steady in
+            let yes : call.old.steady_write output ≡ true = steady.written (λ a b told tells. (cut.exact, cut.read.told a b told tells, (cut.bundle a b told tells).certificate)) in
+            let not_so : call.old.steady_write output ≡ false = one_steady call.old (output_file output cut.text) cut.left.files.not_steady in
             cc
       ]
 
-  as_quiet_check : IsQuietTrim metric bound input stem output old new said says → IsQuietCheck Refused metric bound input stem old new said says
+  as_quiet_check : IsQuietTrim claim input stem output call → IsQuietCheck claim input stem call
   as_quiet_check quiet = record { files = elim quiet.files [ inl calm ↦ inl calm | inr steady ↦ inr steady.read ]; sink = quiet.sink }
 
   -- a quiet call has no fault, and is answered as the reading of IN asks
-  pub quiet_trim_ends : (answer : Status) (end : TrimEnd metric bound input stem output old new said says) → IsTrimAnswer end answer
-      → IsQuietTrim metric bound input stem output old new said says → EndsWell input_reading IsTrimAnswerTo input old answer
-  quiet_trim_ends answer (done d) is quiet = subst (EndsWell input_reading IsTrimAnswerTo input old) (sym is) (record {
+  pub quiet_trim_ends : (answer : Status) (end : TrimEnd claim input stem output call) → IsTrimAnswer end answer
+      → IsQuietTrim claim input stem output call → EndsWell input_reading IsTrimAnswerTo input call.old answer
+  quiet_trim_ends answer (done d) is quiet = subst (EndsWell input_reading IsTrimAnswerTo input call.old) (sym is) (record {
     read = λ e. cc;
     written = λ e. cc;
     answers = λ a told has. (d.exact, d.read.at_entry a told has);

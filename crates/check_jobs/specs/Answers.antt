@@ -1,13 +1,11 @@
 -- What each answer of a check, a confirm or a trim job says.
-use Rattle.std.specs.Prelude.{◌≡◌, ℕ, Some, Result, Ok, Err}
+use Rattle.std.specs.Prelude.{◌≡◌, Some, Result, Ok, Err}
 use Rattle.semantics.specs.Texts.{Bytes}
 use Rattle.semantics.specs.Net.{NetValue}
-use Rattle.semantics.specs.declared.metric.Metric.{Metric}
-use Rattle.outside_semantics.specs.Outside.{FilesTold, SinkTold}
 use Rattle.blif_semantics.specs.Reading.{Refusal}
 use Rattle.file_reading.specs.declared.unread.Unread.{Unread}
-use Rattle.file_reading.specs.declared.unread.Unread.TheVariants as unread
-use Rattle.job_semantics.specs.declared.growth.Growth.{Growth}
+use Rattle.job_semantics.specs.Call.{Call}
+use Rattle.job_semantics.specs.declared.claim.Claim.{Claim}
 use Rattle.job_semantics.specs.Certificate.{clause_number}
 use Rattle.job_semantics.specs.Checking.{CheckEnd, verified, refuted, refused, out_of_memory, not_read}
 use Rattle.job_semantics.specs.Checking.{endless}
@@ -20,23 +18,17 @@ use Rattle.job_answers.specs.declared.status.Status.{Status}
 use Rattle.job_answers.specs.declared.status.Status.TheVariants.{Done, Verified, Refuted, Text, NoMemory}
 use Rattle.job_answers.specs.declared.status.Status.TheVariants.{ReadFault, WriteFault, Endless}
 use Rattle.job_answers.specs.Refused.{TellsBlif}
-
--- the answer where a needed file of a bundle was not read
-abbrev pub status_of_unread : Unread → Status
-status_of_unread unread.Fault = ReadFault
-status_of_unread unread.OutOfMemory = NoMemory
-status_of_unread unread.Endless = Endless
+use Rattle.job_answers.specs.Unread.{answer_of_unread}
 
 -- the answer to a check or a confirm job whose IN gives a net
 abbrev pub status_of_check : Result Verdict Unread → Status
 status_of_check (Ok verdict.Verified) = Verified
 status_of_check (Ok (verdict.Refuted number)) = Refuted number
-status_of_check (Err reason) = status_of_unread reason
+status_of_check (Err reason) = answer_of_unread reason
 
 -- the answer for each end of a check
-abbrev pub IsAnswerFor : {growth : Growth} {metric : Metric} {bound : ℕ} {input stem : Bytes}
-    {old new : FilesTold} {said says : SinkTold}
-    → CheckEnd growth metric bound input stem old new said says → Status → Type 0
+abbrev pub IsAnswerFor : {claim : Claim} {input stem : Bytes} {call : Call} → CheckEnd claim input stem call
+    → Status → Type 0
 IsAnswerFor (verified v) status = status ≡ Verified
 IsAnswerFor (refuted c r) status = status ≡ Refuted (clause_number c)
 IsAnswerFor (refused refusal r) status = TellsBlif refusal status
@@ -44,25 +36,21 @@ IsAnswerFor (out_of_memory left) status = status ≡ NoMemory
 IsAnswerFor (not_read fault) status = status ≡ ReadFault
 IsAnswerFor (endless e) status = status ≡ Endless
 
--- what a check job comes to, by its answer, or a confirm job, where growth is allowed
-abbrev pub CheckAnswer : Growth → Metric → ℕ → Bytes → Bytes → FilesTold → FilesTold → SinkTold → SinkTold
-    → Status → Type 0
-CheckAnswer growth metric bound input stem old new said says status
-    = (end : CheckEnd growth metric bound input stem old new said says) × IsAnswerFor end status
+-- what a check job comes to, by its answer, or a confirm job, where the claim allows growth
+abbrev pub CheckAnswer : Claim → Bytes → Bytes → Call → Status → Type 0
+CheckAnswer claim input stem call status = (end : CheckEnd claim input stem call) × IsAnswerFor end status
 
 -- the answer for each end of a trim job
-abbrev pub IsTrimAnswer : {metric : Metric} {bound : ℕ} {input stem output : Bytes} {old new : FilesTold}
-    {said says : SinkTold}
-    → trimming.TrimEnd metric bound input stem output old new said says → Status → Type 0
+abbrev pub IsTrimAnswer : {claim : Claim} {input stem output : Bytes} {call : Call}
+    → trimming.TrimEnd claim input stem output call → Status → Type 0
 IsTrimAnswer (trimming.done d) status = status ≡ Done
 IsTrimAnswer (trimming.not_written cut) status = status ≡ WriteFault
 IsTrimAnswer (trimming.not_verified end not) status = IsAnswerFor end status
 
 -- what a trim job comes to, by its answer
-abbrev pub TrimAnswer : Metric → ℕ → Bytes → Bytes → Bytes → FilesTold → FilesTold → SinkTold → SinkTold
-    → Status → Type 0
-TrimAnswer metric bound input stem output old new said says status =
-    (end : trimming.TrimEnd metric bound input stem output old new said says) × IsTrimAnswer end status
+abbrev pub TrimAnswer : Claim → Bytes → Bytes → Bytes → Call → Status → Type 0
+TrimAnswer claim input stem output call status
+    = (end : trimming.TrimEnd claim input stem output call) × IsTrimAnswer end status
 
 -- the reading is refused for this reason, which is not want of memory
 abbrev pub Refuses : Result NetValue Refusal → BlifRefusal → Type 0

@@ -2,7 +2,8 @@
 //! changed.
 ghost use Rattle.std.specs.Prelude.{◌≡◌};
 ghost use Rattle.outside_semantics.specs.Outside.{SinkTold};
-ghost use Rattle.check_jobs.specs.Answers.{status_of_unread, status_of_check, CheckAnswer};
+ghost use Rattle.job_answers.specs.OnFiles.{on_files};
+ghost use Rattle.check_jobs.specs.Answers.{status_of_check, CheckAnswer};
 
 use bundle::check::check_bundle;
 use bundle::verdict::Verdict;
@@ -11,20 +12,9 @@ use conversions::input::read_net;
 use file_core::files::Files;
 use file_reading::unread::Unread;
 use job_answers::status::Status;
-use job_semantics::growth::Growth;
-use semantics::metric::Metric;
+use job_answers::unread::answer_of_unread;
+use job_semantics::claim::Claim;
 use std::alloc::Global;
-
-/// The answer where a file of the bundle could not be read.
-pub fn answer_of_unread(reason: Unread) -> Status
-    ensures { result ≡ status_of_unread reason }
-{
-    match reason {
-        Unread::Fault => Status::ReadFault,
-        Unread::OutOfMemory => Status::NoMemory,
-        Unread::Endless => Status::Endless,
-    }
-}
 
 /// The answer for what the check of the bundle's files came to.
 fn answer_of_check(checked: Result<Verdict, Unread>) -> Status
@@ -37,27 +27,21 @@ fn answer_of_check(checked: Result<Verdict, Unread>) -> Status
     }
 }
 
-/// Carries out a check job where `growth` is `Refused`: the net of the bundle may have no more tables and no
-/// more literals than that of IN. Where it is `Allowed`, carries out a confirm job: it may have more.
+/// Carries out a check job where the claim refuses growth: the net of the bundle may have no more tables and
+/// no more literals than that of IN. Where the claim allows growth, carries out a confirm job: it may have
+/// more.
 pub fn check<F: Files>(
     alloc: Global,
-    growth: Growth,
-    metric: Metric,
-    bound: u128,
+    claim: Claim,
     input: &[u8],
     stem: &[u8],
     files: &mut F,
 ) -> Status
     ensures { (said : SinkTold) → CheckAnswer
-        growth
-        metric
-        bound
+        claim
         input.now
         stem.now
-        (F.told files.old)
-        (F.told files.new)
-        said
-        said
+        (on_files (F.told files.old) (F.told files.new) said)
         result }
 {
     let exact = match read_net(alloc, files, input) {
@@ -67,5 +51,5 @@ pub fn check<F: Files>(
     let Ok(names) = Stem::new(alloc, stem) else {
         return Status::NoMemory;
     };
-    answer_of_check(check_bundle(alloc, &exact, metric, bound, growth, &names, files))
+    answer_of_check(check_bundle(alloc, &exact, claim, &names, files))
 }

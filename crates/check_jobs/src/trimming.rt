@@ -7,10 +7,10 @@ ghost use Rattle.proof_semantics.specs.Lrat.{lrat_text};
 ghost use Rattle.job_semantics.specs.Job.{are_trim_words};
 ghost use Rattle.job_semantics.specs.Conversion.{output_file};
 ghost use Rattle.file_core.specs.Page.{WritesFiles};
+ghost use Rattle.job_answers.specs.OnFiles.{on_files};
 ghost use Rattle.check_jobs.specs.Answers.{TrimAnswer};
 ghost use Rattle.check_jobs.specs.Trimmed.{TrimmedAnswer};
 
-use crate::checking::answer_of_unread;
 use bundle::load::load_bundle;
 use bundle::loaded::Loaded;
 use bundle_writing::stem::Stem;
@@ -22,8 +22,9 @@ use conversions::output::answer_of_writing;
 use file_core::fault::FileFault;
 use file_core::files::Files;
 use job_answers::status::Status;
+use job_answers::unread::answer_of_unread;
+use job_semantics::claim::Claim;
 use lrat_trim::trim::trim;
-use semantics::metric::Metric;
 use std::alloc::Global;
 
 /// Makes the file with the text of a log. The call takes no memory.
@@ -52,11 +53,11 @@ fn write_trimmed<F: Files>(
     answer_of_writing(write_log(&short, output, files))
 }
 
-/// Carries out a trim job. A net that is larger than that of IN is refused, as by a check job.
+/// Carries out a trim job. Where the claim refuses growth, a net that is larger than that of IN is refused, as
+/// by a check job.
 pub fn trim_bundle<F: Files>(
     alloc: Global,
-    metric: Metric,
-    bound: u128,
+    claim: Claim,
     input: &[u8],
     stem: &[u8],
     output: &[u8],
@@ -64,15 +65,11 @@ pub fn trim_bundle<F: Files>(
 ) -> Status
     requires { IsTrue (are_trim_words input.now stem.now output.now) }
     ensures { (said : SinkTold) → TrimAnswer
-        metric
-        bound
+        claim
         input.now
         stem.now
         output.now
-        (F.told files.old)
-        (F.told files.new)
-        said
-        said
+        (on_files (F.told files.old) (F.told files.new) said)
         result }
 {
     let exact = match read_net(alloc, files, input) {
@@ -82,7 +79,7 @@ pub fn trim_bundle<F: Files>(
     let Ok(names) = Stem::new(alloc, stem) else {
         return Status::NoMemory;
     };
-    match load_bundle(alloc, &exact, metric, bound, &names, files) {
+    match load_bundle(alloc, &exact, claim, &names, files) {
         Ok(Loaded::Good { goal, log }) => write_trimmed(alloc, &goal, &log, output, files),
         Ok(Loaded::Refuted(number)) => Status::Refuted(number),
         Err(reason) => answer_of_unread(reason),

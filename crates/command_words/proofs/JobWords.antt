@@ -2,11 +2,11 @@
 use Rattle.std.proofs.Common.{◌≡◌, ◌≤◌, ℕ, Bool, true, false, ◌&&◌, if◌then◌else◌, Some, None, nat_le, bytes_eq, ◌<◌, List, [], ◌∷◌, length, get_or, refl, sym, subst, arith}
 use Rattle.std.proofs.lemmas.Bool.Decides.{nat_tests}
 use Rattle.semantics.specs.Texts.{Bytes}
-use Rattle.semantics.specs.declared.metric.Metric.{Metric}
 use Rattle.semantics.specs.Decimal.{digits_number, is_decimal}
 use Rattle.job_semantics.specs.declared.task.Task.{Task}
 use Rattle.job_semantics.specs.declared.task.Task.TheVariants.{Certify, Refine}
-use Rattle.job_semantics.specs.Job.{number_from_to, synth, against, metric_of, bound_of, conflicts_of, are_second_words, task_job, task_of}
+use Rattle.proof_semantics.specs.declared.constraint.Constraint.{Constraint}
+use Rattle.job_semantics.specs.Job.{number_from_to, synth, against, constraint_of, TaskNames, are_task_names, task_job, task_of}
 
 within_if : (is_digits : Bool) (low high d n : ℕ) → (if is_digits && (nat_le low d && nat_le d high) then Some d else None) ≡ Some n → (low ≤ n) × (n ≤ high)
 within_if is_digits low high d n is = (grind (arith, nat_tests), grind (arith, nat_tests))
@@ -35,24 +35,21 @@ IsWordOf ws at word = (item : Bytes) × (word ≡ item) × (item ≡ get_or ws a
 at_word : (ws : List Bytes) (at : ℕ) (word : Bytes) → IsWordOf ws at word → word ≡ get_or ws at word
 at_word ws at word is = subst (λ w. w ≡ get_or ws at w) (sym is.1) is.2
 
-pub task_words : (task : Task) (ws : List Bytes) (m b c input second stem : Bytes) (metric : Metric) (bound conflicts : ℕ) → 6 ≤ length ws → length ws < 7 → IsWordOf ws 0 m
-    → IsWordOf ws 1 b → IsWordOf ws 2 c → IsWordOf ws 3 input → IsWordOf ws 4 second → IsWordOf ws 5 stem → metric_of m ≡ Some metric → bound_of b ≡ Some bound
-    → conflicts_of c ≡ Some conflicts → are_second_words input second stem ≡ true → task_of task ws ≡ Some (task_job task metric bound conflicts input second stem)
-task_words task ws m b c input second stem metric bound conflicts least most is-m is-b is-c is-input is-second is-stem named bounded limited allowed =
-    let six = all_six ws m b c input second stem least most (at_word ws 0 m is-m) (at_word ws 1 b is-b) (at_word ws 2 c is-c) (at_word ws 3 input is-input)
-    (at_word ws 4 second is-second) (at_word ws 5 stem is-stem) in
-    rw (six, named, bounded, limited, allowed) refl
+module _ (task : Task) (aim : Constraint) (names : TaskNames) where
+  pub task_words : (ws : List Bytes) (m b c : Bytes) → 6 ≤ length ws → length ws < 7 → IsWordOf ws 0 m → IsWordOf ws 1 b → IsWordOf ws 2 c → IsWordOf ws 3 names.input
+      → IsWordOf ws 4 names.second → IsWordOf ws 5 names.stem → constraint_of m b c ≡ Some aim → are_task_names names ≡ true → task_of task ws ≡ Some (task_job task aim names)
+  task_words ws m b c least most is-m is-b is-c is-input is-second is-stem asked allowed =
+      let six = all_six ws m b c names.input names.second names.stem least most (at_word ws 0 m is-m) (at_word ws 1 b is-b) (at_word ws 2 c is-c) (at_word ws 3 names.input is-input)
+      (at_word ws 4 names.second is-second) (at_word ws 5 names.stem is-stem) in
+      rw (six, asked, allowed) refl
 
--- to refine IN itself is to simplify it
-pub refined_itself : (task : Task) (metric : Metric) (bound conflicts : ℕ) (input second stem : Bytes) → task ≡ Refine → bytes_eq input second ≡ true
-    → task_job task metric bound conflicts input second stem ≡ synth metric bound conflicts input stem
-refined_itself task metric bound conflicts input second stem refines itself = rw (refines, itself) refl
+  -- to refine IN itself is to simplify it
+  pub refined_itself : task ≡ Refine → bytes_eq names.input names.second ≡ true → task_job task aim names ≡ synth aim names.input names.stem
+  refined_itself refines itself = rw (refines, itself) refl
 
-pub certified : (task : Task) (metric : Metric) (bound conflicts : ℕ) (input second stem : Bytes) → task ≡ Certify
-    → task_job task metric bound conflicts input second stem ≡ against task metric bound conflicts input second stem
-certified task metric bound conflicts input second stem certifies = rw certifies refl
+  pub certified : task ≡ Certify → task_job task aim names ≡ against task aim names
+  certified certifies = rw certifies refl
 
-pub refined_another : (task : Task) (metric : Metric) (bound conflicts : ℕ) (input second stem : Bytes) → bytes_eq input second ≡ false
-    → task_job task metric bound conflicts input second stem ≡ against task metric bound conflicts input second stem
-refined_another Certify metric bound conflicts input second stem another = refl
-refined_another Refine metric bound conflicts input second stem another = rw another refl
+pub refined_another : (task : Task) (aim : Constraint) (names : TaskNames) → bytes_eq names.input names.second ≡ false → task_job task aim names ≡ against task aim names
+refined_another Certify aim names another = refl
+refined_another Refine aim names another = rw another refl

@@ -1,32 +1,47 @@
 -- The job of the definitions that a command of this crate stands for.
-use Rattle.std.specs.Prelude.{◌≤◌}
+use Rattle.std.specs.Prelude.{◌≡◌, ◌≤◌}
+use Rattle.semantics.specs.Texts.{Bytes}
 use Rattle.semantics.specs.declared.limits.TheConstants.{LARGEST_ERROR}
-use Rattle.command_words.specs.declared.words.Command.{Command}
-use Rattle.command_words.specs.declared.words.Command.TheVariants.{Synth, Against, Check, Confirm, Demo}
-use Rattle.command_words.specs.declared.words.Command.TheVariants.{Flat, Aag, Blif, Trim}
+use Rattle.semantics.specs.declared.metric.Metric.{Metric}
+use Rattle.proof_semantics.specs.declared.constraint.Constraint.{Constraint}
+use Rattle.job_semantics.specs.declared.claim.Claim.{Claim}
+use Rattle.job_semantics.specs.declared.growth.Growth.{Growth}
+use Rattle.job_semantics.specs.declared.growth.Growth.TheVariants.{Refused, Allowed}
+use Rattle.job_semantics.specs.Certificate.{checked_claim}
 use Rattle.job_semantics.specs.Job as words
+use Rattle.command_words.specs.Names.{names_of}
+use Rattle.command_words.specs.declared.words.Command.{Command}
+use Rattle.command_words.specs.declared.words.Command.TheVariants.{Synth, Against, Check, Demo, Flat, Aag, Blif}
+use Rattle.command_words.specs.declared.words.Command.TheVariants.{Trim}
+
+-- the job that refuses a net that is larger than IN's, and the job that allows it
+abbrev pub check_with : Growth → Metric → ℕ → Bytes → Bytes → words.Job
+check_with Refused = words.check
+check_with Allowed = words.confirm
 
 abbrev pub job_meaning : Command → words.Job
-job_meaning (Synth metric bound conflicts input stem) = words.synth metric bound conflicts input.now stem.now
-job_meaning (Against task metric bound conflicts input second stem)
-    = words.against task metric bound conflicts input.now second.now stem.now
-job_meaning (Check metric bound input stem) = words.check metric bound input.now stem.now
-job_meaning (Confirm metric bound input stem) = words.confirm metric bound input.now stem.now
+job_meaning (Synth aim input stem) = words.synth aim input.now stem.now
+job_meaning (Against task aim names) = words.against task aim (names_of names)
+job_meaning (Check claim input stem) = check_with claim.growth claim.metric claim.bound input.now stem.now
 job_meaning (Demo width bound conflicts) = words.demo width bound conflicts
 job_meaning (Flat input output) = words.flat input.now output.now
 job_meaning (Aag input output) = words.aag input.now output.now
 job_meaning (Blif input output) = words.blif input.now output.now
-job_meaning (Trim metric bound input stem output) = words.trim metric bound input.now stem.now output.now
+job_meaning (Trim claim input stem output) = words.trim claim.metric claim.bound input.now stem.now output.now
 
--- the numbers of a job are in their ranges
+-- the bound and the conflicts are in their ranges
+abbrev pub IsInRanges : Constraint → Type 0
+IsInRanges aim = (aim.bound ≤ LARGEST_ERROR) × (1 ≤ aim.limit)
+
+-- the numbers of a job are in their ranges; a trim job claims what a check tests
 abbrev pub HasRanges : Command → Type 0
-HasRanges (Synth metric bound conflicts input stem) = (bound ≤ LARGEST_ERROR) × (1 ≤ conflicts)
-HasRanges (Against task metric bound conflicts input second stem) = (bound ≤ LARGEST_ERROR) × (1 ≤ conflicts)
-HasRanges (Check metric bound input stem) = bound ≤ LARGEST_ERROR
-HasRanges (Confirm metric bound input stem) = bound ≤ LARGEST_ERROR
+HasRanges (Synth aim input stem) = IsInRanges aim
+HasRanges (Against task aim names) = IsInRanges aim
+HasRanges (Check claim input stem) = claim.bound ≤ LARGEST_ERROR
 HasRanges (Demo width bound conflicts) = (bound ≤ LARGEST_ERROR) × (1 ≤ conflicts) × (1 ≤ width)
     × (width ≤ 32)
 HasRanges (Flat input output) = Unit {0}
 HasRanges (Aag input output) = Unit {0}
 HasRanges (Blif input output) = Unit {0}
-HasRanges (Trim metric bound input stem output) = bound ≤ LARGEST_ERROR
+HasRanges (Trim claim input stem output) = (claim ≡ checked_claim claim.metric claim.bound)
+    × (claim.bound ≤ LARGEST_ERROR)

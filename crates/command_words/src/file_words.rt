@@ -1,8 +1,10 @@
 //! Which names may stand together in a job: no file is written that the job reads.
 ghost use Rattle.std.specs.Prelude.{◌≡◌};
-ghost use Rattle.job_semantics.specs.Job.{are_file_words, is_output_word, are_second_words, are_trim_words};
+ghost use Rattle.job_semantics.specs.Job.{are_file_words, is_output_word, are_task_names, are_trim_words};
+ghost use Rattle.command_words.specs.Names.{names_of};
 
 use crate::bundle_names::is_bundle_name;
+use crate::names::Names;
 
 /// Whether IN and STEM are not empty, and IN is no file of the bundle.
 pub(crate) fn are_file_words(input: &[u8], stem: &[u8]) -> bool
@@ -18,11 +20,11 @@ pub(crate) fn is_output_word(input: &[u8], output: &[u8]) -> bool
     !output.is_empty() && input != output
 }
 
-/// Whether these are IN, the name of the second netlist, and STEM: neither name is a file of the bundle.
-pub(crate) fn are_second_words(input: &[u8], second: &[u8], stem: &[u8]) -> bool
-    ensures { result ≡ are_second_words input.now second.now stem.now }
+/// Whether neither IN nor the second netlist is a file of the bundle.
+pub(crate) fn are_task_names(names: &Names<'_>) -> bool
+    ensures { result ≡ are_task_names (names_of names.now) }
 {
-    are_file_words(input, stem) && are_file_words(second, stem)
+    are_file_words(names.input, names.stem) && are_file_words(names.second, names.stem)
 }
 
 /// Whether these are IN, STEM and OUT of a trim job: OUT is no file of the bundle either.

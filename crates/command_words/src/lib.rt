@@ -4,5 +4,6 @@
 mod bundle_names;
 mod file_words;
 mod metric_words;
+pub mod names;
 pub mod usage;
 pub mod words;

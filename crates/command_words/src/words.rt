@@ -1,53 +1,44 @@
 //! The words of the command line, and the job that they name.
 ghost use Rattle.std.specs.Prelude.{◌≡◌, ℕ, ◌≤◌, option_map, IfSome};
 ghost use Rattle.semantics.specs.Texts.{Bytes};
-ghost use Rattle.job_semantics.specs.Job.{Job, job_of, synth_of, task_of, check_of, demo_of, conversion_of};
-ghost use Rattle.job_semantics.specs.Job.{trim_of, check, confirm, flat, aag, blif};
-ghost use Rattle.command_words.specs.Words.{job_meaning, HasRanges};
+ghost use Rattle.job_semantics.specs.Job.{Job, job_of, constraint_of, synth_of, task_of, check_of, demo_of};
+ghost use Rattle.job_semantics.specs.Job.{conversion_of, trim_of, flat, aag, blif};
+ghost use Rattle.command_words.specs.Words.{job_meaning, check_with, IsInRanges, HasRanges};
 
-use crate::file_words::{are_file_words, are_second_words, are_trim_words, is_output_word};
+use crate::file_words::{are_file_words, are_task_names, are_trim_words, is_output_word};
 use crate::metric_words::metric;
+use crate::names::Names;
 use decimal_words::decimal::number_from_to;
 use file_core::word::Word;
+use job_semantics::claim::Claim;
+use job_semantics::growth::Growth;
 use job_semantics::task::Task;
+use proof_semantics::constraint::Constraint;
 use semantics::limits::LARGEST_ERROR;
-use semantics::metric::Metric;
 
-/// A job with its values. `input`, `second`, `stem` and `output` are names of files.
+/// A job with its values. `input`, `stem` and `output` are names of files.
 #[derive(Clone, Copy, Debug)]
 pub enum Command<'a> {
     Synth {
-        metric: Metric,
-        bound: u128,
-        conflicts: u32,
+        aim: Constraint,
         input: &'a [u8],
         stem: &'a [u8],
     },
     Against {
         task: Task,
-        metric: Metric,
-        bound: u128,
-        conflicts: u32,
-        input: &'a [u8],
-        second: &'a [u8],
-        stem: &'a [u8],
+        aim: Constraint,
+        names: Names<'a>,
     },
+    /// A check where the claim refuses growth, and a confirmation where it allows growth.
     Check {
-        metric: Metric,
-        bound: u128,
-        input: &'a [u8],
-        stem: &'a [u8],
-    },
-    Confirm {
-        metric: Metric,
-        bound: u128,
+        claim: Claim,
         input: &'a [u8],
         stem: &'a [u8],
     },
     Demo {
         width: u32,
         bound: u128,
-        conflicts: u32,
+        conflicts: u64,
     },
     Flat {
         input: &'a [u8],
@@ -62,83 +53,77 @@ pub enum Command<'a> {
         output: &'a [u8],
     },
     Trim {
-        metric: Metric,
-        bound: u128,
+        claim: Claim,
         input: &'a [u8],
         stem: &'a [u8],
         output: &'a [u8],
     },
 }
 
+/// What METRIC, BOUND and CONFLICTS ask for.
 #[tactic(auto, using(crate::proofs::JobWords::number_within))]
+fn constraint(metric_word: &[u8], bound_word: &[u8], conflicts_word: &[u8]) -> Option<Constraint>
+    ensures value { result ≡ constraint_of metric_word.now bound_word.now conflicts_word.now }
+    ensures ranges { IfSome result IsInRanges }
+{
+    let metric = metric(metric_word)?;
+    let bound = number_from_to(bound_word, 0, LARGEST_ERROR)?;
+    let conflicts = number_from_to(conflicts_word, 1, 100_000)?;
+    Some(Constraint {
+        metric,
+        bound,
+        limit: conflicts as u64,
+    })
+}
+
 fn synth(words: &[Word]) -> Option<Command<'_>>
     ensures job { option_map job_meaning result ≡ synth_of words.now }
     ensures ranges { IfSome result HasRanges }
 {
-    let [metric_word, bound_word, conflicts_word, input, stem] = words else {
+    let [metric, bound, conflicts, input, stem] = words else {
         return None;
     };
-    let metric = metric(metric_word.bytes())?;
-    let bound = number_from_to(bound_word.bytes(), 0, LARGEST_ERROR)?;
-    let conflicts = number_from_to(conflicts_word.bytes(), 1, 100_000)?;
+    let aim = constraint(metric.bytes(), bound.bytes(), conflicts.bytes())?;
     let input = input.bytes();
     let stem = stem.bytes();
     if !are_file_words(input, stem) {
         return None;
     }
-    Some(Command::Synth {
-        metric,
-        bound,
-        conflicts: conflicts as u32,
-        input,
-        stem,
-    })
+    Some(Command::Synth { aim, input, stem })
 }
 
 /// The job of a task and a second netlist. To refine IN itself is to simplify it.
-#[tactic(auto, using(crate::proofs::JobWords::number_within))]
 fn task(task: Task, words: &[Word]) -> Option<Command<'_>>
     ensures job { option_map job_meaning result ≡ task_of task words.now }
     ensures ranges { IfSome result HasRanges }
 {
-    let [metric_word, bound_word, conflicts_word, input, second, stem] = words else {
+    let [metric, bound, conflicts, input, second, stem] = words else {
         return None;
     };
-    let metric = metric(metric_word.bytes())?;
-    let bound = number_from_to(bound_word.bytes(), 0, LARGEST_ERROR)?;
-    let conflicts = number_from_to(conflicts_word.bytes(), 1, 100_000)?;
-    let input = input.bytes();
-    let second = second.bytes();
-    let stem = stem.bytes();
-    if !are_second_words(input, second, stem) {
+    let aim = constraint(metric.bytes(), bound.bytes(), conflicts.bytes())?;
+    let names = Names {
+        input: input.bytes(),
+        second: second.bytes(),
+        stem: stem.bytes(),
+    };
+    if !are_task_names(&names) {
         return None;
     }
     match task {
-        Task::Refine if input == second => Some(Command::Synth {
-            metric,
-            bound,
-            conflicts: conflicts as u32,
-            input,
-            stem,
+        Task::Refine if names.input == names.second => Some(Command::Synth {
+            aim,
+            input: names.input,
+            stem: names.stem,
         }),
-        _ => Some(Command::Against {
-            task,
-            metric,
-            bound,
-            conflicts: conflicts as u32,
-            input,
-            second,
-            stem,
-        }),
+        _ => Some(Command::Against { task, aim, names }),
     }
 }
 
-/// METRIC, BOUND, IN and STEM of a check or of a confirmation.
+/// METRIC, BOUND, IN and STEM of a check, where growth is refused, or of a confirmation.
 #[tactic(auto, using(crate::proofs::JobWords::number_within))]
-fn bundle_words(words: &[Word]) -> Option<(Metric, u128, &[u8], &[u8])>
-    ensures job { (job : Metric → ℕ → Bytes → Bytes → Job)
-        → option_map (λ it. job it.0 it.1 it.2.now it.3.now) result ≡ check_of job words.now }
-    ensures range { IfSome result (λ it. it.1 ≤ LARGEST_ERROR) }
+fn check(growth: Growth, words: &[Word]) -> Option<Command<'_>>
+    ensures job { option_map job_meaning result ≡ check_of (check_with growth) words.now }
+    ensures ranges { IfSome result HasRanges }
 {
     let [metric_word, bound_word, input, stem] = words else {
         return None;
@@ -150,33 +135,12 @@ fn bundle_words(words: &[Word]) -> Option<(Metric, u128, &[u8], &[u8])>
     if !are_file_words(input, stem) {
         return None;
     }
-    Some((metric, bound, input, stem))
-}
-
-fn check(words: &[Word]) -> Option<Command<'_>>
-    ensures job { option_map job_meaning result ≡ check_of check words.now }
-    ensures ranges { IfSome result HasRanges }
-{
-    let (metric, bound, input, stem) = bundle_words(words)?;
-    Some(Command::Check {
+    let claim = Claim {
         metric,
         bound,
-        input,
-        stem,
-    })
-}
-
-fn confirm(words: &[Word]) -> Option<Command<'_>>
-    ensures job { option_map job_meaning result ≡ check_of confirm words.now }
-    ensures ranges { IfSome result HasRanges }
-{
-    let (metric, bound, input, stem) = bundle_words(words)?;
-    Some(Command::Confirm {
-        metric,
-        bound,
-        input,
-        stem,
-    })
+        growth,
+    };
+    Some(Command::Check { claim, input, stem })
 }
 
 #[tactic(auto, using(crate::proofs::JobWords::number_within))]
@@ -193,7 +157,7 @@ fn demo(words: &[Word]) -> Option<Command<'_>>
     Some(Command::Demo {
         width: width as u32,
         bound,
-        conflicts: conflicts as u32,
+        conflicts: conflicts as u64,
     })
 }
 
@@ -253,9 +217,13 @@ fn trim(words: &[Word]) -> Option<Command<'_>>
     if !are_trim_words(input, stem, output) {
         return None;
     }
-    Some(Command::Trim {
+    let claim = Claim {
         metric,
         bound,
+        growth: Growth::Refused,
+    };
+    Some(Command::Trim {
+        claim,
         input,
         stem,
         output,
@@ -277,9 +245,9 @@ pub fn command_named(words: &[Word]) -> Option<Command<'_>>
     } else if command == b"refine".as_slice() {
         task(Task::Refine, rest)
     } else if command == b"check".as_slice() {
-        check(rest)
+        check(Growth::Refused, rest)
     } else if command == b"confirm".as_slice() {
-        confirm(rest)
+        check(Growth::Allowed, rest)
     } else if command == b"demo".as_slice() {
         demo(rest)
     } else if command == b"flat".as_slice() {

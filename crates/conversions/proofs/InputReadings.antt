@@ -8,17 +8,17 @@ use Rattle.semantics.specs.Texts.{Bytes}
 use Rattle.semantics.specs.Net.{NetValue}
 use Rattle.blif_semantics.specs.Reading.{Refusal, text_long, blif_reading}
 use Rattle.blif_semantics.proofs.ReadNet.{read_sound, read_small}
-use Rattle.outside_semantics.specs.Outside.{FilesTold, Goes, bytes_of}
+use Rattle.outside_semantics.specs.Outside.{FilesTold, SinkTold, Goes, WhereTold, bytes_of}
 use Rattle.file_core.proofs.Told.{held_before}
 use Rattle.file_reading.specs.Reading.{IsAllWanted, FileRead}
-use Rattle.job_semantics.specs.Input.{input_reading}
-use Rattle.job_semantics.specs.Synthesis.{OfInput}
+use Rattle.job_semantics.specs.Input.{input_reading, IsReadAs, IsRefusedFor}
+use Rattle.job_semantics.specs.Synthesis.{OfInput, WhereHeld}
 use Rattle.blif_text.specs.Refusals.{refusal_of, Tells}
 use Rattle.blif_text.specs.declared.refusal.BlifRefusal.{BlifRefusal}
 use Rattle.job_answers.specs.declared.status.Status.{Status}
 use Rattle.job_answers.specs.Refused.{blif_answer}
 use Rattle.job_answers.specs.declared.status.Status.TheVariants.{NoMemory, ReadFault}
-use Rattle.conversions.specs.Input.{FrontRead, FrontUnread, NetRead, NetUnread}
+use Rattle.conversions.specs.Input.{FrontRead, FrontUnread, NetRead, NetUnread, TextRefused}
 use Rattle.conversions.proofs.Told.{blif_told, blif_untold}
 
 -- the reading of a text is that of its front up to one byte past the limit
@@ -60,27 +60,44 @@ FrontRead-from {name = name} {text = text} {room = room} within is read = record
 }
 
 -- what is read of the front is read of IN
-pub OfInput-from : {X : Type 0} (reading : Bytes → X) → ReadsFront reading → {old new : FilesTold} {name text : Bytes} → (result : X) → FrontRead old new name text → reading text ≡ result
-    → OfInput old new name (λ t. reading t ≡ result)
-OfInput-from reading front {old} {new} {name} {text} result read is = record {
-  told = λ a b told tells. sym (front (bytes_of a name)) ∙ ap reading (sym (read.front a b told tells)) ∙ is;
-  at_entry = λ a told has. sym (front (bytes_of a name)) ∙ ap reading (sym (read.front a a told (read.stay.still_told a told has))) ∙ is;
-}
+module _ {X : Type 0} (reading : Bytes → X) (front : ReadsFront reading) {old new : FilesTold} {name text : Bytes} (result : X) (read : FrontRead old new name text)
+    (is : reading text ≡ result) where
+  told-from : WhereTold old new (λ a b. reading (bytes_of a name) ≡ result)
+  told-from a b told tells = sym (front (bytes_of a name)) ∙ ap reading (sym (read.front a b told tells)) ∙ is
+
+  at_entry-from : WhereHeld old name (λ a. reading (bytes_of a name) ≡ result)
+  at_entry-from a told has = sym (front (bytes_of a name)) ∙ ap reading (sym (read.front a a told (read.stay.still_told a told has))) ∙ is
+
+  pub OfInput-from : {said says : SinkTold} → OfInput (record { old = old; new = new; said = said; says = says }) name (λ t. reading t ≡ result)
+  OfInput-from = record { told = told-from; at_entry = at_entry-from }
 
 -- later calls change nothing of it
-pub OfInput-later : {old mid new : FilesTold} {name : Bytes} (P : Bytes → Type 0) → Goes mid new → OfInput old mid name P → OfInput old new name P
-OfInput-later {old} {mid} {new} {name} P goes was = record {
+pub OfInput-later : {old mid new : FilesTold} {said says : SinkTold} {name : Bytes} (P : Bytes → Type 0) → Goes mid new
+    → OfInput (record { old = old; new = mid; said = said; says = says }) name P → OfInput (record { old = old; new = new; said = said; says = says }) name P
+OfInput-later {old} {mid} {new} {said} {says} {name} P goes was = record {
   told = λ a b told tells. let m = held_before mid new goes b tells in was.told a m.0 told m.1;
   at_entry = was.at_entry;
 }
 
+-- what is known of IN once it was read as a net, and where it was refused
+pub net_read : {old new : FilesTold} {said says : SinkTold} {name : Bytes} {N : NetValue} → NetRead old new name N
+    → OfInput (record { old = old; new = new; said = said; says = says }) name (λ text. IsReadAs text N)
+net_read read = record { told = read.told; at_entry = read.at_entry }
+
+pub text_refused : {old new : FilesTold} {said says : SinkTold} {name : Bytes} {refusal : Refusal} → TextRefused refusal old new name
+    → OfInput (record { old = old; new = new; said = said; says = says }) name (λ text. IsRefusedFor text refusal)
+text_refused refused = record { told = refused.told; at_entry = refused.at_entry }
+
 pub NetRead-from : {old new : FilesTold} {name text bytes : Bytes} {N : NetValue} → FrontRead old new name text → bytes ≡ text → input_reading bytes ≡ Ok N → NetRead old new name N
-NetRead-from {bytes = bytes} {N = N} read same is = record {
-  stay = read.stay;
-  read = OfInput-from input_reading net_reads_front (Ok N) read (ap input_reading (sym same) ∙ is);
-  sound = read_sound bytes MOST_INPUT_BYTES N is;
-  small = read_small bytes MOST_INPUT_BYTES N is;
-}
+NetRead-from {bytes = bytes} {N = N} read same is =
+    let as_net = ap input_reading (sym same) ∙ is in
+    record {
+      stay = read.stay;
+      told = told-from input_reading net_reads_front (Ok N) read as_net;
+      at_entry = at_entry-from input_reading net_reads_front (Ok N) read as_net;
+      sound = read_sound bytes MOST_INPUT_BYTES N is;
+      small = read_small bytes MOST_INPUT_BYTES N is;
+    }
 
 -- where IN was not read, there is no net
 pub unread_net : (old new : FilesTold) (name : Bytes) (answer : Status) → FrontUnread old new name answer → NetUnread old new name answer
@@ -95,7 +112,12 @@ refused_by {old} {new} {name} reason None is read tells = subst (NetUnread old n
 refused_by {old} {new} {name} reason (Some refusal) is read tells = subst (NetUnread old new name) (sym (blif_told reason refusal is)) (
   refusal,
   is,
-  record { stay = read.stay; held = read.held; refused = OfInput-from input_reading net_reads_front (Err refusal) read (tells refusal is) },
+  record {
+    stay = read.stay;
+    held = read.held;
+    told = told-from input_reading net_reads_front (Err refusal) read (tells refusal is);
+    at_entry = at_entry-from input_reading net_reads_front (Err refusal) read (tells refusal is);
+  },
 )
 
 pub NetUnread-from : {old new : FilesTold} {name text bytes : Bytes} (reason : BlifRefusal) (answer : Status) → FrontRead old new name text → bytes ≡ text

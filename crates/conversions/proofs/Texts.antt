@@ -23,6 +23,7 @@ use Rattle.aiger_text.specs.Refusals as aiger_refusals
 use Rattle.aiger_text.specs.declared.refusal.AigerRefusal.{AigerRefusal}
 use Rattle.job_answers.specs.declared.status.Status.{Status}
 use Rattle.job_answers.specs.Refused.{blif_answer, hier_answer, aiger_answer, TellsBlif, TellsHier, TellsAiger}
+use Rattle.job_answers.specs.OnFiles.{on_files}
 use Rattle.conversions.specs.Input.{FrontRead}
 use Rattle.conversions.specs.Texts.{made, read_further, flat_reading, flat_text, aag_text, netlist_text}
 use Rattle.conversions.specs.Answers.{ConversionAnswer}
@@ -62,21 +63,21 @@ refusal_told told given r tells some = subst (IsTold told given) some tells
 
 module _ {input output : Bytes} {old mid : FilesTold} {said : SinkTold} {text bytes : Bytes} (read : FrontRead old mid input text) (same : bytes ≡ text) (answer : Status) where
   pub aag-refused : (told : BlifRefusal) → blif_refusals.Tells told (input_reading bytes) → answer ≡ blif_answer told
-      → ConversionAnswer aag_text TellsBlif input output old mid said said answer
+      → ConversionAnswer aag_text TellsBlif input output (on_files old mid said) answer
   aag-refused told tells is =
       refused-at aag_text TellsBlif input output aag_reads_front read same answer (blif_refusals.refusal_of told)
       (λ none. is ∙ blif_untold told none)
       (λ r some. (ap (λ n. made aiger_text (made ands_of n)) (tells r some), (told, some, is ∙ blif_told told r some)))
 
   pub flat-refused : (told : HierRefusal) → hier_refusals.Tells told (flat_reading bytes) → answer ≡ hier_answer told
-      → ConversionAnswer flat_text TellsHier input output old mid said said answer
+      → ConversionAnswer flat_text TellsHier input output (on_files old mid said) answer
   flat-refused told tells is =
       refused-at flat_text TellsHier input output flat_reads_front read same answer (hier_refusals.refusal_of told)
       (λ none. is ∙ hier_untold told (out_of_memory told (flat_reading bytes) tells none))
       (λ r some. (ap (made blif_text) (refusal_told told (flat_reading bytes) r tells some), (told, some, is ∙ hier_told told r some)))
 
   pub blif-refused : (told : AigerRefusal) → aiger_refusals.Tells told (aiger_reading bytes MOST_INPUT_BYTES) → answer ≡ aiger_answer told
-      → ConversionAnswer netlist_text TellsAiger input output old mid said said answer
+      → ConversionAnswer netlist_text TellsAiger input output (on_files old mid said) answer
   blif-refused told tells is =
       refused-at netlist_text TellsAiger input output netlist_reads_front read same answer (aiger_refusals.refusal_of told)
       (λ none. is ∙ aiger_untold told none)

@@ -8,7 +8,7 @@ use Rattle.blif_semantics.specs.Reading.{Refusal}
 use Rattle.outside_semantics.specs.Outside.{FilesTold, WhereTold, bytes_of}
 use Rattle.file_reading.specs.Reading.{FileFailed, FilesStay}
 use Rattle.job_semantics.specs.Input.{IsReadAs, IsRefusedFor}
-use Rattle.job_semantics.specs.Synthesis.{OfInput}
+use Rattle.job_semantics.specs.Synthesis.{WhereHeld}
 use Rattle.blif_text.specs.Refusals.{refusal_of}
 use Rattle.job_answers.specs.declared.status.Status.{Status}
 use Rattle.job_answers.specs.declared.status.Status.TheVariants.{Text, NoMemory, ReadFault}
@@ -28,7 +28,8 @@ FrontUnread old new name _ = ⊥
 -- IN was read as the net
 pub record NetRead (old new : FilesTold) (name : Bytes) (N : NetValue) : Type 0 where
   pub stay : FilesStay old new name
-  pub read : OfInput old new name (λ text. IsReadAs text N)
+  pub told : WhereTold old new (λ a b. IsReadAs (bytes_of a name) N)
+  pub at_entry : WhereHeld old name (λ a. IsReadAs (bytes_of a name) N)
   pub sound : IsSound N
   pub small : IsSmall N
 
@@ -36,7 +37,8 @@ pub record NetRead (old new : FilesTold) (name : Bytes) (N : NetValue) : Type 0 
 pub record TextRefused (refusal : Refusal) (old new : FilesTold) (name : Bytes) : Type 0 where
   pub stay : FilesStay old new name
   pub held : WhereTold old new (λ a b. IsTrue (contains_key a name))
-  pub refused : OfInput old new name (λ text. IsRefusedFor text refusal)
+  pub told : WhereTold old new (λ a b. IsRefusedFor (bytes_of a name) refusal)
+  pub at_entry : WhereHeld old name (λ a. IsRefusedFor (bytes_of a name) refusal)
 
 -- the answer where IN gives no net
 abbrev pub NetUnread : FilesTold → FilesTold → Bytes → Status → Type 0

@@ -1,5 +1,6 @@
 //! The conversions: IN is read, what it is turned into is made, and then OUT is written.
 ghost use Rattle.outside_semantics.specs.Outside.{SinkTold};
+ghost use Rattle.job_answers.specs.OnFiles.{on_files};
 ghost use Rattle.job_answers.specs.Refused.{TellsBlif, TellsHier, TellsAiger};
 ghost use Rattle.conversions.specs.Answers.{ConversionAnswer};
 ghost use Rattle.conversions.specs.Texts.{flat_text, aag_text, netlist_text};
@@ -21,10 +22,7 @@ pub fn flat<F: Files>(alloc: Global, input: &[u8], output: &[u8], files: &mut F)
         TellsHier
         input.now
         output.now
-        (F.told files.old)
-        (F.told files.new)
-        said
-        said
+        (on_files (F.told files.old) (F.told files.new) said)
         result }
 {
     let text = match read_front(alloc, files, input) {
@@ -44,10 +42,7 @@ pub fn aag<F: Files>(alloc: Global, input: &[u8], output: &[u8], files: &mut F) 
         TellsBlif
         input.now
         output.now
-        (F.told files.old)
-        (F.told files.new)
-        said
-        said
+        (on_files (F.told files.old) (F.told files.new) said)
         result }
 {
     let text = match read_front(alloc, files, input) {
@@ -67,10 +62,7 @@ pub fn blif<F: Files>(alloc: Global, input: &[u8], output: &[u8], files: &mut F)
         TellsAiger
         input.now
         output.now
-        (F.told files.old)
-        (F.told files.new)
-        said
-        said
+        (on_files (F.told files.old) (F.told files.new) said)
         result }
 {
     let text = match read_front(alloc, files, input) {

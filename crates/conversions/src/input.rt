@@ -6,9 +6,9 @@ use blif_text::reading::read_blif;
 use file_core::files::Files;
 use file_reading::front::Front;
 use file_reading::reading::read_file;
-use file_reading::unread::Unread;
 use job_answers::refused::blif_answer;
 use job_answers::status::Status;
+use job_answers::unread::answer_of_unread;
 use net_core::net::Net;
 use semantics::limits::MOST_INPUT_BYTES;
 use std::alloc::Global;
@@ -24,9 +24,7 @@ pub fn read_front<F: Files>(alloc: Global, files: &mut F, name: &[u8]) -> Result
     let _ = front.bytes();
     match read {
         Ok(()) => Ok(front),
-        Err(Unread::Fault) => Err(Status::ReadFault),
-        Err(Unread::OutOfMemory) => Err(Status::NoMemory),
-        Err(Unread::Endless) => unreachable!(),
+        Err(reason) => Err(answer_of_unread(reason)),
     }
 }
 

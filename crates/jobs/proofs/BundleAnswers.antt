@@ -30,24 +30,24 @@ use Rattle.jobs.specs.Outcome.{outcome_of}
 use Rattle.jobs.specs.Run.{BundleAnswerAt, BundleAnswer, IsWorkOf}
 
 -- what the work on two nets says is what its answer says
-module _ (task : Task) (metric : Metric) (bound limit : ℕ) (exact begin : NetValue) (stem : Bytes) (old new : FilesTold) (said says : SinkTold) where
-  answer_of : (w : Work) → WorkSays task metric bound limit exact begin stem old new said says w → BundleAnswer task metric bound limit exact begin stem old new said says (outcome_of w)
+module _ (task : Task) (aim : Constraint) (exact begin : NetValue) (stem : Bytes) (call : Call) where
+  answer_of : (w : Work) → WorkSays task aim exact begin stem call w → BundleAnswer task aim exact begin stem call (outcome_of w)
   answer_of (work.Done spent) written = (written, refl)
   answer_of (work.Budget level spent) budget = (budget.0, budget.1, spent_value level, refl, budget.2)
   answer_of work.NoMemory same = (same.0, same.1, (refl, refl))
   answer_of work.WriteFault cut = (cut, (refl, refl))
 
-  BundleAnswer-told : (o : Outcome) (w : Work) → o ≡ outcome_of w → WorkSays task metric bound limit exact begin stem old new said says w
-      → BundleAnswer task metric bound limit exact begin stem old new said says o
-  BundleAnswer-told o w is work_says = subst (BundleAnswer task metric bound limit exact begin stem old new said says) (sym is) (answer_of w work_says)
+  BundleAnswer-told : (o : Outcome) (w : Work) → o ≡ outcome_of w → WorkSays task aim exact begin stem call w
+      → BundleAnswer task aim exact begin stem call o
+  BundleAnswer-told o w is work_says = subst (BundleAnswer task aim exact begin stem call) (sym is) (answer_of w work_says)
 
 -- so it is where the names are those of the stem
-pub BundleAnswer-told_at : (task : Task) (metric : Metric) (bound limit : ℕ) (exact begin : NetValue) (stem : Bytes) {names : Bytes} (old new : FilesTold) (said says : SinkTold)
+pub BundleAnswer-told_at : (task : Task) (aim : Constraint) (exact begin : NetValue) (stem : Bytes) {names : Bytes} (call : Call)
     (o : Outcome) (w : Work)
-    → names ≡ stem → o ≡ outcome_of w → WorkSays task metric bound limit exact begin names old new said says w → BundleAnswer task metric bound limit exact begin stem old new said says o
-BundleAnswer-told_at task metric bound limit exact begin stem {names} old new said says o w same is work_says =
-    subst (λ s. BundleAnswer task metric bound limit exact begin s old new said says o) same
-    (BundleAnswer-told task metric bound limit exact begin names old new said says o w is work_says)
+    → names ≡ stem → o ≡ outcome_of w → WorkSays task aim exact begin names call w → BundleAnswer task aim exact begin stem call o
+BundleAnswer-told_at task aim exact begin stem {names} call o w same is work_says =
+    subst (λ s. BundleAnswer task aim exact begin s call o) same
+    (BundleAnswer-told task aim exact begin names call o w is work_says)
 
 -- ---- a bundle that was written after netlists were read
 
@@ -56,7 +56,7 @@ since : (stem : Bytes) (old mid new : FilesTold) (P : Texts → Type 0) → Goes
 since stem old mid new P goes h = λ a b told tells. let m = held_before mid new goes b tells in h m.0 b m.1 tells
 
 pub written_since : {task : Task} {metric : Metric} {bound limit : ℕ} {exact begin : NetValue} {stem : Bytes} {old mid new : FilesTold} {said says : SinkTold} {spent : Option SpentValue}
-    → FilesWritten old mid [] → BundleWritten task metric bound limit exact begin stem spent mid new said says → BundleWritten task metric bound limit exact begin stem spent old new said says
+    → FilesWritten old mid [] → BundleWritten task aim exact begin stem spent mid new said says → BundleWritten task aim exact begin stem spent call
 written_since {metric = metric} {bound = bound} {exact = exact} {stem = stem} {old = old} {mid = mid} {new = new} none w = record {
   result = w.result;
   log = w.log;
@@ -66,12 +66,12 @@ written_since {metric = metric} {bound = bound} {exact = exact} {stem = stem} {o
   files = FilesWritten-then none w.files;
   report = w.report;
   netlist = since stem old mid new (λ texts. IsNetlist texts w.result.net) w.files.goes w.netlist;
-  certificate = λ growth size. since stem old mid new (CertifiesWith growth exact metric bound) w.files.goes (w.certificate growth size);
-  version = since stem old mid new (λ texts. OfReport exact metric bound texts (λ r. r.version ≡ Two)) w.files.goes w.version;
+  certificate = λ growth size. since stem old mid new (CertifiesWith claim exact) w.files.goes (w.certificate growth size);
+  version = since stem old mid new (λ texts. OfReport metric bound exact texts (λ r. r.version ≡ Two)) w.files.goes w.version;
 }
 
 pub cut_since : {task : Task} {metric : Metric} {bound limit : ℕ} {exact begin : NetValue} {stem : Bytes} {old mid new : FilesTold} {said says : SinkTold}
-    → FilesWritten old mid [] → BundleCutShort task metric bound limit exact begin stem mid new said says → BundleCutShort task metric bound limit exact begin stem old new said says
+    → FilesWritten old mid [] → BundleCutShort task aim exact begin stem mid new said says → BundleCutShort task aim exact begin stem call
 cut_since none c = record {
   result = c.result;
   log = c.log;
@@ -84,28 +84,28 @@ cut_since none c = record {
 }
 
 pub goes_cut : {task : Task} {metric : Metric} {bound limit : ℕ} {exact begin : NetValue} {stem : Bytes} {mid new : FilesTold} {said says : SinkTold}
-    → BundleCutShort task metric bound limit exact begin stem mid new said says → Goes mid new
+    → BundleCutShort task aim exact begin stem mid new said says → Goes mid new
 goes_cut c = elim c.left [ inl cut ↦ cut.0.goes | inr put ↦ put.0.goes ]
 
 -- where the conflicts are enough, no query of the chain is spent
-module _ (metric : Metric) (exact : NetValue) (bound limit : ℕ) (begin : NetValue) where
+module _ (aim : Constraint) (exact : NetValue) (begin : NetValue) where
   none_on_the_chain : (N : NetValue) (pool : List (List Bool)) (spent : Option SpentValue)
-      → MatchOption spent (IsShownEnd metric exact bound begin N pool) (IsSpentMove metric exact bound limit N pool) → IsEnough limit (input_count exact) → spent ≡ None
+      → MatchOption spent (IsShownEnd metric exact bound begin N pool) (IsSpentMove aim exact N pool) → IsEnough limit (input_count exact) → spent ≡ None
   none_on_the_chain N pool None h enough = refl
   none_on_the_chain N pool (Some q) h enough = absurd (h.query.not_enough enough)
 
-  nothing_spent : (task : Task) (s : Shrinking) → IsTaskDone task metric exact bound limit begin s → IsEnough limit (input_count exact) → s.spent ≡ None
+  nothing_spent : (task : Task) (s : Shrinking) → IsTaskDone task aim exact begin s → IsEnough limit (input_count exact) → s.spent ≡ None
   nothing_spent Certify s is enough = ap (λ (t : Shrinking). t.spent) is
   nothing_spent Refine s search enough = none_on_the_chain s.net s.pool s.spent search.outcome enough
 
-pub enough_spends_nothing : {task : Task} {metric : Metric} {bound limit : ℕ} {exact begin : NetValue} {stem : Bytes} {old new : FilesTold} {said says : SinkTold} {spent : Option SpentValue}
-    → BundleWritten task metric bound limit exact begin stem spent old new said says → IsEnough limit (input_count exact) → spent ≡ None
+pub enough_spends_nothing : {task : Task} {metric : Metric} {bound limit : ℕ} {exact begin : NetValue} {stem : Bytes} {call : Call} {spent : Option SpentValue}
+    → BundleWritten task aim exact begin stem spent call → IsEnough limit (input_count exact) → spent ≡ None
 enough_spends_nothing {task} {metric} {bound} {limit} {exact} {begin} written enough =
-    written.is_spent ∙ nothing_spent metric exact bound limit begin task (shrinking_of written.result) written.right.search enough
+    written.is_spent ∙ nothing_spent aim exact begin task (shrinking_of written.result) written.right.search enough
 
 -- a call with a fault in writing is not quiet, where the names are steady
-pub not_quiet_cut : {task : Task} {metric : Metric} {bound limit : ℕ} {exact begin : NetValue} {stem : Bytes} {old new : FilesTold} {said says : SinkTold}
-    → BundleCutShort task metric bound limit exact begin stem old new said says → ((¬ Rose old.faults new.faults) ⊎ IsTrue (are_bundle_names_steady old stem)) → ¬ Rose said.faults says.faults → ⊥
+pub not_quiet_cut : {task : Task} {metric : Metric} {bound limit : ℕ} {exact begin : NetValue} {stem : Bytes} {call : Call}
+    → BundleCutShort task aim exact begin stem call → ((¬ Rose old.faults new.faults) ⊎ IsTrue (are_bundle_names_steady old stem)) → ¬ Rose said.faults says.faults → ⊥
 not_quiet_cut {stem = stem} {old = old} fault files sink =
     elim fault.left [
       | inl cut ↦ elim files [
@@ -116,10 +116,10 @@ not_quiet_cut {stem = stem} {old = old} fault files sink =
     ]
 
 -- a quiet demonstration has no fault, and spends nothing where its conflicts are enough
-pub quiet_demo_ends : (task : Task) (metric : Metric) (bound limit : ℕ) (exact begin : NetValue) (old new : FilesTold) (said says : SinkTold) (spent level : Option SpentValue) (status : Status)
-    → BundleAnswerAt task metric bound limit exact begin demo_stem old new said says spent level status → IsQuietDemo old new said says → IsWorkOf limit (input_count exact) spent status
-quiet_demo_ends task metric bound limit exact begin old new said says spent level Done answer quiet = enough_spends_nothing answer.0
-quiet_demo_ends task metric bound limit exact begin old new said says spent level Budget answer quiet = answer.4.query.query.not_enough
-quiet_demo_ends task metric bound limit exact begin old new said says spent level NoMemory answer quiet = tt
-quiet_demo_ends task metric bound limit exact begin old new said says spent level WriteFault answer quiet = absurd (not_quiet_cut answer.0 quiet.files quiet.sink)
-quiet_demo_ends task metric bound limit exact begin old new said says spent level _ answer quiet = absurd answer
+pub quiet_demo_ends : (task : Task) (aim : Constraint) (exact begin : NetValue) (call : Call) (spent level : Option SpentValue) (status : Status)
+    → BundleAnswerAt task aim exact begin demo_stem call spent level status → IsQuietDemo call → IsWorkOf limit (input_count exact) spent status
+quiet_demo_ends task aim exact begin call spent level Done answer quiet = enough_spends_nothing answer.0
+quiet_demo_ends task aim exact begin call spent level Budget answer quiet = answer.4.query.query.not_enough
+quiet_demo_ends task aim exact begin call spent level NoMemory answer quiet = tt
+quiet_demo_ends task aim exact begin call spent level WriteFault answer quiet = absurd (not_quiet_cut answer.0 quiet.files quiet.sink)
+quiet_demo_ends task aim exact begin call spent level _ answer quiet = absurd answer

@@ -29,7 +29,7 @@ use Rattle.check_jobs.proofs.CheckAnswers.{verified_end}
 use Rattle.jobs.proofs.SynthAnswers.{quiet_ends}
 use Rattle.jobs.proofs.SpentQueries.{none_is, same_query, of_refined, of_maximum, on_chain}
 
-keeps : {exact : NetValue} {metric : Metric} {bound : ℕ} {texts : Texts} → ShowsItsBound Refused exact metric bound texts → KeepsItsPromise metric bound exact texts
+keeps : {exact : NetValue} {metric : Metric} {bound : ℕ} {texts : Texts} → ShowsItsBound Refused metric bound exact texts → KeepsItsPromise metric bound exact texts
 keeps s = record {
   approx = s.approx;
   report = s.report;
@@ -44,34 +44,34 @@ keeps s = record {
 }
 
 -- where no query of the chain was spent, its end was reached
-pub end_reached : (metric : Metric) (exact : NetValue) (bound limit : ℕ) (begin N : NetValue) (pool : List (List Bool)) (spent : Option SpentValue) → spent ≡ None
-    → MatchOption spent (IsShownEnd metric exact bound begin N pool) (IsSpentMove metric exact bound limit N pool) → IsSimplificationEndFrom metric exact bound begin N
-end_reached metric exact bound limit begin N pool None is h = h.end
-end_reached metric exact bound limit begin N pool (Some q) is h = cc
+pub end_reached : (aim : Constraint) (exact : NetValue) (begin N : NetValue) (pool : List (List Bool)) (spent : Option SpentValue) → spent ≡ None
+    → MatchOption spent (IsShownEnd metric exact bound begin N pool) (IsSpentMove aim exact N pool) → IsSimplificationEndFrom metric exact bound begin N
+end_reached aim exact begin N pool None is h = h.end
+end_reached aim exact begin N pool (Some q) is h = cc
 
 -- the net of a certificate has the original's ports
-pub same_ports : {growth : Growth} {exact : NetValue} {metric : Metric} {bound : ℕ} (texts : Texts) (approx : NetValue) → CertifiesWith growth exact metric bound texts → IsNetlist texts approx
+pub same_ports : {growth : Growth} {exact : NetValue} {metric : Metric} {bound : ℕ} (texts : Texts) (approx : NetValue) → CertifiesWith claim exact texts → IsNetlist texts approx
     → HasSamePorts exact approx
 same_ports {exact = exact} texts approx certified reads = subst (HasSamePorts exact) (verified_law.one_net texts certified.1.0.0 approx certified.1.0.1 reads) certified.1.0.2
 
-module _ (metric : Metric) (bound limit : ℕ) (input stem : Bytes) (files_named : IsTrue (are_file_words input stem)) (old new : FilesTold) (said says : SinkTold)
+module _ (aim : Constraint) (input stem : Bytes) (files_named : IsTrue (are_file_words input stem)) (call : Call)
     (spent level : Option SpentValue) where
-  admits : (a b : Held) (d : SynthDone metric bound limit input stem spent old new said says) → spent ≡ None → old.held ≡ Some a → new.held ≡ Some b
+  admits : (a b : Held) (d : SynthDone aim input stem spent call) → spent ≡ None → old.held ≡ Some a → new.held ≡ Some b
       → AdmitsNoMore metric bound input stem d.exact b
   admits a b d none told tells =
       let w = d.written in
-      let certified : Certifies d.exact metric bound (texts_of b stem) = w.certificate Refused (λ is. (w.right.tables, w.right.literals)) a b told tells in
+      let certified : Certifies d.metric bound exact (texts_of b stem) = w.certificate Refused (λ is. (w.right.tables, w.right.literals)) a b told tells in
       let reads : IsNetlist (texts_of b stem) w.result.net = w.netlist a b told tells in
       record {
         certificate = certified;
-        verifies = joined_runs_law metric bound limit input stem spent old new said says files_named d a b told tells;
+        verifies = joined_runs_law aim input stem spent call files_named d a b told tells;
         approx = w.result.net;
         netlist = reads;
         the_same_ports = same_ports (texts_of b stem) w.result.net certified reads;
         end_of_the_chain = end_reached metric d.exact bound limit d.exact w.result.net w.result.pool w.result.spent (sym w.is_spent ∙ none) w.right.search.outcome;
       }
 
-  settled : (status : Status) → SynthAnswerAt metric bound limit input stem old new said says spent level status → status ≢ ReadFault → status ≢ WriteFault → status ≢ NoMemory
+  settled : (status : Status) → SynthAnswerAt aim input stem call spent level status → status ≢ ReadFault → status ≢ WriteFault → status ≢ NoMemory
       → spent ≡ None → level ≡ None → (a b : Held) → old.held ≡ Some a → new.held ≡ Some b → (exact : NetValue) → IsReadAs (bytes_of a input) exact
       → (status ≡ Done) × AdmitsNoMore metric bound input stem exact b
   settled Done answer read written memory none no_level a b told tells exact reads =
@@ -89,35 +89,35 @@ module _ (metric : Metric) (bound limit : ℕ) (input stem : Bytes) (files_named
 -- ---- what a spent query is
 
 abbrev SpentIn : Metric → ℕ → ℕ → Bytes → FilesTold → FilesTold → SpentValue → Type 0
-SpentIn metric bound limit input old new q = (exact : NetValue) × OfInput old new input (λ text. IsReadAs text exact) × AreSpentOn metric exact bound limit q
+SpentIn aim input old new q = (exact : NetValue) × OfInput old new input (λ text. IsReadAs text exact) × AreSpentOn aim exact q
 
-spent_in : (metric : Metric) (bound limit : ℕ) (input stem : Bytes) (old new : FilesTold) (said says : SinkTold) (spent level : Option SpentValue) (status : Status) (q : SpentValue)
-    → SynthAnswerAt metric bound limit input stem old new said says spent level status → (spent ≡ Some q) ⊎ (level ≡ Some q) → SpentIn metric bound limit input old new q
-spent_in metric bound limit input stem old new said says spent level Done q (d, no_level) (inl is) =
+spent_in : (aim : Constraint) (input stem : Bytes) (call : Call) (spent level : Option SpentValue) (status : Status) (q : SpentValue)
+    → SynthAnswerAt aim input stem call spent level status → (spent ≡ Some q) ⊎ (level ≡ Some q) → SpentIn aim input old new q
+spent_in aim input stem call spent level Done q (d, no_level) (inl is) =
     let w = d.written in
     (d.exact, d.read, on_chain metric d.exact bound limit q (of_refined metric d.exact d.exact bound limit (shrinking_of w.result) q w.right.search (sym w.is_spent ∙ is)))
-spent_in metric bound limit input stem old new said says spent level Done q (d, no_level) (inr is) = let bad : ◌≡◌ {A = Option SpentValue} None (Some q) = sym no_level ∙ is in cc
-spent_in metric bound limit input stem old new said says spent level Budget q (s, at, b) is =
+spent_in aim input stem call spent level Done q (d, no_level) (inr is) = let bad : ◌≡◌ {A = Option SpentValue} None (Some q) = sym no_level ∙ is in cc
+spent_in aim input stem call spent level Budget q (s, at, b) is =
     (b.exact, b.read, on_chain metric b.exact bound limit q (of_maximum metric b.exact b.exact bound limit spent s q b.search (same_query spent level s q at is)))
-spent_in metric bound limit input stem old new said says spent level (Text reason) q answer is = absurd (none_is q spent level answer.1 is)
-spent_in metric bound limit input stem old new said says spent level NoMemory q answer is = absurd (none_is q spent level answer.1 is)
-spent_in metric bound limit input stem old new said says spent level ReadFault q answer is = absurd (none_is q spent level answer.1 is)
-spent_in metric bound limit input stem old new said says spent level WriteFault q answer is = absurd (none_is q spent level answer.1 is)
-spent_in metric bound limit input stem old new said says spent level _ q answer is = absurd answer
+spent_in aim input stem call spent level (Text reason) q answer is = absurd (none_is q spent level answer.1 is)
+spent_in aim input stem call spent level NoMemory q answer is = absurd (none_is q spent level answer.1 is)
+spent_in aim input stem call spent level ReadFault q answer is = absurd (none_is q spent level answer.1 is)
+spent_in aim input stem call spent level WriteFault q answer is = absurd (none_is q spent level answer.1 is)
+spent_in aim input stem call spent level _ q answer is = absurd answer
 
-pub headline-from : (words : List Bytes) (old new : FilesTold) (said says : SinkTold) (o : Outcome) → RunSays words old new said says o
-    → Headline words (o.status ≡ Verified) (o.status ≡ Done) (o.status ≡ NoMemory) (told_query o.spent) (told_query o.level) old new said says
-headline-from words old new said says o says_all = record {
+pub headline-from : (words : List Bytes) (call : Call) (o : Outcome) → RunSays words call o
+    → Headline words (o.status ≡ Verified) (o.status ≡ Done) (o.status ≡ NoMemory) (told_query o.spent) (told_query o.level) call
+headline-from words call o says_all = record {
   when_check_verifies = λ metric bound input stem named verified.
       let answer = says_all.answer (check metric bound input stem) named in
       let v = verified_end o.status answer.0 answer.1 verified in
       λ a b told tells. (v.exact, v.read.told a b told tells, keeps (v.shows a b told tells));
-  unless_conflicts_were_spent = λ metric bound conflicts input stem named quiet memory none no_level.
-      let answer = says_all.answer (synth metric bound conflicts input stem) named in
-      let well = quiet_ends metric bound conflicts input stem old new said says (told_query o.spent) (told_query o.level) o.status answer quiet in
+  unless_conflicts_were_spent = λ aim input stem named quiet memory none no_level.
+      let answer = says_all.answer (synth aim input stem) named in
+      let well = quiet_ends aim input stem call (told_query o.spent) (told_query o.level) o.status answer quiet in
       λ a b told tells exact reads.
-      settled metric bound conflicts input stem (file_words_law.synthesis words metric bound conflicts input stem named) old new said says (told_query o.spent) (told_query o.level) o.status
+      settled aim input stem (file_words_law.synthesis words aim input stem named) call (told_query o.spent) (told_query o.level) o.status
       answer well.read well.written memory none no_level a b told tells exact reads;
-  the_conflicts_that_were_spent = λ metric bound conflicts input stem named q is.
-      spent_in metric bound conflicts input stem old new said says (told_query o.spent) (told_query o.level) o.status q (says_all.answer (synth metric bound conflicts input stem) named) is;
+  the_conflicts_that_were_spent = λ aim input stem named q is.
+      spent_in aim input stem call (told_query o.spent) (told_query o.level) o.status q (says_all.answer (synth aim input stem) named) is;
 }

@@ -32,7 +32,7 @@ use Rattle.jobs.proofs.TaskAnswers.{quiet_task_ends}
 use Rattle.jobs.proofs.SpentQueries.{none_is, same_query, of_task, of_task_spent}
 use Rattle.jobs.proofs.Headlines.{end_reached, same_ports}
 
-keeps : {exact : NetValue} {metric : Metric} {bound : ℕ} {texts : Texts} → ShowsItsBound Allowed exact metric bound texts → KeepsTheBound metric bound exact texts
+keeps : {exact : NetValue} {metric : Metric} {bound : ℕ} {texts : Texts} → ShowsItsBound Allowed metric bound exact texts → KeepsTheBound metric bound exact texts
 keeps s = record {
   approx = s.approx;
   report = s.report;
@@ -45,24 +45,24 @@ keeps s = record {
 }
 
 -- where no query was spent, what was asked for was made
-as_asked : (task : Task) (metric : Metric) (exact : NetValue) (bound limit : ℕ) (begin : NetValue) (s : Shrinking) → s.spent ≡ None → IsTaskDone task metric exact bound limit begin s
+as_asked : (task : Task) (aim : Constraint) (exact : NetValue) (begin : NetValue) (s : Shrinking) → s.spent ≡ None → IsTaskDone task aim exact begin s
     → IsAsAsked task metric exact bound begin s.net
-as_asked Certify metric exact bound limit begin s none certified = ap (λ (t : Shrinking). t.net) certified
-as_asked Refine metric exact bound limit begin s none search = end_reached metric exact bound limit begin s.net s.pool s.spent none search.outcome
+as_asked Certify aim exact begin s none certified = ap (λ (t : Shrinking). t.net) certified
+as_asked Refine aim exact begin s none search = end_reached aim exact begin s.net s.pool s.spent none search.outcome
 
 -- an input whose error exceeds the bound contradicts that the bound is kept
 not_over : {metric : Metric} {exact begin : NetValue} {bound : ℕ} (x : List Bool) → IsOver metric exact begin bound x → IsWithin metric exact bound begin → ⊥
 not_over x over within = absurd (omega (arith, over.exceeds, within x over.width))
 
-module _ (task : Task) (metric : Metric) (bound limit : ℕ) (input second stem : Bytes) (files_named : IsTrue (are_file_words input stem)) (old new : FilesTold) (said says : SinkTold)
+module _ (task : Task) (aim : Constraint) (input second stem : Bytes) (files_named : IsTrue (are_file_words input stem)) (call : Call)
     (spent level : Option SpentValue) where
-  certifies : (a b : Held) (d : TaskDone task metric bound limit input second stem spent old new said says) → spent ≡ None → old.held ≡ Some a → new.held ≡ Some b
+  certifies : (a b : Held) (d : TaskDone task aim input second stem spent call) → spent ≡ None → old.held ≡ Some a → new.held ≡ Some b
       → IsCertifiedAs task metric bound input stem d.exact d.begin b
   certifies a b d none told tells =
       let w = d.written in
-      let certified : CertifiesWith Allowed d.exact metric bound (texts_of b stem) = w.certificate Allowed (λ no. absurd (cc no)) a b told tells in
+      let certified : CertifiesWith Allowed d.metric bound exact (texts_of b stem) = w.certificate Allowed (λ no. absurd (cc no)) a b told tells in
       let reads : IsNetlist (texts_of b stem) w.result.net = w.netlist a b told tells in
-      let joined = joined_task_law task metric bound limit input second stem spent old new said says files_named d a b told tells in
+      let joined = joined_task_law task aim input second stem spent call files_named d a b told tells in
       record {
         certificate = certified;
         confirmed = joined.0;
@@ -82,7 +82,7 @@ module _ (task : Task) (metric : Metric) (bound limit : ℕ) (input second stem 
         let same_begin : S ≡ begin = one_net (bytes_of a second) S begin (read.second_read.told a b told tells) begins in
         subst (λ M. P exact M) same_begin (subst (λ M. P M S) same holds)
 
-    settled : (status : Status) → TaskAnswerAt task metric bound limit input second stem old new said says spent level status → status ≢ ReadFault → status ≢ WriteFault → status ≢ NoMemory
+    settled : (status : Status) → TaskAnswerAt task aim input second stem call spent level status → status ≢ ReadFault → status ≢ WriteFault → status ≢ NoMemory
         → spent ≡ None → level ≡ None → HasSamePorts exact begin → IsWithin metric exact bound begin → (status ≡ Done) × IsCertifiedAs task metric bound input stem exact begin b
     settled Done answer read written memory none no_level ports within =
         (refl, of_both (λ N S. IsCertifiedAs task metric bound input stem N S b) answer.0.exact answer.0.begin answer.0.read (certifies a b answer.0 none told tells))
@@ -103,12 +103,12 @@ module _ (task : Task) (metric : Metric) (bound limit : ℕ) (input second stem 
 -- ---- what a spent query is
 
 abbrev SpentIn : Task → Metric → ℕ → ℕ → Bytes → Bytes → FilesTold → FilesTold → SpentValue → Type 0
-SpentIn task metric bound limit input second old new q =
+SpentIn task aim input second old new q =
     (exact : NetValue) × (begin : NetValue) × AreRead input second old new exact begin × AreSpentOnSecond task metric exact begin bound limit q
 
-module _ (task : Task) (metric : Metric) (bound limit : ℕ) (input second stem : Bytes) (old new : FilesTold) (said says : SinkTold) (spent level : Option SpentValue) (q : SpentValue) where
-  spent_in : (status : Status) → TaskAnswerAt task metric bound limit input second stem old new said says spent level status → (spent ≡ Some q) ⊎ (level ≡ Some q)
-      → SpentIn task metric bound limit input second old new q
+module _ (task : Task) (aim : Constraint) (input second stem : Bytes) (call : Call) (spent level : Option SpentValue) (q : SpentValue) where
+  spent_in : (status : Status) → TaskAnswerAt task aim input second stem call spent level status → (spent ≡ Some q) ⊎ (level ≡ Some q)
+      → SpentIn task aim input second old new q
   spent_in Done (d, no_level) (inl is) =
       let w = d.written in
       (d.exact, d.begin, d.read, of_task metric d.exact d.begin bound limit task (shrinking_of w.result) q w.right.search (sym w.is_spent ∙ is))
@@ -124,22 +124,22 @@ module _ (task : Task) (metric : Metric) (bound limit : ℕ) (input second stem 
   spent_in WriteFault answer is = absurd (none_is q spent level answer.1 is)
   spent_in _ answer is = absurd answer
 
-pub second_headline-from : (words : List Bytes) (old new : FilesTold) (said says : SinkTold) (o : Outcome) → RunSays words old new said says o
-    → SecondHeadline words (o.status ≡ Verified) (o.status ≡ Done) (o.status ≡ NoMemory) (told_query o.spent) (told_query o.level) old new said says
-second_headline-from words old new said says o says_all = record {
+pub second_headline-from : (words : List Bytes) (call : Call) (o : Outcome) → RunSays words call o
+    → SecondHeadline words (o.status ≡ Verified) (o.status ≡ Done) (o.status ≡ NoMemory) (told_query o.spent) (told_query o.level) call
+second_headline-from words call o says_all = record {
   when_confirm_verifies = λ metric bound input stem named verified.
       let answer = says_all.answer (confirm metric bound input stem) named in
       let v = verified_end o.status answer.0 answer.1 verified in
       λ a b told tells. (v.exact, v.read.told a b told tells, keeps (v.shows a b told tells));
-  unless_conflicts_were_spent = λ task metric bound conflicts input second stem named quiet memory none no_level.
-      let answer = says_all.answer (against task metric bound conflicts input second stem) named in
-      let well = quiet_task_ends task metric bound conflicts input second stem old new said says (told_query o.spent) (told_query o.level) o.status answer quiet in
+  unless_conflicts_were_spent = λ task aim input second stem named quiet memory none no_level.
+      let answer = says_all.answer (against task aim input second stem) named in
+      let well = quiet_task_ends task aim input second stem call (told_query o.spent) (told_query o.level) o.status answer quiet in
       let files_named : IsTrue (are_file_words input stem) =
-      (and_parts (are_file_words input stem) (are_file_words second stem) (file_words_law.tasks words task metric bound conflicts input second stem named)).0 in
+      (and_parts (are_file_words input stem) (are_file_words second stem) (file_words_law.tasks words task aim input second stem named)).0 in
       λ a b told tells exact begin reads begins ports within.
-      settled task metric bound conflicts input second stem files_named old new said says (told_query o.spent) (told_query o.level) a b told tells exact begin reads begins o.status
+      settled task aim input second stem files_named call (told_query o.spent) (told_query o.level) a b told tells exact begin reads begins o.status
       answer well.read well.written memory none no_level ports within;
-  the_conflicts_that_were_spent = λ task metric bound conflicts input second stem named q is.
-      spent_in task metric bound conflicts input second stem old new said says (told_query o.spent) (told_query o.level) q o.status
-      (says_all.answer (against task metric bound conflicts input second stem) named) is;
+  the_conflicts_that_were_spent = λ task aim input second stem named q is.
+      spent_in task aim input second stem call (told_query o.spent) (told_query o.level) q o.status
+      (says_all.answer (against task aim input second stem) named) is;
 }

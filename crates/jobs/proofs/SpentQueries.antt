@@ -30,7 +30,7 @@ abbrev pub AreSpentOnChain : Metric → NetValue → NetValue → ℕ → ℕ �
 AreSpentOnChain metric exact begin bound limit q = (q.k ≤ bound) × IsOfTheChainFrom metric exact bound begin q.net × IsSpentQuery metric exact limit q
 
 module _ (metric : Metric) (exact begin : NetValue) (bound limit : ℕ) where
-  move_spent : (N : NetValue) (pool : List (List Bool)) (q : SpentValue) → IsInSimplificationFrom metric exact bound begin N → IsSpentMove metric exact bound limit N pool q
+  move_spent : (N : NetValue) (pool : List (List Bool)) (q : SpentValue) → IsInSimplificationFrom metric exact bound begin N → IsSpentMove aim exact N pool q
       → AreSpentOnChain metric exact begin bound limit q
   move_spent N pool q member s =
       let among : Contains (s.before ++ s.move ∷ s.after) s.move = Contains-append_right s.before (s.move ∷ s.after) s.move (Contains-here s.move s.after) in (
@@ -44,14 +44,14 @@ module _ (metric : Metric) (exact begin : NetValue) (bound limit : ℕ) where
 
   -- the query of the chain
   of_chain : (N : NetValue) (pool : List (List Bool)) (told : Option SpentValue) (q : SpentValue) → IsInSimplificationFrom metric exact bound begin N → told ≡ Some q
-      → MatchOption told (IsShownEnd metric exact bound begin N pool) (IsSpentMove metric exact bound limit N pool) → AreSpentOnChain metric exact begin bound limit q
+      → MatchOption told (IsShownEnd metric exact bound begin N pool) (IsSpentMove aim exact N pool) → AreSpentOnChain metric exact begin bound limit q
   of_chain N pool None q member is h = let bad : ◌≡◌ {A = Option SpentValue} None (Some q) = is in cc
   of_chain N pool (Some s) q member is h = let same : s ≡ q = cc is in subst (AreSpentOnChain metric exact begin bound limit) same (move_spent N pool s member h)
 
-  pub of_refined : (s : Shrinking) (q : SpentValue) → IsShrinking metric exact bound limit begin s → s.spent ≡ Some q → AreSpentOnChain metric exact begin bound limit q
+  pub of_refined : (s : Shrinking) (q : SpentValue) → IsShrinking aim exact begin s → s.spent ≡ Some q → AreSpentOnChain metric exact begin bound limit q
   of_refined s q search is = of_chain s.net s.pool s.spent q search.member is search.outcome
 
-  pub of_maximum : (spent : Option SpentValue) (s q : SpentValue) → MaximumSpent Refine metric bound limit exact begin spent s → (spent ≡ Some q) ⊎ (s ≡ q)
+  pub of_maximum : (spent : Option SpentValue) (s q : SpentValue) → MaximumSpent Refine aim exact begin spent s → (spent ≡ Some q) ⊎ (s ≡ q)
       → AreSpentOnChain metric exact begin bound limit q
   of_maximum spent s q m (inl is) = of_refined m.result q m.search (sym m.is_spent ∙ is)
   of_maximum spent s q m (inr same) = subst (AreSpentOnChain metric exact begin bound limit) same (level_spent m.result.net s m.search.member m.query)
@@ -61,11 +61,11 @@ module _ (metric : Metric) (exact begin : NetValue) (bound limit : ℕ) where
   on_second : (q : SpentValue) → AreSpentOnChain metric exact begin bound limit q → AreSpentOnSecond Refine metric exact begin bound limit q
   on_second q s = record { level = s.0; net = inr s.1; query = s.2 }
 
-  pub of_task : (task : Task) (s : Shrinking) (q : SpentValue) → IsTaskDone task metric exact bound limit begin s → s.spent ≡ Some q → AreSpentOnSecond task metric exact begin bound limit q
+  pub of_task : (task : Task) (s : Shrinking) (q : SpentValue) → IsTaskDone task aim exact begin s → s.spent ≡ Some q → AreSpentOnSecond task metric exact begin bound limit q
   of_task Certify s q certified is = let bad : ◌≡◌ {A = Option SpentValue} None (Some q) = sym (ap (λ (t : Shrinking). t.spent) certified) ∙ is in cc
   of_task Refine s q search is = on_second q (of_refined s q search is)
 
-  of_task_maximum : (task : Task) (spent : Option SpentValue) (s q : SpentValue) → MaximumSpent task metric bound limit exact begin spent s → (spent ≡ Some q) ⊎ (s ≡ q)
+  of_task_maximum : (task : Task) (spent : Option SpentValue) (s q : SpentValue) → MaximumSpent task aim exact begin spent s → (spent ≡ Some q) ⊎ (s ≡ q)
       → AreSpentOnSecond task metric exact begin bound limit q
   of_task_maximum Certify spent s q m (inl is) = of_task Certify m.result q m.search (sym m.is_spent ∙ is)
   of_task_maximum Certify spent s q m (inr same) = subst (AreSpentOnSecond Certify metric exact begin bound limit) same
@@ -73,17 +73,17 @@ module _ (metric : Metric) (exact begin : NetValue) (bound limit : ℕ) where
   of_task_maximum Refine spent s q m is = on_second q (of_maximum spent s q m is)
 
   -- the query whether the second net keeps the bound
-  of_bound : (task : Task) (q : SpentValue) → IsBoundSpent metric bound limit exact begin q → AreSpentOnSecond task metric exact begin bound limit q
+  of_bound : (task : Task) (q : SpentValue) → IsBoundSpent aim exact begin q → AreSpentOnSecond task metric exact begin bound limit q
   of_bound Certify q s = record { level = omega (arith, s.at_bound); net = s.net; query = s.query }
   of_bound Refine q s = record { level = omega (arith, s.at_bound); net = inl s.net; query = s.query }
 
-  pub of_task_spent : (task : Task) (spent : Option SpentValue) (s q : SpentValue) → IsTaskSpent task metric bound limit spent s exact begin → (spent ≡ Some q) ⊎ (s ≡ q)
+  pub of_task_spent : (task : Task) (spent : Option SpentValue) (s q : SpentValue) → IsTaskSpent task aim spent s exact begin → (spent ≡ Some q) ⊎ (s ≡ q)
       → AreSpentOnSecond task metric exact begin bound limit q
   of_task_spent task spent s q (inl (on_bound, none)) (inl is) = let bad : ◌≡◌ {A = Option SpentValue} None (Some q) = sym none ∙ is in cc
   of_task_spent task spent s q (inl (on_bound, none)) (inr same) = subst (AreSpentOnSecond task metric exact begin bound limit) same (of_bound task s on_bound)
   of_task_spent task spent s q (inr (beginning, search)) is = of_task_maximum task spent s q search is
 
 -- where the chain begins with the exact net itself
-pub on_chain : (metric : Metric) (exact : NetValue) (bound limit : ℕ) (q : SpentValue) → AreSpentOnChain metric exact exact bound limit q → AreSpentOn metric exact bound limit q
-on_chain metric exact bound limit q s =
+pub on_chain : (aim : Constraint) (exact : NetValue) (q : SpentValue) → AreSpentOnChain metric exact exact bound limit q → AreSpentOn aim exact q
+on_chain aim exact q s =
     record { level = s.0; net = record { member = s.1.member; in_the_chain = s.1.in_the_chain; at_most_a_move = s.1.at_most_a_move }; query = s.2 }

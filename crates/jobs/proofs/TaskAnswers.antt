@@ -41,7 +41,7 @@ accepted : {input : Bytes} {old mid new : FilesTold} {N : NetValue} → NetRead 
 accepted {N = N} read goes = λ a b told tells. (N, (read_later read goes).told a b told tells)
 
 module _ {input second : Bytes} {old mid : FilesTold} {N : NetValue} (read : NetRead old mid input N) where
-  both_untouched : {new : FilesTold} {said says : SinkTold} → FilesStay mid new second → says ≡ said → AreUntouched input second old new said says
+  both_untouched : {new : FilesTold} {said says : SinkTold} → FilesStay mid new second → says ≡ said → AreUntouched input second call
   both_untouched {new} stay quiet = record {
     goes = Goes-Goes read.stay.goes stay.goes;
     files = λ a b told tells. let m = held_before mid new stay.goes b tells in stay.stays m.0 b m.1 tells ∙ read.stay.stays a m.0 told m.1;
@@ -63,10 +63,10 @@ module _ {input second : Bytes} {old mid : FilesTold} {N : NetValue} (read : Net
       let m = held_before mid new r.stay.goes b tells in
       subst (λ x. IsTrue (contains_key x second)) (read.stay.stays a m.0 told m.1) (r.held m.0 b m.1 tells)
 
-module _ (task : Task) (metric : Metric) (bound limit : ℕ) (input second stem : Bytes) {old mid : FilesTold} (new : FilesTold) (said : SinkTold) {N : NetValue}
+module _ (task : Task) (aim : Constraint) (input second stem : Bytes) {old mid : FilesTold} (new : FilesTold) (said : SinkTold) {N : NetValue}
     (read : NetRead old mid input N) where
   -- the second netlist gives no net
-  task-no_second : (answer : Status) → SecondUnread mid new second answer → TaskAnswerAt task metric bound limit input second stem old new said said None None answer
+  task-no_second : (answer : Status) → SecondUnread mid new second answer → TaskAnswerAt task aim input second stem old new said said None None answer
   task-no_second (Second reason) (refusal, told, r) = (
     (
       refusal,
@@ -93,8 +93,8 @@ module _ (task : Task) (metric : Metric) (bound limit : ℕ) (input second stem 
   task-no_second _ bad = absurd bad
 
   pub task_answer-no_second : (answer : Status) (o : Outcome) → o ≡ record { status = answer; spent = None; level = None } → SecondUnread mid new second answer
-      → TaskAnswer task metric bound limit input second stem old new said said o
-  task_answer-no_second answer o is unread = subst (TaskAnswer task metric bound limit input second stem old new said said) (sym is) (task-no_second answer unread)
+      → TaskAnswer task aim input second stem old new said said o
+  task_answer-no_second answer o is unread = subst (TaskAnswer task aim input second stem old new said said) (sym is) (task-no_second answer unread)
 
 -- ---- both were read
 
@@ -107,7 +107,7 @@ module _ {input second : Bytes} {old mid next : FilesTold} {N S : NetValue} (rea
       let later : Goes mid new = Goes-Goes begun.stay.goes goes in
       record { input_read = read_later read later; second_read = of_second read (λ text. IsReadAs text S) later (read_later begun goes) }
 
-  both_read : (new : FilesTold) (said says : SinkTold) (P : NetValue → NetValue → Type 0) → new ≡ next → says ≡ said → P N S → AreBothRead input second old new said says P
+  both_read : (new : FilesTold) (said says : SinkTold) (P : NetValue → NetValue → Type 0) → new ≡ next → says ≡ said → P N S → AreBothRead input second call P
   both_read new said says P same quiet holds = subst (λ n. AreBothRead input second old n said says P) (sym same) (record {
     untouched = both_untouched read begun.stay quiet;
     exact = N;
@@ -116,39 +116,39 @@ module _ {input second : Bytes} {old mid next : FilesTold} {N S : NetValue} (rea
     holds = holds;
   })
 
-  nothing_touched : (new : FilesTold) (said says : SinkTold) → new ≡ next → says ≡ said → AreUntouched input second old new said says
+  nothing_touched : (new : FilesTold) (said says : SinkTold) → new ≡ next → says ≡ said → AreUntouched input second call
   nothing_touched new said says same quiet = subst (λ n. AreUntouched input second old n said says) (sym same) (both_untouched read begun.stay quiet)
 
-  TaskAnswer-from : (task : Task) (metric : Metric) (bound limit : ℕ) (stem : Bytes) (new : FilesTold) (said says : SinkTold) (spent level : Option SpentValue) (status : Status)
-      → JudgedAnswerAt task metric bound limit N S stem next new said says spent level status → TaskAnswerAt task metric bound limit input second stem old new said says spent level status
-  TaskAnswer-from task metric bound limit stem new said says spent level Done answer = (
+  TaskAnswer-from : (task : Task) (aim : Constraint) (stem : Bytes) (new : FilesTold) (said says : SinkTold) (spent level : Option SpentValue) (status : Status)
+      → JudgedAnswerAt task aim N S stem next new said says spent level status → TaskAnswerAt task aim input second stem call spent level status
+  TaskAnswer-from task aim stem new said says spent level Done answer = (
     record { exact = N; begin = S; read = are_read answer.1.0.files.goes; beginning = answer.0; written = written_since both_unwritten answer.1.0 },
     answer.1.1,
   )
-  TaskAnswer-from task metric bound limit stem new said says spent level Budget answer =
-      (answer.0, answer.1, both_read new said says (IsTaskSpent task metric bound limit spent answer.0) answer.2.0 answer.2.1 answer.2.2)
-  TaskAnswer-from task metric bound limit stem new said says spent level Ports answer = (both_read new said says HasOtherPorts answer.0 answer.1 answer.2.0, answer.2.1)
-  TaskAnswer-from task metric bound limit stem new said says spent level (Over x) answer =
+  TaskAnswer-from task aim stem new said says spent level Budget answer =
+      (answer.0, answer.1, both_read new said says (IsTaskSpent task aim spent answer.0) answer.2.0 answer.2.1 answer.2.2)
+  TaskAnswer-from task aim stem new said says spent level Ports answer = (both_read new said says HasOtherPorts answer.0 answer.1 answer.2.0, answer.2.1)
+  TaskAnswer-from task aim stem new said says spent level (Over x) answer =
       (both_read new said says (IsAboveBound metric bound x) answer.0 answer.1 answer.2.0, answer.2.1)
-  TaskAnswer-from task metric bound limit stem new said says spent level NoMemory answer = (nothing_touched new said says answer.0 answer.1, answer.2)
-  TaskAnswer-from task metric bound limit stem new said says spent level WriteFault answer = (
+  TaskAnswer-from task aim stem new said says spent level NoMemory answer = (nothing_touched new said says answer.0 answer.1, answer.2)
+  TaskAnswer-from task aim stem new said says spent level WriteFault answer = (
     record { exact = N; begin = S; read = are_read (goes_cut answer.1.0); beginning = answer.0; left = cut_since both_unwritten answer.1.0 },
     answer.1.1,
   )
-  TaskAnswer-from task metric bound limit stem new said says spent level _ answer = absurd answer.1
+  TaskAnswer-from task aim stem new said says spent level _ answer = absurd answer.1
 
 -- the answer of a task, from what the judging of the second net and the work on it say
-pub TaskAnswer-of : (task : Task) (metric : Metric) (bound limit : ℕ) (input second stem : Bytes) {old mid next : FilesTold} (new : FilesTold) (said says : SinkTold) {N S : NetValue} (o : Outcome)
-    → NetRead old mid input N → NetRead mid next second S → JudgedAnswer task metric bound limit N S stem next new said says o
-    → TaskAnswer task metric bound limit input second stem old new said says o
-TaskAnswer-of task metric bound limit input second stem new said says o read begun answer =
-    TaskAnswer-from read begun task metric bound limit stem new said says (told_query o.spent) (told_query o.level) o.status answer
+pub TaskAnswer-of : (task : Task) (aim : Constraint) (input second stem : Bytes) {old mid next : FilesTold} (new : FilesTold) (said says : SinkTold) {N S : NetValue} (o : Outcome)
+    → NetRead old mid input N → NetRead mid next second S → JudgedAnswer task aim N S stem next new said says o
+    → TaskAnswer task aim input second stem call o
+TaskAnswer-of task aim input second stem new said says o read begun answer =
+    TaskAnswer-from read begun task aim stem new said says (told_query o.spent) (told_query o.level) o.status answer
 
 -- ---- a quiet call
 
-module _ {input second stem : Bytes} {old new : FilesTold} {said says : SinkTold} where
+module _ {input second stem : Bytes} {call : Call} where
   -- a call with a fault in reading is not quiet
-  not_quiet_read : TaskReadFault input second old new said says → IsQuietTask input second stem old new said says → ⊥
+  not_quiet_read : TaskReadFault input second call → IsQuietTask input second stem call → ⊥
   not_quiet_read fault quiet =
       elim quiet.files [
         | inl calm ↦ calm fault.rose
@@ -159,7 +159,7 @@ module _ {input second stem : Bytes} {old new : FilesTold} {said says : SinkTold
       ]
 
   -- nor is one with a fault in writing
-  not_quiet_write : {task : Task} {metric : Metric} {bound limit : ℕ} → TaskWriteFault task metric bound limit input second stem old new said says → IsQuietTask input second stem old new said says → ⊥
+  not_quiet_write : {task : Task} {metric : Metric} {bound limit : ℕ} → TaskWriteFault task aim input second stem call → IsQuietTask input second stem call → ⊥
   not_quiet_write fault quiet =
       elim quiet.files [
         | inl calm ↦ not_quiet_cut fault.left (inl calm) quiet.sink
@@ -169,9 +169,9 @@ module _ {input second stem : Bytes} {old new : FilesTold} {said says : SinkTold
             not_quiet_cut fault.left (inr (steady.written first then)) quiet.sink
       ]
 
-module _ (task : Task) (metric : Metric) (bound limit : ℕ) (input second stem : Bytes) (old new : FilesTold) (said says : SinkTold) (spent level : Option SpentValue) where
+module _ (task : Task) (aim : Constraint) (input second stem : Bytes) (call : Call) (spent level : Option SpentValue) where
   -- an answer without a fault is the one that the reading of IN asks for
-  answers_input : (status : Status) → TaskAnswerAt task metric bound limit input second stem old new said says spent level status → status ≢ ReadFault → status ≢ WriteFault
+  answers_input : (status : Status) → TaskAnswerAt task aim input second stem call spent level status → status ≢ ReadFault → status ≢ WriteFault
       → WhereHeld old input (λ a. IsInputAnswerTo (input_reading (bytes_of a input)) status)
   answers_input Done answer no_read no_write = λ a told has. (answer.0.exact, answer.0.read.input_read.at_entry a told has)
   answers_input Budget answer no_read no_write = λ a told has. (answer.2.exact, answer.2.read.input_read.at_entry a told has)
@@ -185,13 +185,13 @@ module _ (task : Task) (metric : Metric) (bound limit : ℕ) (input second stem 
   answers_input _ answer no_read no_write = absurd answer
 
   -- where conflicts were spent, the nets have the same ports, and the conflicts are not enough
-  spent_ends : (q : SpentValue) (exact begin : NetValue) → IsTaskSpent task metric bound limit spent q exact begin → HasSamePorts exact begin × ¬ IsEnough limit (input_count exact)
+  spent_ends : (q : SpentValue) (exact begin : NetValue) → IsTaskSpent task aim spent q exact begin → HasSamePorts exact begin × ¬ IsEnough limit (input_count exact)
   spent_ends q exact begin (inl (spent_on, none)) = (spent_on.ports, spent_on.query.not_enough)
   spent_ends q exact begin (inr (beginning, search)) = (beginning.ports, search.query.query.not_enough)
 
   -- and the one that both readings and the conflicts ask for
-  answers_both : (status : Status) → TaskAnswerAt task metric bound limit input second stem old new said says spent level status → status ≢ ReadFault → status ≢ WriteFault
-      → WhereBothHeld old input second (λ a. IsTaskAnswerTo metric bound limit spent (input_reading (bytes_of a input)) (input_reading (bytes_of a second)) status)
+  answers_both : (status : Status) → TaskAnswerAt task aim input second stem call spent level status → status ≢ ReadFault → status ≢ WriteFault
+      → WhereBothHeld old input second (λ a. IsTaskAnswerTo aim spent (input_reading (bytes_of a input)) (input_reading (bytes_of a second)) status)
   answers_both Done answer no_read no_write = λ a told has_input has_second.
       let d = answer.0 in
       (d.exact, d.read.input_read.at_entry a told has_input, (d.begin, d.read.second_read.at_entry a told has_input has_second, (d.beginning, enough_spends_nothing d.written)))
@@ -213,11 +213,11 @@ module _ (task : Task) (metric : Metric) (bound limit : ℕ) (input second stem 
   answers_both _ answer no_read no_write = absurd answer
 
   -- a quiet call has no fault, and is answered as the readings and the conflicts ask
-  pub quiet_task_ends : (status : Status) → TaskAnswerAt task metric bound limit input second stem old new said says spent level status → IsQuietTask input second stem old new said says
-      → EndsWellOnBoth input_reading IsInputAnswerTo (IsTaskAnswerTo metric bound limit spent) input second old status
+  pub quiet_task_ends : (status : Status) → TaskAnswerAt task aim input second stem call spent level status → IsQuietTask input second stem call
+      → EndsWellOnBoth input_reading IsInputAnswerTo (IsTaskAnswerTo aim spent) input second old status
   quiet_task_ends status answer quiet =
-      let no_read : status ≢ ReadFault = λ is. not_quiet_read (subst (TaskAnswerAt task metric bound limit input second stem old new said says spent level) is answer).0 quiet in
-      let no_write : status ≢ WriteFault = λ is. not_quiet_write (subst (TaskAnswerAt task metric bound limit input second stem old new said says spent level) is answer).0 quiet in
+      let no_read : status ≢ ReadFault = λ is. not_quiet_read (subst (TaskAnswerAt task aim input second stem call spent level) is answer).0 quiet in
+      let no_write : status ≢ WriteFault = λ is. not_quiet_write (subst (TaskAnswerAt task aim input second stem call spent level) is answer).0 quiet in
       record {
         read = no_read;
         written = no_write;

@@ -41,84 +41,80 @@ use Rattle.synth_jobs.specs.Spent.{told_query}
 use Rattle.jobs.specs.Outcome.{NothingSpent, SpendsAsTold}
 
 -- IN is refused for the reason that is told, which is not want of memory
-abbrev pub IsToldRefused : BlifRefusal → Bytes → FilesTold → FilesTold → SinkTold → SinkTold → Type 0
-IsToldRefused reason input old new said says =
+abbrev pub IsToldRefused : BlifRefusal → Bytes → Call → Type 0
+IsToldRefused reason input call =
     (refusal : Refusal) × (refusal_of reason ≡ Some refusal)
-    × InputRefused (λ text. IsRefusedFor text refusal) input old new said says
+    × InputRefused (λ text. IsRefusedFor text refusal) input call
 
 -- what a synth job comes to, by its answer and the queries that are told as spent
-abbrev pub SynthAnswerAt : Metric → ℕ → ℕ → Bytes → Bytes → FilesTold → FilesTold → SinkTold → SinkTold
+abbrev pub SynthAnswerAt : Metric → ℕ → ℕ → Bytes → Bytes → Call
     → Option SpentValue → Option SpentValue → Status → Type 0
-SynthAnswerAt metric bound limit input stem old new said says spent level Done
-    = SynthDone metric bound limit input stem spent old new said says × (level ≡ None)
-SynthAnswerAt metric bound limit input stem old new said says spent level Budget =
-    (q : SpentValue) × (level ≡ Some q) × SynthBudget metric bound limit input spent q old new said says
-SynthAnswerAt metric bound limit input stem old new said says spent level (Text reason)
-    = IsToldRefused reason input old new said says × NothingSpent spent level
-SynthAnswerAt metric bound limit input stem old new said says spent level NoMemory
-    = IsUntouched input old new said says × NothingSpent spent level
-SynthAnswerAt metric bound limit input stem old new said says spent level ReadFault
-    = InputReadFault input old new said says × NothingSpent spent level
-SynthAnswerAt metric bound limit input stem old new said says spent level WriteFault
-    = SynthWriteFault metric bound limit input stem old new said says × NothingSpent spent level
-SynthAnswerAt metric bound limit input stem old new said says spent level _ = ⊥
+SynthAnswerAt aim input stem call spent level Done
+    = SynthDone aim input stem spent call × (level ≡ None)
+SynthAnswerAt aim input stem call spent level Budget =
+    (q : SpentValue) × (level ≡ Some q) × SynthBudget aim input spent q call
+SynthAnswerAt aim input stem call spent level (Text reason)
+    = IsToldRefused reason input call × NothingSpent spent level
+SynthAnswerAt aim input stem call spent level NoMemory
+    = IsUntouched input call × NothingSpent spent level
+SynthAnswerAt aim input stem call spent level ReadFault
+    = InputReadFault input call × NothingSpent spent level
+SynthAnswerAt aim input stem call spent level WriteFault
+    = SynthWriteFault aim input stem call × NothingSpent spent level
+SynthAnswerAt aim input stem call spent level _ = ⊥
 
-abbrev pub SynthAnswer : Metric → ℕ → ℕ → Bytes → Bytes → FilesTold → FilesTold → SinkTold → SinkTold
+abbrev pub SynthAnswer : Metric → ℕ → ℕ → Bytes → Bytes → Call
     → Outcome → Type 0
-SynthAnswer metric bound limit input stem old new said says o =
-    SynthAnswerAt metric bound limit input stem old new said says (told_query o.spent) (told_query o.level)
+SynthAnswer aim input stem call o =
+    SynthAnswerAt aim input stem call (told_query o.spent) (told_query o.level)
     o.status
 
 -- what a task on nets that were read or generated comes to: nothing was touched, or the bundle was written
 -- under the stem, whole or in part
-abbrev pub BundleAnswerAt : Task → Metric → ℕ → ℕ → NetValue → NetValue → Bytes → FilesTold → FilesTold
-    → SinkTold → SinkTold → Option SpentValue → Option SpentValue → Status → Type 0
-BundleAnswerAt task metric bound limit exact begin stem old new said says spent level Done
-    = BundleWritten task metric bound limit exact begin stem spent old new said says × (level ≡ None)
-BundleAnswerAt task metric bound limit exact begin stem old new said says spent level Budget =
+abbrev pub BundleAnswerAt : Task → Metric → ℕ → ℕ → NetValue → NetValue → Bytes → Call → Option SpentValue → Option SpentValue → Status → Type 0
+BundleAnswerAt task aim exact begin stem call spent level Done
+    = BundleWritten task aim exact begin stem spent call × (level ≡ None)
+BundleAnswerAt task aim exact begin stem call spent level Budget =
     (new ≡ old) × (says ≡ said) × (q : SpentValue) × (level ≡ Some q)
-    × MaximumSpent task metric bound limit exact begin spent q
-BundleAnswerAt task metric bound limit exact begin stem old new said says spent level NoMemory = (new ≡ old)
+    × MaximumSpent task aim exact begin spent q
+BundleAnswerAt task aim exact begin stem call spent level NoMemory = (new ≡ old)
     × (says ≡ said) × NothingSpent spent level
-BundleAnswerAt task metric bound limit exact begin stem old new said says spent level WriteFault
-    = BundleCutShort task metric bound limit exact begin stem old new said says × NothingSpent spent level
-BundleAnswerAt task metric bound limit exact begin stem old new said says spent level _ = ⊥
+BundleAnswerAt task aim exact begin stem call spent level WriteFault
+    = BundleCutShort task aim exact begin stem call × NothingSpent spent level
+BundleAnswerAt task aim exact begin stem call spent level _ = ⊥
 
-abbrev pub BundleAnswer : Task → Metric → ℕ → ℕ → NetValue → NetValue → Bytes → FilesTold → FilesTold
-    → SinkTold → SinkTold → Outcome → Type 0
-BundleAnswer task metric bound limit exact begin stem old new said says o =
-    BundleAnswerAt task metric bound limit exact begin stem old new said says (told_query o.spent)
+abbrev pub BundleAnswer : Task → Metric → ℕ → ℕ → NetValue → NetValue → Bytes → Call → Outcome → Type 0
+BundleAnswer task aim exact begin stem call o =
+    BundleAnswerAt task aim exact begin stem call (told_query o.spent)
     (told_query o.level) o.status
 
 -- what a certify or a refine job comes to, by its answer and the queries that are told as spent
-abbrev pub TaskAnswerAt : Task → Metric → ℕ → ℕ → Bytes → Bytes → Bytes → FilesTold → FilesTold → SinkTold
-    → SinkTold → Option SpentValue → Option SpentValue → Status → Type 0
-TaskAnswerAt task metric bound limit input second stem old new said says spent level Done
-    = TaskDone task metric bound limit input second stem spent old new said says × (level ≡ None)
-TaskAnswerAt task metric bound limit input second stem old new said says spent level Budget =
+abbrev pub TaskAnswerAt : Task → Metric → ℕ → ℕ → Bytes → Bytes → Bytes → Call → Option SpentValue → Option SpentValue → Status → Type 0
+TaskAnswerAt task aim input second stem call spent level Done
+    = TaskDone task aim input second stem spent call × (level ≡ None)
+TaskAnswerAt task aim input second stem call spent level Budget =
     (q : SpentValue) × (level ≡ Some q)
-    × AreBothRead input second old new said says (IsTaskSpent task metric bound limit spent q)
-TaskAnswerAt task metric bound limit input second stem old new said says spent level (Text reason)
-    = IsToldRefused reason input old new said says × NothingSpent spent level
-TaskAnswerAt task metric bound limit input second stem old new said says spent level (Second reason) =
+    × AreBothRead input second call (IsTaskSpent task aim spent q)
+TaskAnswerAt task aim input second stem call spent level (Text reason)
+    = IsToldRefused reason input call × NothingSpent spent level
+TaskAnswerAt task aim input second stem call spent level (Second reason) =
     ((refusal : Refusal) × (refusal_of reason ≡ Some refusal)
-    × SecondRefused refusal input second old new said says) × NothingSpent spent level
-TaskAnswerAt task metric bound limit input second stem old new said says spent level Ports
-    = AreBothRead input second old new said says HasOtherPorts × NothingSpent spent level
-TaskAnswerAt task metric bound limit input second stem old new said says spent level (Over x)
-    = AreBothRead input second old new said says (IsAboveBound metric bound x) × NothingSpent spent level
-TaskAnswerAt task metric bound limit input second stem old new said says spent level NoMemory
-    = AreUntouched input second old new said says × NothingSpent spent level
-TaskAnswerAt task metric bound limit input second stem old new said says spent level ReadFault
-    = TaskReadFault input second old new said says × NothingSpent spent level
-TaskAnswerAt task metric bound limit input second stem old new said says spent level WriteFault
-    = TaskWriteFault task metric bound limit input second stem old new said says × NothingSpent spent level
-TaskAnswerAt task metric bound limit input second stem old new said says spent level _ = ⊥
+    × SecondRefused refusal input second call) × NothingSpent spent level
+TaskAnswerAt task aim input second stem call spent level Ports
+    = AreBothRead input second call HasOtherPorts × NothingSpent spent level
+TaskAnswerAt task aim input second stem call spent level (Over x)
+    = AreBothRead input second call (IsAboveBound metric bound x) × NothingSpent spent level
+TaskAnswerAt task aim input second stem call spent level NoMemory
+    = AreUntouched input second call × NothingSpent spent level
+TaskAnswerAt task aim input second stem call spent level ReadFault
+    = TaskReadFault input second call × NothingSpent spent level
+TaskAnswerAt task aim input second stem call spent level WriteFault
+    = TaskWriteFault task aim input second stem call × NothingSpent spent level
+TaskAnswerAt task aim input second stem call spent level _ = ⊥
 
-abbrev pub TaskAnswer : Task → Metric → ℕ → ℕ → Bytes → Bytes → Bytes → FilesTold → FilesTold → SinkTold
-    → SinkTold → Outcome → Type 0
-TaskAnswer task metric bound limit input second stem old new said says o =
-    TaskAnswerAt task metric bound limit input second stem old new said says (told_query o.spent)
+abbrev pub TaskAnswer : Task → Metric → ℕ → ℕ → Bytes → Bytes → Bytes → Call → Outcome → Type 0
+TaskAnswer task aim input second stem call o =
+    TaskAnswerAt task aim input second stem call (told_query o.spent)
     (told_query o.level) o.status
 
 -- Where `limit` conflicts are enough for `inputs` inputs, a bundle is written and no query is spent.
@@ -155,50 +151,49 @@ GivesNets reading second P = GivesNet reading (λ N. GivesNet second (P N))
 -- the answer that both readings ask a certify or a refine job for, unless memory is wanting
 abbrev pub IsTaskAnswerTo : Metric → ℕ → ℕ → Option SpentValue → Result NetValue Refusal
     → Result NetValue Refusal → Status → Type 0
-IsTaskAnswerTo metric bound limit spent reading second Done =
+IsTaskAnswerTo aim spent reading second Done =
     GivesNets reading second
     (λ N S. IsBeginning metric N bound S × IsWorkOf limit (input_count N) spent Done)
-IsTaskAnswerTo metric bound limit spent reading second Budget =
+IsTaskAnswerTo aim spent reading second Budget =
     GivesNets reading second (λ N S. HasSamePorts N S × IsWorkOf limit (input_count N) spent Budget)
-IsTaskAnswerTo metric bound limit spent reading second (Text reason) = Refuses reading reason
-IsTaskAnswerTo metric bound limit spent reading second (Second reason)
+IsTaskAnswerTo aim spent reading second (Text reason) = Refuses reading reason
+IsTaskAnswerTo aim spent reading second (Second reason)
     = GivesNet reading (λ N. Refuses second reason)
-IsTaskAnswerTo metric bound limit spent reading second Ports = GivesNets reading second HasOtherPorts
-IsTaskAnswerTo metric bound limit spent reading second (Over x)
+IsTaskAnswerTo aim spent reading second Ports = GivesNets reading second HasOtherPorts
+IsTaskAnswerTo aim spent reading second (Over x)
     = GivesNets reading second (IsAboveBound metric bound x)
-IsTaskAnswerTo metric bound limit spent reading second NoMemory = Unit {0}
-IsTaskAnswerTo metric bound limit spent reading second _ = ⊥
+IsTaskAnswerTo aim spent reading second NoMemory = Unit {0}
+IsTaskAnswerTo aim spent reading second _ = ⊥
 
 -- the solver was asked nothing
 abbrev pub AsksNoQuery : Outcome → Type 0
 AsksNoQuery o = NothingSpent (told_query o.spent) (told_query o.level)
 
 -- what the answer to a job says
-abbrev pub JobAnswer : Job → FilesTold → FilesTold → SinkTold → SinkTold → Outcome → Type 0
-JobAnswer (synth metric bound conflicts input stem) old new said says o
-    = SynthAnswer metric bound conflicts input stem old new said says o
-JobAnswer (against task metric bound conflicts input second stem) old new said says o
-    = TaskAnswer task metric bound conflicts input second stem old new said says o
-JobAnswer (check metric bound input stem) old new said says o
-    = CheckAnswer Refused metric bound input stem old new said says o.status
-JobAnswer (confirm metric bound input stem) old new said says o
-    = CheckAnswer Allowed metric bound input stem old new said says o.status
-JobAnswer (demo width bound conflicts) old new said says o =
-    BundleAnswer Refine (one_word Abs) bound conflicts (demo_net width) (demo_net width) demo_stem old new
-    said says o
-JobAnswer (flat input output) old new said says o
-    = ConversionAnswer flat_text TellsHier input output old new said says o.status × AsksNoQuery o
-JobAnswer (aag input output) old new said says o
-    = ConversionAnswer aag_text TellsBlif input output old new said says o.status × AsksNoQuery o
-JobAnswer (blif input output) old new said says o
-    = ConversionAnswer netlist_text TellsAiger input output old new said says o.status × AsksNoQuery o
-JobAnswer (trim metric bound input stem output) old new said says o
-    = TrimAnswer metric bound input stem output old new said says o.status × AsksNoQuery o
+abbrev pub JobAnswer : Job → Call → Outcome → Type 0
+JobAnswer (synth aim input stem) call o
+    = SynthAnswer aim input stem call o
+JobAnswer (against task aim input second stem) call o
+    = TaskAnswer task aim input second stem call o
+JobAnswer (check metric bound input stem) call o
+    = CheckAnswer Refused metric bound input stem call o.status
+JobAnswer (confirm metric bound input stem) call o
+    = CheckAnswer Allowed metric bound input stem call o.status
+JobAnswer (demo width bound conflicts) call o =
+    BundleAnswer Refine (one_word Abs) bound conflicts (demo_net width) (demo_net width) demo_stem call o
+JobAnswer (flat input output) call o
+    = ConversionAnswer flat_text TellsHier input output call o.status × AsksNoQuery o
+JobAnswer (aag input output) call o
+    = ConversionAnswer aag_text TellsBlif input output call o.status × AsksNoQuery o
+JobAnswer (blif input output) call o
+    = ConversionAnswer netlist_text TellsAiger input output call o.status × AsksNoQuery o
+JobAnswer (trim metric bound input stem output) call o
+    = TrimAnswer metric bound input stem output call o.status × AsksNoQuery o
 
 -- the job is done with files alone: no net is simplified, and no report is put
 abbrev pub IsOnFiles : Job → Type 0
-IsOnFiles (synth metric bound conflicts input stem) = ⊥
-IsOnFiles (against task metric bound conflicts input second stem) = ⊥
+IsOnFiles (synth aim input stem) = ⊥
+IsOnFiles (against task aim input second stem) = ⊥
 IsOnFiles (demo width bound conflicts) = ⊥
 IsOnFiles job = Unit {0}
 
@@ -206,37 +201,37 @@ IsOnFiles job = Unit {0}
 -- that are no job, and no other words, are answered `Usage`. A spent query is told with `Budget` and with
 -- `Done` alone, and one on a level of the error exactly with `Budget`. The answer to a job says
 -- what the job comes to.
-pub record RunSays (words : List Bytes) (old new : FilesTold) (said says : SinkTold)
+pub record RunSays (words : List Bytes) (call : Call)
     (o : Outcome) : Type 0 where
   pub usage : (o.status ≡ Usage) ↔ (job_of words ≡ None)
   pub spent : SpendsAsTold o
-  pub answer : (job : Job) → job_of words ≡ Some job → JobAnswer job old new said says o
+  pub answer : (job : Job) → job_of words ≡ Some job → JobAnswer job call o
 
 -- no call on the files or the sink that the job needs failed
-abbrev pub IsQuietJob : Job → FilesTold → FilesTold → SinkTold → SinkTold → Type 0
-IsQuietJob (synth metric bound conflicts input stem) old new said says
-    = IsQuietSynth input stem old new said says
-IsQuietJob (against task metric bound conflicts input second stem) old new said says
-    = IsQuietTask input second stem old new said says
-IsQuietJob (check metric bound input stem) old new said says
-    = IsQuietCheck Refused metric bound input stem old new said says
-IsQuietJob (confirm metric bound input stem) old new said says
-    = IsQuietCheck Allowed metric bound input stem old new said says
-IsQuietJob (demo width bound conflicts) old new said says = IsQuietDemo old new said says
-IsQuietJob (flat input output) old new said says = IsQuietConversion flat_text input output old new said says
-IsQuietJob (aag input output) old new said says = IsQuietConversion aag_text input output old new said says
-IsQuietJob (blif input output) old new said says
-    = IsQuietConversion netlist_text input output old new said says
-IsQuietJob (trim metric bound input stem output) old new said says
-    = IsQuietTrim metric bound input stem output old new said says
+abbrev pub IsQuietJob : Job → Call → Type 0
+IsQuietJob (synth aim input stem) call
+    = IsQuietSynth input stem call
+IsQuietJob (against task aim input second stem) call
+    = IsQuietTask input second stem call
+IsQuietJob (check metric bound input stem) call
+    = IsQuietCheck Refused metric bound input stem call
+IsQuietJob (confirm metric bound input stem) call
+    = IsQuietCheck Allowed metric bound input stem call
+IsQuietJob (demo width bound conflicts) call = IsQuietDemo call
+IsQuietJob (flat input output) call = IsQuietConversion flat_text input output call
+IsQuietJob (aag input output) call = IsQuietConversion aag_text input output call
+IsQuietJob (blif input output) call
+    = IsQuietConversion netlist_text input output call
+IsQuietJob (trim metric bound input stem output) call
+    = IsQuietTrim metric bound input stem output call
 
 -- the job ends without a fault, and as the readings and the conflicts ask, unless memory is wanting
 abbrev pub EndsAsAsked : Job → FilesTold → Outcome → Type 0
-EndsAsAsked (synth metric bound conflicts input stem) old o
+EndsAsAsked (synth aim input stem) old o
     = EndsWell input_reading (IsAnswerTo conflicts (told_query o.spent)) input old o.status
-EndsAsAsked (against task metric bound conflicts input second stem) old o =
+EndsAsAsked (against task aim input second stem) old o =
     EndsWellOnBoth input_reading IsInputAnswerTo
-    (IsTaskAnswerTo metric bound conflicts (told_query o.spent)) input second old o.status
+    (IsTaskAnswerTo aim (told_query o.spent)) input second old o.status
 EndsAsAsked (check metric bound input stem) old o = EndsWell input_reading IsCheckAnswerTo input old o.status
 EndsAsAsked (confirm metric bound input stem) old o
     = EndsWell input_reading IsCheckAnswerTo input old o.status

@@ -29,27 +29,25 @@ SecondUnread old new name NoMemory = FilesStay old new name
 SecondUnread old new name _ = ⊥
 
 -- nothing was touched, and P holds
-abbrev pub IsStill : FilesTold → FilesTold → SinkTold → SinkTold → Type 0 → Type 0
-IsStill old new said says P = (new ≡ old) × (says ≡ said) × P
+abbrev pub IsStill : Call → Type 0 → Type 0
+IsStill call P = (new ≡ old) × (says ≡ said) × P
 
 -- what the judging of a second net comes to, and the task where the net keeps the bound
-abbrev pub JudgedAnswerAt : Task → Metric → ℕ → ℕ → NetValue → NetValue → Bytes → FilesTold → FilesTold
-    → SinkTold → SinkTold → Option SpentValue → Option SpentValue → Status → Type 0
-JudgedAnswerAt task metric bound limit exact begin stem old new said says spent level Ports
-    = IsStill old new said says (HasOtherPorts exact begin × NothingSpent spent level)
-JudgedAnswerAt task metric bound limit exact begin stem old new said says spent level (Over x)
-    = IsStill old new said says (IsAboveBound metric bound x exact begin × NothingSpent spent level)
-JudgedAnswerAt task metric bound limit exact begin stem old new said says spent level Budget =
+abbrev pub JudgedAnswerAt : Task → Metric → ℕ → ℕ → NetValue → NetValue → Bytes → Call → Option SpentValue → Option SpentValue → Status → Type 0
+JudgedAnswerAt task aim exact begin stem call spent level Ports
+    = IsStill call (HasOtherPorts exact begin × NothingSpent spent level)
+JudgedAnswerAt task aim exact begin stem call spent level (Over x)
+    = IsStill call (IsAboveBound metric bound x exact begin × NothingSpent spent level)
+JudgedAnswerAt task aim exact begin stem call spent level Budget =
     (q : SpentValue) × (level ≡ Some q)
-    × IsStill old new said says (IsTaskSpent task metric bound limit spent q exact begin)
-JudgedAnswerAt task metric bound limit exact begin stem old new said says spent level NoMemory
-    = IsStill old new said says (NothingSpent spent level)
-JudgedAnswerAt task metric bound limit exact begin stem old new said says spent level status =
+    × IsStill call (IsTaskSpent task aim spent q exact begin)
+JudgedAnswerAt task aim exact begin stem call spent level NoMemory
+    = IsStill call (NothingSpent spent level)
+JudgedAnswerAt task aim exact begin stem call spent level status =
     IsBeginning metric exact bound begin
-    × BundleAnswerAt task metric bound limit exact begin stem old new said says spent level status
+    × BundleAnswerAt task aim exact begin stem call spent level status
 
-abbrev pub JudgedAnswer : Task → Metric → ℕ → ℕ → NetValue → NetValue → Bytes → FilesTold → FilesTold
-    → SinkTold → SinkTold → Outcome → Type 0
-JudgedAnswer task metric bound limit exact begin stem old new said says o =
-    JudgedAnswerAt task metric bound limit exact begin stem old new said says (told_query o.spent)
+abbrev pub JudgedAnswer : Task → Metric → ℕ → ℕ → NetValue → NetValue → Bytes → Call → Outcome → Type 0
+JudgedAnswer task aim exact begin stem call o =
+    JudgedAnswerAt task aim exact begin stem call (told_query o.spent)
     (told_query o.level) o.status

@@ -157,8 +157,8 @@ pub fn run_surely(
         → (files.new ≡ files.old) × (say.new ≡ say.old) }
     ensures read { result.status ≢ Status.ReadFault }
     ensures write { result.status ≢ Status.WriteFault }
-    ensures answers { (metric : Metric) (bound conflicts : ℕ) (input stem : Bytes)
-        → job_of words.now ≡ Some (synth metric bound conflicts input stem)
+    ensures answers { (aim : Constraint) (input stem : Bytes)
+        → job_of words.now ≡ Some (synth aim input stem)
         → files.old.told ≡ true → IsTrue (contains_key files.old.given input)
         → IsAnswerTo conflicts (told_query result.spent)
         (blif_reading (bytes_of files.old.given input) MOST_INPUT_BYTES) result.status }

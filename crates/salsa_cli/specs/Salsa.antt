@@ -9,9 +9,9 @@ use Rattle.jobs.specs.declared.outcome.Outcome.{Outcome}
 
 -- The status is that of a run on these words, over files and a sink that told this at entry and at exit;
 -- words that are no job touch nothing.
-pub record SalsaSays (words : List Bytes) (old new : FilesTold) (said says : SinkTold)
+pub record SalsaSays (words : List Bytes) (call : Call)
     (status : Status) : Type 0 where
-  pub run : (o : Outcome) × (status ≡ o.status) × RunSays words old new said says o
+  pub run : (o : Outcome) × (status ≡ o.status) × RunSays words call o
   pub untouched : status ≡ Usage → (new ≡ old) × (says ≡ said)
 
 -- each answer but `Done` has a line on standard error

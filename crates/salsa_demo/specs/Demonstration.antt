@@ -16,28 +16,28 @@ use Rattle.salsa_demo.specs.declared.demonstration.Answer.{Answer}
 use Rattle.salsa_demo.specs.declared.demonstration.Answer.TheVariants.{Usage, Worked}
 
 -- what words are answered that are no demo job
-abbrev pub IsUsage : FilesTold → FilesTold → SinkTold → SinkTold → Answer → Type 0
-IsUsage old new said says answer = (answer ≡ Usage) × (new ≡ old) × (says ≡ said)
+abbrev pub IsUsage : Call → Answer → Type 0
+IsUsage call answer = (answer ≡ Usage) × (new ≡ old) × (says ≡ said)
 
 -- the answer tells what the work on the generated adder came to
-abbrev pub IsWorked : ℕ → ℕ → ℕ → FilesTold → FilesTold → SinkTold → SinkTold → Answer → Type 0
-IsWorked width bound limit old new said says answer = (work : Work) × (answer ≡ Worked work)
-    × WorkSays Refine (one_word Abs) bound limit (demo_net width) (demo_net width) demo_stem old new said says
+abbrev pub IsWorked : ℕ → ℕ → ℕ → Call → Answer → Type 0
+IsWorked width bound limit call answer = (work : Work) × (answer ≡ Worked work)
+    × WorkSays Refine (one_word Abs) bound limit (demo_net width) (demo_net width) demo_stem call
     work
 
 -- what the answer to a job says
-abbrev pub JobAnswer : Job → FilesTold → FilesTold → SinkTold → SinkTold → Answer → Type 0
-JobAnswer (demo width bound conflicts) old new said says answer =
-    IsWorked width bound conflicts old new said says answer
-JobAnswer job old new said says answer = IsUsage old new said says answer
+abbrev pub JobAnswer : Job → Call → Answer → Type 0
+JobAnswer (demo width bound conflicts) call answer =
+    IsWorked width bound conflicts call answer
+JobAnswer job call answer = IsUsage call answer
 
 -- What a run says, by its words, its answer, and what files and sink told at entry and at exit: words that
 -- are no demo job are `Usage`, and touch nothing; and the answer to a demo job is what the work on the
 -- generated adder comes to.
-pub record DemonstrationSays (words : List Bytes) (old new : FilesTold) (said says : SinkTold)
+pub record DemonstrationSays (words : List Bytes) (call : Call)
     (answer : Answer) : Type 0 where
-  pub no_job : job_of words ≡ None → IsUsage old new said says answer
-  pub job : (job : Job) → job_of words ≡ Some job → JobAnswer job old new said says answer
+  pub no_job : job_of words ≡ None → IsUsage call answer
+  pub job : (job : Job) → job_of words ≡ Some job → JobAnswer job call answer
 
 -- the exit number of the process
 abbrev pub answer_exit : Answer → ℕ

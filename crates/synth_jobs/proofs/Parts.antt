@@ -46,10 +46,10 @@ minimal-with metric exact bound N x vectors (m ∷ moves) broken =
     ((broken.0.0, Contains-later x vectors broken.0.0 broken.0.1, broken.0.2), minimal-with metric exact bound N x vectors moves broken.1)
 
 -- where no query was spent, the net is shown to be the end
-shown_end : (metric : Metric) (exact : NetValue) (bound limit : ℕ) (begin N : NetValue) (pool : List (List Bool)) (spent : Option SpentValue) → IsTrue (is_none spent)
-    → MatchOption spent (IsShownEnd metric exact bound begin N pool) (IsSpentMove metric exact bound limit N pool) → IsShownEnd metric exact bound begin N pool
-shown_end metric exact bound limit begin N pool None none h = h
-shown_end metric exact bound limit begin N pool (Some q) none h = cc
+shown_end : (aim : Constraint) (exact : NetValue) (begin N : NetValue) (pool : List (List Bool)) (spent : Option SpentValue) → IsTrue (is_none spent)
+    → MatchOption spent (IsShownEnd metric exact bound begin N pool) (IsSpentMove aim exact N pool) → IsShownEnd metric exact bound begin N pool
+shown_end aim exact begin N pool None none h = h
+shown_end aim exact begin N pool (Some q) none h = cc
 
 -- what each task keeps: the net has the exact one's ports and keeps the bound, is small with the beginning and no larger, its vectors are of the inputs'
 -- width, and where it is said to be the end, each move is broken by a vector
@@ -75,10 +75,10 @@ kept_itself metric exact bound begin is = record {
   minimal = λ no. cc;
 }
 
-pub kept : (task : Task) (metric : Metric) (exact : NetValue) (bound limit : ℕ) (begin : NetValue) (s : Shrinking) → IsBeginning metric exact bound begin
-    → IsTaskDone task metric exact bound limit begin s → IsKept task metric exact bound begin s
-kept Certify metric exact bound limit begin s is done = subst (IsKept Certify metric exact bound begin) (sym done) (kept_itself metric exact bound begin is)
-kept Refine metric exact bound limit begin s is done =
+pub kept : (task : Task) (aim : Constraint) (exact : NetValue) (begin : NetValue) (s : Shrinking) → IsBeginning metric exact bound begin
+    → IsTaskDone task aim exact begin s → IsKept task metric exact bound begin s
+kept Certify aim exact begin s is done = subst (IsKept Certify metric exact bound begin) (sym done) (kept_itself metric exact bound begin is)
+kept Refine aim exact begin s is done =
     let member = simplified_from metric exact bound begin is s.net done.member in
     record {
       ports = member.ports;
@@ -87,26 +87,26 @@ kept Refine metric exact bound limit begin s is done =
       tables = member.no_growth.tables;
       literals = member.no_growth.literals;
       widths = done.widths;
-      minimal = λ none. (shown_end metric exact bound limit begin s.net s.pool s.spent none done.outcome).minimal;
+      minimal = λ none. (shown_end aim exact begin s.net s.pool s.spent none done.outcome).minimal;
     }
 
 -- what the parts of a bundle are
-record AreParts (task : Task) (exact begin : NetValue) (metric : Metric) (bound limit : ℕ) (s : Simplified) (log : List LogItem) (goal : Formula) : Type 0 where
+record AreParts (task : Task) (exact begin : NetValue) (aim : Constraint) (s : Simplified) (log : List LogItem) (goal : Formula) : Type 0 where
   pub exact_sound : IsSound exact
   pub exact_small : IsSmall exact
   pub begin_small : IsSmall begin
   pub beginning : IsBeginning metric exact bound begin
   pub approx_sound : IsSound s.net
-  pub search : IsTaskDone task metric exact bound limit begin (shrinking_of s)
+  pub search : IsTaskDone task aim exact begin (shrinking_of s)
   pub most : IsMaximum metric exact s.net s.maximum s.witness log
   pub few_bits : bound ≤ LARGEST_ERROR
   pub goal_is : goal ≡ miter exact s.net metric s.maximum
   pub variables : goal.variables < 2 ^ 31
 
 module _ {task : Task} {exact begin : NetValue} {metric : Metric} {bound limit : ℕ} {s : Simplified} {log : List LogItem} {goal : Formula}
-    (parts : AreParts task exact begin metric bound limit s log goal) where
+    (parts : AreParts task exact begin aim s log goal) where
   keeps : IsKept task metric exact bound begin (shrinking_of s)
-  keeps = kept task metric exact bound limit begin (shrinking_of s) parts.beginning parts.search
+  keeps = kept task aim exact begin (shrinking_of s) parts.beginning parts.search
 
   within : s.maximum ≤ bound
   within = subst (λ k. k ≤ bound) parts.most.attained (keeps.within s.witness parts.most.width)
@@ -114,7 +114,7 @@ module _ {task : Task} {exact begin : NetValue} {metric : Metric} {bound limit :
   approx_small : IsSmall s.net
   approx_small = keeps.small parts.begin_small
 
-  right : IsSimplifiedFrom task exact begin metric bound limit s log
+  right : IsSimplifiedFrom task exact begin aim s log
   right = record { search = parts.search; most = parts.most; within = within; tables = keeps.tables; literals = keeps.literals }
 
   refuted : IsRefutedBy (miter exact s.net metric s.maximum) log
@@ -124,7 +124,7 @@ module _ {task : Task} {exact begin : NetValue} {metric : Metric} {bound limit :
     unsatisfiable = refutes_sound (miter exact s.net metric s.maximum).clauses log parts.most.never.refutes;
   }
 
-  right_bundle : (growth : Growth) → IsOfAllowedSize growth exact s.net → IsRightBundle growth (synth_bundle task exact metric bound s log)
+  right_bundle : (growth : Growth) → IsOfAllowedSize growth exact s.net → IsRightBundle growth (synth_bundle task metric bound exact s log)
   right_bundle growth size = record {
     exact_sound = parts.exact_sound;
     exact_small = parts.exact_small;
@@ -145,7 +145,7 @@ module _ {task : Task} {exact begin : NetValue} {metric : Metric} {bound limit :
   }
 
   -- where growth is allowed, every size is
-  bundle_allowed : IsRightBundle Allowed (synth_bundle task exact metric bound s log)
+  bundle_allowed : IsRightBundle Allowed (synth_bundle task metric bound exact s log)
   bundle_allowed = right_bundle Allowed (λ refused. cc)
 
   fits : FitsReport exact s.net s.witness
@@ -155,23 +155,23 @@ module _ {task : Task} {exact begin : NetValue} {metric : Metric} {bound limit :
     few_approx = omega (arith, literals_at_most s.net approx_small parts.approx_sound.tables_formed);
   }
 
-  ready : (b : BundleValue) (spent : Option spent.Spent) → b.log ≡ log → told_query spent ≡ s.spent → b ≡ synth_bundle task exact metric bound s b.log
-      → IsReady task exact begin metric bound limit b spent
+  ready : (b : BundleValue) (spent : Option spent.Spent) → b.log ≡ log → told_query spent ≡ s.spent → b ≡ synth_bundle task metric bound exact s b.log
+      → IsReady task exact begin aim b spent
   ready b spent same_log is_spent is =
-      let whole : b ≡ synth_bundle task exact metric bound s log = is ∙ ap (λ l. synth_bundle task exact metric bound s l) same_log in
+      let whole : b ≡ synth_bundle task metric bound exact s log = is ∙ ap (λ l. synth_bundle task metric bound exact s l) same_log in
       record {
         result = s;
-        right = subst (IsSimplifiedFrom task exact begin metric bound limit s) (sym same_log) right;
+        right = subst (IsSimplifiedFrom task exact begin aim s) (sym same_log) right;
         is_spent = is_spent;
         refuted = subst (IsRefutedBy (miter exact s.net metric s.maximum)) (sym same_log) refuted;
         is = is;
-        netlist = subst (λ v. IsNetlist (bundle_text v) s.net) (sym whole) (net_read Allowed (synth_bundle task exact metric bound s log) bundle_allowed);
+        netlist = subst (λ v. IsNetlist (bundle_text v) s.net) (sym whole) (net_read Allowed (synth_bundle task metric bound exact s log) bundle_allowed);
         certificate = λ growth size.
-            subst (λ v. CertifiesWith growth exact metric bound (bundle_text v)) (sym whole)
-            (written_certifies growth (synth_bundle task exact metric bound s log) (right_bundle growth size));
+            subst (λ v. CertifiesWith claim exact (bundle_text v)) (sym whole)
+            (written_certifies growth (synth_bundle task metric bound exact s log) (right_bundle growth size));
         version =
-            subst (λ v. OfReport exact metric bound (bundle_text v) (λ r. r.version ≡ Two)) (sym whole)
-            (written_version Allowed (synth_bundle task exact metric bound s log) bundle_allowed);
+            subst (λ v. OfReport metric bound exact (bundle_text v) (λ r. r.version ≡ Two)) (sym whole)
+            (written_version Allowed (synth_bundle task metric bound exact s log) bundle_allowed);
       }
 
 -- what was found, as the parts of a bundle
@@ -230,6 +230,6 @@ module _ (task : Task) (exact begin : NetValue) (aim : Constraint) (found : Find
     gathered-prepared made is_ready = subst (IsPrepared task exact begin aim.metric aim.bound aim.limit) (sym is_ready) gathered-ready
 
 -- a net that a task makes of the beginning can be compared with the exact one
-pub kept-candidate : (task : Task) (metric : Metric) (exact : NetValue) (bound limit : ℕ) (begin : NetValue) (s : Shrinking) → IsSmall exact → IsBeginning metric exact bound begin
-    → IsTaskDone task metric exact bound limit begin s → IsCandidate exact s.net
-kept-candidate task metric exact bound limit begin s small is done = record { ports = (kept task metric exact bound limit begin s is done).ports; few_outputs = small.outputs }
+pub kept-candidate : (task : Task) (aim : Constraint) (exact : NetValue) (begin : NetValue) (s : Shrinking) → IsSmall exact → IsBeginning metric exact bound begin
+    → IsTaskDone task aim exact begin s → IsCandidate exact s.net
+kept-candidate task aim exact begin s small is done = record { ports = (kept task aim exact begin s is done).ports; few_outputs = small.outputs }

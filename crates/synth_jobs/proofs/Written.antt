@@ -40,9 +40,9 @@ of_written P stem {old} {new} b written p =
     subst P (sym texts) p
 
 pub BundleWritten-from : {task : Task} {metric : Metric} {bound limit : ℕ} {exact begin : NetValue} {stem names : Bytes}
-    {old new : FilesTold} {said says : SinkTold} {b : BundleValue} {spent : Option spent.Spent}
-    → names ≡ stem → IsReady task exact begin metric bound limit b spent → IsDelivered b names old new said says
-    → BundleWritten task metric bound limit exact begin stem (told_query spent) old new said says
+    {call : Call} {b : BundleValue} {spent : Option spent.Spent}
+    → names ≡ stem → IsReady task exact begin aim b spent → IsDelivered b names call
+    → BundleWritten task aim exact begin stem (told_query spent) call
 BundleWritten-from {task} {metric} {bound} {limit} {exact} {begin} {stem} {names} {old} {new} {said} {says} {b} {spent} same ready delivered =
     let all : FilesWritten old new (files_of stem b) = subst (λ s. FilesWritten old new (files_of s b)) same delivered.0 in
     record {
@@ -54,14 +54,14 @@ BundleWritten-from {task} {metric} {bound} {limit} {exact} {begin} {stem} {names
       files = subst (λ v. FilesWritten old new (bundle_files stem (bundle_text v))) ready.is all;
       report = subst (λ v. Took said says (bundle_text v file.Report)) ready.is delivered.1;
       netlist = of_written (λ texts. IsNetlist texts ready.result.net) stem b all ready.netlist;
-      certificate = λ growth size. of_written (CertifiesWith growth exact metric bound) stem b all (ready.certificate growth size);
-      version = of_written (λ texts. OfReport exact metric bound texts (λ r. r.version ≡ Two)) stem b all ready.version;
+      certificate = λ growth size. of_written (CertifiesWith claim exact) stem b all (ready.certificate growth size);
+      version = of_written (λ texts. OfReport metric bound exact texts (λ r. r.version ≡ Two)) stem b all ready.version;
     }
 
 pub BundleCutShort-from : {task : Task} {metric : Metric} {bound limit : ℕ} {exact begin : NetValue} {stem names : Bytes}
-    {old new : FilesTold} {said says : SinkTold} {b : BundleValue} {spent : Option spent.Spent}
-    → names ≡ stem → IsReady task exact begin metric bound limit b spent → IsDeliveredInPart b names old new said says
-    → BundleCutShort task metric bound limit exact begin stem old new said says
+    {call : Call} {b : BundleValue} {spent : Option spent.Spent}
+    → names ≡ stem → IsReady task exact begin aim b spent → IsDeliveredInPart b names call
+    → BundleCutShort task aim exact begin stem call
 BundleCutShort-from {task} {metric} {bound} {limit} {exact} {begin} {stem} {names} {old} {new} {said} {says} {b} {spent} same ready part = record {
   result = ready.result;
   log = b.log;

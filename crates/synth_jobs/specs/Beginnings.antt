@@ -9,9 +9,9 @@ use Rattle.synth_jobs.specs.declared.beginning.Beginning.{Beginning}
 use Rattle.synth_jobs.specs.declared.beginning.Beginning.TheVariants.{Ports, Over, Spent, Within}
 
 -- what is answered to the question whether the second net may be certified or refined
-abbrev pub IsBeginningJudged : NetValue → NetValue → Metric → ℕ → ℕ → Beginning → Type 0
-IsBeginningJudged exact begin metric bound limit Ports = HasOtherPorts exact begin
-IsBeginningJudged exact begin metric bound limit (Over x) = IsAboveBound metric bound x exact begin
-IsBeginningJudged exact begin metric bound limit (Spent s)
-    = IsBoundSpent metric bound limit exact begin (spent_value s)
-IsBeginningJudged exact begin metric bound limit Within = IsBeginning metric exact bound begin
+abbrev pub IsBeginningJudged : NetValue → Metric → ℕ → NetValue → ℕ → Beginning → Type 0
+IsBeginningJudged exact begin aim Ports = HasOtherPorts exact begin
+IsBeginningJudged exact begin aim (Over x) = IsAboveBound metric bound x exact begin
+IsBeginningJudged exact begin aim (Spent s)
+    = IsBoundSpent aim exact begin (spent_value s)
+IsBeginningJudged exact begin aim Within = IsBeginning metric exact bound begin

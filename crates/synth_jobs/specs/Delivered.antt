@@ -6,13 +6,13 @@ use Rattle.outside_semantics.specs.WrittenFiles.{FilesWritten, FilesCutShort}
 use Rattle.job_semantics.specs.Bundle.{BundleValue}
 use Rattle.bundle_writing.specs.Value.{files_of, report_of_bundle}
 
-abbrev pub IsDelivered : BundleValue → Bytes → FilesTold → FilesTold → SinkTold → SinkTold → Type 0
-IsDelivered b stem old new said says = FilesWritten old new (files_of stem b)
+abbrev pub IsDelivered : BundleValue → Bytes → Call → Type 0
+IsDelivered b stem call = FilesWritten old new (files_of stem b)
     × Took said says (report_of_bundle b)
 
 -- a file could not be written whole, and nothing was put to the sink; or all files were written, and a first
 -- part of the report was put
-abbrev pub IsDeliveredInPart : BundleValue → Bytes → FilesTold → FilesTold → SinkTold → SinkTold → Type 0
-IsDeliveredInPart b stem old new said says =
+abbrev pub IsDeliveredInPart : BundleValue → Bytes → Call → Type 0
+IsDeliveredInPart b stem call =
     (FilesCutShort old new (files_of stem b) × (says ≡ said))
     ⊎ (FilesWritten old new (files_of stem b) × TakeFailed said says (report_of_bundle b))

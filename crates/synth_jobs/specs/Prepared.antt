@@ -25,17 +25,17 @@ use Rattle.synth_jobs.specs.Spent.{told_query}
 
 -- b is the bundle of what the task makes of the beginning; its log refutes its formula, and its texts are a
 -- certificate for each growth that the net's size allows, whose report is of version 2
-pub record IsReady (task : Task) (exact begin : NetValue) (metric : Metric) (bound limit : ℕ)
+pub record IsReady (task : Task) (exact begin : NetValue) (aim : Constraint)
     (b : BundleValue) (spent : Option spent.Spent) : Type 0 where
   pub result : Simplified
-  pub right : IsSimplifiedFrom task exact begin metric bound limit result b.log
+  pub right : IsSimplifiedFrom task exact begin aim result b.log
   pub is_spent : told_query spent ≡ result.spent
   pub refuted : IsRefutedBy (miter exact result.net metric result.maximum) b.log
-  pub is : b ≡ synth_bundle task exact metric bound result b.log
+  pub is : b ≡ synth_bundle task metric bound exact result b.log
   pub netlist : IsNetlist (bundle_text b) result.net
   pub certificate : (growth : Growth) → IsOfAllowedSize growth exact result.net
-      → CertifiesWith growth exact metric bound (bundle_text b)
-  pub version : OfReport exact metric bound (bundle_text b) (λ r. r.version ≡ Two)
+      → CertifiesWith claim exact (bundle_text b)
+  pub version : OfReport metric bound exact (bundle_text b) (λ r. r.version ≡ Two)
 
 -- the bundle of what was found, with its formula
 abbrev pub bundle_of : Task → NetValue → Constraint → Findings → Formula → BundleValue
@@ -58,20 +58,20 @@ abbrev pub told_shrinking : Shrunk → Shrinking
 told_shrinking s = record { net = s.net; pool = s.pool.vectors; spent = told_query s.spent }
 
 -- the task came to this net, whose greatest error this is
-pub record AreFound (task : Task) (exact begin : NetValue) (metric : Metric) (bound limit : ℕ)
+pub record AreFound (task : Task) (exact begin : NetValue) (aim : Constraint)
     (found : Findings) : Type 0 where
-  pub search : IsTaskDone task metric exact bound limit begin (told_shrinking found.shrunk)
+  pub search : IsTaskDone task aim exact begin (told_shrinking found.shrunk)
   pub most : IsMaximum metric exact found.shrunk.net found.maximum found.witness found.log
 
 -- what the task and the search for the greatest error come to
-abbrev pub IsSearched : Task → NetValue → NetValue → Metric → ℕ → ℕ → searched.Searched → Type 0
-IsSearched task exact begin metric bound limit (searched.TheVariants.Found found)
-    = AreFound task exact begin metric bound limit found
-IsSearched task exact begin metric bound limit (searched.TheVariants.Budget level spent)
-    = MaximumSpent task metric bound limit exact begin (told_query spent) (spent_value level)
+abbrev pub IsSearched : Task → NetValue → Metric → ℕ → NetValue → ℕ → searched.Searched → Type 0
+IsSearched task exact begin aim (searched.TheVariants.Found found)
+    = AreFound task exact begin aim found
+IsSearched task exact begin aim (searched.TheVariants.Budget level spent)
+    = MaximumSpent task aim exact begin (told_query spent) (spent_value level)
 
-abbrev pub IsPrepared : Task → NetValue → NetValue → Metric → ℕ → ℕ → Prepared → Type 0
-IsPrepared task exact begin metric bound limit (Ready bundle spent)
-    = IsReady task exact begin metric bound limit bundle spent
-IsPrepared task exact begin metric bound limit (Budget level spent)
-    = MaximumSpent task metric bound limit exact begin (told_query spent) (spent_value level)
+abbrev pub IsPrepared : Task → NetValue → Metric → ℕ → NetValue → ℕ → Prepared → Type 0
+IsPrepared task exact begin aim (Ready bundle spent)
+    = IsReady task exact begin aim bundle spent
+IsPrepared task exact begin aim (Budget level spent)
+    = MaximumSpent task aim exact begin (told_query spent) (spent_value level)

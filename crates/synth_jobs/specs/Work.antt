@@ -12,16 +12,15 @@ use Rattle.synth_jobs.specs.declared.work.Work.TheVariants.{Done, Budget, NoMemo
 use Rattle.synth_jobs.specs.Spent.{told_query}
 
 -- the bundle was written under the stem, whole or in part, or nothing was touched
-abbrev pub WorkSays : Task → Metric → ℕ → ℕ → NetValue → NetValue → Bytes → FilesTold → FilesTold → SinkTold
-    → SinkTold → Work → Type 0
-WorkSays task metric bound limit exact begin stem old new said says (Done spent)
-    = BundleWritten task metric bound limit exact begin stem (told_query spent) old new said says
-WorkSays task metric bound limit exact begin stem old new said says (Budget level spent) =
+abbrev pub WorkSays : Task → Metric → ℕ → ℕ → NetValue → NetValue → Bytes → Call → Work → Type 0
+WorkSays task aim exact begin stem call (Done spent)
+    = BundleWritten task aim exact begin stem (told_query spent) call
+WorkSays task aim exact begin stem call (Budget level spent) =
     (new ≡ old) × (says ≡ said)
-    × MaximumSpent task metric bound limit exact begin (told_query spent) (spent_value level)
-WorkSays task metric bound limit exact begin stem old new said says NoMemory = (new ≡ old) × (says ≡ said)
-WorkSays task metric bound limit exact begin stem old new said says WriteFault
-    = BundleCutShort task metric bound limit exact begin stem old new said says
+    × MaximumSpent task aim exact begin (told_query spent) (spent_value level)
+WorkSays task aim exact begin stem call NoMemory = (new ≡ old) × (says ≡ said)
+WorkSays task aim exact begin stem call WriteFault
+    = BundleCutShort task aim exact begin stem call
 
 -- the exit number of the process
 abbrev pub work_exit : Work → ℕ

@@ -32,9 +32,9 @@ pub enum Beginning {
 
 /// How a second net with the same ports stands to the exact one.
 fn judged(margin: Margin) -> Beginning
-    ensures { (exact begin : NetValue) (metric : Metric) (bound limit : ℕ) → HasSamePorts exact begin
+    ensures { (exact begin : NetValue) (aim : Constraint) → HasSamePorts exact begin
         → IsSound begin → IsBoundAnswer metric exact begin bound limit margin
-        → IsBeginningJudged exact begin metric bound limit result }
+        → IsBeginningJudged exact begin aim result }
 {
     match margin {
         Margin::Over(x) => Beginning::Over(x),

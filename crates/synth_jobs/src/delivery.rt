@@ -51,9 +51,9 @@ fn delivered<F: Files, K: Sink>(
     files: &mut F,
     say: &mut K,
 ) -> Work
-    ensures { (task : Task) (exact begin : NetValue) (metric : Metric) (bound limit : ℕ)
-        → IsReady task exact begin metric bound limit bundle.now spent
-        → WorkSays task metric bound limit exact begin names.now (F.told files.old) (F.told files.new)
+    ensures { (task : Task) (exact begin : NetValue) (aim : Constraint)
+        → IsReady task exact begin aim bundle.now spent
+        → WorkSays task aim exact begin names.now (F.told files.old) (F.told files.new)
         (K.told say.old) (K.told say.new) result }
 {
     match deliver(bundle, names, files, say) {

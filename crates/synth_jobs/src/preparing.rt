@@ -122,10 +122,10 @@ enum Searched {
 
 /// The findings of both, or the spent query of the search for the greatest error.
 fn together(shrunk: Shrunk, maximum: Maximum) -> Searched
-    ensures { (task : Task) (exact begin : NetValue) (metric : Metric) (bound limit : ℕ)
-        → IsTaskDone task metric exact bound limit begin (told_shrinking shrunk)
+    ensures { (task : Task) (exact begin : NetValue) (aim : Constraint)
+        → IsTaskDone task aim exact begin (told_shrinking shrunk)
         → IsMaximumAnswer metric exact shrunk.net bound limit maximum
-        → IsSearched task exact begin metric bound limit result }
+        → IsSearched task exact begin aim result }
 {
     match maximum {
         Maximum::Spent(level) => Searched::Budget {

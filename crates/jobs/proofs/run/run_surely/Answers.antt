@@ -27,8 +27,8 @@ module _ (old new : SureValue) where
   no_rise rose = absurd (omega (arith, rose))
 
   quiet : (job : Job) → IsQuietJob job (sure_told old) (sure_told new) sure_sink_told sure_sink_told
-  quiet (synth metric bound conflicts input stem) = record { files = inr (record { read = refl; written = λ accepted. refl }); sink = no_rise }
-  quiet (against task metric bound conflicts input second stem) = record {
+  quiet (synth aim input stem) = record { files = inr (record { read = refl; written = λ accepted. refl }); sink = no_rise }
+  quiet (against task aim input second stem) = record {
     files = inr (record { read = refl; second_read = λ accepted. refl; written = λ accepted begun. refl });
     sink = no_rise;
   }
@@ -46,9 +46,9 @@ module _ (old new : SureValue) where
   well : (job : Job) (o : Outcome) → JobAnswer job (sure_told old) (sure_told new) sure_sink_told sure_sink_told o → EndsAsAsked job (sure_told old) o
   well job o answer = quiet_job_ends job (sure_told old) (sure_told new) sure_sink_told sure_sink_told o answer (quiet job)
 
-  cut_short : (task : Task) (metric : Metric) (bound limit : ℕ) (exact begin : NetValue) (stem : Bytes)
-      → BundleCutShort task metric bound limit exact begin stem (sure_told old) (sure_told new) sure_sink_told sure_sink_told → ⊥
-  cut_short task metric bound limit exact begin stem fault =
+  cut_short : (task : Task) (aim : Constraint) (exact begin : NetValue) (stem : Bytes)
+      → BundleCutShort task aim exact begin stem (sure_told old) (sure_told new) sure_sink_told sure_sink_told → ⊥
+  cut_short task aim exact begin stem fault =
       elim fault.left [
         | inl files ↦ let steady : true ≡ false = files.0.not_steady in cc
         | inr all ↦ absurd (omega (arith, all.1.rose))
@@ -79,10 +79,10 @@ module _ (old new : SureValue) where
             no_demo_read_fault o.status bound conflicts (demo_net width) (demo_net width) (told_query o.spent) (told_query o.level) answer,
             no_demo_write_fault o.status bound conflicts (demo_net width) (demo_net width) (told_query o.spent) (told_query o.level) answer,
           )
-      of_job (Some (synth metric bound conflicts input stem)) is =
-          let ends = well (synth metric bound conflicts input stem) o (says.answer (synth metric bound conflicts input stem) is) in (ends.read, ends.written)
-      of_job (Some (against task metric bound conflicts input second stem)) is =
-          let ends = well (against task metric bound conflicts input second stem) o (says.answer (against task metric bound conflicts input second stem) is) in (ends.read, ends.written)
+      of_job (Some (synth aim input stem)) is =
+          let ends = well (synth aim input stem) o (says.answer (synth aim input stem) is) in (ends.read, ends.written)
+      of_job (Some (against task aim input second stem)) is =
+          let ends = well (against task aim input second stem) o (says.answer (against task aim input second stem) is) in (ends.read, ends.written)
       of_job (Some (check metric bound input stem)) is =
           let ends = well (check metric bound input stem) o (says.answer (check metric bound input stem) is) in (ends.read, ends.written)
       of_job (Some (confirm metric bound input stem)) is =
@@ -104,8 +104,8 @@ returns-clause-complete c = λ job named. c.run.ensures.complete job named (quie
 
 pub returns-clause-answers : goal.returns-clause-answers
 returns-clause-answers c =
-    λ metric bound conflicts input stem named told held.
-    (c.run.ensures.complete (synth metric bound conflicts input stem) named (quiet c.args.files.now c.run.new.files (synth metric bound conflicts input stem))).answers
+    λ aim input stem named told held.
+    (c.run.ensures.complete (synth aim input stem) named (quiet c.args.files.now c.run.new.files (synth aim input stem))).answers
     c.args.files.now.given (ap (λ t. held_where t c.args.files.now.given) told) held
 
 pub returns-clause-check_answers : goal.returns-clause-check_answers
