@@ -4,13 +4,12 @@ use Rattle.std.specs.Prelude.{◌≡◌, ◌⊎◌, ℕ, ◌≤◌, IsTrue, Opti
 use Rattle.semantics.specs.Texts.{Bytes}
 use Rattle.semantics.specs.Net.{NetValue, table_count, literal_count}
 use Rattle.semantics.specs.declared.metric.Metric.{Metric}
-use Rattle.outside_semantics.specs.Outside.{Held, FilesTold, SinkTold, WhereTold, bytes_of}
+use Rattle.outside_semantics.specs.Outside.{Held, WhereTold, bytes_of}
 use Rattle.proof_semantics.specs.Queries.{SpentValue}
-use Rattle.job_semantics.specs.declared.growth.Growth.{Growth}
-use Rattle.job_semantics.specs.declared.growth.Growth.TheVariants.{Allowed}
 use Rattle.job_semantics.specs.declared.task.Task.{Task}
-use Rattle.job_semantics.specs.Job.{synth, against, check, confirm, flat, aag, blif, trim, are_file_words, TaskNames, are_task_names}
-use Rattle.job_semantics.specs.Job.{are_second_words, are_conversion_words, are_trim_words, job_of}
+use Rattle.job_semantics.specs.Job.{synth, against, check, confirm, flat, aag, blif, trim, are_file_words}
+use Rattle.job_semantics.specs.Job.{TaskNames, are_task_names}
+use Rattle.job_semantics.specs.Job.{are_task_names, are_conversion_words, are_trim_words, job_of}
 use Rattle.job_semantics.specs.Input.{IsReadAs}
 use Rattle.job_semantics.specs.Certificate.{texts_of, CertifiesWith, confirmed_claim}
 use Rattle.job_semantics.specs.Synthesis.{SynthDone}

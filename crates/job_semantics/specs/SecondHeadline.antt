@@ -6,12 +6,12 @@
 -- were spent, every second netlist within the bound gets a bundle that `confirm` verifies: from `certify` for
 -- the netlist as it is, from `refine` for one that admits no further single simplification. To refine IN
 -- itself is a synthesis, of which the headline speaks.
-use Rattle.std.specs.Prelude.{◌≡◌, ◌⊎◌, ℕ, ◌≤◌, Bool, Option, Some, None, List, length, Contains}
+use Rattle.std.specs.Prelude.{◌≡◌, ◌⊎◌, ℕ, ◌≤◌, Bool, Some, None, List, length, Contains}
 use Rattle.semantics.specs.Texts.{Bytes}
 use Rattle.semantics.specs.Net.{NetValue, input_count, table_count, literal_count, HasSamePorts}
 use Rattle.semantics.specs.Error.{net_error, IsWithin}
 use Rattle.semantics.specs.declared.metric.Metric.{Metric}
-use Rattle.outside_semantics.specs.Outside.{Held, FilesTold, SinkTold, WhereTold, bytes_of}
+use Rattle.outside_semantics.specs.Outside.{Held, WhereTold, bytes_of}
 use Rattle.chain_semantics.specs.declared.moves.Move.{Move}
 use Rattle.chain_semantics.specs.Moves.{moves_of, moved}
 use Rattle.chain_semantics.specs.Simplification.{IsInSimplificationFrom, IsSimplificationEndFrom}

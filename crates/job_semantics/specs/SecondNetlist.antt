@@ -9,7 +9,7 @@ use Rattle.semantics.specs.declared.metric.Metric.{Metric}
 use Rattle.blif_semantics.specs.Reading.{Refusal}
 use Rattle.chain_semantics.specs.Simplification.{IsBeginning}
 use Rattle.proof_semantics.specs.Queries.{SpentValue, IsOver, IsSpentQuery}
-use Rattle.outside_semantics.specs.Outside.{Held, FilesTold, SinkTold, Goes, Rose, WhereTold, bytes_of}
+use Rattle.outside_semantics.specs.Outside.{Held, FilesTold, Goes, Rose, WhereTold, bytes_of}
 use Rattle.job_semantics.specs.declared.task.Task.{Task}
 use Rattle.job_semantics.specs.Endings.{are_bundle_names_steady}
 use Rattle.job_semantics.specs.Input.{IsReadAs, IsRefusedFor, IsAccepted}

@@ -4,13 +4,12 @@ use Rattle.std.specs.Prelude.{◌≡◌, ℕ, IsTrue, List}
 use Rattle.semantics.specs.Texts.{Bytes}
 use Rattle.semantics.specs.Net.{NetValue}
 use Rattle.semantics.specs.declared.metric.Metric.{Metric}
-use Rattle.outside_semantics.specs.Outside.{FilesTold, SinkTold, WhereTold, bytes_of}
+use Rattle.outside_semantics.specs.Outside.{WhereTold, bytes_of}
 use Rattle.proof_semantics.specs.Logs.{LogItem, Refutes}
 use Rattle.proof_semantics.specs.Lrat.{lrat_text}
 use Rattle.proof_semantics.specs.Miter.{miter}
 use Rattle.trim_semantics.specs.Trimmed.{IsTrimmed}
-use Rattle.job_semantics.specs.Certificate.{Texts, texts_of, OfBundle, OfBoth, IsRefutation, Certifies}
-use Rattle.job_semantics.specs.declared.growth.Growth.TheVariants.{Refused}
+use Rattle.job_semantics.specs.Certificate.{Texts, texts_of, OfBundle, OfBoth, IsRefutation, CertifiesWith}
 use Rattle.job_semantics.specs.Input.{IsReadAs}
 use Rattle.job_semantics.specs.Synthesis.{OfInput, IsQuiet}
 use Rattle.job_semantics.specs.Checking.{CheckEnd, IsVerifiedEnd, AreCheckFilesSteady}
