@@ -20,8 +20,8 @@ check_with Refused = words.check
 check_with Allowed = words.confirm
 
 abbrev pub job_meaning : Command → words.Job
-job_meaning (Synth aim input stem) = words.synth aim input.now stem.now
-job_meaning (Against task aim names) = words.against task aim (names_of names)
+job_meaning (Synth job) = words.synth job.aim job.input.now job.stem.now
+job_meaning (Against job) = words.against job.task job.aim (names_of job.names)
 job_meaning (Check claim input stem) = check_with claim.growth claim.metric claim.bound input.now stem.now
 job_meaning (Demo width bound conflicts) = words.demo width bound conflicts
 job_meaning (Flat input output) = words.flat input.now output.now
@@ -35,8 +35,8 @@ IsInRanges aim = (aim.bound ≤ LARGEST_ERROR) × (1 ≤ aim.limit)
 
 -- the numbers of a job are in their ranges; a trim job claims what a check tests
 abbrev pub HasRanges : Command → Type 0
-HasRanges (Synth aim input stem) = IsInRanges aim
-HasRanges (Against task aim names) = IsInRanges aim
+HasRanges (Synth job) = IsInRanges job.aim
+HasRanges (Against job) = IsInRanges job.aim
 HasRanges (Check claim input stem) = claim.bound ≤ LARGEST_ERROR
 HasRanges (Demo width bound conflicts) = (bound ≤ LARGEST_ERROR) × (1 ≤ conflicts) × (1 ≤ width)
     × (width ≤ 32)

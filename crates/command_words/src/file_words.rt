@@ -4,7 +4,7 @@ ghost use Rattle.job_semantics.specs.Job.{are_file_words, is_output_word, are_ta
 ghost use Rattle.command_words.specs.Names.{names_of};
 
 use crate::bundle_names::is_bundle_name;
-use crate::names::Names;
+use crate::net_jobs::Names;
 
 /// Whether IN and STEM are not empty, and IN is no file of the bundle.
 pub(crate) fn are_file_words(input: &[u8], stem: &[u8]) -> bool

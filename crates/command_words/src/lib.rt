@@ -4,6 +4,6 @@
 mod bundle_names;
 mod file_words;
 mod metric_words;
-pub mod names;
+pub mod net_jobs;
 pub mod usage;
 pub mod words;

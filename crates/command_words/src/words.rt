@@ -7,7 +7,7 @@ ghost use Rattle.command_words.specs.Words.{job_meaning, check_with, IsInRanges,
 
 use crate::file_words::{are_file_words, are_task_names, are_trim_words, is_output_word};
 use crate::metric_words::metric;
-use crate::names::Names;
+use crate::net_jobs::{Names, SynthJob, TaskJob};
 use decimal_words::decimal::number_from_to;
 use file_core::word::Word;
 use job_semantics::claim::Claim;
@@ -19,16 +19,8 @@ use semantics::limits::LARGEST_ERROR;
 /// A job with its values. `input`, `stem` and `output` are names of files.
 #[derive(Clone, Copy, Debug)]
 pub enum Command<'a> {
-    Synth {
-        aim: Constraint,
-        input: &'a [u8],
-        stem: &'a [u8],
-    },
-    Against {
-        task: Task,
-        aim: Constraint,
-        names: Names<'a>,
-    },
+    Synth(SynthJob<'a>),
+    Against(TaskJob<'a>),
     /// A check where the claim refuses growth, and a confirmation where it allows growth.
     Check {
         claim: Claim,
@@ -89,7 +81,7 @@ fn synth(words: &[Word]) -> Option<Command<'_>>
     if !are_file_words(input, stem) {
         return None;
     }
-    Some(Command::Synth { aim, input, stem })
+    Some(Command::Synth(SynthJob { aim, input, stem }))
 }
 
 /// The job of a task and a second netlist. To refine IN itself is to simplify it.
@@ -110,12 +102,12 @@ fn task(task: Task, words: &[Word]) -> Option<Command<'_>>
         return None;
     }
     match task {
-        Task::Refine if names.input == names.second => Some(Command::Synth {
+        Task::Refine if names.input == names.second => Some(Command::Synth(SynthJob {
             aim,
             input: names.input,
             stem: names.stem,
-        }),
-        _ => Some(Command::Against { task, aim, names }),
+        })),
+        _ => Some(Command::Against(TaskJob { task, aim, names })),
     }
 }
 

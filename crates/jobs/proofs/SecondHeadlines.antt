@@ -6,33 +6,35 @@ use Rattle.semantics.specs.Texts.{Bytes}
 use Rattle.semantics.specs.Net.{NetValue, HasSamePorts}
 use Rattle.semantics.specs.Error.{IsWithin}
 use Rattle.semantics.specs.declared.metric.Metric.{Metric}
+use Rattle.proof_semantics.specs.declared.constraint.Constraint.{Constraint}
 use Rattle.outside_semantics.specs.Outside.{Held, FilesTold, SinkTold, bytes_of}
 use Rattle.blif_semantics.specs.Reading.{Refusal}
 use Rattle.proof_semantics.specs.Queries.{SpentValue, IsOver}
 use Rattle.job_semantics.specs.declared.growth.Growth.TheVariants.{Allowed}
 use Rattle.job_semantics.specs.declared.task.Task.{Task}
+use Rattle.job_semantics.specs.Call.{Call}
 use Rattle.job_semantics.specs.declared.task.Task.TheVariants.{Certify, Refine}
-use Rattle.job_semantics.specs.Job.{against, confirm, are_file_words}
+use Rattle.job_semantics.specs.Job.{against, confirm, are_file_words, TaskNames}
 use Rattle.job_semantics.specs.Input.{IsReadAs}
-use Rattle.job_semantics.specs.Certificate.{Texts, texts_of, IsNetlist, CertifiesWith}
+use Rattle.job_semantics.specs.Certificate.{Texts, texts_of, IsNetlist, CertifiesWith, confirmed_claim}
 use Rattle.job_semantics.specs.Checking.{ShowsItsBound}
 use Rattle.job_semantics.specs.Shrinking.{Shrinking}
-use Rattle.job_semantics.specs.Synthesis.{shrinking_of, IsTaskDone}
-use Rattle.job_semantics.specs.SecondNetlist.{AreRead, TaskDone}
+use Rattle.job_semantics.specs.Synthesis.{claim_of, shrinking_of, IsTaskDone}
+use Rattle.job_semantics.specs.SecondNetlist.{AreRead, TaskDone, request_of}
 use Rattle.job_semantics.specs.SecondHeadline.{KeepsTheBound, IsAsAsked, IsCertifiedAs, AreSpentOnSecond, SecondHeadline}
 use Rattle.job_semantics.proofs.FileWords.{file_words_law}
 use Rattle.job_semantics.proofs.CheckedFiles.{one_net, joined_task_law}
 use Rattle.job_answers.specs.declared.status.Status.{Status}
 use Rattle.job_answers.specs.declared.status.Status.TheVariants.{Done, Verified, Text, NoMemory, Budget, ReadFault, WriteFault, Second, Ports, Over}
 use Rattle.jobs.specs.declared.outcome.Outcome.{Outcome}
-use Rattle.synth_jobs.specs.Spent.{told_query}
+use Rattle.jobs.specs.Outcome.{SpentQueries, told_queries, answered_by}
 use Rattle.jobs.specs.Run.{TaskAnswerAt, RunSays}
 use Rattle.check_jobs.proofs.CheckAnswers.{verified_end}
 use Rattle.jobs.proofs.TaskAnswers.{quiet_task_ends}
 use Rattle.jobs.proofs.SpentQueries.{none_is, same_query, of_task, of_task_spent}
 use Rattle.jobs.proofs.Headlines.{end_reached, same_ports}
 
-keeps : {exact : NetValue} {metric : Metric} {bound : ℕ} {texts : Texts} → ShowsItsBound Allowed metric bound exact texts → KeepsTheBound metric bound exact texts
+keeps : {metric : Metric} {bound : ℕ} {exact : NetValue} {texts : Texts} → ShowsItsBound (confirmed_claim metric bound) exact texts → KeepsTheBound metric bound exact texts
 keeps s = record {
   approx = s.approx;
   report = s.report;
@@ -45,8 +47,7 @@ keeps s = record {
 }
 
 -- where no query was spent, what was asked for was made
-as_asked : (task : Task) (aim : Constraint) (exact : NetValue) (begin : NetValue) (s : Shrinking) → s.spent ≡ None → IsTaskDone task aim exact begin s
-    → IsAsAsked task metric exact bound begin s.net
+as_asked : (task : Task) (aim : Constraint) (exact begin : NetValue) (s : Shrinking) → s.spent ≡ None → IsTaskDone task aim exact begin s → IsAsAsked task aim exact begin s.net
 as_asked Certify aim exact begin s none certified = ap (λ (t : Shrinking). t.net) certified
 as_asked Refine aim exact begin s none search = end_reached aim exact begin s.net s.pool s.spent none search.outcome
 
@@ -54,92 +55,86 @@ as_asked Refine aim exact begin s none search = end_reached aim exact begin s.ne
 not_over : {metric : Metric} {exact begin : NetValue} {bound : ℕ} (x : List Bool) → IsOver metric exact begin bound x → IsWithin metric exact bound begin → ⊥
 not_over x over within = absurd (omega (arith, over.exceeds, within x over.width))
 
-module _ (task : Task) (aim : Constraint) (input second stem : Bytes) (files_named : IsTrue (are_file_words input stem)) (call : Call)
-    (spent level : Option SpentValue) where
-  certifies : (a b : Held) (d : TaskDone task aim input second stem spent call) → spent ≡ None → old.held ≡ Some a → new.held ≡ Some b
-      → IsCertifiedAs task metric bound input stem d.exact d.begin b
-  certifies a b d none told tells =
+module _ (task : Task) (aim : Constraint) (names : TaskNames) (call : Call) (q : SpentQueries) where
+  module _ (files_named : IsTrue (are_file_words names.input names.stem)) where
+    certifies : (a b : Held) (d : TaskDone task aim names q.spent call) → q.spent ≡ None → call.old.held ≡ Some a → call.new.held ≡ Some b
+        → IsCertifiedAs (request_of task aim d.exact d.begin) names.input names.stem b
+    certifies a b d none told tells =
+        let w = d.written in
+        let certified : CertifiesWith (claim_of aim Allowed) d.exact (texts_of b names.stem) = w.certificate Allowed (λ no. absurd (cc no)) a b told tells in
+        let reads : IsNetlist (texts_of b names.stem) w.result.net = w.netlist a b told tells in
+        let joined = joined_task_law task aim names q.spent call files_named d a b told tells in
+        record {
+          certificate = certified;
+          confirmed = joined.0;
+          approx = w.result.net;
+          netlist = reads;
+          the_same_ports = same_ports (texts_of b names.stem) w.result.net certified reads;
+          as_asked = as_asked task aim d.exact d.begin (shrinking_of w.result) (sym w.is_spent ∙ none) w.right.search;
+          checked = joined.1;
+        }
+
+    -- the nets that were read are those of the files
+    module _ (a b : Held) (told : call.old.held ≡ Some a) (tells : call.new.held ≡ Some b) (exact begin : NetValue) (reads : IsReadAs (bytes_of a names.input) exact)
+        (begins : IsReadAs (bytes_of a names.second) begin) where
+      of_both : (P : NetValue → NetValue → Type 0) (N S : NetValue) → AreRead names.input names.second call N S → P N S → P exact begin
+      of_both P N S read holds =
+          let same : N ≡ exact = one_net (bytes_of a names.input) N exact (read.input_read.told a b told tells) reads in
+          let same_begin : S ≡ begin = one_net (bytes_of a names.second) S begin (read.second_read.told a b told tells) begins in
+          subst (λ M. P exact M) same_begin (subst (λ M. P M S) same holds)
+
+      settled : (status : Status) → TaskAnswerAt task aim names call q status → status ≢ ReadFault → status ≢ WriteFault → status ≢ NoMemory → q.spent ≡ None → q.level ≡ None
+          → HasSamePorts exact begin → IsWithin aim.metric exact aim.bound begin → (status ≡ Done) × IsCertifiedAs (request_of task aim exact begin) names.input names.stem b
+      settled Done answer read written memory none no_level ports within =
+          (refl, of_both (λ N S. IsCertifiedAs (request_of task aim N S) names.input names.stem b) answer.0.exact answer.0.begin answer.0.read (certifies a b answer.0 none told tells))
+      settled Budget answer read written memory none no_level ports within = let bad : ◌≡◌ {A = Option SpentValue} (Some answer.0) None = sym answer.1 ∙ no_level in cc
+      settled (Text reason) answer read written memory none no_level ports within =
+          let bad : ◌≡◌ {A = Result NetValue Refusal} (Err answer.0.0) (Ok exact) = sym (answer.0.2.refused.told a b told tells) ∙ reads in cc
+      settled (Second reason) answer read written memory none no_level ports within =
+          let bad : ◌≡◌ {A = Result NetValue Refusal} (Err answer.0.0) (Ok begin) = sym (answer.0.2.refused.told a b told tells) ∙ begins in cc
+      settled Ports answer read written memory none no_level ports within =
+          absurd (of_both (λ N S. ¬ HasSamePorts N S) answer.0.exact answer.0.begin answer.0.read answer.0.holds ports)
+      settled (Over x) answer read written memory none no_level ports within =
+          absurd (not_over x (of_both (λ N S. IsOver aim.metric N S aim.bound x) answer.0.exact answer.0.begin answer.0.read answer.0.holds.over) within)
+      settled NoMemory answer read written memory none no_level ports within = absurd (memory refl)
+      settled ReadFault answer read written memory none no_level ports within = absurd (read refl)
+      settled WriteFault answer read written memory none no_level ports within = absurd (written refl)
+      settled _ answer read written memory none no_level ports within = absurd answer
+
+  -- ---- what a spent query is
+
+  abbrev SpentIn : SpentValue → Type 0
+  SpentIn level = (exact : NetValue) × (begin : NetValue) × AreRead names.input names.second call exact begin × AreSpentOnSecond (request_of task aim exact begin) level
+
+  spent_in : (status : Status) (level : SpentValue) → TaskAnswerAt task aim names call q status → (q.spent ≡ Some level) ⊎ (q.level ≡ Some level) → SpentIn level
+  spent_in Done level (d, no_level) (inl is) =
       let w = d.written in
-      let certified : CertifiesWith Allowed d.metric bound exact (texts_of b stem) = w.certificate Allowed (λ no. absurd (cc no)) a b told tells in
-      let reads : IsNetlist (texts_of b stem) w.result.net = w.netlist a b told tells in
-      let joined = joined_task_law task aim input second stem spent call files_named d a b told tells in
-      record {
-        certificate = certified;
-        confirmed = joined.0;
-        approx = w.result.net;
-        netlist = reads;
-        the_same_ports = same_ports (texts_of b stem) w.result.net certified reads;
-        as_asked = as_asked task metric d.exact bound limit d.begin (shrinking_of w.result) (sym w.is_spent ∙ none) w.right.search;
-        checked = joined.1;
-      }
+      (d.exact, d.begin, d.read, of_task aim d.exact d.begin task (shrinking_of w.result) level w.right.search (sym w.is_spent ∙ is))
+  spent_in Done level (d, no_level) (inr is) = let bad : ◌≡◌ {A = Option SpentValue} None (Some level) = sym no_level ∙ is in cc
+  spent_in Budget level (s, at, b) is =
+      (b.exact, b.begin, b.read, of_task_spent aim b.exact b.begin task q.spent s level b.holds (same_query q.spent q.level s level at is))
+  spent_in (Text reason) level answer is = absurd (none_is level q answer.1 is)
+  spent_in (Second reason) level answer is = absurd (none_is level q answer.1 is)
+  spent_in Ports level answer is = absurd (none_is level q answer.1 is)
+  spent_in (Over x) level answer is = absurd (none_is level q answer.1 is)
+  spent_in NoMemory level answer is = absurd (none_is level q answer.1 is)
+  spent_in ReadFault level answer is = absurd (none_is level q answer.1 is)
+  spent_in WriteFault level answer is = absurd (none_is level q answer.1 is)
+  spent_in _ level answer is = absurd answer
 
-  -- the nets that were read are those of the files
-  module _ (a b : Held) (told : old.held ≡ Some a) (tells : new.held ≡ Some b) (exact begin : NetValue) (reads : IsReadAs (bytes_of a input) exact)
-      (begins : IsReadAs (bytes_of a second) begin) where
-    of_both : (P : NetValue → NetValue → Type 0) (N S : NetValue) → AreRead input second old new N S → P N S → P exact begin
-    of_both P N S read holds =
-        let same : N ≡ exact = one_net (bytes_of a input) N exact (read.input_read.told a b told tells) reads in
-        let same_begin : S ≡ begin = one_net (bytes_of a second) S begin (read.second_read.told a b told tells) begins in
-        subst (λ M. P exact M) same_begin (subst (λ M. P M S) same holds)
-
-    settled : (status : Status) → TaskAnswerAt task aim input second stem call spent level status → status ≢ ReadFault → status ≢ WriteFault → status ≢ NoMemory
-        → spent ≡ None → level ≡ None → HasSamePorts exact begin → IsWithin metric exact bound begin → (status ≡ Done) × IsCertifiedAs task metric bound input stem exact begin b
-    settled Done answer read written memory none no_level ports within =
-        (refl, of_both (λ N S. IsCertifiedAs task metric bound input stem N S b) answer.0.exact answer.0.begin answer.0.read (certifies a b answer.0 none told tells))
-    settled Budget answer read written memory none no_level ports within = let bad : ◌≡◌ {A = Option SpentValue} (Some answer.0) None = sym answer.1 ∙ no_level in cc
-    settled (Text reason) answer read written memory none no_level ports within =
-        let bad : ◌≡◌ {A = Result NetValue Refusal} (Err answer.0.0) (Ok exact) = sym (answer.0.2.refused.told a b told tells) ∙ reads in cc
-    settled (Second reason) answer read written memory none no_level ports within =
-        let bad : ◌≡◌ {A = Result NetValue Refusal} (Err answer.0.0) (Ok begin) = sym (answer.0.2.refused.told a b told tells) ∙ begins in cc
-    settled Ports answer read written memory none no_level ports within =
-        absurd (of_both (λ N S. ¬ HasSamePorts N S) answer.0.exact answer.0.begin answer.0.read answer.0.holds ports)
-    settled (Over x) answer read written memory none no_level ports within =
-        absurd (not_over x (of_both (λ N S. IsOver metric N S bound x) answer.0.exact answer.0.begin answer.0.read answer.0.holds.over) within)
-    settled NoMemory answer read written memory none no_level ports within = absurd (memory refl)
-    settled ReadFault answer read written memory none no_level ports within = absurd (read refl)
-    settled WriteFault answer read written memory none no_level ports within = absurd (written refl)
-    settled _ answer read written memory none no_level ports within = absurd answer
-
--- ---- what a spent query is
-
-abbrev SpentIn : Task → Metric → ℕ → ℕ → Bytes → Bytes → FilesTold → FilesTold → SpentValue → Type 0
-SpentIn task aim input second old new q =
-    (exact : NetValue) × (begin : NetValue) × AreRead input second old new exact begin × AreSpentOnSecond task metric exact begin bound limit q
-
-module _ (task : Task) (aim : Constraint) (input second stem : Bytes) (call : Call) (spent level : Option SpentValue) (q : SpentValue) where
-  spent_in : (status : Status) → TaskAnswerAt task aim input second stem call spent level status → (spent ≡ Some q) ⊎ (level ≡ Some q)
-      → SpentIn task aim input second old new q
-  spent_in Done (d, no_level) (inl is) =
-      let w = d.written in
-      (d.exact, d.begin, d.read, of_task metric d.exact d.begin bound limit task (shrinking_of w.result) q w.right.search (sym w.is_spent ∙ is))
-  spent_in Done (d, no_level) (inr is) = let bad : ◌≡◌ {A = Option SpentValue} None (Some q) = sym no_level ∙ is in cc
-  spent_in Budget (s, at, b) is =
-      (b.exact, b.begin, b.read, of_task_spent metric b.exact b.begin bound limit task spent s q b.holds (same_query spent level s q at is))
-  spent_in (Text reason) answer is = absurd (none_is q spent level answer.1 is)
-  spent_in (Second reason) answer is = absurd (none_is q spent level answer.1 is)
-  spent_in Ports answer is = absurd (none_is q spent level answer.1 is)
-  spent_in (Over x) answer is = absurd (none_is q spent level answer.1 is)
-  spent_in NoMemory answer is = absurd (none_is q spent level answer.1 is)
-  spent_in ReadFault answer is = absurd (none_is q spent level answer.1 is)
-  spent_in WriteFault answer is = absurd (none_is q spent level answer.1 is)
-  spent_in _ answer is = absurd answer
-
-pub second_headline-from : (words : List Bytes) (call : Call) (o : Outcome) → RunSays words call o
-    → SecondHeadline words (o.status ≡ Verified) (o.status ≡ Done) (o.status ≡ NoMemory) (told_query o.spent) (told_query o.level) call
+pub second_headline-from : (words : List Bytes) (call : Call) (o : Outcome) → RunSays words call o → SecondHeadline words (answered_by o) call
 second_headline-from words call o says_all = record {
   when_confirm_verifies = λ metric bound input stem named verified.
       let answer = says_all.answer (confirm metric bound input stem) named in
       let v = verified_end o.status answer.0 answer.1 verified in
       λ a b told tells. (v.exact, v.read.told a b told tells, keeps (v.shows a b told tells));
-  unless_conflicts_were_spent = λ task aim input second stem named quiet memory none no_level.
-      let answer = says_all.answer (against task aim input second stem) named in
-      let well = quiet_task_ends task aim input second stem call (told_query o.spent) (told_query o.level) o.status answer quiet in
-      let files_named : IsTrue (are_file_words input stem) =
-      (and_parts (are_file_words input stem) (are_file_words second stem) (file_words_law.tasks words task aim input second stem named)).0 in
+  unless_conflicts_were_spent = λ task aim names named quiet memory none no_level.
+      let answer = says_all.answer (against task aim names) named in
+      let well = quiet_task_ends task aim names call (told_queries o) o.status answer quiet in
+      let files_named : IsTrue (are_file_words names.input names.stem) =
+      (and_parts (are_file_words names.input names.stem) (are_file_words names.second names.stem) (file_words_law.tasks words task aim names named)).0 in
       λ a b told tells exact begin reads begins ports within.
-      settled task aim input second stem files_named call (told_query o.spent) (told_query o.level) a b told tells exact begin reads begins o.status
-      answer well.read well.written memory none no_level ports within;
-  the_conflicts_that_were_spent = λ task aim input second stem named q is.
-      spent_in task aim input second stem call (told_query o.spent) (told_query o.level) q o.status
-      (says_all.answer (against task aim input second stem) named) is;
+      settled task aim names call (told_queries o) files_named a b told tells exact begin reads begins o.status answer well.read well.written memory none no_level ports within;
+  the_conflicts_that_were_spent = λ task aim names named level is.
+      spent_in task aim names call (told_queries o) o.status level (says_all.answer (against task aim names) named) is;
 }

@@ -1,14 +1,17 @@
 //! The jobs by their words, and what the answer to each job says.
-ghost use Rattle.std.specs.Prelude.{◌≡◌, List, Some, None};
+ghost use Rattle.std.specs.Prelude.{◌≡◌, List, Some};
 ghost use Rattle.semantics.specs.Texts.{Bytes};
 ghost use Rattle.outside_semantics.specs.Outside.{SinkTold};
 ghost use Rattle.job_semantics.specs.Job.{job_of};
-ghost use Rattle.command_words.specs.Words.{job_meaning};
+ghost use Rattle.command_words.specs.Words.{job_meaning, HasRanges};
+ghost use Rattle.job_answers.specs.OnFiles.{on_files};
+ghost use Rattle.synth_jobs.specs.Calls.{told_call};
+ghost use Rattle.jobs.specs.Outcome.{without_query};
 ghost use Rattle.jobs.specs.Run.{IsOnFiles, JobAnswer, RunSays};
 
 use crate::demonstration::demonstrate;
 use crate::outcome::{Outcome, Status, only};
-use crate::second::{Names, against};
+use crate::second::against;
 use crate::synthesis::synthesize;
 use check_jobs::checking::check;
 use check_jobs::trimming::trim_bundle;
@@ -17,61 +20,34 @@ use conversions::conversion::{aag, blif, flat};
 use file_core::files::Files;
 use file_core::sink::Sink;
 use file_core::word::Word;
-use job_semantics::growth::Growth;
 use progress::progress::Progress;
-use semantics::metric::Metric;
 use std::alloc::Global;
-use synth_jobs::preparing::Constraint;
+use synth_jobs::demonstration::demo_aim;
 
 /// Carries out a job that uses files alone: a check, a confirmation, a conversion, or the trimming of a log.
 fn on_files<F: Files>(alloc: Global, command: Command, files: &mut F) -> Status
     requires on_files { IsOnFiles (job_meaning command) }
+    requires ranges { HasRanges command }
     requires named { (words : List Bytes) × (job_of words ≡ Some (job_meaning command)) }
     ensures { (said : SinkTold) → JobAnswer
         (job_meaning command.entry)
-        (F.told files.old)
-        (F.told files.new)
-        said
-        said
-        (record { status = result; spent = None; level = None }) }
+        (on_files (F.told files.old) (F.told files.new) said)
+        (without_query result) }
 {
     match command {
-        Command::Check {
-            metric,
-            bound,
-            input,
-            stem,
-        } => check(alloc, Growth::Refused, metric, bound, input, stem, files),
-        Command::Confirm {
-            metric,
-            bound,
-            input,
-            stem,
-        } => check(alloc, Growth::Allowed, metric, bound, input, stem, files),
+        Command::Check { claim, input, stem } => check(alloc, claim, input, stem, files),
         Command::Flat { input, output } => flat(alloc, input, output, files),
         Command::Aag { input, output } => aag(alloc, input, output, files),
         Command::Blif { input, output } => blif(alloc, input, output, files),
         Command::Trim {
-            metric,
-            bound,
+            claim,
             input,
             stem,
             output,
-        } => trim_bundle(alloc, metric, bound, input, stem, output, files),
-        Command::Synth { .. } => unreachable!(),
-        Command::Against { .. } => unreachable!(),
+        } => trim_bundle(alloc, claim, input, stem, output, files),
+        Command::Synth(_) => unreachable!(),
+        Command::Against(_) => unreachable!(),
         Command::Demo { .. } => unreachable!(),
-    }
-}
-
-/// The error, the bound and the conflicts that words name, as a search takes them.
-fn constraint(metric: Metric, bound: u128, conflicts: u32) -> Constraint
-    ensures { result ≡ record { metric = metric; bound = bound; limit = conflicts } }
-{
-    Constraint {
-        metric,
-        bound,
-        limit: u64::from(conflicts),
     }
 }
 
@@ -83,7 +59,9 @@ pub fn carry_out<F: Files, K: Sink, P: Progress>(
     say: &mut K,
     progress: &mut P,
 ) -> Outcome
-    ensures says { RunSays words.now (F.told files.old) (F.told files.new) (K.told say.old) (K.told say.new)
+    ensures says { RunSays
+        words.now
+        (told_call (F.told files.old) (F.told files.new) (K.told say.old) (K.told say.new))
         result }
     ensures usage_touches_nothing { result.status ≡ Status.Usage
         → (files.new ≡ files.old) × (say.new ≡ say.old) }
@@ -92,40 +70,15 @@ pub fn carry_out<F: Files, K: Sink, P: Progress>(
         return only(Status::Usage);
     };
     match command {
-        Command::Synth {
-            metric,
-            bound,
-            conflicts,
-            input,
-            stem,
-        } => {
-            let aim = constraint(metric, bound, conflicts);
-            synthesize(alloc, aim, input, stem, files, say, progress)
-        }
-        Command::Against {
-            task,
-            metric,
-            bound,
-            conflicts,
-            input,
-            second,
-            stem,
-        } => {
-            let aim = constraint(metric, bound, conflicts);
-            let names = Names {
-                input,
-                second,
-                stem,
-            };
-            against(alloc, task, aim, names, files, say, progress)
-        }
+        Command::Synth(job) => synthesize(alloc, job, files, say, progress),
+        Command::Against(job) => against(alloc, job, files, say, progress),
         Command::Demo {
             width,
             bound,
             conflicts,
         } => {
-            let limit = u64::from(conflicts);
-            demonstrate(alloc, width, bound, limit, files, say, progress)
+            let aim = demo_aim(bound, conflicts);
+            demonstrate(alloc, width, aim, files, say, progress)
         }
         _ => only(on_files(alloc, command, files)),
     }

@@ -2,6 +2,7 @@
 ghost use Rattle.std.specs.Prelude.{◌≤◌};
 ghost use Rattle.semantics.specs.Net.{IsSmall};
 ghost use Rattle.chain_semantics.specs.Simplification.{IsBeginning};
+ghost use Rattle.synth_jobs.specs.Calls.{told_call};
 ghost use Rattle.jobs.specs.Run.{BundleAnswer};
 
 use crate::outcome::{Outcome, Status, only, outcome_of};
@@ -13,39 +14,30 @@ use semantics::limits::LARGEST_ERROR;
 use std::alloc::Global;
 use synth_core::chain::Chain;
 use synth_jobs::delivery::finish;
-use synth_jobs::preparing::Assignment;
+use synth_jobs::request::Request;
 
-/// Carries out an assignment: writes its bundle under the stem, and puts its report.
+/// Does what is requested: writes its bundle under the stem, and puts its report.
 pub(crate) fn deliver<F: Files, K: Sink, P: Progress>(
     alloc: Global,
-    assignment: Assignment,
+    request: Request,
     stem: &[u8],
     files: &mut F,
     say: &mut K,
     progress: &mut P,
 ) -> Outcome
-    requires exact { IsSmall assignment.exact }
-    requires begin { IsSmall assignment.begin }
-    requires beginning { IsBeginning assignment.aim.metric assignment.exact assignment.aim.bound
-        assignment.begin }
-    requires bound { assignment.aim.bound ≤ LARGEST_ERROR }
-    requires limit { 1 ≤ assignment.aim.limit }
+    requires exact { IsSmall request.exact }
+    requires begin { IsSmall request.begin }
+    requires beginning { IsBeginning request.aim.metric request.exact request.aim.bound request.begin }
+    requires bound { request.aim.bound ≤ LARGEST_ERROR }
+    requires limit { 1 ≤ request.aim.limit }
     ensures { BundleAnswer
-        assignment.task
-        assignment.aim.metric
-        assignment.aim.bound
-        assignment.aim.limit
-        assignment.exact
-        assignment.begin
+        request
         stem.now
-        (F.told files.old)
-        (F.told files.new)
-        (K.told say.old)
-        (K.told say.new)
+        (told_call (F.told files.old) (F.told files.new) (K.told say.old) (K.told say.new))
         result }
 {
     let Ok(names) = Stem::new(alloc, stem) else {
         return only(Status::NoMemory);
     };
-    outcome_of(finish::<Chain, F, K, P>(alloc, assignment, &names, files, say, progress))
+    outcome_of(finish::<Chain, F, K, P>(alloc, request, &names, files, say, progress))
 }

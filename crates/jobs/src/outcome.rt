@@ -1,6 +1,6 @@
 //! The answer of a run, with the spent queries.
-ghost use Rattle.std.specs.Prelude.{◌≡◌, None};
-ghost use Rattle.jobs.specs.Outcome.{outcome_of};
+ghost use Rattle.std.specs.Prelude.{◌≡◌};
+ghost use Rattle.jobs.specs.Outcome.{without_query, outcome_of};
 
 pub use job_answers::status::Status;
 use synth_jobs::work::Work;
@@ -20,7 +20,7 @@ pub struct Outcome {
 
 /// An answer without a spent query.
 pub fn only(status: Status) -> Outcome
-    ensures { result ≡ record { status = status; spent = None; level = None } }
+    ensures { result ≡ without_query status }
 {
     Outcome {
         status,

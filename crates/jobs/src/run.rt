@@ -7,6 +7,7 @@ ghost use Rattle.semantics.specs.declared.limits.TheConstants.{MOST_INPUT_BYTES}
 ghost use Rattle.semantics.specs.Texts.{Bytes};
 ghost use Rattle.semantics.specs.Net.{input_count};
 ghost use Rattle.semantics.specs.declared.metric.Metric.{Metric};
+ghost use Rattle.proof_semantics.specs.declared.constraint.Constraint.{Constraint};
 ghost use Rattle.job_semantics.specs.Headline.{Headline};
 ghost use Rattle.job_semantics.specs.SecondHeadline.{SecondHeadline};
 ghost use Rattle.job_semantics.specs.Job.{Job, synth, check, demo, job_of};
@@ -14,6 +15,8 @@ ghost use Rattle.job_semantics.specs.Demo.{demo_net};
 ghost use Rattle.file_core.specs.Sure.{sure_told, sure_sink_told};
 ghost use Rattle.synth_jobs.specs.Spent.{told_query};
 ghost use Rattle.check_jobs.specs.Answers.{IsCheckAnswerTo};
+ghost use Rattle.synth_jobs.specs.Calls.{told_call};
+ghost use Rattle.jobs.specs.Outcome.{answered_by};
 ghost use Rattle.jobs.specs.Run.{RunSays, IsQuietJob, EndsAsAsked, IsAnswerTo, IsWorkOf};
 
 use crate::commands::carry_out;
@@ -32,39 +35,27 @@ pub fn run<F: Files, K: Sink>(alloc: Global, words: &[Word], files: &mut F, say:
     // gets a bundle that verifies.
     ensures headline { Headline
         words.now
-        (result.status ≡ Status.Verified)
-        (result.status ≡ Status.Done)
-        (result.status ≡ Status.NoMemory)
-        (told_query result.spent)
-        (told_query result.level)
-        (F.told files.old)
-        (F.told files.new)
-        (K.told say.old)
-        (K.told say.new) }
+        (answered_by result)
+        (told_call (F.told files.old) (F.told files.new) (K.told say.old) (K.told say.new)) }
 
     // When `confirm` verifies a bundle it keeps the bound; unless conflicts were spent, a second netlist
     // within the bound gets a bundle that is confirmed.
     ensures second_headline { SecondHeadline
         words.now
-        (result.status ≡ Status.Verified)
-        (result.status ≡ Status.Done)
-        (result.status ≡ Status.NoMemory)
-        (told_query result.spent)
-        (told_query result.level)
-        (F.told files.old)
-        (F.told files.new)
-        (K.told say.old)
-        (K.told say.new) }
+        (answered_by result)
+        (told_call (F.told files.old) (F.told files.new) (K.told say.old) (K.told say.new)) }
 
     // What each answer says.
-    ensures says { RunSays words.now (F.told files.old) (F.told files.new) (K.told say.old) (K.told say.new)
+    ensures says { RunSays
+        words.now
+        (told_call (F.told files.old) (F.told files.new) (K.told say.old) (K.told say.new))
         result }
     ensures usage_touches_nothing { result.status ≡ Status.Usage
         → (files.new ≡ files.old) × (say.new ≡ say.old) }
 
     // A quiet call has no fault, and ends as the readings and the conflicts ask, unless memory is wanting.
     ensures complete { (job : Job) → job_of words.now ≡ Some job
-        → IsQuietJob job (F.told files.old) (F.told files.new) (K.told say.old) (K.told say.new)
+        → IsQuietJob job (told_call (F.told files.old) (F.told files.new) (K.told say.old) (K.told say.new))
         → EndsAsAsked job (F.told files.old) result }
 {
     run_followed(alloc, words, files, say, &mut Silent)
@@ -83,39 +74,27 @@ pub fn run_followed<F: Files, K: Sink, P: Progress>(
     // gets a bundle that verifies.
     ensures headline { Headline
         words.now
-        (result.status ≡ Status.Verified)
-        (result.status ≡ Status.Done)
-        (result.status ≡ Status.NoMemory)
-        (told_query result.spent)
-        (told_query result.level)
-        (F.told files.old)
-        (F.told files.new)
-        (K.told say.old)
-        (K.told say.new) }
+        (answered_by result)
+        (told_call (F.told files.old) (F.told files.new) (K.told say.old) (K.told say.new)) }
 
     // When `confirm` verifies a bundle it keeps the bound; unless conflicts were spent, a second netlist
     // within the bound gets a bundle that is confirmed.
     ensures second_headline { SecondHeadline
         words.now
-        (result.status ≡ Status.Verified)
-        (result.status ≡ Status.Done)
-        (result.status ≡ Status.NoMemory)
-        (told_query result.spent)
-        (told_query result.level)
-        (F.told files.old)
-        (F.told files.new)
-        (K.told say.old)
-        (K.told say.new) }
+        (answered_by result)
+        (told_call (F.told files.old) (F.told files.new) (K.told say.old) (K.told say.new)) }
 
     // What each answer says.
-    ensures says { RunSays words.now (F.told files.old) (F.told files.new) (K.told say.old) (K.told say.new)
+    ensures says { RunSays
+        words.now
+        (told_call (F.told files.old) (F.told files.new) (K.told say.old) (K.told say.new))
         result }
     ensures usage_touches_nothing { result.status ≡ Status.Usage
         → (files.new ≡ files.old) × (say.new ≡ say.old) }
 
     // A quiet call has no fault, and ends as the readings and the conflicts ask, unless memory is wanting.
     ensures complete { (job : Job) → job_of words.now ≡ Some job
-        → IsQuietJob job (F.told files.old) (F.told files.new) (K.told say.old) (K.told say.new)
+        → IsQuietJob job (told_call (F.told files.old) (F.told files.new) (K.told say.old) (K.told say.new))
         → EndsAsAsked job (F.told files.old) result }
 {
     carry_out(alloc, words, files, say, progress)
@@ -131,28 +110,16 @@ pub fn run_surely(
 ) -> Outcome
     ensures headline { Headline
         words.now
-        (result.status ≡ Status.Verified)
-        (result.status ≡ Status.Done)
-        (result.status ≡ Status.NoMemory)
-        (told_query result.spent)
-        (told_query result.level)
-        (sure_told files.old)
-        (sure_told files.new)
-        sure_sink_told
-        sure_sink_told }
+        (answered_by result)
+        (told_call (sure_told files.old) (sure_told files.new) sure_sink_told sure_sink_told) }
     ensures second_headline { SecondHeadline
         words.now
-        (result.status ≡ Status.Verified)
-        (result.status ≡ Status.Done)
-        (result.status ≡ Status.NoMemory)
-        (told_query result.spent)
-        (told_query result.level)
-        (sure_told files.old)
-        (sure_told files.new)
-        sure_sink_told
-        sure_sink_told }
-    ensures says { RunSays words.now (sure_told files.old) (sure_told files.new) sure_sink_told
-        sure_sink_told result }
+        (answered_by result)
+        (told_call (sure_told files.old) (sure_told files.new) sure_sink_told sure_sink_told) }
+    ensures says { RunSays
+        words.now
+        (told_call (sure_told files.old) (sure_told files.new) sure_sink_told sure_sink_told)
+        result }
     ensures usage_touches_nothing { result.status ≡ Status.Usage
         → (files.new ≡ files.old) × (say.new ≡ say.old) }
     ensures read { result.status ≢ Status.ReadFault }
@@ -160,7 +127,7 @@ pub fn run_surely(
     ensures answers { (aim : Constraint) (input stem : Bytes)
         → job_of words.now ≡ Some (synth aim input stem)
         → files.old.told ≡ true → IsTrue (contains_key files.old.given input)
-        → IsAnswerTo conflicts (told_query result.spent)
+        → IsAnswerTo aim.limit (told_query result.spent)
         (blif_reading (bytes_of files.old.given input) MOST_INPUT_BYTES) result.status }
     ensures check_answers { (metric : Metric) (bound : ℕ) (input stem : Bytes)
         → job_of words.now ≡ Some (check metric bound input stem)

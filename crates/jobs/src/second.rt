@@ -2,31 +2,25 @@
 //! bundle of the task is written.
 ghost use Rattle.std.specs.Prelude.{◌≤◌, IfOk, IfErr};
 ghost use Rattle.semantics.specs.Net.{IsSmall};
+ghost use Rattle.command_words.specs.Names.{names_of};
 ghost use Rattle.conversions.specs.Input.{NetRead};
+ghost use Rattle.synth_jobs.specs.Calls.{told_call};
 ghost use Rattle.jobs.specs.Run.{TaskAnswer};
 ghost use Rattle.jobs.specs.Second.{SecondUnread, JudgedAnswer};
 
 use crate::delivery::deliver;
 use crate::outcome::{Outcome, Status, only};
+use command_words::net_jobs::TaskJob;
 use conversions::input::read_net;
 use file_core::files::Files;
 use file_core::sink::Sink;
-use job_semantics::task::Task;
 use net_core::net::Net;
 use progress::progress::Progress;
 use semantics::limits::LARGEST_ERROR;
 use std::alloc::Global;
 use synth_core::chain::Chain;
 use synth_jobs::beginning::{Beginning, judge_beginning};
-use synth_jobs::preparing::{Assignment, Constraint};
-
-/// The names of a job's files.
-#[derive(Clone, Copy)]
-pub(crate) struct Names<'a> {
-    pub(crate) input: &'a [u8],
-    pub(crate) second: &'a [u8],
-    pub(crate) stem: &'a [u8],
-}
+use synth_jobs::request::Request;
 
 /// Reads the second netlist as IN is read, and tells its refusal as that of the second.
 fn read_second<F: Files>(alloc: Global, files: &mut F, name: &[u8]) -> Result<Net, Status>
@@ -40,40 +34,29 @@ fn read_second<F: Files>(alloc: Global, files: &mut F, name: &[u8]) -> Result<Ne
     }
 }
 
-/// Judges the second net against the exact one and, where it keeps the bound, carries out the task.
+/// Judges the second net against the exact one and, where it keeps the bound, does what is requested.
 fn undertake<F: Files, K: Sink, P: Progress>(
     alloc: Global,
-    assignment: Assignment,
+    request: Request,
     stem: &[u8],
     files: &mut F,
     say: &mut K,
     progress: &mut P,
 ) -> Outcome
-    requires exact { IsSmall assignment.exact }
-    requires begin { IsSmall assignment.begin }
-    requires bound { assignment.aim.bound ≤ LARGEST_ERROR }
-    requires limit { 1 ≤ assignment.aim.limit }
+    requires exact { IsSmall request.exact }
+    requires begin { IsSmall request.begin }
+    requires bound { request.aim.bound ≤ LARGEST_ERROR }
+    requires limit { 1 ≤ request.aim.limit }
     ensures { JudgedAnswer
-        assignment.task
-        assignment.aim.metric
-        assignment.aim.bound
-        assignment.aim.limit
-        assignment.exact
-        assignment.begin
+        request
         stem.now
-        (F.told files.old)
-        (F.told files.new)
-        (K.told say.old)
-        (K.told say.new)
+        (told_call (F.told files.old) (F.told files.new) (K.told say.old) (K.told say.new))
         result }
 {
-    let Assignment {
-        exact,
-        begin,
-        aim,
-        ..
-    } = &assignment;
-    match judge_beginning::<Chain, P>(alloc, exact, begin, *aim, progress) {
+    let Request {
+        aim, exact, begin, ..
+    } = &request;
+    match judge_beginning::<Chain, P>(alloc, *aim, exact, begin, progress) {
         Err(_) => only(Status::NoMemory),
         Ok(Beginning::Ports) => only(Status::Ports),
         Ok(Beginning::Over(x)) => only(Status::Over(x)),
@@ -82,49 +65,40 @@ fn undertake<F: Files, K: Sink, P: Progress>(
             spent: None,
             level: Some(level),
         },
-        Ok(Beginning::Within) => deliver(alloc, assignment, stem, files, say, progress),
+        Ok(Beginning::Within) => deliver(alloc, request, stem, files, say, progress),
     }
 }
 
 /// Carries out a certify or a refine job.
 pub(crate) fn against<F: Files, K: Sink, P: Progress>(
     alloc: Global,
-    task: Task,
-    aim: Constraint,
-    names: Names<'_>,
+    job: TaskJob<'_>,
     files: &mut F,
     say: &mut K,
     progress: &mut P,
 ) -> Outcome
-    requires bound { aim.bound ≤ LARGEST_ERROR }
-    requires limit { 1 ≤ aim.limit }
+    requires bound { job.aim.bound ≤ LARGEST_ERROR }
+    requires limit { 1 ≤ job.aim.limit }
     ensures { TaskAnswer
-        task
-        aim.metric
-        aim.bound
-        aim.limit
-        names.entry.input.now
-        names.entry.second.now
-        names.entry.stem.now
-        (F.told files.old)
-        (F.told files.new)
-        (K.told say.old)
-        (K.told say.new)
+        job.entry.task
+        job.entry.aim
+        (names_of job.entry.names)
+        (told_call (F.told files.old) (F.told files.new) (K.told say.old) (K.told say.new))
         result }
 {
-    let exact = match read_net(alloc, files, names.input) {
+    let exact = match read_net(alloc, files, job.names.input) {
         Ok(net) => net,
         Err(answer) => return only(answer),
     };
-    let begin = match read_second(alloc, files, names.second) {
+    let begin = match read_second(alloc, files, job.names.second) {
         Ok(net) => net,
         Err(answer) => return only(answer),
     };
-    let assignment = Assignment {
-        task,
+    let request = Request {
+        task: job.task,
+        aim: job.aim,
         exact,
         begin,
-        aim,
     };
-    undertake(alloc, assignment, names.stem, files, say, progress)
+    undertake(alloc, request, job.names.stem, files, say, progress)
 }

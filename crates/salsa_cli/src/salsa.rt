@@ -1,7 +1,7 @@
 //! The program `salsa`, and what each of its answers says.
 ghost use Rattle.std.specs.Prelude.{◌≡◌};
 ghost use Rattle.job_answers.specs.Exit.{exit_number};
-ghost use Rattle.salsa_cli.specs.Salsa.{SalsaSays, has_line};
+ghost use Rattle.salsa_cli.specs.Salsa.{program_says, has_line};
 
 use console::program::Program;
 use file_core::files::Files;
@@ -18,7 +18,7 @@ pub struct Salsa;
 impl Program for Salsa {
     type Answer = Status;
 
-    ghost says = { SalsaSays };
+    ghost says = { program_says };
 
     ghost exit_number = { exit_number };
 

@@ -1,14 +1,15 @@
 -- What the program of a demonstration says.
 use Rattle.std.specs.Prelude.{◌≡◌, ℕ, Bool, true, false, List, Some, None, codes}
 use Rattle.semantics.specs.Texts.{Bytes}
-use Rattle.semantics.specs.declared.metric.Kind.TheVariants.{Abs}
-use Rattle.semantics.specs.Error.{one_word}
 use Rattle.outside_semantics.specs.Outside.{FilesTold, SinkTold}
-use Rattle.job_semantics.specs.declared.task.Task.TheVariants.{Refine}
+use Rattle.job_semantics.specs.Call.{Call}
 use Rattle.job_semantics.specs.Job.{Job, demo, job_of}
 use Rattle.job_semantics.specs.Demo.{demo_net}
 use Rattle.job_semantics.specs.Demonstration.{demo_stem}
+use Rattle.job_semantics.specs.Synthesis.{simplifying}
 use Rattle.command_words.specs.Usage.{usage_line}
+use Rattle.synth_jobs.specs.Calls.{told_call, IsStill}
+use Rattle.synth_jobs.specs.Demo.{demo_aim}
 use Rattle.synth_jobs.specs.Work.{WorkSays, work_exit}
 use Rattle.synth_jobs.specs.declared.work.Work.{Work}
 use Rattle.synth_jobs.specs.declared.work.Work.TheVariants.{Done, Budget, NoMemory, WriteFault}
@@ -17,27 +18,28 @@ use Rattle.salsa_demo.specs.declared.demonstration.Answer.TheVariants.{Usage, Wo
 
 -- what words are answered that are no demo job
 abbrev pub IsUsage : Call → Answer → Type 0
-IsUsage call answer = (answer ≡ Usage) × (new ≡ old) × (says ≡ said)
+IsUsage call answer = (answer ≡ Usage) × IsStill call
 
 -- the answer tells what the work on the generated adder came to
-abbrev pub IsWorked : ℕ → ℕ → ℕ → Call → Answer → Type 0
-IsWorked width bound limit call answer = (work : Work) × (answer ≡ Worked work)
-    × WorkSays Refine (one_word Abs) bound limit (demo_net width) (demo_net width) demo_stem call
-    work
+abbrev pub IsWorked : (width bound conflicts : ℕ) → Call → Answer → Type 0
+IsWorked width bound conflicts call answer = (work : Work) × (answer ≡ Worked work)
+    × WorkSays (simplifying (demo_aim bound conflicts) (demo_net width)) demo_stem call work
 
 -- what the answer to a job says
 abbrev pub JobAnswer : Job → Call → Answer → Type 0
-JobAnswer (demo width bound conflicts) call answer =
-    IsWorked width bound conflicts call answer
+JobAnswer (demo width bound conflicts) call answer = IsWorked width bound conflicts call answer
 JobAnswer job call answer = IsUsage call answer
 
 -- What a run says, by its words, its answer, and what files and sink told at entry and at exit: words that
 -- are no demo job are `Usage`, and touch nothing; and the answer to a demo job is what the work on the
 -- generated adder comes to.
-pub record DemonstrationSays (words : List Bytes) (call : Call)
-    (answer : Answer) : Type 0 where
+pub record DemonstrationSays (words : List Bytes) (call : Call) (answer : Answer) : Type 0 where
   pub no_job : job_of words ≡ None → IsUsage call answer
   pub job : (job : Job) → job_of words ≡ Some job → JobAnswer job call answer
+
+-- so a program says it
+abbrev pub program_says : List Bytes → FilesTold → FilesTold → SinkTold → SinkTold → Answer → Type 0
+program_says words old new said says answer = DemonstrationSays words (told_call old new said says) answer
 
 -- the exit number of the process
 abbrev pub answer_exit : Answer → ℕ

@@ -1,6 +1,6 @@
 //! The program of the job `demo` alone, and what each of its answers says.
 ghost use Rattle.std.specs.Prelude.{◌≡◌};
-ghost use Rattle.salsa_demo.specs.Demonstration.{DemonstrationSays, answer_exit, has_line};
+ghost use Rattle.salsa_demo.specs.Demonstration.{program_says, answer_exit, has_line};
 
 use command_words::usage::usage_line;
 use command_words::words::{Command, command_named};
@@ -12,7 +12,7 @@ use progress::progress::Progress;
 use std::alloc::Global;
 use std::fmt;
 use synth_core::chain::Chain;
-use synth_jobs::demonstration::demonstrate;
+use synth_jobs::demonstration::{demo_aim, demonstrate};
 use synth_jobs::work::Work;
 
 /// What a demonstration answers.
@@ -48,7 +48,7 @@ pub struct Demonstration;
 impl Program for Demonstration {
     type Answer = Answer;
 
-    ghost says = { DemonstrationSays };
+    ghost says = { program_says };
 
     ghost exit_number = { answer_exit };
 
@@ -69,9 +69,9 @@ impl Program for Demonstration {
                     conflicts,
                 },
             ) => {
-                let limit = u64::from(conflicts);
+                let aim = demo_aim(bound, conflicts);
                 Answer::Worked(demonstrate::<Chain, F, K, P>(
-                    alloc, width, bound, limit, files, say, progress,
+                    alloc, width, aim, files, say, progress,
                 ))
             }
             _ => Answer::Usage,

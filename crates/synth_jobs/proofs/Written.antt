@@ -1,20 +1,18 @@
 -- That a bundle was written, whole or in part, from what was made ready and what was delivered.
-use Rattle.std.proofs.Common.{◌≡◌, ℕ, [], Option, inl, inr, ap, sym, subst, ◌∙◌}
+use Rattle.std.proofs.Common.{◌≡◌, [], Option, inl, inr, ap, sym, subst, ◌∙◌}
 use Rattle.std.specs.Prelude.{unwrap_or}
 use Rattle.semantics.specs.Texts.{Bytes}
-use Rattle.semantics.specs.Net.{NetValue}
-use Rattle.semantics.specs.declared.metric.Metric.{Metric}
-use Rattle.outside_semantics.specs.Outside.{Held, FilesTold, SinkTold, Took, TakeFailed}
+use Rattle.outside_semantics.specs.Outside.{Held, FilesTold, Took, TakeFailed}
 use Rattle.outside_semantics.specs.WrittenFiles.{with_files, FilesWritten, FilesCutShort}
 use Rattle.job_semantics.specs.declared.ending.Ending.{Ending}
 use Rattle.job_semantics.specs.declared.ending.Ending.TheVariants as file
 use Rattle.job_semantics.specs.declared.version.Version.TheVariants.{Two}
 use Rattle.job_semantics.specs.Endings.{bundle_files}
 use Rattle.job_semantics.specs.Bundle.{BundleValue, bundle_text}
-use Rattle.job_semantics.specs.declared.task.Task.{Task}
 use Rattle.job_semantics.specs.Certificate.{Texts, texts_of, OfBundle, OfReport, IsNetlist, CertifiesWith}
 use Rattle.job_semantics.proofs.BundleFiles.{bundle_files-holds}
-use Rattle.job_semantics.specs.Synthesis.{BundleWritten, BundleCutShort}
+use Rattle.job_semantics.specs.Call.{Call}
+use Rattle.job_semantics.specs.Synthesis.{Request, claim_of, BundleWritten, BundleCutShort}
 use Rattle.worst_case.specs.declared.query.Spent as spent
 use Rattle.bundle_writing.specs.Value.{files_of}
 use Rattle.synth_jobs.specs.Spent.{told_query}
@@ -39,42 +37,35 @@ of_written P stem {old} {new} b written p =
     let texts = ap (λ h. texts_of h stem) (written.held a held told tells) ∙ texts_are a stem (bundle_text b) in
     subst P (sym texts) p
 
-pub BundleWritten-from : {task : Task} {metric : Metric} {bound limit : ℕ} {exact begin : NetValue} {stem names : Bytes}
-    {call : Call} {b : BundleValue} {spent : Option spent.Spent}
-    → names ≡ stem → IsReady task exact begin aim b spent → IsDelivered b names call
-    → BundleWritten task aim exact begin stem (told_query spent) call
-BundleWritten-from {task} {metric} {bound} {limit} {exact} {begin} {stem} {names} {old} {new} {said} {says} {b} {spent} same ready delivered =
-    let all : FilesWritten old new (files_of stem b) = subst (λ s. FilesWritten old new (files_of s b)) same delivered.0 in
-    record {
-      result = ready.result;
-      log = b.log;
-      right = ready.right;
-      is_spent = ready.is_spent;
-      refuted = ready.refuted;
-      files = subst (λ v. FilesWritten old new (bundle_files stem (bundle_text v))) ready.is all;
-      report = subst (λ v. Took said says (bundle_text v file.Report)) ready.is delivered.1;
-      netlist = of_written (λ texts. IsNetlist texts ready.result.net) stem b all ready.netlist;
-      certificate = λ growth size. of_written (CertifiesWith claim exact) stem b all (ready.certificate growth size);
-      version = of_written (λ texts. OfReport metric bound exact texts (λ r. r.version ≡ Two)) stem b all ready.version;
-    }
+module _ {r : Request} {stem names : Bytes} {call : Call} {b : BundleValue} {spent : Option spent.Spent} (same : names ≡ stem) (ready : IsReady r b spent) where
+  pub BundleWritten-from : IsDelivered b names call → BundleWritten r stem (told_query spent) call
+  BundleWritten-from delivered =
+      let all : FilesWritten call.old call.new (files_of stem b) = subst (λ s. FilesWritten call.old call.new (files_of s b)) same delivered.0 in
+      record {
+        result = ready.result;
+        right = ready.right;
+        is_spent = ready.is_spent;
+        refuted = ready.refuted;
+        files = subst (λ v. FilesWritten call.old call.new (bundle_files stem (bundle_text v))) ready.is all;
+        report = subst (λ v. Took call.said call.says (bundle_text v file.Report)) ready.is delivered.1;
+        netlist = of_written (λ texts. IsNetlist texts ready.result.net) stem b all ready.netlist;
+        certificate = λ growth size. of_written (CertifiesWith (claim_of r.aim growth) r.exact) stem b all (ready.certificate growth size);
+        version = of_written (λ texts. OfReport r.aim.metric r.aim.bound r.exact texts (λ told. told.version ≡ Two)) stem b all ready.version;
+      }
 
-pub BundleCutShort-from : {task : Task} {metric : Metric} {bound limit : ℕ} {exact begin : NetValue} {stem names : Bytes}
-    {call : Call} {b : BundleValue} {spent : Option spent.Spent}
-    → names ≡ stem → IsReady task exact begin aim b spent → IsDeliveredInPart b names call
-    → BundleCutShort task aim exact begin stem call
-BundleCutShort-from {task} {metric} {bound} {limit} {exact} {begin} {stem} {names} {old} {new} {said} {says} {b} {spent} same ready part = record {
-  result = ready.result;
-  log = b.log;
-  right = ready.right;
-  refuted = ready.refuted;
-  left = elim part [
-    | inl cut ↦ inl (
-      subst (λ v. FilesCutShort old new (bundle_files stem (bundle_text v))) ready.is (subst (λ s. FilesCutShort old new (files_of s b)) same cut.0),
-      cut.1,
-    )
-    | inr put ↦ inr (
-      subst (λ v. FilesWritten old new (bundle_files stem (bundle_text v))) ready.is (subst (λ s. FilesWritten old new (files_of s b)) same put.0),
-      subst (λ v. TakeFailed said says (bundle_text v file.Report)) ready.is put.1,
-    )
-  ];
-}
+  pub BundleCutShort-from : IsDeliveredInPart b names call → BundleCutShort r stem call
+  BundleCutShort-from part = record {
+    result = ready.result;
+    right = ready.right;
+    refuted = ready.refuted;
+    left = elim part [
+      | inl cut ↦ inl (
+        subst (λ v. FilesCutShort call.old call.new (bundle_files stem (bundle_text v))) ready.is (subst (λ s. FilesCutShort call.old call.new (files_of s b)) same cut.0),
+        cut.1,
+      )
+      | inr put ↦ inr (
+        subst (λ v. FilesWritten call.old call.new (bundle_files stem (bundle_text v))) ready.is (subst (λ s. FilesWritten call.old call.new (files_of s b)) same put.0),
+        subst (λ v. TakeFailed call.said call.says (bundle_text v file.Report)) ready.is put.1,
+      )
+    ];
+  }

@@ -1,3 +1,5 @@
+pub mod Calls
+pub mod Demo
 pub mod Spent
 pub mod Work
 pub mod Prepared

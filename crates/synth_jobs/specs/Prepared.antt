@@ -1,22 +1,21 @@
 -- What is ready before the first file is touched.
-use Rattle.std.specs.Prelude.{◌≡◌, ℕ, Option}
+use Rattle.std.specs.Prelude.{◌≡◌, Option}
 use Rattle.semantics.specs.Net.{NetValue}
-use Rattle.semantics.specs.declared.metric.Metric.{Metric}
+use Rattle.proof_semantics.specs.declared.constraint.Constraint.{Constraint}
 use Rattle.proof_semantics.specs.Formula.{Formula}
 use Rattle.proof_semantics.specs.Miter.{miter}
-use Rattle.proof_semantics.specs.Queries.{IsMaximum}
+use Rattle.proof_semantics.specs.Queries.{MaximumValue, IsMaximum}
 use Rattle.job_semantics.specs.declared.version.Version.TheVariants.{Two}
 use Rattle.job_semantics.specs.Bundle.{BundleValue, bundle_text}
 use Rattle.job_semantics.specs.declared.growth.Growth.{Growth}
 use Rattle.job_semantics.specs.declared.task.Task.{Task}
 use Rattle.job_semantics.specs.Certificate.{IsNetlist, OfReport, IsOfAllowedSize, CertifiesWith}
 use Rattle.job_semantics.specs.Shrinking.{Shrinking}
-use Rattle.job_semantics.specs.Synthesis.{Simplified, IsTaskDone, IsSimplifiedFrom, IsRefutedBy}
-use Rattle.job_semantics.specs.Synthesis.{MaximumSpent, is_shown_minimal, synth_bundle}
+use Rattle.job_semantics.specs.Synthesis.{Request, Simplified, claim_of, IsTaskDone, IsSimplifiedFrom}
+use Rattle.job_semantics.specs.Synthesis.{IsRefutedBy, MaximumSpent, is_shown_minimal, synth_bundle}
 use Rattle.net_search.specs.declared.search.Shrunk.{Shrunk}
 use Rattle.worst_case.specs.declared.query.Spent as spent
 use Rattle.worst_case.specs.Exceeds.{spent_value}
-use Rattle.synth_jobs.specs.declared.preparing.Constraint.{Constraint}
 use Rattle.synth_jobs.specs.declared.preparing.Findings.{Findings}
 use Rattle.synth_jobs.specs.declared.preparing.Searched as searched
 use Rattle.synth_jobs.specs.declared.preparing.Prepared.{Prepared}
@@ -25,21 +24,20 @@ use Rattle.synth_jobs.specs.Spent.{told_query}
 
 -- b is the bundle of what the task makes of the beginning; its log refutes its formula, and its texts are a
 -- certificate for each growth that the net's size allows, whose report is of version 2
-pub record IsReady (task : Task) (exact begin : NetValue) (aim : Constraint)
-    (b : BundleValue) (spent : Option spent.Spent) : Type 0 where
+pub record IsReady (r : Request) (b : BundleValue) (spent : Option spent.Spent) : Type 0 where
   pub result : Simplified
-  pub right : IsSimplifiedFrom task exact begin aim result b.log
+  pub right : IsSimplifiedFrom r result
   pub is_spent : told_query spent ≡ result.spent
-  pub refuted : IsRefutedBy (miter exact result.net metric result.maximum) b.log
-  pub is : b ≡ synth_bundle task metric bound exact result b.log
+  pub refuted : IsRefutedBy (miter r.exact result.net r.aim.metric result.maximum.error) result.maximum.log
+  pub is : b ≡ synth_bundle r result
   pub netlist : IsNetlist (bundle_text b) result.net
-  pub certificate : (growth : Growth) → IsOfAllowedSize growth exact result.net
-      → CertifiesWith claim exact (bundle_text b)
-  pub version : OfReport metric bound exact (bundle_text b) (λ r. r.version ≡ Two)
+  pub certificate : (growth : Growth) → IsOfAllowedSize growth r.exact result.net
+      → CertifiesWith (claim_of r.aim growth) r.exact (bundle_text b)
+  pub version : OfReport r.aim.metric r.aim.bound r.exact (bundle_text b) (λ told. told.version ≡ Two)
 
 -- the bundle of what was found, with its formula
-abbrev pub bundle_of : Task → NetValue → Constraint → Findings → Formula → BundleValue
-bundle_of task exact aim found goal = record {
+abbrev pub bundle_of : Task → Constraint → NetValue → Findings → Formula → BundleValue
+bundle_of task aim exact found goal = record {
   version = Two;
   exact = exact;
   approx = found.shrunk.net;
@@ -57,21 +55,21 @@ bundle_of task exact aim found goal = record {
 abbrev pub told_shrinking : Shrunk → Shrinking
 told_shrinking s = record { net = s.net; pool = s.pool.vectors; spent = told_query s.spent }
 
+-- the greatest error that was found
+abbrev pub found_maximum : Findings → MaximumValue
+found_maximum found = record { error = found.maximum; witness = found.witness; log = found.log }
+
 -- the task came to this net, whose greatest error this is
-pub record AreFound (task : Task) (exact begin : NetValue) (aim : Constraint)
-    (found : Findings) : Type 0 where
-  pub search : IsTaskDone task aim exact begin (told_shrinking found.shrunk)
-  pub most : IsMaximum metric exact found.shrunk.net found.maximum found.witness found.log
+pub record AreFound (r : Request) (found : Findings) : Type 0 where
+  pub search : IsTaskDone r.task r.aim r.exact r.begin (told_shrinking found.shrunk)
+  pub most : IsMaximum r.aim.metric r.exact found.shrunk.net (found_maximum found)
 
 -- what the task and the search for the greatest error come to
-abbrev pub IsSearched : Task → NetValue → Metric → ℕ → NetValue → ℕ → searched.Searched → Type 0
-IsSearched task exact begin aim (searched.TheVariants.Found found)
-    = AreFound task exact begin aim found
-IsSearched task exact begin aim (searched.TheVariants.Budget level spent)
-    = MaximumSpent task aim exact begin (told_query spent) (spent_value level)
+abbrev pub IsSearched : Request → searched.Searched → Type 0
+IsSearched r (searched.TheVariants.Found found) = AreFound r found
+IsSearched r (searched.TheVariants.Budget level spent)
+    = MaximumSpent r (told_query spent) (spent_value level)
 
-abbrev pub IsPrepared : Task → NetValue → Metric → ℕ → NetValue → ℕ → Prepared → Type 0
-IsPrepared task exact begin aim (Ready bundle spent)
-    = IsReady task exact begin aim bundle spent
-IsPrepared task exact begin aim (Budget level spent)
-    = MaximumSpent task aim exact begin (told_query spent) (spent_value level)
+abbrev pub IsPrepared : Request → Prepared → Type 0
+IsPrepared r (Ready bundle spent) = IsReady r bundle spent
+IsPrepared r (Budget level spent) = MaximumSpent r (told_query spent) (spent_value level)

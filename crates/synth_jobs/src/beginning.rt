@@ -1,18 +1,17 @@
 //! Whether a second net may be certified or refined: it needs the ports of the exact one, and an error within
 //! the bound.
-ghost use Rattle.std.specs.Prelude.{◌≤◌, ℕ, IfOk};
+ghost use Rattle.std.specs.Prelude.{◌≤◌, IfOk};
 ghost use Rattle.semantics.specs.Net.{NetValue, IsSound, IsSmall, HasSamePorts};
-ghost use Rattle.semantics.specs.declared.metric.Metric.{Metric};
 ghost use Rattle.net_search.specs.Bounds.{IsBoundAnswer};
 ghost use Rattle.synth_jobs.specs.Beginnings.{IsBeginningJudged};
 
-use crate::preparing::Constraint;
 use net_core::items::Bits;
 use net_core::net::Net;
 use net_errors::compared::Compared;
 use net_errors::ports::same_ports;
 use net_search::search::Search;
 use progress::progress::Progress;
+use proof_semantics::constraint::Constraint;
 use std::alloc::{AllocError, Global};
 use worst_case::margin::Margin;
 use worst_case::query::Spent;
@@ -32,9 +31,8 @@ pub enum Beginning {
 
 /// How a second net with the same ports stands to the exact one.
 fn judged(margin: Margin) -> Beginning
-    ensures { (exact begin : NetValue) (aim : Constraint) → HasSamePorts exact begin
-        → IsSound begin → IsBoundAnswer metric exact begin bound limit margin
-        → IsBeginningJudged exact begin aim result }
+    ensures { (aim : Constraint) (exact begin : NetValue) → HasSamePorts exact begin → IsSound begin
+        → IsBoundAnswer aim exact begin margin → IsBeginningJudged aim exact begin result }
 {
     match margin {
         Margin::Over(x) => Beginning::Over(x),
@@ -46,20 +44,20 @@ fn judged(margin: Margin) -> Beginning
 /// Judges a second net against the exact one: first its ports, then its error.
 pub fn judge_beginning<S: Search, P: Progress>(
     alloc: Global,
+    aim: Constraint,
     exact: &Net,
     begin: &Net,
-    aim: Constraint,
     progress: &mut P,
 ) -> Result<Beginning, AllocError>
     requires small { IsSmall exact.now }
     requires limit { 1 ≤ aim.limit }
-    ensures { IfOk result (IsBeginningJudged exact.now begin.now aim.metric aim.bound aim.limit) }
+    ensures { IfOk result (IsBeginningJudged aim exact.now begin.now) }
 {
     if !same_ports(exact, begin) {
         return Ok(Beginning::Ports);
     }
     begin.see_sound();
     let nets = Compared::new(exact, begin);
-    let margin = S::within(alloc, &nets, aim.metric, aim.bound, aim.limit, progress)?;
+    let margin = S::within(alloc, &nets, aim, progress)?;
     Ok(judged(margin))
 }

@@ -1,15 +1,16 @@
 //! A net is certified or simplified, its bundle is written, and its report is put to the sink: what the jobs
 //! that write a bundle have in common.
-ghost use Rattle.std.specs.Prelude.{◌≤◌, ℕ, OnOk, OnErr};
-ghost use Rattle.semantics.specs.Net.{NetValue, IsSmall};
-ghost use Rattle.semantics.specs.declared.metric.Metric.{Metric};
+ghost use Rattle.std.specs.Prelude.{◌≤◌, OnOk, OnErr};
+ghost use Rattle.semantics.specs.Net.{IsSmall};
 ghost use Rattle.chain_semantics.specs.Simplification.{IsBeginning};
-ghost use Rattle.job_semantics.specs.declared.task.Task.{Task};
+ghost use Rattle.job_semantics.specs.Synthesis as synthesis;
+ghost use Rattle.synth_jobs.specs.Calls.{told_call};
 ghost use Rattle.synth_jobs.specs.Prepared.{IsReady};
 ghost use Rattle.synth_jobs.specs.Delivered.{IsDelivered, IsDeliveredInPart};
 ghost use Rattle.synth_jobs.specs.Work.{WorkSays};
 
-use crate::preparing::{Assignment, Prepared, prepare};
+use crate::preparing::{Prepared, prepare};
+use crate::request::Request;
 use crate::work::Work;
 use bundle_writing::bundle::Bundle;
 use bundle_writing::stem::Stem;
@@ -30,11 +31,14 @@ fn deliver<F: Files, K: Sink>(
     files: &mut F,
     say: &mut K,
 ) -> Result<(), FileFault>
-    ensures ok { OnOk result (IsDelivered bundle.now names.now (F.told files.old) (F.told files.new)
-        (K.told say.old) (K.told say.new)) }
-    ensures err { OnErr result
-        (IsDeliveredInPart bundle.now names.now (F.told files.old) (F.told files.new) (K.told say.old)
-        (K.told say.new)) }
+    ensures ok { OnOk result (IsDelivered
+        bundle.now
+        names.now
+        (told_call (F.told files.old) (F.told files.new) (K.told say.old) (K.told say.new))) }
+    ensures err { OnErr result (IsDeliveredInPart
+        bundle.now
+        names.now
+        (told_call (F.told files.old) (F.told files.new) (K.told say.old) (K.told say.new))) }
 {
     let Ok(()) = write_bundle(bundle, names, files) else {
         return Err(FileFault);
@@ -51,10 +55,11 @@ fn delivered<F: Files, K: Sink>(
     files: &mut F,
     say: &mut K,
 ) -> Work
-    ensures { (task : Task) (exact begin : NetValue) (aim : Constraint)
-        → IsReady task exact begin aim bundle.now spent
-        → WorkSays task aim exact begin names.now (F.told files.old) (F.told files.new)
-        (K.told say.old) (K.told say.new) result }
+    ensures { (r : synthesis.Request) → IsReady r bundle.now spent → WorkSays
+        r
+        names.now
+        (told_call (F.told files.old) (F.told files.new) (K.told say.old) (K.told say.new))
+        result }
 {
     match deliver(bundle, names, files, say) {
         Ok(()) => Work::Done(spent),
@@ -66,33 +71,24 @@ fn delivered<F: Files, K: Sink>(
 /// report. Everything is computed before a file is touched.
 pub fn finish<S: Search, F: Files, K: Sink, P: Progress>(
     alloc: Global,
-    assignment: Assignment,
+    request: Request,
     names: &Stem,
     files: &mut F,
     say: &mut K,
     progress: &mut P,
 ) -> Work
-    requires small { IsSmall assignment.exact }
-    requires begin_small { IsSmall assignment.begin }
-    requires beginning { IsBeginning assignment.aim.metric assignment.exact assignment.aim.bound
-        assignment.begin }
-    requires bound { assignment.aim.bound ≤ LARGEST_ERROR }
-    requires limit { 1 ≤ assignment.aim.limit }
+    requires small { IsSmall request.exact }
+    requires begin_small { IsSmall request.begin }
+    requires beginning { IsBeginning request.aim.metric request.exact request.aim.bound request.begin }
+    requires bound { request.aim.bound ≤ LARGEST_ERROR }
+    requires limit { 1 ≤ request.aim.limit }
     ensures { WorkSays
-        assignment.task
-        assignment.aim.metric
-        assignment.aim.bound
-        assignment.aim.limit
-        assignment.exact
-        assignment.begin
+        request
         names.now
-        (F.told files.old)
-        (F.told files.new)
-        (K.told say.old)
-        (K.told say.new)
+        (told_call (F.told files.old) (F.told files.new) (K.told say.old) (K.told say.new))
         result }
 {
-    match prepare::<S, P>(alloc, assignment, progress) {
+    match prepare::<S, P>(alloc, request, progress) {
         Err(_) => Work::NoMemory,
         Ok(Prepared::Budget { level, spent }) => Work::Budget { level, spent },
         Ok(Prepared::Ready { bundle, spent }) => { delivered(&bundle, spent, names, files, say) }

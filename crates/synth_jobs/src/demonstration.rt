@@ -1,14 +1,14 @@
 //! A demo job: an adder is generated and simplified, and its bundle is written under the stem `demo`.
-ghost use Rattle.std.specs.Prelude.{◌≤◌};
-ghost use Rattle.semantics.specs.declared.metric.Kind.TheVariants.{Abs};
-ghost use Rattle.semantics.specs.Error.{one_word};
-ghost use Rattle.job_semantics.specs.declared.task.Task.TheVariants.{Refine};
+ghost use Rattle.std.specs.Prelude.{◌≡◌, ◌≤◌};
 ghost use Rattle.job_semantics.specs.Demo.{demo_net};
 ghost use Rattle.job_semantics.specs.Demonstration.{demo_stem};
+ghost use Rattle.job_semantics.specs.Synthesis.{simplifying};
+ghost use Rattle.synth_jobs.specs.Calls.{told_call};
+ghost use Rattle.synth_jobs.specs.Demo.{demo_aim};
 ghost use Rattle.synth_jobs.specs.Work.{WorkSays};
 
 use crate::delivery::finish;
-use crate::preparing::{Assignment, Constraint};
+use crate::request::Request;
 use crate::work::Work;
 use bundle_writing::stem::Stem;
 use demo_adder::adder::demo_net;
@@ -17,35 +17,41 @@ use file_core::sink::Sink;
 use job_semantics::task::Task;
 use net_search::search::Search;
 use progress::progress::Progress;
+use proof_semantics::constraint::Constraint;
 use semantics::limits::LARGEST_ERROR;
 use semantics::metric::{Kind, Metric};
 use std::alloc::Global;
 
-/// Carries out a demo job, with the absolute error.
+/// What a demo job asks for: the absolute error, within a bound, and a limit of conflicts for each query.
+pub fn demo_aim(bound: u128, conflicts: u64) -> Constraint
+    ensures { result ≡ demo_aim bound conflicts }
+{
+    Constraint {
+        metric: Metric {
+            kind: Kind::Abs,
+            width: None,
+        },
+        bound,
+        limit: conflicts,
+    }
+}
+
+/// Simplifies the adder of two words of `width` bits.
 pub fn demonstrate<S: Search, F: Files, K: Sink, P: Progress>(
     alloc: Global,
     width: u32,
-    bound: u128,
-    limit: u64,
+    aim: Constraint,
     files: &mut F,
     say: &mut K,
     progress: &mut P,
 ) -> Work
     requires width { (1 ≤ width) × (width ≤ 32) }
-    requires bound { bound ≤ LARGEST_ERROR }
-    requires limit { 1 ≤ limit }
+    requires bound { aim.bound ≤ LARGEST_ERROR }
+    requires limit { 1 ≤ aim.limit }
     ensures { WorkSays
-        Refine
-        (one_word Abs)
-        bound
-        limit
-        (demo_net width)
-        (demo_net width)
+        (simplifying aim (demo_net width))
         demo_stem
-        (F.told files.old)
-        (F.told files.new)
-        (K.told say.old)
-        (K.told say.new)
+        (told_call (F.told files.old) (F.told files.new) (K.told say.old) (K.told say.new))
         result }
 {
     let Ok(exact) = demo_net(alloc, width) else {
@@ -57,20 +63,12 @@ pub fn demonstrate<S: Search, F: Files, K: Sink, P: Progress>(
     let Ok(names) = Stem::new(alloc, b"demo") else {
         return Work::NoMemory;
     };
-    let aim = Constraint {
-        metric: Metric {
-            kind: Kind::Abs,
-            width: None,
-        },
-        bound,
-        limit,
-    };
     exact.see_sound();
-    let assignment = Assignment {
+    let request = Request {
         task: Task::Refine,
+        aim,
         exact,
         begin,
-        aim,
     };
-    finish::<S, F, K, P>(alloc, assignment, &names, files, say, progress)
+    finish::<S, F, K, P>(alloc, request, &names, files, say, progress)
 }

@@ -6,4 +6,5 @@ pub mod beginning;
 pub mod delivery;
 pub mod demonstration;
 pub mod preparing;
+pub mod request;
 pub mod work;

@@ -1,19 +1,20 @@
 //! All that is computed of two nets before a file is touched: what the task makes of the second, the search
 //! for the greatest error, and the formula.
-ghost use Rattle.std.specs.Prelude.{◌≡◌, ◌≤◌, ◌<◌, ◌^◌, ℕ, IfOk};
+ghost use Rattle.std.specs.Prelude.{◌≡◌, ◌≤◌, ◌<◌, ◌^◌, IfOk};
 ghost use Rattle.semantics.specs.Net.{NetValue, IsSmall, IsSound};
 ghost use Rattle.semantics.specs.Error.{IsCandidate};
-ghost use Rattle.semantics.specs.declared.metric.Metric.{Metric};
 ghost use Rattle.chain_semantics.specs.Simplification.{IsBeginning};
 ghost use Rattle.proof_semantics.specs.Miter.{miter};
 ghost use Rattle.synth_jobs.specs.declared.preparing.Prepared.TheVariants.{Ready};
 ghost use Rattle.bundle_writing.specs.Value.{FitsReport};
-ghost use Rattle.job_semantics.specs.declared.task.Task.{Task};
+ghost use Rattle.job_semantics.specs.Synthesis as synthesis;
 ghost use Rattle.job_semantics.specs.Synthesis.{IsTaskDone, is_shown_minimal};
+ghost use Rattle.job_semantics.specs.SecondNetlist.{request_of};
 ghost use Rattle.worst_case.specs.Maximum.{IsMaximumAnswer};
 ghost use Rattle.synth_jobs.specs.Spent.{told_query};
 ghost use Rattle.synth_jobs.specs.Prepared.{told_shrinking, bundle_of, AreFound, IsSearched, IsPrepared};
 
+use crate::request::Request;
 use bundle_writing::bundle::{Bundle, Version};
 use cnf_core::cnf::Cnf;
 use cnf_core::log::Log;
@@ -25,29 +26,11 @@ use net_core::net::Net;
 use net_errors::compared::Compared;
 use net_search::search::{Search, Shrunk};
 use progress::progress::Progress;
+use proof_semantics::constraint::Constraint;
 use semantics::limits::LARGEST_ERROR;
 use semantics::metric::Metric;
 use std::alloc::{AllocError, Global};
 use worst_case::query::{Maximum, Spent};
-
-/// The metric of the error, the bound on it, and the most conflicts of each query.
-#[derive(Clone, Copy)]
-pub struct Constraint {
-    pub metric: Metric,
-    pub bound: u128,
-    pub limit: u64,
-}
-
-/// Two nets, and what is done with the second.
-#[derive(Drop)]
-pub struct Assignment {
-    pub task: Task,
-    /// The net against which errors are counted.
-    pub exact: Net,
-    /// The net that is certified or refined.
-    pub begin: Net,
-    pub aim: Constraint,
-}
 
 /// What is ready before the first file is touched.
 #[derive(Drop)]
@@ -86,9 +69,9 @@ fn is_minimal(task: Task, spent: &Option<Spent>) -> bool
 }
 
 /// The bundle of what was found, of version 2.
-fn gathered(task: Task, exact: Net, aim: Constraint, found: Findings, goal: Cnf) -> Prepared
+fn gathered(task: Task, aim: Constraint, exact: Net, found: Findings, goal: Cnf) -> Prepared
     requires { FitsReport exact found.shrunk.net found.witness }
-    ensures { result ≡ Ready (bundle_of task exact aim found goal) found.shrunk.spent }
+    ensures { result ≡ Ready (bundle_of task aim exact found goal) found.shrunk.spent }
 {
     let shrunk = found.shrunk;
     let bundle = Bundle {
@@ -122,10 +105,8 @@ enum Searched {
 
 /// The findings of both, or the spent query of the search for the greatest error.
 fn together(shrunk: Shrunk, maximum: Maximum) -> Searched
-    ensures { (task : Task) (exact begin : NetValue) (aim : Constraint)
-        → IsTaskDone task aim exact begin (told_shrinking shrunk)
-        → IsMaximumAnswer metric exact shrunk.net bound limit maximum
-        → IsSearched task exact begin aim result }
+    ensures { (r : synthesis.Request) → IsTaskDone r.task r.aim r.exact r.begin (told_shrinking shrunk)
+        → IsMaximumAnswer r.aim r.exact shrunk.net maximum → IsSearched r result }
 {
     match maximum {
         Maximum::Spent(level) => Searched::Budget {
@@ -146,17 +127,16 @@ fn together(shrunk: Shrunk, maximum: Maximum) -> Searched
 fn carried_out<S: Search, P: Progress>(
     alloc: Global,
     task: Task,
+    aim: Constraint,
     exact: &Net,
     begin: Net,
-    aim: Constraint,
     progress: &mut P,
 ) -> Result<Shrunk, AllocError>
     requires small { IsSmall exact.now }
     requires begin_small { IsSmall begin }
     requires beginning { IsBeginning aim.metric exact.now aim.bound begin }
     requires limit { 1 ≤ aim.limit }
-    ensures { IfOk result
-        (λ s. IsTaskDone task aim.metric exact.now aim.bound aim.limit begin (told_shrinking s)) }
+    ensures { IfOk result (λ s. IsTaskDone task aim exact.now begin (told_shrinking s)) }
 {
     match task {
         Task::Certify => Ok(Shrunk {
@@ -166,7 +146,7 @@ fn carried_out<S: Search, P: Progress>(
         }),
         Task::Refine => {
             let nets = Compared::new(exact, &begin);
-            S::shrink(alloc, &nets, aim.metric, aim.bound, aim.limit, progress)
+            S::shrink(alloc, &nets, aim, progress)
         }
     }
 }
@@ -175,20 +155,20 @@ fn carried_out<S: Search, P: Progress>(
 fn search<S: Search, P: Progress>(
     alloc: Global,
     task: Task,
+    aim: Constraint,
     exact: &Net,
     begin: Net,
-    aim: Constraint,
     progress: &mut P,
 ) -> Result<Searched, AllocError>
     requires small { IsSmall exact.now }
     requires begin_small { IsSmall begin }
     requires beginning { IsBeginning aim.metric exact.now aim.bound begin }
     requires limit { 1 ≤ aim.limit }
-    ensures { IfOk result (IsSearched task exact.now begin aim.metric aim.bound aim.limit) }
+    ensures { IfOk result (IsSearched (request_of task aim exact.now begin)) }
 {
-    let shrunk = carried_out::<S, P>(alloc, task, exact, begin, aim, progress)?;
+    let shrunk = carried_out::<S, P>(alloc, task, aim, exact, begin, progress)?;
     let nets = Compared::new(exact, &shrunk.net);
-    let maximum = S::maximum(alloc, &nets, aim.metric, aim.bound, aim.limit, progress)?;
+    let maximum = S::maximum(alloc, &nets, aim, progress)?;
     Ok(together(shrunk, maximum))
 }
 
@@ -210,29 +190,27 @@ fn goal_for(alloc: Global, exact: &Net, metric: Metric, found: &Findings) -> Res
 /// The bundle of what the task makes of the second net, or the spent query for which there is none.
 pub fn prepare<S: Search, P: Progress>(
     alloc: Global,
-    assignment: Assignment,
+    request: Request,
     progress: &mut P,
 ) -> Result<Prepared, AllocError>
-    requires small { IsSmall assignment.exact }
-    requires begin_small { IsSmall assignment.begin }
-    requires beginning { IsBeginning assignment.aim.metric assignment.exact assignment.aim.bound
-        assignment.begin }
-    requires bound { assignment.aim.bound ≤ LARGEST_ERROR }
-    requires limit { 1 ≤ assignment.aim.limit }
-    ensures { IfOk result (IsPrepared assignment.task assignment.exact assignment.begin assignment.aim.metric
-        assignment.aim.bound assignment.aim.limit) }
+    requires small { IsSmall request.exact }
+    requires begin_small { IsSmall request.begin }
+    requires beginning { IsBeginning request.aim.metric request.exact request.aim.bound request.begin }
+    requires bound { request.aim.bound ≤ LARGEST_ERROR }
+    requires limit { 1 ≤ request.aim.limit }
+    ensures { IfOk result (IsPrepared request) }
 {
-    let Assignment {
+    let Request {
         task,
+        aim,
         exact,
         begin,
-        aim,
-    } = assignment;
-    match search::<S, P>(alloc, task, &exact, begin, aim, progress)? {
+    } = request;
+    match search::<S, P>(alloc, task, aim, &exact, begin, progress)? {
         Searched::Budget { level, spent } => Ok(Prepared::Budget { level, spent }),
         Searched::Found(found) => {
             let goal = goal_for(alloc, &exact, aim.metric, &found)?;
-            Ok(gathered(task, exact, aim, found, goal))
+            Ok(gathered(task, aim, exact, found, goal))
         }
     }
 }

@@ -4,10 +4,10 @@ use Rattle.jobs.proofs.Runs.{quiet_job_ends}
 use Rattle.jobs.proofs.run.run_followed.Goals as goal
 
 pub returns-clause-headline : goal.returns-clause-headline
-returns-clause-headline g c = headline-from _ _ _ _ _ c.carry_out.result c.carry_out.ensures.says
+returns-clause-headline g c = headline-from _ _ c.carry_out.result c.carry_out.ensures.says
 
 pub returns-clause-second_headline : goal.returns-clause-second_headline
-returns-clause-second_headline g c = second_headline-from _ _ _ _ _ c.carry_out.result c.carry_out.ensures.says
+returns-clause-second_headline g c = second_headline-from _ _ c.carry_out.result c.carry_out.ensures.says
 
 pub returns-clause-complete : goal.returns-clause-complete
-returns-clause-complete g c = λ job named quiet. quiet_job_ends job _ _ _ _ c.carry_out.result (c.carry_out.ensures.says.answer job named) quiet
+returns-clause-complete g c = λ job named quiet. quiet_job_ends job _ c.carry_out.result (c.carry_out.ensures.says.answer job named) quiet

@@ -1,37 +1,33 @@
-use Rattle.std.proofs.Common.{◌≡◌, ◌≢◌, inl, inr, ℕ, true, false, List, Option, Some, None, refl, sym, ap, ◌∙◌, subst, arith}
+use Rattle.std.proofs.Common.{◌≡◌, ◌≢◌, inl, inr, true, false, List, Option, Some, None, refl, sym, ap, ◌∙◌, subst, arith}
 use Rattle.semantics.specs.Texts.{Bytes}
-use Rattle.semantics.specs.Net.{NetValue}
-use Rattle.semantics.specs.declared.metric.Metric.{Metric}
-use Rattle.semantics.specs.declared.metric.Kind.TheVariants.{Abs}
-use Rattle.semantics.specs.Error.{one_word}
 use Rattle.outside_semantics.specs.Outside.{Rose}
-use Rattle.proof_semantics.specs.Queries.{SpentValue}
-use Rattle.job_semantics.specs.declared.task.Task.{Task}
-use Rattle.job_semantics.specs.declared.task.Task.TheVariants.{Refine}
+use Rattle.job_semantics.specs.Call.{Call}
 use Rattle.job_semantics.specs.Job.{Job, synth, against, check, confirm, demo, flat, aag, blif, trim, job_of}
-use Rattle.job_semantics.specs.Synthesis.{BundleCutShort}
+use Rattle.job_semantics.specs.Synthesis.{Request, simplifying, BundleCutShort}
 use Rattle.job_semantics.specs.Demo.{demo_net}
 use Rattle.job_semantics.specs.Demonstration.{demo_stem}
 use Rattle.file_core.specs.Sure.{SureValue, sure_told, held_where, sure_sink_told}
 use Rattle.job_answers.specs.declared.status.Status.{Status}
 use Rattle.job_answers.specs.declared.status.Status.TheVariants.{Usage, ReadFault, WriteFault}
 use Rattle.jobs.specs.declared.outcome.Outcome.{Outcome}
-use Rattle.synth_jobs.specs.Spent.{told_query}
+use Rattle.synth_jobs.specs.Calls.{told_call}
+use Rattle.synth_jobs.specs.Demo.{demo_aim}
+use Rattle.jobs.specs.Outcome.{SpentQueries, told_queries}
 use Rattle.jobs.specs.Run.{BundleAnswerAt, JobAnswer, RunSays, IsQuietJob, EndsAsAsked}
 use Rattle.jobs.proofs.Runs.{quiet_job_ends}
 use Rattle.jobs.proofs.run.run_surely.Goals as goal
+
+abbrev surely : SureValue → SureValue → Call
+surely old new = told_call (sure_told old) (sure_told new) sure_sink_told sure_sink_told
 
 -- every name is steady, and the count stays 0
 module _ (old new : SureValue) where
   no_rise : ¬ Rose sure_sink_told.faults sure_sink_told.faults
   no_rise rose = absurd (omega (arith, rose))
 
-  quiet : (job : Job) → IsQuietJob job (sure_told old) (sure_told new) sure_sink_told sure_sink_told
+  quiet : (job : Job) → IsQuietJob job (surely old new)
   quiet (synth aim input stem) = record { files = inr (record { read = refl; written = λ accepted. refl }); sink = no_rise }
-  quiet (against task aim input second stem) = record {
-    files = inr (record { read = refl; second_read = λ accepted. refl; written = λ accepted begun. refl });
-    sink = no_rise;
-  }
+  quiet (against task aim names) = record { files = inr (record { read = refl; second_read = λ accepted. refl; written = λ accepted begun. refl }); sink = no_rise }
   quiet (check metric bound input stem) = record { files = inr (record { read = refl; bundle = λ ending needed. refl }); sink = no_rise }
   quiet (confirm metric bound input stem) = record { files = inr (record { read = refl; bundle = λ ending needed. refl }); sink = no_rise }
   quiet (demo width bound conflicts) = record { files = inr refl; sink = no_rise }
@@ -43,30 +39,25 @@ module _ (old new : SureValue) where
     sink = no_rise;
   }
 
-  well : (job : Job) (o : Outcome) → JobAnswer job (sure_told old) (sure_told new) sure_sink_told sure_sink_told o → EndsAsAsked job (sure_told old) o
-  well job o answer = quiet_job_ends job (sure_told old) (sure_told new) sure_sink_told sure_sink_told o answer (quiet job)
+  well : (job : Job) (o : Outcome) → JobAnswer job (surely old new) o → EndsAsAsked job (sure_told old) o
+  well job o answer = quiet_job_ends job (surely old new) o answer (quiet job)
 
-  cut_short : (task : Task) (aim : Constraint) (exact begin : NetValue) (stem : Bytes)
-      → BundleCutShort task aim exact begin stem (sure_told old) (sure_told new) sure_sink_told sure_sink_told → ⊥
-  cut_short task aim exact begin stem fault =
+  cut_short : (r : Request) (stem : Bytes) → BundleCutShort r stem (surely old new) → ⊥
+  cut_short r stem fault =
       elim fault.left [
         | inl files ↦ let steady : true ≡ false = files.0.not_steady in cc
         | inr all ↦ absurd (omega (arith, all.1.rose))
       ]
 
-  module _ (status : Status) (bound limit : ℕ) (exact begin : NetValue) (spent level : Option SpentValue)
-      (answer : BundleAnswerAt Refine (one_word Abs) bound limit exact begin demo_stem (sure_told old) (sure_told new) sure_sink_told sure_sink_told spent level status) where
+  module _ (r : Request) (q : SpentQueries) (status : Status) (answer : BundleAnswerAt r demo_stem (surely old new) q status) where
     no_demo_write_fault : status ≢ WriteFault
-    no_demo_write_fault is =
-        cut_short Refine (one_word Abs) bound limit exact begin demo_stem
-        (subst (BundleAnswerAt Refine (one_word Abs) bound limit exact begin demo_stem (sure_told old) (sure_told new) sure_sink_told sure_sink_told spent level) is answer).0
+    no_demo_write_fault is = cut_short r demo_stem (subst (BundleAnswerAt r demo_stem (surely old new) q) is answer).0
 
     no_demo_read_fault : status ≢ ReadFault
-    no_demo_read_fault is =
-        subst (BundleAnswerAt Refine (one_word Abs) bound limit exact begin demo_stem (sure_told old) (sure_told new) sure_sink_told sure_sink_told spent level) is answer
+    no_demo_read_fault is = subst (BundleAnswerAt r demo_stem (surely old new) q) is answer
 
   -- no job has a fault
-  no_fault : (words : List Bytes) (o : Outcome) → RunSays words (sure_told old) (sure_told new) sure_sink_told sure_sink_told o → (o.status ≢ ReadFault) × (o.status ≢ WriteFault)
+  no_fault : (words : List Bytes) (o : Outcome) → RunSays words (surely old new) o → (o.status ≢ ReadFault) × (o.status ≢ WriteFault)
   no_fault words o says = of_job (job_of words) refl
     where
       of_job : (named : Option Job) → job_of words ≡ named → (o.status ≢ ReadFault) × (o.status ≢ WriteFault)
@@ -76,13 +67,13 @@ module _ (old new : SureValue) where
       )
       of_job (Some (demo width bound conflicts)) is =
           let answer = says.answer (demo width bound conflicts) is in (
-            no_demo_read_fault o.status bound conflicts (demo_net width) (demo_net width) (told_query o.spent) (told_query o.level) answer,
-            no_demo_write_fault o.status bound conflicts (demo_net width) (demo_net width) (told_query o.spent) (told_query o.level) answer,
+            no_demo_read_fault (simplifying (demo_aim bound conflicts) (demo_net width)) (told_queries o) o.status answer,
+            no_demo_write_fault (simplifying (demo_aim bound conflicts) (demo_net width)) (told_queries o) o.status answer,
           )
       of_job (Some (synth aim input stem)) is =
           let ends = well (synth aim input stem) o (says.answer (synth aim input stem) is) in (ends.read, ends.written)
-      of_job (Some (against task aim input second stem)) is =
-          let ends = well (against task aim input second stem) o (says.answer (against task aim input second stem) is) in (ends.read, ends.written)
+      of_job (Some (against task aim names)) is =
+          let ends = well (against task aim names) o (says.answer (against task aim names) is) in (ends.read, ends.written)
       of_job (Some (check metric bound input stem)) is =
           let ends = well (check metric bound input stem) o (says.answer (check metric bound input stem) is) in (ends.read, ends.written)
       of_job (Some (confirm metric bound input stem)) is =

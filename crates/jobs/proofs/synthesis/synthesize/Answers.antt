@@ -6,9 +6,10 @@ use Rattle.jobs.proofs.synthesis.synthesize.Goals as goal
 
 pub deliver-requires-clause-beginning : goal.deliver-requires-clause-beginning
 deliver-requires-clause-beginning g c =
-    subst (IsBeginning c.args.aim.metric c.in-Ok.net c.args.aim.bound) (sym c.in-Ok-copy.ensures) (itself c.args.aim.metric c.in-Ok.net c.args.aim.bound c.in-Ok.ensures.ok.sound)
+    subst (IsBeginning c.args.job.aim.metric c.in-Ok.net c.args.job.aim.bound) (sym c.in-Ok-copy.ensures)
+    (itself c.args.job.aim.metric c.in-Ok.net c.args.job.aim.bound c.in-Ok.ensures.ok.sound)
 
 pub returns : goal.returns
 returns g c =
-    SynthAnswer-of c.args.aim.metric c.args.aim.bound c.args.aim.limit c.args.input.now c.args.stem.now (g.F.Files.told c.deliver.new.files) (g.K.Sink.told c.args.say.now)
+    SynthAnswer-of c.args.job.aim c.args.job.input.now c.args.job.stem.now (g.F.Files.told c.deliver.new.files) (g.K.Sink.told c.args.say.now)
     (g.K.Sink.told c.deliver.new.say) c.deliver.result c.in-Ok-copy.ensures c.in-Ok.ensures.ok c.deliver.ensures

@@ -6,10 +6,9 @@ use Rattle.synth_jobs.proofs.preparing.search.Goals as goal
 
 pub new-nets-requires : goal.new-nets-requires
 new-nets-requires g c =
-    kept-candidate c.args.task c.args.aim.metric c.args.exact.now c.args.aim.bound c.args.aim.limit c.args.begin (told_shrinking c.in_ok-shrunk.shrunk) c.requires.small
-    c.requires.beginning c.in_ok-shrunk.ensures
+    kept-candidate c.args.task c.args.aim c.args.exact.now c.args.begin (told_shrinking c.in_ok-shrunk.shrunk) c.requires.small c.requires.beginning c.in_ok-shrunk.ensures
 
 pub maximum-requires-clause-within : goal.maximum-requires-clause-within
 maximum-requires-clause-within g c =
     subst (λ P. IsWithin c.args.aim.metric P.exact c.args.aim.bound P.approx) (sym c.new-nets.ensures)
-    (kept c.args.task c.args.aim.metric c.args.exact.now c.args.aim.bound c.args.aim.limit c.args.begin (told_shrinking c.in_ok-shrunk.shrunk) c.requires.beginning c.in_ok-shrunk.ensures).within
+    (kept c.args.task c.args.aim c.args.exact.now c.args.begin (told_shrinking c.in_ok-shrunk.shrunk) c.requires.beginning c.in_ok-shrunk.ensures).within
