@@ -12,7 +12,7 @@ use Rattle.chain_semantics.proofs.MoveLists.{Contains-here}
 use Rattle.job_semantics.specs.Shrinking.{IsSpentMove}
 use Rattle.job_semantics.proofs.MinimalNets.{minimal-none_allowed}
 use Rattle.lane_bits.specs.Patterns.{PatternSet}
-use Rattle.adc_core.specs.Growing.{GrowingValue}
+use Rattle.care_masks.specs.Growing.{GrowingValue}
 use Rattle.worst_case.specs.declared.query.Spent as spent
 use Rattle.worst_case.specs.Exceeds.{spent_value, IsSpentOn}
 use Rattle.synth_core.specs.MoveTrials.{IsAllowedTo, IsFoundOver}

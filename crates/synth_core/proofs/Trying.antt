@@ -17,7 +17,7 @@ use Rattle.chain_semantics.specs.Simplification.{IsAllowedMove}
 use Rattle.chain_semantics.specs.MoveLaws.{IsMovedFrom}
 use Rattle.chain_semantics.proofs.MoveMembers.{move_is}
 use Rattle.chain_semantics.proofs.MovedNets.{moved-keeps}
-use Rattle.adc_core.specs.Masks.{FindsFirstBroken}
+use Rattle.care_masks.specs.Masks.{FindsFirstBroken}
 use Rattle.worst_case.specs.declared.margin.Margin.{Margin}
 use Rattle.worst_case.specs.declared.margin.Margin.TheVariants.{Over, Within, Spent}
 use Rattle.worst_case.specs.Levels.{IsLevelAnswer}

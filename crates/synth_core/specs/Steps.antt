@@ -13,7 +13,7 @@ use Rattle.chain_semantics.specs.Minimality.{IsBrokenBySome, AreBrokenBySome, Is
 use Rattle.chain_semantics.specs.Simplification.{IsAllowedMove}
 use Rattle.job_semantics.specs.Shrinking.{AreApart, IsSpentMove}
 use Rattle.lane_bits.specs.Patterns.{PatternSet}
-use Rattle.adc_core.specs.Growing.{GrowingValue}
+use Rattle.care_masks.specs.Growing.{GrowingValue}
 use Rattle.worst_case.specs.Exceeds.{spent_value, IsSpentOn}
 use Rattle.synth_core.specs.MoveTrials.{IsAllowedTo}
 use Rattle.synth_core.specs.declared.step.Step.{Step}

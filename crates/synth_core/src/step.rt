@@ -6,7 +6,7 @@ ghost use Rattle.synth_core.specs.Steps.{IsWeighed, IsStep};
 
 use crate::move_trial::{Terms, try_move};
 use crate::unbroken::next_unbroken;
-use adc_core::growing::GrowingMasks;
+use care_masks::growing::GrowingMasks;
 use chain_semantics::moves::Move;
 use lane_bits::patterns::Patterns;
 use net_core::net::Net;

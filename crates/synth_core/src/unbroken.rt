@@ -3,7 +3,7 @@
 ghost use Rattle.std.specs.Prelude.{◌≡◌, ◌<◌, length, IfOk, IfSome};
 ghost use Rattle.synth_core.specs.Steps.{IsSearched, IsNextUnbroken};
 
-use adc_core::growing::GrowingMasks;
+use care_masks::growing::GrowingMasks;
 use chain_semantics::moves::Move;
 use net_moves::apply::table_of;
 use net_moves::list::Moves;

@@ -1,8 +1,8 @@
 use Rattle.std.proofs.Common.{length, ap, subst, sym, ◌∙◌, arith}
 use Rattle.std.specs.List.{Contains}
 use Rattle.chain_semantics.specs.Moves.{moves_of}
-use Rattle.adc_core.specs.Growing.{GrowingValue}
-use Rattle.adc_core.specs.Masks.{FindsFirstBroken}
+use Rattle.care_masks.specs.Growing.{GrowingValue}
+use Rattle.care_masks.specs.Masks.{FindsFirstBroken}
 use Rattle.synth_core.specs.Steps.{IsSearched}
 use Rattle.synth_core.proofs.Searching.{searched-more, searched-member}
 use Rattle.synth_core.proofs.Trying.{found_broken, found_none}
