@@ -1,6 +1,6 @@
 use Rattle.std.proofs.lemmas.Result.{IfOk-weaker}
 use Rattle.synth_core.proofs.Pools.{IsPool-all}
-use Rattle.synth_core.proofs.shrink.first_pool.Goals as goal
+use Rattle.synth_core.proofs.tester.first_pool.Goals as goal
 
 pub returns-then-inputs-le-FEW_INPUTS : goal.returns-then-inputs-le-FEW_INPUTS
 returns-then-inputs-le-FEW_INPUTS c =
