@@ -17,7 +17,7 @@ use Rattle.chain_semantics.proofs.MoveLists.{Contains-here}
 use Rattle.chain_semantics.proofs.OldMoves.{old-move}
 use Rattle.job_semantics.specs.declared.version.Version.{Version}
 use Rattle.job_semantics.specs.declared.version.Version.TheVariants.{One, Two}
-use Rattle.adc_core.specs.Masks.{FindsFirstBroken}
+use Rattle.care_masks.specs.Masks.{FindsFirstBroken}
 use Rattle.bundle.specs.Shown.{AskedValue, claimed_moves, asked_moves, IsBroken, AreAllBroken, IsMoveAt, AreMarks, BrokenValue, HasSeen}
 
 -- the moves that are claimed are moves of the net

@@ -3,7 +3,7 @@ ghost use Rattle.std.specs.Prelude.{◌≡◌, ◌≤◌, length, IfOk, MatchOpt
 ghost use Rattle.semantics.specs.Net.{IsSmall, input_count};
 ghost use Rattle.bundle.specs.Shown.{AskedValue, IsAsked, asked_moves};
 
-use adc_core::growing::GrowingMasks;
+use care_masks::growing::GrowingMasks;
 use job_semantics::version::Version;
 use lane_bits::patterns::Patterns;
 use net_core::net::Net;

@@ -8,7 +8,7 @@ ghost use Rattle.chain_semantics.specs.Minimality.{IsBrokenBySome};
 ghost use Rattle.bundle.specs.Shown.{AreMarks, asked_moves};
 
 use crate::asked::Asked;
-use adc_core::growing::GrowingMasks;
+use care_masks::growing::GrowingMasks;
 use chain_semantics::moves::Move;
 use lane_bits::patterns::Patterns;
 use net_moves::list::Moves;

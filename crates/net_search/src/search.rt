@@ -12,7 +12,7 @@ use lane_bits::patterns::Patterns;
 use net_core::net::Net;
 use net_errors::compared::Compared;
 use progress::progress::Progress;
-use semantics::metric::Metric;
+use proof_semantics::constraint::Constraint;
 use std::alloc::{AllocError, Global};
 use worst_case::margin::Margin;
 use worst_case::query::{Maximum, Spent};
@@ -26,37 +26,34 @@ pub struct Shrunk {
     pub spent: Option<Spent>,
 }
 
-/// The three searches. Each query may cost at most `limit` conflicts.
+/// The three searches. What is asked of each is a constraint: how errors are measured, the greatest error
+/// that is allowed, and the most conflicts of each query.
 pub trait Search {
-    /// Whether the error of an approximate net stays within a bound: an input at which it does not, with few
-    /// inputs the first in counting order, or that there is none.
+    /// Whether the error of an approximate net stays within the bound: an input at which it does not, with
+    /// few inputs the first in counting order, or that there is none.
     fn within<P: Progress>(
         alloc: Global,
         nets: &Compared,
-        metric: Metric,
-        bound: u128,
-        limit: u64,
+        aim: Constraint,
         progress: &mut P,
     ) -> Result<Margin, AllocError>
         requires small { IsSmall nets.now.exact }
-        requires limit { 1 ≤ limit }
-        ensures { IfOk result (IsBoundAnswer metric nets.now.exact nets.now.approx bound limit) };
+        requires limit { 1 ≤ aim.limit }
+        ensures { IfOk result (IsBoundAnswer aim nets.now.exact nets.now.approx) };
 
-    /// Follows the chain of simplifications that begins with the approximate net, within a bound on the error
-    /// against the exact one, and tells `progress` how far the search is.
+    /// Follows the chain of simplifications that begins with the approximate net, within the bound on the
+    /// error against the exact one, and tells `progress` how far the search is.
     fn shrink<P: Progress>(
         alloc: Global,
         nets: &Compared,
-        metric: Metric,
-        bound: u128,
-        limit: u64,
+        aim: Constraint,
         progress: &mut P,
     ) -> Result<Shrunk, AllocError>
         requires exact { IsSmall nets.now.exact }
         requires begin { IsSmall nets.now.approx }
-        requires within { IsWithin metric nets.now.exact bound nets.now.approx }
-        requires limit { 1 ≤ limit }
-        ensures shrinking { IfOk result (λ s. IsShrinking metric nets.now.exact bound limit nets.now.approx
+        requires within { IsWithin aim.metric nets.now.exact aim.bound nets.now.approx }
+        requires limit { 1 ≤ aim.limit }
+        ensures shrinking { IfOk result (λ s. IsShrinking aim nets.now.exact nets.now.approx
             (record { net = s.net; pool = s.pool.vectors; spent = option_map spent_value s.spent })) }
         ensures pool { IfOk result (λ s. s.pool.inputs ≡ input_count nets.now.exact) };
 
@@ -65,13 +62,11 @@ pub trait Search {
     fn maximum<P: Progress>(
         alloc: Global,
         nets: &Compared,
-        metric: Metric,
-        bound: u128,
-        limit: u64,
+        aim: Constraint,
         progress: &mut P,
     ) -> Result<Maximum, AllocError>
         requires small { IsSmall nets.now.exact }
-        requires limit { 1 ≤ limit }
-        requires within { IsWithin metric nets.now.exact bound nets.now.approx }
-        ensures { IfOk result (IsMaximumAnswer metric nets.now.exact nets.now.approx bound limit) };
+        requires limit { 1 ≤ aim.limit }
+        requires within { IsWithin aim.metric nets.now.exact aim.bound nets.now.approx }
+        ensures { IfOk result (IsMaximumAnswer aim nets.now.exact nets.now.approx) };
 }

@@ -12,7 +12,7 @@ use Rattle.semantics.specs.Vectors.{bits_of, all_vectors}
 use Rattle.semantics.proofs.Vectors.{length-all_vectors, length-bits_of, number_of-bits_of, slice_get-all_vectors}
 use Rattle.job_semantics.specs.Shrinking.{AreApart}
 use Rattle.lane_bits.specs.Patterns.{PatternSet}
-use Rattle.synth_core.specs.Steps.{IsPool}
+use Rattle.synth_core.specs.AllowedMoves.{IsPool}
 
 -- vector j stands at place j
 pub vector_at : (n j : ℕ) → j < 2 ^ n → get_or (all_vectors n) j [] ≡ bits_of n j

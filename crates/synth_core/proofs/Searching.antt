@@ -1,115 +1,106 @@
 -- How a search goes over the moves of a net.
-use Rattle.std.proofs.Common.{◌≡◌, ℕ, Bool, Option, Some, List, [], ◌∷◌, ◌++◌, length, sym, ap, subst, ◌∙◌}
+use Rattle.std.proofs.Common.{◌≡◌, Bool, List, [], ◌∷◌, ◌++◌, length, refl, sym, ap, subst, ◌∙◌}
 use Rattle.std.specs.List.{AllByRecursion, Contains}
 use Rattle.std.proofs.lemmas.List.{append-nil, append_assoc}
 use Rattle.std.proofs.lemmas.List.Elements.{Contains-append_right}
 use Rattle.semantics.specs.Net.{NetValue, input_count}
-use Rattle.semantics.specs.declared.metric.Metric.{Metric}
+use Rattle.net_errors.specs.Compared.{NetPair}
 use Rattle.chain_semantics.specs.declared.moves.Move.{Move}
 use Rattle.chain_semantics.specs.Minimality.{IsBrokenBySome, AreBrokenBySome, IsMinimalBy}
 use Rattle.chain_semantics.specs.Moves.{moves_of, moved}
+use Rattle.chain_semantics.specs.Simplification.{IsAllowedMove}
 use Rattle.chain_semantics.proofs.MoveLists.{Contains-here}
+use Rattle.proof_semantics.specs.declared.constraint.Constraint.{Constraint}
 use Rattle.job_semantics.specs.Shrinking.{IsSpentMove}
 use Rattle.job_semantics.proofs.MinimalNets.{minimal-none_allowed}
 use Rattle.lane_bits.specs.Patterns.{PatternSet}
-use Rattle.adc_core.specs.Growing.{GrowingValue}
+use Rattle.care_masks.specs.Growing.{GrowingValue}
 use Rattle.worst_case.specs.declared.query.Spent as spent
 use Rattle.worst_case.specs.Exceeds.{spent_value, IsSpentOn}
-use Rattle.synth_core.specs.MoveTrials.{IsAllowedTo, IsFoundOver}
-use Rattle.synth_core.specs.declared.step.Step.{Step}
-use Rattle.synth_core.specs.declared.step.Step.TheVariants.{End, Moved, Spent}
-use Rattle.synth_core.specs.Steps.{IsFirstMoved, AreMasksOver, IsMaskedPool, AreAmong, IsSearched, IsCandidateMove, IsNextUnbroken, IsRefused, IsStepBy, IsWeighed, IsStep}
+use Rattle.synth_core.specs.MoveTrials.{IsFoundOver}
+use Rattle.synth_core.specs.AllowedMoves.{IsFirstMoved, masks_over, IsMaskedPool, AreAmong, IsSearched, IsCandidateMove}
 use Rattle.synth_core.proofs.Pools.{IsPool-more, each_more}
 
--- a vector joins the pool, and the masks go over to it
-pub masked-more : (metric : Metric) (exact : NetValue) (bound : ℕ) (N : NetValue) (s t : PatternSet) (old new : GrowingValue) (move : Move) (x : List Bool) → IsMaskedPool metric exact bound N s old
-    → t ≡ record s { vectors = s.vectors ++ x ∷ [] } → new ≡ record old { vectors = t.vectors } → IsCandidateMove metric exact bound N s.vectors move → IsFoundOver metric exact bound (moved N move) x
-    → IsMaskedPool metric exact bound N t new
-masked-more metric exact bound N s t old new move x masked pushed grown candidate over = record {
-  pool = IsPool-more exact s t x masked.pool pushed over.many over.exceeded.width (λ there. candidate.unbroken x there over.exceeded.exceeds);
-  masks = grown ∙ ap (λ (m : GrowingValue). record m { vectors = t.vectors }) masked.masks;
-}
+module _ (aim : Constraint) (nets : NetPair) (s t : PatternSet) (move : Move) (x : List Bool) (pushed : t ≡ record s { vectors = s.vectors ++ x ∷ [] }) where
+  -- a vector that breaks the move joins the pool, and the masks go over to it
+  pub masked-more : (old new : GrowingValue) → IsMaskedPool aim nets s old → new ≡ record old { vectors = t.vectors } → IsCandidateMove old move
+      → IsFoundOver aim nets.exact (moved nets.approx move) x → IsMaskedPool aim nets t new
+  masked-more old new masked grown candidate over =
+      let unbroken : IsCandidateMove (masks_over aim nets s.vectors) move = subst (λ m. IsCandidateMove m move) masked.masks candidate in
+      record {
+        pool = IsPool-more nets.exact s t x masked.pool pushed over.many over.exceeded.width (λ there. unbroken.unbroken x there over.exceeded.exceeds);
+        masks = grown ∙ ap (λ (m : GrowingValue). record m { vectors = t.vectors }) masked.masks;
+      }
 
--- and it breaks the move
-pub broken-more : (metric : Metric) (exact : NetValue) (bound : ℕ) (N : NetValue) (s t : PatternSet) (move : Move) (x : List Bool) → t ≡ record s { vectors = s.vectors ++ x ∷ [] }
-    → IsFoundOver metric exact bound (moved N move) x → IsBrokenBySome metric exact bound N t.vectors move
-broken-more metric exact bound N s t move x pushed over =
-    let there : Contains (s.vectors ++ x ∷ []) x = Contains-append_right s.vectors (x ∷ []) x (Contains-here x []) in
-    (x, subst (λ v. Contains v x) (sym (ap (λ (p : PatternSet). p.vectors) pushed)) there, over.exceeded.exceeds)
+  -- and it breaks the move
+  pub broken-more : IsFoundOver aim nets.exact (moved nets.approx move) x → IsBrokenBySome aim.metric nets.exact aim.bound nets.approx t.vectors move
+  broken-more over =
+      let there : Contains (s.vectors ++ x ∷ []) x = Contains-append_right s.vectors (x ∷ []) x (Contains-here x []) in
+      (x, subst (λ v. Contains v x) (sym (ap (λ (p : PatternSet). p.vectors) pushed)) there, over.exceeded.exceeds)
 
--- what masks tell is told of the pool that they are over
-pub next-over : (metric : Metric) (exact : NetValue) (bound : ℕ) (N : NetValue) (vectors : List (List Bool)) (m : GrowingValue) (left : List Move) (found : Option Move)
-    → AreMasksOver metric exact bound N vectors m → IsNextUnbroken m.metric m.exact m.bound m.net m.vectors left found → IsNextUnbroken metric exact bound N vectors left found
-next-over metric exact bound N vectors m left found over next = subst (λ (k : GrowingValue). IsNextUnbroken k.metric k.exact k.bound k.net k.vectors left found) over next
+module _ (m : GrowingValue) where
+  pub searched-none : (left : List Move) → left ≡ moves_of m.net → IsSearched m left
+  searched-none left is = record { before = []; stands = sym is; broken = tt }
 
-module _ (metric : Metric) (exact : NetValue) (bound : ℕ) (N : NetValue) where
-  pub searched-none : (vectors : List (List Bool)) (left : List Move) → left ≡ moves_of N → IsSearched metric exact bound N vectors left
-  searched-none vectors left is = record { before = []; stands = sym is; broken = tt }
+  pub searched-all : (left : List Move) → left ≡ [] → IsSearched m left → IsMinimalBy m.metric m.exact m.bound m.net m.vectors
+  searched-all left is so_far =
+      subst (AreBrokenBySome m.metric m.exact m.bound m.net m.vectors) (sym (so_far.stands ∙ ap (λ l. so_far.before ++ l) is ∙ append-nil so_far.before)) so_far.broken
 
-  -- where vectors join
-  broken_still : (old new : List (List Bool)) → AreAmong old new → (moves : List Move) → AreBrokenBySome metric exact bound N old moves → AreBrokenBySome metric exact bound N new moves
-  broken_still old new among [] h = tt
-  broken_still old new among (m ∷ moves) h = ((h.0.0, among h.0.0 h.0.1, h.0.2), broken_still old new among moves h.1)
-
-  pub searched-still : (old new : List (List Bool)) (left : List Move) → AreAmong old new → IsSearched metric exact bound N old left → IsSearched metric exact bound N new left
-  searched-still old new left among h = record { before = h.before; stands = h.stands; broken = broken_still old new among h.before h.broken }
-
-  module _ (vectors : List (List Bool)) (left rest : List Move) (move : Move) (is : left ≡ move ∷ rest) (so_far : IsSearched metric exact bound N vectors left) where
-    stands_at : moves_of N ≡ so_far.before ++ move ∷ rest
+  module _ (left rest : List Move) (move : Move) (is : left ≡ move ∷ rest) (so_far : IsSearched m left) where
+    pub stands_at : moves_of m.net ≡ so_far.before ++ move ∷ rest
     stands_at = so_far.stands ∙ ap (λ l. so_far.before ++ l) is
 
-    pub searched-more : IsBrokenBySome metric exact bound N vectors move → IsSearched metric exact bound N vectors rest
+    pub searched-more : IsBrokenBySome m.metric m.exact m.bound m.net m.vectors move → IsSearched m rest
     searched-more broken = record {
       before = so_far.before ++ move ∷ [];
       stands = stands_at ∙ sym (append_assoc so_far.before (move ∷ []) rest);
-      broken = each_more (IsBrokenBySome metric exact bound N vectors) so_far.before move so_far.broken broken;
+      broken = each_more (IsBrokenBySome m.metric m.exact m.bound m.net m.vectors) so_far.before move so_far.broken broken;
     }
 
-    pub searched-member : Contains (moves_of N) move
+    pub searched-member : Contains (moves_of m.net) move
     searched-member = subst (λ l. Contains l move) (sym stands_at) (Contains-append_right so_far.before (move ∷ rest) move (Contains-here move rest))
 
-    pub searched-first : AllByRecursion (λ x. length x ≡ input_count exact) vectors → (M : NetValue) → IsAllowedTo metric exact bound N move M → IsFirstMoved metric exact bound N M
-    searched-first widths M allowed = record {
+module _ (aim : Constraint) (nets : NetPair) where
+  -- where vectors join
+  broken_still : (old new : List (List Bool)) → AreAmong old new → (moves : List Move) → AreBrokenBySome aim.metric nets.exact aim.bound nets.approx old moves
+      → AreBrokenBySome aim.metric nets.exact aim.bound nets.approx new moves
+  broken_still old new among [] h = tt
+  broken_still old new among (m ∷ moves) h = ((h.0.0, among h.0.0 h.0.1, h.0.2), broken_still old new among moves h.1)
+
+  pub searched-still : (old new : List (List Bool)) (left : List Move) → AreAmong old new → IsSearched (masks_over aim nets old) left → IsSearched (masks_over aim nets new) left
+  searched-still old new left among h = record { before = h.before; stands = h.stands; broken = broken_still old new among h.before h.broken }
+
+  -- the first move that none of the old vectors breaks, where vectors may have joined
+  module _ (old new : List (List Bool)) (rest : List Move) (move : Move) (so_far : IsSearched (masks_over aim nets old) (move ∷ rest)) (among : AreAmong old new) where
+    -- a new vector breaks it
+    pub searched-broken : IsBrokenBySome aim.metric nets.exact aim.bound nets.approx new move → IsSearched (masks_over aim nets new) rest
+    searched-broken broken =
+        searched-more (masks_over aim nets new) (move ∷ rest) rest move refl (searched-still old new (move ∷ rest) among so_far) broken
+
+    -- it is allowed
+    pub searched-first : AllByRecursion (λ x. length x ≡ input_count nets.exact) old → (M : NetValue) → IsAllowedMove aim.metric nets.exact aim.bound nets.approx move
+        → M ≡ moved nets.approx move → IsFirstMoved aim nets M
+    searched-first widths M allowed net = record {
       move = move;
       first = record {
         before = so_far.before;
         after = rest;
-        stands = stands_at;
-        none_before = minimal-none_allowed metric exact bound N vectors so_far.before widths so_far.broken;
-        allowed = allowed.allowed;
+        stands = so_far.stands;
+        none_before = minimal-none_allowed aim.metric nets.exact aim.bound nets.approx old so_far.before widths so_far.broken;
+        allowed = allowed;
       };
-      net = allowed.net;
+      net = net;
     }
 
-    pub searched-spent : (limit : ℕ) (s : spent.Spent) → IsSpentOn metric exact (moved N move) bound limit s → IsSpentMove metric exact bound limit N vectors (spent_value s)
-    searched-spent limit s on = record {
+    -- the query about it was spent
+    pub searched-spent : (s : spent.Spent) → IsSpentOn aim nets.exact (moved nets.approx move) s → IsSpentMove aim nets.exact nets.approx new (spent_value s)
+    searched-spent s on = record {
       query = on.query;
       level = on.level;
       before = so_far.before;
       move = move;
       after = rest;
-      stands = stands_at;
+      stands = so_far.stands;
       net = on.net;
-      broken = so_far.broken;
+      broken = broken_still old new among so_far.before so_far.broken;
     }
-
-    -- the step that a move makes after moves that are broken
-    pub searched-step : AllByRecursion (λ x. length x ≡ input_count exact) vectors → (limit : ℕ) (S : NetValue) (step : Step) → IsStepBy metric exact bound limit N move S step
-        → IsStep metric exact bound limit N vectors S step
-    searched-step widths limit S End none = absurd none
-    searched-step widths limit S Moved allowed = searched-first widths S allowed
-    searched-step widths limit S (Spent s) spent = searched-spent limit s spent
-
-  -- one move further, where vectors may have joined
-  module _ (old new : List (List Bool)) (left rest : List Move) (move : Move) (is : left ≡ move ∷ rest) (so_far : IsSearched metric exact bound N old left) (among : AreAmong old new) where
-    pub searched-found : AllByRecursion (λ x. length x ≡ input_count exact) new → (limit : ℕ) (S : NetValue) (found : Option Step) (step : Step) → found ≡ Some step
-        → IsWeighed metric exact bound limit N new move S found → IsStep metric exact bound limit N new S step
-    searched-found widths limit S found step some weighed =
-        searched-step new left rest move is (searched-still old new left among so_far) widths limit S step (subst (IsWeighed metric exact bound limit N new move S) some weighed)
-
-    pub searched-broken : (S : NetValue) → IsRefused metric exact bound N new move S → IsSearched metric exact bound N new rest
-    searched-broken S refused = searched-more new left rest move is (searched-still old new left among so_far) refused.broken
-
-  pub searched-all : (vectors : List (List Bool)) (left : List Move) → left ≡ [] → IsSearched metric exact bound N vectors left → IsMinimalBy metric exact bound N vectors
-  searched-all vectors left is so_far =
-      subst (AreBrokenBySome metric exact bound N vectors) (sym (so_far.stands ∙ ap (λ l. so_far.before ++ l) is ∙ append-nil so_far.before)) so_far.broken

@@ -1,3 +1,3 @@
 pub mod MoveTrials
-pub mod Steps
+pub mod AllowedMoves
 pub mod Turns

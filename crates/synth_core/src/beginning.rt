@@ -7,26 +7,26 @@ ghost use Rattle.net_search.specs.Bounds.{IsBoundAnswer};
 
 use net_errors::compared::Compared;
 use progress::progress::Progress;
+use proof_semantics::constraint::Constraint;
 use semantics::limits::FEW_INPUTS;
-use semantics::metric::Metric;
 use std::alloc::{AllocError, Global};
 use worst_case::exceeds::exceeds;
-use worst_case::judge::{Judge, within_level};
+use worst_case::judge::Judge;
 use worst_case::margin::Margin;
+use worst_case::policy::within_level;
 use worst_case::query::Exceed;
 
 /// The answer with the first vector at which the error exceeds the bound.
-fn first_over(
+fn first_over<P: Progress>(
     alloc: Global,
     nets: &Compared,
-    metric: Metric,
-    bound: u128,
-    limit: u64,
+    aim: Constraint,
+    progress: &mut P,
 ) -> Result<Margin, AllocError>
-    requires limit { 1 ≤ limit }
-    ensures { IfOk result (IsBoundAnswer metric nets.now.exact nets.now.approx bound limit) }
+    requires limit { 1 ≤ aim.limit }
+    ensures { IfOk result (IsBoundAnswer aim nets.now.exact nets.now.approx) }
 {
-    match exceeds(alloc, nets.exact(), nets.approx(), metric, bound, limit)? {
+    match exceeds(alloc, nets, aim, progress)? {
         Exceed::Over(x) => Ok(Margin::Over(x)),
         Exceed::Never(_) => Ok(Margin::Within),
         Exceed::Spent(spent) => Ok(Margin::Spent(spent)),
@@ -34,22 +34,20 @@ fn first_over(
 }
 
 /// Whether the error of the approximate net stays within the bound: an input at which it does not, with few
-/// inputs the first in counting order, or that there is none. A query may cost at most `limit` conflicts.
+/// inputs the first in counting order, or that there is none.
 pub fn within_bound<P: Progress>(
     alloc: Global,
     nets: &Compared,
-    metric: Metric,
-    bound: u128,
-    limit: u64,
+    aim: Constraint,
     progress: &mut P,
 ) -> Result<Margin, AllocError>
     requires small { IsSmall nets.now.exact }
-    requires limit { 1 ≤ limit }
-    ensures { IfOk result (IsBoundAnswer metric nets.now.exact nets.now.approx bound limit) }
+    requires limit { 1 ≤ aim.limit }
+    ensures { IfOk result (IsBoundAnswer aim nets.now.exact nets.now.approx) }
 {
     if nets.exact().inputs() <= FEW_INPUTS {
-        return first_over(alloc, nets, metric, bound, limit);
+        return first_over(alloc, nets, aim, progress);
     }
     let mut judge = Judge::new(alloc, nets.exact())?;
-    within_level(alloc, nets, &mut judge, metric, bound, limit, progress)
+    within_level(alloc, nets, &mut judge, aim, progress)
 }

@@ -5,10 +5,10 @@ use crate::shrink::shrink_from;
 use net_errors::compared::Compared;
 use net_search::search::{Search, Shrunk};
 use progress::progress::Progress;
-use semantics::metric::Metric;
+use proof_semantics::constraint::Constraint;
 use std::alloc::{AllocError, Global};
 use worst_case::margin::Margin;
-use worst_case::maximum::maximum_followed;
+use worst_case::maximum::maximum;
 use worst_case::query::Maximum;
 
 /// The search along the chain, and the searches by queries.
@@ -18,33 +18,27 @@ impl Search for Chain {
     fn within<P: Progress>(
         alloc: Global,
         nets: &Compared,
-        metric: Metric,
-        bound: u128,
-        limit: u64,
+        aim: Constraint,
         progress: &mut P,
     ) -> Result<Margin, AllocError> {
-        within_bound(alloc, nets, metric, bound, limit, progress)
+        within_bound(alloc, nets, aim, progress)
     }
 
     fn shrink<P: Progress>(
         alloc: Global,
         nets: &Compared,
-        metric: Metric,
-        bound: u128,
-        limit: u64,
+        aim: Constraint,
         progress: &mut P,
     ) -> Result<Shrunk, AllocError> {
-        shrink_from(alloc, nets, metric, bound, limit, progress)
+        shrink_from(alloc, nets, aim, progress)
     }
 
     fn maximum<P: Progress>(
         alloc: Global,
         nets: &Compared,
-        metric: Metric,
-        bound: u128,
-        limit: u64,
+        aim: Constraint,
         progress: &mut P,
     ) -> Result<Maximum, AllocError> {
-        maximum_followed(alloc, nets, metric, bound, limit, progress)
+        maximum(alloc, nets, aim, progress)
     }
 }

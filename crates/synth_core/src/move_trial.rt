@@ -7,56 +7,40 @@ ghost use Rattle.chain_semantics.specs.Moves.{moves_of};
 ghost use Rattle.chain_semantics.specs.Simplification.{IsAllowedMove};
 ghost use Rattle.synth_core.specs.MoveTrials.{IsJudged, IsTrial};
 
+use crate::tester::Tester;
 use chain_semantics::moves::Move;
 use net_core::net::Net;
 use net_errors::compared::Compared;
 use net_moves::apply::{make, take_back};
 use progress::progress::Progress;
 use semantics::limits::FEW_INPUTS;
-use semantics::metric::Metric;
 use std::alloc::{AllocError, Global};
-use worst_case::judge::{Judge, within_level};
 use worst_case::margin::Margin;
-
-/// The metric and the bound, and the most conflicts that a query about a move may cost.
-#[derive(Clone, Copy)]
-pub(crate) struct Terms {
-    pub(crate) metric: Metric,
-    pub(crate) bound: u128,
-    pub(crate) limit: u64,
-}
+use worst_case::policy::within_level;
 
 /// Whether a moved net keeps the bound. With few inputs every vector is known to break no move that is left,
 /// so nothing is asked.
 fn keeps_bound<P: Progress>(
     alloc: Global,
     nets: &Compared,
-    judge: &mut Judge,
-    terms: Terms,
+    tester: &mut Tester,
     moved: &Net,
     progress: &mut P,
 ) -> Result<Margin, AllocError>
-    requires judge { judge.old ≡ nets.now.exact }
-    requires limit { 1 ≤ terms.limit }
+    requires judge { tester.old.judge ≡ nets.now.exact }
+    requires limit { 1 ≤ tester.old.aim.limit }
     requires candidate { IsCandidate nets.now.exact moved.now }
     requires known { input_count nets.now.exact ≤ FEW_INPUTS
-        → IsWithin terms.metric nets.now.exact terms.bound moved.now }
-    ensures same { judge.new ≡ judge.old }
-    ensures judged { IfOk result (IsJudged terms.metric nets.now.exact terms.bound terms.limit moved.now) }
+        → IsWithin tester.old.aim.metric nets.now.exact tester.old.aim.bound moved.now }
+    ensures same { tester.new ≡ tester.old }
+    ensures judged { IfOk result (IsJudged tester.old.aim nets.now.exact moved.now) }
 {
     if nets.exact().inputs() <= FEW_INPUTS {
         return Ok(Margin::Within);
     }
     let moved_nets = Compared::new(nets.exact(), moved);
-    within_level(
-        alloc,
-        &moved_nets,
-        judge,
-        terms.metric,
-        terms.bound,
-        terms.limit,
-        progress,
-    )
+    let aim = tester.aim;
+    within_level(alloc, &moved_nets, &mut tester.judge, aim, progress)
 }
 
 /// Tries a move of the approximate net that no known vector breaks, in a copy of the net. A move that breaks
@@ -64,27 +48,25 @@ fn keeps_bound<P: Progress>(
 pub(crate) fn try_move<P: Progress>(
     alloc: Global,
     nets: &Compared,
-    judge: &mut Judge,
-    terms: Terms,
+    tester: &mut Tester,
     scratch: &mut Net,
-    step: Move,
+    candidate: Move,
     progress: &mut P,
 ) -> Result<Margin, AllocError>
-    requires judge { judge.old ≡ nets.now.exact }
-    requires limit { 1 ≤ terms.limit }
+    requires judge { tester.old.judge ≡ nets.now.exact }
+    requires limit { 1 ≤ tester.old.aim.limit }
     requires scratch { scratch.old ≡ nets.now.approx }
-    requires step { Contains (moves_of nets.now.approx) step }
-    requires known { input_count nets.now.exact ≤ FEW_INPUTS
-        → IsAllowedMove terms.metric nets.now.exact terms.bound nets.now.approx step }
-    ensures same { judge.new ≡ judge.old }
-    ensures trial { IfOk result
-        (IsTrial terms.metric nets.now.exact terms.bound terms.limit nets.now.approx step scratch.new) }
+    requires offered { Contains (moves_of nets.now.approx) candidate }
+    requires known { input_count nets.now.exact ≤ FEW_INPUTS → IsAllowedMove tester.old.aim.metric
+        nets.now.exact tester.old.aim.bound nets.now.approx candidate }
+    ensures same { tester.new ≡ tester.old }
+    ensures trial { IfOk result (IsTrial tester.old.aim nets.now candidate scratch.new) }
 {
     nets.approx().see_sound();
-    let table = make(alloc, scratch, step)?;
-    match keeps_bound(alloc, nets, judge, terms, scratch, progress)? {
+    let table = make(alloc, scratch, candidate)?;
+    match keeps_bound(alloc, nets, tester, scratch, progress)? {
         Margin::Over(x) => {
-            take_back(scratch, step, table)?;
+            take_back(scratch, candidate, table)?;
             Ok(Margin::Over(x))
         }
         Margin::Within => Ok(Margin::Within),

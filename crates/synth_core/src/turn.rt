@@ -1,18 +1,16 @@
 //! One turn of the search: from a member of the chain to the next, or to the end.
 ghost use Rattle.std.specs.Prelude.{◌≡◌, ◌≤◌, IfOk};
 ghost use Rattle.chain_semantics.specs.Simplification.{IsInSimplificationFrom};
-ghost use Rattle.synth_core.specs.Steps.{IsPool};
+ghost use Rattle.synth_core.specs.AllowedMoves.{IsPool};
 ghost use Rattle.synth_core.specs.Turns.{IsReadyFor, IsTurn};
 
-use crate::move_trial::Terms;
-use crate::step::{Step, find_step};
-use lane_bits::patterns::Patterns;
+use crate::allowed_move::{Found, find_move};
+use crate::tester::Tester;
 use net_core::net::Net;
 use net_errors::compared::Compared;
 use net_tidy::tidy::tidy;
 use progress::progress::Progress;
 use std::alloc::{AllocError, Global};
-use worst_case::judge::Judge;
 use worst_case::query::Spent;
 
 /// What a turn comes to.
@@ -29,29 +27,24 @@ pub(crate) enum Turn {
 pub(crate) fn take_turn<P: Progress>(
     alloc: Global,
     nets: &Compared,
-    judge: &mut Judge,
-    terms: Terms,
+    tester: &mut Tester,
     member: &Net,
-    pool: &mut Patterns,
     progress: &mut P,
 ) -> Result<Turn, AllocError>
-    requires ready { IsReadyFor terms.metric nets.now.exact terms.bound nets.now.approx judge.old }
-    requires limit { 1 ≤ terms.limit }
-    requires member { IsInSimplificationFrom terms.metric nets.now.exact terms.bound nets.now.approx
-        member.now }
-    requires pool { IsPool nets.now.exact pool.old }
-    ensures same { judge.new ≡ judge.old }
-    ensures pool { IfOk result (λ _. IsPool nets.now.exact pool.new) }
-    ensures turn { IfOk result
-        (IsTurn terms.metric nets.now.exact terms.bound terms.limit nets.now.approx member.now
-        pool.new.vectors) }
+    requires ready { IsReadyFor tester.old.aim nets.now tester.old.judge }
+    requires limit { 1 ≤ tester.old.aim.limit }
+    requires member { IsInSimplificationFrom tester.old.aim.metric nets.now.exact tester.old.aim.bound
+        nets.now.approx member.now }
+    requires pool { IsPool nets.now.exact tester.old.pool }
+    ensures same { tester.new ≡ record tester.old { pool = tester.new.pool } }
+    ensures pool { IfOk result (λ _. IsPool nets.now.exact tester.new.pool) }
+    ensures turn { IfOk result (IsTurn tester.old.aim nets.now member.now tester.new.pool.vectors) }
 {
     progress.reached(member.literals());
     let pair = Compared::new(nets.exact(), member);
-    let mut scratch = member.copy()?;
-    match find_step(alloc, &pair, judge, terms, pool, &mut scratch, progress)? {
-        Step::Moved => Ok(Turn::Next(tidy(alloc, scratch)?)),
-        Step::End => Ok(Turn::End(None)),
-        Step::Spent(spent) => Ok(Turn::End(Some(spent))),
+    match find_move(alloc, &pair, tester, progress)? {
+        Found::Moved(moved) => Ok(Turn::Next(tidy(alloc, moved)?)),
+        Found::End => Ok(Turn::End(None)),
+        Found::Spent(spent) => Ok(Turn::End(Some(spent))),
     }
 }

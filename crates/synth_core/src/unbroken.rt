@@ -1,9 +1,9 @@
 //! The moves that no vector of the pool breaks. Some vector breaks most moves, so this is the inner loop of
 //! the search, and it makes no net.
 ghost use Rattle.std.specs.Prelude.{◌≡◌, ◌<◌, length, IfOk, IfSome};
-ghost use Rattle.synth_core.specs.Steps.{IsSearched, IsNextUnbroken};
+ghost use Rattle.synth_core.specs.AllowedMoves.{IsSearched, IsNextUnbroken};
 
-use adc_core::growing::GrowingMasks;
+use care_masks::growing::GrowingMasks;
 use chain_semantics::moves::Move;
 use net_moves::apply::table_of;
 use net_moves::list::Moves;
@@ -27,18 +27,15 @@ pub(crate) fn next_unbroken<P: Progress>(
     told: &mut Option<u32>,
     progress: &mut P,
 ) -> Result<Option<Move>, AllocError>
-    requires searched { IsSearched masks.old.metric masks.old.exact masks.old.bound masks.old.net
-        masks.old.vectors moves.old }
+    requires searched { IsSearched masks.old moves.old }
     ensures same { masks.new ≡ masks.old }
     ensures fewer { IfOk result (λ found. IfSome found (λ _. length moves.new < length moves.old)) }
-    ensures next { IfOk result
-        (IsNextUnbroken masks.old.metric masks.old.exact masks.old.bound masks.old.net masks.old.vectors
-        moves.new) }
+    ensures next { IfOk result (IsNextUnbroken masks.old moves.new) }
 {
-    while let Some(step) = moves.next() {
-        tell_table(told, table_of(step), tables, progress);
-        let Some(_) = masks.breaks(step)? else {
-            return Ok(Some(step));
+    while let Some(candidate) = moves.next() {
+        tell_table(told, table_of(candidate), tables, progress);
+        let Some(_) = masks.breaks(candidate)? else {
+            return Ok(Some(candidate));
         };
     }
     Ok(None)

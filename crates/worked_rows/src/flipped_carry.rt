@@ -4,7 +4,7 @@ ghost use Rattle.semantics.specs.Net.{IsSmall};
 
 use crate::metrics::ABSOLUTE;
 use crate::nets::net;
-use adc_core::adc::Adc;
+use care_masks::fixed::FixedMasks;
 use lane_bits::patterns::Patterns;
 use net_core::net::Net;
 use net_errors::ports::same_ports;
@@ -36,8 +36,8 @@ fn carry_care(alloc: Global, adder: &Net, patterns: &Patterns) -> Result<Option<
     if !same_ports(adder, adder) {
         return Err(Fail::new("no approximation of the adder"));
     }
-    let adc = Adc::new(alloc, adder, adder, ABSOLUTE, 0, patterns)?;
-    Ok(adc.care(1).first().copied())
+    let masks = FixedMasks::new(alloc, adder, adder, ABSOLUTE, 0, patterns)?;
+    Ok(masks.care(1).first().copied())
 }
 
 /// At zeros the flipped carry is read as 1, so that the sum is 2.

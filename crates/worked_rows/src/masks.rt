@@ -6,7 +6,7 @@ ghost use Rattle.chain_semantics.specs.Moves.{moves_of};
 
 use crate::metrics::ABSOLUTE;
 use crate::nets::{HALF_ADDER, move_of, net};
-use adc_core::adc::Adc;
+use care_masks::fixed::FixedMasks;
 use chain_semantics::moves::Move;
 use lane_bits::patterns::Patterns;
 use net_core::net::Net;
@@ -40,13 +40,13 @@ fn last_word(row: &[u64]) -> Option<u64> {
 /// first pattern at which the move breaks the bound.
 type Told = (Option<u64>, Option<u64>, Option<u64>);
 
-fn told(adc: &mut Adc, step: Move) -> Told
-    requires carry { 1 < table_count adc.old.net }
-    requires step { Contains (moves_of adc.old.net) step }
+fn told(masks: &mut FixedMasks, step: Move) -> Told
+    requires carry { 1 < table_count masks.old.net }
+    requires step { Contains (moves_of masks.old.net) step }
 {
-    let care = last_word(adc.care(1));
-    let differs = last_word(adc.differs(step));
-    (care, differs, adc.breaks(step))
+    let care = last_word(masks.care(1));
+    let differs = last_word(masks.differs(step));
+    (care, differs, masks.breaks(step))
 }
 
 /// What the masks of the net within 1 of the half adder tell of the constant 0 as its carry.
@@ -68,8 +68,8 @@ fn carry_as_zero(
     if !same_ports(exact, approx) {
         return Err(Fail::new("no approximation of the half adder"));
     }
-    let mut adc = Adc::new(alloc, exact, approx, ABSOLUTE, 1, patterns)?;
-    Ok(told(&mut adc, step))
+    let mut masks = FixedMasks::new(alloc, exact, approx, ABSOLUTE, 1, patterns)?;
+    Ok(told(&mut masks, step))
 }
 
 /// What [`carry_as_zero`] tells of the net of a text, at these patterns.

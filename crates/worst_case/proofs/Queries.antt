@@ -8,6 +8,7 @@ use Rattle.semantics.specs.declared.metric.Metric.{Metric}
 use Rattle.semantics.specs.Error.{net_error, IsWithin}
 use Rattle.quality_semantics.specs.Joint.{joint_net, AreComparable}
 use Rattle.quality_semantics.proofs.Joint.{joint_inputs, joint_output as output_tells}
+use Rattle.proof_semantics.specs.declared.constraint.Constraint.{Constraint}
 use Rattle.proof_semantics.specs.Clauses.{Satisfies}
 use Rattle.proof_semantics.specs.NetClauses.{net_clauses}
 use Rattle.proof_semantics.specs.Formula.{Formula}
@@ -67,25 +68,26 @@ module _ (metric : Metric) (N M : NetValue) (k : ℕ) (h : AreComparable N M) wh
         merged = λ many. merged;
       }
 
-  -- an answer to the miter behind the merges of the joint net is one to the question about the nets
-  pub asked_of : 8 < input_count N → (limit : ℕ) (f : Formula) → f ≡ miter N M metric k → (merged : List LogItem) → IsMergeLog (joint_net N M metric k) merged
-      → (answer : Answer) → IsAnswer f merged limit answer → IsAsked metric N M k limit (told N M k (length merged) answer)
-  asked_of many limit f is merged h (Model bits) model = IsOver-from_model many f bits is model
-  asked_of many limit f is merged h (Refuted log) found =
-      IsNever-from f is log found.refutes found.derivation (length merged, merges_of merged log h found.begins)
-  asked_of many limit f is merged h (Spent log) found = record {
-    net = refl;
-    level = refl;
-    merged = merges_of merged log h found.begins;
-    chain = subst (λ g. IsConflictChain g (length merged) limit log) is found.chain;
-  }
-
   -- where no error exceeds the level the joint net's output is always 0
   pub joint_never : IsWithin metric N k M → (J : NetValue) → J ≡ joint_net N M metric k → (x : List Bool) → length x ≡ input_count J → outputs_of J x ≡ false ∷ []
   joint_never within J is x width =
       let low : net_error metric N M x ≤ k = within x (width ∙ ap input_count is ∙ joint_inputs N M metric k) in
       ap (λ K. outputs_of K x) is ∙ output_tells N M metric k h x ∙ ap (λ bit. bit ∷ []) (le-ltb k (net_error metric N M x) low)
 
--- a question poses the level that it was made for
-pub asked_at : (metric m : Metric) (N M : NetValue) (k j limit : ℕ) (e : Exceed) → m ≡ metric → j ≡ k → IsAsked m N M j limit e → IsAsked metric N M k limit e
-asked_at metric m N M k j limit e same level asked = subst (λ i. IsAsked metric N M i limit e) level (subst (λ n. IsAsked n N M j limit e) same asked)
+-- an answer to the miter behind the merges of the joint net is one to the question about the nets
+module _ (aim : Constraint) (N M : NetValue) (h : AreComparable N M) where
+  pub asked_of : 8 < input_count N → (f : Formula) → f ≡ miter N M aim.metric aim.bound → (merged : List LogItem) → IsMergeLog (joint_net N M aim.metric aim.bound) merged
+      → (answer : Answer) → IsAnswer f merged aim.limit answer → IsAsked aim N M (told N M aim.bound (length merged) answer)
+  asked_of many f is merged merges (Model bits) model = IsOver-from_model aim.metric N M aim.bound h many f bits is model
+  asked_of many f is merged merges (Refuted log) found =
+      IsNever-from aim.metric N M aim.bound h f is log found.refutes found.derivation (length merged, merges_of aim.metric N M aim.bound h merged log merges found.begins)
+  asked_of many f is merged merges (Spent log) found = record {
+    net = refl;
+    level = refl;
+    merged = merges_of aim.metric N M aim.bound h merged log merges found.begins;
+    chain = subst (λ g. IsConflictChain g (length merged) aim.limit log) is found.chain;
+  }
+
+-- a question asks what it was made for
+pub asked_at : (aim asked : Constraint) (N M : NetValue) (e : Exceed) → asked ≡ aim → IsAsked asked N M e → IsAsked aim N M e
+asked_at aim asked N M e same answer = subst (λ a. IsAsked a N M e) same answer

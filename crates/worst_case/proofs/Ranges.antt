@@ -2,14 +2,14 @@
 use Rattle.std.proofs.Common.{◌≡◌, ◌⊎◌, ◌<◌, ◌≤◌, ℕ, min, Bool, List, length, None, inl, inr, arith}
 use Rattle.std.proofs.lemmas.Bool.{cases_lt}
 use Rattle.semantics.specs.declared.limits.TheConstants.{LARGEST_ERROR}
-use Rattle.semantics.specs.declared.metric.Metric.{Metric}
 use Rattle.semantics.specs.Net.{NetValue, input_count}
 use Rattle.semantics.specs.Error.{net_error, IsWithin, IsCandidate}
 use Rattle.semantics.proofs.Sizes.{largest}
 use Rattle.semantics.specs.Vectors.{IsFirstGreatestAt}
+use Rattle.proof_semantics.specs.declared.constraint.Constraint.{Constraint}
 use Rattle.lane_bits.specs.Patterns.{PatternSet}
 use Rattle.worst_case.specs.declared.range.Range.{Range}
-use Rattle.worst_case.specs.declared.vectors_tried.TheConstants.{LANE_INPUTS}
+use Rattle.worst_case.specs.declared.options.TheConstants.{LANE_INPUTS}
 use Rattle.worst_case.specs.VectorsTried.{IsTrial, IsFirstGreatestIn}
 use Rattle.worst_case.specs.Maximum.{IsRange}
 use Rattle.worst_case.proofs.FirstGreatest.{IsFirstGreatestAt-all}
@@ -23,26 +23,26 @@ smaller bound high is =
     ]
 
 -- what the trial vectors and the bound make of it
-pub IsRange-first : (metric : Metric) (N M : NetValue) (bound high most : ℕ) (x : List Bool) (s : PatternSet) → IsCandidate N M → IsWithin metric N bound M
-    → IsTrial (input_count N) s → IsFirstGreatestIn (net_error metric N M) s.vectors most x → length x ≡ input_count N
+pub IsRange-first : (aim : Constraint) (N M : NetValue) (high most : ℕ) (x : List Bool) (s : PatternSet) → IsCandidate N M → IsWithin aim.metric N aim.bound M
+    → IsTrial (input_count N) s → IsFirstGreatestIn (net_error aim.metric N M) s.vectors most x → length x ≡ input_count N
     → ((input_count N ≤ LANE_INPUTS) × (high ≡ most))
-    ⊎ ((LANE_INPUTS < input_count N) × (high ≤ bound) × (high ≤ LARGEST_ERROR) × ((high ≡ bound) ⊎ (high ≡ LARGEST_ERROR)))
-    → IsRange metric N M bound (record { low = most; witness = x; high = high; log = None })
-IsRange-first metric N M bound high most x s nets within trial best width (inl small) =
-    let first = IsFirstGreatestAt-all (input_count N) (net_error metric N M) s.vectors most x (trial.all small.0) best in
+    ⊎ ((LANE_INPUTS < input_count N) × (high ≤ aim.bound) × (high ≤ LARGEST_ERROR) × ((high ≡ aim.bound) ⊎ (high ≡ LARGEST_ERROR)))
+    → IsRange aim N M (record { low = most; witness = x; high = high; log = None })
+IsRange-first aim N M high most x s nets within trial best width (inl small) =
+    let first = IsFirstGreatestAt-all (input_count N) (net_error aim.metric N M) s.vectors most x (trial.all small.0) best in
     record {
       width = width;
       attained = best.attained;
       within = λ y wide. omega (arith, first.greatest y wide, small.1);
       bounded = omega (arith, small.1, best.attained, within x width);
-      small = omega (arith, small.1, best.attained, largest metric N M nets x);
+      small = omega (arith, small.1, best.attained, largest aim.metric N M nets x);
       refuted = tt;
       first = λ few_inputs. first;
     }
-IsRange-first metric N M bound high most x s nets within trial best width (inr large) = record {
+IsRange-first aim N M high most x s nets within trial best width (inr large) = record {
   width = width;
   attained = best.attained;
-  within = λ y wide. elim large.3 [ inl is ↦ omega (arith, is, within y wide) | inr is ↦ omega (arith, is, largest metric N M nets y) ];
+  within = λ y wide. elim large.3 [ inl is ↦ omega (arith, is, within y wide) | inr is ↦ omega (arith, is, largest aim.metric N M nets y) ];
   bounded = large.1;
   small = large.2;
   refuted = tt;
@@ -50,10 +50,10 @@ IsRange-first metric N M bound high most x s nets within trial best width (inr l
 }
 
 -- where the greatest error of all vectors is known
-pub IsRange-closed : (metric : Metric) (N M : NetValue) (bound most : ℕ) (x : List Bool) (r : Range) → IsRange metric N M bound r
-    → IsFirstGreatestAt (input_count N) (net_error metric N M) most x → IsRange metric N M bound (record { low = most; witness = x; high = most; log = None })
-IsRange-closed metric N M bound most x r range best =
-    let below : net_error metric N M x ≤ r.high = range.within x best.width in
+pub IsRange-closed : (aim : Constraint) (N M : NetValue) (most : ℕ) (x : List Bool) (r : Range) → IsRange aim N M r
+    → IsFirstGreatestAt (input_count N) (net_error aim.metric N M) most x → IsRange aim N M (record { low = most; witness = x; high = most; log = None })
+IsRange-closed aim N M most x r range best =
+    let below : net_error aim.metric N M x ≤ r.high = range.within x best.width in
     record {
       width = best.width;
       attained = best.attained;

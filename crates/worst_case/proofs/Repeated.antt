@@ -4,8 +4,8 @@ use Rattle.std.proofs.lemmas.List.{take-append-drop, take-append-le, length-take
 use Rattle.std.proofs.Math.Seq.{drop-cons, take-append_seam}
 use Rattle.std.proofs.Math.ListN.{set}
 use Rattle.semantics.specs.Net.{NetValue}
-use Rattle.semantics.specs.declared.metric.Metric.{Metric}
 use Rattle.quality_semantics.specs.Joint.{joint_net}
+use Rattle.proof_semantics.specs.declared.constraint.Constraint.{Constraint}
 use Rattle.proof_semantics.specs.Formula.{Formula}
 use Rattle.proof_semantics.specs.Logs.{LogItem, IsDerivation}
 use Rattle.proof_semantics.specs.Miter.{miter}
@@ -38,27 +38,27 @@ outcome_joins f a b (Open log) first found = record {
   derivation = found.derivation;
 }
 
-module _ (metric : Metric) (N M : NetValue) (k limit : ℕ) (s : spent.Spent) (h : IsChainOn metric N M k limit s) where
+module _ (aim : Constraint) (N M : NetValue) (s : spent.Spent) (h : IsChainOn aim N M s) where
   -- a spent query's log is a derivation
-  pub chain_derives : (f : Formula) → f ≡ miter N M metric k → IsDerivation f s.log
+  pub chain_derives : (f : Formula) → f ≡ miter N M aim.metric aim.bound → IsDerivation f s.log
   chain_derives f is =
-      subst (λ g. IsDerivation g s.log) (ap (λ K. miter N K metric s.k) h.net ∙ ap (miter N M metric) h.level ∙ sym is) h.chain.derivation
+      subst (λ g. IsDerivation g s.log) (ap (λ K. miter N K aim.metric s.k) h.net ∙ ap (miter N M aim.metric) h.level ∙ sym is) h.chain.derivation
 
   -- a log that begins with a spent query's log has the merges at its head
   pub chain_counted : (log : List LogItem) → Begins s.log log → s.merged ≤ length log
   chain_counted log begins = omega (arith, h.chain.count, no_longer s.log log begins)
 
-  pub chain_merges : (log : List LogItem) → Begins s.log log → IsMergeLog (joint_net N M metric k) (take s.merged log)
+  pub chain_merges : (log : List LogItem) → Begins s.log log → IsMergeLog (joint_net N M aim.metric aim.bound) (take s.merged log)
   chain_merges log begins =
       let few : s.merged ≤ length s.log = omega (arith, h.chain.count) in
-      let same : joint_net N s.net metric s.k ≡ joint_net N M metric k = ap (λ K. joint_net N K metric s.k) h.net ∙ ap (joint_net N M metric) h.level in
-      subst (λ J. IsMergeLog J (take s.merged log)) same (subst (IsMergeLog (joint_net N s.net metric s.k)) (sym (front_of s.merged s.log log few begins)) h.merged)
+      let same : joint_net N s.net aim.metric s.k ≡ joint_net N M aim.metric aim.bound = ap (λ K. joint_net N K aim.metric s.k) h.net ∙ ap (joint_net N M aim.metric) h.level in
+      subst (λ J. IsMergeLog J (take s.merged log)) same (subst (IsMergeLog (joint_net N s.net aim.metric s.k)) (sym (front_of s.merged s.log log few begins)) h.merged)
 
   -- the spent query, whose log was got back from a longer log
   pub chain_back : (f : Formula) (log : List LogItem) → IsOutcome f s.log (Open log) → (first : List LogItem) → first ≡ take (length s.log) log
-      → IsChainOn metric N M k limit (record { net = s.net; k = s.k; merged = s.merged; log = first })
+      → IsChainOn aim N M (record { net = s.net; k = s.k; merged = s.merged; log = first })
   chain_back f log found first is =
-      subst (λ (l : List LogItem). IsChainOn metric N M k limit (record { net = s.net; k = s.k; merged = s.merged; log = l })) (sym (is ∙ found.begins)) h
+      subst (λ (l : List LogItem). IsChainOn aim N M (record { net = s.net; k = s.k; merged = s.merged; log = l })) (sym (is ∙ found.begins)) h
 
 -- a log that another one begins with is no longer than it
 pub log_counted : (f : Formula) (first log : List LogItem) → IsOutcome f first (Open log) → length first ≤ length log

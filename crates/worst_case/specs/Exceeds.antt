@@ -1,8 +1,8 @@
 -- What the answers are to the query whether some input's error exceeds a level.
 use Rattle.std.specs.Prelude.{◌≡◌, ℕ, take}
 use Rattle.semantics.specs.Net.{NetValue, input_count}
-use Rattle.semantics.specs.declared.metric.Metric.{Metric}
 use Rattle.quality_semantics.specs.Joint.{joint_net, AreComparable}
+use Rattle.proof_semantics.specs.declared.constraint.Constraint.{Constraint}
 use Rattle.proof_semantics.specs.Conflicts.{IsConflictChain}
 use Rattle.proof_semantics.specs.Merges.{IsMergeLog}
 use Rattle.proof_semantics.specs.Miter.{miter}
@@ -17,26 +17,24 @@ use Rattle.worst_case.specs.declared.solver_query.Question.{Question}
 abbrev pub spent_value : spent.Spent → SpentValue
 spent_value s = record { net = s.net; k = s.k; merged = s.merged; log = s.log }
 
--- the conflicts were spent on the miter of these two nets at this level
-pub record IsSpentOn (metric : Metric) (exact approx : NetValue) (k limit : ℕ)
-    (s : spent.Spent) : Type 0 where
+-- the conflicts were spent on the miter of these two nets at the level that is asked about
+pub record IsSpentOn (aim : Constraint) (exact approx : NetValue) (s : spent.Spent) : Type 0 where
   pub net : s.net ≡ approx
-  pub level : s.k ≡ k
-  pub query : IsSpentQuery metric exact limit (spent_value s)
+  pub level : s.k ≡ aim.bound
+  pub query : IsSpentQuery aim.metric exact aim.limit (spent_value s)
 
-abbrev pub IsAnswer : Metric → NetValue → NetValue → ℕ → ℕ → Exceed → Type 0
-IsAnswer metric exact approx k limit (Over x) = IsOver metric exact approx k x
-IsAnswer metric exact approx k limit (Never log) = IsNever metric exact approx k log
-IsAnswer metric exact approx k limit (Spent s) = IsSpentOn metric exact approx k limit s
+abbrev pub IsAnswer : Constraint → NetValue → NetValue → Exceed → Type 0
+IsAnswer aim exact approx (Over x) = IsOver aim.metric exact approx aim.bound x
+IsAnswer aim exact approx (Never log) = IsNever aim.metric exact approx aim.bound log
+IsAnswer aim exact approx (Spent s) = IsSpentOn aim exact approx s
 
--- the merges of the joint net of these two nets at this level, and behind them `conflicts` conflicts over the
--- miter
-pub record IsChainOn (metric : Metric) (exact approx : NetValue) (k conflicts : ℕ)
-    (s : spent.Spent) : Type 0 where
+-- the merges of the joint net of these two nets at the level that is asked about, and behind them as many
+-- conflicts over the miter as are allowed
+pub record IsChainOn (aim : Constraint) (exact approx : NetValue) (s : spent.Spent) : Type 0 where
   pub net : s.net ≡ approx
-  pub level : s.k ≡ k
-  pub merged : IsMergeLog (joint_net exact s.net metric s.k) (take s.merged s.log)
-  pub chain : IsConflictChain (miter exact s.net metric s.k) s.merged conflicts s.log
+  pub level : s.k ≡ aim.bound
+  pub merged : IsMergeLog (joint_net exact s.net aim.metric s.k) (take s.merged s.log)
+  pub chain : IsConflictChain (miter exact s.net aim.metric s.k) s.merged aim.limit s.log
 
 -- what an answer of the solver behind `merged` merged steps says of two nets: the first bits of a model are
 -- an input vector
@@ -49,11 +47,11 @@ told exact approx k merged (answer.Spent log)
 -- the question is about the miter of these two nets, behind the merges of their joint net
 pub record IsPosed (exact approx : NetValue) (q : Question) : Type 0 where
   pub comparable : AreComparable exact approx
-  pub formula : q.joint.formula ≡ miter exact approx q.metric q.k
-  pub merged : IsMergeLog (joint_net exact approx q.metric q.k) q.merged
+  pub formula : q.joint.formula ≡ miter exact approx q.aim.metric q.aim.bound
+  pub merged : IsMergeLog (joint_net exact approx q.aim.metric q.aim.bound) q.merged
 
 -- the solver was asked
-abbrev pub IsAsked : Metric → NetValue → NetValue → ℕ → ℕ → Exceed → Type 0
-IsAsked metric exact approx k limit (Over x) = IsOver metric exact approx k x
-IsAsked metric exact approx k limit (Never log) = IsNever metric exact approx k log
-IsAsked metric exact approx k limit (Spent s) = IsChainOn metric exact approx k limit s
+abbrev pub IsAsked : Constraint → NetValue → NetValue → Exceed → Type 0
+IsAsked aim exact approx (Over x) = IsOver aim.metric exact approx aim.bound x
+IsAsked aim exact approx (Never log) = IsNever aim.metric exact approx aim.bound log
+IsAsked aim exact approx (Spent s) = IsChainOn aim exact approx s

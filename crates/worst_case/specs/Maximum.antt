@@ -5,6 +5,7 @@ use Rattle.semantics.specs.Net.{NetValue, input_count}
 use Rattle.semantics.specs.declared.metric.Metric.{Metric}
 use Rattle.semantics.specs.Error.{net_error, IsWithin}
 use Rattle.semantics.specs.Vectors.{IsFirstGreatestAt}
+use Rattle.proof_semantics.specs.declared.constraint.Constraint.{Constraint}
 use Rattle.proof_semantics.specs.Queries.{IsNever, IsMaximum, IsSpentLevel}
 use Rattle.worst_case.specs.Exceeds.{spent_value}
 use Rattle.worst_case.specs.declared.query.Maximum.{Maximum}
@@ -13,11 +14,10 @@ use Rattle.worst_case.specs.declared.query.Spent as spent
 use Rattle.worst_case.specs.declared.range.Range.{Range}
 use Rattle.worst_case.specs.declared.vectors_tried.Attained.{Attained}
 
-abbrev pub IsMaximumAnswer : Metric → NetValue → NetValue → ℕ → ℕ → Maximum → Type 0
-IsMaximumAnswer metric exact approx bound limit (Found most witness log)
-    = IsMaximum metric exact approx most witness log
-IsMaximumAnswer metric exact approx bound limit (Spent s)
-    = IsSpentLevel metric exact approx bound limit (spent_value s)
+abbrev pub IsMaximumAnswer : Constraint → NetValue → NetValue → Maximum → Type 0
+IsMaximumAnswer aim exact approx (Found most witness log)
+    = IsMaximum aim.metric exact approx (record { error = most; witness = witness; log = log })
+IsMaximumAnswer aim exact approx (Spent s) = IsSpentLevel aim exact approx (spent_value s)
 
 -- the greatest error of all input vectors, and the first of them that has it; it may not be found where there
 -- are more than `most` inputs
@@ -28,24 +28,26 @@ IsGreatestUpTo most metric exact approx found = MatchOption found (most < input_
 -- The greatest error is at least `low`, which the witness attains, and at most `high`, within the bound; a
 -- log that is held refutes that any error exceeds `high`. With at most eight inputs the witness is the first
 -- vector that has the greatest error.
-pub record IsRange (metric : Metric) (exact approx : NetValue) (bound : ℕ) (r : Range) : Type 0 where
+pub record IsRange (aim : Constraint) (exact approx : NetValue) (r : Range) : Type 0 where
   pub width : length r.witness ≡ input_count exact
-  pub attained : net_error metric exact approx r.witness ≡ r.low
-  pub within : IsWithin metric exact r.high approx
-  pub bounded : r.high ≤ bound
+  pub attained : net_error aim.metric exact approx r.witness ≡ r.low
+  pub within : IsWithin aim.metric exact r.high approx
+  pub bounded : r.high ≤ aim.bound
   pub small : r.high ≤ LARGEST_ERROR
-  pub refuted : MatchOption r.log (Unit {0}) (IsNever metric exact approx r.high)
+  pub refuted : MatchOption r.log (Unit {0}) (IsNever aim.metric exact approx r.high)
   pub first : input_count exact ≤ FEW_INPUTS
-      → IsFirstGreatestAt (input_count exact) (net_error metric exact approx) r.low r.witness
+      → IsFirstGreatestAt (input_count exact) (net_error aim.metric exact approx) r.low r.witness
 
--- one query makes the range smaller, or is spent
-abbrev pub IsTurn : Metric → NetValue → NetValue → ℕ → ℕ → Range → Range → Option spent.Spent → Type 0
-IsTurn metric exact approx bound limit r next found = MatchOption found
-    (IsRange metric exact approx bound next × (next.high - next.low < r.high - r.low))
-    (λ s. IsSpentLevel metric exact approx bound limit (spent_value s))
+-- the range behind a query, or the query was spent
+abbrev pub IsRangeOrSpent : Constraint → NetValue → NetValue → Range → Option spent.Spent → Type 0
+IsRangeOrSpent aim exact approx r found = MatchOption found (IsRange aim exact approx r)
+    (λ s. IsSpentLevel aim exact approx (spent_value s))
+
+-- the levels of the second range are nearer to each other, unless a query was spent
+abbrev pub IsNarrowed : Range → Range → Option spent.Spent → Type 0
+IsNarrowed old new found = MatchOption found (new.high - new.low < old.high - old.low) (λ s. Unit {0})
 
 -- the levels of the range meet, or a query is spent
-abbrev pub IsEnd : Metric → NetValue → NetValue → ℕ → ℕ → Range → Option spent.Spent → Type 0
-IsEnd metric exact approx bound limit r found = MatchOption found
-    (IsRange metric exact approx bound r × (r.high ≤ r.low))
-    (λ s. IsSpentLevel metric exact approx bound limit (spent_value s))
+abbrev pub IsEnd : Constraint → NetValue → NetValue → Range → Option spent.Spent → Type 0
+IsEnd aim exact approx r found = MatchOption found (IsRange aim exact approx r × (r.high ≤ r.low))
+    (λ s. IsSpentLevel aim exact approx (spent_value s))

@@ -1,12 +1,12 @@
 -- Input vectors that are tried at once, and the greatest of their errors.
 use Rattle.std.specs.Prelude.{◌≡◌, ℕ, ◌<◌, ◌≤◌, Bool, Option, MatchOption, List, [], length, slice_index_or}
 use Rattle.semantics.specs.Net.{NetValue, input_count}
-use Rattle.semantics.specs.declared.metric.Metric.{Metric}
 use Rattle.semantics.specs.Error.{number_of, net_error, IsWithin}
 use Rattle.semantics.specs.Vectors.{all_vectors}
+use Rattle.proof_semantics.specs.declared.constraint.Constraint.{Constraint}
 use Rattle.lane_bits.specs.Patterns.{PatternSet}
 use Rattle.lane_nets.specs.Lanes.{ReferenceValue}
-use Rattle.worst_case.specs.declared.vectors_tried.TheConstants.{LANE_INPUTS}
+use Rattle.worst_case.specs.declared.options.TheConstants.{LANE_INPUTS}
 
 -- one or more vectors of `inputs` bits; with at most sixteen inputs they are all vectors in counting order
 pub record IsTrial (inputs : ℕ) (s : PatternSet) : Type 0 where
@@ -24,25 +24,25 @@ pub record IsFirstGreatestIn (f : List Bool → ℕ) (vectors : List (List Bool)
   pub greatest : (k : ℕ) → k < length vectors → f (slice_index_or vectors k []) ≤ most
   pub first : (k : ℕ) → k < at → f (slice_index_or vectors k []) < most
 
--- an input vector whose error exceeds the level
-pub record IsExceededAt (metric : Metric) (exact approx : NetValue) (k : ℕ) (x : List Bool) : Type 0 where
+-- an input vector whose error exceeds the level that is asked about
+pub record IsExceededAt (aim : Constraint) (exact approx : NetValue) (x : List Bool) : Type 0 where
   pub width : length x ≡ input_count exact
-  pub exceeds : k < net_error metric exact approx x
+  pub exceeds : aim.bound < net_error aim.metric exact approx x
 
 -- x is an input vector whose error exceeds the level; where the vectors that were tried are all in counting
 -- order, it is the first
-pub record IsFirstExceeded (metric : Metric) (exact approx : NetValue) (vectors : List (List Bool)) (k : ℕ)
+pub record IsFirstExceeded (aim : Constraint) (exact approx : NetValue) (vectors : List (List Bool))
     (x : List Bool) : Type 0 where
-  pub exceeded : IsExceededAt metric exact approx k x
+  pub exceeded : IsExceededAt aim exact approx x
   pub first : vectors ≡ all_vectors (input_count exact) → (y : List Bool) → length y ≡ input_count exact
-      → number_of y < number_of x → net_error metric exact approx y ≤ k
+      → number_of y < number_of x → net_error aim.metric exact approx y ≤ aim.bound
 
 -- these vectors were tried; where they are all vectors in counting order and none exceeds the level, no
 -- error does
-abbrev pub IsTried : Metric → NetValue → NetValue → List (List Bool) → ℕ → Option (List Bool) → Type 0
-IsTried metric exact approx vectors k found
-    = MatchOption found (vectors ≡ all_vectors (input_count exact) → IsWithin metric exact k approx)
-    (IsFirstExceeded metric exact approx vectors k)
+abbrev pub IsTried : Constraint → NetValue → NetValue → List (List Bool) → Option (List Bool) → Type 0
+IsTried aim exact approx vectors found = MatchOption found
+    (vectors ≡ all_vectors (input_count exact) → IsWithin aim.metric exact aim.bound approx)
+    (IsFirstExceeded aim exact approx vectors)
 
 -- a net and some input vectors of it; with at most sixteen inputs all of them in counting order
 pub record IsHeldFor (N : NetValue) (held : ReferenceValue) : Type 0 where

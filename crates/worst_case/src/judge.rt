@@ -1,25 +1,22 @@
-//! What is held of one exact net while approximate nets are judged against it, and whether the error of such
-//! a net stays within a level.
-//!
-//! The ways are tried in the order that `policy` gives the reasons for: the known vectors, diagrams, every
-//! vector, the solver.
-ghost use Rattle.std.specs.Prelude.{◌≡◌, ◌≤◌, IfOk, IfSome};
+//! What is held of one exact net while approximate nets are judged against it, and what each of the ways
+//! answers by what is held: the known vectors, diagrams, every vector, the solver. `policy` says in which
+//! order they are asked.
+ghost use Rattle.std.specs.Prelude.{◌≡◌, ◌≤◌, ◌<◌, IfOk, IfSome};
 ghost use Rattle.semantics.specs.Net.{input_count, IsSmall};
 ghost use Rattle.worst_case.specs.Levels.{IsAnsweredUpTo, IsLevelAnswer, IsSureAnswer};
 ghost use Rattle.worst_case.specs.Maximum.{IsGreatestUpTo};
 ghost use Rattle.worst_case.specs.VectorsTried.{IsHeldFor, IsEveryVectorHeldUpTo};
 
 use crate::margin::{Margin, by_diagrams, by_solver};
-use crate::policy::{MOST_TRIED_INPUTS, decider_for};
-use crate::vectors_tried::{
-    Attained, LANE_INPUTS, greatest_of, hold_every_vector, hold_vectors, try_vectors,
-};
+use crate::options::{LANE_INPUTS, MOST_TRIED_INPUTS};
+use crate::vectors_tried::{Attained, greatest_of, hold_every_vector, hold_vectors, try_vectors};
 use bdd_levels::budgets::QUESTION_STEPS;
 use bdd_levels::decider::Decider;
 use lane_nets::reference::Reference;
 use net_core::net::Net;
 use net_errors::compared::Compared;
 use progress::progress::Progress;
+use proof_semantics::constraint::Constraint;
 use semantics::metric::Metric;
 use std::alloc::{AllocError, Global};
 use std::marker::Model;
@@ -48,6 +45,16 @@ impl<'a> Model for Judge<'a> {
 
     ghost invariant = { λ j. IsHeldFor j.exact.now j.known × (j.decider ≡ j.exact.now)
         × IfSome j.every (IsEveryVectorHeld j.exact.now) };
+}
+
+/// The decider by diagrams; it holds no diagrams where every vector is held from the beginning.
+fn decider_for<'a>(alloc: Global, exact: &'a Net) -> Result<Decider<'a>, AllocError>
+    ensures { IfOk result (λ d. d ≡ exact.now) }
+{
+    if exact.inputs() <= LANE_INPUTS {
+        return Ok(Decider::none(exact));
+    }
+    Decider::new(alloc, exact)
 }
 
 impl<'a> Judge<'a> {
@@ -85,17 +92,16 @@ impl<'a> Judge<'a> {
 
     /// The answer of the known vectors: one that exceeds the level or, with at most `LANE_INPUTS` inputs,
     /// that none does.
-    fn by_known(
+    pub(crate) fn by_known(
         &self,
         alloc: Global,
         nets: &Compared,
-        metric: Metric,
-        k: u128,
+        aim: Constraint,
     ) -> Result<Option<Margin>, AllocError>
         requires judge { self.now ≡ nets.now.exact }
-        ensures { IfOk result (IsAnsweredUpTo LANE_INPUTS metric nets.now.exact nets.now.approx k) }
+        ensures { IfOk result (IsAnsweredUpTo LANE_INPUTS aim nets.now.exact nets.now.approx) }
     {
-        match try_vectors(alloc, nets, &self.known, metric, k)? {
+        match try_vectors(alloc, nets, &self.known, aim)? {
             Some(x) => Ok(Some(Margin::Over(x))),
             None if nets.exact().inputs() <= LANE_INPUTS => Ok(Some(Margin::Within)),
             None => Ok(None),
@@ -107,34 +113,32 @@ impl<'a> Judge<'a> {
         &mut self,
         alloc: Global,
         nets: &Compared,
-        metric: Metric,
-        k: u128,
+        aim: Constraint,
     ) -> Result<Option<Margin>, AllocError>
         requires judge { self.old ≡ nets.now.exact }
         ensures same { self.new ≡ self.old }
         ensures answer { IfOk result
-            (λ found. IfSome found (IsSureAnswer metric nets.now.exact nets.now.approx k)) }
+            (λ found. IfSome found (IsSureAnswer aim nets.now.exact nets.now.approx)) }
     {
-        by_diagrams(alloc, nets, &mut self.decider, metric, k, QUESTION_STEPS)
+        by_diagrams(alloc, nets, &mut self.decider, aim, QUESTION_STEPS)
     }
 
     /// The answer of every vector, with at most `MOST_TRIED_INPUTS` inputs.
-    fn by_every_vector(
+    pub(crate) fn by_every_vector(
         &mut self,
         alloc: Global,
         nets: &Compared,
-        metric: Metric,
-        k: u128,
+        aim: Constraint,
     ) -> Result<Option<Margin>, AllocError>
         requires judge { self.old ≡ nets.now.exact }
         ensures same { self.new ≡ self.old }
         ensures answer { IfOk result
-            (IsAnsweredUpTo MOST_TRIED_INPUTS metric nets.now.exact nets.now.approx k) }
+            (IsAnsweredUpTo MOST_TRIED_INPUTS aim nets.now.exact nets.now.approx) }
     {
         let Some(every) = self.take_every(alloc)? else {
             return Ok(None);
         };
-        let found = try_vectors(alloc, nets, &every, metric, k)?;
+        let found = try_vectors(alloc, nets, &every, aim)?;
         self.every = Some(every);
         match found {
             Some(x) => Ok(Some(Margin::Over(x))),
@@ -142,26 +146,21 @@ impl<'a> Judge<'a> {
         }
     }
 
-    /// The answer without the solver: by the known vectors, by diagrams, or by every vector.
-    fn without_solver(
+    /// The answer of the solver, as [`by_solver`] gives it.
+    pub(crate) fn by_solver<P: Progress>(
         &mut self,
         alloc: Global,
         nets: &Compared,
-        metric: Metric,
-        k: u128,
-    ) -> Result<Option<Margin>, AllocError>
+        aim: Constraint,
+        progress: &mut P,
+    ) -> Result<Margin, AllocError>
+        requires many_inputs { LANE_INPUTS < input_count nets.now.exact }
         requires judge { self.old ≡ nets.now.exact }
+        requires limit { 1 ≤ aim.limit }
         ensures same { self.new ≡ self.old }
-        ensures answer { IfOk result
-            (IsAnsweredUpTo MOST_TRIED_INPUTS metric nets.now.exact nets.now.approx k) }
+        ensures answer { IfOk result (IsLevelAnswer aim nets.now.exact nets.now.approx) }
     {
-        if let Some(margin) = self.by_known(alloc, nets, metric, k)? {
-            return Ok(Some(margin));
-        }
-        if let Some(margin) = self.by_diagrams(alloc, nets, metric, k)? {
-            return Ok(Some(margin));
-        }
-        self.by_every_vector(alloc, nets, metric, k)
+        by_solver(alloc, nets, &mut self.decider, aim, progress)
     }
 
     /// The greatest error of every vector, with at most `MOST_TRIED_INPUTS` inputs.
@@ -182,29 +181,5 @@ impl<'a> Judge<'a> {
         let best = greatest_of(alloc, nets, metric, &every)?;
         self.every = Some(every);
         Ok(Some(best))
-    }
-}
-
-/// An input whose error exceeds `k`, or that there is none. With at most 24 inputs nothing is spent. With
-/// more inputs the solver is asked where neither the known vectors nor diagrams tell.
-pub fn within_level<P: Progress>(
-    alloc: Global,
-    nets: &Compared,
-    judge: &mut Judge,
-    metric: Metric,
-    k: u128,
-    limit: u64,
-    progress: &mut P,
-) -> Result<Margin, AllocError>
-    requires judge { judge.old ≡ nets.now.exact }
-    requires limit { 1 ≤ limit }
-    ensures same { judge.new ≡ judge.old }
-    ensures answer { IfOk result (IsLevelAnswer metric nets.now.exact nets.now.approx k limit) }
-    ensures sure { IfOk result (λ margin. input_count nets.now.exact ≤ MOST_TRIED_INPUTS
-        → IsSureAnswer metric nets.now.exact nets.now.approx k margin) }
-{
-    match judge.without_solver(alloc, nets, metric, k)? {
-        Some(margin) => Ok(margin),
-        None => by_solver(alloc, nets, &mut judge.decider, metric, k, limit, progress),
     }
 }

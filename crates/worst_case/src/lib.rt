@@ -7,6 +7,7 @@ pub mod exceeds;
 pub mod judge;
 pub mod margin;
 pub mod maximum;
+pub mod options;
 pub mod policy;
 pub mod query;
 mod range;

@@ -4,17 +4,17 @@ ghost use Rattle.semantics.specs.Net.{input_count};
 ghost use Rattle.worst_case.specs.Exceeds.{IsChainOn, IsPosed};
 ghost use Rattle.worst_case.specs.Levels.{IsLevelAnswer, IsSureAnswer, without_log};
 
+use crate::options::LANE_INPUTS;
 use crate::query::{Exceed, Spent};
 use crate::repeated_query::ask_again;
 use crate::solver_query::{Question, ask_once, pose};
-use crate::vectors_tried::LANE_INPUTS;
 use bdd_levels::budgets::LAST_STEPS;
 use bdd_levels::decider::Decider;
 use bdd_nets::ever_true::Decision;
 use net_core::items::Bits;
 use net_errors::compared::Compared;
 use progress::progress::Progress;
-use semantics::metric::Metric;
+use proof_semantics::constraint::Constraint;
 use std::alloc::{AllocError, Global};
 
 /// Whether the error exceeds a level.
@@ -34,16 +34,15 @@ pub(crate) fn by_diagrams(
     alloc: Global,
     nets: &Compared,
     decider: &mut Decider,
-    metric: Metric,
-    k: u128,
+    aim: Constraint,
     steps: u64,
 ) -> Result<Option<Margin>, AllocError>
     requires decider { decider.old ≡ nets.now.exact }
     ensures same { decider.new ≡ decider.old }
     ensures answer { IfOk result
-        (λ found. IfSome found (IsSureAnswer metric nets.now.exact nets.now.approx k)) }
+        (λ found. IfSome found (IsSureAnswer aim nets.now.exact nets.now.approx)) }
 {
-    match decider.decide(alloc, nets.approx(), metric, k, steps)? {
+    match decider.decide(alloc, nets.approx(), aim.metric, aim.bound, steps)? {
         Decision::Never => Ok(Some(Margin::Within)),
         Decision::At(x) => Ok(Some(Margin::Over(Bits::from_slice(alloc, &x)?))),
         Decision::Unknown => Ok(None),
@@ -61,65 +60,52 @@ fn margin_of(exceed: Exceed) -> Margin
     }
 }
 
-/// What diagrams answer at last within more steps, and where they do not, what further queries behind the
-/// spent one come to.
+/// The answer to a question whose first query was spent: that of the diagrams, where they find one within
+/// `LAST_STEPS` steps, and else that of further queries.
 fn by_last_steps<P: Progress>(
     alloc: Global,
     nets: &Compared,
     decider: &mut Decider,
     question: &Question,
     spent: Spent,
-    limit: u64,
     progress: &mut P,
 ) -> Result<Margin, AllocError>
     requires many_inputs { LANE_INPUTS < input_count nets.now.exact }
     requires decider { decider.old ≡ nets.now.exact }
-    requires limit { 1 ≤ limit }
+    requires limit { 1 ≤ question.now.aim.limit }
     requires posed { IsPosed nets.now.exact nets.now.approx question.now }
-    requires spent { IsChainOn question.now.metric nets.now.exact nets.now.approx question.now.k limit spent }
+    requires spent { IsChainOn question.now.aim nets.now.exact nets.now.approx spent }
     ensures same { decider.new ≡ decider.old }
-    ensures answer { IfOk result
-        (IsLevelAnswer question.now.metric nets.now.exact nets.now.approx question.now.k limit) }
+    ensures answer { IfOk result (IsLevelAnswer question.now.aim nets.now.exact nets.now.approx) }
 {
-    match by_diagrams(
-        alloc,
-        nets,
-        decider,
-        question.metric,
-        question.k,
-        LAST_STEPS,
-    )? {
+    match by_diagrams(alloc, nets, decider, question.aim, LAST_STEPS)? {
         Some(margin) => Ok(margin),
         None => {
-            let last = ask_again(alloc, nets, question, spent, limit, progress)?;
+            let last = ask_again(alloc, nets, question, spent, progress)?;
             Ok(margin_of(last))
         }
     }
 }
 
-/// What a query of the solver answers. Where its conflicts are spent, diagrams are asked once more, and then
-/// the solver again.
+/// What the solver answers. Where the conflicts of its first query are spent, diagrams are asked once more,
+/// and then the solver again.
 pub(crate) fn by_solver<P: Progress>(
     alloc: Global,
     nets: &Compared,
     decider: &mut Decider,
-    metric: Metric,
-    k: u128,
-    limit: u64,
+    aim: Constraint,
     progress: &mut P,
 ) -> Result<Margin, AllocError>
     requires many_inputs { LANE_INPUTS < input_count nets.now.exact }
     requires decider { decider.old ≡ nets.now.exact }
-    requires limit { 1 ≤ limit }
+    requires limit { 1 ≤ aim.limit }
     ensures same { decider.new ≡ decider.old }
-    ensures answer { IfOk result (IsLevelAnswer metric nets.now.exact nets.now.approx k limit) }
+    ensures answer { IfOk result (IsLevelAnswer aim nets.now.exact nets.now.approx) }
 {
-    let question = pose(alloc, nets, metric, k)?;
-    let first = ask_once(alloc, nets, &question, limit, progress)?;
+    let question = pose(alloc, nets, aim)?;
+    let first = ask_once(alloc, nets, &question, progress)?;
     match first {
-        Exceed::Spent(spent) => by_last_steps(
-            alloc, nets, decider, &question, spent, limit, progress,
-        ),
+        Exceed::Spent(spent) => by_last_steps(alloc, nets, decider, &question, spent, progress),
         decided => Ok(margin_of(decided)),
     }
 }

@@ -10,23 +10,56 @@
 //! Where the solver's conflicts are spent too, the diagrams get as many steps as their nodes allow
 //! (`LAST_STEPS`), and then the solver gets further queries, before the question counts as open. What a
 //! budget leaves open is never taken for an answer.
-ghost use Rattle.std.specs.Prelude.{◌≡◌, IfOk};
+ghost use Rattle.std.specs.Prelude.{◌≡◌, ◌≤◌, IfOk};
+ghost use Rattle.semantics.specs.Net.{input_count};
+ghost use Rattle.worst_case.specs.Levels.{IsAnsweredUpTo, IsLevelAnswer, IsSureAnswer};
 
-use crate::vectors_tried::LANE_INPUTS;
-use bdd_levels::decider::Decider;
-use net_core::net::Net;
+use crate::judge::Judge;
+use crate::margin::Margin;
+use crate::options::MOST_TRIED_INPUTS;
+use net_errors::compared::Compared;
+use progress::progress::Progress;
+use proof_semantics::constraint::Constraint;
 use std::alloc::{AllocError, Global};
 
-/// The most inputs with which every vector is tried. With 24 inputs they are 16,777,216: the right outputs
-/// take two megabytes an output, and the rows of the inputs 48, so at most 176 megabytes with 64 outputs.
-pub const MOST_TRIED_INPUTS: u32 = 24;
-
-/// The decider by diagrams; it holds no diagrams where every vector is held from the beginning.
-pub(crate) fn decider_for<'a>(alloc: Global, exact: &'a Net) -> Result<Decider<'a>, AllocError>
-    ensures { IfOk result (λ d. d ≡ exact.now) }
+/// The answer without the solver: by the known vectors, by diagrams, or by every vector.
+fn without_solver(
+    alloc: Global,
+    nets: &Compared,
+    judge: &mut Judge,
+    aim: Constraint,
+) -> Result<Option<Margin>, AllocError>
+    requires judge { judge.old ≡ nets.now.exact }
+    ensures same { judge.new ≡ judge.old }
+    ensures answer { IfOk result (IsAnsweredUpTo MOST_TRIED_INPUTS aim nets.now.exact nets.now.approx) }
 {
-    if exact.inputs() <= LANE_INPUTS {
-        return Ok(Decider::none(exact));
+    if let Some(margin) = judge.by_known(alloc, nets, aim)? {
+        return Ok(Some(margin));
     }
-    Decider::new(alloc, exact)
+    if let Some(margin) = judge.by_diagrams(alloc, nets, aim)? {
+        return Ok(Some(margin));
+    }
+    judge.by_every_vector(alloc, nets, aim)
+}
+
+/// An input whose error exceeds the bound, or that there is none. With at most 24 inputs nothing is spent.
+/// With more inputs the solver is asked where neither the known vectors nor diagrams tell.
+pub fn within_level<P: Progress>(
+    alloc: Global,
+    nets: &Compared,
+    judge: &mut Judge,
+    aim: Constraint,
+    progress: &mut P,
+) -> Result<Margin, AllocError>
+    requires judge { judge.old ≡ nets.now.exact }
+    requires limit { 1 ≤ aim.limit }
+    ensures same { judge.new ≡ judge.old }
+    ensures answer { IfOk result (IsLevelAnswer aim nets.now.exact nets.now.approx) }
+    ensures sure { IfOk result (λ margin. input_count nets.now.exact ≤ MOST_TRIED_INPUTS
+        → IsSureAnswer aim nets.now.exact nets.now.approx margin) }
+{
+    match without_solver(alloc, nets, judge, aim)? {
+        Some(margin) => Ok(margin),
+        None => judge.by_solver(alloc, nets, aim, progress),
+    }
 }

@@ -2,18 +2,20 @@
 ghost use Rattle.std.specs.Prelude.{◌≡◌, ◌≤◌, ◌<◌, ℕ, length, IfOk, OnOk, IsTrue};
 ghost use Rattle.semantics.specs.Net.{input_count};
 ghost use Rattle.semantics.specs.Error.{IsWithin, net_error};
-ghost use Rattle.worst_case.specs.Maximum.{IsRange, IsTurn};
+ghost use Rattle.worst_case.specs.Maximum.{IsNarrowed, IsRange, IsRangeOrSpent};
 
-use crate::exceeds::exceeds_level;
+use crate::exceeds::exceeds;
 use crate::judge::Judge;
 use crate::margin::Margin;
+use crate::options::LANE_INPUTS;
 use crate::query::{Exceed, Spent};
-use crate::vectors_tried::{LANE_INPUTS, greatest_of};
+use crate::vectors_tried::greatest_of;
 use net_core::items::Bits;
 use net_errors::compared::Compared;
 use net_errors::net_error::error_at;
 use progress::progress::Progress;
 use proof_parts::log::Log;
+use proof_semantics::constraint::Constraint;
 use semantics::limits::LARGEST_ERROR;
 use semantics::metric::Metric;
 use std::alloc::{AllocError, Global};
@@ -33,18 +35,17 @@ pub fn first_range(
     alloc: Global,
     nets: &Compared,
     judge: &Judge,
-    metric: Metric,
-    bound: u128,
+    aim: Constraint,
 ) -> Result<Range, AllocError>
     requires judge { judge.now ≡ nets.now.exact }
-    requires within { IsWithin metric nets.now.exact bound nets.now.approx }
-    ensures { IfOk result (IsRange metric nets.now.exact nets.now.approx bound) }
+    requires within { IsWithin aim.metric nets.now.exact aim.bound nets.now.approx }
+    ensures { IfOk result (IsRange aim nets.now.exact nets.now.approx) }
 {
-    let best = greatest_of(alloc, nets, metric, judge.known())?;
+    let best = greatest_of(alloc, nets, aim.metric, judge.known())?;
     let high = if nets.exact().inputs() <= LANE_INPUTS {
         best.error
     } else {
-        bound.min(LARGEST_ERROR)
+        aim.bound.min(LARGEST_ERROR)
     };
     Ok(Range {
         low: best.error,
@@ -85,17 +86,17 @@ fn close_by_every_vector(
     alloc: Global,
     nets: &Compared,
     judge: &mut Judge,
-    metric: Metric,
+    aim: Constraint,
     range: &mut Range,
 ) -> Result<bool, AllocError>
     requires judge { judge.old ≡ nets.now.exact }
     ensures same { judge.new ≡ judge.old }
-    ensures range { OnOk result ((bound : ℕ) → IsRange metric nets.now.exact nets.now.approx bound range.old
-        → IsRange metric nets.now.exact nets.now.approx bound range.new) }
+    ensures range { OnOk result (IsRange aim nets.now.exact nets.now.approx range.old
+        → IsRange aim nets.now.exact nets.now.approx range.new) }
     ensures closed { IfOk result (λ closed. IsTrue closed → range.new.high ≤ range.new.low) }
     ensures open { IfOk result (λ closed. ¬ IsTrue closed → range.new ≡ range.old) }
 {
-    let Some(best) = judge.greatest_of_every(alloc, nets, metric)? else {
+    let Some(best) = judge.greatest_of_every(alloc, nets, aim.metric)? else {
         return Ok(false);
     };
     *range = Range {
@@ -114,26 +115,26 @@ pub fn try_known(
     alloc: Global,
     nets: &Compared,
     judge: &mut Judge,
-    metric: Metric,
+    aim: Constraint,
     range: &mut Range,
 ) -> Result<(), AllocError>
     requires judge { judge.old ≡ nets.now.exact }
     ensures same { judge.new ≡ judge.old }
-    ensures range { OnOk result ((bound : ℕ) → IsRange metric nets.now.exact nets.now.approx bound range.old
-        → IsRange metric nets.now.exact nets.now.approx bound range.new) }
+    ensures range { OnOk result (IsRange aim nets.now.exact nets.now.approx range.old
+        → IsRange aim nets.now.exact nets.now.approx range.new) }
 {
     if range.low >= range.high {
         return Ok(());
     }
-    let known = range.low;
-    match judge.by_diagrams(alloc, nets, metric, known)? {
-        Some(Margin::Over(x)) => raise(alloc, nets, metric, range, x),
+    let bound = range.low;
+    match judge.by_diagrams(alloc, nets, Constraint { bound, ..aim })? {
+        Some(Margin::Over(x)) => raise(alloc, nets, aim.metric, range, x),
         Some(Margin::Within) => {
-            lower(range, known, None);
+            lower(range, bound, None);
             Ok(())
         }
         _ => {
-            close_by_every_vector(alloc, nets, judge, metric, range)?;
+            close_by_every_vector(alloc, nets, judge, aim, range)?;
             Ok(())
         }
     }
@@ -143,21 +144,20 @@ pub fn try_known(
 fn narrow_by_solver<P: Progress>(
     alloc: Global,
     nets: &Compared,
-    metric: Metric,
-    limit: u64,
+    aim: Constraint,
     range: &mut Range,
     progress: &mut P,
 ) -> Result<Option<Spent>, AllocError>
-    requires limit { 1 ≤ limit }
+    requires limit { 1 ≤ aim.limit }
     requires open { range.old.low < range.old.high }
-    ensures { IfOk result (λ spent. (bound : ℕ)
-        → IsRange metric nets.now.exact nets.now.approx bound range.old
-        → IsTurn metric nets.now.exact nets.now.approx bound limit range.old range.new spent) }
+    ensures range { IfOk result (λ spent. IsRange aim nets.now.exact nets.now.approx range.old
+        → IsRangeOrSpent aim nets.now.exact nets.now.approx range.new spent) }
+    ensures narrowed { IfOk result (IsNarrowed range.old range.new) }
 {
-    let middle = range.low + (range.high - range.low) / 2;
-    match exceeds_level(alloc, nets, metric, middle, limit, progress)? {
-        Exceed::Over(x) => raise(alloc, nets, metric, range, x)?,
-        Exceed::Never(log) => lower(range, middle, Some(log)),
+    let bound = range.low + (range.high - range.low) / 2;
+    match exceeds(alloc, nets, Constraint { bound, ..aim }, progress)? {
+        Exceed::Over(x) => raise(alloc, nets, aim.metric, range, x)?,
+        Exceed::Never(log) => lower(range, bound, Some(log)),
         Exceed::Spent(spent) => return Ok(Some(spent)),
     }
     Ok(None)
@@ -168,23 +168,22 @@ fn narrow_without_diagrams<P: Progress>(
     alloc: Global,
     nets: &Compared,
     judge: &mut Judge,
-    metric: Metric,
-    limit: u64,
+    aim: Constraint,
     range: &mut Range,
     progress: &mut P,
 ) -> Result<Option<Spent>, AllocError>
     requires judge { judge.old ≡ nets.now.exact }
-    requires limit { 1 ≤ limit }
+    requires limit { 1 ≤ aim.limit }
     requires open { range.old.low < range.old.high }
     ensures same { judge.new ≡ judge.old }
-    ensures turn { IfOk result
-        (λ spent. (bound : ℕ) → IsRange metric nets.now.exact nets.now.approx bound range.old
-        → IsTurn metric nets.now.exact nets.now.approx bound limit range.old range.new spent) }
+    ensures range { IfOk result (λ spent. IsRange aim nets.now.exact nets.now.approx range.old
+        → IsRangeOrSpent aim nets.now.exact nets.now.approx range.new spent) }
+    ensures narrowed { IfOk result (IsNarrowed range.old range.new) }
 {
-    if close_by_every_vector(alloc, nets, judge, metric, range)? {
+    if close_by_every_vector(alloc, nets, judge, aim, range)? {
         return Ok(None);
     }
-    narrow_by_solver(alloc, nets, metric, limit, range, progress)
+    narrow_by_solver(alloc, nets, aim, range, progress)
 }
 
 /// Asks the diagrams whether some error exceeds the middle of the range, and narrows the range by the answer.
@@ -194,24 +193,23 @@ pub fn narrow<P: Progress>(
     alloc: Global,
     nets: &Compared,
     judge: &mut Judge,
-    metric: Metric,
-    limit: u64,
+    aim: Constraint,
     range: &mut Range,
     progress: &mut P,
 ) -> Result<Option<Spent>, AllocError>
     requires judge { judge.old ≡ nets.now.exact }
-    requires limit { 1 ≤ limit }
+    requires limit { 1 ≤ aim.limit }
     requires open { range.old.low < range.old.high }
     ensures same { judge.new ≡ judge.old }
-    ensures turn { IfOk result
-        (λ spent. (bound : ℕ) → IsRange metric nets.now.exact nets.now.approx bound range.old
-        → IsTurn metric nets.now.exact nets.now.approx bound limit range.old range.new spent) }
+    ensures range { IfOk result (λ spent. IsRange aim nets.now.exact nets.now.approx range.old
+        → IsRangeOrSpent aim nets.now.exact nets.now.approx range.new spent) }
+    ensures narrowed { IfOk result (IsNarrowed range.old range.new) }
 {
-    let middle = range.low + (range.high - range.low) / 2;
-    match judge.by_diagrams(alloc, nets, metric, middle)? {
-        Some(Margin::Over(x)) => raise(alloc, nets, metric, range, x)?,
-        Some(Margin::Within) => lower(range, middle, None),
-        _ => return narrow_without_diagrams(alloc, nets, judge, metric, limit, range, progress),
+    let bound = range.low + (range.high - range.low) / 2;
+    match judge.by_diagrams(alloc, nets, Constraint { bound, ..aim })? {
+        Some(Margin::Over(x)) => raise(alloc, nets, aim.metric, range, x)?,
+        Some(Margin::Within) => lower(range, bound, None),
+        _ => return narrow_without_diagrams(alloc, nets, judge, aim, range, progress),
     }
     Ok(None)
 }

@@ -10,6 +10,7 @@ ghost use Rattle.proof_semantics.specs.Queries.{IsNever};
 ghost use Rattle.worst_case.specs.Exceeds.{IsAnswer};
 
 use crate::comparable::see_comparable;
+use crate::options::FEW_CONFLICTS;
 use crate::query::Exceed;
 use crate::repeated_query::ask_repeatedly;
 use crate::solver_query::ask_solver;
@@ -18,13 +19,9 @@ use miter::level::joint_miter;
 use net_errors::compared::Compared;
 use progress::progress::Progress;
 use proof_parts::log::Log;
+use proof_semantics::constraint::Constraint;
 use semantics::limits::{FEW_INPUTS, MOST_CASE_INPUTS};
-use semantics::metric::Metric;
 use std::alloc::{AllocError, Global};
-
-/// Where the log can go by cases instead, the solver may have half as many conflicts as there are vectors,
-/// and these besides.
-const FEW_CONFLICTS: u64 = 3000;
 
 /// The most conflicts of the solver where the log can go by cases instead.
 fn few_conflicts(inputs: u32) -> u64
@@ -42,64 +39,56 @@ fn is_enough(limit: u64, inputs: u32) -> bool
 }
 
 /// The log by cases.
-fn refute_by_cases(
-    alloc: Global,
-    nets: &Compared,
-    metric: Metric,
-    k: u128,
-) -> Result<Log, AllocError>
+fn refute_by_cases(alloc: Global, nets: &Compared, aim: Constraint) -> Result<Log, AllocError>
     requires few_inputs { input_count nets.now.exact ≤ MOST_CASE_INPUTS }
-    requires within { IsWithin metric nets.now.exact k nets.now.approx }
-    ensures { IfOk result (IsNever metric nets.now.exact nets.now.approx k) }
+    requires within { IsWithin aim.metric nets.now.exact aim.bound nets.now.approx }
+    ensures { IfOk result (IsNever aim.metric nets.now.exact nets.now.approx aim.bound) }
 {
     see_comparable(nets);
-    let miter = joint_miter(alloc, nets, metric, k)?;
+    let miter = joint_miter(alloc, nets, aim.metric, aim.bound)?;
     refute(alloc, &miter.net, &miter.formula)
 }
 
-/// The log of the solver, where few conflicts do, and else the log by cases.
+/// The log of the solver, where a query of few conflicts finds one, and else the log by cases.
 fn refute_by_few_conflicts<P: Progress>(
     alloc: Global,
     nets: &Compared,
-    metric: Metric,
-    k: u128,
-    few: u64,
+    aim: Constraint,
     progress: &mut P,
 ) -> Result<Log, AllocError>
     requires many_inputs { FEW_INPUTS < input_count nets.now.exact }
     requires few_inputs { input_count nets.now.exact ≤ MOST_CASE_INPUTS }
-    requires few { 1 ≤ few }
-    requires within { IsWithin metric nets.now.exact k nets.now.approx }
-    ensures { IfOk result (IsNever metric nets.now.exact nets.now.approx k) }
+    requires limit { 1 ≤ aim.limit }
+    requires within { IsWithin aim.metric nets.now.exact aim.bound nets.now.approx }
+    ensures { IfOk result (IsNever aim.metric nets.now.exact nets.now.approx aim.bound) }
 {
-    match ask_solver(alloc, nets, metric, k, few, progress)? {
+    match ask_solver(alloc, nets, aim, progress)? {
         Exceed::Never(log) => Ok(log),
-        _ => refute_by_cases(alloc, nets, metric, k),
+        _ => refute_by_cases(alloc, nets, aim),
     }
 }
 
-/// A log that refutes that some error exceeds `k`, or the spent query with a log of `limit` conflicts.
+/// A log that refutes that some error exceeds the bound, or the spent query, with as many conflicts as the
+/// limit.
 pub(crate) fn refute_level<P: Progress>(
     alloc: Global,
     nets: &Compared,
-    metric: Metric,
-    k: u128,
-    limit: u64,
+    aim: Constraint,
     progress: &mut P,
 ) -> Result<Exceed, AllocError>
-    requires limit { 1 ≤ limit }
-    requires within { IsWithin metric nets.now.exact k nets.now.approx }
-    ensures { IfOk result (IsAnswer metric nets.now.exact nets.now.approx k limit) }
+    requires limit { 1 ≤ aim.limit }
+    requires within { IsWithin aim.metric nets.now.exact aim.bound nets.now.approx }
+    ensures { IfOk result (IsAnswer aim nets.now.exact nets.now.approx) }
 {
     let inputs = nets.exact().inputs();
-    if inputs > FEW_INPUTS && !is_enough(limit, inputs) {
-        return ask_repeatedly(alloc, nets, metric, k, limit, progress);
+    if inputs > FEW_INPUTS && !is_enough(aim.limit, inputs) {
+        return ask_repeatedly(alloc, nets, aim, progress);
     }
     let log = if inputs > FEW_INPUTS {
-        let few = limit.min(few_conflicts(inputs));
-        refute_by_few_conflicts(alloc, nets, metric, k, few, progress)?
+        let limit = aim.limit.min(few_conflicts(inputs));
+        refute_by_few_conflicts(alloc, nets, Constraint { limit, ..aim }, progress)?
     } else {
-        refute_by_cases(alloc, nets, metric, k)?
+        refute_by_cases(alloc, nets, aim)?
     };
     Ok(Exceed::Never(log))
 }

@@ -9,21 +9,18 @@ ghost use Rattle.proof_semantics.specs.Logs.{IsDerivation};
 ghost use Rattle.cdcl_core.specs.Outcomes.{IsOutcome};
 ghost use Rattle.worst_case.specs.Exceeds.{IsAsked, IsChainOn, IsPosed};
 
+use crate::options::MOST_QUERIES;
 use crate::query::{Exceed, Spent};
-use crate::solver_query::{Question, ask_once, input_bits, pose, told_of_refutation};
+use crate::solver_query::{Question, ask_once, input_bits, kept_refutation, pose};
 use cdcl_core::forgetting::solve_forgetting;
 use cdcl_core::outcome::Outcome;
 use net_core::items::Items;
 use net_errors::compared::Compared;
 use progress::progress::Progress;
 use proof_parts::log::{Item, Log};
+use proof_semantics::constraint::Constraint;
 use semantics::limits::FEW_INPUTS;
-use semantics::metric::Metric;
 use std::alloc::{AllocError, Global};
-
-/// The most queries of one question, the first among them. The last formulas of common blocks that 10,000
-/// conflicts leave open end within a small multiple of 100,000 conflicts.
-const MOST_QUERIES: u32 = 16;
 
 /// Makes further queries behind `derived`, until one of them decides the formula, or there were
 /// `MOST_QUERIES` with the one that came before. Tells `progress` what the solver does.
@@ -31,14 +28,14 @@ fn ask_further<P: Progress>(
     alloc: Global,
     question: &Question,
     derived: Log,
-    limit: u64,
     progress: &mut P,
 ) -> Result<Outcome, AllocError>
-    requires limit { 1 ≤ limit }
+    requires limit { 1 ≤ question.now.aim.limit }
     requires derived { IsDerivation question.now.joint.formula derived }
     ensures { IfOk result (IsOutcome question.now.joint.formula derived) }
 {
     let formula = &question.joint.formula;
+    let limit = question.aim.limit;
     let mut log = derived;
     for _query in 1..MOST_QUERIES {
         progress.asked();
@@ -70,15 +67,13 @@ pub(crate) fn ask_again<P: Progress>(
     nets: &Compared,
     question: &Question,
     spent: Spent,
-    limit: u64,
     progress: &mut P,
 ) -> Result<Exceed, AllocError>
     requires many_inputs { FEW_INPUTS < input_count nets.now.exact }
-    requires limit { 1 ≤ limit }
+    requires limit { 1 ≤ question.now.aim.limit }
     requires posed { IsPosed nets.now.exact nets.now.approx question.now }
-    requires spent { IsChainOn question.now.metric nets.now.exact nets.now.approx question.now.k limit spent }
-    ensures { IfOk result
-        (IsAsked question.now.metric nets.now.exact nets.now.approx question.now.k limit) }
+    requires spent { IsChainOn question.now.aim nets.now.exact nets.now.approx spent }
+    ensures { IfOk result (IsAsked question.now.aim nets.now.exact nets.now.approx) }
 {
     let Spent {
         net,
@@ -87,11 +82,12 @@ pub(crate) fn ask_again<P: Progress>(
         log,
     } = spent;
     let count = log.len();
-    let outcome = ask_further(alloc, question, log, limit, progress)?;
+    let outcome = ask_further(alloc, question, log, progress)?;
     match outcome {
         Outcome::Model(values) => Ok(Exceed::Over(input_bits(alloc, nets.exact(), &values)?)),
         Outcome::Refuted(log) => {
-            told_of_refutation(alloc, nets, question, merged as usize, &log)
+            let kept = kept_refutation(alloc, nets, question, merged as usize, &log)?;
+            Ok(Exceed::Never(kept))
         }
         Outcome::Open(mut log) => {
             let log = take_first(alloc, &mut log, count)?;
@@ -105,24 +101,22 @@ pub(crate) fn ask_again<P: Progress>(
     }
 }
 
-/// An input whose error exceeds `k`, a log that refutes that there is such an input, or a log of `limit`
-/// conflicts behind the merges, where no query of the question decides it.
+/// An input whose error exceeds the bound, a log that refutes that there is such an input, or a log with as
+/// many conflicts as the limit behind the merges, where no query of the question decides it.
 pub(crate) fn ask_repeatedly<P: Progress>(
     alloc: Global,
     nets: &Compared,
-    metric: Metric,
-    k: u128,
-    limit: u64,
+    aim: Constraint,
     progress: &mut P,
 ) -> Result<Exceed, AllocError>
     requires many_inputs { FEW_INPUTS < input_count nets.now.exact }
-    requires limit { 1 ≤ limit }
-    ensures { IfOk result (IsAsked metric nets.now.exact nets.now.approx k limit) }
+    requires limit { 1 ≤ aim.limit }
+    ensures { IfOk result (IsAsked aim nets.now.exact nets.now.approx) }
 {
-    let question = pose(alloc, nets, metric, k)?;
-    let first = ask_once(alloc, nets, &question, limit, progress)?;
+    let question = pose(alloc, nets, aim)?;
+    let first = ask_once(alloc, nets, &question, progress)?;
     match first {
-        Exceed::Spent(spent) => ask_again(alloc, nets, &question, spent, limit, progress),
+        Exceed::Spent(spent) => ask_again(alloc, nets, &question, spent, progress),
         decided => Ok(decided),
     }
 }

@@ -5,6 +5,7 @@ ghost use Rattle.semantics.specs.Net.{input_count};
 ghost use Rattle.quality_semantics.specs.Joint.{joint_net};
 ghost use Rattle.proof_semantics.specs.Logs.{IsDerivation, Refutes};
 ghost use Rattle.proof_semantics.specs.Merges.{IsMergeLog};
+ghost use Rattle.proof_semantics.specs.Queries.{IsNever};
 ghost use Rattle.cdcl_core.specs.declared.answer.Answer.TheVariants.{Model};
 ghost use Rattle.worst_case.specs.Exceeds.{IsAsked, IsPosed, told};
 
@@ -21,17 +22,16 @@ use net_core::net::Net;
 use net_errors::compared::Compared;
 use progress::progress::Progress;
 use proof_parts::log::Log;
+use proof_semantics::constraint::Constraint;
 use semantics::limits::FEW_INPUTS;
-use semantics::metric::Metric;
 use std::alloc::{AllocError, Global};
 use sweep_guide::guide::guide_of;
 
-/// What the queries of a question have in common: the level, the miter, its guide, and the merges of its
+/// What the queries of a question have in common: what is asked, the miter, its guide, and the merges of its
 /// joint net.
 #[derive(Drop)]
 pub struct Question {
-    pub metric: Metric,
-    pub k: u128,
+    pub aim: Constraint,
     pub joint: Miter,
     pub guide: Guide,
     pub merged: Log,
@@ -45,24 +45,17 @@ pub(crate) fn input_bits(alloc: Global, net: &Net, values: &Bits) -> Result<Bits
     Bits::from_slice(alloc, &values.as_slice()[..net.inputs() as usize])
 }
 
-/// The question whether some error exceeds `k`.
-pub(crate) fn pose(
-    alloc: Global,
-    nets: &Compared,
-    metric: Metric,
-    k: u128,
-) -> Result<Question, AllocError>
+/// The question whether some error exceeds the bound.
+pub(crate) fn pose(alloc: Global, nets: &Compared, aim: Constraint) -> Result<Question, AllocError>
     ensures posed { IfOk result (IsPosed nets.now.exact nets.now.approx) }
-    ensures metric { IfOk result (λ question. question.metric ≡ metric) }
-    ensures level { IfOk result (λ question. question.k ≡ k) }
+    ensures aim { IfOk result (λ question. question.aim ≡ aim) }
 {
     see_comparable(nets);
-    let joint = joint_miter(alloc, nets, metric, k)?;
+    let joint = joint_miter(alloc, nets, aim.metric, aim.bound)?;
     let merged = merges(alloc, &joint.net, &joint.formula)?;
     let guide = guide_of(alloc, &joint.net, true)?;
     Ok(Question {
-        metric,
-        k,
+        aim,
         joint,
         guide,
         merged,
@@ -92,44 +85,44 @@ fn told_of_nets(
     }
 }
 
-/// What a log that refutes the question's miter says of the two nets. Of the log are kept its first `first`
-/// additions, the merges, and what the empty clause follows from.
-pub(crate) fn told_of_refutation(
+/// What is kept of a log that refutes the question's miter: its first `first` additions, the merges, and what
+/// the empty clause follows from.
+pub(crate) fn kept_refutation(
     alloc: Global,
     nets: &Compared,
     question: &Question,
     first: usize,
     log: &Log,
-) -> Result<Exceed, AllocError>
+) -> Result<Log, AllocError>
     requires posed { IsPosed nets.now.exact nets.now.approx question.now }
     requires first { first ≤ length log.now }
     requires merged { IsMergeLog
-        (joint_net nets.now.exact nets.now.approx question.now.metric question.now.k) (take first log.now) }
+        (joint_net nets.now.exact nets.now.approx question.now.aim.metric question.now.aim.bound)
+        (take first log.now) }
     requires derivation { IsDerivation question.now.joint.formula log.now }
     requires refutes { Refutes question.now.joint.formula.clauses log.now }
-    ensures { IfOk result (λ exceed. (limit : ℕ)
-        → IsAsked question.now.metric nets.now.exact nets.now.approx question.now.k limit exceed) }
+    ensures { IfOk result
+        (IsNever question.now.aim.metric nets.now.exact nets.now.approx question.now.aim.bound) }
 {
-    let short = needed(alloc, &question.joint.formula, first, log)?;
-    Ok(Exceed::Never(short))
+    needed(alloc, &question.joint.formula, first, log)
 }
 
-/// One query of the question: an input whose error exceeds the level, a log that refutes that there is such
-/// an input, or a log of `limit` conflicts behind the merges. Tells `progress` what the solver does.
+/// One query of the question: an input whose error exceeds the bound, a log that refutes that there is such
+/// an input, or a log with as many conflicts as the limit behind the merges. Tells `progress` what the solver
+/// does.
 pub(crate) fn ask_once<P: Progress>(
     alloc: Global,
     nets: &Compared,
     question: &Question,
-    limit: u64,
     progress: &mut P,
 ) -> Result<Exceed, AllocError>
     requires many_inputs { FEW_INPUTS < input_count nets.now.exact }
-    requires limit { 1 ≤ limit }
+    requires limit { 1 ≤ question.now.aim.limit }
     requires posed { IsPosed nets.now.exact nets.now.approx question.now }
-    ensures { IfOk result
-        (IsAsked question.now.metric nets.now.exact nets.now.approx question.now.k limit) }
+    ensures { IfOk result (IsAsked question.now.aim nets.now.exact nets.now.approx) }
 {
     let merged = question.merged.len();
+    let aim = question.aim;
     progress.asked();
     let formula = &question.joint.formula;
     let answer = solve_guided(
@@ -137,28 +130,29 @@ pub(crate) fn ask_once<P: Progress>(
         formula,
         &question.merged,
         &question.guide,
-        limit,
+        aim.limit,
         progress,
     )?;
     match answer {
-        Answer::Refuted(log) => told_of_refutation(alloc, nets, question, merged, &log),
-        other => told_of_nets(alloc, nets, question.k, merged as u64, other),
+        Answer::Refuted(log) => {
+            let kept = kept_refutation(alloc, nets, question, merged, &log)?;
+            Ok(Exceed::Never(kept))
+        }
+        other => told_of_nets(alloc, nets, aim.bound, merged as u64, other),
     }
 }
 
-/// Poses the question whether some error exceeds `k`, and makes one query of it, as [`ask_once`] does.
+/// Poses the question whether some error exceeds the bound, and makes one query of it, as [`ask_once`] does.
 pub(crate) fn ask_solver<P: Progress>(
     alloc: Global,
     nets: &Compared,
-    metric: Metric,
-    k: u128,
-    limit: u64,
+    aim: Constraint,
     progress: &mut P,
 ) -> Result<Exceed, AllocError>
     requires many_inputs { FEW_INPUTS < input_count nets.now.exact }
-    requires limit { 1 ≤ limit }
-    ensures { IfOk result (IsAsked metric nets.now.exact nets.now.approx k limit) }
+    requires limit { 1 ≤ aim.limit }
+    ensures { IfOk result (IsAsked aim nets.now.exact nets.now.approx) }
 {
-    let question = pose(alloc, nets, metric, k)?;
-    ask_once(alloc, nets, &question, limit, progress)
+    let question = pose(alloc, nets, aim)?;
+    ask_once(alloc, nets, &question, progress)
 }

@@ -6,23 +6,17 @@ ghost use Rattle.semantics.specs.Error.{net_error};
 ghost use Rattle.worst_case.specs.VectorsTried.{IsTrial, IsTried, IsFirstGreatestIn};
 ghost use Rattle.worst_case.specs.VectorsTried.{IsHeldFor, IsEveryVectorHeldUpTo};
 
+use crate::options::{LANE_INPUTS, TRIALS};
 use bdd_core::chance::chance;
 use lane_bits::patterns::{MOST_COUNTED_INPUTS, Patterns};
 use lane_nets::reference::Reference;
 use net_core::items::Bits;
 use net_core::net::Net;
 use net_errors::compared::Compared;
+use proof_semantics::constraint::Constraint;
 use semantics::limits::MOST_INPUTS;
 use semantics::metric::Metric;
 use std::alloc::{AllocError, Global};
-
-/// The most inputs with which every vector is held from the beginning.
-pub const LANE_INPUTS: u32 = 16;
-
-/// The number of vectors that are tried of a net with more inputs: sixteen blocks of 512, which together take
-/// less time than one question to diagrams. With an eighth of these vectors, four times as many questions of
-/// a Sobel filter found a vector, and each of these questions cost as much as four others.
-const TRIALS: u32 = 8192;
 
 /// An error, and an input vector that has it.
 #[derive(Drop)]
@@ -127,19 +121,18 @@ pub(crate) fn greatest_of(
     })
 }
 
-/// The first of the vectors that are held whose error exceeds `k`.
+/// The first of the vectors that are held whose error exceeds the bound.
 pub(crate) fn try_vectors(
     alloc: Global,
     nets: &Compared,
     held: &Reference,
-    metric: Metric,
-    k: u128,
+    aim: Constraint,
 ) -> Result<Option<Bits>, AllocError>
     requires exact { held.now.exact ≡ nets.now.exact }
     requires inputs { held.now.patterns.inputs ≡ input_count nets.now.exact }
-    ensures { IfOk result (IsTried metric nets.now.exact nets.now.approx held.now.patterns.vectors k) }
+    ensures { IfOk result (IsTried aim nets.now.exact nets.now.approx held.now.patterns.vectors) }
 {
-    match held.first_over(alloc, nets.approx(), metric, k)? {
+    match held.first_over(alloc, nets.approx(), aim.metric, aim.bound)? {
         Some(at) => Ok(Some(vector_at(alloc, held.patterns(), at)?)),
         None => Ok(None),
     }

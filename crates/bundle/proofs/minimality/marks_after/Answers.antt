@@ -5,7 +5,7 @@ use Rattle.std.proofs.lemmas.List.{length_push}
 use Rattle.chain_semantics.specs.declared.moves.Move.{Move}
 use Rattle.chain_semantics.specs.Moves.{moves_of}
 use Rattle.chain_semantics.specs.Minimality.{IsBrokenBySome}
-use Rattle.adc_core.specs.Growing.{GrowingValue}
+use Rattle.care_masks.specs.Growing.{GrowingValue}
 use Rattle.bundle.specs.Shown.{asked_moves, IsBroken}
 use Rattle.bundle.proofs.Marks.{AreMarkedSoFar, claimed_move, marked_first, marked_member, marked_next, marked_whole}
 use Rattle.bundle.proofs.minimality.marks_after.Goals as goal

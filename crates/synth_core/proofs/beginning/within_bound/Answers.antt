@@ -9,5 +9,5 @@ returns g c =
     let nets = c.args.nets.now in
     let count = c.inputs.ensures.value ∙ ap input_count c.exact.ensures.value in
     IfOk-weaker c.within_level.result _ _
-    (λ m answer. bound_answer c.args.metric nets.exact nets.approx c.args.bound c.args.limit m (omega (arith, count, c.if-inputs-le-FEW_INPUTS.false)) answer)
+    (λ m answer. bound_answer c.args.aim nets.exact nets.approx m (omega (arith, count, c.if-inputs-le-FEW_INPUTS.false)) answer)
     c.within_level.ensures.answer

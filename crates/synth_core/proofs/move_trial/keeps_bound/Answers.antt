@@ -19,10 +19,10 @@ within_level-requires-clause-judge g c = c.requires.judge ∙ sym (ap (λ P. P.e
 pub returns-clause-judged : goal.returns-clause-judged
 returns-clause-judged g c =
     let exact = c.args.nets.now.exact in
+    let aim = c.args.tester.now.aim in
     let count = c.inputs.ensures.value ∙ ap input_count c.exact.ensures.value in
     IfOk-weaker c.within_level.result _ _
     (λ m answer.
-    judged-by c.args.terms.metric exact c.args.terms.bound c.args.terms.limit c.args.moved.now m (omega (arith, count, c.if-inputs-le-FEW_INPUTS.false))
-    (subst (λ E. IsLevelAnswer c.args.terms.metric E c.args.moved.now c.args.terms.bound c.args.terms.limit m) c.exact-2.ensures.value
-    (subst (λ P. IsLevelAnswer c.args.terms.metric P.exact P.approx c.args.terms.bound c.args.terms.limit m) c.new-moved_nets.ensures answer)))
+    judged-by aim exact c.args.moved.now m (omega (arith, count, c.if-inputs-le-FEW_INPUTS.false))
+    (subst (λ E. IsLevelAnswer aim E c.args.moved.now m) c.exact-2.ensures.value (subst (λ P. IsLevelAnswer aim P.exact P.approx m) c.new-moved_nets.ensures answer)))
     c.within_level.ensures.answer

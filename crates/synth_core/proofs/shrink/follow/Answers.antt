@@ -1,27 +1,25 @@
-use Rattle.synth_core.proofs.Shrinkings.{still_ready}
+use Rattle.std.proofs.Common.{refl, subst, ap, sym, ◌∙◌}
 use Rattle.synth_core.proofs.shrink.follow.Goals as goal
 
 pub loop-next-init : goal.loop-next-init
-loop-next-init g c = record { ready = c.requires.ready; member = c.requires.member; pool = c.requires.pool }
+loop-next-init g c = record { same = refl; member = c.requires.member; pool = c.requires.pool }
 
-pub take_turn-requires-clause-ready : goal.take_turn-requires-clause-ready
-take_turn-requires-clause-ready g c = c.loop-next.invariant.ready
-
-pub take_turn-requires-clause-member : goal.take_turn-requires-clause-member
-take_turn-requires-clause-member g c = c.loop-next.invariant.member
-
-pub take_turn-requires-clause-pool : goal.take_turn-requires-clause-pool
-take_turn-requires-clause-pool g c = c.loop-next.invariant.pool
+pub take_turn-requires : goal.take_turn-requires
+take_turn-requires g c = rw c.loop-next.invariant.same (record {
+  ready = c.requires.ready;
+  limit = c.requires.limit;
+  member = c.loop-next.invariant.member;
+  pool = c.loop-next.invariant.pool;
+})
 
 pub loop-next-smaller : goal.loop-next-smaller
 loop-next-smaller g c = let turned = rw c.in-Next.is at c.in_ok-next.ensures.turn in turned.fewer
 
 pub loop-next-preserved : goal.loop-next-preserved
 loop-next-preserved g c =
-    let nets = c.args.nets.now in
     let turned = rw c.in-Next.is at c.in_ok-next.ensures.turn in
     record {
-      ready = still_ready c.args.terms.metric nets.exact c.args.terms.bound nets.approx c.loop-next.judge c.take_turn.new.judge c.take_turn.ensures.same c.loop-next.invariant.ready;
+      same = c.take_turn.ensures.same ∙ ap (λ t. record t { pool = c.take_turn.new.tester.pool }) c.loop-next.invariant.same;
       member = turned.member;
       pool = c.in_ok-next.ensures.pool;
     }

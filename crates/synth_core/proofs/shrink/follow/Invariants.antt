@@ -1,15 +1,16 @@
+use Rattle.std.proofs.Common.{◌≡◌}
 use Rattle.semantics.specs.Net.{literal_count}
 use Rattle.chain_semantics.specs.Simplification.{IsInSimplificationFrom}
-use Rattle.synth_core.specs.Steps.{IsPool}
+use Rattle.synth_core.specs.AllowedMoves.{IsPool}
 use Rattle.synth_core.specs.Turns.{IsReadyFor}
 use Rattle.synth_core.proofs.shrink.follow.Given as goal
 
 -- the net is a member of the chain
 abbrev pub invariant-loop-next : goal.invariant-loop-next
 invariant-loop-next g l = record {
-  ready : IsReadyFor l.terms.metric l.nets.exact l.terms.bound l.nets.approx l.judge;
-  member : IsInSimplificationFrom l.terms.metric l.nets.exact l.terms.bound l.nets.approx l.member;
-  pool : IsPool l.nets.exact l.pool;
+  same : l.tester ≡ record l.fn.tester { pool = l.tester.pool };
+  member : IsInSimplificationFrom l.fn.tester.aim.metric l.nets.exact l.fn.tester.aim.bound l.nets.approx l.member;
+  pool : IsPool l.nets.exact l.tester.pool;
 }
 
 -- each turn removes literals

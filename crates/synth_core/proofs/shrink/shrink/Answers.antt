@@ -8,4 +8,4 @@ new-nets-requires c = record { ports = record { inputs = refl; outputs = refl };
 
 pub shrink_from-requires-clause-within : goal.shrink_from-requires-clause-within
 shrink_from-requires-clause-within c =
-    subst (λ P. IsWithin c.args.metric P.exact c.args.bound P.approx) (sym c.new-nets.ensures) (IsWithin-same c.args.metric c.args.net.now c.args.bound)
+    subst (λ P. IsWithin c.args.aim.metric P.exact c.args.aim.bound P.approx) (sym c.new-nets.ensures) (IsWithin-same c.args.aim.metric c.args.net.now c.args.aim.bound)

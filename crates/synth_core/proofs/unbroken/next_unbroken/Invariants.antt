@@ -1,14 +1,14 @@
 use Rattle.std.proofs.Common.{◌≡◌, ◌≤◌, length}
-use Rattle.synth_core.specs.Steps.{IsSearched}
+use Rattle.synth_core.specs.AllowedMoves.{IsSearched}
 use Rattle.synth_core.proofs.unbroken.next_unbroken.Given as goal
 
 -- some vector breaks each move so far
-abbrev pub invariant-loop-step : goal.invariant-loop-step
-invariant-loop-step g l = record {
+abbrev pub invariant-loop-candidate : goal.invariant-loop-candidate
+invariant-loop-candidate g l = record {
   masks : l.masks ≡ l.fn.masks;
   fewer : length l.moves ≤ length l.fn.moves;
-  searched : IsSearched l.fn.masks.metric l.fn.masks.exact l.fn.masks.bound l.fn.masks.net l.fn.masks.vectors l.moves;
+  searched : IsSearched l.fn.masks l.moves;
 }
 
-abbrev pub decreases-loop-step : goal.decreases-loop-step
-decreases-loop-step g l = length l.moves
+abbrev pub decreases-loop-candidate : goal.decreases-loop-candidate
+decreases-loop-candidate g l = length l.moves

@@ -9,5 +9,5 @@ pub returns-in_ok-last-in-None-clause-answer : goal.returns-in_ok-last-in-None-c
 returns-in_ok-last-in-None-clause-answer g c =
     let nets = c.args.nets.now in
     let q = c.args.question.now in
-    level_told q.metric q.metric nets.exact nets.approx q.k q.k c.args.limit c.in_ok-last-in-None.last c.margin_of.result c.margin_of.ensures refl refl c.requires.many_inputs
+    level_told q.aim q.aim nets.exact nets.approx c.in_ok-last-in-None.last c.margin_of.result c.margin_of.ensures refl c.requires.many_inputs
     c.in_ok-last-in-None.ensures

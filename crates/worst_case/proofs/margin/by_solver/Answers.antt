@@ -5,7 +5,7 @@ use Rattle.worst_case.proofs.Decided.{level_told, level_at}
 use Rattle.worst_case.proofs.margin.by_solver.Goals as goal
 
 pub ask_once-requires : goal.ask_once-requires
-ask_once-requires g c = record { many_inputs = omega (arith, c.requires.many_inputs); limit = c.requires.limit; posed = c.in_ok-question.ensures.posed }
+ask_once-requires g c = record { many_inputs = omega (arith, c.requires.many_inputs); limit = rw c.in_ok-question.ensures.aim c.requires.limit; posed = c.in_ok-question.ensures.posed }
 
 pub by_last_steps-requires : goal.by_last_steps-requires
 by_last_steps-requires g c =
@@ -14,9 +14,9 @@ by_last_steps-requires g c =
     record {
       many_inputs = c.requires.many_inputs;
       decider = c.requires.decider;
-      limit = c.requires.limit;
+      limit = rw c.in_ok-question.ensures.aim c.requires.limit;
       posed = c.in_ok-question.ensures.posed;
-      spent = subst (IsAsked q.metric nets.exact nets.approx q.k c.args.limit) c.in-Spent.is c.in_ok-first.ensures;
+      spent = subst (IsAsked q.aim nets.exact nets.approx) c.in-Spent.is c.in_ok-first.ensures;
     }
 
 pub returns-in-Spent-clause-answer : goal.returns-in-Spent-clause-answer
@@ -24,12 +24,11 @@ returns-in-Spent-clause-answer g c =
     let nets = c.args.nets.now in
     let q = c.in_ok-question.question in
     IfOk-weaker c.by_last_steps.result _ _
-    (λ margin h. level_at c.args.metric q.metric nets.exact nets.approx c.args.k q.k c.args.limit margin c.in_ok-question.ensures.metric c.in_ok-question.ensures.level h)
+    (λ margin h. level_at c.args.aim q.aim nets.exact nets.approx margin c.in_ok-question.ensures.aim h)
     c.by_last_steps.ensures.answer
 
 pub returns-clause-answer : goal.returns-clause-answer
 returns-clause-answer g c =
     let nets = c.args.nets.now in
     let q = c.in_ok-question.question in
-    level_told c.args.metric q.metric nets.exact nets.approx c.args.k q.k c.args.limit c.in_ok-first.first c.margin_of.result c.margin_of.ensures c.in_ok-question.ensures.metric
-    c.in_ok-question.ensures.level c.requires.many_inputs c.in_ok-first.ensures
+    level_told c.args.aim q.aim nets.exact nets.approx c.in_ok-first.first c.margin_of.result c.margin_of.ensures c.in_ok-question.ensures.aim c.requires.many_inputs c.in_ok-first.ensures

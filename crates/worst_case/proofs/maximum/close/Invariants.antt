@@ -1,10 +1,10 @@
-use Rattle.std.proofs.Common.{◌≡◌, ◌-◌, ℕ}
+use Rattle.std.proofs.Common.{◌≡◌, ◌-◌}
 use Rattle.worst_case.specs.Maximum.{IsRange}
 use Rattle.worst_case.proofs.maximum.close.Given as goal
 
 abbrev pub invariant-loop-range : goal.invariant-loop-range
 invariant-loop-range g l = record {
-  range : (bound : ℕ) → IsRange l.metric l.nets.exact l.nets.approx bound l.initial.range → IsRange l.metric l.nets.exact l.nets.approx bound l.range;
+  range : IsRange l.aim l.nets.exact l.nets.approx l.range;
   judge : l.judge ≡ l.nets.exact;
 }
 

@@ -8,12 +8,12 @@ new-requires g c = subst IsSmall (sym c.exact.ensures.value) c.requires.small
 pub first_range-requires : goal.first_range-requires
 first_range-requires g c = record { judge = c.in_ok-judge.ensures ∙ c.exact.ensures.value; within = c.requires.within }
 
-pub close_known-requires : goal.close_known-requires
-close_known-requires g c = record {
-  judge = c.in_ok-judge.ensures ∙ c.exact.ensures.value;
-  limit = c.requires.limit;
-  range = (c.args.bound, c.in_ok-range.ensures);
-}
+pub try_known-requires : goal.try_known-requires
+try_known-requires g c = record { judge = c.in_ok-judge.ensures ∙ c.exact.ensures.value }
 
-pub returns : goal.returns
-returns g c = c.in_ok-spent.ensures c.args.bound c.in_ok-range.ensures
+pub close-requires : goal.close-requires
+close-requires g c = record {
+  judge = c.try_known.ensures.same ∙ c.in_ok-judge.ensures ∙ c.exact.ensures.value;
+  limit = c.requires.limit;
+  range = c.in_ok-try_known.ensures.range c.in_ok-range.ensures;
+}

@@ -11,10 +11,10 @@ returns c =
     let tried = c.known.result.now.patterns in
     let best = c.in_ok-best.ensures in
     let count = c.inputs.ensures.value ∙ ap input_count c.exact.ensures.value in
-    IsRange-first c.args.metric nets.exact nets.approx c.args.bound c.if-inputs-le-LANE_INPUTS.high c.in_ok-best.best.error c.in_ok-best.best.witness
+    IsRange-first c.args.aim nets.exact nets.approx c.if-inputs-le-LANE_INPUTS.high c.in_ok-best.best.error c.in_ok-best.best.witness
     tried c.exact.ensures.candidate c.requires.within (subst (λ N. IsTrial (input_count N) tried) c.requires.judge c.known.ensures.trial) best.greatest best.width
     (elim c.if-inputs-le-LANE_INPUTS.branch [
       | then-inputs-le-LANE_INPUTS w ↦ inl (omega (arith, w.if-inputs-le-LANE_INPUTS.true, count), w.high-is)
-      | else-inputs-le-LANE_INPUTS w ↦ let low = smaller c.args.bound c.if-inputs-le-LANE_INPUTS.high (w.high-is ∙ w.min-high.ensures) in
+      | else-inputs-le-LANE_INPUTS w ↦ let low = smaller c.args.aim.bound c.if-inputs-le-LANE_INPUTS.high (w.high-is ∙ w.min-high.ensures) in
           inr (omega (arith, w.if-inputs-le-LANE_INPUTS.false, count), low.0, low.1, low.2)
     ])

@@ -12,7 +12,7 @@ ask_further-requires g c =
     let q = c.args.question.now in
     record {
       limit = c.requires.limit;
-      derived = chain_derives q.metric nets.exact nets.approx q.k c.args.limit c.args.spent c.requires.spent q.joint.formula c.requires.posed.formula;
+      derived = chain_derives q.aim nets.exact nets.approx c.args.spent c.requires.spent q.joint.formula c.requires.posed.formula;
     }
 
 pub input_bits-requires : goal.input_bits-requires
@@ -20,7 +20,7 @@ input_bits-requires g c =
     let nets = c.args.nets.now in
     let q = c.args.question.now in
     subst (λ N. input_count N ≤ length c.in-Model.values) (sym c.exact.ensures.value)
-    (model_wide q.metric nets.exact nets.approx q.k c.requires.posed.comparable q.joint.formula c.in-Model.values c.requires.posed.formula
+    (model_wide q.aim.metric nets.exact nets.approx q.aim.bound c.requires.posed.comparable q.joint.formula c.in-Model.values c.requires.posed.formula
     (subst (IsOutcome q.joint.formula c.args.spent.log) c.in-Model.is c.in_ok-outcome.ensures))
 
 pub take_first-requires : goal.take_first-requires
@@ -33,19 +33,19 @@ pub returns-in_ok-input_bits-in-Model : goal.returns-in_ok-input_bits-in-Model
 returns-in_ok-input_bits-in-Model g c =
     let nets = c.args.nets.now in
     let q = c.args.question.now in
-    subst (IsOver q.metric nets.exact nets.approx q.k) (sym (c.in_ok-input_bits-in-Model.ensures ∙ ap (λ N. take (input_count N) c.in-Model.values) c.exact.ensures.value))
-    (IsOver-from_model q.metric nets.exact nets.approx q.k c.requires.posed.comparable c.requires.many_inputs q.joint.formula c.in-Model.values c.requires.posed.formula
+    subst (IsOver q.aim.metric nets.exact nets.approx q.aim.bound) (sym (c.in_ok-input_bits-in-Model.ensures ∙ ap (λ N. take (input_count N) c.in-Model.values) c.exact.ensures.value))
+    (IsOver-from_model q.aim.metric nets.exact nets.approx q.aim.bound c.requires.posed.comparable c.requires.many_inputs q.joint.formula c.in-Model.values c.requires.posed.formula
     (subst (IsOutcome q.joint.formula c.args.spent.log) c.in-Model.is c.in_ok-outcome.ensures))
 
-pub told_of_refutation-requires : goal.told_of_refutation-requires
-told_of_refutation-requires g c =
+pub kept_refutation-requires : goal.kept_refutation-requires
+kept_refutation-requires g c =
     let nets = c.args.nets.now in
     let q = c.args.question.now in
     let found = subst (IsOutcome q.joint.formula c.args.spent.log) c.in-Refuted.is c.in_ok-outcome.ensures in
     record {
       posed = c.requires.posed;
-      first = chain_counted q.metric nets.exact nets.approx q.k c.args.limit c.args.spent c.requires.spent c.in-Refuted.log found.begins;
-      merged = chain_merges q.metric nets.exact nets.approx q.k c.args.limit c.args.spent c.requires.spent c.in-Refuted.log found.begins;
+      first = chain_counted q.aim nets.exact nets.approx c.args.spent c.requires.spent c.in-Refuted.log found.begins;
+      merged = chain_merges q.aim nets.exact nets.approx c.args.spent c.requires.spent c.in-Refuted.log found.begins;
       derivation = found.derivation;
       refutes = found.refutes;
     }
@@ -54,6 +54,6 @@ pub returns-in_ok-log-in-Open : goal.returns-in_ok-log-in-Open
 returns-in_ok-log-in-Open g c =
     let nets = c.args.nets.now in
     let q = c.args.question.now in
-    chain_back q.metric nets.exact nets.approx q.k c.args.limit c.args.spent c.requires.spent q.joint.formula c.in-Open.log
+    chain_back q.aim nets.exact nets.approx c.args.spent c.requires.spent q.joint.formula c.in-Open.log
     (subst (IsOutcome q.joint.formula c.args.spent.log) c.in-Open.is c.in_ok-outcome.ensures) c.in_ok-log-in-Open.log
     (c.in_ok-log-in-Open.ensures ∙ ap (λ n. take n c.in-Open.log) c.len-count.ensures)

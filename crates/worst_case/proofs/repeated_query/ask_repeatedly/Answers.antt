@@ -5,7 +5,7 @@ use Rattle.worst_case.proofs.Queries.{asked_at}
 use Rattle.worst_case.proofs.repeated_query.ask_repeatedly.Goals as goal
 
 pub ask_once-requires : goal.ask_once-requires
-ask_once-requires g c = record { many_inputs = c.requires.many_inputs; limit = c.requires.limit; posed = c.in_ok-question.ensures.posed }
+ask_once-requires g c = record { many_inputs = c.requires.many_inputs; limit = rw c.in_ok-question.ensures.aim c.requires.limit; posed = c.in_ok-question.ensures.posed }
 
 pub ask_again-requires : goal.ask_again-requires
 ask_again-requires g c =
@@ -13,9 +13,9 @@ ask_again-requires g c =
     let q = c.in_ok-question.question in
     record {
       many_inputs = c.requires.many_inputs;
-      limit = c.requires.limit;
+      limit = rw c.in_ok-question.ensures.aim c.requires.limit;
       posed = c.in_ok-question.ensures.posed;
-      spent = subst (IsAsked q.metric nets.exact nets.approx q.k c.args.limit) c.in-Spent.is c.in_ok-first.ensures;
+      spent = subst (IsAsked q.aim nets.exact nets.approx) c.in-Spent.is c.in_ok-first.ensures;
     }
 
 pub returns-in-Spent : goal.returns-in-Spent
@@ -23,11 +23,11 @@ returns-in-Spent g c =
     let nets = c.args.nets.now in
     let q = c.in_ok-question.question in
     IfOk-weaker c.ask_again.result _ _
-    (λ exceed h. asked_at c.args.metric q.metric nets.exact nets.approx c.args.k q.k c.args.limit exceed c.in_ok-question.ensures.metric c.in_ok-question.ensures.level h)
+    (λ exceed h. asked_at c.args.aim q.aim nets.exact nets.approx exceed c.in_ok-question.ensures.aim h)
     c.ask_again.ensures
 
 pub returns : goal.returns
 returns g c =
     let nets = c.args.nets.now in
     let q = c.in_ok-question.question in
-    asked_at c.args.metric q.metric nets.exact nets.approx c.args.k q.k c.args.limit c.in_ok-first.first c.in_ok-question.ensures.metric c.in_ok-question.ensures.level c.in_ok-first.ensures
+    asked_at c.args.aim q.aim nets.exact nets.approx c.in_ok-first.first c.in_ok-question.ensures.aim c.in_ok-first.ensures

@@ -19,15 +19,15 @@ pub told_of_nets-requires : goal.told_of_nets-requires
 told_of_nets-requires g c = λ bits is.
     let nets = c.args.nets.now in
     let q = c.args.question.now in
-    model_wide q.metric nets.exact nets.approx q.k c.requires.posed.comparable q.joint.formula bits c.requires.posed.formula
-    (subst (IsAnswer q.joint.formula q.merged c.args.limit) is c.in_ok-answer.ensures)
+    model_wide q.aim.metric nets.exact nets.approx q.aim.bound c.requires.posed.comparable q.joint.formula bits c.requires.posed.formula
+    (subst (IsAnswer q.joint.formula q.merged q.aim.limit) is c.in_ok-answer.ensures)
 
-pub told_of_refutation-requires : goal.told_of_refutation-requires
-told_of_refutation-requires g c =
+pub kept_refutation-requires : goal.kept_refutation-requires
+kept_refutation-requires g c =
     let nets = c.args.nets.now in
     let q = c.args.question.now in
-    let J = joint_net nets.exact nets.approx q.metric q.k in
-    let found = subst (IsAnswer q.joint.formula q.merged c.args.limit) c.in-Refuted.is c.in_ok-answer.ensures in
+    let J = joint_net nets.exact nets.approx q.aim.metric q.aim.bound in
+    let found = subst (IsAnswer q.joint.formula q.merged q.aim.limit) c.in-Refuted.is c.in_ok-answer.ensures in
     record {
       posed = c.requires.posed;
       first = subst (λ n. n ≤ length c.in-Refuted.log) (sym c.len-merged.ensures) (no_longer q.merged c.in-Refuted.log found.begins);
@@ -40,10 +40,10 @@ pub returns-in_default : goal.returns-in_default
 returns-in_default g c =
     let nets = c.args.nets.now in
     let q = c.args.question.now in
-    let answered = IsAsked q.metric nets.exact nets.approx q.k c.args.limit in
-    let behind = λ (n : ℕ). told nets.exact nets.approx q.k n c.in_ok-answer.answer in
+    let answered = IsAsked q.aim nets.exact nets.approx in
+    let behind = λ (n : ℕ). told nets.exact nets.approx q.aim.bound n c.in_ok-answer.answer in
     IfOk-weaker c.told_of_nets.result (λ exceed. exceed ≡ behind c.len-merged.result) answered
     (λ exceed is. subst answered (sym (is ∙ ap behind c.len-merged.ensures))
-    (asked_of q.metric nets.exact nets.approx q.k c.requires.posed.comparable c.requires.many_inputs c.args.limit q.joint.formula c.requires.posed.formula
+    (asked_of q.aim nets.exact nets.approx c.requires.posed.comparable c.requires.many_inputs q.joint.formula c.requires.posed.formula
     q.merged c.requires.posed.merged c.in_ok-answer.answer c.in_ok-answer.ensures))
     c.told_of_nets.ensures

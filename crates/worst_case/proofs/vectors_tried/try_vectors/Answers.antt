@@ -10,8 +10,8 @@ pub returns-in_ok-vector_at-in-Some : goal.returns-in_ok-vector_at-in-Some
 returns-in_ok-vector_at-in-Some c =
     let nets = c.args.nets.now in
     let held = c.args.held.now in
-    let found = rw c.in-Some.is at (found_held c.args.metric nets.exact nets.approx c.approx.result.now c.args.k held _ c.requires.exact c.approx.ensures.value c.in_ok-at.ensures) in
-    IsFirstExceeded-at c.args.metric nets.exact nets.approx c.args.k held.patterns.vectors c.in-Some.at c.in_ok-vector_at-in-Some.field-0 found
+    let found = rw c.in-Some.is at (found_held c.args.aim.metric nets.exact nets.approx c.approx.result.now c.args.aim.bound held _ c.requires.exact c.approx.ensures.value c.in_ok-at.ensures) in
+    IsFirstExceeded-at c.args.aim nets.exact nets.approx held.patterns.vectors c.in-Some.at c.in_ok-vector_at-in-Some.field-0 found
     (c.in_ok-vector_at-in-Some.ensures.is ∙ ap (λ (s : PatternSet). slice_index_or s.vectors c.in-Some.at []) c.patterns.ensures)
     (c.in_ok-vector_at-in-Some.ensures.width ∙ ap (λ (s : PatternSet). s.inputs) c.patterns.ensures ∙ c.requires.inputs)
 
@@ -19,5 +19,5 @@ pub returns-in-None : goal.returns-in-None
 returns-in-None c = λ all.
     let nets = c.args.nets.now in
     let held = c.args.held.now in
-    let none = rw c.in-None.is at (found_held c.args.metric nets.exact nets.approx c.approx.result.now c.args.k held _ c.requires.exact c.approx.ensures.value c.in_ok-at.ensures) in
-    IsWithin-all c.args.metric nets.exact nets.approx c.args.k held.patterns.vectors all none
+    let none = rw c.in-None.is at (found_held c.args.aim.metric nets.exact nets.approx c.approx.result.now c.args.aim.bound held _ c.requires.exact c.approx.ensures.value c.in_ok-at.ensures) in
+    IsWithin-all c.args.aim nets.exact nets.approx held.patterns.vectors all none

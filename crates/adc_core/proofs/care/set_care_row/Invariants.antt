@@ -1,6 +1,0 @@
-use Rattle.chain_semantics.specs.Care.{IsCaredFor}
-use Rattle.adc_core.proofs.CareBits.{HoldWordsWhere}
-use Rattle.adc_core.proofs.care.set_care_row.Given as goal
-
-abbrev pub invariant-loop-k : goal.invariant-loop-k
-invariant-loop-k l = HoldWordsWhere l.net l.limit.count l.limit.outputs l.blocks (λ exact. IsCaredFor l.limit.metric exact l.limit.level l.net l.t) l.row l.k

@@ -1,6 +1,0 @@
-use Rattle.chain_semantics.specs.Care.{Exceeds}
-use Rattle.adc_core.proofs.CareBits.{HoldWordsWhere}
-use Rattle.adc_core.proofs.care.set_exceeding_row.Given as goal
-
-abbrev pub invariant-loop-k : goal.invariant-loop-k
-invariant-loop-k l = HoldWordsWhere l.net l.limit.count l.limit.outputs l.blocks (λ exact. Exceeds l.limit.metric exact l.limit.level l.net) l.row l.k

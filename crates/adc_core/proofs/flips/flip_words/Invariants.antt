@@ -1,9 +1,0 @@
-use Rattle.std.proofs.Common.{ℕ, ◌<◌, get_or, take}
-use Rattle.semantics.specs.Net.{signal_count}
-use Rattle.adc_core.specs.Flips.{IsSettled}
-use Rattle.adc_core.proofs.Flipping.{IsFlippedFrom}
-use Rattle.adc_core.proofs.flips.flip_words.Given as goal
-
-abbrev pub invariant-loop-i : goal.invariant-loop-i
-invariant-loop-i l =
-    (s : ℕ) → s < signal_count l.net → IsSettled l.net l.t (take l.i-index l.later) s → IsFlippedFrom l.net l.t l.fn.words s (get_or l.words s 0)

@@ -1,6 +1,0 @@
-use Rattle.std.proofs.Common.{◌≡◌, length}
-use Rattle.adc_core.specs.Growing.{AreBlocksFor}
-use Rattle.adc_core.proofs.growing_blocks.add_blocks.Given as goal
-
-abbrev pub invariant-loop-k : goal.invariant-loop-k
-invariant-loop-k l = (length l.blocks.items ≡ l.k) × AreBlocksFor l.judged l.patterns.vectors l.blocks.items
