@@ -24,6 +24,7 @@ use Rattle.job_semantics.specs.Checking.{IsLeftAlone, ShowsItsBound, CheckVerifi
 use Rattle.job_semantics.specs.Checking.{IsQuietCheck}
 use Rattle.blif_text.specs.declared.refusal.BlifRefusal.{BlifRefusal}
 use Rattle.bundle.specs.declared.verdict.Verdict.{Verdict}
+use Rattle.bundle.specs.Loading.{of_stem}
 use Rattle.bundle.specs.Judging.{FilesKept, IsVerdict, IsFirstFault, verdict_of, IsCause, NothingKnown}
 use Rattle.job_answers.specs.declared.status.Status.{Status}
 use Rattle.job_answers.specs.declared.status.Status.TheVariants.{Verified, Refuted, Text, NoMemory, ReadFault, WriteFault, Endless}
@@ -75,7 +76,7 @@ pub not_steady_before : {old mid : FilesTold} {name : Bytes} → Goes old mid �
 not_steady_before goes h = false_from_ne_true _ (λ steady. cc (goes.steady_read _ steady, h))
 
 module _ {claim : Claim} {input stem : Bytes} {old mid new : FilesTold} {N : NetValue}
-    (read : NetRead old mid input N) (kept : FilesKept claim N stem NothingKnown mid new) where
+    (read : NetRead old mid input N) (kept : FilesKept (of_stem claim N stem) NothingKnown mid new) where
   pub left_alone : {said : SinkTold} → IsLeftAlone claim input stem (on_files old new said)
   left_alone = record {
     goes = Goes-Goes read.stay.goes kept.goes;
@@ -123,10 +124,10 @@ module _ {claim : Claim} {input stem : Bytes} {old mid new : FilesTold} {N : Net
   by_clause sound None judged = (verified (certified sound judged), refl)
   by_clause sound (Some c) judged = (refuted c (failing_first c judged), refl)
 
-  by_verdict : {said : SinkTold} → IsSound N → (v : Verdict) → IsVerdict claim N stem mid new v → CheckAnswer claim input stem (on_files old new said) (status_of_check (Ok v))
+  by_verdict : {said : SinkTold} → IsSound N → (v : Verdict) → IsVerdict (of_stem claim N stem) mid new v → CheckAnswer claim input stem (on_files old new said) (status_of_check (Ok v))
   by_verdict {said} sound v h = subst (λ u. CheckAnswer claim input stem (on_files old new said) (status_of_check (Ok u))) (sym h.is) (by_clause sound h.failing h.judged)
 
-  pub by_cause : {said : SinkTold} (reason : Unread) → IsCause claim N stem NothingKnown mid new reason
+  pub by_cause : {said : SinkTold} (reason : Unread) → IsCause (of_stem claim N stem) NothingKnown mid new reason
       → CheckAnswer claim input stem (on_files old new said) (answer_of_unread reason)
   by_cause unread.Fault cause = (
     not_read (record {
@@ -150,16 +151,16 @@ module _ {claim : Claim} {input stem : Bytes} {old mid new : FilesTold} {N : Net
     refl,
   )
 
-  check-judged : {said : SinkTold} → IsSound N → (checked : Result Verdict Unread) → IfOk checked (IsVerdict claim N stem mid new)
-      → IfErr checked (IsCause claim N stem NothingKnown mid new)
+  check-judged : {said : SinkTold} → IsSound N → (checked : Result Verdict Unread) → IfOk checked (IsVerdict (of_stem claim N stem) mid new)
+      → IfErr checked (IsCause (of_stem claim N stem) NothingKnown mid new)
       → CheckAnswer claim input stem (on_files old new said) (status_of_check checked)
   check-judged sound (Ok v) ok err = by_verdict sound v ok
   check-judged sound (Err reason) ok err = by_cause reason err
 
 -- the bundle's names are those of the stem
 pub check-judged_at : {claim : Claim} {input stem names : Bytes} {old mid new : FilesTold} {said : SinkTold} {N : NetValue} → names ≡ stem → IsSound N
-    → NetRead old mid input N → FilesKept claim N names NothingKnown mid new → (checked : Result Verdict Unread) → IfOk checked (IsVerdict claim N names mid new)
-    → IfErr checked (IsCause claim N names NothingKnown mid new) → CheckAnswer claim input stem (on_files old new said) (status_of_check checked)
+    → NetRead old mid input N → FilesKept (of_stem claim N names) NothingKnown mid new → (checked : Result Verdict Unread) → IfOk checked (IsVerdict (of_stem claim N names) mid new)
+    → IfErr checked (IsCause (of_stem claim N names) NothingKnown mid new) → CheckAnswer claim input stem (on_files old new said) (status_of_check checked)
 check-judged_at {claim} {input} {stem} {names} {old} {mid} {new} {said} same sound read kept checked ok err =
     subst (λ s. CheckAnswer claim input s (on_files old new said) (status_of_check checked)) same (check-judged read kept sound checked ok err)
 

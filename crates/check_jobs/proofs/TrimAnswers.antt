@@ -26,7 +26,7 @@ use Rattle.job_semantics.specs.Trimming.{IsTrimmedBundle, TrimCutShort, TrimEnd,
 use Rattle.job_semantics.proofs.BundleNames.{texts_stay}
 use Rattle.job_semantics.specs.Input.{input_reading, IsReadAs}
 use Rattle.bundle.specs.Judging.{FilesKept, IsCause, NothingKnown}
-use Rattle.bundle.specs.Loading.{IsCertificateWith, IsLoaded}
+use Rattle.bundle.specs.Loading.{of_stem, IsCertificateWith, IsLoaded}
 use Rattle.bundle.specs.declared.loaded.Loaded.TheVariants as load
 use Rattle.job_answers.specs.declared.status.Status.{Status}
 use Rattle.job_answers.specs.declared.status.Status.TheVariants.{Done, Verified, Refuted, NoMemory, WriteFault}
@@ -120,11 +120,11 @@ trimmed_bundle claim N goal log short texts t c = record {
 }
 
 module _ (claim : Claim) (input stem output : Bytes) (old mid kept : FilesTold) (said : SinkTold) (N : NetValue) (read : NetRead old mid input N)
-    (keeps : FilesKept claim N stem NothingKnown mid kept) where
-  trim-refuted : (number : ℕ) → IsLoaded claim N stem mid kept (load.Refuted number) → TrimAnswer claim input stem output (on_files old kept said) (Refuted number)
+    (keeps : FilesKept (of_stem claim N stem) NothingKnown mid kept) where
+  trim-refuted : (number : ℕ) → IsLoaded (of_stem claim N stem) mid kept (load.Refuted number) → TrimAnswer claim input stem output (on_files old kept said) (Refuted number)
   trim-refuted number judged = (not_verified (refuted judged.0 (failing_first read keeps judged.0 judged.2)) (λ h. h), ap Refuted judged.1)
 
-  trim-unread : (reason : Unread) → IsCause claim N stem NothingKnown mid kept reason → TrimAnswer claim input stem output (on_files old kept said) (answer_of_unread reason)
+  trim-unread : (reason : Unread) → IsCause (of_stem claim N stem) NothingKnown mid kept reason → TrimAnswer claim input stem output (on_files old kept said) (answer_of_unread reason)
   trim-unread reason cause = from_check claim input stem output old kept said (answer_of_unread reason) (by_cause read keeps reason cause) (unread_is_not_verified reason)
 
   left : IsLeftAlone claim input stem (on_files old kept said)
@@ -167,24 +167,24 @@ module _ (claim : Claim) (input stem output : Bytes) (old mid kept : FilesTold) 
 
 -- the bundle's names are those of the stem
 module _ (claim : Claim) (input stem output names : Bytes) (old mid kept : FilesTold) (said : SinkTold) (N : NetValue) (same : names ≡ stem)
-    (read : NetRead old mid input N) (keeps : FilesKept claim N names NothingKnown mid kept) where
-  of_stem : FilesKept claim N stem NothingKnown mid kept
-  of_stem = subst (λ s. FilesKept claim N s NothingKnown mid kept) same keeps
+    (read : NetRead old mid input N) (keeps : FilesKept (of_stem claim N names) NothingKnown mid kept) where
+  kept_at_stem : FilesKept (of_stem claim N stem) NothingKnown mid kept
+  kept_at_stem = subst (λ s. FilesKept (of_stem claim N s) NothingKnown mid kept) same keeps
 
-  pub trim-refuted_at : (number : ℕ) → IsLoaded claim N names mid kept (load.Refuted number) → TrimAnswer claim input stem output (on_files old kept said) (Refuted number)
+  pub trim-refuted_at : (number : ℕ) → IsLoaded (of_stem claim N names) mid kept (load.Refuted number) → TrimAnswer claim input stem output (on_files old kept said) (Refuted number)
   trim-refuted_at number judged =
-      trim-refuted claim input stem output old mid kept said N read of_stem number (subst (λ s. IsLoaded claim N s mid kept (load.Refuted number)) same judged)
+      trim-refuted claim input stem output old mid kept said N read kept_at_stem number (subst (λ s. IsLoaded (of_stem claim N s) mid kept (load.Refuted number)) same judged)
 
-  pub trim-unread_at : (reason : Unread) (answer : Status) → IsCause claim N names NothingKnown mid kept reason → answer ≡ answer_of_unread reason
+  pub trim-unread_at : (reason : Unread) (answer : Status) → IsCause (of_stem claim N names) NothingKnown mid kept reason → answer ≡ answer_of_unread reason
       → TrimAnswer claim input stem output (on_files old kept said) answer
   trim-unread_at reason answer cause is =
       subst (TrimAnswer claim input stem output (on_files old kept said)) (sym is)
-      (trim-unread claim input stem output old mid kept said N read of_stem reason (subst (λ s. IsCause claim N s NothingKnown mid kept reason) same cause))
+      (trim-unread claim input stem output old mid kept said N read kept_at_stem reason (subst (λ s. IsCause (of_stem claim N s) NothingKnown mid kept reason) same cause))
 
-  pub trim-stands_at : IsTrue (are_trim_words input stem output) → (goal : Formula) (log : List LogItem) → IsLoaded claim N names mid kept (load.Good goal log)
+  pub trim-stands_at : IsTrue (are_trim_words input stem output) → (goal : Formula) (log : List LogItem) → IsLoaded (of_stem claim N names) mid kept (load.Good goal log)
       → (new : FilesTold) (answer : Status) → TrimmedAnswer goal.clauses log output kept new answer → TrimAnswer claim input stem output (on_files old new said) answer
   trim-stands_at words goal log judged new answer trimmed =
-      trim-stands claim input stem output old mid kept said N read of_stem (no_bundle_name input stem output words) goal log
+      trim-stands claim input stem output old mid kept said N read kept_at_stem (no_bundle_name input stem output words) goal log
       (subst (λ s. OfBundle mid kept s (λ texts. IsCertificateWith claim N texts goal log)) same judged.1) new answer trimmed
 
 -- the writing of the trimmed log

@@ -1,10 +1,9 @@
 -- The job of the definitions that a command of this crate stands for.
-use Rattle.std.specs.Prelude.{◌≡◌, ◌≤◌}
+use Rattle.std.specs.Prelude.{◌≡◌, ℕ, ◌≤◌}
 use Rattle.semantics.specs.Texts.{Bytes}
 use Rattle.semantics.specs.declared.limits.TheConstants.{LARGEST_ERROR}
 use Rattle.semantics.specs.declared.metric.Metric.{Metric}
 use Rattle.proof_semantics.specs.declared.constraint.Constraint.{Constraint}
-use Rattle.job_semantics.specs.declared.claim.Claim.{Claim}
 use Rattle.job_semantics.specs.declared.growth.Growth.{Growth}
 use Rattle.job_semantics.specs.declared.growth.Growth.TheVariants.{Refused, Allowed}
 use Rattle.job_semantics.specs.Certificate.{checked_claim}

@@ -1,5 +1,5 @@
 //! The words of the command line, and the job that they name.
-ghost use Rattle.std.specs.Prelude.{◌≡◌, ℕ, ◌≤◌, option_map, IfSome};
+ghost use Rattle.std.specs.Prelude.{◌≡◌, option_map, IfSome};
 ghost use Rattle.semantics.specs.Texts.{Bytes};
 ghost use Rattle.job_semantics.specs.Job.{Job, job_of, constraint_of, synth_of, task_of, check_of, demo_of};
 ghost use Rattle.job_semantics.specs.Job.{conversion_of, trim_of, flat, aag, blif};

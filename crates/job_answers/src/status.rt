@@ -6,6 +6,10 @@ use crate::bits_text::BitsText;
 use aiger_text::refusal::AigerRefusal;
 use blif_text::refusal::BlifRefusal;
 use command_words::usage::usage_line;
+use exit_numbers::numbers::{
+    ABOVE_BOUND, CIRCUIT_REFUSED, CONFLICTS_SPENT, DONE, ENDLESS, HIERARCHY_REFUSED, NO_MEMORY,
+    OTHER_PORTS, READ_FAULT, REFUTED, SECOND_REFUSED, TEXT_REFUSED, USAGE, WRITE_FAULT,
+};
 use hier_blif::refusal::HierRefusal;
 use net_core::items::Bits;
 use std::fmt;
@@ -51,20 +55,20 @@ impl Status {
         ensures { result ≡ exit_number self.now }
     {
         match self {
-            Status::Done | Status::Verified => 0,
-            Status::Usage => 1,
-            Status::Text(_) => 2,
-            Status::NoMemory => 3,
-            Status::Budget => 4,
-            Status::ReadFault => 5,
-            Status::WriteFault => 6,
-            Status::Refuted(_) => 7,
-            Status::Endless => 8,
-            Status::Hier(_) => 10,
-            Status::Aiger(_) => 11,
-            Status::Second(_) => 12,
-            Status::Ports => 13,
-            Status::Over(_) => 14,
+            Status::Done | Status::Verified => DONE,
+            Status::Usage => USAGE,
+            Status::Text(_) => TEXT_REFUSED,
+            Status::NoMemory => NO_MEMORY,
+            Status::Budget => CONFLICTS_SPENT,
+            Status::ReadFault => READ_FAULT,
+            Status::WriteFault => WRITE_FAULT,
+            Status::Refuted(_) => REFUTED,
+            Status::Endless => ENDLESS,
+            Status::Hier(_) => HIERARCHY_REFUSED,
+            Status::Aiger(_) => CIRCUIT_REFUSED,
+            Status::Second(_) => SECOND_REFUSED,
+            Status::Ports => OTHER_PORTS,
+            Status::Over(_) => ABOVE_BOUND,
         }
     }
 }

@@ -1,6 +1,6 @@
 -- What a task on nets that were read or generated comes to, by the work on them; and that a quiet call has no
 -- fault.
-use Rattle.std.proofs.Common.{◌≡◌, ◌⊎◌, ℕ, false, Bool, List, [], Option, Some, None, MatchOption, inl, inr, refl, ap, sym, subst, ◌∙◌}
+use Rattle.std.proofs.Common.{◌≡◌, ◌⊎◌, false, Bool, List, [], Option, Some, None, MatchOption, inl, inr, refl, ap, sym, subst, ◌∙◌}
 use Rattle.std.specs.Prelude.{IsTrue}
 use Rattle.semantics.specs.Texts.{Bytes}
 use Rattle.semantics.specs.Net.{NetValue, input_count}

@@ -5,7 +5,7 @@ use Rattle.semantics.specs.Texts.{Bytes}
 use Rattle.semantics.specs.Net.{NetValue, HasSamePorts}
 use Rattle.semantics.specs.declared.metric.Metric.{Metric}
 use Rattle.proof_semantics.specs.declared.constraint.Constraint.{Constraint}
-use Rattle.outside_semantics.specs.Outside.{Held, FilesTold, SinkTold, bytes_of}
+use Rattle.outside_semantics.specs.Outside.{Held, bytes_of}
 use Rattle.blif_semantics.specs.Reading.{Refusal}
 use Rattle.chain_semantics.specs.Simplification.{IsSimplificationEndFrom}
 use Rattle.proof_semantics.specs.Queries.{SpentValue}
@@ -23,7 +23,7 @@ use Rattle.job_semantics.proofs.Certificates.{verified_law}
 use Rattle.job_semantics.proofs.FileWords.{file_words_law}
 use Rattle.job_semantics.proofs.CheckedFiles.{one_net, joined_runs_law}
 use Rattle.job_answers.specs.declared.status.Status.{Status}
-use Rattle.job_answers.specs.declared.status.Status.TheVariants.{Done, Verified, Text, NoMemory, Budget, ReadFault, WriteFault}
+use Rattle.job_answers.specs.declared.status.Status.TheVariants.{Done, Text, NoMemory, Budget, ReadFault, WriteFault}
 use Rattle.jobs.specs.declared.outcome.Outcome.{Outcome}
 use Rattle.jobs.specs.Outcome.{SpentQueries, told_queries, answered_by}
 use Rattle.jobs.specs.Run.{SynthAnswerAt, RunSays}

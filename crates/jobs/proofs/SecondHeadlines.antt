@@ -7,7 +7,7 @@ use Rattle.semantics.specs.Net.{NetValue, HasSamePorts}
 use Rattle.semantics.specs.Error.{IsWithin}
 use Rattle.semantics.specs.declared.metric.Metric.{Metric}
 use Rattle.proof_semantics.specs.declared.constraint.Constraint.{Constraint}
-use Rattle.outside_semantics.specs.Outside.{Held, FilesTold, SinkTold, bytes_of}
+use Rattle.outside_semantics.specs.Outside.{Held, bytes_of}
 use Rattle.blif_semantics.specs.Reading.{Refusal}
 use Rattle.proof_semantics.specs.Queries.{SpentValue, IsOver}
 use Rattle.job_semantics.specs.declared.growth.Growth.TheVariants.{Allowed}
@@ -19,13 +19,13 @@ use Rattle.job_semantics.specs.Input.{IsReadAs}
 use Rattle.job_semantics.specs.Certificate.{Texts, texts_of, IsNetlist, CertifiesWith, confirmed_claim}
 use Rattle.job_semantics.specs.Checking.{ShowsItsBound}
 use Rattle.job_semantics.specs.Shrinking.{Shrinking}
-use Rattle.job_semantics.specs.Synthesis.{claim_of, shrinking_of, IsTaskDone}
-use Rattle.job_semantics.specs.SecondNetlist.{AreRead, TaskDone, request_of}
+use Rattle.job_semantics.specs.Synthesis.{claim_of, shrinking_of, IsTaskDone, request_of}
+use Rattle.job_semantics.specs.SecondNetlist.{AreRead, TaskDone}
 use Rattle.job_semantics.specs.SecondHeadline.{KeepsTheBound, IsAsAsked, IsCertifiedAs, AreSpentOnSecond, SecondHeadline}
 use Rattle.job_semantics.proofs.FileWords.{file_words_law}
 use Rattle.job_semantics.proofs.CheckedFiles.{one_net, joined_task_law}
 use Rattle.job_answers.specs.declared.status.Status.{Status}
-use Rattle.job_answers.specs.declared.status.Status.TheVariants.{Done, Verified, Text, NoMemory, Budget, ReadFault, WriteFault, Second, Ports, Over}
+use Rattle.job_answers.specs.declared.status.Status.TheVariants.{Done, Text, NoMemory, Budget, ReadFault, WriteFault, Second, Ports, Over}
 use Rattle.jobs.specs.declared.outcome.Outcome.{Outcome}
 use Rattle.jobs.specs.Outcome.{SpentQueries, told_queries, answered_by}
 use Rattle.jobs.specs.Run.{TaskAnswerAt, RunSays}

@@ -1,5 +1,5 @@
 -- What the spent query of a job is, from what the job comes to.
-use Rattle.std.proofs.Common.{◌≡◌, ◌⊎◌, ℕ, ◌≤◌, Bool, List, ◌∷◌, ◌++◌, Option, Some, None, MatchOption, Contains, inl, inr, ap, sym, subst, ◌∙◌, arith}
+use Rattle.std.proofs.Common.{◌≡◌, ◌⊎◌, ◌≤◌, Bool, List, ◌∷◌, ◌++◌, Option, Some, None, MatchOption, Contains, inl, inr, ap, sym, subst, ◌∙◌, arith}
 use Rattle.std.proofs.lemmas.List.Elements.{Contains-append_right}
 use Rattle.chain_semantics.proofs.MoveLists.{Contains-here}
 use Rattle.semantics.specs.Net.{NetValue}
@@ -9,8 +9,8 @@ use Rattle.proof_semantics.specs.Queries.{SpentValue, IsSpentQuery, IsSpentLevel
 use Rattle.job_semantics.specs.declared.task.Task.{Task}
 use Rattle.job_semantics.specs.declared.task.Task.TheVariants.{Certify, Refine}
 use Rattle.job_semantics.specs.Shrinking.{Shrinking, IsShownEnd, IsSpentMove, IsShrinking}
-use Rattle.job_semantics.specs.Synthesis.{Request, IsTaskDone, MaximumSpent}
-use Rattle.job_semantics.specs.SecondNetlist.{IsBoundSpent, IsTaskSpent, request_of}
+use Rattle.job_semantics.specs.Synthesis.{IsTaskDone, MaximumSpent, request_of}
+use Rattle.job_semantics.specs.SecondNetlist.{IsBoundSpent, IsTaskSpent}
 use Rattle.job_semantics.specs.Headline.{AreSpentOn}
 use Rattle.job_semantics.specs.SecondHeadline.{IsOfTheChainFrom, AreSpentOnSecond}
 use Rattle.jobs.specs.Outcome.{SpentQueries, NothingSpent}

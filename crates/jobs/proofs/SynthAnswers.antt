@@ -6,9 +6,8 @@ use Rattle.proof_semantics.specs.declared.constraint.Constraint.{Constraint}
 use Rattle.outside_semantics.specs.Outside.{FilesTold, SinkTold, Goes, bytes_of}
 use Rattle.outside_semantics.specs.WrittenFiles.{FilesWritten}
 use Rattle.job_semantics.specs.Call.{Call}
-use Rattle.job_semantics.specs.Synthesis.{simplifying, WhereHeld, OfInput, IsUntouched, SynthWriteFault, CountsAs, IsQuietSynth}
+use Rattle.job_semantics.specs.Synthesis.{simplifying, WhereHeld, OfInput, IsUntouched, SynthWriteFault, CountsAs, IsQuietSynth, request_of}
 use Rattle.job_semantics.specs.declared.task.Task.TheVariants.{Refine}
-use Rattle.job_semantics.specs.SecondNetlist.{request_of}
 use Rattle.job_semantics.specs.Input.{input_reading, IsReadAs, IsAccepted}
 use Rattle.job_answers.specs.declared.status.Status.{Status}
 use Rattle.job_answers.specs.declared.status.Status.TheVariants.{Done, Text, NoMemory, Budget, ReadFault, WriteFault}

@@ -1,6 +1,6 @@
 -- What a certify or a refine job comes to, from the readings of IN and of the second netlist and what is made of
 -- their nets; and that a quiet call has no fault.
-use Rattle.std.proofs.Common.{◌≡◌, ◌≢◌, ℕ, true, false, Option, None, [], inl, inr, refl, sym, subst, ◌∙◌, arith}
+use Rattle.std.proofs.Common.{◌≡◌, ◌≢◌, true, false, None, [], inl, inr, refl, sym, subst, ◌∙◌, arith}
 use Rattle.std.specs.Prelude.{IsTrue}
 use Rattle.std.specs.FinMap.{contains_key}
 use Rattle.semantics.specs.Texts.{Bytes}
@@ -17,15 +17,14 @@ use Rattle.job_semantics.specs.declared.task.Task.{Task}
 use Rattle.job_semantics.specs.Call.{Call}
 use Rattle.job_semantics.specs.Job.{TaskNames}
 use Rattle.job_semantics.specs.Input.{input_reading, IsReadAs, IsRefusedFor, IsAccepted}
-use Rattle.job_semantics.specs.Synthesis.{WhereHeld, OfInput, CountsAs}
-use Rattle.job_semantics.specs.SecondNetlist.{WhereBothHeld, OfSecond, AreUntouched, AreRead, AreBothRead, HasOtherPorts, IsAboveBound, IsTaskSpent, TaskReadFault, TaskWriteFault, IsQuietTask, request_of}
+use Rattle.job_semantics.specs.Synthesis.{WhereHeld, OfInput, CountsAs, request_of}
+use Rattle.job_semantics.specs.SecondNetlist.{WhereBothHeld, OfSecond, AreUntouched, AreRead, AreBothRead, HasOtherPorts, IsAboveBound, IsTaskSpent, TaskReadFault, TaskWriteFault, IsQuietTask}
 use Rattle.bundle_writing.proofs.FilesInOrder.{FilesWritten-then}
 use Rattle.job_answers.specs.declared.status.Status.{Status}
 use Rattle.job_answers.specs.declared.status.Status.TheVariants.{Done, Text, NoMemory, Budget, ReadFault, WriteFault, Second, Ports, Over}
 use Rattle.job_answers.specs.Ends.{EndsWellOnBoth}
 use Rattle.conversions.specs.Input.{NetRead, TextRefused}
 use Rattle.synth_jobs.specs.Calls.{told_call}
-use Rattle.job_answers.specs.OnFiles.{on_files}
 use Rattle.jobs.specs.Outcome.{SpentQueries, told_queries, without_query}
 use Rattle.conversions.proofs.InputReadings.{text_refused}
 use Rattle.check_jobs.proofs.CheckAnswers.{not_steady_before}

@@ -14,11 +14,11 @@ use Rattle.job_semantics.specs.Job.{Job, synth, against, check, confirm, demo, f
 use Rattle.job_semantics.specs.Job.{TaskNames}
 use Rattle.job_semantics.specs.SecondNetlist.{AreUntouched, AreBothRead, SecondRefused, HasOtherPorts}
 use Rattle.job_semantics.specs.SecondNetlist.{IsAboveBound, IsTaskSpent, TaskDone, TaskWriteFault}
-use Rattle.job_semantics.specs.SecondNetlist.{TaskReadFault, IsQuietTask, request_of}
+use Rattle.job_semantics.specs.SecondNetlist.{TaskReadFault, IsQuietTask}
 use Rattle.job_semantics.specs.Input.{input_reading, IsRefusedFor}
-use Rattle.job_semantics.specs.Synthesis.{Request, simplifying, IsUntouched, InputRefused, InputReadFault}
+use Rattle.job_semantics.specs.Synthesis.{Request, request_of, simplifying, IsUntouched, InputRefused}
 use Rattle.job_semantics.specs.Synthesis.{BundleWritten, BundleCutShort, MaximumSpent, SynthDone, SynthBudget}
-use Rattle.job_semantics.specs.Synthesis.{SynthWriteFault, IsQuietSynth}
+use Rattle.job_semantics.specs.Synthesis.{SynthWriteFault, InputReadFault, IsQuietSynth}
 use Rattle.job_semantics.specs.Certificate.{checked_claim, confirmed_claim}
 use Rattle.job_semantics.specs.Checking.{IsQuietCheck}
 use Rattle.job_semantics.specs.Conversion.{IsQuietConversion}

@@ -2,6 +2,7 @@
 use Rattle.std.specs.Prelude.{◌≡◌, ℕ, Bool, true, false, List, Some, None, codes}
 use Rattle.semantics.specs.Texts.{Bytes}
 use Rattle.outside_semantics.specs.Outside.{FilesTold, SinkTold}
+use Rattle.exit_numbers.specs.declared.numbers.TheConstants.{USAGE}
 use Rattle.job_semantics.specs.Call.{Call}
 use Rattle.job_semantics.specs.Job.{Job, demo, job_of}
 use Rattle.job_semantics.specs.Demo.{demo_net}
@@ -43,7 +44,7 @@ program_says words old new said says answer = DemonstrationSays words (told_call
 
 -- the exit number of the process
 abbrev pub answer_exit : Answer → ℕ
-answer_exit Usage = 1
+answer_exit Usage = USAGE
 answer_exit (Worked work) = work_exit work
 
 -- each answer but `Done` has a line on standard error

@@ -5,6 +5,7 @@ ghost use Rattle.salsa_demo.specs.Demonstration.{program_says, answer_exit, has_
 use command_words::usage::usage_line;
 use command_words::words::{Command, command_named};
 use console::program::Program;
+use exit_numbers::numbers::USAGE;
 use file_core::files::Files;
 use file_core::sink::Sink;
 use file_core::word::Word;
@@ -80,7 +81,7 @@ impl Program for Demonstration {
 
     fn exit(answer: &Answer) -> u8 {
         match answer {
-            Answer::Usage => 1,
+            Answer::Usage => USAGE,
             Answer::Worked(work) => work.exit(),
         }
     }

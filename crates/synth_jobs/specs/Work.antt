@@ -1,6 +1,8 @@
 -- What the work on nets that were read or generated comes to.
 use Rattle.std.specs.Prelude.{ℕ}
 use Rattle.semantics.specs.Texts.{Bytes}
+use Rattle.exit_numbers.specs.declared.numbers.TheConstants.{DONE, NO_MEMORY, CONFLICTS_SPENT}
+use Rattle.exit_numbers.specs.declared.numbers.TheConstants.{WRITE_FAULT}
 use Rattle.job_semantics.specs.Call.{Call}
 use Rattle.job_semantics.specs.Synthesis.{Request, BundleWritten, BundleCutShort, MaximumSpent}
 use Rattle.worst_case.specs.Exceeds.{spent_value}
@@ -19,7 +21,7 @@ WorkSays r stem call WriteFault = BundleCutShort r stem call
 
 -- the exit number of the process
 abbrev pub work_exit : Work → ℕ
-work_exit (Done spent) = 0
-work_exit NoMemory = 3
-work_exit (Budget level spent) = 4
-work_exit WriteFault = 6
+work_exit (Done spent) = DONE
+work_exit NoMemory = NO_MEMORY
+work_exit (Budget level spent) = CONFLICTS_SPENT
+work_exit WriteFault = WRITE_FAULT

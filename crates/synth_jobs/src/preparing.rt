@@ -1,18 +1,17 @@
 //! All that is computed of two nets before a file is touched: what the task makes of the second, the search
 //! for the greatest error, and the formula.
 ghost use Rattle.std.specs.Prelude.{◌≡◌, ◌≤◌, ◌<◌, ◌^◌, IfOk};
-ghost use Rattle.semantics.specs.Net.{NetValue, IsSmall, IsSound};
+ghost use Rattle.semantics.specs.Net.{IsSmall, IsSound};
 ghost use Rattle.semantics.specs.Error.{IsCandidate};
 ghost use Rattle.chain_semantics.specs.Simplification.{IsBeginning};
 ghost use Rattle.proof_semantics.specs.Miter.{miter};
 ghost use Rattle.synth_jobs.specs.declared.preparing.Prepared.TheVariants.{Ready};
 ghost use Rattle.bundle_writing.specs.Value.{FitsReport};
 ghost use Rattle.job_semantics.specs.Synthesis as synthesis;
-ghost use Rattle.job_semantics.specs.Synthesis.{IsTaskDone, is_shown_minimal};
-ghost use Rattle.job_semantics.specs.SecondNetlist.{request_of};
+ghost use Rattle.job_semantics.specs.Synthesis.{IsTaskDone, is_shown_minimal, request_of};
 ghost use Rattle.worst_case.specs.Maximum.{IsMaximumAnswer};
 ghost use Rattle.synth_jobs.specs.Spent.{told_query};
-ghost use Rattle.synth_jobs.specs.Prepared.{told_shrinking, bundle_of, AreFound, IsSearched, IsPrepared};
+ghost use Rattle.synth_jobs.specs.Prepared.{told_shrinking, bundle_of, IsSearched, IsPrepared};
 
 use crate::request::Request;
 use bundle_writing::bundle::{Bundle, Version};

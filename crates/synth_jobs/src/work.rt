@@ -2,6 +2,7 @@
 ghost use Rattle.std.specs.Prelude.{◌≡◌};
 ghost use Rattle.synth_jobs.specs.Work.{work_exit};
 
+use exit_numbers::numbers::{CONFLICTS_SPENT, DONE, NO_MEMORY, WRITE_FAULT};
 use worst_case::query::Spent;
 
 /// What the work on a net comes to.
@@ -25,10 +26,10 @@ impl Work {
         ensures { result ≡ work_exit self.now }
     {
         match self {
-            Work::Done(_) => 0,
-            Work::NoMemory => 3,
-            Work::Budget { .. } => 4,
-            Work::WriteFault => 6,
+            Work::Done(_) => DONE,
+            Work::NoMemory => NO_MEMORY,
+            Work::Budget { .. } => CONFLICTS_SPENT,
+            Work::WriteFault => WRITE_FAULT,
         }
     }
 }
