@@ -95,7 +95,8 @@ module _ {claim : Claim} {input stem : Bytes} {old mid new : FilesTold} {N : Net
   since P h = λ a b told tells. let m = held_before mid new kept.goes b tells in h m.0 b m.1 tells
 
   -- a file that is needed for the verdict is needed by the job
-  needed_by_job : (ending : Ending) → OfBundle mid new stem (λ texts. NothingKnown texts → IsNeededFor claim N texts ending) → {said : SinkTold} → IsNeeded claim input stem (on_files old new said) ending
+  needed_by_job : {said : SinkTold} (ending : Ending) → OfBundle mid new stem (λ texts. NothingKnown texts → IsNeededFor claim N texts ending)
+      → IsNeeded claim input stem (on_files old new said) ending
   needed_by_job ending needed = λ a b told tells.
       let m = held_before mid new kept.goes b tells in
       (N, read.told a m.0 told m.1, needed m.0 b m.1 tells tt)

@@ -53,8 +53,8 @@ fn write_trimmed<F: Files>(
     answer_of_writing(write_log(&short, output, files))
 }
 
-/// Carries out a trim job. Where the claim refuses growth, a net that is larger than that of IN is refused, as
-/// by a check job.
+/// Carries out a trim job. Where the claim refuses growth, a net that is larger than that of IN is refused,
+/// as by a check job.
 pub fn trim_bundle<F: Files>(
     alloc: Global,
     claim: Claim,

@@ -10,8 +10,8 @@ use Rattle.job_semantics.specs.Certificate.{checked_claim}
 use Rattle.job_semantics.specs.Job as words
 use Rattle.command_words.specs.Names.{names_of}
 use Rattle.command_words.specs.declared.words.Command.{Command}
-use Rattle.command_words.specs.declared.words.Command.TheVariants.{Synth, Against, Check, Demo, Flat, Aag, Blif}
-use Rattle.command_words.specs.declared.words.Command.TheVariants.{Trim}
+use Rattle.command_words.specs.declared.words.Command.TheVariants.{Synth, Against, Check, Demo}
+use Rattle.command_words.specs.declared.words.Command.TheVariants.{Flat, Aag, Blif, Trim}
 
 -- the job that refuses a net that is larger than IN's, and the job that allows it
 abbrev pub check_with : Growth → Metric → ℕ → Bytes → Bytes → words.Job

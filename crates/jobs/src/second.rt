@@ -54,7 +54,10 @@ fn undertake<F: Files, K: Sink, P: Progress>(
         result }
 {
     let Request {
-        aim, exact, begin, ..
+        aim,
+        exact,
+        begin,
+        ..
     } = &request;
     match judge_beginning::<Chain, P>(alloc, *aim, exact, begin, progress) {
         Err(_) => only(Status::NoMemory),
