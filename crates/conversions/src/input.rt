@@ -6,6 +6,7 @@ use blif_text::reading::read_blif;
 use file_core::files::Files;
 use file_reading::front::Front;
 use file_reading::reading::read_file;
+use file_reading::unread::Unread;
 use job_answers::refused::blif_answer;
 use job_answers::status::Status;
 use job_answers::unread::answer_of_unread;
@@ -24,6 +25,7 @@ pub fn read_front<F: Files>(alloc: Global, files: &mut F, name: &[u8]) -> Result
     let _ = front.bytes();
     match read {
         Ok(()) => Ok(front),
+        Err(Unread::Endless) => unreachable!(),
         Err(reason) => Err(answer_of_unread(reason)),
     }
 }

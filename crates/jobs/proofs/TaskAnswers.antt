@@ -39,7 +39,7 @@ use Rattle.jobs.proofs.SynthAnswers.{none_written, read_later}
 -- IN is accepted
 accepted : {input : Bytes} {old mid new : FilesTold} {said says : SinkTold} {N : NetValue} → NetRead old mid input N → Goes mid new
     → CountsAs IsAccepted (told_call old new said says) input
-accepted {N = N} read goes = λ a b told tells. (N, (read_later read goes).told a b told tells)
+accepted {said = said} {says = says} {N = N} read goes = λ a b told tells. (N, (read_later {said = said} {says = says} read goes).told a b told tells)
 
 module _ {input second : Bytes} {old mid new : FilesTold} {said says : SinkTold} {N : NetValue} (read : NetRead old mid input N) where
   both_untouched : FilesStay mid new second → says ≡ said → AreUntouched input second (told_call old new said says)
