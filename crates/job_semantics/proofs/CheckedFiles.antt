@@ -17,7 +17,7 @@ use Rattle.job_semantics.specs.Input.{IsReadAs, IsRefusedFor}
 use Rattle.job_semantics.specs.Certificate.{Texts, texts_of, CertifiesWith, IsOfAllowedSize, IsFirstFailing}
 use Rattle.job_semantics.specs.declared.growth.Growth.{Growth}
 use Rattle.job_semantics.specs.declared.growth.Growth.TheVariants.{Refused, Allowed}
-use Rattle.job_semantics.specs.Synthesis.{OfInput, InputRefused, BundleWritten, synth_bundle, Request, simplifying, claim_of}
+use Rattle.job_semantics.specs.Synthesis.{OfInput, InputRefused, BundleWritten, synth_bundle, Request, simplifying, claim_of, request_of}
 use Rattle.proof_semantics.specs.Queries.{SpentValue}
 use Rattle.job_semantics.specs.Bundle.{bundle_text}
 use Rattle.job_semantics.specs.Checking.{AreCheckFilesHeld, IsLeftAlone, CheckRefuted, CheckReadFault, CheckEnd, verified, refuted, refused, out_of_memory, not_read, endless, IsQuietCheck, AreShort}
@@ -28,7 +28,6 @@ use Rattle.job_semantics.proofs.Certificates.{first_failing_law}
 use Rattle.job_semantics.proofs.CertifiedFiles.{certified_files_held}
 use Rattle.job_semantics.specs.Call.{Call}
 use Rattle.job_semantics.specs.declared.claim.Claim.{Claim}
-use Rattle.job_semantics.specs.SecondNetlist.{request_of}
 
 -- a text is read as one net
 pub one_net : (text : Bytes) (N M : NetValue) → IsReadAs text N → IsReadAs text M → N ≡ M

@@ -24,10 +24,10 @@ use Rattle.job_semantics.specs.Input.{IsReadAs}
 use Rattle.job_semantics.specs.Report.{Report}
 use Rattle.job_semantics.specs.Certificate.{Texts, texts_of, IsNetlist, IsReport, CertifiesWith}
 use Rattle.job_semantics.specs.Checking.{Verifies, VerifiesWith}
-use Rattle.job_semantics.specs.SecondNetlist.{AreRead, IsQuietTask, request_of}
+use Rattle.job_semantics.specs.SecondNetlist.{AreRead, IsQuietTask}
 use Rattle.proof_semantics.specs.declared.constraint.Constraint.{Constraint}
 use Rattle.job_semantics.specs.Call.{Call}
-use Rattle.job_semantics.specs.Synthesis.{Request, claim_of}
+use Rattle.job_semantics.specs.Synthesis.{Request, claim_of, request_of}
 use Rattle.job_semantics.specs.Headline.{Answered}
 
 -- The texts name one circuit, which has the original's inputs and outputs by their names, and state one

@@ -1,5 +1,6 @@
 -- What a trim job comes to, by its answer: the job checks the bundle and, where the certificate stands,
--- writes the trimmed log to OUT. Source: this tool's own bundles; proof trimming by backward checking.
+-- writes the trimmed log to OUT. The claim of a trim job is that of a check (`checked_claim`). Source: this
+-- tool's own bundles; proof trimming by backward checking.
 use Rattle.std.specs.Prelude.{◌≡◌, ℕ, IsTrue, List}
 use Rattle.semantics.specs.Texts.{Bytes}
 use Rattle.semantics.specs.Net.{NetValue}

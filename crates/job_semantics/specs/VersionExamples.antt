@@ -72,11 +72,13 @@ pub record VersionExamples : Type 0 where
   pub first_version : (formula log : Bytes)
       → Holds (checked_claim (one_word Abs) 0) conjunction_by_parity
       (parity_texts (codes "salsa 1") formula log) clause.Formula
-      → Holds (checked_claim (one_word Abs) 0) conjunction_by_parity (parity_texts (codes "salsa 1") formula log) clause.Log
+      → Holds (checked_claim (one_word Abs) 0) conjunction_by_parity
+      (parity_texts (codes "salsa 1") formula log) clause.Log
       → Certifies (one_word Abs) 0 conjunction_by_parity (parity_texts (codes "salsa 1") formula log)
   pub second_version : (formula log : Bytes)
       → Holds (checked_claim (one_word Abs) 0) conjunction_by_parity
       (parity_texts (codes "salsa 2") formula log) clause.Formula
-      → Holds (checked_claim (one_word Abs) 0) conjunction_by_parity (parity_texts (codes "salsa 2") formula log) clause.Log
+      → Holds (checked_claim (one_word Abs) 0) conjunction_by_parity
+      (parity_texts (codes "salsa 2") formula log) clause.Log
       → IsFirstFailing (checked_claim (one_word Abs) 0) conjunction_by_parity
       (parity_texts (codes "salsa 2") formula log) clause.Minimal
