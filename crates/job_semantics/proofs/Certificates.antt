@@ -24,10 +24,11 @@ use Rattle.job_semantics.specs.declared.certificate_clause.Clause.{Clause}
 use Rattle.job_semantics.specs.Report.{Report}
 use Rattle.job_semantics.specs.Bundle.{BundleValue, bundle_report, bundle_text}
 use Rattle.job_semantics.specs.Certificate.{Texts, texts_of, moves_in, IsNetlist, IsReport, AreVectors, IsRefutation, IsShownMinimal, AreCounts, OfNet, OfReport, OfBoth, Holds, CertifiesWith}
+use Rattle.job_semantics.specs.Certificate.{checked_claim, confirmed_claim}
 use Rattle.job_semantics.specs.Certificate.{IsFirstFailing, IsOfAllowedSize}
 use Rattle.job_semantics.specs.declared.growth.Growth.{Growth}
 use Rattle.job_semantics.specs.declared.growth.Growth.TheVariants.{Refused, Allowed}
-use Rattle.job_semantics.specs.CertificateLaws.{IsVerified, VerifiedLaw, IsRightBundle, HeldCertificateLaw, FirstFailingLaw}
+use Rattle.job_semantics.specs.CertificateLaws.{IsVerified, VerifiedLaw, IsRightBundle, HeldCertificateLaw, FirstFailingLaw, bundle_claim}
 use Rattle.job_semantics.proofs.BundleFiles.{bundle_files-holds}
 use Rattle.job_semantics.proofs.ReportTexts.{AreFew, one_report}
 use Rattle.job_semantics.proofs.MinimalNets.{minimal-none_allowed}
@@ -62,36 +63,36 @@ module _ (metric : Metric) (bound : ℕ) (exact : NetValue) (texts : Texts) wher
 -- ---- what a certificate shows
 
 module _ (claim : Claim) (exact : NetValue) (texts : Texts) (sound : IsSound exact)
-    (c : CertifiesWith claim exact texts) (M : NetValue) (r : Report) (net : IsNetlist texts M) (report : IsReport metric bound exact texts r) where
+    (c : CertifiesWith claim exact texts) (M : NetValue) (r : Report) (net : IsNetlist texts M) (report : IsReport claim.metric claim.bound exact texts r) where
   with_ports : HasSamePorts exact M
   with_ports = of_net texts (HasSamePorts exact) M net c.1.0
 
-  refuted : (log : List LogItem) × IsRefutation exact M metric r.maximum texts log
-  refuted = of_both metric bound exact texts (λ N s. (log : List LogItem) × IsRefutation exact N metric s.maximum texts log) M r net report c.1.1.1.1.1.1.1.0
+  refuted : (log : List LogItem) × IsRefutation exact M claim.metric r.maximum texts log
+  refuted = of_both claim.metric claim.bound exact texts (λ N s. (log : List LogItem) × IsRefutation exact N claim.metric s.maximum texts log) M r net report c.1.1.1.1.1.1.1.0
 
-  counted : AreCounts growth exact M r
-  counted = of_both metric bound exact texts (AreCounts growth exact) M r net report c.1.1.1.1.1.1.1.1.0
+  counted : AreCounts claim.growth exact M r
+  counted = of_both claim.metric claim.bound exact texts (AreCounts claim.growth exact) M r net report c.1.1.1.1.1.1.1.1.0
 
   verified : IsVerified claim exact M r
   verified = record {
     ports = with_ports;
     safe =
         let other = read_sound (texts file.Netlist) MOST_BUNDLE_BYTES M net in
-        miter_law.refuted exact M metric r.maximum (comparable exact M sound other with_ports) refuted.0 refuted.1.refutes;
-    within = of_report metric bound exact texts (λ s. s.maximum ≤ bound) r report c.1.1.1.0;
+        miter_law.refuted exact M claim.metric r.maximum (comparable exact M sound other with_ports) refuted.0 refuted.1.refutes;
+    within = of_report claim.metric claim.bound exact texts (λ s. s.maximum ≤ claim.bound) r report c.1.1.1.0;
     width = report.witness;
-    attained = of_both metric bound exact texts (λ N s. net_error metric exact N s.witness ≡ s.maximum) M r net report c.1.1.1.1.1.0;
+    attained = of_both claim.metric claim.bound exact texts (λ N s. net_error claim.metric exact N s.witness ≡ s.maximum) M r net report c.1.1.1.1.1.0;
     size = counted.size;
     minimal = λ yes.
-        let shown = of_both metric bound exact texts (IsShownMinimal metric bound exact texts) M r net report c.1.1.1.1.1.1.1.1.1.0 in
+        let shown = of_both claim.metric claim.bound exact texts (IsShownMinimal claim.metric claim.bound exact texts) M r net report c.1.1.1.1.1.1.1.1.1.0 in
         let pool = shown yes in
-        minimal-none_allowed metric exact bound M (r.witness ∷ pool.0) (moves_in r.version M) pool.1.widths pool.2;
+        minimal-none_allowed claim.metric exact claim.bound M (r.witness ∷ pool.0) (moves_in r.version M) pool.1.widths pool.2;
   }
 
 -- a certificate is one with another growth too, by which its net is of an allowed size
-with_size : (growth other : Growth) (metric : Metric) (bound : ℕ) (exact : NetValue) (texts : Texts) (M : NetValue) → IsNetlist texts M → IsOfAllowedSize other exact M
-    → CertifiesWith claim exact texts → CertifiesWith other metric bound exact texts
-with_size growth other metric bound exact texts M net size c =
+with_size : (claim : Claim) (other : Growth) (exact : NetValue) (texts : Texts) (M : NetValue) → IsNetlist texts M → IsOfAllowedSize other exact M
+    → CertifiesWith claim exact texts → CertifiesWith (record { metric = claim.metric; bound = claim.bound; growth = other }) exact texts
+with_size claim other exact texts M net size c =
     let counted = c.1.1.1.1.1.1.1.1.0 in
     let counts = counted.2.2 in
     let resized : AreCounts other exact counted.0 counted.2.0 = record {
@@ -130,8 +131,8 @@ verified_law = record {
   one_report = same_report;
   one_pool = λ exact texts witness pool others v w. one_pool (input_count exact) (texts file.Vectors) witness pool others v w;
   verified = verified;
-  weaker = λ metric bound exact texts c. with_size Refused Allowed metric bound exact texts c.0.0 c.0.1 (λ no. absurd (cc no)) c;
-  not_larger = λ metric bound exact texts approx c net tables literals. with_size Allowed Refused metric bound exact texts approx net (λ is. (tables, literals)) c;
+  weaker = λ metric bound exact texts c. with_size (checked_claim metric bound) Allowed exact texts c.0.0 c.0.1 (λ no. absurd (cc no)) c;
+  not_larger = λ metric bound exact texts approx c net tables literals. with_size (confirmed_claim metric bound) Refused exact texts approx net (λ is. (tables, literals)) c;
 }
 
 -- ---- which bundles are written as certificates
@@ -146,7 +147,7 @@ module _ (growth : Growth) (b : BundleValue) (h : IsRightBundle growth b) where
   few_literals : (N : NetValue) → IsSound N → IsSmall N → literal_count N < 2 ^ 32
   few_literals N sound small = omega (arith, literals_at_most N small sound.tables_formed)
 
-  report_read : IsReport b.exact b.metric b.bound (bundle_text b) (bundle_report b)
+  report_read : IsReport b.metric b.bound b.exact (bundle_text b) (bundle_report b)
   report_read = record {
     spelled = refl;
     same_metric = refl;
@@ -178,10 +179,10 @@ module _ (growth : Growth) (b : BundleValue) (h : IsRightBundle growth b) where
   }
 
   -- the report that is written is of the bundle's version
-  pub written_version : OfReport b.exact b.metric b.bound (bundle_text b) (λ r. r.version ≡ b.version)
+  pub written_version : OfReport b.metric b.bound b.exact (bundle_text b) (λ r. r.version ≡ b.version)
   written_version = (bundle_report b, report_read, refl)
 
-  pub written_certifies : CertifiesWith growth b.exact b.metric b.bound (bundle_text b)
+  pub written_certifies : CertifiesWith (bundle_claim growth b) b.exact (bundle_text b)
   written_certifies = (
     (b.approx, net_read),
     (
@@ -224,7 +225,7 @@ pub held_certificate_law : HeldCertificateLaw
 held_certificate_law growth b h stem old new written = λ before now told tells.
     let texts : bundle_text b ≡ texts_of now stem =
     sym ((λ i. texts_of (written.held before now told tells i) stem) ∙ (λ i e. held_text before stem (bundle_text b) e i)) in
-    subst (CertifiesWith growth b.exact b.metric b.bound) texts (written_certifies growth b h)
+    subst (CertifiesWith (bundle_claim growth b) b.exact) texts (written_certifies growth b h)
 
 -- ---- texts that are no certificate
 

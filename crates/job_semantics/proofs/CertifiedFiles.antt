@@ -5,7 +5,6 @@ use Rattle.std.specs.FinMap.{get, contains_key}
 use Rattle.semantics.specs.declared.limits.TheConstants.{MOST_BUNDLE_BYTES, MOST_INPUT_BYTES}
 use Rattle.semantics.specs.Texts.{Bytes, text_of}
 use Rattle.semantics.specs.Net.{NetValue}
-use Rattle.semantics.specs.declared.metric.Metric.{Metric}
 use Rattle.outside_semantics.specs.Outside.{Held, bytes_of}
 use Rattle.blif_semantics.specs.Lines.{logical_lines}
 use Rattle.blif_semantics.specs.Statements.{first_wrong}
@@ -22,7 +21,6 @@ use Rattle.job_semantics.specs.Endings.{bundle_name}
 use Rattle.job_semantics.specs.Input.{IsReadAs}
 use Rattle.job_semantics.specs.Report.{Report, report_text, vectors_text}
 use Rattle.job_semantics.specs.Certificate.{texts_of, CertifiesWith}
-use Rattle.job_semantics.specs.declared.growth.Growth.{Growth}
 use Rattle.job_semantics.specs.Checking.{AreCheckFilesHeld}
 use Rattle.job_semantics.proofs.ReportTexts.{report_text-is}
 use Rattle.job_semantics.specs.declared.claim.Claim.{Claim}

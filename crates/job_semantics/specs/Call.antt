@@ -1,4 +1,4 @@
--- What is told around a call on the outside.
+-- What the outside tells before and after a call.
 use Rattle.outside_semantics.specs.Outside.{FilesTold, SinkTold}
 
 -- what files and sink tell before the call, and what they tell after it

@@ -144,17 +144,19 @@ certificate_clauses =
     clause.Netlist ∷ clause.Ports ∷ clause.ReportForm ∷ clause.MaximumWithin ∷ clause.Witness
     ∷ clause.Attained ∷ clause.Formula ∷ clause.Log ∷ clause.Counts ∷ clause.Minimal ∷ []
 
--- the texts are a certificate of a claim about the original net
+-- the texts are a certificate of a claim about the net of `.blif` against the original
 abbrev pub CertifiesWith : Claim → NetValue → Texts → Type 0
 CertifiesWith claim exact texts = AllByRecursion (Holds claim exact texts) certificate_clauses
 
--- what a check tests: a net that is not larger than the original; and what a confirm job tests
+-- what a check tests: the net may not be larger than the original
 abbrev pub checked_claim : Metric → ℕ → Claim
 checked_claim metric bound = record { metric = metric; bound = bound; growth = Refused }
 
+-- what a confirm job tests: the net may be larger
 abbrev pub confirmed_claim : Metric → ℕ → Claim
 confirmed_claim metric bound = record { metric = metric; bound = bound; growth = Allowed }
 
+-- the texts are a certificate of a net that is not larger than the original
 abbrev pub Certifies : Metric → ℕ → NetValue → Texts → Type 0
 Certifies metric bound = CertifiesWith (checked_claim metric bound)
 

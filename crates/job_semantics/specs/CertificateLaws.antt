@@ -17,10 +17,10 @@ use Rattle.job_semantics.specs.declared.certificate_clause.Clause.{Clause}
 use Rattle.job_semantics.specs.Endings.{bundle_files}
 use Rattle.job_semantics.specs.Report.{Report}
 use Rattle.job_semantics.specs.Bundle.{BundleValue, bundle_text}
-use Rattle.job_semantics.specs.Certificate.{Texts, OfBundle, moves_in, IsNetlist, IsReport, AreVectors, confirmed_claim}
+use Rattle.job_semantics.specs.Certificate.{Texts, OfBundle, moves_in, IsNetlist, IsReport, AreVectors}
+use Rattle.job_semantics.specs.Certificate.{confirmed_claim}
 use Rattle.job_semantics.specs.Certificate.{CertifiesWith, Certifies, IsFirstFailing, IsOfAllowedSize}
 use Rattle.job_semantics.specs.declared.growth.Growth.{Growth}
-use Rattle.job_semantics.specs.declared.growth.Growth.TheVariants.{Allowed}
 use Rattle.job_semantics.specs.declared.claim.Claim.{Claim}
 
 -- On every input the error of the approximate net is at most the report's maximum, which is within the bound

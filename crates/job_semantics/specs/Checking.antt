@@ -7,13 +7,12 @@ use Rattle.semantics.specs.Texts.{Bytes}
 use Rattle.semantics.specs.Net.{NetValue}
 use Rattle.semantics.specs.declared.metric.Metric.{Metric}
 use Rattle.blif_semantics.specs.Reading.{Refusal}
-use Rattle.outside_semantics.specs.Outside.{Held, FilesTold, SinkTold, Goes, Rose, WhereTold, IsReadOut}
+use Rattle.outside_semantics.specs.Outside.{Held, Goes, Rose, WhereTold, IsReadOut}
 use Rattle.outside_semantics.specs.Outside.{turn_budget, bytes_of}
 use Rattle.job_semantics.specs.declared.certificate_clause.Clause.{Clause}
-use Rattle.job_semantics.specs.declared.growth.Growth.{Growth}
-use Rattle.job_semantics.specs.declared.growth.Growth.TheVariants.{Refused}
 use Rattle.job_semantics.specs.declared.ending.Ending.{Ending}
-use Rattle.job_semantics.specs.Certificate.{Texts, texts_of, OfBundle, IsNetlist, IsReport, CertifiesWith, checked_claim}
+use Rattle.job_semantics.specs.Certificate.{Texts, texts_of, OfBundle, IsNetlist, IsReport, CertifiesWith}
+use Rattle.job_semantics.specs.Certificate.{checked_claim}
 use Rattle.job_semantics.specs.Certificate.{IsFirstFailing, IsNeededFor, AreNeededHeld}
 use Rattle.job_semantics.specs.CertificateLaws.{IsVerified}
 use Rattle.job_semantics.specs.Endings.{bundle_name}
@@ -134,8 +133,8 @@ IsEndlessEnd (not_read fault) = ⊥
 IsEndlessEnd (endless e) = Unit {0}
 
 -- verified, unless memory is wanting
-abbrev pub IsVerifiedOrNoMemory : {claim : Claim} {input stem : Bytes} {call : Call} → CheckEnd claim input stem call
-    → Type 0
+abbrev pub IsVerifiedOrNoMemory : {claim : Claim} {input stem : Bytes} {call : Call}
+    → CheckEnd claim input stem call → Type 0
 IsVerifiedOrNoMemory (verified v) = Unit {0}
 IsVerifiedOrNoMemory (refuted c r) = ⊥
 IsVerifiedOrNoMemory (refused refusal r) = ⊥

@@ -4,16 +4,16 @@ use Rattle.std.specs.Prelude.{◌≡◌, ◌⊎◌, ℕ, ◌≤◌, IsTrue, Opti
 use Rattle.semantics.specs.Texts.{Bytes}
 use Rattle.semantics.specs.Net.{NetValue, table_count, literal_count}
 use Rattle.semantics.specs.declared.metric.Metric.{Metric}
-use Rattle.outside_semantics.specs.Outside.{Held, FilesTold, SinkTold, WhereTold, bytes_of}
+use Rattle.outside_semantics.specs.Outside.{Held, WhereTold, bytes_of}
 use Rattle.proof_semantics.specs.Queries.{SpentValue}
-use Rattle.job_semantics.specs.declared.growth.Growth.{Growth}
-use Rattle.job_semantics.specs.declared.growth.Growth.TheVariants.{Allowed}
 use Rattle.job_semantics.specs.declared.task.Task.{Task}
-use Rattle.job_semantics.specs.Job.{synth, against, check, confirm, flat, aag, blif, trim, are_file_words, TaskNames, are_task_names}
-use Rattle.job_semantics.specs.Job.{are_second_words, are_conversion_words, are_trim_words, job_of}
+use Rattle.job_semantics.specs.declared.growth.Growth.TheVariants.{Allowed}
+use Rattle.job_semantics.specs.Job.{synth, against, check, confirm, flat, aag, blif, trim, are_file_words}
+use Rattle.job_semantics.specs.Job.{TaskNames, are_task_names}
+use Rattle.job_semantics.specs.Job.{are_conversion_words, are_trim_words, job_of}
 use Rattle.job_semantics.specs.Input.{IsReadAs}
-use Rattle.job_semantics.specs.Certificate.{texts_of, CertifiesWith, confirmed_claim}
-use Rattle.job_semantics.specs.Synthesis.{SynthDone}
+use Rattle.job_semantics.specs.Certificate.{texts_of, CertifiesWith}
+use Rattle.job_semantics.specs.Synthesis.{SynthDone, claim_of}
 use Rattle.job_semantics.specs.Checking.{AreCheckFilesHeld, CheckEnd, IsQuietCheck, AreShort, IsVerifiedEnd}
 use Rattle.job_semantics.specs.Checking.{IsEndlessEnd, IsVerifiedOrNoMemory, VerifiesWith, Verifies}
 use Rattle.job_semantics.specs.SecondNetlist.{TaskDone}
@@ -79,7 +79,7 @@ JoinedTaskLaw = (task : Task) (aim : Constraint) (names : TaskNames) (spent : Op
     (call : Call)
     → IsTrue (are_file_words names.input names.stem) → (done : TaskDone task aim names spent call)
     → WhereTold call.old call.new
-    (λ a b. VerifiesWith (confirmed_claim aim.metric aim.bound) names.input names.stem b
+    (λ a b. VerifiesWith (claim_of aim Allowed) names.input names.stem b
     × (table_count done.written.result.net ≤ table_count done.exact
     → literal_count done.written.result.net ≤ literal_count done.exact
     → Verifies aim.metric aim.bound names.input names.stem b))

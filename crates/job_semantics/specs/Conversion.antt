@@ -2,7 +2,6 @@
 -- OUT is to hold, or why IN is refused. Source: this tool's own table of commands.
 use Rattle.std.specs.Prelude.{◌≡◌, IsTrue, [], ◌∷◌, Result, Ok, Err}
 use Rattle.semantics.specs.Texts.{Bytes}
-use Rattle.outside_semantics.specs.Outside.{FilesTold, SinkTold}
 use Rattle.outside_semantics.specs.WrittenFiles.{File, FilesWritten, FilesCutShort}
 use Rattle.job_semantics.specs.Synthesis.{OfInput, IsUntouched, InputRefused, InputReadFault, AreFilesSteady}
 use Rattle.job_semantics.specs.Synthesis.{IsQuiet}

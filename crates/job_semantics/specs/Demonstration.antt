@@ -2,7 +2,6 @@
 -- under the stem `demo`. Source: this tool's own demonstration.
 use Rattle.std.specs.Prelude.{IsTrue, codes}
 use Rattle.semantics.specs.Texts.{Bytes}
-use Rattle.outside_semantics.specs.Outside.{FilesTold, SinkTold}
 use Rattle.job_semantics.specs.Endings.{are_bundle_names_steady}
 use Rattle.job_semantics.specs.Synthesis.{IsQuiet}
 use Rattle.job_semantics.specs.Call.{Call}

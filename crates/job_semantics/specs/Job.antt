@@ -98,7 +98,7 @@ are_file_words input stem = not (is_empty_word input)
 abbrev pub is_output_word : Bytes → Bytes → Bool
 is_output_word input output = not (is_empty_word output) && not (bytes_eq input output)
 
--- neither IN nor the second netlist is a file of the bundle
+-- no name is empty, and neither IN nor the second netlist is a file of the bundle
 abbrev pub are_task_names : TaskNames → Bool
 are_task_names names = are_file_words names.input names.stem && are_file_words names.second names.stem
 

@@ -1,4 +1,3 @@
-use Rattle.job_semantics.specs.Call.{Call}
 pub mod Endings
 pub mod Job
 pub mod Report

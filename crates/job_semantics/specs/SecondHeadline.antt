@@ -6,12 +6,12 @@
 -- were spent, every second netlist within the bound gets a bundle that `confirm` verifies: from `certify` for
 -- the netlist as it is, from `refine` for one that admits no further single simplification. To refine IN
 -- itself is a synthesis, of which the headline speaks.
-use Rattle.std.specs.Prelude.{◌≡◌, ◌⊎◌, ℕ, ◌≤◌, Bool, Option, Some, None, List, length, Contains}
+use Rattle.std.specs.Prelude.{◌≡◌, ◌⊎◌, ℕ, ◌≤◌, Bool, Some, None, List, length, Contains}
 use Rattle.semantics.specs.Texts.{Bytes}
 use Rattle.semantics.specs.Net.{NetValue, input_count, table_count, literal_count, HasSamePorts}
 use Rattle.semantics.specs.Error.{net_error, IsWithin}
 use Rattle.semantics.specs.declared.metric.Metric.{Metric}
-use Rattle.outside_semantics.specs.Outside.{Held, FilesTold, SinkTold, WhereTold, bytes_of}
+use Rattle.outside_semantics.specs.Outside.{Held, WhereTold, bytes_of}
 use Rattle.chain_semantics.specs.declared.moves.Move.{Move}
 use Rattle.chain_semantics.specs.Moves.{moves_of, moved}
 use Rattle.chain_semantics.specs.Simplification.{IsInSimplificationFrom, IsSimplificationEndFrom}
@@ -24,10 +24,10 @@ use Rattle.job_semantics.specs.Input.{IsReadAs}
 use Rattle.job_semantics.specs.Report.{Report}
 use Rattle.job_semantics.specs.Certificate.{Texts, texts_of, IsNetlist, IsReport, CertifiesWith}
 use Rattle.job_semantics.specs.Checking.{Verifies, VerifiesWith}
-use Rattle.job_semantics.specs.SecondNetlist.{AreRead, IsQuietTask, request_of}
+use Rattle.job_semantics.specs.SecondNetlist.{AreRead, IsQuietTask}
 use Rattle.proof_semantics.specs.declared.constraint.Constraint.{Constraint}
 use Rattle.job_semantics.specs.Call.{Call}
-use Rattle.job_semantics.specs.Synthesis.{Request, claim_of}
+use Rattle.job_semantics.specs.Synthesis.{Request, claim_of, request_of}
 use Rattle.job_semantics.specs.Headline.{Answered}
 
 -- The texts name one circuit, which has the original's inputs and outputs by their names, and state one

@@ -9,11 +9,12 @@ use Rattle.semantics.specs.declared.metric.Metric.{Metric}
 use Rattle.blif_semantics.specs.Reading.{Refusal}
 use Rattle.chain_semantics.specs.Simplification.{IsBeginning}
 use Rattle.proof_semantics.specs.Queries.{SpentValue, IsOver, IsSpentQuery}
-use Rattle.outside_semantics.specs.Outside.{Held, FilesTold, SinkTold, Goes, Rose, WhereTold, bytes_of}
+use Rattle.outside_semantics.specs.Outside.{Held, FilesTold, Goes, Rose, WhereTold, bytes_of}
 use Rattle.job_semantics.specs.declared.task.Task.{Task}
 use Rattle.job_semantics.specs.Endings.{are_bundle_names_steady}
 use Rattle.job_semantics.specs.Input.{IsReadAs, IsRefusedFor, IsAccepted}
 use Rattle.job_semantics.specs.Synthesis.{OfInput, CountsAs, IsQuiet, BundleWritten, BundleCutShort, Request}
+use Rattle.job_semantics.specs.Synthesis.{request_of}
 use Rattle.job_semantics.specs.Synthesis.{MaximumSpent}
 use Rattle.proof_semantics.specs.declared.constraint.Constraint.{Constraint}
 use Rattle.job_semantics.specs.Call.{Call}
@@ -83,10 +84,6 @@ abbrev pub IsTaskSpent : Request → Option SpentValue → SpentValue → Type 0
 IsTaskSpent r spent level =
     (IsBoundSpent r.aim r.exact r.begin level × (spent ≡ None))
     ⊎ (IsBeginning r.aim.metric r.exact r.aim.bound r.begin × MaximumSpent r spent level)
-
--- a task on two nets
-abbrev pub request_of : Task → Constraint → NetValue → NetValue → Request
-request_of task aim exact begin = record { task = task; aim = aim; exact = exact; begin = begin }
 
 -- done: both were read, the second net keeps the bound, and its bundle was written
 pub record TaskDone (task : Task) (aim : Constraint) (names : TaskNames) (spent : Option SpentValue)

@@ -4,7 +4,6 @@ use Rattle.std.specs.Prelude.{◌≡◌, ◌≢◌, ℕ, ◌<◌, ◌≤◌, Boo
 use Rattle.std.specs.Prelude.{slice_index_or}
 use Rattle.std.specs.List.{AllByRecursion}
 use Rattle.semantics.specs.Net.{NetValue, input_count}
-use Rattle.semantics.specs.declared.metric.Metric.{Metric}
 use Rattle.semantics.specs.declared.limits.TheConstants.{FEW_INPUTS}
 use Rattle.semantics.specs.Vectors.{all_vectors}
 use Rattle.chain_semantics.specs.declared.moves.Move.{Move}

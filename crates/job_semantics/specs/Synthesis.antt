@@ -1,16 +1,15 @@
 -- What a synth or a demo job comes to, by its answer, and what the bundle of every job holds. Source: SALSA,
 -- simplification within a bound on the error.
-use Rattle.std.specs.Prelude.{◌≡◌, ◌⊎◌, ℕ, ◌≤◌, Bool, false, IsTrue, Option, Some, None, is_none, List, []}
+use Rattle.std.specs.Prelude.{◌≡◌, ◌⊎◌, ◌≤◌, Bool, false, IsTrue, Option, Some, None, is_none, List, []}
 use Rattle.std.specs.FinMap.{contains_key}
 use Rattle.semantics.specs.Texts.{Bytes}
 use Rattle.semantics.specs.Net.{NetValue, table_count, literal_count}
-use Rattle.semantics.specs.declared.metric.Metric.{Metric}
 use Rattle.proof_semantics.specs.Clauses.{IsUnsatisfiable}
 use Rattle.proof_semantics.specs.Formula.{Formula}
 use Rattle.proof_semantics.specs.Miter.{miter}
 use Rattle.proof_semantics.specs.Logs.{LogItem, Refutes, IsDerivation}
 use Rattle.proof_semantics.specs.Queries.{SpentValue, IsMaximum, IsSpentLevel, MaximumValue}
-use Rattle.outside_semantics.specs.Outside.{Held, FilesTold, SinkTold, Goes, Rose, WhereTold, Took}
+use Rattle.outside_semantics.specs.Outside.{Held, FilesTold, Goes, Rose, WhereTold, Took}
 use Rattle.outside_semantics.specs.Outside.{TakeFailed, bytes_of}
 use Rattle.outside_semantics.specs.WrittenFiles.{File, FilesWritten, FilesCutShort}
 use Rattle.job_semantics.specs.declared.ending.Ending.TheVariants.{Report}
@@ -34,11 +33,14 @@ pub record Request : Type 0 where
   pub exact : NetValue
   pub begin : NetValue
 
--- a net is simplified: it is refined against itself
-abbrev pub simplifying : Constraint → NetValue → Request
-simplifying aim exact = record { task = Refine; aim = aim; exact = exact; begin = exact }
+abbrev pub request_of : Task → Constraint → NetValue → NetValue → Request
+request_of task aim exact begin = record { task = task; aim = aim; exact = exact; begin = begin }
 
--- what the certificate is to claim of the net that comes of it
+-- to simplify a net is to refine it against itself
+abbrev pub simplifying : Constraint → NetValue → Request
+simplifying aim exact = request_of Refine aim exact exact
+
+-- what a certificate claims of the net that comes of a request
 abbrev pub claim_of : Constraint → Growth → Claim
 claim_of aim growth = record { metric = aim.metric; bound = aim.bound; growth = growth }
 
@@ -137,7 +139,7 @@ pub record BundleWritten (r : Request) (stem : Bytes) (spent : Option SpentValue
   pub certificate : (growth : Growth) → IsOfAllowedSize growth r.exact result.net
       → OfBundle call.old call.new stem (CertifiesWith (claim_of r.aim growth) r.exact)
   pub version : OfBundle call.old call.new stem
-      (λ texts. OfReport r.aim.metric r.aim.bound r.exact texts (λ told. told.version ≡ Two))
+      (λ texts. OfReport r.aim.metric r.aim.bound r.exact texts (λ report. report.version ≡ Two))
 
 -- The task was done. Either a file could not be written whole, and nothing was put to the sink; or all files
 -- were written, and a first part of the report was put.

@@ -1,16 +1,16 @@
 -- What a trim job comes to, by its answer: the job checks the bundle and, where the certificate stands,
--- writes the trimmed log to OUT. Source: this tool's own bundles; proof trimming by backward checking.
+-- writes the trimmed log to OUT. The claim of a trim job is that of a check (`checked_claim`). Source: this
+-- tool's own bundles; proof trimming by backward checking.
 use Rattle.std.specs.Prelude.{◌≡◌, ℕ, IsTrue, List}
 use Rattle.semantics.specs.Texts.{Bytes}
 use Rattle.semantics.specs.Net.{NetValue}
 use Rattle.semantics.specs.declared.metric.Metric.{Metric}
-use Rattle.outside_semantics.specs.Outside.{FilesTold, SinkTold, WhereTold, bytes_of}
+use Rattle.outside_semantics.specs.Outside.{WhereTold, bytes_of}
 use Rattle.proof_semantics.specs.Logs.{LogItem, Refutes}
 use Rattle.proof_semantics.specs.Lrat.{lrat_text}
 use Rattle.proof_semantics.specs.Miter.{miter}
 use Rattle.trim_semantics.specs.Trimmed.{IsTrimmed}
-use Rattle.job_semantics.specs.Certificate.{Texts, texts_of, OfBundle, OfBoth, IsRefutation, Certifies}
-use Rattle.job_semantics.specs.declared.growth.Growth.TheVariants.{Refused}
+use Rattle.job_semantics.specs.Certificate.{Texts, texts_of, OfBundle, OfBoth, IsRefutation, CertifiesWith}
 use Rattle.job_semantics.specs.Input.{IsReadAs}
 use Rattle.job_semantics.specs.Synthesis.{OfInput, IsQuiet}
 use Rattle.job_semantics.specs.Checking.{CheckEnd, IsVerifiedEnd, AreCheckFilesSteady}
