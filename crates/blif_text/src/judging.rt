@@ -3,6 +3,8 @@ ghost use Rattle.std.specs.Prelude.{◌≡◌, None, Some, Err, if◌then◌else
 ghost use Rattle.blif_semantics.specs.Statements.{with_plane, table_by, wrong_row, wrong_by, wrong};
 ghost use Rattle.blif_semantics.specs.Reading.{wrong_line};
 ghost use Rattle.blif_text.specs.Refusals.{Tells};
+ghost use Rattle.blif_text.specs.declared.judging.Wrong.TheVariants.{Command};
+ghost use Rattle.blif_text.specs.declared.refusal.BlifRefusal.TheVariants.{OutOfMemory as NoMemory};
 ghost use Rattle.text_words.specs.Slices.{texts};
 ghost use Rattle.blif_text.specs.Places.{table_of, place_of, start, place_next, wrong_of, wrong_if};
 
@@ -158,9 +160,10 @@ impl Place {
     }
 }
 
-/// The refusal of a line of these words.
+/// The refusal of a line of these words. Only that of a command holds a word, and so takes memory.
 pub fn refusal(alloc: Global, line: u64, wrong: Wrong, words: &[&[u8]]) -> BlifRefusal
-    ensures { Tells result (Err (wrong_line line (wrong_of wrong (texts words.now)))) }
+    ensures tells { Tells result (Err (wrong_line line (wrong_of wrong (texts words.now)))) }
+    ensures memory { result ≡ NoMemory → wrong ≡ Command }
 {
     match wrong {
         Wrong::BadByte => BlifRefusal::BadByte { line },

@@ -1,5 +1,5 @@
 //! Names in order, found by themselves.
-ghost use Rattle.std.specs.Prelude.{◌≡◌, not, [], IfOk, OnOk};
+ghost use Rattle.std.specs.Prelude.{◌≡◌, not, [], IfOk, OnOk, OnErr};
 ghost use Rattle.std.specs.Option.{option_map};
 ghost use Rattle.semantics.specs.Texts.{Bytes};
 ghost use Rattle.semantics.specs.Refusals.{has_name, first_doubled};
@@ -52,10 +52,11 @@ impl<'a> Names<'a> {
         self.names.places().contains_key(name)
     }
 
-    /// Adds a name, if it is new.
+    /// Adds a name, if it is new. Without memory for it nothing changes.
     pub fn add(&mut self, name: &'a [u8]) -> Result<bool, AllocError>
         ensures new { IfOk result (λ b. b ≡ not (has_name self.old name.now)) }
         ensures added { OnOk result (self.new ≡ with_name self.old name.now) }
+        ensures err { OnErr result (self.new ≡ self.old) }
     {
         let is_new = self.names.add(name)?;
         Ok(is_new)
