@@ -28,18 +28,18 @@ pub(crate) fn row_hints(
     mut chain: Chain,
     merged: &Merged,
     marks: &[Mark],
-    from: PlacedPins,
-    to: PlacedPins,
+    from: &PlacedPins,
+    to: &PlacedPins,
 ) -> Result<Ids, AllocError>
-    requires width { length marks.now ≡ length from.pins.now }
-    requires to_width { length marks.now ≡ length to.pins.now }
-    requires pins { All (λ s. s < length merged.now.firsts) from.pins.now }
-    requires to_pins { All (λ s. s < length merged.now.firsts) to.pins.now }
-    requires few { from.place.clause < 2 ^ 62 }
-    requires to_few { to.place.clause < 2 ^ 62 }
+    requires width { length marks.now ≡ length from.now.pins.now }
+    requires to_width { length marks.now ≡ length to.now.pins.now }
+    requires pins { All (λ s. s < length merged.now.firsts) from.now.pins.now }
+    requires to_pins { All (λ s. s < length merged.now.firsts) to.now.pins.now }
+    requires few { from.now.place.clause < 2 ^ 62 }
+    requires to_few { to.now.place.clause < 2 ^ 62 }
     ensures { IfOk result (λ hints. hints
-        ≡ ended_with (row_chain merged.now from.place.clause marks.now from.pins.now to.pins.now chain)
-        (to.place.clause + row_literals marks.now)) }
+        ≡ ended_with (row_chain merged.now from.now.place.clause marks.now from.now.pins.now to.now.pins.now chain)
+        (to.now.place.clause + row_literals marks.now)) }
 {
     let mut next = from.place.clause;
     for (i, mark) in marks.iter().enumerate() {

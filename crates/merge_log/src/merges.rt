@@ -88,7 +88,8 @@ fn take_table(
         → IsMerging placed.now levels level t merging.old
         → IsMerging placed.now levels level (t + 1) merging.new) }
 {
-    let form = form_of(alloc, &merging.merged, placed.net().table(t))?;
+    let own = placed.table(t);
+    let form = form_of(alloc, &merging.merged, own.table)?;
     let kind = merging.forms.number(form)?;
     if kind < merging.tables.len() {
         merge_found(alloc, placed, merging, t, kind)
@@ -139,15 +140,12 @@ fn lists_of(alloc: Global, net: &Net) -> Result<LevelLists, AllocError>
     ensures { IfOk result (AreListsOf net.now) }
 {
     let levels = levels(alloc, net)?;
-    level_lists(alloc, net, levels)
+    let lists = level_lists(alloc, net, levels)?;
+    Ok(lists)
 }
 
 /// The log of the merges, level by level.
-fn merge_levels(
-    alloc: Global,
-    placed: &PlacedNet,
-    lists: &LevelLists,
-) -> Result<Log, AllocError>
+fn merge_levels(alloc: Global, placed: &PlacedNet, lists: &LevelLists) -> Result<Log, AllocError>
     requires { AreListsOf placed.now lists.now }
     ensures { IfOk result (IsMergeLog placed.now) }
 {

@@ -1,6 +1,7 @@
 //! Where the tables of a net stand in its goal.
 ghost use Rattle.std.specs.Prelude.{◌≡◌, ◌<◌, ◌+◌, ◌^◌, length, sum_by, IfOk};
 ghost use Rattle.semantics.specs.Net.{input_count, table_count, signal_count, table_at};
+ghost use Rattle.net_core.specs.Built.{IsBuilt};
 ghost use Rattle.proof_semantics.specs.Formula.{goal_of};
 ghost use Rattle.proof_semantics.specs.Variables.{variable_count, table_clause_count};
 ghost use Rattle.merge_log.specs.Chains.{MergedValue};
@@ -123,11 +124,15 @@ impl<'a> PlacedNet<'a> {
         ensures place { result.place ≡ place_of (input_count self.now) self.now.tables t }
         ensures stands { (m : MergedValue) → length m.firsts ≡ signal_count self.now
             → IsTableAt (goal_of self.now) m result }
+        ensures built { IsBuilt self.now }
     {
+        let inputs = self.net.inputs();
+        let table = self.net.table(t);
+        let place = self.places[t as usize];
         PlacedTable {
-            signal: self.net.inputs() + t,
-            table: self.net.table(t),
-            place: self.places[t as usize],
+            signal: inputs + t,
+            table,
+            place,
         }
     }
 }

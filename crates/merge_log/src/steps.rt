@@ -79,12 +79,13 @@ fn push_row(
         (link pair.now.own.place.row pair.now.other.place.row sign ∷ [])) }
 {
     let _variables = goal.vars();
-    let (row, other) = (pair.own.place.row, pair.other.place.row);
+    let row = pair.own.place.row;
+    let other = pair.other.place.row;
     let chain = Chain::new(alloc, row, other, sign)?;
     let hints = if sign {
-        row_hints(chain, merged, pair.marks, pair.own, pair.other)?
+        row_hints(chain, merged, pair.marks, &pair.own, &pair.other)?
     } else {
-        row_hints(chain, merged, pair.marks, pair.other, pair.own)?
+        row_hints(chain, merged, pair.marks, &pair.other, &pair.own)?
     };
     push_step(goal, log, link(alloc, row, other, sign)?, hints)
 }

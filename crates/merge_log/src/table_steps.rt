@@ -34,8 +34,10 @@ fn push_table(
         (link pair.now.own.signal pair.now.other.signal sign ∷ [])) }
 {
     let _variables = goal.vars();
-    let (s, u) = (pair.own.signal, pair.other.signal);
-    let (at, other) = (pair.own.place, pair.other.place);
+    let s = pair.own.signal;
+    let u = pair.other.signal;
+    let at = pair.own.place;
+    let other = pair.other.place;
     let chain = Chain::new(alloc, s, u, sign)?;
     let count = u64::from(pair.rows);
     let hints = if sign == pair.plane {
