@@ -5,7 +5,6 @@ use Rattle.semantics.specs.Dependence.{DependsOn}
 use Rattle.semantics.specs.Order.{IsKnown}
 use Rattle.chain_semantics.specs.Flips.{flipped_values}
 use Rattle.lane_nets.specs.Words.{values_at}
-use Rattle.care_masks.specs.declared.flips.Turned.{Turned}
 
 -- at pattern b each signal has the value that it has at x where table t has the opposite of its own
 abbrev pub HasFlippedValues : NetValue → ℕ → List ℕ → ℕ → List Bool → Type 0
@@ -28,8 +27,3 @@ pub record AreInTurn (N : NetValue) (t : ℕ) (later : List ℕ) : Type 0 where
 pub record AreLater (N : NetValue) (t : ℕ) (later : List ℕ) : Type 0 where
   pub in_turn : AreInTurn N t later
   pub all : (s : ℕ) → s < signal_count N → IsSettled N t later s
-
--- a table of the net, with the other tables that depend on it
-pub record IsTurned (N : NetValue) (t : Turned) : Type 0 where
-  pub table_in : t.table < table_count N
-  pub later_are : AreLater N t.table t.later.now

@@ -7,10 +7,10 @@ ghost use Rattle.net_core.specs.Built.{IsBuilt};
 ghost use Rattle.lane_nets.specs.Blocks.{row_at, IsRowWhere, AreBlocksOf};
 ghost use Rattle.lane_nets.specs.Lanes.{AreOutputWordsOf};
 ghost use Rattle.care_masks.specs.Filled.{FitsOutputs};
-ghost use Rattle.care_masks.specs.Flips.{IsTurned};
+ghost use Rattle.care_masks.specs.Flips.{AreLater};
 
 use crate::differences::used_word;
-use crate::flips::{Turned, flip_words, list_later};
+use crate::flips::{TurnedTable, flip_words, list_later};
 use crate::judged_nets::over_bound;
 use lane_nets::word_list::WordList;
 use net_core::items::Items;
@@ -75,13 +75,14 @@ pub(crate) fn exceeding_row(
 /// over are computed in `words`.
 fn set_care_row(
     net: &Net,
-    turned: Turned,
+    turned: &TurnedTable,
     blocks: &[WordList],
     limit: &Limit,
     words: &mut [u64],
     row: &mut [u64],
 )
-    requires turned { IsTurned net.now turned }
+    requires table { turned.now.table < table_count net.now }
+    requires later { AreLater net.now turned.now.table turned.now.later.now }
     requires few_outputs { length net.now.outputs ≤ MOST_OUTPUTS }
     requires limit { FitsOutputs net.now limit.now.count limit.now.outputs }
     requires same { length blocks.now ≡ length limit.now.outputs }
@@ -91,7 +92,7 @@ fn set_care_row(
     ensures { (exact : NetValue) (vectors : List (List Bool))
         → length vectors ≡ limit.now.count → AreOutputWordsOf exact vectors limit.now.outputs
         → AreBlocksOf net.now vectors blocks.now
-        → IsRowWhere vectors (IsCaredFor limit.now.metric exact limit.now.level net.now turned.table)
+        → IsRowWhere vectors (IsCaredFor limit.now.metric exact limit.now.level net.now turned.now.table)
         row.new }
 {
     net.see_sound();
@@ -135,11 +136,11 @@ pub(crate) fn care_rows(
         let mut row = vec![in alloc; 0; blocks.len()]?;
         net.mark_dependents(t, marks);
         let count = list_later(net, order, t, marks, later);
-        let turned = Turned {
+        let turned = TurnedTable {
             table: t,
             later: &later[..count],
         };
-        set_care_row(net, turned, blocks, limit, words, &mut row);
+        set_care_row(net, &turned, blocks, limit, words, &mut row);
         rows.push(WordList::of(row))?;
     }
     Ok(rows)

@@ -85,10 +85,10 @@ impl FixedMasks {
     /// The masks of `approx` against `exact` at these patterns.
     pub fn new(
         alloc: Global,
-        exact: &Net,
-        approx: &Net,
         metric: Metric,
         bound: u128,
+        exact: &Net,
+        approx: &Net,
         patterns: &Patterns,
     ) -> Result<FixedMasks, AllocError>
         requires ports { HasSamePorts exact.now approx.now }

@@ -1,18 +1,18 @@
 //! The values of all signals at 64 patterns at a time where a table is turned over.
 ghost use Rattle.std.specs.Prelude.{◌≡◌, ◌==◌, ◌&&◌, ◌↔◌, ◌<◌, ◌≤◌, not, ℕ, List, Bool, false, length, take};
 ghost use Rattle.std.specs.Prelude.{slice_index_or, IsTrue};
-ghost use Rattle.semantics.specs.Net.{input_count, signal_count};
+ghost use Rattle.semantics.specs.Net.{input_count, table_count, signal_count};
 ghost use Rattle.semantics.specs.Dependence.{DependsOn};
 ghost use Rattle.semantics.specs.Order.{IsOrderOf};
 ghost use Rattle.lane_nets.specs.Words.{HasValues};
-ghost use Rattle.care_masks.specs.Flips.{HasFlippedValues, AreLater, IsTurned};
+ghost use Rattle.care_masks.specs.Flips.{HasFlippedValues, AreLater};
 
 use lane_nets::table_words::table_word;
 use net_core::net::Net;
 
 /// A table that is turned over, and the other tables that depend on it, in an order of evaluation.
 #[derive(Clone, Copy)]
-pub struct Turned<'a> {
+pub struct TurnedTable<'a> {
     pub table: u32,
     pub later: &'a [u32],
 }
@@ -48,11 +48,12 @@ pub fn list_later(net: &Net, order: &[u32], t: u32, marks: &[bool], later: &mut 
 }
 
 /// Turns over the words of a table, and computes again those of the tables that depend on it.
-pub fn flip_words(net: &Net, turned: Turned, words: &mut [u64])
-    requires turned { IsTurned net.now turned }
+pub fn flip_words(net: &Net, turned: &TurnedTable, words: &mut [u64])
+    requires table { turned.now.table < table_count net.now }
+    requires later { AreLater net.now turned.now.table turned.now.later.now }
     requires room { length words.old ≡ signal_count net.now }
     ensures { (b : ℕ) (x : List Bool) → b < 64 → HasValues net.now words.old b x
-        → HasFlippedValues net.now turned.table words.new b x }
+        → HasFlippedValues net.now turned.now.table words.new b x }
 {
     let inputs = net.inputs() as usize;
     words[inputs + turned.table as usize] = !words[inputs + turned.table as usize];

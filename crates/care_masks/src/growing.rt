@@ -75,7 +75,8 @@ fn reach_broken_word(
     ensures few { length row.new ≤ length known.now.blocks.now }
     ensures room { FitsRoom known.now.judged.now room.new }
 {
-    let block = &known.blocks[k];
+    let blocks = known.blocks;
+    let block = &blocks[k];
     let words = block.words.as_slice();
     let overlaps = block.overlaps.as_slice();
     let differs = block_difference(known.judged.nets.approx(), step, words, overlaps);
@@ -222,7 +223,11 @@ impl<'a> GrowingMasks<'a> {
             count: self.count,
             blocks: self.blocks.as_slice(),
         };
-        let row = &mut self.care[table_of(step) as usize];
-        first_broken(&known, step, &mut self.room, row)
+        first_broken(
+            &known,
+            step,
+            &mut self.room,
+            &mut self.care[table_of(step) as usize],
+        )
     }
 }

@@ -3,11 +3,11 @@
 ghost use Rattle.std.specs.Prelude.{◌≡◌, ◌<◌, ◌≤◌, ℕ, List, Bool, length, IfOk, OnOk};
 ghost use Rattle.semantics.specs.Net.{input_count, table_count, signal_count};
 ghost use Rattle.lane_bits.specs.Rows.{word_count};
-ghost use Rattle.care_masks.specs.Flips.{IsTurned};
+ghost use Rattle.care_masks.specs.Flips.{AreLater};
 ghost use Rattle.care_masks.specs.Growing.{IsBlockOf, AreBlocksFor, FitBlocks, AreCareWords, FitsRoom};
 
 use crate::differences::used_word;
-use crate::flips::{Turned, flip_words, list_later};
+use crate::flips::{TurnedTable, flip_words, list_later};
 use crate::judged_nets::{Judged, over_bound};
 use crate::overlaps::overlap_words;
 use lane_bits::kernels::word_count;
@@ -98,30 +98,32 @@ pub(crate) fn add_blocks(
 /// each block with the table turned over are computed in `words`.
 fn add_care_words(
     known: &JudgedBlocks,
-    turned: Turned,
+    turned: &TurnedTable,
     to: usize,
     words: &mut [u64],
     row: &mut WordList,
 ) -> Result<(), AllocError>
-    requires turned { IsTurned known.now.judged.now.nets.approx turned }
+    requires table { turned.now.table < table_count known.now.judged.now.nets.approx }
+    requires later { AreLater known.now.judged.now.nets.approx turned.now.table turned.now.later.now }
     requires fit { FitBlocks known.now.judged.now known.now.count known.now.blocks.now }
     requires within { to ≤ length known.now.blocks.now }
     requires row { length row.old ≤ to }
     requires words { length words.old ≡ signal_count known.now.judged.now.nets.approx }
     ensures cared { (vectors : List (List Bool)) → length vectors ≡ known.now.count
         → AreBlocksFor known.now.judged.now vectors known.now.blocks.now
-        → AreCareWords known.now.judged.now vectors turned.table row.old
-        → AreCareWords known.now.judged.now vectors turned.table row.new }
+        → AreCareWords known.now.judged.now vectors turned.now.table row.old
+        → AreCareWords known.now.judged.now vectors turned.now.table row.new }
     ensures few { length row.new ≤ to }
     ensures ok { OnOk result (to ≤ length row.new) }
 {
     let judged = known.judged;
+    let blocks = known.blocks;
     let net = judged.nets.approx();
     net.see_sound();
     for k in row.len()..to {
-        words.copy_from_slice(known.blocks[k].words.as_slice());
+        words.copy_from_slice(blocks[k].words.as_slice());
         flip_words(net, turned, words);
-        let outputs = known.blocks[k].outputs.as_slice();
+        let outputs = blocks[k].outputs.as_slice();
         let used = used_word(known.count, k);
         let cared = over_bound(net, judged.metric, judged.bound, words, outputs, used);
         row.push(cared)?;
@@ -159,9 +161,9 @@ pub(crate) fn reach_care_words(
     let later = tables.as_mut_slice();
     net.mark_dependents(t, &mut room.marks);
     let found = list_later(net, order, t, &room.marks, later);
-    let turned = Turned {
+    let turned = TurnedTable {
         table: t,
         later: &later[..found],
     };
-    add_care_words(known, turned, to, &mut room.words, row)
+    add_care_words(known, &turned, to, &mut room.words, row)
 }

@@ -148,7 +148,9 @@ fn push_cases(
     reach_values(tree, x, depth, words);
     if depth == x.len() {
         let id = cases.last + 1;
-        cases.log.push(Item::Add(vector_step(tree, id, words, room, x)?))?;
+        cases
+            .log
+            .push(Item::Add(vector_step(tree, id, words, room, x)?))?;
         cases.last = id;
         return Ok(());
     }

@@ -139,7 +139,11 @@ module _ (f : Formula) (old new : List LogItem) (h : IsDerivation f old) where
         → hints ≡ ended_with (row_chain m id marks pins others c) (behind + row_literals marks) → length f.clauses + length old + 1 < 2 ^ 61
         → clause ≡ link row other sign → new ≡ old ++ Add (record { id = length f.clauses + length old + 1; literals = clause; hints = hints }) ∷ [] → Adds f old new (link row other sign ∷ [])
     row_forth_linked true e row other id behind pins others hints c clause width wide same ids more low lower chain is short made grown =
-        row_forth_by row other id behind pins others hints c width wide same ids more low lower chain is short (subst (λ l. new ≡ old ++ Add (record { id = length f.clauses + length old + 1; literals = l; hints = hints }) ∷ []) made grown)
+        row_forth_by row other id behind pins others hints c width wide same ids more low lower chain is short (subst (λ l. new ≡ old ++ Add (record {
+          id = length f.clauses + length old + 1;
+          literals = l;
+          hints = hints;
+        }) ∷ []) made grown)
     row_forth_linked false e row other id behind pins others hints c clause width wide same ids more low lower chain is short made grown = absurd (not_both e)
 
     pub row_back_linked : (sign : Bool) → sign ≡ false → (row other id behind : ℕ) (pins others hints : List ℕ) (c : ChainValue) (clause : Clause) → length marks ≡ length pins

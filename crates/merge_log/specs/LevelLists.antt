@@ -27,4 +27,5 @@ pub record AreLevelLists (n count : ℕ) (levels : List ℕ) (from : ℕ) (first
 pub record AreListsOf (N : NetValue) (lists : LevelLists) : Type 0 where
   pub levels_are : AreLevels (input_count N) N.tables lists.levels.items
   pub deepest : (s : ℕ) → slice_index_or lists.levels.items s 0 < length lists.firsts.items
-  pub lists_are : AreLevelLists (input_count N) (table_count N) lists.levels.items 0 lists.firsts.items lists.nexts.items
+  pub lists_are : AreLevelLists (input_count N) (table_count N) lists.levels.items 0 lists.firsts.items
+      lists.nexts.items

@@ -1,6 +1,6 @@
 -- The steps that make rows and tables equal.
-use Rattle.std.specs.Prelude.{◌≡◌, ℕ, zero, suc, ◌+◌, ◌<◌, ◌≤◌, ◌^◌, Bool, not, List, [], ◌∷◌, ◌++◌, take, length}
-use Rattle.std.specs.Prelude.{sum_by, All}
+use Rattle.std.specs.Prelude.{◌≡◌, ℕ, zero, suc, ◌+◌, ◌<◌, ◌≤◌, ◌^◌, Bool, not, List, [], ◌∷◌, ◌++◌}
+use Rattle.std.specs.Prelude.{take, length, sum_by, All}
 use Rattle.std.specs.List.{AllZip}
 use Rattle.semantics.specs.declared.mark.Mark.{Mark}
 use Rattle.semantics.specs.Net.{TableValue, row_literals}
@@ -22,12 +22,14 @@ use Rattle.merge_log.specs.declared.placed.Implied.{Implied}
 pub record IsRowAt (f : Formula) (m : MergedValue) (marks : List Mark) (at : PlacedPins) : Type 0 where
   pub width : length marks ≡ length at.pins.now
   pub pins_in : All (λ s. s < length m.firsts) at.pins.now
-  pub clauses : HaveIds f.clauses at.place.clause (row_clauses at.place.row (literals_of_row marks at.pins.now))
+  pub clauses : HaveIds f.clauses at.place.clause
+      (row_clauses at.place.row (literals_of_row marks at.pins.now))
   pub row : at.place.row < f.variables
   pub few : at.place.clause < 2 ^ 62
 
 -- rows stand so, one after another
-pub record AreRowsAt (f : Formula) (m : MergedValue) (rows : List (List Mark)) (at : PlacedPins) : Type 0 where
+pub record AreRowsAt (f : Formula) (m : MergedValue) (rows : List (List Mark))
+    (at : PlacedPins) : Type 0 where
   pub widths : All (λ marks. length marks ≡ length at.pins.now) rows
   pub pins_in : All (λ s. s < length m.firsts) at.pins.now
   pub clauses : HaveIds f.clauses at.place.clause (rows_clauses at.place.row at.pins.now rows)

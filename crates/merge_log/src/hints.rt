@@ -22,8 +22,8 @@ pub(crate) fn asked(mark: Mark) -> Option<bool>
     }
 }
 
-/// The hints that the row `from` implies the row `to`, which has the same marks, and pins that were made equal
-/// to those of the first.
+/// The hints that the row `from` implies the row `to`, which has the same marks, and pins that were made
+/// equal to those of the first.
 pub(crate) fn row_hints(
     mut chain: Chain,
     merged: &Merged,
@@ -38,7 +38,8 @@ pub(crate) fn row_hints(
     requires few { from.now.place.clause < 2 ^ 62 }
     requires to_few { to.now.place.clause < 2 ^ 62 }
     ensures { IfOk result (λ hints. hints
-        ≡ ended_with (row_chain merged.now from.now.place.clause marks.now from.now.pins.now to.now.pins.now chain)
+        ≡ ended_with (row_chain merged.now from.now.place.clause marks.now from.now.pins.now
+        to.now.pins.now chain)
         (to.now.place.clause + row_literals marks.now)) }
 {
     let mut next = from.place.clause;

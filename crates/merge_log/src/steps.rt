@@ -1,9 +1,8 @@
 //! The steps that make rows equal.
-ghost use Rattle.std.specs.Prelude.{◌≡◌, ◌+◌, ◌<◌, ◌≤◌, ◌^◌, [], ◌∷◌, ◌++◌, length, sum_by, All, IfOk, OnOk};
+ghost use Rattle.std.specs.Prelude.{◌≡◌, ◌+◌, ◌<◌, ◌^◌, [], ◌∷◌, ◌++◌, length, IfOk, OnOk};
 ghost use Rattle.semantics.specs.Net.{row_literals};
 ghost use Rattle.std.specs.List.{AllZip};
 ghost use Rattle.proof_semantics.specs.declared.item.Item.TheVariants.{Add};
-ghost use Rattle.proof_semantics.specs.NetClauses.{rows_clauses};
 ghost use Rattle.proof_semantics.specs.Logs.{IsDerivation};
 ghost use Rattle.proof_semantics.specs.Conflicts.{clauses_with};
 ghost use Rattle.merge_log.specs.Chains.{first_of};

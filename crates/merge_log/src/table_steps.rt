@@ -74,8 +74,8 @@ fn implied(table: &PlacedTable) -> Implied
     }
 }
 
-/// Makes a table equal to another, which has the same plane, the same rows, and pins that were made equal: two
-/// steps for each row, and then two. Returns the id of the first of these two, which says that the first
+/// Makes a table equal to another, which has the same plane, the same rows, and pins that were made equal:
+/// two steps for each row, and then two. Returns the id of the first of these two, which says that the first
 /// table implies the other.
 pub(crate) fn merge_tables(
     alloc: Global,

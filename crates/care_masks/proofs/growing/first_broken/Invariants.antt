@@ -12,5 +12,6 @@ invariant-loop-k l = record {
   cared : (vectors : List (List Bool)) → length vectors ≡ l.known.count → AreBlocksFor l.known.judged.now vectors l.known.blocks.now → AreCareWords l.known.judged.now vectors (table_of l.step) l.fn.row
       → AreCareWords l.known.judged.now vectors (table_of l.step) l.row;
   none : (vectors : List (List Bool)) → length vectors ≡ l.known.count → AreBlocksFor l.known.judged.now vectors l.known.blocks.now → AreCareWords l.known.judged.now vectors (table_of l.step) l.fn.row
-      → (p : ℕ) → p < 64 * l.k → p < length vectors → ¬ IsBrokenAt l.known.judged.now.metric l.known.judged.now.nets.exact l.known.judged.now.bound l.known.judged.now.nets.approx l.step (vector_at vectors p);
+      → (p : ℕ) → p < 64 * l.k → p < length vectors → ¬ IsBrokenAt l.known.judged.now.metric l.known.judged.now.nets.exact l.known.judged.now.bound l.known.judged.now.nets.approx l.step (vector_at
+      vectors p);
 }

@@ -79,16 +79,19 @@ overflow_add-id-2 t c =
     let size = length-set c.args.x.now c.args.depth false in
     let size2 = length-set c.push_cases.new.x c.args.depth true ∙ c.push_cases.auto.x ∙ size in
     let within : c.args.depth < length c.args.x.now = omega (arith, c.requires.depth, c.if-depth-x.false) in
-    let id = other-id (length c.args.x.now) _ _ c.args.depth c.args.cases.now.last c.push_cases.new.cases.last c.push_cases-2.new.cases.last size size2 within c.in_ok-push_cases.ensures.last c.in_ok-push_cases-2.ensures.last in
+    let id = other-id (length c.args.x.now) _ _ c.args.depth c.args.cases.now.last c.push_cases.new.cases.last c.push_cases-2.new.cases.last size size2 within c.in_ok-push_cases.ensures.last
+    c.in_ok-push_cases-2.ensures.last in
     omega (arith, id, c.requires.ids)
 
 pub returns-clause-log : goal.returns-clause-log
 returns-clause-log t c =
     let N : NetValue = c.args.tree.now.net.now in
     let size = length-set c.args.x.now c.args.depth false in
-    walk-joined (input_count N) N.tables c.args.tree.now.order.now (get_or N.outputs 0 0) c.args.x.now c.push_cases.new.x c.push_cases-2.new.x c.args.depth c.args.cases.now.last c.push_cases.new.cases.last
+    walk-joined (input_count N) N.tables c.args.tree.now.order.now (get_or N.outputs 0 0) c.args.x.now c.push_cases.new.x c.push_cases-2.new.x c.args.depth c.args.cases.now.last
+    c.push_cases.new.cases.last
     c.push_cases-2.new.cases.last
-    c.args.cases.now.log c.push_cases.new.cases.log c.push_cases-2.new.cases.log c.push-2.new.self c.in_ok-join_step.field-0 (omega (arith, c.requires.depth, c.if-depth-x.false)) (c.push_cases.auto.x ∙ size)
+    c.args.cases.now.log c.push_cases.new.cases.log c.push_cases-2.new.cases.log c.push-2.new.self c.in_ok-join_step.field-0 (omega (arith, c.requires.depth, c.if-depth-x.false)) (c.push_cases.auto.x ∙
+    size)
     c.in_ok-push_cases.ensures.log c.in_ok-push_cases.ensures.last c.in_ok-push_cases.ensures.front c.in_ok-push_cases-2.ensures.log c.in_ok-push_cases-2.ensures.last c.in_ok-push_cases-2.ensures.front
     c.in_ok-join_step.ensures c.in_ok-push-2.ensures.ok
 
@@ -97,7 +100,8 @@ returns-clause-last t c =
     let size = length-set c.args.x.now c.args.depth false in
     let size2 = length-set c.push_cases.new.x c.args.depth true ∙ c.push_cases.auto.x ∙ size in
     let within : c.args.depth < length c.args.x.now = omega (arith, c.requires.depth, c.if-depth-x.false) in
-    other-id (length c.args.x.now) _ _ c.args.depth c.args.cases.now.last c.push_cases.new.cases.last c.push_cases-2.new.cases.last size size2 within c.in_ok-push_cases.ensures.last c.in_ok-push_cases-2.ensures.last
+    other-id (length c.args.x.now) _ _ c.args.depth c.args.cases.now.last c.push_cases.new.cases.last c.push_cases-2.new.cases.last size size2 within c.in_ok-push_cases.ensures.last
+    c.in_ok-push_cases-2.ensures.last
 
 pub returns-clause-front : goal.returns-clause-front
 returns-clause-front t c =

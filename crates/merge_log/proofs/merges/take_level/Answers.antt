@@ -28,4 +28,10 @@ along-preserved c =
 
 pub returns : goal.returns
 returns c =
-    merging_level c.args.placed.now c.args.lists.now.levels.items c.args.level c.along.t c.along.merging c.requires.lists.levels_are (omega (arith, c.along-test.false, c.tables.ensures.value, ap table_count c.net.ensures.value)) c.along.invariant.1
+    merging_level c.args.placed.now c.args.lists.now.levels.items c.args.level c.along.t c.along.merging c.requires.lists.levels_are (omega (
+      arith,
+      c.along-test.false,
+      c.tables.ensures.value,
+      ap
+          table_count c.net.ensures.value,
+    )) c.along.invariant.1

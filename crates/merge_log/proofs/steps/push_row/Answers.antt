@@ -14,8 +14,8 @@ row_hints-requires c = record {
   to_few = c.requires.other_row.few;
 }
 
-pub row_hints-requires-2 : goal.row_hints-requires-2
-row_hints-requires-2 c = record {
+pub row_hints-requires-else-sign : goal.row_hints-requires-else-sign
+row_hints-requires-else-sign c = record {
   width = c.requires.other_row.width;
   to_width = c.requires.row.width;
   pins = c.requires.other_row.pins_in;

@@ -1,4 +1,4 @@
-use Rattle.std.proofs.Common.{◌≡◌, ◌+◌, ◌<◌, ◌^◌, ℕ, ap, sym, subst, ◌∙◌, arith, sum_by}
+use Rattle.std.proofs.Common.{◌+◌, ◌<◌, ◌^◌, ap, sym, subst, ◌∙◌, arith, sum_by}
 use Rattle.std.proofs.lemmas.List.{get_or_default}
 use Rattle.semantics.specs.Net.{NetValue, input_count, table_count, table_at}
 use Rattle.net_core.specs.Built.{IsBuilt}
