@@ -1,7 +1,6 @@
 //! A bundle is checked, and the proof in it is kept.
 ghost use Rattle.std.specs.Prelude.{IfOk, IfErr};
 ghost use Rattle.semantics.specs.Net.{IsSmall};
-ghost use Rattle.job_semantics.specs.Certificate.{checked_claim};
 ghost use Rattle.bundle.specs.Judging.{FilesKept, IsCause, NothingKnown};
 ghost use Rattle.bundle.specs.Loading.{of_stem, IsLoaded};
 
@@ -11,35 +10,26 @@ use bundle_writing::stem::Stem;
 use file_core::files::Files;
 use file_reading::unread::Unread;
 use job_semantics::claim::Claim;
-use job_semantics::growth::Growth;
 use net_core::net::Net;
-use semantics::metric::Metric;
 use std::alloc::Global;
 
-/// The formula and the log of the bundle of the stem, if its files are a certificate that a simplified net is
-/// within the bound and not larger than the original. Reads and judges the files as [`check_bundle`] does
-/// where growth is refused, and keeps the log's items besides.
+/// The formula and the log of the bundle of the stem, if its files are a certificate of what is claimed. Reads
+/// and judges the files as [`check_bundle`] does, and keeps the log's items besides.
 pub fn load_bundle<F: Files>(
     alloc: Global,
     net: &Net,
-    metric: Metric,
-    bound: u128,
+    claim: Claim,
     stem: &Stem,
     files: &mut F,
 ) -> Result<Loaded, Unread>
     requires { IsSmall net.now }
-    ensures kept { FilesKept (of_stem (checked_claim metric bound) net.now stem.now) NothingKnown
+    ensures kept { FilesKept (of_stem claim net.now stem.now) NothingKnown
         (F.told files.old) (F.told files.new) }
-    ensures loaded { IfOk result (IsLoaded (of_stem (checked_claim metric bound) net.now stem.now)
+    ensures loaded { IfOk result (IsLoaded (of_stem claim net.now stem.now)
         (F.told files.old) (F.told files.new)) }
-    ensures cause { IfErr result (IsCause (of_stem (checked_claim metric bound) net.now stem.now) NothingKnown
+    ensures cause { IfErr result (IsCause (of_stem claim net.now stem.now) NothingKnown
         (F.told files.old) (F.told files.new)) }
 {
-    let claim = Claim {
-        metric,
-        bound,
-        growth: Growth::Refused,
-    };
     let judged = check_netlist(alloc, net, claim, stem, files)?;
     Ok(Loaded::of(judged))
 }
