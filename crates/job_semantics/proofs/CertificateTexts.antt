@@ -75,7 +75,7 @@ minimal_read = record { spelled = refl; same_metric = refl; same_bound = refl; m
 
 -- a text has one report
 pub the_one : (text : Bytes) (r s : Report) → IsReportText 2 (one_word Abs) 3 text r → IsReportText 2 (one_word Abs) 3 text s → r ≡ s
-the_one text r s = verified_law.one_report half_adder (one_word Abs) 3 (texts_of_three both_constant_netlist both_constant_vectors text) r s
+the_one text r s = verified_law.one_report (one_word Abs) 3 half_adder (texts_of_three both_constant_netlist both_constant_vectors text) r s
 
 -- the inputs in the other order
 abbrev pub swapped : NetValue

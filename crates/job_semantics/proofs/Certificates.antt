@@ -24,73 +24,75 @@ use Rattle.job_semantics.specs.declared.certificate_clause.Clause.{Clause}
 use Rattle.job_semantics.specs.Report.{Report}
 use Rattle.job_semantics.specs.Bundle.{BundleValue, bundle_report, bundle_text}
 use Rattle.job_semantics.specs.Certificate.{Texts, texts_of, moves_in, IsNetlist, IsReport, AreVectors, IsRefutation, IsShownMinimal, AreCounts, OfNet, OfReport, OfBoth, Holds, CertifiesWith}
+use Rattle.job_semantics.specs.Certificate.{checked_claim, confirmed_claim}
 use Rattle.job_semantics.specs.Certificate.{IsFirstFailing, IsOfAllowedSize}
 use Rattle.job_semantics.specs.declared.growth.Growth.{Growth}
 use Rattle.job_semantics.specs.declared.growth.Growth.TheVariants.{Refused, Allowed}
-use Rattle.job_semantics.specs.CertificateLaws.{IsVerified, VerifiedLaw, IsRightBundle, HeldCertificateLaw, FirstFailingLaw}
+use Rattle.job_semantics.specs.CertificateLaws.{IsVerified, VerifiedLaw, IsRightBundle, HeldCertificateLaw, FirstFailingLaw, bundle_claim}
 use Rattle.job_semantics.proofs.BundleFiles.{bundle_files-holds}
 use Rattle.job_semantics.proofs.ReportTexts.{AreFew, one_report}
 use Rattle.job_semantics.proofs.MinimalNets.{minimal-none_allowed}
 use Rattle.job_semantics.proofs.VectorsTexts.{one_pool}
 use Rattle.job_semantics.proofs.SmallNets.{literals_at_most}
 use Rattle.job_semantics.proofs.WritableLogs.{writable}
+use Rattle.job_semantics.specs.declared.claim.Claim.{Claim}
 
 -- ---- one net and one report
 
 same_net : (texts : Texts) (N M : NetValue) → IsNetlist texts N → IsNetlist texts M → N ≡ M
 same_net texts N M n m = cc
 
-few : (exact : NetValue) (metric : Metric) (bound : ℕ) (texts : Texts) (r : Report) → IsReport exact metric bound texts r → AreFew r
-few exact metric bound texts r h = record { maximum = h.maximum; counts = h.counts }
+few : (metric : Metric) (bound : ℕ) (exact : NetValue) (texts : Texts) (r : Report) → IsReport metric bound exact texts r → AreFew r
+few metric bound exact texts r h = record { maximum = h.maximum; counts = h.counts }
 
-same_report : (exact : NetValue) (metric : Metric) (bound : ℕ) (texts : Texts) (r s : Report) → IsReport exact metric bound texts r → IsReport exact metric bound texts s → r ≡ s
-same_report exact metric bound texts r s h k =
-    one_report r s (few exact metric bound texts r h) (few exact metric bound texts s k) (h.same_metric ∙ sym k.same_metric) (h.same_bound ∙ sym k.same_bound)
+same_report : (metric : Metric) (bound : ℕ) (exact : NetValue) (texts : Texts) (r s : Report) → IsReport metric bound exact texts r → IsReport metric bound exact texts s → r ≡ s
+same_report metric bound exact texts r s h k =
+    one_report r s (few metric bound exact texts r h) (few metric bound exact texts s k) (h.same_metric ∙ sym k.same_metric) (h.same_bound ∙ sym k.same_bound)
     (h.witness ∙ sym k.witness) (sym h.spelled ∙ k.spelled)
 
 of_net : (texts : Texts) (P : NetValue → Type 0) (M : NetValue) → IsNetlist texts M → OfNet texts P → P M
 of_net texts P M is some = subst P (same_net texts some.0 M some.1 is) some.2
 
-module _ (exact : NetValue) (metric : Metric) (bound : ℕ) (texts : Texts) where
-  of_report : (P : Report → Type 0) (r : Report) → IsReport exact metric bound texts r → OfReport exact metric bound texts P → P r
-  of_report P r is some = subst P (same_report exact metric bound texts some.0 r some.1 is) some.2
+module _ (metric : Metric) (bound : ℕ) (exact : NetValue) (texts : Texts) where
+  of_report : (P : Report → Type 0) (r : Report) → IsReport metric bound exact texts r → OfReport metric bound exact texts P → P r
+  of_report P r is some = subst P (same_report metric bound exact texts some.0 r some.1 is) some.2
 
-  of_both : (P : NetValue → Report → Type 0) (M : NetValue) (r : Report) → IsNetlist texts M → IsReport exact metric bound texts r → OfBoth exact metric bound texts P → P M r
-  of_both P M r net report some = of_report (P M) r report (of_net texts (λ N. OfReport exact metric bound texts (P N)) M net some)
+  of_both : (P : NetValue → Report → Type 0) (M : NetValue) (r : Report) → IsNetlist texts M → IsReport metric bound exact texts r → OfBoth metric bound exact texts P → P M r
+  of_both P M r net report some = of_report (P M) r report (of_net texts (λ N. OfReport metric bound exact texts (P N)) M net some)
 
 -- ---- what a certificate shows
 
-module _ (growth : Growth) (exact : NetValue) (metric : Metric) (bound : ℕ) (texts : Texts) (sound : IsSound exact)
-    (c : CertifiesWith growth exact metric bound texts) (M : NetValue) (r : Report) (net : IsNetlist texts M) (report : IsReport exact metric bound texts r) where
+module _ (claim : Claim) (exact : NetValue) (texts : Texts) (sound : IsSound exact)
+    (c : CertifiesWith claim exact texts) (M : NetValue) (r : Report) (net : IsNetlist texts M) (report : IsReport claim.metric claim.bound exact texts r) where
   with_ports : HasSamePorts exact M
   with_ports = of_net texts (HasSamePorts exact) M net c.1.0
 
-  refuted : (log : List LogItem) × IsRefutation exact M metric r.maximum texts log
-  refuted = of_both exact metric bound texts (λ N s. (log : List LogItem) × IsRefutation exact N metric s.maximum texts log) M r net report c.1.1.1.1.1.1.1.0
+  refuted : (log : List LogItem) × IsRefutation exact M claim.metric r.maximum texts log
+  refuted = of_both claim.metric claim.bound exact texts (λ N s. (log : List LogItem) × IsRefutation exact N claim.metric s.maximum texts log) M r net report c.1.1.1.1.1.1.1.0
 
-  counted : AreCounts growth exact M r
-  counted = of_both exact metric bound texts (AreCounts growth exact) M r net report c.1.1.1.1.1.1.1.1.0
+  counted : AreCounts claim.growth exact M r
+  counted = of_both claim.metric claim.bound exact texts (AreCounts claim.growth exact) M r net report c.1.1.1.1.1.1.1.1.0
 
-  verified : IsVerified growth exact metric bound M r
+  verified : IsVerified claim exact M r
   verified = record {
     ports = with_ports;
     safe =
         let other = read_sound (texts file.Netlist) MOST_BUNDLE_BYTES M net in
-        miter_law.refuted exact M metric r.maximum (comparable exact M sound other with_ports) refuted.0 refuted.1.refutes;
-    within = of_report exact metric bound texts (λ s. s.maximum ≤ bound) r report c.1.1.1.0;
+        miter_law.refuted exact M claim.metric r.maximum (comparable exact M sound other with_ports) refuted.0 refuted.1.refutes;
+    within = of_report claim.metric claim.bound exact texts (λ s. s.maximum ≤ claim.bound) r report c.1.1.1.0;
     width = report.witness;
-    attained = of_both exact metric bound texts (λ N s. net_error metric exact N s.witness ≡ s.maximum) M r net report c.1.1.1.1.1.0;
+    attained = of_both claim.metric claim.bound exact texts (λ N s. net_error claim.metric exact N s.witness ≡ s.maximum) M r net report c.1.1.1.1.1.0;
     size = counted.size;
     minimal = λ yes.
-        let shown = of_both exact metric bound texts (IsShownMinimal exact metric bound texts) M r net report c.1.1.1.1.1.1.1.1.1.0 in
+        let shown = of_both claim.metric claim.bound exact texts (IsShownMinimal claim.metric claim.bound exact texts) M r net report c.1.1.1.1.1.1.1.1.1.0 in
         let pool = shown yes in
-        minimal-none_allowed metric exact bound M (r.witness ∷ pool.0) (moves_in r.version M) pool.1.widths pool.2;
+        minimal-none_allowed claim.metric exact claim.bound M (r.witness ∷ pool.0) (moves_in r.version M) pool.1.widths pool.2;
   }
 
 -- a certificate is one with another growth too, by which its net is of an allowed size
-with_size : (growth other : Growth) (exact : NetValue) (metric : Metric) (bound : ℕ) (texts : Texts) (M : NetValue) → IsNetlist texts M → IsOfAllowedSize other exact M
-    → CertifiesWith growth exact metric bound texts → CertifiesWith other exact metric bound texts
-with_size growth other exact metric bound texts M net size c =
+with_size : (claim : Claim) (other : Growth) (exact : NetValue) (texts : Texts) (M : NetValue) → IsNetlist texts M → IsOfAllowedSize other exact M
+    → CertifiesWith claim exact texts → CertifiesWith (record { metric = claim.metric; bound = claim.bound; growth = other }) exact texts
+with_size claim other exact texts M net size c =
     let counted = c.1.1.1.1.1.1.1.1.0 in
     let counts = counted.2.2 in
     let resized : AreCounts other exact counted.0 counted.2.0 = record {
@@ -124,13 +126,13 @@ with_size growth other exact metric bound texts M net size c =
 
 pub verified_law : VerifiedLaw
 verified_law = record {
-  read = λ growth exact metric bound texts c. (c.0.0, c.1.1.0.0, c.0.1, c.1.1.0.1);
+  read = λ claim exact texts c. (c.0.0, c.1.1.0.0, c.0.1, c.1.1.0.1);
   one_net = same_net;
   one_report = same_report;
   one_pool = λ exact texts witness pool others v w. one_pool (input_count exact) (texts file.Vectors) witness pool others v w;
   verified = verified;
-  weaker = λ exact metric bound texts c. with_size Refused Allowed exact metric bound texts c.0.0 c.0.1 (λ no. absurd (cc no)) c;
-  not_larger = λ exact metric bound texts approx c net tables literals. with_size Allowed Refused exact metric bound texts approx net (λ is. (tables, literals)) c;
+  weaker = λ metric bound exact texts c. with_size (checked_claim metric bound) Allowed exact texts c.0.0 c.0.1 (λ no. absurd (cc no)) c;
+  not_larger = λ metric bound exact texts approx c net tables literals. with_size (confirmed_claim metric bound) Refused exact texts approx net (λ is. (tables, literals)) c;
 }
 
 -- ---- which bundles are written as certificates
@@ -145,7 +147,7 @@ module _ (growth : Growth) (b : BundleValue) (h : IsRightBundle growth b) where
   few_literals : (N : NetValue) → IsSound N → IsSmall N → literal_count N < 2 ^ 32
   few_literals N sound small = omega (arith, literals_at_most N small sound.tables_formed)
 
-  report_read : IsReport b.exact b.metric b.bound (bundle_text b) (bundle_report b)
+  report_read : IsReport b.metric b.bound b.exact (bundle_text b) (bundle_report b)
   report_read = record {
     spelled = refl;
     same_metric = refl;
@@ -177,10 +179,10 @@ module _ (growth : Growth) (b : BundleValue) (h : IsRightBundle growth b) where
   }
 
   -- the report that is written is of the bundle's version
-  pub written_version : OfReport b.exact b.metric b.bound (bundle_text b) (λ r. r.version ≡ b.version)
+  pub written_version : OfReport b.metric b.bound b.exact (bundle_text b) (λ r. r.version ≡ b.version)
   written_version = (bundle_report b, report_read, refl)
 
-  pub written_certifies : CertifiesWith growth b.exact b.metric b.bound (bundle_text b)
+  pub written_certifies : CertifiesWith (bundle_claim growth b) b.exact (bundle_text b)
   written_certifies = (
     (b.approx, net_read),
     (
@@ -223,7 +225,7 @@ pub held_certificate_law : HeldCertificateLaw
 held_certificate_law growth b h stem old new written = λ before now told tells.
     let texts : bundle_text b ≡ texts_of now stem =
     sym ((λ i. texts_of (written.held before now told tells i) stem) ∙ (λ i e. held_text before stem (bundle_text b) e i)) in
-    subst (CertifiesWith growth b.exact b.metric b.bound) texts (written_certifies growth b h)
+    subst (CertifiesWith (bundle_claim growth b) b.exact) texts (written_certifies growth b h)
 
 -- ---- texts that are no certificate
 
@@ -232,10 +234,10 @@ in_middle : (P : Clause → Type 0) (before after : List Clause) (c : Clause) �
 in_middle P [] after c all = all.0
 in_middle P (d ∷ before) after c all = in_middle P before after c all.1
 
-refuted_by : (growth : Growth) (exact : NetValue) (metric : Metric) (bound : ℕ) (texts : Texts) (c : Clause) → IsFirstFailing growth exact metric bound texts c
-    → ¬ CertifiesWith growth exact metric bound texts
-refuted_by growth exact metric bound texts c f all =
-    f.fails (in_middle (Holds growth exact metric bound texts) f.before f.after c (subst (AllByRecursion (Holds growth exact metric bound texts)) f.order all))
+refuted_by : (claim : Claim) (exact : NetValue) (texts : Texts) (c : Clause) → IsFirstFailing claim exact texts c
+    → ¬ CertifiesWith claim exact texts
+refuted_by claim exact texts c f all =
+    f.fails (in_middle (Holds claim exact texts) f.before f.after c (subst (AllByRecursion (Holds claim exact texts)) f.order all))
 
 -- two places in one list, each of which fails while the clauses before it hold, are one place
 one_place : (P : Clause → Type 0) (before after before' after' : List Clause) (c d : Clause) → before ++ c ∷ after ≡ before' ++ d ∷ after'
@@ -249,6 +251,6 @@ one_place P (e ∷ before) after (e' ∷ before') after' c d same all all' fails
 pub first_failing_law : FirstFailingLaw
 first_failing_law = record {
   refuted = refuted_by;
-  only = λ growth exact metric bound texts c d f g.
-      one_place (Holds growth exact metric bound texts) f.before f.after g.before g.after c d (sym f.order ∙ g.order) f.hold g.hold f.fails g.fails;
+  only = λ claim exact texts c d f g.
+      one_place (Holds claim exact texts) f.before f.after g.before g.after c d (sym f.order ∙ g.order) f.hold g.hold f.fails g.fails;
 }

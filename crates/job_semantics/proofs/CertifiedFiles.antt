@@ -5,7 +5,6 @@ use Rattle.std.specs.FinMap.{get, contains_key}
 use Rattle.semantics.specs.declared.limits.TheConstants.{MOST_BUNDLE_BYTES, MOST_INPUT_BYTES}
 use Rattle.semantics.specs.Texts.{Bytes, text_of}
 use Rattle.semantics.specs.Net.{NetValue}
-use Rattle.semantics.specs.declared.metric.Metric.{Metric}
 use Rattle.outside_semantics.specs.Outside.{Held, bytes_of}
 use Rattle.blif_semantics.specs.Lines.{logical_lines}
 use Rattle.blif_semantics.specs.Statements.{first_wrong}
@@ -22,9 +21,9 @@ use Rattle.job_semantics.specs.Endings.{bundle_name}
 use Rattle.job_semantics.specs.Input.{IsReadAs}
 use Rattle.job_semantics.specs.Report.{Report, report_text, vectors_text}
 use Rattle.job_semantics.specs.Certificate.{texts_of, CertifiesWith}
-use Rattle.job_semantics.specs.declared.growth.Growth.{Growth}
 use Rattle.job_semantics.specs.Checking.{AreCheckFilesHeld}
 use Rattle.job_semantics.proofs.ReportTexts.{report_text-is}
+use Rattle.job_semantics.specs.declared.claim.Claim.{Claim}
 
 -- no bytes are read as no net
 pub no_bytes : (N : NetValue) → ¬ IsReadAs [] N
@@ -63,7 +62,7 @@ held_if : (found : Option Bytes) → (unwrap_or found [] ≡ [] → ⊥) → IsT
 held_if None some = absurd (some refl)
 held_if (Some bytes) some = refl
 
-module _ (growth : Growth) (exact : NetValue) (metric : Metric) (bound : ℕ) (stem : Bytes) (held : Held) (c : CertifiesWith growth exact metric bound (texts_of held stem)) where
+module _ (claim : Claim) (exact : NetValue) (stem : Bytes) (held : Held) (c : CertifiesWith claim exact (texts_of held stem)) where
   not_empty : (ending : Ending) → texts_of held stem ending ≡ [] → ⊥
   not_empty file.Netlist is = no_netlist c.0.0 (subst (λ t. blif_reading t MOST_BUNDLE_BYTES ≡ Ok c.0.0) is c.0.1)
   not_empty file.Report is = no_report c.1.1.0.0 (sym is ∙ c.1.1.0.1.spelled)
@@ -77,7 +76,7 @@ module _ (growth : Growth) (exact : NetValue) (metric : Metric) (bound : ℕ) (s
   text_held ending = held_if (get held (bundle_name stem ending)) (not_empty ending)
 
   -- IN is held where it is read as a net, and so is each file of a certificate
-  pub certified_files_held : {input : Bytes} → IsReadAs (bytes_of held input) exact → AreCheckFilesHeld growth metric bound input stem held
+  pub certified_files_held : {input : Bytes} → IsReadAs (bytes_of held input) exact → AreCheckFilesHeld claim input stem held
   certified_files_held {input} reads = record {
     input_held = held_if (get held input) (λ is. no_bytes exact (subst (λ t. IsReadAs t exact) is reads));
     bundle_held = λ N read ending needed. text_held ending;

@@ -7,14 +7,16 @@ use Rattle.job_semantics.specs.declared.task.Task.{Task}
 use Rattle.job_semantics.specs.declared.task.Task.TheVariants.{Certify, Refine}
 use Rattle.semantics.specs.Texts.{Bytes}
 use Rattle.semantics.specs.Optional.{◌>>=◌}
-use Rattle.job_semantics.specs.Job.{Job, synth, against, check, confirm, demo, flat, aag, blif, trim, metric_of, bound_of, conflicts_of, width_of, are_file_words, are_second_words}
+use Rattle.job_semantics.specs.Job.{Job, synth, against, check, confirm, demo, flat, aag, blif, trim, metric_of, bound_of, conflicts_of, width_of, are_file_words, are_task_names, TaskNames}
+use Rattle.job_semantics.specs.Job.{constraint_of, task_with_names}
 use Rattle.job_semantics.specs.Job.{are_conversion_words, are_trim_words, synth_of, task_job, task_of, check_of, demo_of, conversion_of, trim_of, job_of}
 use Rattle.job_semantics.specs.CheckingLaws.{FileWordsLaw}
+use Rattle.proof_semantics.specs.declared.constraint.Constraint.{Constraint}
 
 -- the job's files are named as they must be
 abbrev NamesFiles : Job → Type 0
-NamesFiles (synth metric bound conflicts input stem) = IsTrue (are_file_words input stem)
-NamesFiles (against task metric bound conflicts input second stem) = IsTrue (are_second_words input second stem)
+NamesFiles (synth aim input stem) = IsTrue (are_file_words input stem)
+NamesFiles (against task aim names) = IsTrue (are_task_names names)
 NamesFiles (check metric bound input stem) = IsTrue (are_file_words input stem)
 NamesFiles (confirm metric bound input stem) = IsTrue (are_file_words input stem)
 NamesFiles (demo width bound conflicts) = Unit {0}
@@ -38,21 +40,19 @@ synth_names (m ∷ b ∷ []) = tt
 synth_names (m ∷ b ∷ c ∷ []) = tt
 synth_names (m ∷ b ∷ c ∷ input ∷ []) = tt
 synth_names (m ∷ b ∷ c ∷ input ∷ stem ∷ []) =
-    after (metric_of m) _ (λ metric. after (bound_of b) _ (λ bound. after (conflicts_of c) _ (λ conflicts.
-    either (are_file_words input stem) (Some (synth metric bound conflicts input stem)) None (λ is. is) tt)))
+    after (constraint_of m b c) _ (λ aim. either (are_file_words input stem) (Some (synth aim input stem)) None (λ is. is) tt)
 synth_names (m ∷ b ∷ c ∷ input ∷ stem ∷ w ∷ words) = tt
 
-second_names : (task : Task) (metric : Metric) (bound conflicts : ℕ) (input second stem : Bytes) → IsTrue (are_second_words input second stem)
-    → NamesFiles (task_job task metric bound conflicts input second stem)
-second_names Certify metric bound conflicts input second stem is = is
-second_names Refine metric bound conflicts input second stem is = one_name (bytes_eq input second)
+job_names_files : (task : Task) (aim : Constraint) (names : TaskNames) → IsTrue (are_task_names names) → NamesFiles (task_job task aim names)
+job_names_files Certify aim names is = is
+job_names_files Refine aim names is = one_name (bytes_eq names.input names.second)
   where
     first : (p q : Bool) → (p && q) ≡ true → p ≡ true
     first true q both = refl
     first false q both = cc
 
-    one_name : (t : Bool) → NamesFiles (if t then synth metric bound conflicts input stem else against Refine metric bound conflicts input second stem)
-    one_name true = first (are_file_words input stem) (are_file_words second stem) is
+    one_name : (t : Bool) → NamesFiles (if t then synth aim names.input names.stem else against Refine aim names)
+    one_name true = first (are_file_words names.input names.stem) (are_file_words names.second names.stem) is
     one_name false = is
 
 task_names : (task : Task) (words : List Bytes) → IfSome (task_of task words) NamesFiles
@@ -63,9 +63,8 @@ task_names task (m ∷ b ∷ c ∷ []) = tt
 task_names task (m ∷ b ∷ c ∷ input ∷ []) = tt
 task_names task (m ∷ b ∷ c ∷ input ∷ second ∷ []) = tt
 task_names task (m ∷ b ∷ c ∷ input ∷ second ∷ stem ∷ []) =
-    after (metric_of m) _ (λ metric. after (bound_of b) _ (λ bound. after (conflicts_of c) _ (λ conflicts.
-    either (are_second_words input second stem) (Some (task_job task metric bound conflicts input second stem)) None
-    (second_names task metric bound conflicts input second stem) tt)))
+    after (constraint_of m b c) _ (λ aim. let names : TaskNames = record { input = input; second = second; stem = stem } in
+    either (are_task_names names) (Some (task_job task aim names)) None (job_names_files task aim names) tt)
 task_names task (m ∷ b ∷ c ∷ input ∷ second ∷ stem ∷ w ∷ words) = tt
 
 check_names : (job : Metric → ℕ → Bytes → Bytes → Job)
@@ -132,26 +131,26 @@ both_the_same false = refl
 same_bytes : (word : Bytes) → bytes_eq word word ≡ true
 same_bytes word = (bytes_eq-Decides word word).1 refl
 
-same_job : (metric : Metric) (bound conflicts : ℕ) (input stem : Bytes)
-    → (if are_second_words input input stem then Some (task_job Refine metric bound conflicts input input stem) else None)
-    ≡ (if are_file_words input stem then Some (synth metric bound conflicts input stem) else None)
-same_job metric bound conflicts input stem = λ i.
+same_job : (aim : Constraint) (input stem : Bytes)
+    → task_with_names Refine aim (record { input = input; second = input; stem = stem })
+    ≡ (if are_file_words input stem then Some (synth aim input stem) else None)
+same_job aim input stem = λ i.
     if both_the_same (are_file_words input stem) i
-    then Some (if same_bytes input i then synth metric bound conflicts input stem else against Refine metric bound conflicts input input stem)
+    then Some (if same_bytes input i then synth aim input stem else against Refine aim (record { input = input; second = input; stem = stem }))
     else None
 
 refined_itself : (metric bound conflicts input stem : Bytes)
     → job_of (codes "refine" ∷ metric ∷ bound ∷ conflicts ∷ input ∷ input ∷ stem ∷ [])
     ≡ job_of (codes "synth" ∷ metric ∷ bound ∷ conflicts ∷ input ∷ stem ∷ [])
 unfolding job_of
-refined_itself m b c input stem = λ i. metric_of m >>= (λ metric. bound_of b >>= (λ bound. conflicts_of c >>= (λ conflicts. same_job metric bound conflicts input stem i)))
+refined_itself m b c input stem = λ i. constraint_of m b c >>= (λ aim. same_job aim input stem i)
 
 pub file_words_law : FileWordsLaw
 file_words_law = record {
-  synthesis = λ words metric bound conflicts input stem named. names_of words _ named;
+  synthesis = λ words aim input stem named. names_of words _ named;
   checking = λ words metric bound input stem named. names_of words _ named;
   confirming = λ words metric bound input stem named. names_of words _ named;
-  tasks = λ words task metric bound conflicts input second stem named. names_of words _ named;
+  tasks = λ words task aim names named. names_of words _ named;
   refined_itself = refined_itself;
   flat_conversion = λ words input output named. names_of words _ named;
   conversion = λ words input output named. names_of words _ named;

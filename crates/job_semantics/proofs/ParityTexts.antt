@@ -21,7 +21,7 @@ use Rattle.job_semantics.specs.declared.version.Version.{Version}
 use Rattle.job_semantics.specs.declared.version.Version.TheVariants.{One, Two}
 use Rattle.job_semantics.specs.Report.{Report, report_text, vectors_text}
 use Rattle.job_semantics.specs.declared.certificate_clause.Clause.TheVariants as clause
-use Rattle.job_semantics.specs.Certificate.{Texts, moves_in, IsNetlist, IsReportText, IsVectorsText, AreCounts, Holds}
+use Rattle.job_semantics.specs.Certificate.{Texts, moves_in, IsNetlist, IsReportText, IsVectorsText, AreCounts, Holds, checked_claim}
 use Rattle.job_semantics.specs.VersionExamples.{conjunction_by_parity, parity_vectors, parity_report, parity_texts}
 use Rattle.job_semantics.proofs.Certificates.{verified_law}
 use Rattle.job_semantics.proofs.VectorsTexts.{one_pool}
@@ -203,12 +203,12 @@ module _ (formula log : Bytes) where
   abbrev second_texts : Texts
   second_texts = parity_texts (codes "salsa 2") formula log
 
-  pub not_minimal : Holds Refused conjunction_by_parity (one_word Abs) 0 second_texts clause.Minimal → ⊥
+  pub not_minimal : Holds (checked_claim (one_word Abs) 0) conjunction_by_parity second_texts clause.Minimal → ⊥
   unfolding all_nine
   not_minimal h =
       let N = conjunction_by_parity in
       let net : h.0 ≡ N = verified_law.one_net second_texts h.0 N h.1 (netlist_read (codes "salsa 2") formula log) in
-      let report : h.2.0 ≡ parity_report_of Two = verified_law.one_report N (one_word Abs) 0 second_texts h.2.0 (parity_report_of Two) h.2.1 (report_read Two) in
+      let report : h.2.0 ≡ parity_report_of Two = verified_law.one_report (one_word Abs) 0 N second_texts h.2.0 (parity_report_of Two) h.2.1 (report_read Two) in
       let yes : h.2.0.minimal ≡ true = ap (λ r. r.minimal) report in
       let shown = h.2.2 yes in
       let pool : shown.0 ≡ all_eight = one_pool 3 parity_vectors (false ∷ false ∷ false ∷ []) shown.0 all_eight

@@ -22,8 +22,9 @@ use Rattle.job_semantics.specs.declared.ending.Ending.{Ending}
 use Rattle.job_semantics.specs.declared.ending.Ending.TheVariants as file
 use Rattle.job_semantics.specs.declared.certificate_clause.Clause.{Clause}
 use Rattle.job_semantics.specs.declared.certificate_clause.Clause.TheVariants as clause
+use Rattle.job_semantics.specs.declared.claim.Claim.{Claim}
 use Rattle.job_semantics.specs.declared.growth.Growth.{Growth}
-use Rattle.job_semantics.specs.declared.growth.Growth.TheVariants.{Refused}
+use Rattle.job_semantics.specs.declared.growth.Growth.TheVariants.{Refused, Allowed}
 use Rattle.job_semantics.specs.declared.version.Version.{Version}
 use Rattle.job_semantics.specs.declared.version.Version.TheVariants.{One, Two}
 use Rattle.outside_semantics.specs.Outside.{Held, FilesTold, WhereTold, bytes_of}
@@ -64,8 +65,8 @@ pub record IsVectorsText (inputs : ℕ) (text : Bytes) (witness : List Bool)
   pub widths : AllByRecursion (λ x. length x ≡ inputs) (witness ∷ pool)
 
 -- `.txt` is that report for the original net, and `.wit` is those input vectors of the original net
-abbrev pub IsReport : NetValue → Metric → ℕ → Texts → Report → Type 0
-IsReport exact metric bound texts r = IsReportText (input_count exact) metric bound (texts file.Report) r
+abbrev pub IsReport : Metric → ℕ → NetValue → Texts → Report → Type 0
+IsReport metric bound exact texts r = IsReportText (input_count exact) metric bound (texts file.Report) r
 
 abbrev pub AreVectors : NetValue → Texts → List Bool → List (List Bool) → Type 0
 AreVectors exact texts witness pool = IsVectorsText (input_count exact) (texts file.Vectors) witness pool
@@ -96,8 +97,8 @@ moves_in Two = moves_of
 
 -- where the report says that no further move is allowed, each move of the net that the report's version knows
 -- is broken by some vector of `.wit`
-abbrev pub IsShownMinimal : NetValue → Metric → ℕ → Texts → NetValue → Report → Type 0
-IsShownMinimal exact metric bound texts approx r =
+abbrev pub IsShownMinimal : Metric → ℕ → NetValue → Texts → NetValue → Report → Type 0
+IsShownMinimal metric bound exact texts approx r =
     IsTrue r.minimal
     → (pool : List (List Bool)) × AreVectors exact texts r.witness pool
     × AreBrokenBySome metric exact bound approx (r.witness ∷ pool) (moves_in r.version approx)
@@ -106,58 +107,67 @@ IsShownMinimal exact metric bound texts approx r =
 abbrev pub OfNet : Texts → (NetValue → Type 0) → Type 0
 OfNet texts P = (M : NetValue) × IsNetlist texts M × P M
 
-abbrev pub OfReport : NetValue → Metric → ℕ → Texts → (Report → Type 0) → Type 0
-OfReport exact metric bound texts P = (r : Report) × IsReport exact metric bound texts r × P r
+abbrev pub OfReport : Metric → ℕ → NetValue → Texts → (Report → Type 0) → Type 0
+OfReport metric bound exact texts P = (r : Report) × IsReport metric bound exact texts r × P r
 
-abbrev pub OfBoth : NetValue → Metric → ℕ → Texts → (NetValue → Report → Type 0) → Type 0
-OfBoth exact metric bound texts P = OfNet texts (λ M. OfReport exact metric bound texts (P M))
+abbrev pub OfBoth : Metric → ℕ → NetValue → Texts → (NetValue → Report → Type 0) → Type 0
+OfBoth metric bound exact texts P = OfNet texts (λ M. OfReport metric bound exact texts (P M))
 
 -- What each clause says. The net is as it was read, and need not be tidy. The clause on the counts alone asks
 -- whether growth is allowed.
-abbrev pub Holds : Growth → NetValue → Metric → ℕ → Texts → Clause → Type 0
-Holds growth exact metric bound texts clause.Netlist = (M : NetValue) × IsNetlist texts M
-Holds growth exact metric bound texts clause.Ports = OfNet texts (HasSamePorts exact)
-Holds growth exact metric bound texts clause.ReportForm = (r : Report) × IsReport exact metric bound texts r
-Holds growth exact metric bound texts clause.MaximumWithin
-    = OfReport exact metric bound texts (λ r. r.maximum ≤ bound)
-Holds growth exact metric bound texts clause.Witness
-    = OfReport exact metric bound texts
+abbrev pub Holds : Claim → NetValue → Texts → Clause → Type 0
+Holds claim exact texts clause.Netlist = (M : NetValue) × IsNetlist texts M
+Holds claim exact texts clause.Ports = OfNet texts (HasSamePorts exact)
+Holds claim exact texts clause.ReportForm = (r : Report) × IsReport claim.metric claim.bound exact texts r
+Holds claim exact texts clause.MaximumWithin
+    = OfReport claim.metric claim.bound exact texts (λ r. r.maximum ≤ claim.bound)
+Holds claim exact texts clause.Witness =
+    OfReport claim.metric claim.bound exact texts
     (λ r. (pool : List (List Bool)) × AreVectors exact texts r.witness pool)
-Holds growth exact metric bound texts clause.Attained
-    = OfBoth exact metric bound texts (λ M r. net_error metric exact M r.witness ≡ r.maximum)
-Holds growth exact metric bound texts clause.Formula
-    = OfBoth exact metric bound texts
-    (λ M r. texts file.Formula ≡ dimacs_text (miter exact M metric r.maximum))
-Holds growth exact metric bound texts clause.Log
-    = OfBoth exact metric bound texts
-    (λ M r. (log : List LogItem) × IsRefutation exact M metric r.maximum texts log)
-Holds growth exact metric bound texts clause.Counts = OfBoth exact metric bound texts (AreCounts growth exact)
-Holds growth exact metric bound texts clause.Minimal
-    = OfBoth exact metric bound texts (IsShownMinimal exact metric bound texts)
+Holds claim exact texts clause.Attained =
+    OfBoth claim.metric claim.bound exact texts
+    (λ M r. net_error claim.metric exact M r.witness ≡ r.maximum)
+Holds claim exact texts clause.Formula =
+    OfBoth claim.metric claim.bound exact texts
+    (λ M r. texts file.Formula ≡ dimacs_text (miter exact M claim.metric r.maximum))
+Holds claim exact texts clause.Log =
+    OfBoth claim.metric claim.bound exact texts
+    (λ M r. (log : List LogItem) × IsRefutation exact M claim.metric r.maximum texts log)
+Holds claim exact texts clause.Counts
+    = OfBoth claim.metric claim.bound exact texts (AreCounts claim.growth exact)
+Holds claim exact texts clause.Minimal =
+    OfBoth claim.metric claim.bound exact texts
+    (IsShownMinimal claim.metric claim.bound exact texts)
 
 abbrev pub certificate_clauses : List Clause
 certificate_clauses =
     clause.Netlist ∷ clause.Ports ∷ clause.ReportForm ∷ clause.MaximumWithin ∷ clause.Witness
     ∷ clause.Attained ∷ clause.Formula ∷ clause.Log ∷ clause.Counts ∷ clause.Minimal ∷ []
 
--- the texts are a certificate for the original net, the metric and the bound, of a net that may be larger or
--- may not
-abbrev pub CertifiesWith : Growth → NetValue → Metric → ℕ → Texts → Type 0
-CertifiesWith growth exact metric bound texts
-    = AllByRecursion (Holds growth exact metric bound texts) certificate_clauses
+-- the texts are a certificate of a claim about the net of `.blif` against the original
+abbrev pub CertifiesWith : Claim → NetValue → Texts → Type 0
+CertifiesWith claim exact texts = AllByRecursion (Holds claim exact texts) certificate_clauses
+
+-- what a check tests: the net may not be larger than the original
+abbrev pub checked_claim : Metric → ℕ → Claim
+checked_claim metric bound = record { metric = metric; bound = bound; growth = Refused }
+
+-- what a confirm job tests: the net may be larger
+abbrev pub confirmed_claim : Metric → ℕ → Claim
+confirmed_claim metric bound = record { metric = metric; bound = bound; growth = Allowed }
 
 -- the texts are a certificate of a net that is not larger than the original
-abbrev pub Certifies : NetValue → Metric → ℕ → Texts → Type 0
-Certifies = CertifiesWith Refused
+abbrev pub Certifies : Metric → ℕ → NetValue → Texts → Type 0
+Certifies metric bound = CertifiesWith (checked_claim metric bound)
 
 -- the clauses before c hold, and c does not
-pub record IsFirstFailing (growth : Growth) (exact : NetValue) (metric : Metric) (bound : ℕ) (texts : Texts)
+pub record IsFirstFailing (claim : Claim) (exact : NetValue) (texts : Texts)
     (c : Clause) : Type 0 where
   pub before : List Clause
   pub after : List Clause
   pub order : certificate_clauses ≡ before ++ c ∷ after
-  pub hold : AllByRecursion (Holds growth exact metric bound texts) before
-  pub fails : ¬ Holds growth exact metric bound texts c
+  pub hold : AllByRecursion (Holds claim exact texts) before
+  pub fails : ¬ Holds claim exact texts c
 
 -- the number of a clause, from 1
 abbrev pub clause_number : Clause → ℕ
@@ -186,12 +196,12 @@ needed_endings c = filter (λ ending. nat_le (clause_number (first_needing endin
     bundle_endings
 
 -- the file is needed for the verdict: where some clause fails first, that clause needs it
-abbrev pub IsNeededFor : Growth → NetValue → Metric → ℕ → Texts → Ending → Type 0
-IsNeededFor growth exact metric bound texts ending =
-    (c : Clause) → IsFirstFailing growth exact metric bound texts c → Contains (needed_endings c) ending
+abbrev pub IsNeededFor : Claim → NetValue → Texts → Ending → Type 0
+IsNeededFor claim exact texts ending =
+    (c : Clause) → IsFirstFailing claim exact texts c → Contains (needed_endings c) ending
 
 -- each file that is needed for the verdict is held
-abbrev pub AreNeededHeld : Growth → NetValue → Metric → ℕ → Bytes → Held → Type 0
-AreNeededHeld growth exact metric bound stem held =
-    (ending : Ending) → IsNeededFor growth exact metric bound (texts_of held stem) ending
+abbrev pub AreNeededHeld : Claim → NetValue → Bytes → Held → Type 0
+AreNeededHeld claim exact stem held =
+    (ending : Ending) → IsNeededFor claim exact (texts_of held stem) ending
     → IsTrue (contains_key held (bundle_name stem ending))

@@ -5,9 +5,9 @@ use Rattle.semantics.specs.declared.metric.Kind.TheVariants.{Abs}
 use Rattle.semantics.specs.Error.{one_word}
 use Rattle.semantics.specs.Examples.{text, half_adder}
 use Rattle.job_semantics.specs.declared.ending.Ending.TheVariants as file
-use Rattle.job_semantics.specs.declared.growth.Growth.TheVariants.{Refused, Allowed}
 use Rattle.job_semantics.specs.declared.certificate_clause.Clause.TheVariants as clause
 use Rattle.job_semantics.specs.Certificate.{Texts, Holds, IsFirstFailing, certificate_clauses, clause_number}
+use Rattle.job_semantics.specs.Certificate.{checked_claim, confirmed_claim}
 use Rattle.job_semantics.specs.Certificate.{needed_endings}
 
 pub record CertificateClauseExamples : Type 0 where
@@ -54,44 +54,46 @@ abbrev pub both_constant_texts : Texts
 both_constant_texts = texts_of_three both_constant_netlist both_constant_vectors both_constant_report
 
 pub record HoldingExamples : Type 0 where
-  pub netlist : Holds Refused half_adder (one_word Abs) 3 both_constant_texts clause.Netlist
-  pub ports : Holds Refused half_adder (one_word Abs) 3 both_constant_texts clause.Ports
-  pub report : Holds Refused half_adder (one_word Abs) 3 both_constant_texts clause.ReportForm
-  pub within : Holds Refused half_adder (one_word Abs) 3 both_constant_texts clause.MaximumWithin
-  pub witness : Holds Refused half_adder (one_word Abs) 3 both_constant_texts clause.Witness
-  pub attained : Holds Refused half_adder (one_word Abs) 3 both_constant_texts clause.Attained
-  pub counts : Holds Refused half_adder (one_word Abs) 3 both_constant_texts clause.Counts
-  pub minimal : Holds Refused half_adder (one_word Abs) 3 both_constant_texts clause.Minimal
+  pub netlist : Holds (checked_claim (one_word Abs) 3) half_adder both_constant_texts clause.Netlist
+  pub ports : Holds (checked_claim (one_word Abs) 3) half_adder both_constant_texts clause.Ports
+  pub report : Holds (checked_claim (one_word Abs) 3) half_adder both_constant_texts clause.ReportForm
+  pub within : Holds (checked_claim (one_word Abs) 3) half_adder both_constant_texts clause.MaximumWithin
+  pub witness : Holds (checked_claim (one_word Abs) 3) half_adder both_constant_texts clause.Witness
+  pub attained : Holds (checked_claim (one_word Abs) 3) half_adder both_constant_texts clause.Attained
+  pub counts : Holds (checked_claim (one_word Abs) 3) half_adder both_constant_texts clause.Counts
+  pub minimal : Holds (checked_claim (one_word Abs) 3) half_adder both_constant_texts clause.Minimal
 
 -- the first clause that fails, for texts of which one is damaged; clauses behind it may fail too
 pub record FailingExamples : Type 0 where
-  pub no_formula : IsFirstFailing Refused half_adder (one_word Abs) 3 both_constant_texts clause.Formula
-  pub other_bound : IsFirstFailing Refused half_adder (one_word Abs) 2 both_constant_texts clause.ReportForm
-  pub no_netlist : IsFirstFailing Refused half_adder (one_word Abs) 3
+  pub no_formula : IsFirstFailing (checked_claim (one_word Abs) 3) half_adder both_constant_texts
+      clause.Formula
+  pub other_bound : IsFirstFailing (checked_claim (one_word Abs) 2) half_adder both_constant_texts
+      clause.ReportForm
+  pub no_netlist : IsFirstFailing (checked_claim (one_word Abs) 3) half_adder
       (texts_of_three [] both_constant_vectors both_constant_report) clause.Netlist
-  pub other_ports : IsFirstFailing Refused half_adder (one_word Abs) 3
+  pub other_ports : IsFirstFailing (checked_claim (one_word Abs) 3) half_adder
       (texts_of_three (netlist_with (codes ".inputs b a")) both_constant_vectors both_constant_report)
       clause.Ports
   pub large_maximum :
-      IsFirstFailing Refused half_adder (one_word Abs) 3
+      IsFirstFailing (checked_claim (one_word Abs) 3) half_adder
       (texts_of_three both_constant_netlist both_constant_vectors
       (report_with (codes "maximum 4") (codes "literals 6 0") (codes "minimal no")))
       clause.MaximumWithin
   pub other_first_line :
-      IsFirstFailing Refused half_adder (one_word Abs) 3
+      IsFirstFailing (checked_claim (one_word Abs) 3) half_adder
       (texts_of_three both_constant_netlist (text (codes "00" ∷ codes "11" ∷ [])) both_constant_report)
       clause.Witness
   pub no_last_line_end :
-      IsFirstFailing Refused half_adder (one_word Abs) 3
+      IsFirstFailing (checked_claim (one_word Abs) 3) half_adder
       (texts_of_three both_constant_netlist (text (codes "11" ∷ []) ++ codes "00") both_constant_report)
       clause.Witness
   pub other_maximum :
-      IsFirstFailing Refused half_adder (one_word Abs) 3
+      IsFirstFailing (checked_claim (one_word Abs) 3) half_adder
       (texts_of_three both_constant_netlist both_constant_vectors
       (report_with (codes "maximum 0") (codes "literals 6 0") (codes "minimal no")))
       clause.Attained
   pub other_literals :
-      Holds Refused half_adder (one_word Abs) 3
+      Holds (checked_claim (one_word Abs) 3) half_adder
       (texts_of_three both_constant_netlist both_constant_vectors
       (report_with (codes "maximum 2") (codes "literals 6 1") (codes "minimal no")))
       clause.Counts
@@ -109,8 +111,8 @@ larger_texts = texts_of_three larger_netlist (text (codes "00" ∷ []))
     ∷ codes "tables 2 2" ∷ codes "literals 6 7" ∷ codes "minimal no" ∷ []))
 
 pub record GrowthExamples : Type 0 where
-  pub allowed : Holds Allowed half_adder (one_word Abs) 0 larger_texts clause.Counts
-  pub refused : Holds Refused half_adder (one_word Abs) 0 larger_texts clause.Counts → ⊥
+  pub allowed : Holds (confirmed_claim (one_word Abs) 0) half_adder larger_texts clause.Counts
+  pub refused : Holds (checked_claim (one_word Abs) 0) half_adder larger_texts clause.Counts → ⊥
 
 -- the half adder with its sum constant and its carry a copy of b; no move of this net keeps the bound 1
 abbrev pub carry_copied_netlist : Bytes
@@ -132,13 +134,13 @@ carry_copied_texts vectors = texts_of_three carry_copied_netlist vectors carry_c
 -- The clause on further moves: with all vectors each move is broken; with the witness alone some move is not;
 -- a net without moves needs no vector.
 pub record MinimalExamples : Type 0 where
-  pub each_broken : Holds Refused half_adder (one_word Abs) 1
+  pub each_broken : Holds (checked_claim (one_word Abs) 1) half_adder
       (carry_copied_texts (text (codes "10" ∷ codes "00" ∷ codes "10" ∷ codes "01" ∷ codes "11" ∷ [])))
       clause.Minimal
-  pub witness_alone : Holds Refused half_adder (one_word Abs) 1
+  pub witness_alone : Holds (checked_claim (one_word Abs) 1) half_adder
       (carry_copied_texts (text (codes "10" ∷ []))) clause.Minimal → ⊥
   pub without_moves :
-      Holds Refused half_adder (one_word Abs) 3
+      Holds (checked_claim (one_word Abs) 3) half_adder
       (texts_of_three both_constant_netlist both_constant_vectors
       (report_with (codes "maximum 2") (codes "literals 6 0") (codes "minimal yes")))
       clause.Minimal

@@ -10,6 +10,7 @@ use Rattle.job_semantics.specs.declared.version.Version.TheVariants.{One, Two}
 use Rattle.job_semantics.specs.Report.{report_text, report_of, vectors_text}
 use Rattle.job_semantics.specs.Job.{synth, against, check, confirm, demo, flat, aag, blif, trim}
 use Rattle.job_semantics.specs.Job.{metric_of, job_of}
+use Rattle.proof_semantics.specs.declared.constraint.Constraint.{Constraint}
 
 pub record ReportExamples : Type 0 where
   pub both_constant_report :
@@ -70,6 +71,10 @@ abbrev pub task_words : List ℕ → List ℕ → List ℕ → List ℕ → List
 task_words task input second stem
     = task ∷ codes "abs" ∷ codes "3" ∷ codes "10" ∷ input ∷ second ∷ stem ∷ []
 
+-- what the words of `task_words` ask for
+abbrev pub within_three : Constraint
+within_three = record { metric = one_word Abs; bound = 3; limit = 10 }
+
 pub record JobExamples : Type 0 where
   pub no_words : job_of [] ≡ None
   pub other_word : job_of (codes "--help" ∷ []) ≡ None
@@ -80,7 +85,7 @@ pub record JobExamples : Type 0 where
   pub largest_bound :
       job_of (synth_words (codes "abs") (codes "19342813113834066795298815") (codes "1") (codes "a")
       (codes "b"))
-      ≡ Some (synth (one_word Abs) (2 ^ 84 - 1) 1 (codes "a") (codes "b"))
+      ≡ Some (synth (record { metric = one_word Abs; bound = 2 ^ 84 - 1; limit = 1 }) (codes "a") (codes "b"))
   pub no_conflicts : job_of (synth_words (codes "abs") (codes "1") (codes "0") (codes "a") (codes "b")) ≡ None
   pub many_conflicts : job_of
       (synth_words (codes "abs") (codes "1") (codes "100001") (codes "a") (codes "b")) ≡ None
@@ -93,13 +98,13 @@ pub record JobExamples : Type 0 where
   pub a_check : job_of (codes "check" ∷ codes "ham" ∷ codes "7" ∷ codes "a" ∷ codes "b" ∷ [])
       ≡ Some (check (one_word Ham) 7 (codes "a") (codes "b"))
   pub a_synth : job_of (synth_words (codes "rel") (codes "10") (codes "1000") (codes "a.blif") (codes "b"))
-      ≡ Some (synth (one_word Rel) 10 1000 (codes "a.blif") (codes "b"))
+      ≡ Some (synth (record { metric = one_word Rel; bound = 10; limit = 1000 }) (codes "a.blif") (codes "b"))
   pub a_signed_synth : job_of
       (synth_words (codes "sabs") (codes "3") (codes "1") (codes "a.blif") (codes "b"))
-      ≡ Some (synth (one_word Sabs) 3 1 (codes "a.blif") (codes "b"))
+      ≡ Some (synth (record { metric = one_word Sabs; bound = 3; limit = 1 }) (codes "a.blif") (codes "b"))
   pub a_synth_of_bytes : job_of
       (synth_words (codes "abs/8") (codes "3") (codes "1") (codes "a.blif") (codes "b"))
-      ≡ Some (synth (in_words Abs 8) 3 1 (codes "a.blif") (codes "b"))
+      ≡ Some (synth (record { metric = in_words Abs 8; bound = 3; limit = 1 }) (codes "a.blif") (codes "b"))
   pub no_outputs_in_a_word : job_of
       (synth_words (codes "abs/0") (codes "1") (codes "1") (codes "a") (codes "b")) ≡ None
   pub empty_input : job_of (synth_words (codes "abs") (codes "1") (codes "1") [] (codes "b")) ≡ None
@@ -122,13 +127,16 @@ pub record JobExamples : Type 0 where
   pub trimmed_from_the_bundle : job_of (trim_words (codes "b.blif") (codes "b") (codes "c")) ≡ None
   pub trimmed_into_nothing : job_of (trim_words (codes "a") (codes "b") []) ≡ None
   pub a_certify : job_of (task_words (codes "certify") (codes "a") (codes "b") (codes "c"))
-      ≡ Some (against Certify (one_word Abs) 3 10 (codes "a") (codes "b") (codes "c"))
+      ≡ Some (against Certify within_three
+      (record { input = codes "a"; second = codes "b"; stem = codes "c" }))
   pub a_refine : job_of (task_words (codes "refine") (codes "a") (codes "b") (codes "c"))
-      ≡ Some (against Refine (one_word Abs) 3 10 (codes "a") (codes "b") (codes "c"))
+      ≡ Some (against Refine within_three
+      (record { input = codes "a"; second = codes "b"; stem = codes "c" }))
   pub certified_itself : job_of (task_words (codes "certify") (codes "a") (codes "a") (codes "c"))
-      ≡ Some (against Certify (one_word Abs) 3 10 (codes "a") (codes "a") (codes "c"))
+      ≡ Some (against Certify within_three
+      (record { input = codes "a"; second = codes "a"; stem = codes "c" }))
   pub refined_itself : job_of (task_words (codes "refine") (codes "a") (codes "a") (codes "c"))
-      ≡ Some (synth (one_word Abs) 3 10 (codes "a") (codes "c"))
+      ≡ Some (synth within_three (codes "a") (codes "c"))
   pub certified_from_the_bundle : job_of
       (task_words (codes "certify") (codes "a") (codes "c.blif") (codes "c")) ≡ None
   pub refined_against_the_bundle : job_of

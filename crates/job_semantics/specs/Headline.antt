@@ -10,7 +10,7 @@ use Rattle.semantics.specs.Texts.{Bytes}
 use Rattle.semantics.specs.Net.{NetValue, input_count, table_count, literal_count, HasSamePorts}
 use Rattle.semantics.specs.Error.{net_error}
 use Rattle.semantics.specs.declared.metric.Metric.{Metric}
-use Rattle.outside_semantics.specs.Outside.{Held, FilesTold, SinkTold, WhereTold, bytes_of}
+use Rattle.outside_semantics.specs.Outside.{Held, WhereTold, bytes_of}
 use Rattle.chain_semantics.specs.declared.moves.Move.{Move}
 use Rattle.chain_semantics.specs.Moves.{moves_of, moved}
 use Rattle.chain_semantics.specs.Simplification.{IsInSimplification, IsSimplificationEnd}
@@ -21,6 +21,8 @@ use Rattle.job_semantics.specs.Report.{Report}
 use Rattle.job_semantics.specs.Certificate.{Texts, texts_of, IsNetlist, IsReport, Certifies}
 use Rattle.job_semantics.specs.Synthesis.{OfInput, IsQuietSynth}
 use Rattle.job_semantics.specs.Checking.{Verifies}
+use Rattle.proof_semantics.specs.declared.constraint.Constraint.{Constraint}
+use Rattle.job_semantics.specs.Call.{Call}
 
 -- The texts name one circuit, which has the original's inputs and outputs by their names, and state one
 -- maximum with a witness; on every input the circuit's error is at most that maximum.
@@ -28,7 +30,7 @@ pub record KeepsItsPromise (metric : Metric) (bound : ℕ) (exact : NetValue) (t
   pub approx : NetValue
   pub report : Report
   pub netlist : IsNetlist texts approx
-  pub reported : IsReport exact metric bound texts report
+  pub reported : IsReport metric bound exact texts report
   pub the_same_ports : HasSamePorts exact approx
   pub on_every_input : (x : List Bool) → length x ≡ input_count exact
       → net_error metric exact approx x ≤ report.maximum
@@ -43,7 +45,7 @@ pub record KeepsItsPromise (metric : Metric) (bound : ℕ) (exact : NetValue) (t
 -- move of it keeps the bound.
 pub record AdmitsNoMore (metric : Metric) (bound : ℕ) (input stem : Bytes) (exact : NetValue)
     (held : Held) : Type 0 where
-  pub certificate : Certifies exact metric bound (texts_of held stem)
+  pub certificate : Certifies metric bound exact (texts_of held stem)
   pub verifies : Verifies metric bound input stem held
   pub approx : NetValue
   pub netlist : IsNetlist (texts_of held stem) approx
@@ -57,30 +59,35 @@ pub record IsOfTheChain (metric : Metric) (exact : NetValue) (bound : ℕ) (N : 
   pub at_most_a_move : (N ≡ member) ⊎ ((m : Move) × Contains (moves_of member) m × (N ≡ moved member m))
 
 -- The stated conflicts were spent on the question whether the error of such a net exceeds a level within the
--- bound: the log is a chain of exactly `conflicts` conflicts over the miter of that question, and `conflicts`
+-- bound: the log is a chain of exactly `limit` conflicts over the miter of that question, and `limit`
 -- conflicts are not enough for the inputs.
-pub record AreSpentOn (metric : Metric) (exact : NetValue) (bound conflicts : ℕ)
-    (q : SpentValue) : Type 0 where
-  pub level : q.k ≤ bound
-  pub net : IsOfTheChain metric exact bound q.net
-  pub query : IsSpentQuery metric exact conflicts q
+pub record AreSpentOn (aim : Constraint) (exact : NetValue) (q : SpentValue) : Type 0 where
+  pub level : q.k ≤ aim.bound
+  pub net : IsOfTheChain aim.metric exact aim.bound q.net
+  pub query : IsSpentQuery aim.metric exact aim.limit q
 
--- `Verified`, `Done` and `NoMemory` say that this was answered; `spent` and `level` are the queries that were
--- spent, on a move and on a level of the maximum. The files are told at entry and at exit; memory was there,
--- and no call on the files or the sink that the job needs failed.
-pub record Headline (words : List Bytes) (Verified Done NoMemory : Type 0) (spent level : Option SpentValue)
-    (old new : FilesTold) (said says : SinkTold) : Type 0 where
+-- What a run answers: `Verified`, `Done` and `NoMemory` say that this was answered; `spent` and `level` are
+-- the queries that were spent, on a move and on a level of the error.
+pub record Answered : Type 1 where
+  pub Verified : Type 0
+  pub Done : Type 0
+  pub NoMemory : Type 0
+  pub spent : Option SpentValue
+  pub level : Option SpentValue
+
+-- The files are told at entry and at exit; memory was there, and no call on the files or the sink that the
+-- job needs failed.
+pub record Headline (words : List Bytes) (answered : Answered) (call : Call) : Type 0 where
   pub when_check_verifies : (metric : Metric) (bound : ℕ) (input stem : Bytes)
-      → job_of words ≡ Some (check metric bound input stem) → Verified
-      → WhereTold old new (λ a b. (exact : NetValue) × IsReadAs (bytes_of a input) exact
+      → job_of words ≡ Some (check metric bound input stem) → answered.Verified
+      → WhereTold call.old call.new (λ a b. (exact : NetValue) × IsReadAs (bytes_of a input) exact
       × KeepsItsPromise metric bound exact (texts_of b stem))
-  pub unless_conflicts_were_spent : (metric : Metric) (bound conflicts : ℕ) (input stem : Bytes)
-      → job_of words ≡ Some (synth metric bound conflicts input stem)
-      → IsQuietSynth input stem old new said says → ¬ NoMemory → spent ≡ None → level ≡ None
-      → WhereTold old new (λ a b. (exact : NetValue) → IsReadAs (bytes_of a input) exact
-      → Done × AdmitsNoMore metric bound input stem exact b)
-  pub the_conflicts_that_were_spent : (metric : Metric) (bound conflicts : ℕ) (input stem : Bytes)
-      → job_of words ≡ Some (synth metric bound conflicts input stem)
-      → (q : SpentValue) → (spent ≡ Some q) ⊎ (level ≡ Some q)
-      → (exact : NetValue) × OfInput old new input (λ text. IsReadAs text exact)
-      × AreSpentOn metric exact bound conflicts q
+  pub unless_conflicts_were_spent : (aim : Constraint) (input stem : Bytes)
+      → job_of words ≡ Some (synth aim input stem)
+      → IsQuietSynth input stem call → ¬ answered.NoMemory → answered.spent ≡ None → answered.level ≡ None
+      → WhereTold call.old call.new (λ a b. (exact : NetValue) → IsReadAs (bytes_of a input) exact
+      → answered.Done × AdmitsNoMore aim.metric aim.bound input stem exact b)
+  pub the_conflicts_that_were_spent : (aim : Constraint) (input stem : Bytes)
+      → job_of words ≡ Some (synth aim input stem)
+      → (q : SpentValue) → (answered.spent ≡ Some q) ⊎ (answered.level ≡ Some q)
+      → (exact : NetValue) × OfInput call input (λ text. IsReadAs text exact) × AreSpentOn aim exact q

@@ -13,11 +13,18 @@ use Rattle.semantics.specs.declared.limits.TheConstants.{MOST_OUTPUTS, LARGEST_E
 use Rattle.job_semantics.specs.declared.task.Task.{Task}
 use Rattle.job_semantics.specs.declared.task.Task.TheVariants.{Certify, Refine}
 use Rattle.job_semantics.specs.Endings.{is_bundle_name}
+use Rattle.proof_semantics.specs.declared.constraint.Constraint.{Constraint}
+
+-- the names of a certify or a refine job: IN, the second netlist, and STEM
+pub record TaskNames : Type 0 where
+  pub input : Bytes
+  pub second : Bytes
+  pub stem : Bytes
 
 pub data Job : Type 0 where
-  synth : Metric → (bound conflicts : ℕ) → (input stem : Bytes) → Job
+  synth : Constraint → (input stem : Bytes) → Job
   -- a second netlist is certified or refined against the first
-  against : Task → Metric → (bound conflicts : ℕ) → (input second stem : Bytes) → Job
+  against : Task → Constraint → TaskNames → Job
   check : Metric → (bound : ℕ) → (input stem : Bytes) → Job
   -- a check that allows a net that is larger than the original
   confirm : Metric → (bound : ℕ) → (input stem : Bytes) → Job
@@ -91,9 +98,9 @@ are_file_words input stem = not (is_empty_word input)
 abbrev pub is_output_word : Bytes → Bytes → Bool
 is_output_word input output = not (is_empty_word output) && not (bytes_eq input output)
 
--- IN, the name of the second netlist, and STEM: neither name is a file of the bundle
-abbrev pub are_second_words : Bytes → Bytes → Bytes → Bool
-are_second_words input second stem = are_file_words input stem && are_file_words second stem
+-- no name is empty, and neither IN nor the second netlist is a file of the bundle
+abbrev pub are_task_names : TaskNames → Bool
+are_task_names names = are_file_words names.input names.stem && are_file_words names.second names.stem
 
 -- IN and OUT of a conversion
 abbrev pub are_conversion_words : Bytes → Bytes → Bool
@@ -104,29 +111,34 @@ abbrev pub are_trim_words : Bytes → Bytes → Bytes → Bool
 are_trim_words input stem output
     = are_file_words input stem && (is_output_word input output && not (is_bundle_name stem output))
 
-abbrev pub synth_of : List Bytes → Option Job
-synth_of (m ∷ b ∷ c ∷ input ∷ stem ∷ []) = do
+-- what the three words METRIC, BOUND and CONFLICTS ask for
+abbrev pub constraint_of : (metric bound conflicts : Bytes) → Option Constraint
+constraint_of m b c = do
   metric ← metric_of m
   bound ← bound_of b
   conflicts ← conflicts_of c
-  if are_file_words input stem then Some (synth metric bound conflicts input stem) else None
+  Some (record { metric = metric; bound = bound; limit = conflicts })
+
+abbrev pub synth_of : List Bytes → Option Job
+synth_of (m ∷ b ∷ c ∷ input ∷ stem ∷ []) = do
+  aim ← constraint_of m b c
+  if are_file_words input stem then Some (synth aim input stem) else None
 synth_of _ = None
 
 -- the job of a task and a second netlist; to refine IN itself is to simplify it
-abbrev pub task_job : Task → Metric → (bound conflicts : ℕ) → (input second stem : Bytes) → Job
-task_job Certify metric bound conflicts input second stem
-    = against Certify metric bound conflicts input second stem
-task_job Refine metric bound conflicts input second stem =
-    if bytes_eq input second then synth metric bound conflicts input stem
-    else against Refine metric bound conflicts input second stem
+abbrev pub task_job : Task → Constraint → TaskNames → Job
+task_job Certify aim names = against Certify aim names
+task_job Refine aim names =
+    if bytes_eq names.input names.second then synth aim names.input names.stem
+    else against Refine aim names
+
+abbrev pub task_with_names : Task → Constraint → TaskNames → Option Job
+task_with_names task aim names = if are_task_names names then Some (task_job task aim names) else None
 
 abbrev pub task_of : Task → List Bytes → Option Job
 task_of task (m ∷ b ∷ c ∷ input ∷ second ∷ stem ∷ []) = do
-  metric ← metric_of m
-  bound ← bound_of b
-  conflicts ← conflicts_of c
-  if are_second_words input second stem
-      then Some (task_job task metric bound conflicts input second stem) else None
+  aim ← constraint_of m b c
+  task_with_names task aim (record { input = input; second = second; stem = stem })
 task_of task _ = None
 
 -- a check or a confirm job

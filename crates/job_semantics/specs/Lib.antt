@@ -4,6 +4,7 @@ pub mod Report
 pub mod Bundle
 pub mod Input
 pub mod Shrinking
+pub mod Call
 pub mod Synthesis
 pub mod Laws
 pub mod Examples

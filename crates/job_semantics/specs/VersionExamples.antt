@@ -7,9 +7,8 @@ use Rattle.semantics.specs.declared.metric.Kind.TheVariants.{Abs}
 use Rattle.semantics.specs.Error.{one_word}
 use Rattle.semantics.specs.Examples.{text}
 use Rattle.job_semantics.specs.declared.ending.Ending.TheVariants as file
-use Rattle.job_semantics.specs.declared.growth.Growth.TheVariants.{Refused}
 use Rattle.job_semantics.specs.declared.certificate_clause.Clause.TheVariants as clause
-use Rattle.job_semantics.specs.Certificate.{Texts, Holds, Certifies, IsFirstFailing}
+use Rattle.job_semantics.specs.Certificate.{Texts, Holds, Certifies, IsFirstFailing, checked_claim}
 
 -- y is the exclusive or of w and q, and equals the conjunction of u and v: of all single moves only one to
 -- the two signals u and v keeps the values of y
@@ -71,13 +70,15 @@ parity_texts first_line formula log file.Report = parity_report first_line
 -- its last clause fails, and no other.
 pub record VersionExamples : Type 0 where
   pub first_version : (formula log : Bytes)
-      → Holds Refused conjunction_by_parity (one_word Abs) 0
+      → Holds (checked_claim (one_word Abs) 0) conjunction_by_parity
       (parity_texts (codes "salsa 1") formula log) clause.Formula
-      → Holds Refused conjunction_by_parity (one_word Abs) 0 (parity_texts (codes "salsa 1") formula log) clause.Log
-      → Certifies conjunction_by_parity (one_word Abs) 0 (parity_texts (codes "salsa 1") formula log)
+      → Holds (checked_claim (one_word Abs) 0) conjunction_by_parity
+      (parity_texts (codes "salsa 1") formula log) clause.Log
+      → Certifies (one_word Abs) 0 conjunction_by_parity (parity_texts (codes "salsa 1") formula log)
   pub second_version : (formula log : Bytes)
-      → Holds Refused conjunction_by_parity (one_word Abs) 0
+      → Holds (checked_claim (one_word Abs) 0) conjunction_by_parity
       (parity_texts (codes "salsa 2") formula log) clause.Formula
-      → Holds Refused conjunction_by_parity (one_word Abs) 0 (parity_texts (codes "salsa 2") formula log) clause.Log
-      → IsFirstFailing Refused conjunction_by_parity (one_word Abs) 0
+      → Holds (checked_claim (one_word Abs) 0) conjunction_by_parity
+      (parity_texts (codes "salsa 2") formula log) clause.Log
+      → IsFirstFailing (checked_claim (one_word Abs) 0) conjunction_by_parity
       (parity_texts (codes "salsa 2") formula log) clause.Minimal

@@ -1,11 +1,12 @@
 //! Jobs, reports, certificates, and what each answer of a run says. It has no code but the types `Ending`,
-//! `Clause`, `Version`, `Growth` and `Task`.
+//! `Clause`, `Version`, `Growth`, `Claim` and `Task`.
 #![tactic(auto)]
 
 pub mod certificate_clause;
 pub mod certificate_examples;
 pub mod certificate_laws;
 pub mod checking_laws;
+pub mod claim;
 pub mod demo_examples;
 pub mod demo_laws;
 pub mod ending;

@@ -8,6 +8,7 @@ use Rattle.semantics.specs.declared.limits.TheConstants.{FEW_INPUTS, MOST_CASE_I
 use Rattle.semantics.specs.Error.{number_of, net_error, IsWithin}
 use Rattle.semantics.specs.Vectors.{IsFirstGreatestAt}
 use Rattle.quality_semantics.specs.Joint.{joint_net}
+use Rattle.proof_semantics.specs.declared.constraint.Constraint.{Constraint}
 use Rattle.proof_semantics.specs.Logs.{LogItem, Refutes, IsDerivation}
 use Rattle.proof_semantics.specs.Miter.{miter}
 use Rattle.proof_semantics.specs.Conflicts.{IsConflictChain, IsEnough}
@@ -43,19 +44,23 @@ pub record IsSpentQuery (metric : Metric) (exact : NetValue) (limit : ℕ) (s : 
   pub merged : IsMergeLog (joint_net exact s.net metric s.k) (take s.merged s.log)
   pub chain : IsConflictChain (miter exact s.net metric s.k) s.merged limit s.log
 
+-- an error, an input vector that has it, and the log that is to show that no input's error is greater
+pub record MaximumValue : Type 0 where
+  pub error : ℕ
+  pub witness : List Bool
+  pub log : List LogItem
+
 -- The greatest error over all inputs, an input that has this error, and a log that refutes the miter at this
 -- error; with few inputs the input is the first such input in counting order.
-pub record IsMaximum (metric : Metric) (exact approx : NetValue) (most : ℕ) (witness : List Bool)
-    (log : List LogItem) : Type 0 where
-  pub width : length witness ≡ input_count exact
-  pub attained : net_error metric exact approx witness ≡ most
-  pub never : IsNever metric exact approx most log
+pub record IsMaximum (metric : Metric) (exact approx : NetValue) (m : MaximumValue) : Type 0 where
+  pub width : length m.witness ≡ input_count exact
+  pub attained : net_error metric exact approx m.witness ≡ m.error
+  pub never : IsNever metric exact approx m.error m.log
   pub first : input_count exact ≤ FEW_INPUTS
-      → IsFirstGreatestAt (input_count exact) (net_error metric exact approx) most witness
+      → IsFirstGreatestAt (input_count exact) (net_error metric exact approx) m.error m.witness
 
--- the search for the greatest error was spent at a level within the bound
-pub record IsSpentLevel (metric : Metric) (exact approx : NetValue) (bound limit : ℕ)
-    (s : SpentValue) : Type 0 where
-  pub query : IsSpentQuery metric exact limit s
+-- the search for the greatest error of a net that keeps the bound was spent at a level within the bound
+pub record IsSpentLevel (aim : Constraint) (exact approx : NetValue) (s : SpentValue) : Type 0 where
+  pub query : IsSpentQuery aim.metric exact aim.limit s
   pub net : s.net ≡ approx
-  pub level : s.k ≤ bound
+  pub level : s.k ≤ aim.bound

@@ -17,8 +17,11 @@ pub record QueryExamples : Type 0 where
   pub few_inputs : (s : SpentValue) → ¬ IsSpentQuery (one_word Abs) half_adder 1 s
   pub greatest : IsFirstGreatestAt 2 (net_error (one_word Abs) half_adder constant_sum) 1 (true ∷ false ∷ [])
   pub not_the_first_greatest : (log : List LogItem)
-      → ¬ IsMaximum (one_word Abs) half_adder constant_sum 1 (false ∷ true ∷ []) log
+      → ¬ IsMaximum (one_word Abs) half_adder constant_sum
+      (record { error = 1; witness = false ∷ true ∷ []; log = log })
   pub maximum_too_low : (log : List LogItem)
-      → ¬ IsMaximum (one_word Abs) half_adder constant_sum 0 (false ∷ false ∷ []) log
+      → ¬ IsMaximum (one_word Abs) half_adder constant_sum
+      (record { error = 0; witness = false ∷ false ∷ []; log = log })
   pub maximum_too_high : (log : List LogItem)
-      → ¬ IsMaximum (one_word Abs) half_adder constant_sum 2 (true ∷ false ∷ []) log
+      → ¬ IsMaximum (one_word Abs) half_adder constant_sum
+      (record { error = 2; witness = true ∷ false ∷ []; log = log })
