@@ -15,12 +15,16 @@ use Rattle.proof_semantics.specs.Logs.{StepValue, LogItem, LiteralSet, with_nega
 use Rattle.proof_semantics.specs.Conflicts.{added_clauses, clauses_with}
 use Rattle.proof_semantics.proofs.Conflicts.{derivation_law}
 use Rattle.merge_log.specs.Chains.{ChainValue, started, ended_with, MergedValue, first_of, row_chain, table_chain}
-use Rattle.merge_log.specs.Ids.{HasId, HaveIds, forth, back, AreMerged}
+use Rattle.merge_log.specs.Ids.{HasId, HaveIds, link, forth, back, AreMerged}
 use Rattle.merge_log.specs.Steps.{Adds}
 use Rattle.merge_log.proofs.Chained.{Knows, chain-started, knows-first, knows-second}
 use Rattle.merge_log.proofs.ClauseIds.{id-more, ids-more}
+use Rattle.merge_log.proofs.RowLoops.{zip_turned}
 use Rattle.merge_log.proofs.RowSteps.{row_derives}
 use Rattle.merge_log.proofs.TableSteps.{SaySo, table_derives}
+
+not_both : false ≡ true → ⊥
+not_both e = cc
 
 -- ---- growing logs
 
@@ -127,6 +131,31 @@ module _ (f : Formula) (old new : List LogItem) (h : IsDerivation f old) where
     row_back_by row other id behind pins others hints c width wide same ids more low lower chain is short grown =
         adds-row_back row other id behind (length f.clauses + length old + 1) pins others hints width wide same ids more low lower
         (is ∙ ap (λ d. ended_with (row_chain m behind marks others pins d) (id + row_literals marks)) chain) refl (omega (arith, short)) grown
+
+    pub row_forth_linked : (sign : Bool) → sign ≡ true → (row other id behind : ℕ) (pins others hints : List ℕ) (c : ChainValue) (clause : Clause) → length marks ≡ length pins
+        → length marks ≡ length others → AllZip (λ p q. first_of m p ≡ first_of m q) pins others → HaveIds f.clauses id (row_clauses row (literals_of_row marks pins))
+        → HaveIds f.clauses behind (row_clauses other (literals_of_row marks others)) → row < f.variables → other < f.variables
+        → c ≡ started (literal_at row sign) (literal_at other (not sign))
+        → hints ≡ ended_with (row_chain m id marks pins others c) (behind + row_literals marks) → length f.clauses + length old + 1 < 2 ^ 61
+        → clause ≡ link row other sign → new ≡ old ++ Add (record { id = length f.clauses + length old + 1; literals = clause; hints = hints }) ∷ [] → Adds f old new (link row other sign ∷ [])
+    row_forth_linked true e row other id behind pins others hints c clause width wide same ids more low lower chain is short made grown =
+        row_forth_by row other id behind pins others hints c width wide same ids more low lower chain is short (subst (λ l. new ≡ old ++ Add (record {
+          id = length f.clauses + length old + 1;
+          literals = l;
+          hints = hints;
+        }) ∷ []) made grown)
+    row_forth_linked false e row other id behind pins others hints c clause width wide same ids more low lower chain is short made grown = absurd (not_both e)
+
+    pub row_back_linked : (sign : Bool) → sign ≡ false → (row other id behind : ℕ) (pins others hints : List ℕ) (c : ChainValue) (clause : Clause) → length marks ≡ length pins
+        → length marks ≡ length others → AllZip (λ p q. first_of m p ≡ first_of m q) pins others → HaveIds f.clauses id (row_clauses row (literals_of_row marks pins))
+        → HaveIds f.clauses behind (row_clauses other (literals_of_row marks others)) → row < f.variables → other < f.variables
+        → c ≡ started (literal_at row sign) (literal_at other (not sign))
+        → hints ≡ ended_with (row_chain m behind marks others pins c) (id + row_literals marks) → length f.clauses + length old + 1 < 2 ^ 61
+        → clause ≡ link row other sign → new ≡ old ++ Add (record { id = length f.clauses + length old + 1; literals = clause; hints = hints }) ∷ [] → Adds f old new (link row other sign ∷ [])
+    row_back_linked true e row other id behind pins others hints c clause width wide same ids more low lower chain is short made grown = absurd (not_both (sym e))
+    row_back_linked false e row other id behind pins others hints c clause width wide same ids more low lower chain is short made grown =
+        row_back_by row other id behind pins others hints c width wide (zip_turned (first_of m) pins others same) ids more low lower chain is short
+        (subst (λ l. new ≡ old ++ Add (record { id = length f.clauses + length old + 1; literals = l; hints = hints }) ∷ []) made grown)
 
   -- ---- tables
 

@@ -9,7 +9,7 @@ pub mod Loops
 pub mod RowLoops
 pub mod FormsSame
 pub mod Merging
-pub mod Placed
+pub mod TablePlaces
 pub mod Ends
 pub mod LevelChains
 pub mod TablesBy

@@ -15,15 +15,17 @@ use Rattle.proof_semantics.specs.Formula.{goal_of}
 use Rattle.proof_semantics.specs.Conflicts.{clauses_with}
 use Rattle.proof_semantics.specs.Merges.{IsPair}
 use Rattle.proof_semantics.proofs.Counts.{length-goal_clauses, length-net_clauses}
-use Rattle.merge_log.specs.Chains.{first_of}
+use Rattle.merge_log.specs.Chains.{MergedValue, first_of}
 use Rattle.merge_log.specs.Ids.{HaveIds, forth, back}
-use Rattle.merge_log.specs.Steps.{Adds, row_pairs, first_row, first_clause}
+use Rattle.merge_log.specs.Steps.{Adds, IsTableAt, AreToMerge, row_pairs, first_row, first_clause}
+use Rattle.merge_log.specs.Places.{place_of}
+use Rattle.merge_log.specs.declared.placed.PlacedTable.{PlacedTable}
 use Rattle.merge_log.specs.Forms.{FormValue, form_of, IsNumbered}
 use Rattle.merge_log.specs.Levels.{AreLevels}
 use Rattle.merge_log.specs.Merging.{MergingValue, IsMerging, IsFound}
 use Rattle.merge_log.proofs.ClauseIds.{ids-parts}
 use Rattle.merge_log.proofs.TableParts.{pairs_stand, length-pairs}
-use Rattle.merge_log.proofs.Placed.{placed}
+use Rattle.merge_log.proofs.TablePlaces.{placed}
 use Rattle.merge_log.proofs.Merging.{found_plane, found_pins, found_rows, found_earlier, merging_found, merging_new}
 
 -- ---- sizes
@@ -80,6 +82,17 @@ module _ (N : NetValue) (built : IsBuilt N) where
       let up = sum_up (λ (t : TableValue). length t.rows) N.tables (i + 1) j (omega (arith, before)) in
       omega (arith, more, up)
 
+  -- a table with its place stands in the goal
+  pub table_stands : sum_by table_clause_count N.tables < 2 ^ 60 → (m : MergedValue) → length m.firsts ≡ signal_count N → (t : ℕ) → t < table_count N → (p : PlacedTable)
+      → p.signal ≡ input_count N + t → p.table.now ≡ table_at N.tables t → p.place ≡ place_of (input_count N) N.tables t → IsTableAt (goal_of N) m p
+  table_stands few m count t low p signal table place = record {
+    pins_in = rw table (pins_inside (length m.firsts) t count low);
+    clauses = rw (signal, table, place) (clauses_at t low);
+    signal = rw signal (signal_within t low);
+    rows_in = rw (table, place) (row_within t low);
+    few = rw (table, place) (clause_few t few low);
+  }
+
 -- ---- pairs
 
 pub forth_pair : (s u : ℕ) → (s ≡ u → ⊥) → IsPair (forth s u)
@@ -115,6 +128,9 @@ module _ (N : NetValue) (built : IsBuilt N) (levels : List ℕ) (level t : ℕ) 
 
   pub ready_pins : AllZip (λ p q. first_of g.merged p ≡ first_of g.merged q) (table_at N.tables t).pins (table_at N.tables (get_or g.tables kind 0)).pins
   ready_pins = found_pins N built.sound.acyclic levels h.levels_are level t g h.merging h.table h.here kind h.within h.form (formed N built)
+
+  pub ready_alike : AreToMerge g.merged (table_at N.tables t) (table_at N.tables (get_or g.tables kind 0))
+  ready_alike = record { plane = ready_plane; rows = ready_rows; pins = ready_pins }
 
   pub ready_earlier : get_or g.tables kind 0 < t
   ready_earlier =

@@ -9,7 +9,7 @@ use Rattle.proof_semantics.specs.Logs.{LogItem, IsDerivation}
 use Rattle.proof_semantics.specs.Conflicts.{clauses_with}
 use Rattle.proof_semantics.proofs.Counts.{length-implications}
 use Rattle.merge_log.specs.Chains.{ChainValue, started, ended_with, table_chain}
-use Rattle.merge_log.specs.Ids.{HasId, HaveIds}
+use Rattle.merge_log.specs.Ids.{HasId, HaveIds, link}
 use Rattle.merge_log.specs.Steps.{Adds, row_pairs}
 use Rattle.merge_log.proofs.Chained.{knows-first, knows-second}
 use Rattle.merge_log.proofs.ClauseIds.{ids-parts}
@@ -79,23 +79,29 @@ module _ (f : Formula) (old new : List LogItem) (h : IsDerivation f old) (s u ro
       (parts false u other behind there).1 is refl (omega (arith, short)) grown
 
   -- the sign is the plane
-  pub pushed_direct : (sign plane : Bool) → beq sign plane ≡ true → (c : ChainValue) → Implied plane s row id → Implied plane u other behind
-      → c ≡ started (literal_at s sign) (literal_at u (not sign)) → hints ≡ ended_with (table_chain other row behind equal count c) (id + count)
-      → new ≡ old ++ Add (record { id = length f.clauses + length old + 1; literals = literal_at s (not sign) ∷ literal_at u sign ∷ []; hints = hints }) ∷ []
-      → Adds f old new ((literal_at s (not sign) ∷ literal_at u sign ∷ []) ∷ [])
-  pushed_direct sign plane test c own there chain is grown =
+  pub pushed_direct : (sign plane : Bool) → beq sign plane ≡ true → (c : ChainValue) (clause : Clause) → Implied plane s row id → Implied plane u other behind
+      → c ≡ started (literal_at s sign) (literal_at u (not sign)) → hints ≡ ended_with (table_chain other row behind equal count c) (id + count) → clause ≡ link s u sign
+      → new ≡ old ++ Add (record { id = length f.clauses + length old + 1; literals = clause; hints = hints }) ∷ [] → Adds f old new (link s u sign ∷ [])
+  pushed_direct sign plane test c clause own there chain is made grown =
       let same : sign ≡ plane = beq_true sign plane test in
       table_direct sign (subst (λ p. Implied p s row id) (sym same) own) (subst (λ p. Implied p u other behind) (sym same) there)
-      (is ∙ ap (λ d. ended_with (table_chain other row behind equal count d) (id + count)) chain) grown
+      (is ∙ ap (λ d. ended_with (table_chain other row behind equal count d) (id + count)) chain)
+      (subst (λ l. new ≡ old ++ Add (record { id = length f.clauses + length old + 1; literals = l; hints = hints }) ∷ []) made grown)
+
+  turned : (sign plane : Bool) → beq sign plane ≡ false → (c : ChainValue) → Implied plane s row id → Implied plane u other behind
+      → c ≡ started (literal_at s sign) (literal_at u (not sign)) → hints ≡ ended_with (table_chain row other id (equal + 1) count c) (behind + count)
+      → new ≡ old ++ Add (record { id = length f.clauses + length old + 1; literals = link s u sign; hints = hints }) ∷ [] → Adds f old new (link s u sign ∷ [])
+  turned true true test c own there chain is grown = absurd (beq_false true true test refl)
+  turned true false test c own there chain is grown =
+      table_turned false own there (is ∙ ap (λ d. ended_with (table_chain row other id (equal + 1) count d) (behind + count)) chain) grown
+  turned false true test c own there chain is grown =
+      table_turned true own there (is ∙ ap (λ d. ended_with (table_chain row other id (equal + 1) count d) (behind + count)) chain) grown
+  turned false false test c own there chain is grown = absurd (beq_false false false test refl)
 
   -- the sign is the plane's opposite
-  pub pushed_turned : (sign plane : Bool) → beq sign plane ≡ false → (c : ChainValue) → Implied plane s row id → Implied plane u other behind
-      → c ≡ started (literal_at s sign) (literal_at u (not sign)) → hints ≡ ended_with (table_chain row other id (equal + 1) count c) (behind + count)
-      → new ≡ old ++ Add (record { id = length f.clauses + length old + 1; literals = literal_at s (not sign) ∷ literal_at u sign ∷ []; hints = hints }) ∷ []
-      → Adds f old new ((literal_at s (not sign) ∷ literal_at u sign ∷ []) ∷ [])
-  pushed_turned true true test c own there chain is grown = absurd (beq_false true true test refl)
-  pushed_turned true false test c own there chain is grown =
-      table_turned false own there (is ∙ ap (λ d. ended_with (table_chain row other id (equal + 1) count d) (behind + count)) chain) grown
-  pushed_turned false true test c own there chain is grown =
-      table_turned true own there (is ∙ ap (λ d. ended_with (table_chain row other id (equal + 1) count d) (behind + count)) chain) grown
-  pushed_turned false false test c own there chain is grown = absurd (beq_false false false test refl)
+  pub pushed_turned : (sign plane : Bool) → beq sign plane ≡ false → (c : ChainValue) (clause : Clause) → Implied plane s row id → Implied plane u other behind
+      → c ≡ started (literal_at s sign) (literal_at u (not sign)) → hints ≡ ended_with (table_chain row other id (equal + 1) count c) (behind + count) → clause ≡ link s u sign
+      → new ≡ old ++ Add (record { id = length f.clauses + length old + 1; literals = clause; hints = hints }) ∷ [] → Adds f old new (link s u sign ∷ [])
+  pushed_turned sign plane test c clause own there chain is made grown =
+      turned sign plane test c own there chain is
+      (subst (λ l. new ≡ old ++ Add (record { id = length f.clauses + length old + 1; literals = l; hints = hints }) ∷ []) made grown)

@@ -1,6 +1,6 @@
 -- Clauses and their ids: in a formula with a log behind it the first clause has the id 1, and each further
 -- clause the next id. Source: LRAT.
-use Rattle.std.specs.Prelude.{◌≡◌, ◌≢◌, ℕ, suc, ◌<◌, true, false, List, [], ◌∷◌, length}
+use Rattle.std.specs.Prelude.{◌≡◌, ◌≢◌, ℕ, suc, ◌<◌, Bool, true, false, not, List, [], ◌∷◌, length}
 use Rattle.proof_semantics.specs.Clauses.{Clause}
 use Rattle.proof_semantics.specs.NetClauses.{literal_at}
 use Rattle.proof_semantics.specs.Conflicts.{clause_at}
@@ -16,12 +16,16 @@ abbrev pub HaveIds : List Clause → ℕ → List Clause → Type 0
 HaveIds clauses id [] = Unit {0}
 HaveIds clauses id (clause ∷ more) = HasId clauses id clause × HaveIds clauses (suc id) more
 
+-- the variable of s has the value that is not `sign`, or that of u has `sign`
+abbrev pub link : ℕ → ℕ → Bool → Clause
+link s u sign = literal_at s (not sign) ∷ literal_at u sign ∷ []
+
 -- the two clauses that make the variables of s and u equal
 abbrev pub forth : ℕ → ℕ → Clause
-forth s u = literal_at s false ∷ literal_at u true ∷ []
+forth s u = link s u true
 
 abbrev pub back : ℕ → ℕ → Clause
-back s u = literal_at s true ∷ literal_at u false ∷ []
+back s u = link s u false
 
 -- each signal that was made equal to another has its two clauses
 abbrev pub AreMerged : List Clause → MergedValue → Type 0

@@ -1,6 +1,9 @@
 -- The tables of each level in their order, by the first table of each level and, for each table, the next
 -- table of its level.
 use Rattle.std.specs.Prelude.{◌≡◌, ◌≢◌, ℕ, ◌+◌, ◌<◌, ◌≤◌, List, length, slice_index_or}
+use Rattle.semantics.specs.Net.{NetValue, input_count, table_count}
+use Rattle.merge_log.specs.Levels.{AreLevels}
+use Rattle.merge_log.specs.declared.level_lists.LevelLists.{LevelLists}
 
 -- Of the tables from `from` on, behind n inputs, `first` is the first of this level; where none has it,
 -- `first` is their number.
@@ -19,3 +22,10 @@ pub record AreLevelLists (n count : ℕ) (levels : List ℕ) (from : ℕ) (first
       → IsFirstFrom n count levels level from (slice_index_or firsts level 0)
   pub nexts_are : (t : ℕ) → from ≤ t → t < count
       → IsFirstFrom n count levels (slice_index_or levels (n + t) 0) (t + 1) (slice_index_or nexts t 0)
+
+-- the level of each signal of a net, and the lists of the tables of each level
+pub record AreListsOf (N : NetValue) (lists : LevelLists) : Type 0 where
+  pub levels_are : AreLevels (input_count N) N.tables lists.levels.items
+  pub deepest : (s : ℕ) → slice_index_or lists.levels.items s 0 < length lists.firsts.items
+  pub lists_are : AreLevelLists (input_count N) (table_count N) lists.levels.items 0 lists.firsts.items
+      lists.nexts.items

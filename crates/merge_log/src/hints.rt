@@ -5,7 +5,7 @@ ghost use Rattle.merge_log.specs.Chains.{ended_with, asked, row_chain, table_cha
 
 use crate::hint_chain::Chain;
 use crate::merged::Merged;
-use net_core::items::Signal;
+use crate::placed::{Place, PlacedPins};
 use net_core::mark::Mark;
 use net_core::table::row_literals;
 use proof_parts::log::Ids;
@@ -22,61 +22,57 @@ pub(crate) fn asked(mark: Mark) -> Option<bool>
     }
 }
 
-/// The hints that one row implies another, which has equal marks, and pins that were made equal to those of
-/// the first. The clauses of the first row have the ids from `id` on, and those of the other row from
-/// `behind` on.
+/// The hints that the row `from` implies the row `to`, which has the same marks, and pins that were made
+/// equal to those of the first.
 pub(crate) fn row_hints(
     mut chain: Chain,
     merged: &Merged,
     marks: &[Mark],
-    id: u64,
-    pins: &[Signal],
-    behind: u64,
-    others: &[Signal],
+    from: &PlacedPins,
+    to: &PlacedPins,
 ) -> Result<Ids, AllocError>
-    requires width { length marks.now ≡ length pins.now }
-    requires other_width { length marks.now ≡ length others.now }
-    requires pins { All (λ s. s < length merged.now.firsts) pins.now }
-    requires others { All (λ s. s < length merged.now.firsts) others.now }
-    requires ids { id < 2 ^ 62 }
-    requires behind { behind < 2 ^ 62 }
+    requires width { length marks.now ≡ length from.now.pins.now }
+    requires to_width { length marks.now ≡ length to.now.pins.now }
+    requires pins { All (λ s. s < length merged.now.firsts) from.now.pins.now }
+    requires to_pins { All (λ s. s < length merged.now.firsts) to.now.pins.now }
+    requires few { from.now.place.clause < 2 ^ 62 }
+    requires to_few { to.now.place.clause < 2 ^ 62 }
     ensures { IfOk result (λ hints. hints
-        ≡ ended_with (row_chain merged.now id marks.now pins.now others.now chain)
-        (behind + row_literals marks.now)) }
+        ≡ ended_with (row_chain merged.now from.now.place.clause marks.now from.now.pins.now
+        to.now.pins.now chain)
+        (to.now.place.clause + row_literals marks.now)) }
 {
-    let mut next = id;
+    let mut next = from.place.clause;
     for (i, mark) in marks.iter().enumerate() {
         if let Some(sign) = asked(*mark) {
-            merged.imply_both(&mut chain, next, pins[i], others[i], sign)?;
+            merged.imply_both(&mut chain, next, from.pins[i], to.pins[i], sign)?;
             next += 1;
         }
     }
-    chain.finish(behind + row_literals(marks) as u64)
+    chain.finish(to.place.clause + row_literals(marks) as u64)
 }
 
-/// The hints that one table's plane implies another's, which has the same plane, and `rows` rows that were
-/// made equal to those of the first. The rows of the other table, from the place `row` on, are false by the
-/// clauses from the id `implication` on; the rows of the first table, from the place `own` on, are false by
-/// every second clause from the id `equal` on; and then the clause with the id `last` is false.
+/// The hints that one table's plane implies another's, which has the same plane, and `count` rows that were
+/// made equal to those of the first. The rows of the other table stand from the place `rows` on, and its
+/// clauses make them false; those of the first table stand from the place `equal` on, and every second clause
+/// from there makes them false; and then the clause with the id `last` is false.
 pub(crate) fn table_hints(
     mut chain: Chain,
-    rows: u32,
-    row: u32,
-    implication: u64,
-    own: u32,
-    equal: u64,
+    count: u32,
+    rows: Place,
+    equal: Place,
     last: u64,
 ) -> Result<Ids, AllocError>
-    requires places { row + rows < 2 ^ 31 }
-    requires own_places { own + rows < 2 ^ 31 }
-    requires ids { implication < 2 ^ 62 }
-    requires equal_ids { equal < 2 ^ 62 }
+    requires variables { rows.row + count < 2 ^ 31 }
+    requires equal_variables { equal.row + count < 2 ^ 31 }
+    requires few { rows.clause < 2 ^ 62 }
+    requires equal_few { equal.clause < 2 ^ 62 }
     ensures { IfOk result (λ hints. hints
-        ≡ ended_with (table_chain row own implication equal rows chain) last) }
+        ≡ ended_with (table_chain rows.row equal.row rows.clause equal.clause count chain) last) }
 {
-    for j in 0..rows {
-        chain.imply(implication + u64::from(j), row + j, false)?;
-        chain.imply(equal + 2 * u64::from(j), own + j, false)?;
+    for j in 0..count {
+        chain.imply(rows.clause + u64::from(j), rows.row + j, false)?;
+        chain.imply(equal.clause + 2 * u64::from(j), equal.row + j, false)?;
     }
     chain.finish(last)
 }

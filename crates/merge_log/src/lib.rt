@@ -8,6 +8,7 @@ mod level_lists;
 mod levels;
 mod merged;
 pub mod merges;
+mod placed;
 mod places;
 mod steps;
 mod table_steps;

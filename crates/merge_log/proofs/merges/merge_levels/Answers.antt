@@ -4,19 +4,12 @@ use Rattle.merge_log.specs.Merging.{MergingValue}
 use Rattle.merge_log.proofs.LevelChains.{merging_all}
 use Rattle.merge_log.proofs.merges.merge_levels.Goals as goal
 
-pub start-requires : goal.start-requires
-start-requires c = c.requires.formula
-
 pub loop-level-init : goal.loop-level-init
-loop-level-init c = c.in_ok-merging.ensures c.args.lists.now.levels.items c.requires.levels
+loop-level-init c = c.in_ok-merging.ensures c.args.lists.now.levels.items c.requires.levels_are
 
 pub take_level-requires : goal.take_level-requires
 take_level-requires c = record {
-  goal = c.requires.goal;
-  places = c.requires.places;
-  clauses = c.requires.clauses;
-  levels = c.requires.levels;
-  lists = c.requires.lists;
+  lists = c.requires;
   level = omega (arith, c.loop-level-test.true, c.len-level-end.ensures);
   merging = c.loop-level.invariant;
 }
@@ -25,5 +18,5 @@ pub returns : goal.returns
 returns c =
     let below : (s : ℕ) → get_or c.args.lists.now.levels.items s 0 < c.loop-level.level = λ s.
     omega (arith, c.requires.deepest s, c.len-level-end.ensures, c.loop-level-test.false) in
-    subst (IsMergeLog c.args.net.now) (sym (ap (λ (g : MergingValue). g.log) c.merging-2.view_is))
-    (merging_all c.args.net.now c.args.lists.now.levels.items c.loop-level.level c.loop-level.merging below c.loop-level.invariant)
+    subst (IsMergeLog c.args.placed.now) (sym (ap (λ (g : MergingValue). g.log) c.merging-2.view_is))
+    (merging_all c.args.placed.now c.args.lists.now.levels.items c.loop-level.level c.loop-level.merging below c.loop-level.invariant)

@@ -1,15 +1,11 @@
+use Rattle.std.proofs.Common.{subst}
+use Rattle.std.specs.Prelude.{IfOk}
+use Rattle.semantics.specs.Net.{NetValue}
+use Rattle.proof_semantics.specs.Merges.{IsMergeLog}
 use Rattle.merge_log.proofs.merges.merges.Goals as goal
 
-pub places-requires : goal.places-requires
-places-requires c = record { variables = c.see_few.ensures.variables; clauses = c.see_few.ensures.tables }
-
 pub merge_levels-requires : goal.merge_levels-requires
-merge_levels-requires c = record {
-  goal = c.requires.its_goal;
-  formula = c.see_few.ensures.formula;
-  places = rw c.deref.ensures.value c.in_ok-places.ensures;
-  clauses = c.see_few.ensures.tables;
-  levels = c.in_ok-lists.ensures.levels;
-  deepest = c.in_ok-lists.ensures.deepest;
-  lists = c.in_ok-lists.ensures.lists;
-}
+merge_levels-requires c = rw c.in_ok-placed.ensures c.in_ok-lists.ensures
+
+pub returns : goal.returns
+returns c = subst (λ (N : NetValue). IfOk c.merge_levels.result (IsMergeLog N)) c.in_ok-placed.ensures c.merge_levels.ensures

@@ -9,9 +9,9 @@ use Rattle.merge_log.proofs.steps.merge_rows.Given as goal
 -- the rows before are made equal, and the clauses of those that are left stand from two ids on
 abbrev pub invariant-loop-j : goal.invariant-loop-j
 invariant-loop-j l = record {
-  adds : Adds l.goal l.initial.log l.log (row_pairs l.at.row l.other.row l.j);
-  clauses : HaveIds l.goal.clauses l.id (rows_clauses (l.at.row + l.j) l.pins (drop l.j l.rows));
-  other_clauses : HaveIds l.goal.clauses l.behind (rows_clauses (l.other.row + l.j) l.others (drop l.j l.rows));
-  few : l.id + sum_by (λ (m : List Mark). row_literals m + 1) (drop l.j l.rows) ≡ l.at.clause + sum_by (λ (m : List Mark). row_literals m + 1) l.rows;
-  other_few : l.behind + sum_by (λ (m : List Mark). row_literals m + 1) (drop l.j l.rows) ≡ l.other.clause + sum_by (λ (m : List Mark). row_literals m + 1) l.rows;
+  adds : Adds l.goal l.initial.log l.log (row_pairs l.pair.own.place.row l.pair.other.place.row l.j);
+  clauses : HaveIds l.goal.clauses l.id (rows_clauses (l.pair.own.place.row + l.j) l.pair.own.pins.now (drop l.j l.pair.rows.now));
+  other_clauses : HaveIds l.goal.clauses l.behind (rows_clauses (l.pair.other.place.row + l.j) l.pair.other.pins.now (drop l.j l.pair.rows.now));
+  few : l.id + sum_by (λ (m : List Mark). row_literals m + 1) (drop l.j l.pair.rows.now) ≡ l.pair.own.place.clause + sum_by (λ (m : List Mark). row_literals m + 1) l.pair.rows.now;
+  other_few : l.behind + sum_by (λ (m : List Mark). row_literals m + 1) (drop l.j l.pair.rows.now) ≡ l.pair.other.place.clause + sum_by (λ (m : List Mark). row_literals m + 1) l.pair.rows.now;
 }

@@ -1,7 +1,7 @@
 use Rattle.std.proofs.Common.{length, ap, arith}
 use Rattle.proof_semantics.specs.Formula.{Formula}
 use Rattle.merge_log.proofs.Ready.{clauses_counted}
-use Rattle.merge_log.proofs.merges.see_few.Goals as goal
+use Rattle.merge_log.proofs.places.see_few.Goals as goal
 
 pub returns-clause-variables : goal.returns-clause-variables
 returns-clause-variables c = omega (arith, ap (λ (f : Formula). f.variables) c.requires, c.vars-variables.ensures.formed.few_variables)

@@ -1,6 +1,6 @@
 use Rattle.std.proofs.Common.{length, ap, arith}
-use Rattle.merge_log.proofs.Placed.{table_clauses_counted}
-use Rattle.merge_log.proofs.places.clause_count.Goals as goal
+use Rattle.merge_log.proofs.TablePlaces.{table_clauses_counted}
+use Rattle.merge_log.proofs.places.table_clause_count.Goals as goal
 
 pub literals-requires : goal.literals-requires
 literals-requires c = omega (arith, c.requires, table_clauses_counted c.args.table.now)

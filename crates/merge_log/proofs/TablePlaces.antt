@@ -13,7 +13,7 @@ use Rattle.proof_semantics.specs.Clauses.{Clause}
 use Rattle.proof_semantics.specs.NetClauses.{table_clauses, tables_clauses, net_clauses, goal_clauses, literal_at}
 use Rattle.proof_semantics.specs.Variables.{table_clause_count}
 use Rattle.proof_semantics.proofs.Counts.{length-table_clauses}
-use Rattle.merge_log.specs.declared.steps.Place.{Place}
+use Rattle.merge_log.specs.declared.placed.Place.{Place}
 use Rattle.merge_log.specs.Ids.{HaveIds}
 use Rattle.merge_log.specs.Steps.{first_row, first_clause}
 use Rattle.merge_log.specs.Places.{place_of, no_place, IsPlaceList}
