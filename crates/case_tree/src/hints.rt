@@ -72,14 +72,20 @@ fn ask_failing(marks: &[Mark], pins: &[Signal], values: &[bool], needed: &mut [b
     }
 }
 
+/// The id of the first clause of a table's rows, and that of the first of the clauses behind them, which say
+/// that a row implies the plane.
+#[derive(Clone, Copy)]
+struct ClauseIds {
+    rows: u64,
+    implications: u64,
+}
+
 /// Adds the hints of the first row that matches, the last hint first, and marks as needed the signals on
-/// which they depend. The clauses of the rows have the ids from `next` on, and the clauses that say that a
-/// row implies the plane have the ids from `first` on.
+/// which they depend.
 fn push_match(
     hints: &mut Vec<u64>,
     needed: &mut [bool],
-    next: u64,
-    first: u64,
+    ids: ClauseIds,
     rows: &[Row],
     pins: &[Signal],
     values: &[bool],
@@ -87,15 +93,16 @@ fn push_match(
     requires widths { All (λ marks. length marks ≡ length pins.now) rows.now }
     requires pins_in { All (λ s. s < length values.now) pins.now }
     requires flags { length needed.old ≡ length values.now }
-    requires ids { next + sum_by (λ marks. row_literals marks + 1) rows.now < 2 ^ 63 }
-    requires implying { first + length rows.now < 2 ^ 63 }
+    requires ids { ids.rows + sum_by (λ marks. row_literals marks + 1) rows.now < 2 ^ 63 }
+    requires implying { ids.implications + length rows.now < 2 ^ 63 }
     ensures hints { OnOk result (hints.new.items ≡ hints.old.items
-        ++ reverse (match_hints next first pins.now rows.now (λ s. slice_index_or values.now s false))) }
+        ++ reverse (match_hints ids.rows ids.implications pins.now rows.now
+        (λ s. slice_index_or values.now s false))) }
     ensures asked { OnOk result (needed.new
         ≡ asked_by_match pins.now rows.now (λ s. slice_index_or values.now s false) needed.old) }
 {
-    let mut id = next;
-    let mut implied = first;
+    let mut id = ids.rows;
+    let mut implied = ids.implications;
     for row in rows {
         let marks = row.as_slice();
         if row_matches(marks, pins, values) {
@@ -188,16 +195,11 @@ fn push_table(
     let rows = table.rows().as_slice();
     let last = firsts[i as usize + 1] - 1;
     if has_match(table.plane(), values[place]) {
-        let implied = last - rows.len() as u64;
-        return push_match(
-            hints,
-            needed,
-            firsts[i as usize],
-            implied,
-            rows,
-            pins,
-            values,
-        );
+        let ids = ClauseIds {
+            rows: firsts[i as usize],
+            implications: last - rows.len() as u64,
+        };
+        return push_match(hints, needed, ids, rows, pins, values);
     }
     push_failing(hints, needed, last, rows, pins, values)
 }

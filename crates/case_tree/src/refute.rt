@@ -41,21 +41,28 @@ fn negation(alloc: Global, front: &[bool]) -> Result<Lits, AllocError>
 }
 
 /// A net, an order of its tables, the ids of the tables' first clauses, and all vectors of the net's last
-/// inputs, which are evaluated side by side.
+/// inputs, which are evaluated side by side; and where memory comes from.
 #[derive(Drop)]
 struct Tree<'a> {
+    alloc: Global,
     net: &'a Net,
     order: &'a [u32],
     firsts: &'a [u64],
     rest: &'a Patterns,
 }
 
+/// The steps so far, and the id of the last clause that is there.
+#[derive(Drop)]
+struct CaseLog {
+    log: Log,
+    last: u64,
+}
+
 /// The step that derives the negation of the input vector `x`; `words` are the values behind the first bits
 /// of `x`.
 fn vector_step(
-    alloc: Global,
-    id: u64,
     tree: &Tree,
+    id: u64,
     words: &[u64],
     room: &mut Room,
     x: &[bool],
@@ -73,8 +80,8 @@ fn vector_step(
 {
     let front = x.len() - tree.rest.inputs() as usize;
     set_lane(words, lane_of(&x[front..]), &mut room.values);
-    let hints = vector_hints(alloc, tree.net, tree.order, tree.firsts, room)?;
-    Ok(Step::new(id, negation(alloc, x)?, hints))
+    let hints = vector_hints(tree.alloc, tree.net, tree.order, tree.firsts, room)?;
+    Ok(Step::new(id, negation(tree.alloc, x)?, hints))
 }
 
 /// Computes the values behind the first bits of `x`, once `depth` is the number of these bits.
@@ -111,67 +118,73 @@ fn join_step(
     Ok(Step::new(id, negation(alloc, front)?, hints))
 }
 
-/// Adds the steps behind the id `last` that derive the negation of the first `depth` bits of `x`, and returns
-/// the id of the last one. `x` holds the bits on the way down, and `words` the values behind its first bits.
+/// Adds the steps that derive the negation of the first `depth` bits of `x`. `x` holds the bits on the way
+/// down, and `words` the values behind its first bits.
 fn push_cases(
-    alloc: Global,
     tree: &Tree,
     words: &mut [u64],
     room: &mut Room,
     x: &mut [bool],
     depth: usize,
-    last: u64,
-    log: &mut Log,
-) -> Result<u64, AllocError>
+    cases: &mut CaseLog,
+) -> Result<(), AllocError>
     requires tree { IsTree tree.now }
     requires width { length x.old ≡ input_count tree.now.net.now }
     requires depth { depth ≤ length x.old }
-    requires ids { last + step_count (length x.old - depth) < 2 ^ 63 }
+    requires ids { cases.old.last + step_count (length x.old - depth) < 2 ^ 63 }
     requires words { length words.old ≡ signal_count tree.now.net.now }
     requires values { length x.old - tree.now.rest.now.inputs < depth
         → AreValuesBehind tree.now.net.now (take (length x.old - tree.now.rest.now.inputs) x.old) words.old }
     requires room { FitsRoom tree.now.net.now room.old }
-    ensures log { OnOk result (log.new ≡ log.old
+    ensures log { OnOk result (cases.new.log ≡ cases.old.log
         ++ cases_from (input_count tree.now.net.now) tree.now.net.now.tables tree.now.order.now
         (slice_index tree.now.net.now.outputs 0)
-        (length x.old - depth) (take depth x.old) last) }
-    ensures last { IfOk result (λ id. id ≡ last + step_count (length x.old - depth)) }
+        (length x.old - depth) (take depth x.old) cases.old.last) }
+    ensures last { OnOk result (cases.new.last ≡ cases.old.last + step_count (length x.old - depth)) }
     ensures front { OnOk result (take depth x.new ≡ take depth x.old) }
     ensures words { OnOk result (length x.old - tree.now.rest.now.inputs < depth → words.new ≡ words.old) }
     ensures room { FitsRoom tree.now.net.now room.new }
 {
     reach_values(tree, x, depth, words);
     if depth == x.len() {
-        let id = last + 1;
-        log.push(Item::Add(vector_step(alloc, id, tree, words, room, x)?))?;
-        return Ok(id);
+        let id = cases.last + 1;
+        cases
+            .log
+            .push(Item::Add(vector_step(tree, id, words, room, x)?))?;
+        cases.last = id;
+        return Ok(());
     }
     x[depth] = false;
-    let half = push_cases(alloc, tree, words, room, x, depth + 1, last, log)?;
+    push_cases(tree, words, room, x, depth + 1, cases)?;
+    let half = cases.last;
     x[depth] = true;
-    let other = push_cases(alloc, tree, words, room, x, depth + 1, half, log)?;
+    push_cases(tree, words, room, x, depth + 1, cases)?;
+    let other = cases.last;
     let id = other + 1;
-    log.push(Item::Add(join_step(alloc, id, &x[..depth], half, other)?))?;
-    Ok(id)
+    cases.log.push(Item::Add(join_step(tree.alloc, id, &x[..depth], half, other)?))?;
+    cases.last = id;
+    Ok(())
 }
 
 /// The steps behind the id `last` that derive the empty clause: the steps of every input vector, and their
 /// joins.
-fn all_cases(alloc: Global, tree: &Tree, last: u64) -> Result<Log, AllocError>
+fn all_cases(tree: &Tree, last: u64) -> Result<Log, AllocError>
     requires tree { IsTree tree.now }
     requires ids { last + step_count (input_count tree.now.net.now) < 2 ^ 63 }
     ensures { IfOk result (λ log. log
         ≡ cases_from (input_count tree.now.net.now) tree.now.net.now.tables tree.now.order.now
         (slice_index tree.now.net.now.outputs 0) (input_count tree.now.net.now) [] last) }
 {
+    let alloc = tree.alloc;
     let mut x = vec![in alloc; false; tree.net.inputs() as usize]?;
     let mut words = vec![in alloc; 0; tree.net.signals() as usize]?;
     let mut room = room_for(alloc, tree.net)?;
-    let mut log = Items::new(alloc);
-    push_cases(
-        alloc, tree, &mut words, &mut room, &mut x, 0, last, &mut log,
-    )?;
-    Ok(log)
+    let mut cases = CaseLog {
+        log: Items::new(alloc),
+        last,
+    };
+    push_cases(tree, &mut words, &mut room, &mut x, 0, &mut cases)?;
+    Ok(cases.log)
 }
 
 /// How many clauses a formula has.
@@ -197,10 +210,11 @@ pub fn refute(alloc: Global, joint: &Net, goal: &Cnf) -> Result<Log, AllocError>
     let firsts = first_ids(alloc, joint)?;
     let rest = Patterns::exhaustive(alloc, inputs.min(SIDE_BY_SIDE))?;
     let tree = Tree {
+        alloc,
         net: joint,
         order: joint.order(),
         firsts: firsts.as_slice(),
         rest: &rest,
     };
-    all_cases(alloc, &tree, last)
+    all_cases(&tree, last)
 }

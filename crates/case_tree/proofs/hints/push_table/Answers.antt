@@ -16,8 +16,8 @@ overflow_sub-last c =
           (c.as_slice-rows.ensures ∙ c.rows.ensures.value),
     )
 
-pub overflow_sub-implied : goal.overflow_sub-implied
-overflow_sub-implied c =
+pub overflow_sub-ids : goal.overflow_sub-ids
+overflow_sub-ids c =
     omega (
       arith,
       last_id c.args.net.now.tables c.args.firsts.now c.args.i c.table-table.result.now c.as_slice-rows.result.now c.requires.firsts c.requires.table c.table-table.ensures.value

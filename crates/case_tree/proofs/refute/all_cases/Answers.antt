@@ -13,5 +13,5 @@ push_cases-requires-clause-ids c =
 pub returns : goal.returns
 returns c =
     let N : NetValue = c.args.tree.now.net.now in
-    whole_walk (input_count N) N.tables c.args.tree.now.order.now (get_or N.outputs 0 0) c.deref_mut-2.result.now _ c.new-log.result c.push_cases.new.log
-    (c.deref_mut-2.ensures.len ∙ c.in_ok-x.ensures.len ∙ c.inputs.ensures.value) c.new-log.ensures c.in_ok-push_cases.ensures.log
+    whole_walk (input_count N) N.tables c.args.tree.now.order.now (get_or N.outputs 0 0) c.deref_mut-2.result.now _ c.new.result c.push_cases.new.cases.log
+    (c.deref_mut-2.ensures.len ∙ c.in_ok-x.ensures.len ∙ c.inputs.ensures.value) c.new.ensures c.in_ok-push_cases.ensures.log
