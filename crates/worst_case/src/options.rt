@@ -1,28 +1,29 @@
-//! The budgets, limits and thresholds of the queries, each with the reason for it. What each of them does is
-//! told in `docs/SIMPLIFICATION.md`, with the budgets of the diagrams and of the solver, which stand in their
-//! own crates.
+//! The budgets, limits and thresholds of the queries, each with the reason for it and the bench that measures
+//! it. What each of them does is told in `docs/SIMPLIFICATION.md`, with the budgets of the diagrams and of
+//! the solver, which stand in their own crates.
 
-/// The most inputs with which every vector is held from the beginning, and tried before anything else: 65,536
-/// vectors take less than a second. Chosen by the table of 6 to 16 inputs of `bench/circuits`.
+/// The most inputs with which every vector is held from the beginning, and tried before anything else: the
+/// 65,536 vectors take less than a second. `bench/CIRCUITS.md` has runs with 16 inputs and more.
 pub const LANE_INPUTS: u32 = 16;
 
 /// The most inputs with which every vector is tried where diagrams leave a question open. With 24 inputs they
 /// are 16,777,216: the right outputs take two megabytes an output, and the rows of the inputs 48, so at most
-/// 176 megabytes with 64 outputs. Each further input doubles this and the time. Chosen by the multipliers of
-/// `bench/circuits`, whose questions take the solver minutes.
+/// 176 megabytes with 64 outputs. Each further input doubles this and the time. `bench/SOLVER.md` has the
+/// multipliers with 20 and 24 inputs, to whose questions the solver alone had no answer in 500 s.
 pub const MOST_TRIED_INPUTS: u32 = 24;
 
 /// The number of vectors that are tried of a net with more than `LANE_INPUTS` inputs: sixteen blocks of 512,
 /// which together take less time than one question to diagrams. With an eighth of these vectors, four times
-/// as many questions of a Sobel filter (`bench/circuits`) found a vector, and each of these questions cost as
-/// much as four others.
+/// as many questions of a Sobel filter (`sobel4` in `bench/CIRCUITS.md`) found a vector, and each of these
+/// questions cost as much as four others.
 pub const TRIALS: u32 = 8192;
 
 /// Where the log can go by cases instead, the solver may have half as many conflicts as there are vectors,
 /// and these besides. A quarter of them may go to the sweep: with 3,000 in all too few were left for the
-/// search, as `bench/queries` showed.
+/// search. `bench/CIRCUITS.md` shows which logs go by cases.
 pub const FEW_CONFLICTS: u64 = 3000;
 
 /// The most queries of one question, the first among them. The last formulas of common blocks that 10,000
-/// conflicts leave open end within a small multiple of 100,000 conflicts (`bench/queries`).
+/// conflicts leave open end within a small multiple of 100,000 conflicts: `bench/SOLVER.md`, 'Questions put
+/// again'.
 pub const MOST_QUERIES: u32 = 16;
