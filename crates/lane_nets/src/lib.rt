@@ -9,6 +9,7 @@ mod graph_words;
 pub mod lanes;
 pub mod outputs;
 pub mod reference;
+mod schedule;
 pub mod table_words;
 pub mod trials;
 pub mod values;
