@@ -43,17 +43,15 @@ class Circuit:
         return found
 
     def alone(self, node, readers):
-        """How many nodes only this one needs, itself among them."""
-        count, todo, left = 0, [node], {}
-        while todo:
-            count += 1
-            for literal in self.pairs[todo.pop()]:
-                below = literal >> 1
+        """The nodes that only this one needs, with itself."""
+        found, left = [node], {}
+        for it in found:
+            for below in (self.pairs[it][0] >> 1, self.pairs[it][1] >> 1):
                 if below in self.pairs:
                     left[below] = left.get(below, readers[below]) - 1
                     if not left[below]:
-                        todo.append(below)
-        return count
+                        found.append(below)
+        return found
 
     def above(self, node):
         """The node and those that depend on it."""

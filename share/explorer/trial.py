@@ -99,8 +99,11 @@ class Trial:
         else:
             by = [self.setting["abc_bytes"], mapper.REWRITINGS[rewriting]]
         asked = self.question("rewrite", rewriting=rewriting, by=by, net=parent)
-        made = lambda: {"nets": {"made": self.store.keep_net(self.rewrite(rewriting, self.store.net(parent), bound))}}
-        return self.answer(asked, made)["nets"]["made"]
+
+        def computed():
+            return {"nets": {"made": self.store.keep_net(self.rewrite(rewriting, self.store.net(parent), bound))}}
+
+        return self.answer(asked, computed)["nets"]["made"]
 
     def walked(self, seed, data, bound):
         """What a walk, which has a process of its own, finds within the bound."""

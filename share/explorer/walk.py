@@ -1,9 +1,8 @@
-"""A walk among circuits that keep the bound at all vectors: a node is replaced by a
-literal or by a few new ANDs of literals, wherever that leaves no more ANDs. Vectors at which its value may be either, because
-the outputs stay within the bound, ask for nothing. Most of what is looked at leaves as many ANDs as before; by that the walk
-gets out of the places at which each single simplification is spent.
+"""A walk among circuits that keep the bound at all vectors: step by step a literal, or a few new ANDs of literals, take the
+place of a node. At a vector where the outputs stay within the bound whatever the node is, they may have any value. Most steps
+leave as many ANDs as before, and some one more; by these the walk leaves the places at which nothing single can be taken away.
 
-A step is tried at a few vectors first. Where all vectors show that it breaks the bound, one that does joins the few.
+A step is looked for at a few vectors. Where all vectors show that it breaks the bound, one at which it does joins the few.
 """
 import random
 
@@ -15,10 +14,10 @@ NAME = "walk "
 MOST_INPUTS, FEW = 20, 512
 # How many literals are joined in pairs, and how many take part where three are joined.
 PAIRED, FIRSTS, JOINED, DIFFERING = 60, 8, 30, 40
-# A circuit may have so many ANDs more than the best so far, and a step that adds one is taken so often.
-MORE, WORSE = 2, 0.03
-# How much is computed: so many ANDs with 1000 vectors or fewer.
-WORK = 400000
+# A circuit has at most so many ANDs more than the best so far, and a step that adds one is looked for so often.
+MORE, WORSE = 5, 0.2
+# A walk ends where its steps have gone through so many ANDs; what else a step does counts as so many.
+WORK, STEP = 400000, 100
 
 
 class Walk:
@@ -51,7 +50,7 @@ class Walk:
         if self.breaks(self.all, {}):
             return self.best
         while self.work < WORK and self.circuit.nodes:
-            self.work += len(self.circuit.nodes) + 100
+            self.work += len(self.circuit.nodes) + STEP
             self.step()
             if len(self.circuit.nodes) <= len(self.best.nodes):
                 self.best = self.circuit
@@ -67,14 +66,16 @@ class Walk:
         signals = [it for it in (*range(1, self.circuit.inputs + 1), *self.circuit.nodes) if it not in above]
         literals = [(it, few.at(it)) for signal in signals for it in (2 * signal, 2 * signal + 1)]
         literals.sort(key=lambda _: self.random.random())
-        most = self.circuit.alone(node, self.circuit.readers())
-        for literal, added in self.instead(on, off, [(0, 0), (1, few.ones), *literals], most):
+        going = self.circuit.alone(node, self.circuit.readers())
+        more = self.random.random() < WORSE and len(self.circuit.nodes) < len(self.best.nodes) + MORE
+        for literal, added in self.instead(on, off, [(0, 0), (1, few.ones), *literals], going, len(going) + more):
             if tuple(sorted(added.get(literal >> 1, ()))) != tuple(sorted(pairs[node])) or literal & 1:
-                if self.is_taken(node, literal, added):
+                if self.is_taken(node, literal, added, len(self.circuit.nodes) + more):
                     return
 
-    def instead(self, on, off, literals, most):
-        """What may stand in the place of a node: a literal, and the operands of each new AND."""
+    def instead(self, on, off, literals, going, most):
+        """What may stand in the place of a node, and of those that go with it: a literal, and the operands of the new ANDs, at
+        most so many."""
         first = self.circuit.next
         over = [(it, value & off) for it, value in literals if not on & ~value]
         under = [(it, on & ~value) for it, value in literals if not value & off]
@@ -84,13 +85,14 @@ class Walk:
         for turned, terms in ((0, over), (1, under)):
             for one, other in disjoint(terms[:PAIRED]):
                 yield 2 * first + turned, {first: (one ^ turned, other ^ turned)}
-        if most >= 2:
-            for whole, rest in over[:FIRSTS]:
-                terms = [(it, on & ~value) for it, value in literals if not value & rest and on & value]
-                for one, other in disjoint(terms[:JOINED]):
-                    yield 2 * first + 2, {first: (one ^ 1, other ^ 1), first + 1: (whole, 2 * first + 1)}
+        staying = [it for it in literals if it[0] >> 1 not in going]
+        wholes = [it for it in over if it[0] >> 1 not in going]
+        for whole, rest in wholes[:FIRSTS] if most >= 2 else ():
+            terms = [(it, on & ~value) for it, value in staying if not value & rest and on & value]
+            for one, other in disjoint(terms[:JOINED]):
+                yield 2 * first + 2, {first: (one ^ 1, other ^ 1), first + 1: (whole, 2 * first + 1)}
         if most >= 3:
-            yield from self.differing(on, on | off, literals)
+            yield from self.differing(on, on | off, staying)
 
     def differing(self, on, care, literals):
         """Two literals that differ just where the node has to be true."""
@@ -104,11 +106,10 @@ class Walk:
                     yield 2 * first + 4, {first: (one, other), first + 1: (one ^ 1, other ^ 1),
                                           first + 2: (2 * first + 1, 2 * first + 3)}
 
-    def is_taken(self, node, literal, added):
-        """Whether the circuit is changed so, or the few vectors have become more."""
+    def is_taken(self, node, literal, added, most):
+        """Whether the circuit is changed so, where it has no more ANDs than that then, or the few vectors have become more."""
         made = self.circuit.with_literal(node, literal, added)
-        size, now = len(made.nodes), len(self.circuit.nodes)
-        if size > now and (size > min(now + 1, len(self.best.nodes) + MORE) or self.random.random() > WORSE):
+        if len(made.nodes) > most:
             return False
         for values in (self.few, self.all):
             for new, (left, right) in added.items():
