@@ -11,8 +11,9 @@ KEPT, OTHERS, NEAR, HANDED_ON = 2, 2, 16, 3
 WALKS, WAYS, FRESH = 3, 3, 2
 # Rounds without gain behind which the search ends.
 PATIENCE = 8
-# The shares of the seconds of a bound that the first round, and each smaller bound on the way, may take.
-FIRST, WAY = 0.35, 0.1
+# The shares of what is left of a bound's seconds that the first round, each smaller bound on the way, and a later round may
+# take; a later round may always take so many seconds.
+FIRST, WAY, LATER, LEAST = 0.3, 0.1, 0.25, 6
 
 Try = collections.namedtuple("Try", "number round bound beginning order is_refined answer")
 
@@ -70,10 +71,9 @@ class Search:
     def onward(self, bound, parents, turn, number=None):
         """Tries that go on from earlier results: walks from what they are built as, and so many other writings, all where no
         number is given."""
-        found = []
+        found = [(it, parent) for parent in parents for it in self.walked(bound, parent.answer["nets"]["built"], turn)]
         for at, parent in enumerate(parents):
             nets = parent.answer["nets"]
-            found += [(it, parent) for it in self.walked(bound, nets["built"], turn)]
             # Another function's own netlist is refined as it is where the bound was smaller.
             ways = self.rewritings if int(parent.bound) < bound else self.rewritings[1:]
             begin = 0 if number is None else (turn * len(parents) + at) * number
@@ -93,7 +93,7 @@ class Search:
         below = self.handed_on(bound)
         self.round(0, [(self.recipe(bound, self.options.exact, "as it is", "as it is", False), None)])
         first = [(it, None) for it in self.fresh(bound, 1)]
-        walks = [(it, None) for it in self.walked(bound, self.options.exact, 0)]
+        walks = [(it, None) for turn in (0, 1) for it in self.walked(bound, self.options.exact, turn)]
         # The first try is that of `synth`, which is waited for.
         self.awaited = key_of(first[0][0])
         self.round(1, first[:1] + walks + self.onward(bound, below, 0) + first[1:], until=self.part_end(FIRST))
@@ -115,10 +115,10 @@ class Search:
             return []
         return sorted({bound // 4, bound // 2} - set(smaller) - {bound})
 
-    def part_end(self, share):
-        """Until when a part of what is left of the seconds goes."""
+    def part_end(self, share, least=0):
+        """Until when a part of what is left of the seconds goes, or so many seconds where these are more."""
         now = time.monotonic()
-        return self.end and now + share * max(0, self.end - now)
+        return self.end and now + max(share * (self.end - now), min(least, self.end - now))
 
     def rounds(self, bound):
         """Rounds until several, one after another, have brought nothing."""
@@ -130,7 +130,7 @@ class Search:
             recipes = self.onward(bound, parents, turn, WAYS)
             recipes += [(it, None) for it in self.fresh_at(bound, turn)]
             count = len(self.tries)
-            self.round(turn, recipes)
+            self.round(turn, recipes, until=self.part_end(LATER, LEAST))
             is_better = self.best(bound) and rank(self.best(bound)[0])[:1] != before
             idle = 0 if is_better else idle + 1
             if len(self.tries) == count and not parents:
