@@ -86,9 +86,9 @@ IsFrontOf-from was sofar later a b told tells =
     (sofar.reads a _ opened_told (HasRead-none was a told opened_told)).front
 
 -- the turn that met a fault took nothing
-pub IsFrontOf-at_fault : {old opened before now : FilesTold} {name front text : Bytes} {turns : ℕ} {reason : Unread} → Opened old opened name → SoFar opened before front turns
-    → TurnRefused before now reason → reason ≡ unread.Fault → text ≡ front → IsFrontOf old now name text
-IsFrontOf-at_fault {old} {opened} {before} {now} {name} was sofar refused fault same =
+pub IsFrontOf-at_fault : {old opened before : FilesTold} {name front : Bytes} {turns : ℕ} (now : FilesTold) (text : Bytes) (reason : Unread) → Opened old opened name
+    → SoFar opened before front turns → TurnRefused before now reason → reason ≡ unread.Fault → text ≡ front → IsFrontOf old now name text
+IsFrontOf-at_fault {old} {opened} {before} {name} now text reason was sofar refused fault same =
     let failed : ReadFailed before now = subst (TurnRefused before now) fault refused in
     subst (IsFrontOf old now name) (sym same) (IsFrontOf-from was sofar failed.keeps)
 

@@ -19,7 +19,7 @@ returns-in_err-read_turn-clause-front g c before name opened is =
     let p = err_from_is_err_and c.from_residual.result c.from_residual.ensures.1 in
     let fault : p.0 ≡ Fault = cc (p.1, is) in
     let refused = subst (TurnRefused (g.F.Files.told c.loop-turn.files) (g.F.Files.told c.read_turn.new.files)) (sym p.2) c.in_err-read_turn.ensures.err in
-    IsFrontOf-at_fault opened c.loop-turn.invariant.0 refused fault (c.in_err-read_turn.ensures.fault (cc (p.2, fault)))
+    IsFrontOf-at_fault (g.F.Files.told c.read_turn.new.files) (g.I.Intake.text c.read_turn.new.intake) p.0 opened c.loop-turn.invariant.0 refused fault (c.in_err-read_turn.ensures.fault (cc (p.2, fault)))
 
 pub returns-then-not-branch-clause-ok : goal.returns-then-not-branch-clause-ok
 returns-then-not-branch-clause-ok g c before name opened = FileRead-from opened c.loop-turn.invariant.0 c.in_ok-read_turn.ensures.ok (search rules)
