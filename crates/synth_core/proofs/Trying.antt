@@ -17,6 +17,7 @@ use Rattle.chain_semantics.specs.Simplification.{IsAllowedMove}
 use Rattle.chain_semantics.specs.MoveLaws.{IsMovedFrom}
 use Rattle.chain_semantics.proofs.MoveMembers.{move_is}
 use Rattle.chain_semantics.proofs.MovedNets.{moved-keeps}
+use Rattle.care_masks.specs.Growing.{GrowingValue}
 use Rattle.care_masks.specs.Masks.{FindsFirstBroken}
 use Rattle.worst_case.specs.declared.margin.Margin.{Margin}
 use Rattle.worst_case.specs.declared.margin.Margin.TheVariants.{Over, Within, Spent}
@@ -25,20 +26,22 @@ use Rattle.synth_core.specs.MoveTrials.{IsJudged}
 use Rattle.synth_core.specs.Steps.{IsCandidateMove}
 use Rattle.synth_core.proofs.Pools.{vector_at}
 
-module _ (metric : Metric) (exact : NetValue) (bound : ℕ) (N : NetValue) (vectors : List (List Bool)) (move : Move) where
+module _ (m : GrowingValue) (move : Move) where
   -- a pattern that breaks the move was found
-  pub found_broken : (found : Option ℕ) (p : ℕ) → found ≡ Some p → FindsFirstBroken metric exact bound N vectors move found → IsBrokenBySome metric exact bound N vectors move
+  pub found_broken : (found : Option ℕ) (p : ℕ) → found ≡ Some p → FindsFirstBroken m move found → IsBrokenBySome m.metric m.exact m.bound m.net m.vectors move
   found_broken None p is h = absurd (cc (is))
-  found_broken (Some q) p is h = (slice_index_or vectors q [], Contains-get_or vectors q [] h.within, h.broken)
+  found_broken (Some q) p is h = (slice_index_or m.vectors q [], Contains-get_or m.vectors q [] h.within, h.broken)
 
   -- none was found
-  pub found_none : (found : Option ℕ) → found ≡ None → FindsFirstBroken metric exact bound N vectors move found → Contains (moves_of N) move → IsCandidateMove metric exact bound N vectors move
+  pub found_none : (found : Option ℕ) → found ≡ None → FindsFirstBroken m move found → Contains (moves_of m.net) move → IsCandidateMove m.metric m.exact m.bound m.net m.vectors move
   found_none None is h offered = record {
     offered = offered;
-    unbroken = λ x there. All-contains (λ y. ¬ IsBrokenAt metric exact bound N move y) vectors x (All-from_get_or (λ y. ¬ IsBrokenAt metric exact bound N move y) vectors [] h) there;
+    unbroken = λ x there.
+        All-contains (λ y. ¬ IsBrokenAt m.metric m.exact m.bound m.net move y) m.vectors x (All-from_get_or (λ y. ¬ IsBrokenAt m.metric m.exact m.bound m.net move y) m.vectors [] h) there;
   }
   found_none (Some p) is h offered = absurd (cc (is))
 
+module _ (metric : Metric) (exact : NetValue) (bound : ℕ) (N : NetValue) (vectors : List (List Bool)) (move : Move) where
   -- no vector breaks it, and every vector is one of these
   pub candidate-allowed : IsCandidateMove metric exact bound N vectors move → vectors ≡ all_vectors (input_count exact) → IsAllowedMove metric exact bound N move
   candidate-allowed candidate all =

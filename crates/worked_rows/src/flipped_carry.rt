@@ -36,7 +36,7 @@ fn carry_care(alloc: Global, adder: &Net, patterns: &Patterns) -> Result<Option<
     if !same_ports(adder, adder) {
         return Err(Fail::new("no approximation of the adder"));
     }
-    let masks = FixedMasks::new(alloc, adder, adder, ABSOLUTE, 0, patterns)?;
+    let masks = FixedMasks::new(alloc, ABSOLUTE, 0, adder, adder, patterns)?;
     Ok(masks.care(1).first().copied())
 }
 

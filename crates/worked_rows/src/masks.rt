@@ -68,7 +68,7 @@ fn carry_as_zero(
     if !same_ports(exact, approx) {
         return Err(Fail::new("no approximation of the half adder"));
     }
-    let mut masks = FixedMasks::new(alloc, exact, approx, ABSOLUTE, 1, patterns)?;
+    let mut masks = FixedMasks::new(alloc, ABSOLUTE, 1, exact, approx, patterns)?;
     Ok(told(&mut masks, step))
 }
 

@@ -17,25 +17,25 @@ breaks-requires g c =
 pub loop-step-preserved : goal.loop-step-preserved
 loop-step-preserved g c =
     let m : GrowingValue = c.args.masks.now in
-    let found = subst (λ (k : GrowingValue). FindsFirstBroken k.metric k.exact k.bound k.net k.vectors c.in-Some.step c.in_ok-breaks.field-0) c.loop-step.invariant.masks c.in_ok-breaks.ensures.broken
+    let found = subst (λ (k : GrowingValue). FindsFirstBroken k c.in-Some.step c.in_ok-breaks.field-0) c.loop-step.invariant.masks c.in_ok-breaks.ensures.broken
     in
     record {
       masks = c.breaks.ensures.same ∙ c.loop-step.invariant.masks;
       fewer = omega (arith, ap length c.in-Some.ensures, c.loop-step.invariant.fewer);
       searched =
           searched-more m.metric m.exact m.bound m.net m.vectors c.loop-step.moves c.next.new.self c.in-Some.step c.in-Some.ensures c.loop-step.invariant.searched
-          (found_broken m.metric m.exact m.bound m.net m.vectors c.in-Some.step c.in_ok-breaks.field-0 c.in-Some-2.field-0 c.in-Some-2.is found);
+          (found_broken m c.in-Some.step c.in_ok-breaks.field-0 c.in-Some-2.field-0 c.in-Some-2.is found);
     }
 
 pub returns-in_default-2-clause-next : goal.returns-in_default-2-clause-next
 returns-in_default-2-clause-next g c =
     let m : GrowingValue = c.args.masks.now in
-    let found = subst (λ (k : GrowingValue). FindsFirstBroken k.metric k.exact k.bound k.net k.vectors c.in-Some.step c.in_ok-breaks.field-0) c.loop-step.invariant.masks c.in_ok-breaks.ensures.broken
+    let found = subst (λ (k : GrowingValue). FindsFirstBroken k c.in-Some.step c.in_ok-breaks.field-0) c.loop-step.invariant.masks c.in_ok-breaks.ensures.broken
     in
     record {
       searched = subst (IsSearched m.metric m.exact m.bound m.net m.vectors) c.in-Some.ensures c.loop-step.invariant.searched;
       candidate =
-          found_none m.metric m.exact m.bound m.net m.vectors c.in-Some.step c.in_ok-breaks.field-0 c.in_default-2.is found
+          found_none m c.in-Some.step c.in_ok-breaks.field-0 c.in_default-2.is found
           (searched-member m.metric m.exact m.bound m.net m.vectors c.loop-step.moves c.next.new.self c.in-Some.step c.in-Some.ensures c.loop-step.invariant.searched);
     }
 
