@@ -17,7 +17,7 @@ use Rattle.semantics.specs.declared.metric.Metric.{Metric}
 use Rattle.job_semantics.specs.Report.{Report}
 use Rattle.job_semantics.specs.Certificate.{IsReportText, IsVectorsText, moves_in, AreCounts}
 use Rattle.job_semantics.specs.declared.version.Version.{Version}
-use Rattle.job_semantics.specs.declared.growth.Growth.{Growth}
+use Rattle.job_semantics.specs.declared.claim.Claim.{Claim}
 use Rattle.chain_semantics.specs.Minimality.{AreBrokenBySome}
 use Rattle.bundle_texts.specs.declared.report_reading.ReportRead.{ReportRead}
 use Rattle.bundle_texts.specs.Reading.{report_read}
@@ -96,9 +96,9 @@ claim_decided : (metric : Metric) (exact : NetValue) (bound : ℕ) (M : NetValue
 claim_decided metric exact bound M vectors shown true version h = (λ is _. h.0 is, λ broken. h.1 (broken refl))
 claim_decided metric exact bound M vectors shown false version h = (λ is e. absurd (cc (e)), λ broken. h.1 tt)
 
-module _ (exact M : NetValue) (metric : Metric) (bound : ℕ) (r : Report) (held : List Bool) (same : held ≡ r.witness) (width : length r.witness ≡ input_count exact) (by_moves : Bool) where
+module _ (exact M : NetValue) (claim : Claim) (r : Report) (held : List Bool) (same : held ≡ r.witness) (width : length r.witness ≡ input_count exact) (by_moves : Bool) where
   abbrev pub asked_for : AskedValue
-  asked_for = record { exact = exact; approx = M; metric = metric; bound = bound; witness = held; version = claimed_version (by_moves && r.minimal) r.version }
+  asked_for = record { exact = exact; approx = M; metric = claim.metric; bound = claim.bound; witness = held; version = claimed_version (by_moves && r.minimal) r.version }
 
   wide : length held ≡ input_count exact
   wide = ap length same ∙ width
@@ -106,15 +106,15 @@ module _ (exact M : NetValue) (metric : Metric) (bound : ℕ) (r : Report) (held
   pub vectors_told : (text : Bytes) (shown : Bool) (h : AreShown asked_for shown text) → IsVectorsText (input_count exact) text r.witness h.pool
   vectors_told text shown h = subst (λ w. IsVectorsText (input_count exact) text w h.pool) same (subst (λ n. IsVectorsText n text held h.pool) wide h.read)
 
-  pub vectors_judged : (growth : Growth) (text : Bytes) (shown : Bool) → (AreCounts growth exact M r → by_moves ≡ true) → AreShown asked_for shown text
-      → AreVectorsJudged growth exact metric bound M r shown text
-  vectors_judged growth text shown decides h = record {
+  pub vectors_judged : (text : Bytes) (shown : Bool) → (AreCounts claim.growth exact M r → by_moves ≡ true) → AreShown asked_for shown text
+      → AreVectorsJudged (record { claim = claim; exact = exact; approx = M }) r shown text
+  vectors_judged text shown decides h = record {
     pool = h.pool;
     read = vectors_told text shown h;
     decided = λ counts.
-        claim_decided metric exact bound M (r.witness ∷ h.pool) shown r.minimal r.version
-        (subst (λ t. IsTrue shown ↔ AreBrokenBySome metric exact bound M (r.witness ∷ h.pool) (claimed_moves (claimed_version (t && r.minimal) r.version) M)) (decides counts)
-        (subst (λ (w : List Bool). IsTrue shown ↔ AreBrokenBySome metric exact bound M (w ∷ h.pool) (claimed_moves (claimed_version (by_moves && r.minimal) r.version) M)) same h.decided));
+        claim_decided claim.metric exact claim.bound M (r.witness ∷ h.pool) shown r.minimal r.version
+        (subst (λ t. IsTrue shown ↔ AreBrokenBySome claim.metric exact claim.bound M (r.witness ∷ h.pool) (claimed_moves (claimed_version (t && r.minimal) r.version) M)) (decides counts)
+        (subst (λ (w : List Bool). IsTrue shown ↔ AreBrokenBySome claim.metric exact claim.bound M (w ∷ h.pool) (claimed_moves (claimed_version (by_moves && r.minimal) r.version) M)) same h.decided));
   }
 
   pub vectors_read : (text : Bytes) (pool : List (List Bool)) → IsVectorsText (input_count exact) text r.witness pool → IsVectorsText (length held) text held pool

@@ -10,6 +10,7 @@ use Rattle.proof_semantics.specs.Miter.{miter}
 use Rattle.job_semantics.specs.declared.ending.Ending.TheVariants as file
 use Rattle.job_semantics.specs.declared.certificate_clause.Clause.TheVariants as clause
 use Rattle.job_semantics.specs.declared.growth.Growth.{Growth}
+use Rattle.job_semantics.specs.declared.claim.Claim.{Claim}
 use Rattle.job_semantics.specs.Report.{Report}
 use Rattle.job_semantics.specs.Certificate.{IsNeededFor, Texts, moves_in, IsNetlist, IsReport, AreVectors, IsRefutation, AreCounts, OfNet, OfReport, IsShownMinimal, OfBoth, Holds, CertifiesWith}
 use Rattle.job_semantics.specs.Certificate.{IsFirstFailing}
@@ -19,7 +20,7 @@ use Rattle.bundle_texts.specs.Reading.{report_read}
 use Rattle.bundle_texts.specs.LogTold.{IsRefutingText}
 use Rattle.bundle_texts.specs.LogJudged.{IsLogIn}
 use Rattle.bundle.specs.declared.judged.Judged.TheVariants.{Good}
-use Rattle.bundle.specs.Judging.{IsJudged, NetKnown, ReportKnown, WitnessKnown, FormulaKnown, LogKnown}
+use Rattle.bundle.specs.Judging.{ClaimedValue, IsJudged, NetKnown, ReportKnown, WitnessKnown, FormulaKnown, LogKnown}
 
 -- the vectors break each move of the net that the report's version knows
 abbrev pub BreaksAll : NetValue → Metric → ℕ → NetValue → Report → List (List Bool) → Type 0
@@ -36,19 +37,23 @@ counts_at growth N M read m k a b h = record {
   size = h.size;
 }
 
-module _ (growth : Growth) (exact : NetValue) (metric : Metric) (bound : ℕ) (texts : Texts) where
+module _ (claim : Claim) (exact : NetValue) (texts : Texts) where
+  -- the net M, of which this is claimed
+  abbrev pub against : NetValue → ClaimedValue
+  against M = record { claim = claim; exact = exact; approx = M }
+
   of_net : (P : NetValue → Type 0) (M : NetValue) → IsNetlist texts M → OfNet texts P → P M
   of_net P M is some = subst P (verified_law.one_net texts some.0 M some.1 is) some.2
 
-  of_report : (P : Report → Type 0) (r : Report) → IsReport exact metric bound texts r → OfReport exact metric bound texts P → P r
-  of_report P r is some = subst P (verified_law.one_report exact metric bound texts some.0 r some.1 is) some.2
+  of_report : (P : Report → Type 0) (r : Report) → IsReport claim.metric claim.bound exact texts r → OfReport claim.metric claim.bound exact texts P → P r
+  of_report P r is some = subst P (verified_law.one_report claim.metric claim.bound exact texts some.0 r some.1 is) some.2
 
-  of_both : (P : NetValue → Report → Type 0) (M : NetValue) (r : Report) → IsNetlist texts M → IsReport exact metric bound texts r → OfBoth exact metric bound texts P → P M r
-  of_both P M r net report some = of_report (P M) r report (of_net (λ N. OfReport exact metric bound texts (P N)) M net some)
+  of_both : (P : NetValue → Report → Type 0) (M : NetValue) (r : Report) → IsNetlist texts M → IsReport claim.metric claim.bound exact texts r → OfBoth claim.metric claim.bound exact texts P → P M r
+  of_both P M r net report some = of_report (P M) r report (of_net (λ N. OfReport claim.metric claim.bound exact texts (P N)) M net some)
 
   -- ---- the first that fails
 
-  pub no_netlist : ((M : NetValue) → ¬ IsNetlist texts M) → IsFirstFailing growth exact metric bound texts clause.Netlist
+  pub no_netlist : ((M : NetValue) → ¬ IsNetlist texts M) → IsFirstFailing claim exact texts clause.Netlist
   no_netlist none = record {
     before = [];
     after = clause.Ports ∷ clause.ReportForm ∷ clause.MaximumWithin ∷ clause.Witness ∷ clause.Attained ∷ clause.Formula ∷ clause.Log ∷ clause.Counts ∷ clause.Minimal ∷ [];
@@ -57,7 +62,7 @@ module _ (growth : Growth) (exact : NetValue) (metric : Metric) (bound : ℕ) (t
     fails = λ (M, is). none M is;
   }
 
-  pub other_ports : (M : NetValue) → IsNetlist texts M → ¬ HasSamePorts exact M → IsFirstFailing growth exact metric bound texts clause.Ports
+  pub other_ports : (M : NetValue) → IsNetlist texts M → ¬ HasSamePorts exact M → IsFirstFailing claim exact texts clause.Ports
   other_ports M net other = record {
     before = clause.Netlist ∷ [];
     after = clause.ReportForm ∷ clause.MaximumWithin ∷ clause.Witness ∷ clause.Attained ∷ clause.Formula ∷ clause.Log ∷ clause.Counts ∷ clause.Minimal ∷ [];
@@ -67,7 +72,7 @@ module _ (growth : Growth) (exact : NetValue) (metric : Metric) (bound : ℕ) (t
   }
 
   module _ (M : NetValue) where
-    pub no_report : NetKnown exact M texts → ((r : Report) → ¬ IsReport exact metric bound texts r) → IsFirstFailing growth exact metric bound texts clause.ReportForm
+    pub no_report : NetKnown exact M texts → ((r : Report) → ¬ IsReport claim.metric claim.bound exact texts r) → IsFirstFailing claim exact texts clause.ReportForm
     no_report known none = record {
       before = clause.Netlist ∷ clause.Ports ∷ [];
       after = clause.MaximumWithin ∷ clause.Witness ∷ clause.Attained ∷ clause.Formula ∷ clause.Log ∷ clause.Counts ∷ clause.Minimal ∷ [];
@@ -76,17 +81,17 @@ module _ (growth : Growth) (exact : NetValue) (metric : Metric) (bound : ℕ) (t
       fails = λ (r, is). none r is;
     }
 
-    pub above_bound : (r : Report) → NetKnown exact M texts → IsReport exact metric bound texts r → ¬ (r.maximum ≤ bound) → IsFirstFailing growth exact metric bound texts clause.MaximumWithin
+    pub above_bound : (r : Report) → NetKnown exact M texts → IsReport claim.metric claim.bound exact texts r → ¬ (r.maximum ≤ claim.bound) → IsFirstFailing claim exact texts clause.MaximumWithin
     above_bound r known report above = record {
       before = clause.Netlist ∷ clause.Ports ∷ clause.ReportForm ∷ [];
       after = clause.Witness ∷ clause.Attained ∷ clause.Formula ∷ clause.Log ∷ clause.Counts ∷ clause.Minimal ∷ [];
       order = refl;
       hold = ((M, known.netlist), ((M, known.netlist, known.ports), ((r, report), tt)));
-      fails = λ some. above (of_report (λ s. s.maximum ≤ bound) r report some);
+      fails = λ some. above (of_report (λ s. s.maximum ≤ claim.bound) r report some);
     }
 
     module _ (r : Report) where
-      pub other_vectors : ReportKnown exact metric bound M r texts → ((pool : List (List Bool)) → ¬ AreVectors exact texts r.witness pool) → IsFirstFailing growth exact metric bound texts clause.Witness
+      pub other_vectors : ReportKnown (against M) r texts → ((pool : List (List Bool)) → ¬ AreVectors exact texts r.witness pool) → IsFirstFailing claim exact texts clause.Witness
       other_vectors known none = record {
         before = clause.Netlist ∷ clause.Ports ∷ clause.ReportForm ∷ clause.MaximumWithin ∷ [];
         after = clause.Attained ∷ clause.Formula ∷ clause.Log ∷ clause.Counts ∷ clause.Minimal ∷ [];
@@ -95,19 +100,19 @@ module _ (growth : Growth) (exact : NetValue) (metric : Metric) (bound : ℕ) (t
         fails = λ some. let here = of_report (λ s. (pool : List (List Bool)) × AreVectors exact texts s.witness pool) r known.report some in none here.0 here.1;
       }
 
-      pub not_attained : ReportKnown exact metric bound M r texts → (pool : List (List Bool)) → AreVectors exact texts r.witness pool → net_error metric exact M r.witness ≢ r.maximum
-          → IsFirstFailing growth exact metric bound texts clause.Attained
+      pub not_attained : ReportKnown (against M) r texts → (pool : List (List Bool)) → AreVectors exact texts r.witness pool → net_error claim.metric exact M r.witness ≢ r.maximum
+          → IsFirstFailing claim exact texts clause.Attained
       not_attained known pool vectors other = record {
         before = clause.Netlist ∷ clause.Ports ∷ clause.ReportForm ∷ clause.MaximumWithin ∷ clause.Witness ∷ [];
         after = clause.Formula ∷ clause.Log ∷ clause.Counts ∷ clause.Minimal ∷ [];
         order = refl;
         hold = ((M, known.net.netlist), ((M, known.net.netlist, known.net.ports), ((r, known.report), ((r, known.report, known.within), ((r, known.report, (pool, vectors)), tt)))));
-        fails = λ some. other (of_both (λ N s. net_error metric exact N s.witness ≡ s.maximum) M r known.net.netlist known.report some);
+        fails = λ some. other (of_both (λ N s. net_error claim.metric exact N s.witness ≡ s.maximum) M r known.net.netlist known.report some);
       }
 
       module _ (shown : Bool) where
-        pub other_formula : WitnessKnown growth exact metric bound M r shown texts → texts file.Formula ≢ dimacs_text (miter exact M metric r.maximum)
-            → IsFirstFailing growth exact metric bound texts clause.Formula
+        pub other_formula : WitnessKnown (against M) r shown texts → texts file.Formula ≢ dimacs_text (miter exact M claim.metric r.maximum)
+            → IsFirstFailing claim exact texts clause.Formula
         other_formula known other =
             let k = known.report in
             record {
@@ -124,11 +129,11 @@ module _ (growth : Growth) (exact : NetValue) (metric : Metric) (bound : ℕ) (t
                   ),
                 ),
               );
-              fails = λ some. other (of_both (λ N s. texts file.Formula ≡ dimacs_text (miter exact N metric s.maximum)) M r k.net.netlist k.report some);
+              fails = λ some. other (of_both (λ N s. texts file.Formula ≡ dimacs_text (miter exact N claim.metric s.maximum)) M r k.net.netlist k.report some);
             }
 
-        pub no_refutation : FormulaKnown growth exact metric bound M r shown texts → ¬ IsRefutingText (miter exact M metric r.maximum).clauses (texts file.Log)
-            → IsFirstFailing growth exact metric bound texts clause.Log
+        pub no_refutation : FormulaKnown (against M) r shown texts → ¬ IsRefutingText (miter exact M claim.metric r.maximum).clauses (texts file.Log)
+            → IsFirstFailing claim exact texts clause.Log
         no_refutation known other =
             let w = known.witness in
             let k = w.report in
@@ -150,19 +155,19 @@ module _ (growth : Growth) (exact : NetValue) (metric : Metric) (bound : ℕ) (t
                 ),
               );
               fails = λ some.
-                  let here = of_both (λ N s. (log : List LogItem) × IsRefutation exact N metric s.maximum texts log) M r k.net.netlist k.report some in
+                  let here = of_both (λ N s. (log : List LogItem) × IsRefutation exact N claim.metric s.maximum texts log) M r k.net.netlist k.report some in
                   other (here.0, here.1.read, here.1.refutes);
             }
 
         -- what was kept of the log's text, which refutes the formula
-        module _ {L : Type 0} (holds : L → List LogItem → Type 0) (known : FormulaKnown growth exact metric bound M r shown texts) (goal : Formula) (same : goal ≡ miter exact M metric r.maximum)
+        module _ {L : Type 0} (holds : L → List LogItem → Type 0) (known : FormulaKnown (against M) r shown texts) (goal : Formula) (same : goal ≡ miter exact M claim.metric r.maximum)
             (kept : L) (found : IsLogIn holds goal.clauses (Some kept) (texts file.Log)) where
-          pub known_log : LogKnown growth exact metric bound M r shown texts
+          pub known_log : LogKnown (against M) r shown texts
           known_log =
               let (log, read, refutes, held) = found in
               record { formula = known; refutation = (log, read, subst (λ (f : Formula). Refutes f.clauses log) same refutes) }
 
-          pub certificate_of : CertifiesWith growth exact metric bound texts → IsJudged holds growth exact metric bound texts (Good goal kept)
+          pub certificate_of : CertifiesWith claim exact texts → IsJudged holds claim exact texts (Good goal kept)
           certificate_of certifies =
               let (log, read, refutes, held) = found in
               let k = known.witness.report in (
@@ -174,26 +179,26 @@ module _ (growth : Growth) (exact : NetValue) (metric : Metric) (bound : ℕ) (t
                 },
               )
 
-        module _ (known : LogKnown growth exact metric bound M r shown texts) where
+        module _ (known : LogKnown (against M) r shown texts) where
           n : IsNetlist texts M
           n = known.formula.witness.report.net.netlist
 
-          k : ReportKnown exact metric bound M r texts
+          k : ReportKnown (against M) r texts
           k = known.formula.witness.report
 
-          w : WitnessKnown growth exact metric bound M r shown texts
+          w : WitnessKnown (against M) r shown texts
           w = known.formula.witness
 
-          log_holds : Holds growth exact metric bound texts clause.Log
+          log_holds : Holds claim exact texts clause.Log
           log_holds = (M, n, (r, k.report, (known.refutation.0, record { read = known.refutation.1; refutes = known.refutation.2 })))
 
-          formula_holds : Holds growth exact metric bound texts clause.Formula
+          formula_holds : Holds claim exact texts clause.Formula
           formula_holds = (M, n, (r, k.report, known.formula.formula))
 
-          attained_holds : Holds growth exact metric bound texts clause.Attained
+          attained_holds : Holds claim exact texts clause.Attained
           attained_holds = (M, n, (r, k.report, w.attained))
 
-          pub other_counts : ¬ AreCounts growth exact M r → IsFirstFailing growth exact metric bound texts clause.Counts
+          pub other_counts : ¬ AreCounts claim.growth exact M r → IsFirstFailing claim exact texts clause.Counts
           other_counts other = record {
             before = clause.Netlist ∷ clause.Ports ∷ clause.ReportForm ∷ clause.MaximumWithin ∷ clause.Witness ∷ clause.Attained ∷ clause.Formula ∷ clause.Log ∷ [];
             after = clause.Minimal ∷ [];
@@ -202,20 +207,20 @@ module _ (growth : Growth) (exact : NetValue) (metric : Metric) (bound : ℕ) (t
               (M, n),
               ((M, n, k.net.ports), ((r, k.report), ((r, k.report, k.within), ((r, k.report, (w.vectors.pool, w.vectors.read)), (attained_holds, (formula_holds, (log_holds, tt))))))),
             );
-            fails = λ some. other (of_both (AreCounts growth exact) M r n k.report some);
+            fails = λ some. other (of_both (AreCounts claim.growth exact) M r n k.report some);
           }
 
           -- the vectors that were read are those of the text, which has no others
-          held_minimal : ((pool : List (List Bool)) × AreVectors exact texts r.witness pool × BreaksAll exact metric bound M r (r.witness ∷ pool))
-              → BreaksAll exact metric bound M r (r.witness ∷ w.vectors.pool)
+          held_minimal : ((pool : List (List Bool)) × AreVectors exact texts r.witness pool × BreaksAll exact claim.metric claim.bound M r (r.witness ∷ pool))
+              → BreaksAll exact claim.metric claim.bound M r (r.witness ∷ w.vectors.pool)
           held_minimal (pool, vectors, minimal) =
-              subst (BreaksAll exact metric bound M r)
+              subst (BreaksAll exact claim.metric claim.bound M r)
               (ap (λ others. r.witness ∷ others) (verified_law.one_pool exact texts r.witness pool w.vectors.pool vectors w.vectors.read)) minimal
 
-          shown_minimal : AreCounts growth exact M r → IsTrue shown → IsShownMinimal exact metric bound texts M r
+          shown_minimal : AreCounts claim.growth exact M r → IsTrue shown → IsShownMinimal claim.metric claim.bound exact texts M r
           shown_minimal counts is minimal = (w.vectors.pool, w.vectors.read, (w.vectors.decided counts).0 is minimal)
 
-          pub not_shown : AreCounts growth exact M r → ¬ IsTrue shown → IsFirstFailing growth exact metric bound texts clause.Minimal
+          pub not_shown : AreCounts claim.growth exact M r → ¬ IsTrue shown → IsFirstFailing claim exact texts clause.Minimal
           not_shown counts other = record {
             before =
                 clause.Netlist ∷ clause.Ports ∷ clause.ReportForm ∷ clause.MaximumWithin ∷ clause.Witness ∷ clause.Attained ∷ clause.Formula ∷ clause.Log ∷ clause.Counts ∷ [];
@@ -234,10 +239,10 @@ module _ (growth : Growth) (exact : NetValue) (metric : Metric) (bound : ℕ) (t
                 ),
               ),
             );
-            fails = λ some. other ((w.vectors.decided counts).1 (λ minimal. held_minimal (of_both (IsShownMinimal exact metric bound texts) M r n k.report some minimal)));
+            fails = λ some. other ((w.vectors.decided counts).1 (λ minimal. held_minimal (of_both (IsShownMinimal claim.metric claim.bound exact texts) M r n k.report some minimal)));
           }
 
-          pub all_hold : AreCounts growth exact M r → IsTrue shown → CertifiesWith growth exact metric bound texts
+          pub all_hold : AreCounts claim.growth exact M r → IsTrue shown → CertifiesWith claim exact texts
           all_hold counts is = (
             (M, n),
             (
@@ -257,7 +262,7 @@ module _ (growth : Growth) (exact : NetValue) (metric : Metric) (bound : ℕ) (t
 
   -- ---- which clauses need a file
 
-  pub netlist_needed : IsNeededFor growth exact metric bound texts file.Netlist
+  pub netlist_needed : IsNeededFor claim exact texts file.Netlist
   netlist_needed clause.Netlist f = (0, omega arith, refl)
   netlist_needed clause.Ports f = (0, omega arith, refl)
   netlist_needed clause.ReportForm f = (0, omega arith, refl)
@@ -269,7 +274,7 @@ module _ (growth : Growth) (exact : NetValue) (metric : Metric) (bound : ℕ) (t
   netlist_needed clause.Counts f = (0, omega arith, refl)
   netlist_needed clause.Minimal f = (0, omega arith, refl)
 
-  pub report_needed : (M : NetValue) → NetKnown exact M texts → IsNeededFor growth exact metric bound texts file.Report
+  pub report_needed : (M : NetValue) → NetKnown exact M texts → IsNeededFor claim exact texts file.Report
   report_needed M known clause.Netlist f = absurd (f.fails (M, known.netlist))
   report_needed M known clause.Ports f = absurd (f.fails (M, known.netlist, known.ports))
   report_needed M known clause.ReportForm f = (1, omega arith, refl)
@@ -281,7 +286,7 @@ module _ (growth : Growth) (exact : NetValue) (metric : Metric) (bound : ℕ) (t
   report_needed M known clause.Counts f = (4, omega arith, refl)
   report_needed M known clause.Minimal f = (4, omega arith, refl)
 
-  pub vectors_needed : (M : NetValue) (r : Report) → ReportKnown exact metric bound M r texts → IsNeededFor growth exact metric bound texts file.Vectors
+  pub vectors_needed : (M : NetValue) (r : Report) → ReportKnown (against M) r texts → IsNeededFor claim exact texts file.Vectors
   vectors_needed M r known clause.Netlist f = absurd (f.fails (M, known.net.netlist))
   vectors_needed M r known clause.Ports f = absurd (f.fails (M, known.net.netlist, known.net.ports))
   vectors_needed M r known clause.ReportForm f = absurd (f.fails (r, known.report))
@@ -293,7 +298,7 @@ module _ (growth : Growth) (exact : NetValue) (metric : Metric) (bound : ℕ) (t
   vectors_needed M r known clause.Counts f = (3, omega arith, refl)
   vectors_needed M r known clause.Minimal f = (3, omega arith, refl)
 
-  pub formula_needed : (M : NetValue) (r : Report) (shown : Bool) → WitnessKnown growth exact metric bound M r shown texts → IsNeededFor growth exact metric bound texts file.Formula
+  pub formula_needed : (M : NetValue) (r : Report) (shown : Bool) → WitnessKnown (against M) r shown texts → IsNeededFor claim exact texts file.Formula
   formula_needed M r shown known clause.Netlist f = absurd (f.fails (M, known.report.net.netlist))
   formula_needed M r shown known clause.Ports f = absurd (f.fails (M, known.report.net.netlist, known.report.net.ports))
   formula_needed M r shown known clause.ReportForm f = absurd (f.fails (r, known.report.report))
@@ -305,7 +310,7 @@ module _ (growth : Growth) (exact : NetValue) (metric : Metric) (bound : ℕ) (t
   formula_needed M r shown known clause.Counts f = (1, omega arith, refl)
   formula_needed M r shown known clause.Minimal f = (1, omega arith, refl)
 
-  pub log_needed : (M : NetValue) (r : Report) (shown : Bool) → FormulaKnown growth exact metric bound M r shown texts → IsNeededFor growth exact metric bound texts file.Log
+  pub log_needed : (M : NetValue) (r : Report) (shown : Bool) → FormulaKnown (against M) r shown texts → IsNeededFor claim exact texts file.Log
   log_needed M r shown known clause.Netlist f = absurd (f.fails (M, known.witness.report.net.netlist))
   log_needed M r shown known clause.Ports f = absurd (f.fails (M, known.witness.report.net.netlist, known.witness.report.net.ports))
   log_needed M r shown known clause.ReportForm f = absurd (f.fails (r, known.witness.report.report))

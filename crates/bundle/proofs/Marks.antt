@@ -8,7 +8,6 @@ use Rattle.std.proofs.lemmas.List.{append-nil, length_push, get_or_default, get_
 use Rattle.std.proofs.lemmas.List.Elements.{Contains-append_left, Contains-append_right, Contains-append_cases}
 use Rattle.std.proofs.Math.Seq.{get_or-append_seam}
 use Rattle.semantics.specs.Net.{NetValue}
-use Rattle.semantics.specs.declared.metric.Metric.{Metric}
 use Rattle.chain_semantics.specs.declared.moves.Move.{Move}
 use Rattle.chain_semantics.specs.Care.{IsBrokenAt}
 use Rattle.chain_semantics.specs.Moves.{moves_of}
@@ -17,6 +16,7 @@ use Rattle.chain_semantics.proofs.MoveLists.{Contains-here}
 use Rattle.chain_semantics.proofs.OldMoves.{old-move}
 use Rattle.job_semantics.specs.declared.version.Version.{Version}
 use Rattle.job_semantics.specs.declared.version.Version.TheVariants.{One, Two}
+use Rattle.care_masks.specs.Growing.{GrowingValue}
 use Rattle.care_masks.specs.Masks.{FindsFirstBroken}
 use Rattle.bundle.specs.Shown.{AskedValue, claimed_moves, asked_moves, IsBroken, AreAllBroken, IsMoveAt, AreMarks, BrokenValue, HasSeen}
 
@@ -28,15 +28,15 @@ claimed_move (Some Two) N move there = there
 
 -- ---- one move at the patterns of masks
 
-module _ (metric : Metric) (exact : NetValue) (bound : ℕ) (N : NetValue) (vectors : List (List Bool)) (move : Move) where
+module _ (m : GrowingValue) (move : Move) where
   -- a pattern that breaks the move is one of the vectors
-  pub broken_by_some : (found : Option ℕ) → is_some found ≡ true → FindsFirstBroken metric exact bound N vectors move found → IsBrokenBySome metric exact bound N vectors move
+  pub broken_by_some : (found : Option ℕ) → is_some found ≡ true → FindsFirstBroken m move found → IsBrokenBySome m.metric m.exact m.bound m.net m.vectors move
   broken_by_some None is h = absurd (cc (is))
-  broken_by_some (Some p) is h = (get_or vectors p [], (p, h.within, get_or_default vectors p (get_or vectors p []) [] h.within), h.broken)
+  broken_by_some (Some p) is h = (get_or m.vectors p [], (p, h.within, get_or_default m.vectors p (get_or m.vectors p []) [] h.within), h.broken)
 
-  pub some_by_broken : (found : Option ℕ) → FindsFirstBroken metric exact bound N vectors move found → IsBrokenBySome metric exact bound N vectors move → is_some found ≡ true
+  pub some_by_broken : (found : Option ℕ) → FindsFirstBroken m move found → IsBrokenBySome m.metric m.exact m.bound m.net m.vectors move → is_some found ≡ true
   some_by_broken None h (x, (p, within, here), broken) =
-      absurd (h p within (subst (λ y. IsBrokenAt metric exact bound N move y) (sym (get_or_default vectors p [] x within ∙ here)) broken))
+      absurd (h p within (subst (λ y. IsBrokenAt m.metric m.exact m.bound m.net move y) (sym (get_or_default m.vectors p [] x within ∙ here)) broken))
   some_by_broken (Some p) h some = refl
 
 -- ---- all marks

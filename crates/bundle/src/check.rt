@@ -1,6 +1,7 @@
 //! A bundle's files are checked.
 ghost use Rattle.std.specs.Prelude.{IfOk, IfErr};
 ghost use Rattle.semantics.specs.Net.{IsSmall};
+ghost use Rattle.bundle.specs.Loading.{of_stem};
 ghost use Rattle.bundle.specs.Judging.{FilesKept, IsCause, IsVerdict, NothingKnown};
 
 use crate::judged::Judged;
@@ -10,33 +11,30 @@ use bundle_texts::item_sink::NoItems;
 use bundle_writing::stem::Stem;
 use file_core::files::Files;
 use file_reading::unread::Unread;
-use job_semantics::growth::Growth;
+use job_semantics::claim::Claim;
 use net_core::net::Net;
-use semantics::metric::Metric;
 use std::alloc::Global;
 
-/// Whether the files of the stem are a certificate that the bundle's net is within the bound: the ten clauses
+/// Whether the files of the stem are a certificate of what is claimed of the bundle's net: the ten clauses
 /// are tested in their order, on what the files hold and nothing else. A file that neither the first failing
-/// clause nor a clause before it needs is not opened. Where `growth` is `Refused`, the bundle's net may have
-/// no more tables and no more literals than the original; where it is `Allowed`, it may have more, and the
-/// report's counts are compared all the same.
+/// clause nor a clause before it needs is not opened. Where the claim refuses growth, the bundle's net may
+/// have no more tables and no more literals than the original; where it allows growth, it may have more, and
+/// the report's counts are compared all the same.
 pub fn check_bundle<F: Files>(
     alloc: Global,
     net: &Net,
-    metric: Metric,
-    bound: u128,
-    growth: Growth,
+    claim: Claim,
     stem: &Stem,
     files: &mut F,
 ) -> Result<Verdict, Unread>
     requires { IsSmall net.now }
-    ensures kept { FilesKept growth net.now metric bound stem.now NothingKnown (F.told files.old)
+    ensures kept { FilesKept (of_stem claim net.now stem.now) NothingKnown (F.told files.old)
         (F.told files.new) }
     ensures verdict { IfOk result
-        (IsVerdict growth net.now metric bound stem.now (F.told files.old) (F.told files.new)) }
+        (IsVerdict (of_stem claim net.now stem.now) (F.told files.old) (F.told files.new)) }
     ensures cause { IfErr result
-        (IsCause growth net.now metric bound stem.now NothingKnown (F.told files.old) (F.told files.new)) }
+        (IsCause (of_stem claim net.now stem.now) NothingKnown (F.told files.old) (F.told files.new)) }
 {
-    let judged: Judged<NoItems> = check_netlist(alloc, net, metric, bound, growth, stem, files)?;
+    let judged: Judged<NoItems> = check_netlist(alloc, net, claim, stem, files)?;
     Ok(Verdict::of(judged.failing()))
 }

@@ -8,18 +8,16 @@ ghost use Rattle.bundle_texts.specs.Reading.{report_read};
 
 use bundle_texts::report_reading::ReportRead;
 use bundle_writing::stem::Stem;
+use job_semantics::claim::Claim;
 use job_semantics::growth::Growth;
 use net_errors::compared::Compared;
-use semantics::metric::Metric;
 
-/// What the files of a stem are to show of a net, with which the net of the bundle is compared, and whether
-/// the latter may be larger.
+/// What the files of a stem are to show: a net, the net of the bundle, which is compared with it, and what is
+/// claimed of the latter.
 #[derive(Clone, Copy)]
-pub(crate) struct Claim<'a> {
+pub(crate) struct Claimed<'a> {
     pub nets: &'a Compared<'a>,
-    pub metric: Metric,
-    pub bound: u128,
-    pub growth: Growth,
+    pub claim: Claim,
     pub stem: &'a Stem,
 }
 
@@ -32,20 +30,20 @@ pub(crate) struct Contents<'a> {
 }
 
 /// Whether the report's counts are those of the two nets, and none grew where growth is refused.
-pub(crate) fn are_counts(claim: &Claim, report: &ReportRead) -> bool
-    requires exact { IsSmall claim.now.nets.now.exact }
-    requires approx { IsSmall claim.now.nets.now.approx }
+pub(crate) fn are_counts(claimed: &Claimed, report: &ReportRead) -> bool
+    requires exact { IsSmall claimed.now.nets.now.exact }
+    requires approx { IsSmall claimed.now.nets.now.approx }
     ensures { IsTrue result
-        ↔ AreCounts claim.now.growth claim.now.nets.now.exact claim.now.nets.now.approx
+        ↔ AreCounts claimed.now.claim.growth claimed.now.nets.now.exact claimed.now.nets.now.approx
         (report_read (one_word Abs) 0 report.now) }
 {
-    let exact = claim.nets.exact();
-    let approx = claim.nets.approx();
+    let exact = claimed.nets.exact();
+    let approx = claimed.nets.approx();
     exact.see_sound();
     approx.see_sound();
     let old_literals = exact.literals();
     let new_literals = approx.literals();
-    let may_grow = claim.growth == Growth::Allowed;
+    let may_grow = claimed.claim.growth == Growth::Allowed;
     report.counts.old_tables == exact.tables()
         && report.counts.new_tables == approx.tables()
         && u64::from(report.counts.old_literals) == old_literals

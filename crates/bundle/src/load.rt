@@ -1,15 +1,16 @@
 //! A bundle is checked, and the proof in it is kept.
 ghost use Rattle.std.specs.Prelude.{IfOk, IfErr};
 ghost use Rattle.semantics.specs.Net.{IsSmall};
-ghost use Rattle.job_semantics.specs.declared.growth.Growth.TheVariants.{Refused};
+ghost use Rattle.job_semantics.specs.Certificate.{checked_claim};
 ghost use Rattle.bundle.specs.Judging.{FilesKept, IsCause, NothingKnown};
-ghost use Rattle.bundle.specs.Loading.{IsLoaded};
+ghost use Rattle.bundle.specs.Loading.{of_stem, IsLoaded};
 
 use crate::judging::check_netlist;
 use crate::loaded::Loaded;
 use bundle_writing::stem::Stem;
 use file_core::files::Files;
 use file_reading::unread::Unread;
+use job_semantics::claim::Claim;
 use job_semantics::growth::Growth;
 use net_core::net::Net;
 use semantics::metric::Metric;
@@ -27,13 +28,18 @@ pub fn load_bundle<F: Files>(
     files: &mut F,
 ) -> Result<Loaded, Unread>
     requires { IsSmall net.now }
-    ensures kept { FilesKept Refused net.now metric bound stem.now NothingKnown (F.told files.old)
-        (F.told files.new) }
-    ensures loaded { IfOk result
-        (IsLoaded net.now metric bound stem.now (F.told files.old) (F.told files.new)) }
-    ensures cause { IfErr result
-        (IsCause Refused net.now metric bound stem.now NothingKnown (F.told files.old) (F.told files.new)) }
+    ensures kept { FilesKept (of_stem (checked_claim metric bound) net.now stem.now) NothingKnown
+        (F.told files.old) (F.told files.new) }
+    ensures loaded { IfOk result (IsLoaded (of_stem (checked_claim metric bound) net.now stem.now)
+        (F.told files.old) (F.told files.new)) }
+    ensures cause { IfErr result (IsCause (of_stem (checked_claim metric bound) net.now stem.now) NothingKnown
+        (F.told files.old) (F.told files.new)) }
 {
-    let judged = check_netlist(alloc, net, metric, bound, Growth::Refused, stem, files)?;
+    let claim = Claim {
+        metric,
+        bound,
+        growth: Growth::Refused,
+    };
+    let judged = check_netlist(alloc, net, claim, stem, files)?;
     Ok(Loaded::of(judged))
 }
