@@ -7,12 +7,13 @@ ghost use Rattle.std.specs.Prelude.{◌≡◌, ◌≤◌, IfOk, IfSome};
 ghost use Rattle.semantics.specs.Net.{input_count, IsSmall};
 ghost use Rattle.worst_case.specs.Levels.{IsAnsweredUpTo, IsLevelAnswer, IsSureAnswer};
 ghost use Rattle.worst_case.specs.Maximum.{IsGreatestUpTo};
-ghost use Rattle.worst_case.specs.VectorsTried.{IsHeldFor, IsEveryVectorHeldUpTo};
+ghost use Rattle.worst_case.specs.VectorsTried.{IsHeldFor, IsEachVectorHeldUpTo};
 
 use crate::margin::{Margin, by_diagrams, by_solver};
 use crate::policy::{MOST_TRIED_INPUTS, decider_for};
 use crate::vectors_tried::{
-    Attained, LANE_INPUTS, greatest_of, hold_every_vector, hold_vectors, try_vectors,
+    Attained, LANE_INPUTS, greatest_of, hold_each_vector, hold_every_vector, hold_vectors,
+    try_vectors,
 };
 use bdd_levels::budgets::QUESTION_STEPS;
 use bdd_levels::decider::Decider;
@@ -32,22 +33,22 @@ pub struct Judge<'a> {
     known: Reference<'a>,
     /// The diagrams.
     decider: Decider<'a>,
-    /// The right outputs at every vector, once they were needed; with more than `MOST_TRIED_INPUTS` inputs
-    /// they are not held.
+    /// The right outputs at every vector, in an order that is quick to walk, once they were needed; with more
+    /// than `MOST_TRIED_INPUTS` inputs they are not held.
     every: Option<Reference<'a>>,
 }
 
 impl<'a> Model for Judge<'a> {
     ghost use Rattle.std.specs.Prelude.{◌≡◌, IfSome};
     ghost use Rattle.semantics.specs.Net.{NetValue};
-    ghost use Rattle.worst_case.specs.VectorsTried.{IsHeldFor, IsEveryVectorHeld};
+    ghost use Rattle.worst_case.specs.VectorsTried.{IsHeldFor, IsEachVectorHeld};
 
     ghost Value = { NetValue };
 
     ghost view = { λ j. j.exact.now };
 
     ghost invariant = { λ j. IsHeldFor j.exact.now j.known × (j.decider ≡ j.exact.now)
-        × IfSome j.every (IsEveryVectorHeld j.exact.now) };
+        × IfSome j.every (IsEachVectorHeld j.exact.now) };
 }
 
 impl<'a> Judge<'a> {
@@ -75,11 +76,11 @@ impl<'a> Judge<'a> {
     /// `MOST_TRIED_INPUTS` inputs.
     fn take_every(&mut self, alloc: Global) -> Result<Option<Reference<'a>>, AllocError>
         ensures same { self.new ≡ self.old }
-        ensures every { IfOk result (IsEveryVectorHeldUpTo MOST_TRIED_INPUTS self.old) }
+        ensures every { IfOk result (IsEachVectorHeldUpTo MOST_TRIED_INPUTS self.old) }
     {
         match self.every.take() {
             Some(every) => Ok(Some(every)),
-            None => hold_every_vector(alloc, self.exact, MOST_TRIED_INPUTS),
+            None => hold_each_vector(alloc, self.exact, MOST_TRIED_INPUTS),
         }
     }
 
@@ -119,6 +120,7 @@ impl<'a> Judge<'a> {
     }
 
     /// The answer of every vector, with at most `MOST_TRIED_INPUTS` inputs.
+    #[tactic(auto, using(crate::proofs::Tried::within_each))]
     fn by_every_vector(
         &mut self,
         alloc: Global,
@@ -164,7 +166,9 @@ impl<'a> Judge<'a> {
         self.by_every_vector(alloc, nets, metric, k)
     }
 
-    /// The greatest error of every vector, with at most `MOST_TRIED_INPUTS` inputs.
+    /// The greatest error of every vector, with at most `MOST_TRIED_INPUTS` inputs. The vectors are walked in
+    /// counting order, since the first that has the error is wanted; what is held in another order is let go
+    /// of before.
     pub(crate) fn greatest_of_every(
         &mut self,
         alloc: Global,
@@ -176,12 +180,11 @@ impl<'a> Judge<'a> {
         ensures greatest { IfOk result
             (IsGreatestUpTo MOST_TRIED_INPUTS metric nets.now.exact nets.now.approx) }
     {
-        let Some(every) = self.take_every(alloc)? else {
+        self.every = None;
+        let Some(every) = hold_every_vector(alloc, self.exact, MOST_TRIED_INPUTS)? else {
             return Ok(None);
         };
-        let best = greatest_of(alloc, nets, metric, &every)?;
-        self.every = Some(every);
-        Ok(Some(best))
+        Ok(Some(greatest_of(alloc, nets, metric, &every)?))
     }
 }
 
