@@ -4,6 +4,7 @@
 #![tactic(auto)]
 
 pub mod blocks;
+pub mod cone_order;
 mod graph_blocks;
 mod graph_words;
 pub mod lanes;
