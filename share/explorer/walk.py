@@ -17,7 +17,7 @@ PAIRED, FIRSTS, JOINED, DIFFERING = 60, 8, 30, 40
 # A circuit has at most so many ANDs more than the best so far, and a step that adds one is looked for so often.
 MORE, WORSE = 5, 0.2
 # A walk ends where its steps have gone through so many ANDs; what else a step does counts as so many.
-WORK, STEP = 400000, 100
+WORK, STEP = 1000000, 300
 
 
 class Walk:
@@ -64,9 +64,9 @@ class Walk:
         on, off = few.of[node] & care, care & ~few.of[node]
         above = self.circuit.above(node)
         signals = [it for it in (*range(1, self.circuit.inputs + 1), *self.circuit.nodes) if it not in above]
-        literals = [(it, few.at(it)) for signal in signals for it in (2 * signal, 2 * signal + 1)]
-        literals.sort(key=lambda _: self.random.random())
-        going = self.circuit.alone(node, self.circuit.readers())
+        self.random.shuffle(signals)
+        literals = [pair for it in signals for pair in ((2 * it, few.of[it]), (2 * it + 1, few.of[it] ^ few.ones))]
+        going = self.circuit.alone(node)
         more = self.random.random() < WORSE and len(self.circuit.nodes) < len(self.best.nodes) + MORE
         for literal, added in self.instead(on, off, [(0, 0), (1, few.ones), *literals], going, len(going) + more):
             if tuple(sorted(added.get(literal >> 1, ()))) != tuple(sorted(pairs[node])) or literal & 1:
