@@ -1,6 +1,8 @@
 """A circuit of ANDs in which nodes are put in the place of others, and the values of its nodes at vectors, one bit of a
 large number for each vector. Literals and nodes are those of the hashed graph.
 """
+import collections
+
 from explorer import graph
 
 
@@ -33,22 +35,17 @@ class Circuit:
         self.nodes = graph.used(made, self.outputs)
         self.pairs = {it: made.operands[it] for it in self.nodes}
         self.next = len(made.operands)
+        # How many operands and outputs read each node.
+        read = (it >> 1 for literals in (self.outputs, *self.pairs.values()) for it in literals)
+        self.readers = collections.Counter(read)
 
-    def readers(self):
-        """How many operands and outputs read each node."""
-        found = dict.fromkeys(self.nodes, 0)
-        for literal in [*self.outputs, *(it for pair in self.pairs.values() for it in pair)]:
-            if literal >> 1 in found:
-                found[literal >> 1] += 1
-        return found
-
-    def alone(self, node, readers):
+    def alone(self, node):
         """The nodes that only this one needs, with itself."""
         found, left = [node], {}
         for it in found:
             for below in (self.pairs[it][0] >> 1, self.pairs[it][1] >> 1):
                 if below in self.pairs:
-                    left[below] = left.get(below, readers[below]) - 1
+                    left[below] = left.get(below, self.readers[below]) - 1
                     if not left[below]:
                         found.append(below)
         return found

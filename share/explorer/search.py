@@ -60,9 +60,9 @@ class Search:
         return [self.recipe(bound, self.options.exact, it, "shuffled %d" % (self.options.seed + turn)) for it in ways]
 
     def walked(self, bound, parent, turn):
-        """Tries of walks from a netlist."""
-        seeds = range(self.options.seed + WALKS * turn, self.options.seed + WALKS * turn + self.walks)
-        return [self.recipe(bound, parent, "%s%d" % (walk.NAME, seed), self.order(seed)) for seed in seeds]
+        """Tries of walks from what an earlier try is built as."""
+        first, net = self.options.seed + WALKS * turn, parent.answer["nets"]["built"]
+        return [self.recipe(bound, net, "%s%d" % (walk.NAME, it), self.order(it)) for it in range(first, first + self.walks)]
 
     def order(self, turn):
         """An order that changes from turn to turn."""
@@ -71,7 +71,7 @@ class Search:
     def onward(self, bound, parents, turn, number=None):
         """Tries that go on from earlier results: walks from what they are built as, and so many other writings, all where no
         number is given."""
-        found = [(it, parent) for parent in parents for it in self.walked(bound, parent.answer["nets"]["built"], turn)]
+        found = [(it, parent) for parent in parents for it in self.walked(bound, parent, turn)]
         for at, parent in enumerate(parents):
             nets = parent.answer["nets"]
             # Another function's own netlist is refined as it is where the bound was smaller.
@@ -93,7 +93,8 @@ class Search:
         below = self.handed_on(bound)
         self.round(0, [(self.recipe(bound, self.options.exact, "as it is", "as it is", False), None)])
         first = [(it, None) for it in self.fresh(bound, 1)]
-        walks = [(it, None) for turn in (0, 1) for it in self.walked(bound, self.options.exact, turn)]
+        built = [it for it in self.tries if not it.is_refined and not it.answer["number"]]
+        walks = [(it, one) for one in built[:1] for turn in (0, 1) for it in self.walked(bound, one, turn)]
         # The first try is that of `synth`, which is waited for.
         self.awaited = key_of(first[0][0])
         self.round(1, first[:1] + walks + self.onward(bound, below, 0) + first[1:], until=self.part_end(FIRST))

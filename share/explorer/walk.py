@@ -17,7 +17,7 @@ PAIRED, FIRSTS, JOINED, DIFFERING = 60, 8, 30, 40
 # A circuit has at most so many ANDs more than the best so far, and a step that adds one is looked for so often.
 MORE, WORSE = 5, 0.2
 # A walk ends where its steps have gone through so many ANDs; what else a step does counts as so many.
-WORK, STEP = 400000, 100
+WORK, STEP = 1000000, 300
 
 
 class Walk:
@@ -40,9 +40,12 @@ class Walk:
         self.few.fill(self.circuit)
         self.work = 0
 
-    def breaks(self, values, changed):
-        """The vectors at which the bound is broken where some nodes have other values."""
+    def breaks(self, values, changed, at=None, output=0):
+        """The vectors at which the bound is broken where some nodes have other values, and the output at a place if one is
+        told."""
         outputs = values.outputs(self.circuit, changed)
+        if at is not None:
+            outputs[at] = output
         return errors.beyond(self.metric, self.bound, values.exact, outputs, values.ones)
 
     def run(self):
@@ -51,22 +54,38 @@ class Walk:
             return self.best
         while self.work < WORK and self.circuit.nodes:
             self.work += len(self.circuit.nodes) + STEP
-            self.step()
+            place = self.random.randrange(len(self.circuit.nodes) + len(self.circuit.outputs))
+            if place < len(self.circuit.nodes):
+                self.step(self.circuit.nodes[place])
+            else:
+                self.output_step(place - len(self.circuit.nodes))
             if len(self.circuit.nodes) <= len(self.best.nodes):
                 self.best = self.circuit
         return self.best
 
-    def step(self):
+    def output_step(self, at):
+        """Looks for another literal as an output, and takes the first that may be taken."""
+        few, literal = self.few, self.circuit.outputs[at]
+        care = self.breaks(few, {}, at, few.at(literal) ^ few.ones)
+        signals = [it for it in (*range(self.circuit.inputs + 1), *self.circuit.nodes) if it != literal >> 1]
+        self.random.shuffle(signals)
+        for it in signals:
+            apart = (few.of[it] ^ few.at(literal)) & care
+            if apart in (0, care):
+                other = 2 * it ^ bool(apart)
+                wrong = self.breaks(self.all, {}, at, self.all.at(other))
+                return self.learn(wrong) if wrong else self.take(self.circuit.with_output(at, other), {}, {})
+
+    def step(self, node):
         """Looks for something in the place of a node, and takes the first that may be taken."""
-        node = self.random.choice(self.circuit.nodes)
         few, pairs = self.few, self.circuit.pairs
         care = self.breaks(few, few.changes(self.circuit, {node: few.of[node] ^ few.ones}))
         on, off = few.of[node] & care, care & ~few.of[node]
         above = self.circuit.above(node)
         signals = [it for it in (*range(1, self.circuit.inputs + 1), *self.circuit.nodes) if it not in above]
-        literals = [(it, few.at(it)) for signal in signals for it in (2 * signal, 2 * signal + 1)]
-        literals.sort(key=lambda _: self.random.random())
-        going = self.circuit.alone(node, self.circuit.readers())
+        self.random.shuffle(signals)
+        literals = [pair for it in signals for pair in ((2 * it, few.of[it]), (2 * it + 1, few.of[it] ^ few.ones))]
+        going = self.circuit.alone(node)
         more = self.random.random() < WORSE and len(self.circuit.nodes) < len(self.best.nodes) + MORE
         for literal, added in self.instead(on, off, [(0, 0), (1, few.ones), *literals], going, len(going) + more):
             if tuple(sorted(added.get(literal >> 1, ()))) != tuple(sorted(pairs[node])) or literal & 1:
@@ -119,14 +138,22 @@ class Walk:
             changed = self.all.changes(self.circuit, {node: self.all.at(literal)})
             wrong = self.breaks(self.all, changed)
             if wrong:
-                self.few.add_vector(wrong.bit_length() - 1, self.all)
+                self.learn(wrong)
                 return True
-        few_changed = self.few.changes(self.circuit, {node: self.few.at(literal)}) if changed and self.few is not self.all else changed
+        is_apart = changed and self.few is not self.all
+        self.take(made, changed, self.few.changes(self.circuit, {node: self.few.at(literal)}) if is_apart else changed)
+        return True
+
+    def learn(self, wrong):
+        """One of these vectors joins the few."""
+        self.few.add_vector(wrong.bit_length() - 1, self.all)
+
+    def take(self, made, changed, few_changed):
+        """Goes on with a circuit, in which some nodes have other values."""
         self.circuit = made
         self.all.moved(made, changed)
         if self.few is not self.all:
             self.few.moved(made, few_changed)
-        return True
 
 
 def disjoint(terms):
