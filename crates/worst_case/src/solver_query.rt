@@ -104,7 +104,8 @@ pub(crate) fn kept_refutation(
     ensures { IfOk result
         (IsNever question.now.aim.metric nets.now.exact nets.now.approx question.now.aim.bound) }
 {
-    needed(alloc, &question.joint.formula, first, log)
+    let kept = needed(alloc, &question.joint.formula, first, log)?;
+    Ok(kept)
 }
 
 /// One query of the question: an input whose error exceeds the bound, a log that refutes that there is such

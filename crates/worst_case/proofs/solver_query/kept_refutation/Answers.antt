@@ -1,5 +1,4 @@
 use Rattle.std.proofs.Common.{subst, sym}
-use Rattle.std.proofs.lemmas.Result.{IfOk-weaker}
 use Rattle.quality_semantics.specs.Joint.{joint_net}
 use Rattle.proof_semantics.specs.Merges.{IsMergeLog}
 use Rattle.worst_case.proofs.Queries.{IsNever-from}
@@ -9,7 +8,6 @@ pub returns : goal.returns
 returns c =
     let nets = c.args.nets.now in
     let q = c.args.question.now in
-    IfOk-weaker c.needed.result _ _
-    (λ kept h. IsNever-from q.aim.metric nets.exact nets.approx q.aim.bound c.requires.posed.comparable q.joint.formula c.requires.posed.formula kept h.refutes h.derivation
-    (c.args.first, subst (IsMergeLog (joint_net nets.exact nets.approx q.aim.metric q.aim.bound)) (sym h.begins) c.requires.merged))
-    c.needed.ensures
+    IsNever-from q.aim.metric nets.exact nets.approx q.aim.bound c.requires.posed.comparable q.joint.formula c.requires.posed.formula c.in_ok-kept.kept
+    c.in_ok-kept.ensures.refutes c.in_ok-kept.ensures.derivation
+    (c.args.first, subst (IsMergeLog (joint_net nets.exact nets.approx q.aim.metric q.aim.bound)) (sym c.in_ok-kept.ensures.begins) c.requires.merged)
