@@ -1,5 +1,5 @@
 -- What the vectors in counting order tell, where all of them were tried.
-use Rattle.std.proofs.Common.{◌≡◌, ℕ, ◌^◌, ◌<◌, ◌≤◌, Bool, Option, List, [], length, slice_index_or, ap, subst, sym, ◌∙◌, arith}
+use Rattle.std.proofs.Common.{◌≡◌, ℕ, ◌^◌, ◌<◌, ◌≤◌, Bool, Option, None, List, [], length, slice_index_or, ap, subst, sym, ◌∙◌, arith}
 use Rattle.std.proofs.lemmas.Option.{get_or_from_slice_get}
 use Rattle.semantics.specs.Net.{NetValue, input_count}
 use Rattle.semantics.specs.declared.metric.Metric.{Metric}
@@ -12,7 +12,7 @@ use Rattle.lane_bits.specs.InputOrder.{HasEveryVector}
 use Rattle.lane_bits.specs.Patterns.{PatternSet}
 use Rattle.lane_nets.specs.Lanes.{ReferenceValue}
 use Rattle.lane_nets.specs.Errors.{IsFirstOver, FindsFirstOver}
-use Rattle.worst_case.specs.VectorsTried.{IsTrial, IsHeldFor, IsEveryVectorHeld, IsEachVectorHeld, IsFirstExceeded}
+use Rattle.worst_case.specs.VectorsTried.{IsTrial, IsHeldFor, IsEveryVectorHeld, IsEachVectorHeld, IsFirstExceeded, IsNoneExceeded}
 
 -- vector j stands at place j
 place : (n : ℕ) (vectors : List (List Bool)) → vectors ≡ all_vectors n → (j : ℕ) → j < 2 ^ n → slice_index_or vectors j [] ≡ bits_of n j
@@ -77,9 +77,8 @@ each_held N order s r count inputs every is = record {
   each = subst HasEveryVector (sym (ap (λ (t : ReferenceValue). t.patterns) is)) every;
 }
 
--- what holds of each vector that is held holds of every vector
-pub within_each : (metric : Metric) (N M : NetValue) (k : ℕ) (r : ReferenceValue) → IsEachVectorHeld N r
-    → ((p : ℕ) → p < length r.patterns.vectors → net_error metric N M (slice_index_or r.patterns.vectors p []) ≤ k) → IsWithin metric N k M
-within_each metric N M k r held none x width =
+-- where the error of none of the vectors that are held exceeds the level, and these are all, no error does
+pub within_each : (aim : Constraint) (N M : NetValue) (r : ReferenceValue) → IsEachVectorHeld N r → IsNoneExceeded aim N M r.patterns.vectors None → IsWithin aim.metric N aim.bound M
+within_each aim N M r held none x width =
     let at = held.each x (width ∙ sym held.inputs) in
-    subst (λ y. net_error metric N M y ≤ k) at.2 (none at.0 at.1)
+    subst (λ y. net_error aim.metric N M y ≤ aim.bound) at.2 (none at.0 at.1)
