@@ -15,13 +15,16 @@ GATES = "synth -flatten{top}; abc -g AND,OR,XOR; opt_clean -purge"
 LUTS = "synth -flatten; abc -lut %d; opt_clean -purge"
 # Unlike the script of Yosys this one needs neither a buffer nor constants among the cells.
 CELLS = ("synth -flatten; abc -liberty library.lib -script +strash;&get,-n;&fraig,-x;&put;scorr;dc2;strash;dch;map,-a; "
-         "opt_clean -purge")
+         "opt_clean -purge; tee -q -o area.txt stat -liberty library.lib")
+CELL_AREA = re.compile(r"Chip area for (?:top )?module '[^']*': *([0-9.eE+-]+)")
+UNKNOWN = "-"
 
 # What to map to: the word of the command line, the pins of a LUT or None, the path of a library or None, the names of its
 # cells.
 Target = collections.namedtuple("Target", "word pins library cells")
-# A netlist as it is built: how many cells it has, and where they are those of a library the module that has them.
-Mapped = collections.namedtuple("Mapped", "count module")
+# A netlist as it is built: how many cells it has, and where they are those of a library their area, as text, and the module
+# that has them.
+Mapped = collections.namedtuple("Mapped", "count area module")
 
 
 def target_of(word):
@@ -64,12 +67,20 @@ def mapped(name, path, out, target, ports, scratch):
         more = ["a library needs an inverter and a gate of two inputs such as NAND, and no fewer cells"] if target.library else []
         raise Refused(refused.number, *refused.lines, *more, heard=refused.heard) from None
     if not target.library:
-        return Mapped(built_tables(os.path.join(scratch, out)), None)
+        return Mapped(built_tables(os.path.join(scratch, out)), UNKNOWN, None)
     module = json.loads(text_of(scratch, "mapped.json"))["modules"][name]
     unknown = sorted({it["type"] for it in module["cells"].values()} - target.cells)
     if unknown:
         raise Refused(YOSYS, "module `%s`: it is mapped to `%s`, of which `%s` has no function" % (name, unknown[0], target.word))
-    return Mapped(len(module["cells"]), module)
+    return Mapped(len(module["cells"]), cell_area(text_of(scratch, "area.txt")), module)
+
+
+def cell_area(told):
+    """The area of the cells that Yosys counted, as text; `-` where the library tells none for one of them."""
+    found = CELL_AREA.search(told)
+    if not found or "is unknown!" in told:
+        return UNKNOWN
+    return ("%.6f" % float(found[1])).rstrip("0").rstrip(".")
 
 
 def built_tables(path):

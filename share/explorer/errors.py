@@ -116,6 +116,47 @@ def error_columns(metric, exact, approx, ones):
     return found
 
 
+def times(columns, number):
+    """The columns of numbers times a number."""
+    total = []
+    for shift in range(number.bit_length()):
+        if number >> shift & 1:
+            total = plus(total, [0] * shift + columns)
+    return total
+
+
+def plus(left, right):
+    """The columns of the sum of two numbers."""
+    width, carry, total = max(len(left), len(right)), 0, []
+    for one, other in zip(left + [0] * (width - len(left)), right + [0] * (width - len(right))):
+        total.append(one ^ other ^ carry)
+        carry = one & other | carry & (one | other)
+    return total + [carry]
+
+
+def where_more(left, right, ones):
+    """The vectors at which the left number is the greater one."""
+    width, found = max(len(left), len(right)), 0
+    for one, other in zip(left + [0] * (width - len(left)), right + [0] * (width - len(right))):
+        found = one & (other ^ ones) | (one ^ other ^ ones) & found
+    return found
+
+
+def beyond(metric, bound, exact, approx, ones):
+    """The vectors at which the error is above a bound."""
+    if not metric.startswith("rel"):
+        found = error_columns(metric, exact, approx, ones)
+        return where_more(found, [ones if bound >> at & 1 else 0 for at in range(bound.bit_length())], ones)
+    found = 0
+    for one, other in zip(words_of(metric, exact)[1], words_of(metric, approx)[1]):
+        some = 0
+        for it in one:
+            some |= it
+        least = [one[0] | some ^ ones, *one[1:]]
+        found |= where_more(times(apart(one, other, ones, False), 1000000), times(least, bound), ones)
+    return found
+
+
 def number_at(columns, place):
     return sum((it >> place & 1) << at for at, it in enumerate(columns))
 

@@ -26,6 +26,8 @@ REWRITINGS = {
     "balance": "strash; balance",
 }
 CLEAN = "strash; dc2; %s; dc2; %s" % (RESYN, RESYN)
+# The commands that read a library, by the ending of its name: genlib, and Liberty.
+READERS = {".genlib": "read_genlib", ".lib": "read_lib"}
 # How a netlist is built for each area, and the words of ABC's counts that are its area.
 BUILDINGS = {
     "ands": (CLEAN, "and"),
@@ -47,6 +49,11 @@ def found():
 def undated(data):
     """A netlist without its comments: ABC writes the time into one, and the same netlist is to have the same bytes."""
     return b"".join(line for line in data.splitlines(keepends=True) if not line.startswith(b"#"))
+
+
+def reader_of(library):
+    """ABC's command for a library of this name."""
+    return READERS[os.path.splitext(library)[1]]
 
 
 class Mapper:
@@ -79,7 +86,7 @@ class Mapper:
         """The area, the depth, and the netlist as it is built."""
         script, word = BUILDINGS[area]
         if area == "cells":
-            script = "read_genlib %s; %s; print_stats; unmap" % (library[0], script)
+            script = "%s %s; %s; print_stats; unmap" % (reader_of(library[0]), library[0], script)
         else:
             script += "; print_stats"
         said, net = self.script(script, data, library)

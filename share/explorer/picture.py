@@ -5,6 +5,15 @@ import math
 WIDTH, HEIGHT, LEFT, RIGHT, TOP, BOTTOM = 420, 300, 62, 18, 34, 48
 COLOURS = ("#1f5fa8", "#c8511b", "#2f8f4e", "#8a4fa3", "#a87f12", "#4c9aa8", "#b0406a", "#6b6b6b", "#5a7d1f", "#3b3b9a")
 
+# The names of axes, with their units.
+BOUNDS = {"rel": "bound, parts per million", "ham": "bound, bits"}
+AREAS = {"ands": "AND nodes", "luts4": "4-LUTs", "luts6": "6-LUTs", "literals": "literals", "cells": "area of the cells"}
+
+
+def bound_name(metric):
+    """The name of the axis of a metric's bounds."""
+    return BOUNDS.get(metric.partition("/")[0], "bound")
+
 
 class Panel:
     """One plot: its title, the names of its axes, and what is drawn in it. A bound's axis is that of log2(1 + bound)."""

@@ -1,17 +1,19 @@
-"""The search at one bound: rounds of tries, the best of which are written in other ways and refined again."""
+"""The search at one bound: rounds of tries, the best of which are walked from or written in other ways, and refined again."""
 import collections
+import random
 import time
 
-from explorer import mapper, trial
+from explorer import mapper, trial, walk
 
-# How many of the best results the next round goes on from, and from how many of each smaller bound.
-KEPT, HANDED_ON = 4, 3
-# How many tries of other shuffles of IN's writings each round has besides.
-FRESH = 8
+# A round goes on from so many of the best results and so many others of the best; and from so many of each smaller bound.
+KEPT, OTHERS, NEAR, HANDED_ON = 2, 2, 16, 3
+# From each of these so many walks, and so many other writings; besides so many new orders of IN's writings.
+WALKS, WAYS, FRESH = 3, 3, 2
 # Rounds without gain behind which the search ends.
-PATIENCE = 3
-# The share of the seconds of a bound that smaller bounds on the way may take.
-WAY = 0.3
+PATIENCE = 8
+# The shares of what is left of a bound's seconds that the first round, each smaller bound on the way, and a later round may
+# take; a later round may always take so many seconds.
+FIRST, WAY, LATER, LEAST = 0.3, 0.1, 0.25, 6
 
 Try = collections.namedtuple("Try", "number round bound beginning order is_refined answer")
 
@@ -38,6 +40,7 @@ class Search:
         self.tries, self.done, self.told = [], set(), set()
         self.planned = 0
         self.rewritings = [*trial.OWN, *(mapper.REWRITINGS if options.abc else ())]
+        self.walks = WALKS if options.inputs <= walk.MOST_INPUTS else 0
         self.is_stopped = False
         self.end = self.asked = self.awaited = None
 
@@ -51,16 +54,32 @@ class Search:
         orders = ["as it is", "topological", "turned round", *("shuffled %d" % (self.options.seed + it) for it in range(number))]
         return [self.recipe(bound, self.options.exact, rewriting, order) for order in orders for rewriting in self.rewritings]
 
-    def onward(self, bound, parents, turn):
-        """Tries that go on from earlier results, written in other ways; each in an order that changes from turn to turn."""
-        orders = ["topological", "shuffled %d" % (self.options.seed + turn), "turned round"]
-        found = []
+    def fresh_at(self, bound, turn):
+        """Tries of some of IN's writings in a new order."""
+        ways = [self.rewritings[(turn * FRESH + it) % len(self.rewritings)] for it in range(FRESH)]
+        return [self.recipe(bound, self.options.exact, it, "shuffled %d" % (self.options.seed + turn)) for it in ways]
+
+    def walked(self, bound, parent, turn):
+        """Tries of walks from what an earlier try is built as."""
+        first, net = self.options.seed + WALKS * turn, parent.answer["nets"]["built"]
+        return [self.recipe(bound, net, "%s%d" % (walk.NAME, it), self.order(it)) for it in range(first, first + self.walks)]
+
+    def order(self, turn):
+        """An order that changes from turn to turn."""
+        return ("topological", "shuffled %d" % (self.options.seed + turn), "turned round")[turn % 3]
+
+    def onward(self, bound, parents, turn, number=None):
+        """Tries that go on from earlier results: walks from what they are built as, and so many other writings, all where no
+        number is given."""
+        found = [(it, parent) for parent in parents for it in self.walked(bound, parent, turn)]
         for at, parent in enumerate(parents):
+            nets = parent.answer["nets"]
+            # Another function's own netlist is refined as it is where the bound was smaller.
             ways = self.rewritings if int(parent.bound) < bound else self.rewritings[1:]
-            for way, rewriting in enumerate(ways):
-                # What an earlier result is built as is the net that is smallest; what the program left of it is another.
-                name = parent.answer["nets"]["built" if (at + way + turn) % 2 else "result"]
-                found.append((self.recipe(bound, name, rewriting, orders[(at + way + turn) % 3]), parent))
+            begin = 0 if number is None else (turn * len(parents) + at) * number
+            for place in range(begin, begin + (number or len(ways))):
+                name = nets["built" if (place + turn) % 2 else "result"]
+                found.append((self.recipe(bound, name, ways[place % len(ways)], self.order(at + place + turn)), parent))
         return found
 
     # Rounds.
@@ -74,13 +93,15 @@ class Search:
         below = self.handed_on(bound)
         self.round(0, [(self.recipe(bound, self.options.exact, "as it is", "as it is", False), None)])
         first = [(it, None) for it in self.fresh(bound, 1)]
+        built = [it for it in self.tries if not it.is_refined and not it.answer["number"]]
+        walks = [(it, one) for one in built[:1] for turn in (0, 1) for it in self.walked(bound, one, turn)]
         # The first try is that of `synth`, which is waited for.
         self.awaited = key_of(first[0][0])
-        self.round(1, first[:1] + self.onward(bound, below, 0) + first[1:])
+        self.round(1, first[:1] + walks + self.onward(bound, below, 0) + first[1:], until=self.part_end(FIRST))
         self.awaited = None
         for rung in self.rungs(bound, smaller):
-            self.round(1, [(it, None) for it in self.fresh(rung, 0)[:2 * len(self.rewritings)]], until=self.way_end())
-        self.round(1, self.onward(bound, self.handed_on(bound), 1))
+            self.round(1, [(it, None) for it in self.fresh(rung, 0)[:2 * len(self.rewritings)]], until=self.part_end(WAY))
+        self.round(1, self.onward(bound, self.handed_on(bound), 1), until=self.part_end(WAY))
         self.rounds(bound)
         return self.best(bound)
 
@@ -95,27 +116,31 @@ class Search:
             return []
         return sorted({bound // 4, bound // 2} - set(smaller) - {bound})
 
-    def way_end(self):
-        """Until when a smaller bound on the way is searched."""
+    def part_end(self, share, least=0):
+        """Until when a part of what is left of the seconds goes, or so many seconds where these are more."""
         now = time.monotonic()
-        return self.end and now + WAY * max(0, self.end - now)
+        return self.end and now + max(share * (self.end - now), min(least, self.end - now))
 
     def rounds(self, bound):
-        """Rounds until one after another has brought nothing."""
+        """Rounds until several, one after another, have brought nothing."""
         turn, idle = 1, 0
         while idle < PATIENCE and not self.is_over(self.end) and self.asked != 0:
             turn += 1
             before = rank(self.best(bound)[0])[:1] if self.best(bound) else None
-            parents = (self.best(bound) or self.best(bound, is_any_depth=True))[idle * KEPT:(idle + 1) * KEPT]
-            recipes = self.onward(bound, parents, turn)
-            number = 1 + turn
-            recipes += [(it, None) for it in self.fresh(bound, number)[-len(self.rewritings):][:FRESH]]
+            parents = self.parents(self.best(bound) or self.best(bound, is_any_depth=True), turn)
+            recipes = self.onward(bound, parents, turn, WAYS)
+            recipes += [(it, None) for it in self.fresh_at(bound, turn)]
             count = len(self.tries)
-            self.round(turn, recipes)
+            self.round(turn, recipes, until=self.part_end(LATER, LEAST))
             is_better = self.best(bound) and rank(self.best(bound)[0])[:1] != before
             idle = 0 if is_better else idle + 1
             if len(self.tries) == count and not parents:
                 return
+
+    def parents(self, best, turn):
+        """The best few, and some of those that are nearly as good."""
+        near = best[KEPT:NEAR]
+        return best[:KEPT] + random.Random("parents %d %d" % (self.options.seed, turn)).sample(near, min(OTHERS, len(near)))
 
     def is_over(self, until):
         """Whether nothing more is to be waited for."""

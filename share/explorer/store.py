@@ -11,7 +11,7 @@ import os
 import socket
 
 # Changes whenever an answer means something else.
-FORMAT = 1
+FORMAT = 2
 
 
 def digest(data):

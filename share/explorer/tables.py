@@ -69,12 +69,12 @@ def put(path, text):
 
 def plot(words, before, tries, rows):
     """Area against bound, with each try and the front; and area against tries, for each bound."""
-    at_bound = picture.Panel("%s, %s" % (words.area, words.metric), "bound", words.area, True)
+    at_bound = picture.Panel("%s, %s" % (words.area, words.metric), picture.bound_name(words.metric), picture.AREAS[words.area], True)
     done = [(bound, one) for bound, one in tries if not one.answer["number"]]
     at_bound.points = [(int(one.bound), one.answer["area"]) for _, one in done]
     front = [(int(row[1]), float(row[5])) for row in rows]
     at_bound.lines = [("", front, True)]
-    by_tries = picture.Panel("best so far", "tries", words.area, False)
+    by_tries = picture.Panel("best so far", "tries", picture.AREAS[words.area], False)
     for bound in sorted({it for it, _ in done}):
         best, line = before["area"], []
         for count, one in enumerate((one for it, one in done if it == bound and int(one.bound) <= bound), 1):

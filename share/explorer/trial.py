@@ -2,13 +2,16 @@
 built and measured. Each step is a question to the store before it is computed.
 """
 import os
+import sys
 import tempfile
 
-from explorer import errors, graph, mapper, netlist, store
+from explorer import errors, graph, mapper, netlist, store, walk
 from explorer.children import Ended
 
 # Ways of writing that need no other tool.
 OWN = ("as it is", "ANDs", "hashed", "hashed, turned")
+# The tool of which this folder has the parts.
+TOOL = os.path.join(os.path.dirname(os.path.dirname(os.path.realpath(__file__))), "explore")
 # The program's answers that the same question always gets.
 LASTING = (0, 2, 4, 11, 12, 13, 14)
 FAILED = 26
@@ -27,6 +30,10 @@ def reports(said):
     return {words[0]: words[1:] for words in map(str.split, said.split("\n")) if words}
 
 
+def is_walk(rewriting):
+    return rewriting.startswith(walk.NAME)
+
+
 class Trial:
     """Performs tries by a setting, which says all but the recipe: program, metric, conflicts, exact netlist, area, tools,
     seed. A recipe says bound, parent, rewriting, order, and whether it is refined."""
@@ -39,6 +46,10 @@ class Trial:
         if setting["library"]:
             self.library = (setting["library"], kept.net(setting["library_bytes"]))
         self.judge = None
+
+    def inputs(self):
+        """How many inputs IN has."""
+        return len(netlist.net_of(self.exact.decode("latin-1")).inputs)
 
     # Questions.
 
@@ -77,19 +88,39 @@ class Trial:
             with open(made, "rb") as file:
                 return said, file.read(), seconds
 
-    def written(self, rewriting, parent):
-        """The name of a netlist of the same function, written in another way."""
+    def written(self, rewriting, parent, bound):
+        """The name of a netlist of the same function, written in another way, or of one that a walk within the bound finds."""
         if rewriting == "as it is":
             return parent
-        if rewriting in OWN:
+        if is_walk(rewriting):
+            by = [self.setting["metric"], bound, self.setting["exact"]]
+        elif rewriting in OWN:
             by = self.setting["program_bytes"] if rewriting == "ANDs" else ""
         else:
             by = [self.setting["abc_bytes"], mapper.REWRITINGS[rewriting]]
         asked = self.question("rewrite", rewriting=rewriting, by=by, net=parent)
-        return self.answer(asked, lambda: {"nets": {"made": self.store.keep_net(self.rewrite(rewriting, parent))}})["nets"]["made"]
 
-    def rewrite(self, rewriting, parent):
-        data = self.store.net(parent)
+        def computed():
+            return {"nets": {"made": self.store.keep_net(self.rewrite(rewriting, self.store.net(parent), bound))}}
+
+        return self.answer(asked, computed)["nets"]["made"]
+
+    def walked(self, seed, data, bound):
+        """What a walk, which has a process of its own, finds within the bound."""
+        with tempfile.TemporaryDirectory(prefix="salsa-explore-") as folder:
+            for name, text in (("in.blif", self.exact), ("start.blif", data)):
+                with open(os.path.join(folder, name), "wb") as file:
+                    file.write(text)
+            words = ["--walk", self.setting["metric"], bound, seed, "in.blif", "start.blif", "out.blif"]
+            number, _, told, _ = self.children.run([sys.executable, TOOL, *words], folder)
+            if number:
+                raise Answered(FAILED, "salsa: the walk failed: %s" % (told.strip() or "no line").split("\n")[-1])
+            with open(os.path.join(folder, "out.blif"), "rb") as file:
+                return file.read()
+
+    def rewrite(self, rewriting, data, bound):
+        if is_walk(rewriting):
+            return self.walked(rewriting.removeprefix(walk.NAME), data, bound)
         if rewriting == "ANDs":
             ands = self.program("aag", {"in.blif": data}, "in.blif", "out")[1]
             return self.program("blif", {"in.aag": ands}, "in.aag", "out")[1]
@@ -170,7 +201,7 @@ class Trial:
 
     def computed(self, recipe):
         try:
-            start = self.ordered(recipe["order"], self.written(recipe["rewriting"], recipe["parent"]))
+            start = self.ordered(recipe["order"], self.written(recipe["rewriting"], recipe["parent"], recipe["bound"]))
             found = self.refined(recipe["bound"], start) if recipe["is_refined"] else self.unrefined(start)
             if found["number"]:
                 return dict(found, nets={"start": start})

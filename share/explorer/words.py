@@ -8,6 +8,7 @@ FORM = "explore METRIC BOUND[,BOUND..] CONFLICTS IN STEM [options]"
 METRIC = re.compile(r"(abs|sabs|rel|ham)(/([1-9]|[1-5][0-9]|6[0-4]))?")
 NUMBER = re.compile(r"0|[1-9][0-9]*")
 AREAS = ("ands", "luts4", "luts6", "literals", "cells")
+LIBRARIES = (".lib", ".genlib")
 RUNS = ("local", "parallel", "slurm")
 # Options that take a number, with the least one.
 COUNTS = {"--tries": 1, "--seconds": 1, "--jobs": 1, "--seed": 0, "--most-depth": 0}
@@ -70,8 +71,8 @@ def option(found, word, left):
             raise Usage("--area is one of %s, not `%s`" % (", ".join(AREAS[:-1]) + " or cells FILE", value))
         found.area = value
         if value == "cells":
-            if not left or not left[0].endswith(".genlib"):
-                raise Usage("--area cells takes a library, FILE.genlib")
+            if not left or os.path.splitext(left[0])[1] not in LIBRARIES:
+                raise Usage("--area cells takes a library, FILE.lib (Liberty) or FILE.genlib")
             found.library_path = left.pop(0)
     elif word == "--run":
         if value not in RUNS:

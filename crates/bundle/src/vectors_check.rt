@@ -132,6 +132,10 @@ impl<'a> Intake for VectorsCheck<'a> {
 
     ghost room = { λ a. a.room };
 
+    ghost use Rattle.std.specs.Prelude.{true};
+
+    ghost takes_memory = { true };
+
     fn wanted(&self) -> usize {
         if self.is_right { PART } else { 0 }
     }

@@ -86,6 +86,10 @@ impl Intake for FormulaCheck<'_> {
 
     ghost room = { λ a. a.room };
 
+    ghost use Rattle.std.specs.Prelude.{false};
+
+    ghost takes_memory = { false };
+
     fn wanted(&self) -> usize {
         if self.is_same { PART } else { 0 }
     }

@@ -169,6 +169,10 @@ impl<L: ItemSink> Intake for LogCheck<'_, L> {
 
     ghost room = { λ a. a.room };
 
+    ghost use Rattle.std.specs.Prelude.{true};
+
+    ghost takes_memory = { true };
+
     fn wanted(&self) -> usize {
         match self.standing {
             Standing::Accepted(room) => room,

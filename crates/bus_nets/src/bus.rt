@@ -1,7 +1,8 @@
 //! Buses: lists of signals, bit 0 first.
-ghost use Rattle.std.specs.Prelude.{◌≡◌, ◌∷◌, length, replicate, drop, IfOk};
+ghost use Rattle.std.specs.Prelude.{◌≡◌, ◌<◌, ◌≤◌, ◌-◌, ◌^◌, ◌∷◌, length, replicate, drop, IfOk};
 
 use net_parts::items::{Signal, SignalList};
+use semantics::limits::MOST_OUTPUTS;
 use std::alloc::{AllocError, Global};
 
 /// A list of signals, bit 0 first.
@@ -26,4 +27,13 @@ pub fn repeated(alloc: Global, signal: Signal, count: usize) -> Result<Bus, Allo
         bus.push(signal)?;
     }
     Ok(bus)
+}
+
+/// The greatest number of a bus that is no wider than a word may be.
+pub fn greatest(bus: &Bus) -> u128
+    requires { length bus.now ≤ MOST_OUTPUTS }
+    ensures value { result ≡ 2 ^ length bus.now - 1 }
+    ensures few { result < 2 ^ 64 }
+{
+    (1u128 << bus.len()) - 1
 }

@@ -8,7 +8,7 @@ use Rattle.file_core.proofs.Told.{Goes-Goes, Goes-same, StaysCalm-StaysCalm, Sta
 use Rattle.file_reading.specs.declared.unread.Unread.{Unread}
 use Rattle.file_reading.specs.declared.unread.Unread.TheVariants as unread
 use Rattle.file_reading.specs.Refused.{TurnRefused, FileUnread}
-use Rattle.file_reading.specs.Reading.{HasRead, SoFar, TurnRead, FilesStay, FileRead, FileFailed, FileEndless}
+use Rattle.file_reading.specs.Reading.{HasRead, SoFar, TurnRead, FilesStay, FileRead, IsFrontOf, FileFailed, FileEndless}
 
 pub KeepsAtRead-same : (a : FilesTold) → KeepsAtRead a a
 KeepsAtRead-same a = record { goes = Goes-same a; opened = refl; calm = StaysCalm-same a; stays = λ h told. told }
@@ -78,12 +78,27 @@ FileRead-from {old} {opened} {before} {now} {name} {front} {text} {room} was sof
           ];
     }
 
+-- what was taken is a first part of the file, also after a call that changed no file
+pub IsFrontOf-from : {old opened before now : FilesTold} {name text : Bytes} {turns : ℕ} → Opened old opened name → SoFar opened before text turns → KeepsAtRead before now
+    → IsFrontOf old now name text
+IsFrontOf-from was sofar later a b told tells =
+    let opened_told = (stays_since was (KeepsAtRead-KeepsAtRead sofar.keeps later) a b told tells).0 in
+    (sofar.reads a _ opened_told (HasRead-none was a told opened_told)).front
+
+-- the turn that met a fault took nothing
+pub IsFrontOf-at_fault : {old opened before : FilesTold} {name front : Bytes} {turns : ℕ} (now : FilesTold) (text : Bytes) (reason : Unread) → Opened old opened name
+    → SoFar opened before front turns → TurnRefused before now reason → reason ≡ unread.Fault → text ≡ front → IsFrontOf old now name text
+IsFrontOf-at_fault {old} {opened} {before} {name} now text reason was sofar refused fault same =
+    let failed : ReadFailed before now = subst (TurnRefused before now) fault refused in
+    subst (IsFrontOf old now name) (sym same) (IsFrontOf-from was sofar failed.keeps)
+
 -- the text is a first part of the file, so the file is no shorter
 pub FileEndless-from : {old opened now : FilesTold} {name text : Bytes} {turns : ℕ} → Opened old opened name → SoFar opened now text turns → turn_budget ≤ turns → FileEndless old now name text
 FileEndless-from {old} {opened} {now} {name} {text} was sofar spent = record {
   stay = FilesStay-from was sofar.keeps;
   read_out = omega (arith, spent, was.keeps.goes.turns name, sofar.counted name was.opened);
   taken = omega (arith, spent, sofar.taken);
+  front = IsFrontOf-from was sofar (KeepsAtRead-same now);
   long = λ a b told tells.
       let opened_told = (stays_since was sofar.keeps a b told tells).0 in
       let has = sofar.reads a name opened_told (HasRead-none was a told opened_told) in

@@ -38,6 +38,10 @@ pub record FilesStay (old new : FilesTold) (name : Bytes) : Type 0 where
   pub stays : WhereTold old new (λ a b. b ≡ a)
   pub still_told : (a : Held) → old.held ≡ Some a → IsTrue (contains_key a name) → new.held ≡ Some a
 
+-- the text is a first part of the file
+abbrev pub IsFrontOf : FilesTold → FilesTold → Bytes → Bytes → Type 0
+IsFrontOf old new name text = WhereTold old new (λ a b. text ≡ take (length text) (bytes_of a name))
+
 -- the text is all of the file; or a first part of it, and no more is wanted
 abbrev pub IsAllWanted : Bytes → Bytes → ℕ → Type 0
 IsAllWanted content text room = (text ≡ content) ⊎ ((room ≡ 0) × (text ≡ take (length text) content))
@@ -60,4 +64,5 @@ pub record FileEndless (old new : FilesTold) (name text : Bytes) : Type 0 where
   pub stay : FilesStay old new name
   pub read_out : IsReadOut old new name
   pub taken : turn_budget ≤ length text
+  pub front : IsFrontOf old new name text
   pub long : WhereTold old new (λ a b. turn_budget ≤ length (bytes_of a name))

@@ -58,6 +58,10 @@ impl Intake for Front {
 
     ghost room = { λ a. a.limit + 1 - length a.bytes };
 
+    ghost use Rattle.std.specs.Prelude.{true};
+
+    ghost takes_memory = { true };
+
     fn wanted(&self) -> usize {
         self.limit + 1 - self.bytes.len()
     }

@@ -1,5 +1,5 @@
 //! What takes a text in pieces.
-ghost use Rattle.std.specs.Prelude.{◌≡◌, ℕ, List, ◌++◌, ◌≤◌, length, OnOk};
+ghost use Rattle.std.specs.Prelude.{◌≡◌, ℕ, Bool, IsTrue, List, ◌++◌, ◌≤◌, length, OnOk, OnErr};
 
 use std::alloc::AllocError;
 
@@ -17,12 +17,16 @@ pub trait Intake {
     /// The most bytes that it takes next; once this is 0, nothing more is wanted.
     ghost room: { Self → ℕ };
 
+    /// Whether memory may run out while bytes are taken.
+    ghost takes_memory: { Bool };
+
     fn wanted(&self) -> usize
         ensures { result ≡ room self.now };
 
-    /// Takes the next bytes.
+    /// Takes the next bytes. Where memory ran out, nothing is known of the text.
     fn take(&mut self, piece: &[u8]) -> Result<(), AllocError>
         requires { length piece.now ≤ room self.old }
         ensures text { OnOk result (text self.new ≡ text self.old ++ piece.now) }
-        ensures aim { OnOk result (aim self.new ≡ aim self.old) };
+        ensures aim { aim self.new ≡ aim self.old }
+        ensures err { OnErr result (IsTrue takes_memory) };
 }

@@ -1,8 +1,8 @@
 //! A file from its first byte on. A file without an end is read no further than the budget of turns.
-ghost use Rattle.std.specs.Prelude.{◌≡◌, ◌≤◌, [], ◌++◌, length, take, Err, IfOk, IfErr, OnOk};
+ghost use Rattle.std.specs.Prelude.{◌≡◌, ◌≤◌, [], ◌++◌, length, take, Err, IfOk, IfErr, OnOk, OnErr, IsTrue};
 ghost use Rattle.semantics.specs.Texts.{Bytes};
 ghost use Rattle.outside_semantics.specs.Outside.{FilesTold, Opened};
-ghost use Rattle.file_reading.specs.Reading.{TurnRead, FileRead};
+ghost use Rattle.file_reading.specs.Reading.{TurnRead, FileRead, IsFrontOf};
 ghost use Rattle.file_reading.specs.Refused.{TurnRefused, FileUnread};
 
 use crate::intake::Intake;
@@ -23,7 +23,8 @@ fn take_front<I: Intake>(intake: &mut I, buffer: &[u8], count: usize) -> Result<
     requires within { count ≤ length buffer.now }
     requires wanted { count ≤ I.room intake.old }
     ensures text { OnOk result (I.text intake.new ≡ I.text intake.old ++ take count buffer.now) }
-    ensures aim { OnOk result (I.aim intake.new ≡ I.aim intake.old) }
+    ensures aim { I.aim intake.new ≡ I.aim intake.old }
+    ensures err { OnErr result (IsTrue I.takes_memory) }
 {
     intake.take(&buffer[..count])
 }
@@ -39,8 +40,10 @@ fn read_turn<F: Files, I: Intake>(
     ensures ok { IfOk result
         (λ more. TurnRead (F.told files.old) (F.told files.new) (I.text intake.old) (I.text intake.new)
         (I.room intake.new) more) }
-    ensures aim { OnOk result (I.aim intake.new ≡ I.aim intake.old) }
+    ensures aim { I.aim intake.new ≡ I.aim intake.old }
     ensures err { IfErr result (TurnRefused (F.told files.old) (F.told files.new)) }
+    ensures fault { result ≡ Err Unread.Fault → I.text intake.new ≡ I.text intake.old }
+    ensures memory { result ≡ Err Unread.OutOfMemory → IsTrue I.takes_memory }
 {
     let room = intake.wanted().min(buffer.len());
     if room == 0 {
@@ -61,10 +64,12 @@ fn read_opened<F: Files, I: Intake>(files: &mut F, intake: &mut I) -> Result<(),
     requires { I.text intake.old ≡ [] }
     ensures ok { (before : FilesTold) (name : Bytes) → Opened before (F.told files.old) name → OnOk result
         (FileRead before (F.told files.new) name (I.text intake.new) (I.room intake.new)) }
-    ensures aim { OnOk result (I.aim intake.new ≡ I.aim intake.old) }
+    ensures aim { I.aim intake.new ≡ I.aim intake.old }
     ensures err { (before : FilesTold) (name : Bytes) → Opened before (F.told files.old) name → IfErr result
         (FileUnread before (F.told files.new) name (I.text intake.new)) }
-    ensures endless { result ≡ Err Unread.Endless → I.aim intake.new ≡ I.aim intake.old }
+    ensures front { (before : FilesTold) (name : Bytes) → Opened before (F.told files.old) name
+        → result ≡ Err Unread.Fault → IsFrontOf before (F.told files.new) name (I.text intake.new) }
+    ensures memory { result ≡ Err Unread.OutOfMemory → IsTrue I.takes_memory }
 {
     let mut buffer = [0u8; PAGE_BYTES];
     for turn in 0..TURNS {
@@ -84,10 +89,12 @@ pub fn read_file<F: Files, I: Intake>(
     requires { I.text intake.old ≡ [] }
     ensures ok { OnOk result
         (FileRead (F.told files.old) (F.told files.new) name.now (I.text intake.new) (I.room intake.new)) }
-    ensures aim { OnOk result (I.aim intake.new ≡ I.aim intake.old) }
+    ensures aim { I.aim intake.new ≡ I.aim intake.old }
     ensures err { IfErr result
         (FileUnread (F.told files.old) (F.told files.new) name.now (I.text intake.new)) }
-    ensures endless { result ≡ Err Unread.Endless → I.aim intake.new ≡ I.aim intake.old }
+    ensures front { result ≡ Err Unread.Fault
+        → IsFrontOf (F.told files.old) (F.told files.new) name.now (I.text intake.new) }
+    ensures memory { result ≡ Err Unread.OutOfMemory → IsTrue I.takes_memory }
 {
     files.open_file(name)?;
     read_opened(files, intake)

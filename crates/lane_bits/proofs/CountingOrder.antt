@@ -1,17 +1,21 @@
 -- The counting order, row by row.
-use Rattle.std.proofs.Common.{◌≡◌, ℕ, zero, suc, ◌+◌, ◌*◌, ◌/◌, ◌%◌, ◌-◌, ◌^◌, ◌<◌, ◌≤◌, ◌==◌, ◌&&◌, Bool, true, false, List, [], ◌∷◌, ◌++◌, length, get_or, refl, ap, sym, subst, ◌∙◌, inl, inr, arith}
+use Rattle.std.proofs.Common.{◌≡◌, ℕ, zero, suc, ◌+◌, ◌*◌, ◌/◌, ◌%◌, ◌-◌, ◌^◌, ◌<◌, ◌≤◌, ◌==◌, ◌&&◌, Bool, true, false, List, [], ◌∷◌, ◌++◌, length, map, get_or}
+use Rattle.std.proofs.Common.{refl, ap, sym, subst, ◌∙◌, inl, inr, arith}
 use Rattle.std.specs.Int.{bit_at}
-use Rattle.std.proofs.lemmas.Bool.{and_parts, eqb-true, cases_eq}
-use Rattle.std.proofs.lemmas.List.{ext_get_or, length_push, get_or_push, get_or_append_left}
+use Rattle.std.specs.List.{range_with_len}
+use Rattle.std.proofs.lemmas.Bool.{and_parts, eqb-true, cases_eq, cases_lt}
+use Rattle.std.proofs.lemmas.List.{ext_get_or, length_push, get_or_push, get_or_append_left, length-map, get_or-map}
 use Rattle.std.proofs.lemmas.List.Elements.{All-from_get_or}
-use Rattle.std.proofs.lemmas.List.FromFn.{get_or-map-range_with_len}
+use Rattle.std.proofs.lemmas.List.FromFn.{get_or-map-range_with_len, get_or-range_with_len, length-range_with_len}
 use Rattle.std.proofs.lemmas.Nat.Bits.{bit_at_lowest, bit_at-suc, bit_at_cat_low, bit_at_cat_high}
 use Rattle.semantics.specs.declared.limits.TheConstants.{MOST_INPUTS}
 use Rattle.semantics.specs.Vectors.{bits_of, all_vectors}
-use Rattle.semantics.proofs.Vectors.{length-bits_of, length-all_vectors}
+use Rattle.semantics.specs.Error.{number_of}
+use Rattle.semantics.proofs.Vectors.{length-bits_of, length-all_vectors, bits_of-number_of, number_of-lt_width}
 use Rattle.lane_bits.specs.Rows.{row_bit, word_count}
 use Rattle.lane_bits.specs.Patterns.{PatternSet, vector_at, vectors_in}
-use Rattle.lane_bits.specs.CountingOrder.{IsCountingRow, AreCountingRows}
+use Rattle.lane_bits.specs.CountingOrder.{IsCountingRow, AreCountingRows, ArePlacedRows}
+use Rattle.lane_bits.specs.InputOrder.{ArePlacesIn}
 use Rattle.lane_bits.specs.Store.{AreRowsOf, IsRowFor}
 use Rattle.lane_bits.proofs.Store.{length-vectors_in, vector-at, length-vector_at, bit-at}
 
@@ -141,3 +145,94 @@ module _ (inputs count : ℕ) (rows : List (List ℕ)) (few : inputs ≤ MOST_IN
 
   pub counting_set : ◌≡◌ {A = PatternSet} (record { inputs = inputs; vectors = vectors_in rows count }) (record { inputs = inputs; vectors = all_vectors inputs })
   counting_set = λ i. record { inputs = inputs; vectors = counting_vectors i }
+
+-- ---- the inputs have other places
+
+pub placed_none : (count : ℕ) (order : List ℕ) → ArePlacedRows 0 count order []
+placed_none count order = record { all = refl; each = λ i low. absurd (omega (arith, low)) }
+
+pub placed_all : (i inputs count : ℕ) (order : List ℕ) (rows : List (List ℕ)) → i ≡ inputs → ArePlacedRows i count order rows → ArePlacedRows inputs count order rows
+placed_all i inputs count order rows same are = subst (λ n. ArePlacedRows n count order rows) same are
+
+pub placed_more : (inputs count place : ℕ) (order : List ℕ) (rows : List (List ℕ)) (row : List ℕ) → ArePlacedRows inputs count order rows → place < length order → get_or order place 0 ≡ inputs
+    → IsCountingRow place count row → ArePlacedRows (inputs + 1) count order (rows ++ row ∷ [])
+placed_more inputs count place order rows row before low there here =
+    let long : length (rows ++ row ∷ []) ≡ length rows + 1 = length_push rows row in
+    record {
+      all = omega (arith, long, before.all);
+      each = λ i within. elim (cases_lt i (length rows)) [
+        | inl early ↦
+            let at = before.each i early in
+            (at.0, at.1, at.2, subst (IsCountingRow at.0 count) (sym (get_or_append_left rows (row ∷ []) [] i early)) at.3)
+        | inr late ↦
+            let last : length rows ≡ i = omega (arith, within, long, late) in
+            (place, low, there ∙ omega (arith, last, before.all), subst (IsCountingRow place count) (sym (get_or_push rows row [] i last)) here)
+      ];
+    }
+
+module _ (count : ℕ) (order : List ℕ) (rows : List (List ℕ)) (few : length order ≤ MOST_INPUTS) (all : count ≡ 2 ^ length order) (are : ArePlacedRows (length order) count order rows) where
+  pub placed_formed : AreRowsOf (length order) count rows
+  placed_formed = record {
+    few = few;
+    each = inl are.all;
+    formed = All-from_get_or (IsRowFor count) rows [] (λ i low.
+        let row = (are.each i low).3 in
+        record { room = omega (arith, row.words); clear = row.clear });
+  }
+
+  -- the bits of a vector by their places are those of its number
+  abbrev number_at_places : List Bool → ℕ
+  number_at_places x = number_of (map (λ i. get_or x i false) order)
+
+  number_low : (x : List Bool) → number_at_places x < count
+  number_low x = omega (arith, all, number_of-lt_width (length order) (map (λ i. get_or x i false) order) (length-map order (λ i. get_or x i false)))
+
+  number_bits : (x : List Bool) (place : ℕ) → place < length order → (bit_at (number_at_places x) place == 1) ≡ get_or x (get_or order place 0) false
+  number_bits x place low =
+      sym (bit_of (length order) (number_at_places x) place low)
+      ∙ ap (λ n. get_or (bits_of n (number_at_places x)) place false) (sym (length-map order (λ i. get_or x i false)))
+      ∙ ap (λ y. get_or y place false) (bits_of-number_of (map (λ i. get_or x i false) order))
+      ∙ get_or-map (λ i. get_or x i false) order place 0 false low
+
+  placed_vector : (x : List Bool) → length x ≡ length order → vector_at rows (number_at_places x) ≡ x
+  placed_vector x width =
+      ext_get_or false (vector_at rows (number_at_places x)) x (length-vector_at rows (number_at_places x) ∙ are.all ∙ sym width)
+      (λ i within.
+      let inside : i < length rows = omega (arith, within, length-vector_at rows (number_at_places x)) in
+      let at = are.each i inside in
+      bit-at rows i (number_at_places x) inside ∙ at.3.bits (number_at_places x) (number_low x) ∙ number_bits x at.0 at.1 ∙ ap (λ k. get_or x k false) at.2)
+
+  pub every_vector : (x : List Bool) → length x ≡ length order → (p : ℕ) × (p < length (vectors_in rows count)) × (get_or (vectors_in rows count) p [] ≡ x)
+  every_vector x width =
+      (number_at_places x, omega (arith, number_low x, length-vectors_in rows count), vector-at rows count (number_at_places x) (number_low x) ∙ placed_vector x width)
+
+-- ---- each input at its own place
+
+pub numbers_more : (xs new : List ℕ) (n : ℕ) → xs ≡ range_with_len 0 n → new ≡ xs ++ n ∷ [] → new ≡ range_with_len 0 (n + 1)
+numbers_more xs new n before is =
+    let long : length xs ≡ n = ap length before ∙ length-range_with_len 0 n in
+    let count : length new ≡ n + 1 = ap length is ∙ length_push xs n ∙ omega (arith, long) in
+    ext_get_or 0 new (range_with_len 0 (n + 1)) (count ∙ sym (length-range_with_len 0 (n + 1)))
+    (λ i low.
+    let inside : i < n + 1 = omega (arith, low, count) in
+    ap (λ l. get_or l i 0) is
+    ∙ elim (cases_lt i n) [
+      | inl early ↦
+          get_or_append_left xs (n ∷ []) 0 i (omega (arith, early, long)) ∙ ap (λ l. get_or l i 0) before ∙ get_or-range_with_len 0 n i 0 early ∙ sym (get_or-range_with_len 0 (n + 1) i 0 inside)
+      | inr late ↦
+          let last : length xs ≡ i = omega (arith, late, inside, long) in
+          get_or_push xs n 0 i last ∙ omega (arith, last, long) ∙ sym (get_or-range_with_len 0 (n + 1) i 0 inside)
+    ])
+
+pub own_places : (n : ℕ) (order places : List ℕ) → n < 2 ^ 32 → order ≡ range_with_len 0 n → places ≡ range_with_len 0 n → ArePlacesIn order places
+own_places n order places few order_is places_are =
+    let long : length order ≡ n = ap length order_is ∙ length-range_with_len 0 n in
+    let at_order : (p : ℕ) → p < n → get_or order p 0 ≡ p = λ p low. ap (λ l. get_or l p 0) order_is ∙ get_or-range_with_len 0 n p 0 low ∙ omega arith in
+    let at_places : (p : ℕ) → p < n → get_or places p 0 ≡ p = λ p low. ap (λ l. get_or l p 0) places_are ∙ get_or-range_with_len 0 n p 0 low ∙ omega arith in
+    record {
+      count = ap length places_are ∙ length-range_with_len 0 n ∙ sym long;
+      few = omega (arith, few, long);
+      inputs = λ p low. omega (arith, low, long, at_order p (omega (arith, low, long)));
+      places_are = λ p low. omega (arith, low, long, at_places p (omega (arith, low, long)));
+      back = λ p low. ap (λ k. get_or order k 0) (at_places p (omega (arith, low, long))) ∙ at_order p (omega (arith, low, long));
+    }

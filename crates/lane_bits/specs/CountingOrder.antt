@@ -1,5 +1,6 @@
 -- The rows of the counting order: vector p has bit i of p at input i.
-use Rattle.std.specs.Prelude.{◌≡◌, ◌==◌, ℕ, ◌<◌, ◌≤◌, false, List, [], length, slice_index_or}
+use Rattle.std.specs.Prelude.{◌≡◌, ◌==◌, ℕ, ◌<◌, ◌≤◌, false, List, [], length, slice_index}
+use Rattle.std.specs.Prelude.{slice_index_or}
 use Rattle.std.specs.Int.{bit_at}
 use Rattle.lane_bits.specs.Rows.{row_bit, word_count}
 
@@ -12,3 +13,9 @@ pub record IsCountingRow (input count : ℕ) (row : List ℕ) : Type 0 where
 pub record AreCountingRows (inputs count : ℕ) (rows : List (List ℕ)) : Type 0 where
   pub all : length rows ≡ inputs
   pub each : (i : ℕ) → i < length rows → IsCountingRow i count (slice_index_or rows i [])
+
+-- the row of each input is the counting row of its place
+pub record ArePlacedRows (inputs count : ℕ) (order : List ℕ) (rows : List (List ℕ)) : Type 0 where
+  pub all : length rows ≡ inputs
+  pub each : (i : ℕ) → i < length rows → (place : ℕ) × (place < length order)
+      × (slice_index order place ≡ i) × IsCountingRow place count (slice_index_or rows i [])

@@ -14,5 +14,8 @@ pub record RowExamples : Type 0 where
 -- the rows of two inputs whose vectors are the counting order, and the bits of the second input
 pub record PatternExamples : Type 0 where
   pub counting : vectors_in ((10 ∷ []) ∷ (12 ∷ []) ∷ []) 4 ≡ all_vectors 2
+  -- the inputs have changed places: the second one is at place 0
+  pub placed : vectors_in ((12 ∷ []) ∷ (10 ∷ []) ∷ []) 4 ≡ (false ∷ false ∷ []) ∷ (false ∷ true ∷ [])
+      ∷ (true ∷ false ∷ []) ∷ (true ∷ true ∷ []) ∷ []
   pub bits : map (pattern_bit (all_vectors 2) 1) (0 ∷ 1 ∷ 2 ∷ 3 ∷ 4 ∷ [])
       ≡ false ∷ false ∷ true ∷ true ∷ false ∷ []

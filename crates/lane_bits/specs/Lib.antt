@@ -4,3 +4,4 @@ pub mod Patterns
 pub mod CountingOrder
 pub mod Store
 pub mod Examples
+pub mod InputOrder

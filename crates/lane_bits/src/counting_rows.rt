@@ -2,9 +2,10 @@
 ghost use Rattle.std.specs.Prelude.{◌≡◌, ◌==◌, ◌+◌, ◌*◌, ◌<◌, ◌≤◌, ℕ, length, IfOk};
 ghost use Rattle.std.specs.Int.{bit_at};
 ghost use Rattle.lane_bits.specs.Rows.{row_bit};
-ghost use Rattle.lane_bits.specs.CountingOrder.{IsCountingRow, AreCountingRows};
+ghost use Rattle.lane_bits.specs.CountingOrder.{IsCountingRow, AreCountingRows, ArePlacedRows};
 
 use crate::bit_row::BitRow;
+use crate::input_order::InputOrder;
 use crate::kernels::{clear_past, word_count};
 use std::alloc::{AllocError, Global};
 
@@ -66,6 +67,23 @@ pub(crate) fn counting_rows(
     let mut rows = Vec::new(alloc);
     for i in 0..inputs {
         rows.push(counting_row(alloc, i, count)?)?;
+    }
+    Ok(rows)
+}
+
+/// The rows of the inputs at the first `count` vectors of the counting order in which the inputs have the
+/// places of `order`.
+pub(crate) fn placed_rows(
+    alloc: Global,
+    order: &InputOrder,
+    count: u64,
+) -> Result<Vec<BitRow>, AllocError>
+    requires { length order.now ≤ 64 }
+    ensures { IfOk result (λ rows. ArePlacedRows (length order.now) count order.now rows.items) }
+{
+    let mut rows = Vec::new(alloc);
+    for i in 0..order.inputs() {
+        rows.push(counting_row(alloc, order.place(i), count)?)?;
     }
     Ok(rows)
 }

@@ -5,5 +5,6 @@ mod bit_row;
 mod counting_rows;
 mod eights;
 pub mod examples;
+pub mod input_order;
 pub mod kernels;
 pub mod patterns;

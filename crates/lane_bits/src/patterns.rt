@@ -3,11 +3,13 @@ ghost use Rattle.std.specs.Prelude.{◌≡◌, ◌⊎◌, ◌+◌, ◌/◌, ◌<
 ghost use Rattle.std.specs.Prelude.{slice_index_or, All, IfOk, OnOk, OnErr};
 ghost use Rattle.semantics.specs.Vectors.{all_vectors};
 ghost use Rattle.lane_bits.specs.Rows.{word_count};
+ghost use Rattle.lane_bits.specs.InputOrder.{HasEveryVector};
 ghost use Rattle.lane_bits.specs.Patterns.{IsPatternSet, IsRowOf, vector_at};
 ghost use Rattle.lane_bits.specs.Store.{AreGrownFrom, AreReadied, AreSetAt, row_at};
 
 use crate::bit_row::BitRow;
-use crate::counting_rows::counting_rows;
+use crate::counting_rows::{counting_rows, placed_rows};
+use crate::input_order::InputOrder;
 use crate::kernels::word_count;
 use semantics::limits::MOST_INPUTS;
 use std::alloc::{AllocError, Global};
@@ -119,6 +121,21 @@ impl Patterns {
             inputs,
             count,
             rows: counting_rows(alloc, inputs, count)?,
+        })
+    }
+
+    /// All vectors in the counting order in which the inputs have these places, made row by row.
+    pub fn every(alloc: Global, order: &InputOrder) -> Result<Patterns, AllocError>
+        requires { length order.now ≤ MOST_COUNTED_INPUTS }
+        ensures inputs { IfOk result (λ s. s.inputs ≡ length order.now) }
+        ensures every { IfOk result HasEveryVector }
+    {
+        let inputs = order.inputs() as u32;
+        let vectors = 1 << inputs;
+        Ok(Patterns {
+            inputs,
+            count: vectors,
+            rows: placed_rows(alloc, order, vectors)?,
         })
     }
 

@@ -9,3 +9,4 @@ pub mod LaneErrors
 pub mod Counting
 pub mod WideWords
 pub mod GraphWords
+pub mod Schedules

@@ -3,4 +3,5 @@ pub mod Blocks
 pub mod Errors
 pub mod Lanes
 pub mod Wide
+pub mod Schedules
 pub mod Graphs

@@ -1,48 +1,82 @@
 //! The values of a graph's nodes, and the outputs of its net, in blocks of 512 patterns.
-ghost use Rattle.std.specs.Prelude.{◌≡◌, ◌+◌, ◌*◌, ◌<◌, ◌≤◌, ℕ, false, length, slice_index, slice_index_or};
+ghost use Rattle.std.specs.Prelude.{◌≡◌, ◌⊎◌, ◌+◌, ◌*◌, ◌<◌, ◌≤◌, ℕ, length, slice_index, IfOk};
 ghost use Rattle.semantics.specs.Net.{input_count};
 ghost use Rattle.lane_bits.specs.Rows.{word_count};
 ghost use Rattle.lane_bits.specs.Patterns.{pattern_bit};
 ghost use Rattle.aig_core.specs.Graph.{input_node, literal_value, node_count};
 ghost use Rattle.aig_core.specs.Signals.{IsGraphOf};
-ghost use Rattle.lane_nets.specs.Words.{word_bit, values_at};
+ghost use Rattle.lane_nets.specs.Words.{values_at};
 ghost use Rattle.lane_nets.specs.Wide.{lane_words, AreWideOutputs};
-ghost use Rattle.lane_nets.specs.Graphs.{IsGraphBlock};
+ghost use Rattle.lane_nets.specs.Schedules.{IsSameNode, IsSchedule, IsSettled};
+ghost use Rattle.lane_nets.specs.Graphs.{IsGraphBlock, IsWalkOf};
 
-use crate::graph_words::{eval_gates, literal_wide};
+use crate::graph_words::{eval_steps, literal_wide};
+use crate::schedule::{Schedule, scheduled};
 use crate::wide_blocks::wide_at;
-use crate::wide_words::equal_words;
-use aig_core::graph::Aig;
+use crate::wide_words::{are_equal, equal_words};
 use aig_core::literal::Literal;
-use aig_core::nets::NetGraph;
+use aig_core::nets::{NetGraph, from_net};
 use lane_bits::patterns::Patterns;
 use net_core::net::Net;
+use std::alloc::{AllocError, Global};
 use std::simd::u64x8;
 
-/// Sets the words of the constant and of the inputs to those of wide block q.
-fn set_input_nodes(patterns: &Patterns, q: usize, wides: &mut [u64x8])
-    requires room { patterns.now.inputs < length wides.old }
-    requires within { 8 * q ≤ word_count (length patterns.now.vectors) }
-    ensures constant { (j b : ℕ) → j < 8 → b < 64 → values_at (lane_words wides.new j) b 0 ≡ false }
-    ensures inputs { (j b s : ℕ) → j < 8 → b < 64 → s < patterns.now.inputs
-        → values_at (lane_words wides.new j) b (input_node s)
-        ≡ pattern_bit patterns.now.vectors s (64 * (8 * q + j) + b) }
+/// The graph of a net, with a schedule for a set of patterns.
+#[derive(Drop)]
+pub struct GraphWalk {
+    pub made: NetGraph,
+    pub schedule: Schedule,
+}
+
+/// The lesser one of `from` and of the place of the first step that reads a node, where the node's words
+/// change; else `from`.
+fn first_changed(from: usize, first: usize, old: u64x8, new: u64x8) -> usize
+    ensures most { result ≤ from }
+    ensures changed { ((j : ℕ) → j < 8 → slice_index new j ≡ slice_index old j) ⊎ (result ≤ first) }
 {
-    wides[0] = equal_words(0);
-    for s in 0..patterns.inputs() {
-        wides[1 + s as usize] = wide_at(patterns.row(s), 8 * q);
+    if are_equal(old, new) {
+        from
+    } else {
+        from.min(first)
     }
 }
 
-/// Sets `wides` to the values of a graph's nodes in wide block q.
-fn set_graph_block(graph: &Aig, patterns: &Patterns, q: usize, wides: &mut [u64x8])
-    requires inputs { patterns.now.inputs ≡ graph.now.inputs }
+/// Sets the words of the inputs to those of wide block q, and gives the place of the first step that reads
+/// one that changed.
+fn change_inputs(patterns: &Patterns, q: usize, firsts: &[usize], wides: &mut [u64x8]) -> usize
+    requires room { patterns.now.inputs < length wides.old }
+    requires firsts { length firsts.now ≡ length wides.old }
     requires within { 8 * q ≤ word_count (length patterns.now.vectors) }
-    requires room { length wides.old ≡ node_count graph.now }
-    ensures { IsGraphBlock graph.now patterns.now.vectors q wides.new }
+    ensures inputs { (j b s : ℕ) → j < 8 → b < 64 → s < patterns.now.inputs
+        → values_at (lane_words wides.new j) b (input_node s)
+        ≡ pattern_bit patterns.now.vectors s (64 * (8 * q + j) + b) }
+    ensures changed { (n : ℕ) → IsSameNode wides.old wides.new n ⊎ (result ≤ slice_index firsts.now n) }
+    ensures constant { IsSameNode wides.old wides.new 0 }
+    ensures gates { (n : ℕ) → patterns.now.inputs < n → IsSameNode wides.old wides.new n }
 {
-    set_input_nodes(patterns, q, wides);
-    eval_gates(graph, wides);
+    let mut from = usize::MAX;
+    for s in 0..patterns.inputs() {
+        let node = 1 + s as usize;
+        let wide = wide_at(patterns.row(s), 8 * q);
+        from = first_changed(from, firsts[node], wides[node], wide);
+        wides[node] = wide;
+    }
+    from
+}
+
+/// Sets `wides` from the values of a graph's nodes in another wide block to those in wide block q.
+fn set_graph_block(walk: &GraphWalk, patterns: &Patterns, q: usize, wides: &mut [u64x8])
+    requires schedule { IsSchedule walk.now.made.graph walk.now.schedule }
+    requires inputs { patterns.now.inputs ≡ walk.now.made.graph.inputs }
+    requires within { 8 * q ≤ word_count (length patterns.now.vectors) }
+    requires room { length wides.old ≡ node_count walk.now.made.graph }
+    requires settled { IsSettled walk.now.schedule.steps.items wides.old }
+    ensures settled { IsSettled walk.now.schedule.steps.items wides.new }
+    ensures block { IsGraphBlock walk.now.made.graph patterns.now.vectors q wides.new }
+{
+    walk.made.graph.is_graph();
+    let from = change_inputs(patterns, q, &walk.schedule.firsts, wides);
+    eval_steps(&walk.schedule.steps, from, wides);
 }
 
 /// Sets `outputs` to the values of the outputs' literals.
@@ -63,24 +97,61 @@ fn set_literals(net: &Net, literals: &[Literal], wides: &[u64x8], outputs: &mut 
     }
 }
 
-/// Sets `outputs` to a net's outputs in wide block q, by the values of its graph's nodes, which are computed
-/// into `wides`.
+/// Sets `outputs` to a net's outputs in wide block q, by the values of its graph's nodes. Those of another
+/// wide block stand in `wides`, and what changes is computed there.
 pub(crate) fn set_graph_outputs(
     net: &Net,
-    made: &NetGraph,
+    walk: &GraphWalk,
     patterns: &Patterns,
     q: usize,
     wides: &mut [u64x8],
     outputs: &mut [u64x8],
 )
-    requires graph { IsGraphOf net.now made.now.graph made.now.literals.items }
+    requires walk { IsWalkOf net.now walk.now wides.old }
     requires inputs { patterns.now.inputs ≡ input_count net.now }
     requires within { 8 * q ≤ word_count (length patterns.now.vectors) }
-    requires wides { length wides.old ≡ node_count made.now.graph }
     requires room { length outputs.old ≡ length net.now.outputs }
-    ensures { AreWideOutputs net.now patterns.now.vectors q outputs.new }
+    ensures walk { IsWalkOf net.now walk.now wides.new }
+    ensures outputs { AreWideOutputs net.now patterns.now.vectors q outputs.new }
 {
     net.see_sound();
-    set_graph_block(&made.graph, patterns, q, wides);
-    set_literals(net, &made.literals, wides, outputs);
+    set_graph_block(walk, patterns, q, wides);
+    set_literals(net, &walk.made.literals, wides, outputs);
+}
+
+/// The graph of a net with its schedule for these patterns.
+pub(crate) fn graph_walk(
+    alloc: Global,
+    net: &Net,
+    patterns: &Patterns,
+) -> Result<GraphWalk, AllocError>
+    requires { patterns.now.inputs ≡ input_count net.now }
+    ensures graph { IfOk result (λ walk. IsGraphOf net.now walk.made.graph walk.made.literals.items) }
+    ensures schedule { IfOk result (λ walk. IsSchedule walk.made.graph walk.schedule) }
+{
+    let made = from_net(alloc, net)?;
+    let schedule = scheduled(alloc, &made.graph, patterns)?;
+    Ok(GraphWalk { made, schedule })
+}
+
+/// Computes all gates from the values of the inputs that are there.
+fn settle(walk: &GraphWalk, wides: &mut [u64x8])
+    requires schedule { IsSchedule walk.now.made.graph walk.now.schedule }
+    requires room { length wides.old ≡ node_count walk.now.made.graph }
+    ensures { IsSettled walk.now.schedule.steps.items wides.new }
+{
+    walk.made.graph.is_graph();
+    wides[0] = equal_words(0);
+    eval_steps(&walk.schedule.steps, 0, wides);
+}
+
+/// The values of the nodes where all inputs are 0.
+pub(crate) fn settled_values(alloc: Global, walk: &GraphWalk) -> Result<Vec<u64x8>, AllocError>
+    requires { IsSchedule walk.now.made.graph walk.now.schedule }
+    ensures room { IfOk result (λ wides. length wides.items ≡ node_count walk.now.made.graph) }
+    ensures settled { IfOk result (λ wides. IsSettled walk.now.schedule.steps.items wides.items) }
+{
+    let mut wides = vec![in alloc; equal_words(0); walk.made.graph.nodes() as usize]?;
+    settle(walk, &mut wides);
+    Ok(wides)
 }

@@ -4,11 +4,13 @@
 #![tactic(auto)]
 
 pub mod blocks;
+pub mod cone_order;
 mod graph_blocks;
 mod graph_words;
 pub mod lanes;
 pub mod outputs;
 pub mod reference;
+mod schedule;
 pub mod table_words;
 pub mod trials;
 pub mod values;

@@ -83,7 +83,7 @@ pub fn output_rows(
     ensures { IfOk result (AreOutputWordsOf net.now patterns.now.vectors) }
 {
     let count = word_count(patterns.count());
-    let mut wide = WideOutputs::new(alloc, net, count)?;
+    let mut wide = WideOutputs::new(alloc, net, patterns)?;
     let mut rows = Items::new(alloc);
     for k in 0..count {
         wide.reach(patterns, k as usize);

@@ -75,7 +75,7 @@ impl<'a> Reference<'a> {
         ensures { IfOk result (FindsFirstOver metric self.now.exact approx.now level
             self.now.patterns.vectors) }
     {
-        let mut wide = WideOutputs::new(alloc, approx, self.outputs.len() as u64)?;
+        let mut wide = WideOutputs::new(alloc, approx, &self.patterns)?;
         Ok(first_over(
             &Compared::new(self.exact, approx),
             metric,
@@ -99,7 +99,7 @@ impl<'a> Reference<'a> {
         ensures { IfOk result
             (λ g. IsFirstGreatest metric self.now.exact approx.now self.now.patterns.vectors g.error g.at) }
     {
-        let mut wide = WideOutputs::new(alloc, approx, self.outputs.len() as u64)?;
+        let mut wide = WideOutputs::new(alloc, approx, &self.patterns)?;
         Ok(greatest_error(
             &Compared::new(self.exact, approx),
             metric,

@@ -4,29 +4,28 @@ ghost use Rattle.semantics.specs.Net.{input_count};
 ghost use Rattle.lane_bits.specs.Rows.{word_count};
 ghost use Rattle.lane_nets.specs.Wide.{lane_words, AreWideOutputs};
 
-use crate::graph_blocks::set_graph_outputs;
+use crate::graph_blocks::{GraphWalk, graph_walk, set_graph_outputs, settled_values};
 use crate::wide_blocks::set_table_outputs;
-use aig_core::nets::{NetGraph, from_net};
 use lane_bits::patterns::Patterns;
 use net_core::net::Net;
 use std::alloc::{AllocError, Global};
 use std::marker::Model;
 use std::simd::u64x8;
 
-/// The least number of blocks of 64 patterns at which a net is walked as a graph. Over a graph a wide block
+/// The least number of patterns at which a net is walked as a graph. Over a graph a wide block
 /// takes less than half of the time over tables, and a graph takes as long to make as the tables take for
-/// about six wide blocks, so a walk that ends early does not pay for it. With fewer blocks most walks end
+/// about six wide blocks, so a walk that ends early does not pay for it. With fewer patterns most walks end
 /// early: with up to sixteen inputs each net that is tried is walked at all vectors at once, and most nets
 /// err at one of the first. With more inputs only nets that passed thousands of vectors are walked at all of
 /// them.
-const LEAST_GRAPH_BLOCKS: u64 = 2048;
+const LEAST_GRAPH_PATTERNS: u64 = 131_072;
 
 /// The outputs of a net in eight blocks at a time, with room for the values of its signals, or of the nodes
 /// of its graph.
 #[derive(Drop)]
 pub(crate) struct WideOutputs<'a> {
     net: &'a Net,
-    graph: Option<NetGraph>,
+    walk: Option<GraphWalk>,
     wides: Vec<u64x8>,
     outputs: Vec<u64x8>,
 }
@@ -40,23 +39,24 @@ impl<'a> Model for WideOutputs<'a> {
 
     ghost view = { λ w. record { net = w.net.now; outputs = w.outputs.items } };
 
-    ghost invariant = { λ w. HasRoom w.net.now w.graph (length w.wides.items)
+    ghost invariant = { λ w. HasRoom w.net.now w.walk w.wides.items
         × (length w.outputs.items ≡ length w.net.now.outputs) };
 }
 
 impl<'a> WideOutputs<'a> {
-    /// Room for the outputs of a net at so many blocks of 64 patterns.
+    /// Room for the outputs of a net at these patterns.
     pub(crate) fn new(
         alloc: Global,
         net: &'a Net,
-        blocks: u64,
+        patterns: &Patterns,
     ) -> Result<WideOutputs<'a>, AllocError>
+        requires { patterns.now.inputs ≡ input_count net.now }
         ensures { IfOk result (λ w. w.net ≡ net.now) }
     {
-        if blocks < LEAST_GRAPH_BLOCKS {
+        if patterns.count() < LEAST_GRAPH_PATTERNS {
             WideOutputs::over_tables(alloc, net)
         } else {
-            WideOutputs::over_graph(alloc, net)
+            WideOutputs::over_graph(alloc, net, patterns)
         }
     }
 
@@ -66,21 +66,26 @@ impl<'a> WideOutputs<'a> {
     {
         Ok(WideOutputs {
             net,
-            graph: None,
+            walk: None,
             wides: vec![in alloc; u64x8::splat(0); net.signals() as usize]?,
             outputs: vec![in alloc; u64x8::splat(0); net.outputs() as usize]?,
         })
     }
 
     /// Room for the outputs, which are found from the values of the nodes of a graph that is made here.
-    fn over_graph(alloc: Global, net: &'a Net) -> Result<WideOutputs<'a>, AllocError>
+    fn over_graph(
+        alloc: Global,
+        net: &'a Net,
+        patterns: &Patterns,
+    ) -> Result<WideOutputs<'a>, AllocError>
+        requires { patterns.now.inputs ≡ input_count net.now }
         ensures { IfOk result (λ w. w.net ≡ net.now) }
     {
-        let made = from_net(alloc, net)?;
-        let wides = vec![in alloc; u64x8::splat(0); made.graph.nodes() as usize]?;
+        let walk = graph_walk(alloc, net, patterns)?;
+        let wides = settled_values(alloc, &walk)?;
         Ok(WideOutputs {
             net,
-            graph: Some(made),
+            walk: Some(walk),
             wides,
             outputs: vec![in alloc; u64x8::splat(0); net.outputs() as usize]?,
         })
@@ -100,8 +105,8 @@ impl<'a> WideOutputs<'a> {
             return;
         }
         let (wides, outputs) = (&mut self.wides, &mut self.outputs);
-        match &self.graph {
-            Some(made) => set_graph_outputs(self.net, made, patterns, k / 8, wides, outputs),
+        match &self.walk {
+            Some(walk) => set_graph_outputs(self.net, walk, patterns, k / 8, wides, outputs),
             None => set_table_outputs(self.net, patterns, k / 8, wides, outputs),
         }
     }

@@ -1,6 +1,7 @@
 //! The values of tables and of all signals at 512 patterns at a time: eight words side by side, each with 64
 //! patterns.
 ghost use Rattle.std.specs.Prelude.{◌≡◌, ◌<◌, ℕ, List, Bool, true, false, length, slice_index, All};
+ghost use Rattle.std.specs.Prelude.{IsTrue};
 ghost use Rattle.std.specs.Prelude.{if◌then◌else◌, not, bit_and, bit_or, bit_xor};
 ghost use Rattle.std.specs.List.{list_any};
 ghost use Rattle.semantics.specs.Net.{signal_count};
@@ -37,6 +38,14 @@ pub(crate) fn xor_wide(a: u64x8, b: u64x8) -> u64x8
     ensures { (j : ℕ) → j < 8 → slice_index result j ≡ bit_xor (slice_index a j) (slice_index b j) }
 {
     a ^ b
+}
+
+/// Whether two wide words are equal.
+#[inline(always)]
+pub(crate) fn are_equal(a: u64x8, b: u64x8) -> bool
+    ensures { IsTrue result → (j : ℕ) → j < 8 → slice_index b j ≡ slice_index a j }
+{
+    xor_wide(a, b).reduce_or() == 0
 }
 
 /// Eight equal words.

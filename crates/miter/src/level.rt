@@ -6,9 +6,9 @@ ghost use Rattle.semantics.specs.Error.{IsCandidate};
 ghost use Rattle.quality_semantics.specs.Joint.{joint_net};
 ghost use Rattle.proof_semantics.specs.Miter.{miter};
 
+use crate::joint::joint;
 use cnf_core::cnf::Cnf;
 use cnf_core::of_net::of_goal;
-use joint_net::joint::joint;
 use net_core::net::Net;
 use net_errors::compared::Compared;
 use semantics::metric::Metric;

@@ -1,4 +1,8 @@
-//! The miter of two nets at an error level: the formula that says that some error exceeds it.
+//! The joint net of two nets, and its miter at an error level: the formula that says that some error exceeds
+//! it.
 #![tactic(auto)]
 
+mod copies;
+pub mod joint;
 pub mod level;
+mod quality;

@@ -2,18 +2,16 @@
 //! function circuit.
 #![tactic(auto)]
 
-ghost use Rattle.std.specs.Prelude.{◌≡◌, ◌+◌, ◌-◌, ◌^◌, ◌≤◌, ◌<◌, [], ◌∷◌, length, IfOk, OnOk};
+ghost use Rattle.std.specs.Prelude.{◌≡◌, ◌+◌, ◌-◌, ◌^◌, ◌≤◌, ◌<◌, length, IfOk, OnOk};
 ghost use Rattle.semantics.specs.declared.metric.Kind.TheVariants.{Abs};
-ghost use Rattle.semantics.specs.Error.{one_word};
 ghost use Rattle.quality_semantics.specs.WordNets.{signals, AreSignalsOf};
-ghost use Rattle.quality_semantics.specs.Quality.{word_quality, quality_net, absolute_excess, TellsExcess};
+ghost use Rattle.quality_semantics.specs.Quality.{word_quality, absolute_excess};
 
 mod signed;
 
-pub use crate::signed::{append_signed_word, quality_signed};
-use bus_nets::bus::Bus;
+pub use crate::signed::append_signed_word;
+use bus_nets::bus::{Bus, greatest};
 use bus_nets::word_net::WordNet;
-use net_core::net::Net;
 use net_parts::items::Signal;
 use semantics::limits::MOST_OUTPUTS;
 use std::alloc::{AllocError, Global};
@@ -46,23 +44,10 @@ pub fn append_word(
     ensures signal { IfOk result (λ s. s ≡ (word_quality Abs net.old exact.now approx.now k).signal) }
     ensures within { IfOk result (λ s. s < signals net.new) }
 {
-    let width = exact.len();
-    if k >= (1u128 << width) - 1 {
+    let most = greatest(exact);
+    if k >= most {
         Ok(net.zero())
     } else {
         excess(net, exact, approx, k)
     }
-}
-
-/// The net whose output says whether the absolute error of two words of `width` bits exceeds `k`.
-pub fn quality(alloc: Global, width: u32, k: u128) -> Result<Net, AllocError>
-    requires { width ≤ MOST_OUTPUTS }
-    ensures net { IfOk result (λ n. n ≡ quality_net (one_word Abs) width k) }
-    ensures tells { IfOk result (λ n. TellsExcess (one_word Abs) width k n) }
-{
-    let mut net = WordNet::new(alloc, width + width)?;
-    let exact = net.input_bus(0, width)?;
-    let approx = net.input_bus(width, width)?;
-    let output = append_word(&mut net, &exact, &approx, k)?;
-    net.finish(&[output])
 }

@@ -1,14 +1,12 @@
 //! The quality network of the absolute error of two's complement words: turning over both signs makes signed
 //! order unsigned order.
-ghost use Rattle.std.specs.Prelude.{◌≡◌, ◌+◌, ◌-◌, ◌^◌, ◌≤◌, ◌<◌, [], ◌∷◌, length, IfOk, OnOk};
+ghost use Rattle.std.specs.Prelude.{◌≡◌, ◌+◌, ◌-◌, ◌^◌, ◌≤◌, ◌<◌, length, IfOk, OnOk};
 ghost use Rattle.semantics.specs.declared.metric.Kind.TheVariants.{Sabs};
-ghost use Rattle.semantics.specs.Error.{one_word};
 ghost use Rattle.quality_semantics.specs.WordNets.{signals, AreSignalsOf};
-ghost use Rattle.quality_semantics.specs.Quality.{word_quality, quality_net, signed_excess, TellsExcess};
+ghost use Rattle.quality_semantics.specs.Quality.{word_quality, signed_excess};
 
-use bus_nets::bus::Bus;
+use bus_nets::bus::{Bus, greatest};
 use bus_nets::word_net::WordNet;
-use net_core::net::Net;
 use net_parts::items::Signal;
 use semantics::limits::MOST_OUTPUTS;
 use std::alloc::{AllocError, Global};
@@ -46,23 +44,10 @@ pub fn append_signed_word(
     ensures signal { IfOk result (λ s. s ≡ (word_quality Sabs net.old exact.now approx.now k).signal) }
     ensures within { IfOk result (λ s. s < signals net.new) }
 {
-    let width = exact.len();
-    if k >= (1u128 << width) - 1 {
+    let most = greatest(exact);
+    if k >= most {
         Ok(net.zero())
     } else {
         excess(net, exact, approx, k)
     }
-}
-
-/// The net whose output says whether the absolute error of two signed words of `width` bits exceeds `k`.
-pub fn quality_signed(alloc: Global, width: u32, k: u128) -> Result<Net, AllocError>
-    requires { width ≤ MOST_OUTPUTS }
-    ensures net { IfOk result (λ n. n ≡ quality_net (one_word Sabs) width k) }
-    ensures tells { IfOk result (λ n. TellsExcess (one_word Sabs) width k n) }
-{
-    let mut net = WordNet::new(alloc, width + width)?;
-    let exact = net.input_bus(0, width)?;
-    let approx = net.input_bus(width, width)?;
-    let output = append_signed_word(&mut net, &exact, &approx, k)?;
-    net.finish(&[output])
 }

@@ -1,15 +1,13 @@
 //! The quality network of the Hamming error. Source: SALSA's quality function circuit.
 #![tactic(auto)]
 
-ghost use Rattle.std.specs.Prelude.{◌≡◌, ◌+◌, ◌≤◌, ◌<◌, [], ◌∷◌, length, IfOk, OnOk};
+ghost use Rattle.std.specs.Prelude.{◌≡◌, ◌+◌, ◌≤◌, ◌<◌, length, IfOk, OnOk};
 ghost use Rattle.semantics.specs.declared.metric.Kind.TheVariants.{Ham};
-ghost use Rattle.semantics.specs.Error.{one_word};
 ghost use Rattle.quality_semantics.specs.WordNets.{signals, AreSignalsOf};
-ghost use Rattle.quality_semantics.specs.Quality.{word_quality, quality_net, differing_excess, TellsExcess};
+ghost use Rattle.quality_semantics.specs.Quality.{word_quality, differing_excess};
 
 use bus_nets::bus::Bus;
 use bus_nets::word_net::WordNet;
-use net_core::net::Net;
 use net_parts::items::Signal;
 use semantics::limits::MOST_OUTPUTS;
 use std::alloc::{AllocError, Global};
@@ -50,17 +48,4 @@ pub fn append_word(
     } else {
         excess(net, exact, approx, k as u32)
     }
-}
-
-/// The net whose output says whether two words of `width` bits differ in more than `k` bits.
-pub fn quality(alloc: Global, width: u32, k: u128) -> Result<Net, AllocError>
-    requires { width ≤ MOST_OUTPUTS }
-    ensures net { IfOk result (λ n. n ≡ quality_net (one_word Ham) width k) }
-    ensures tells { IfOk result (λ n. TellsExcess (one_word Ham) width k n) }
-{
-    let mut net = WordNet::new(alloc, width + width)?;
-    let exact = net.input_bus(0, width)?;
-    let approx = net.input_bus(width, width)?;
-    let output = append_word(&mut net, &exact, &approx, k)?;
-    net.finish(&[output])
 }

@@ -8,10 +8,11 @@ use Rattle.semantics.specs.Vectors.{bits_of, all_vectors}
 use Rattle.semantics.proofs.Vectors.{each_vector, number_of-bits_of, bits_of-number_of, length-all_vectors, slice_get-all_vectors}
 use Rattle.proof_semantics.specs.declared.constraint.Constraint.{Constraint}
 use Rattle.proof_semantics.specs.Queries.{IsOver}
+use Rattle.lane_bits.specs.InputOrder.{HasEveryVector}
 use Rattle.lane_bits.specs.Patterns.{PatternSet}
 use Rattle.lane_nets.specs.Lanes.{ReferenceValue}
 use Rattle.lane_nets.specs.Errors.{IsFirstOver, FindsFirstOver}
-use Rattle.worst_case.specs.VectorsTried.{IsTrial, IsHeldFor, IsEveryVectorHeld, IsFirstExceeded}
+use Rattle.worst_case.specs.VectorsTried.{IsTrial, IsHeldFor, IsEveryVectorHeld, IsEachVectorHeld, IsFirstExceeded}
 
 -- vector j stands at place j
 place : (n : ℕ) (vectors : List (List Bool)) → vectors ≡ all_vectors n → (j : ℕ) → j < 2 ^ n → slice_index_or vectors j [] ≡ bits_of n j
@@ -66,3 +67,19 @@ every_held N n s r count all is = record {
 pub over_first : (aim : Constraint) (N M : NetValue) (r : ReferenceValue) (x : List Bool) → IsEveryVectorHeld N r → IsFirstExceeded aim N M r.patterns.vectors x → IsOver aim.metric N M aim.bound x
 over_first aim N M r x held found =
     record { width = found.exceeded.width; exceeds = found.exceeded.exceeds; first = λ _. found.first (ap (λ (s : PatternSet). s.vectors) held.all) }
+
+-- the right outputs at every vector, in some order
+pub each_held : (N : NetValue) (order : List ℕ) (s : PatternSet) (r : ReferenceValue) → length order ≡ input_count N → s.inputs ≡ length order → HasEveryVector s
+    → r ≡ record { exact = N; patterns = s } → IsEachVectorHeld N r
+each_held N order s r count inputs every is = record {
+  exact = ap (λ (t : ReferenceValue). t.exact) is;
+  inputs = ap (λ (t : ReferenceValue). t.patterns.inputs) is ∙ inputs ∙ count;
+  each = subst HasEveryVector (sym (ap (λ (t : ReferenceValue). t.patterns) is)) every;
+}
+
+-- what holds of each vector that is held holds of every vector
+pub within_each : (metric : Metric) (N M : NetValue) (k : ℕ) (r : ReferenceValue) → IsEachVectorHeld N r
+    → ((p : ℕ) → p < length r.patterns.vectors → net_error metric N M (slice_index_or r.patterns.vectors p []) ≤ k) → IsWithin metric N k M
+within_each metric N M k r held none x width =
+    let at = held.each x (width ∙ sym held.inputs) in
+    subst (λ y. net_error metric N M y ≤ k) at.2 (none at.0 at.1)

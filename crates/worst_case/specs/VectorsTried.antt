@@ -1,9 +1,11 @@
 -- Input vectors that are tried at once, and the greatest of their errors.
-use Rattle.std.specs.Prelude.{◌≡◌, ℕ, ◌<◌, ◌≤◌, Bool, Option, MatchOption, List, [], length, slice_index_or}
+use Rattle.std.specs.Prelude.{◌≡◌, ℕ, ◌<◌, ◌≤◌, Unit, Bool, Option, MatchOption, List, [], length}
+use Rattle.std.specs.Prelude.{slice_index_or}
 use Rattle.semantics.specs.Net.{NetValue, input_count}
 use Rattle.semantics.specs.Error.{number_of, net_error, IsWithin}
 use Rattle.semantics.specs.Vectors.{all_vectors}
 use Rattle.proof_semantics.specs.declared.constraint.Constraint.{Constraint}
+use Rattle.lane_bits.specs.InputOrder.{HasEveryVector}
 use Rattle.lane_bits.specs.Patterns.{PatternSet}
 use Rattle.lane_nets.specs.Lanes.{ReferenceValue}
 use Rattle.worst_case.specs.declared.options.TheConstants.{LANE_INPUTS}
@@ -44,6 +46,12 @@ IsTried aim exact approx vectors found = MatchOption found
     (vectors ≡ all_vectors (input_count exact) → IsWithin aim.metric exact aim.bound approx)
     (IsFirstExceeded aim exact approx vectors)
 
+-- where no vector was found, the error of none of these vectors exceeds the level
+abbrev pub IsNoneExceeded : Constraint → NetValue → NetValue → List (List Bool) → Option (List Bool) → Type 0
+IsNoneExceeded aim exact approx vectors found = MatchOption found ((p : ℕ) → p < length vectors
+    → net_error aim.metric exact approx (slice_index_or vectors p []) ≤ aim.bound)
+    (λ x. Unit {0})
+
 -- a net and some input vectors of it; with at most sixteen inputs all of them in counting order
 pub record IsHeldFor (N : NetValue) (held : ReferenceValue) : Type 0 where
   pub exact : held.exact ≡ N
@@ -57,3 +65,13 @@ pub record IsEveryVectorHeld (N : NetValue) (held : ReferenceValue) : Type 0 whe
 -- every vector is held, or there are more than `most` inputs
 abbrev pub IsEveryVectorHeldUpTo : ℕ → NetValue → Option ReferenceValue → Type 0
 IsEveryVectorHeldUpTo most N held = MatchOption held (most < input_count N) (IsEveryVectorHeld N)
+
+-- a net and all its input vectors, in some order
+pub record IsEachVectorHeld (N : NetValue) (held : ReferenceValue) : Type 0 where
+  pub exact : held.exact ≡ N
+  pub inputs : held.patterns.inputs ≡ input_count N
+  pub each : HasEveryVector held.patterns
+
+-- each vector is held, or there are more than `most` inputs
+abbrev pub IsEachVectorHeldUpTo : ℕ → NetValue → Option ReferenceValue → Type 0
+IsEachVectorHeldUpTo most N held = MatchOption held (most < input_count N) (IsEachVectorHeld N)

@@ -5,11 +5,13 @@ ghost use Rattle.std.specs.Prelude.{◌≡◌, ◌≤◌, ◌<◌, IfOk, IfSome}
 ghost use Rattle.semantics.specs.Net.{input_count, IsSmall};
 ghost use Rattle.worst_case.specs.Levels.{IsAnsweredUpTo, IsLevelAnswer, IsSureAnswer};
 ghost use Rattle.worst_case.specs.Maximum.{IsGreatestUpTo};
-ghost use Rattle.worst_case.specs.VectorsTried.{IsHeldFor, IsEveryVectorHeldUpTo};
+ghost use Rattle.worst_case.specs.VectorsTried.{IsHeldFor, IsEachVectorHeldUpTo};
 
 use crate::margin::{Margin, by_diagrams, by_solver};
 use crate::options::{LANE_INPUTS, MOST_TRIED_INPUTS};
-use crate::vectors_tried::{Attained, greatest_of, hold_every_vector, hold_vectors, try_vectors};
+use crate::vectors_tried::{
+    Attained, greatest_of, hold_each_vector, hold_every_vector, hold_vectors, try_vectors,
+};
 use bdd_levels::budgets::QUESTION_STEPS;
 use bdd_levels::decider::Decider;
 use lane_nets::reference::Reference;
@@ -29,22 +31,22 @@ pub struct Judge<'a> {
     known: Reference<'a>,
     /// The diagrams.
     decider: Decider<'a>,
-    /// The right outputs at every vector, once they were needed; with more than `MOST_TRIED_INPUTS` inputs
-    /// they are not held.
+    /// The right outputs at every vector, in an order that is quick to walk, once they were needed; with more
+    /// than `MOST_TRIED_INPUTS` inputs they are not held.
     every: Option<Reference<'a>>,
 }
 
 impl<'a> Model for Judge<'a> {
     ghost use Rattle.std.specs.Prelude.{◌≡◌, IfSome};
     ghost use Rattle.semantics.specs.Net.{NetValue};
-    ghost use Rattle.worst_case.specs.VectorsTried.{IsHeldFor, IsEveryVectorHeld};
+    ghost use Rattle.worst_case.specs.VectorsTried.{IsHeldFor, IsEachVectorHeld};
 
     ghost Value = { NetValue };
 
     ghost view = { λ j. j.exact.now };
 
     ghost invariant = { λ j. IsHeldFor j.exact.now j.known × (j.decider ≡ j.exact.now)
-        × IfSome j.every (IsEveryVectorHeld j.exact.now) };
+        × IfSome j.every (IsEachVectorHeld j.exact.now) };
 }
 
 /// The decider by diagrams; it holds no diagrams where every vector is held from the beginning.
@@ -82,11 +84,11 @@ impl<'a> Judge<'a> {
     /// `MOST_TRIED_INPUTS` inputs.
     fn take_every(&mut self, alloc: Global) -> Result<Option<Reference<'a>>, AllocError>
         ensures same { self.new ≡ self.old }
-        ensures every { IfOk result (IsEveryVectorHeldUpTo MOST_TRIED_INPUTS self.old) }
+        ensures every { IfOk result (IsEachVectorHeldUpTo MOST_TRIED_INPUTS self.old) }
     {
         match self.every.take() {
             Some(every) => Ok(Some(every)),
-            None => hold_every_vector(alloc, self.exact, MOST_TRIED_INPUTS),
+            None => hold_each_vector(alloc, self.exact, MOST_TRIED_INPUTS),
         }
     }
 
@@ -124,6 +126,7 @@ impl<'a> Judge<'a> {
     }
 
     /// The answer of every vector, with at most `MOST_TRIED_INPUTS` inputs.
+    #[tactic(auto, using(crate::proofs::Tried::within_each))]
     pub(crate) fn by_every_vector(
         &mut self,
         alloc: Global,
@@ -163,7 +166,9 @@ impl<'a> Judge<'a> {
         by_solver(alloc, nets, &mut self.decider, aim, progress)
     }
 
-    /// The greatest error of every vector, with at most `MOST_TRIED_INPUTS` inputs.
+    /// The greatest error of every vector, with at most `MOST_TRIED_INPUTS` inputs. The vectors are walked in
+    /// counting order, since the first that has the error is wanted; what is held in another order is let go
+    /// of before.
     pub(crate) fn greatest_of_every(
         &mut self,
         alloc: Global,
@@ -175,11 +180,10 @@ impl<'a> Judge<'a> {
         ensures greatest { IfOk result
             (IsGreatestUpTo MOST_TRIED_INPUTS metric nets.now.exact nets.now.approx) }
     {
-        let Some(every) = self.take_every(alloc)? else {
+        self.every = None;
+        let Some(every) = hold_every_vector(alloc, self.exact, MOST_TRIED_INPUTS)? else {
             return Ok(None);
         };
-        let best = greatest_of(alloc, nets, metric, &every)?;
-        self.every = Some(every);
-        Ok(Some(best))
+        Ok(Some(greatest_of(alloc, nets, metric, &every)?))
     }
 }

@@ -3,12 +3,13 @@
 ghost use Rattle.std.specs.Prelude.{◌≡◌, ◌≤◌, ◌<◌, [], length, slice_index_or, IfOk, OnOk};
 ghost use Rattle.semantics.specs.Net.{input_count, IsSmall};
 ghost use Rattle.semantics.specs.Error.{net_error};
-ghost use Rattle.worst_case.specs.VectorsTried.{IsTrial, IsTried, IsFirstGreatestIn};
-ghost use Rattle.worst_case.specs.VectorsTried.{IsHeldFor, IsEveryVectorHeldUpTo};
+ghost use Rattle.worst_case.specs.VectorsTried.{IsTrial, IsTried, IsNoneExceeded, IsFirstGreatestIn};
+ghost use Rattle.worst_case.specs.VectorsTried.{IsHeldFor, IsEveryVectorHeldUpTo, IsEachVectorHeldUpTo};
 
 use crate::options::{LANE_INPUTS, TRIALS};
 use bdd_core::chance::chance;
 use lane_bits::patterns::{MOST_COUNTED_INPUTS, Patterns};
+use lane_nets::cone_order::cone_order;
 use lane_nets::reference::Reference;
 use net_core::items::Bits;
 use net_core::net::Net;
@@ -99,6 +100,25 @@ pub fn hold_every_vector<'a>(
     Ok(Some(Reference::new(alloc, exact, vectors)?))
 }
 
+/// The exact net's outputs at every input vector, in an order that is quick to walk, where there are at most
+/// `most` inputs.
+#[tactic(auto, using(crate::proofs::Tried::each_held))]
+pub(crate) fn hold_each_vector<'a>(
+    alloc: Global,
+    exact: &'a Net,
+    most: u32,
+) -> Result<Option<Reference<'a>>, AllocError>
+    requires { most ≤ MOST_COUNTED_INPUTS }
+    ensures { IfOk result (IsEachVectorHeldUpTo most exact.now) }
+{
+    if exact.inputs() > most {
+        return Ok(None);
+    }
+    let order = cone_order(alloc, exact)?;
+    let vectors = Patterns::every(alloc, &order)?;
+    Ok(Some(Reference::new(alloc, exact, vectors)?))
+}
+
 /// The greatest error of the vectors that are held, and the first of them that has it.
 pub(crate) fn greatest_of(
     alloc: Global,
@@ -130,7 +150,10 @@ pub(crate) fn try_vectors(
 ) -> Result<Option<Bits>, AllocError>
     requires exact { held.now.exact ≡ nets.now.exact }
     requires inputs { held.now.patterns.inputs ≡ input_count nets.now.exact }
-    ensures { IfOk result (IsTried aim nets.now.exact nets.now.approx held.now.patterns.vectors) }
+    ensures tried { IfOk result
+        (IsTried aim nets.now.exact nets.now.approx held.now.patterns.vectors) }
+    ensures none { IfOk result
+        (IsNoneExceeded aim nets.now.exact nets.now.approx held.now.patterns.vectors) }
 {
     match held.first_over(alloc, nets.approx(), aim.metric, aim.bound)? {
         Some(at) => Ok(Some(vector_at(alloc, held.patterns(), at)?)),

@@ -5,4 +5,4 @@ use Rattle.lane_bits.proofs.examples.patterns.Goals as goal
 
 pub returns : goal.returns
 unfolding row_bit all_vectors
-returns c = record { counting = refl; bits = refl }
+returns c = record { counting = refl; placed = refl; bits = refl }

@@ -1,6 +1,0 @@
-use Rattle.std.proofs.Common.{◌≡◌, map, take}
-use Rattle.joint_net.specs.Copies.{placed}
-use Rattle.joint_net.proofs.copies.placed_signals.Given as goal
-
-abbrev pub invariant-loop-signal : goal.invariant-loop-signal
-invariant-loop-signal l = l.list ≡ map (placed l.inputs l.first) (take l.signal-index l.signals)

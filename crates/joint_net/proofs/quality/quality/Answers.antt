@@ -1,8 +1,0 @@
-use Rattle.std.proofs.lemmas.Result.{IfOk-weaker}
-use Rattle.joint_net.proofs.Words.{all_words}
-use Rattle.joint_net.proofs.quality.quality.Goals as goal
-
-pub returns : goal.returns
-returns c =
-    IfOk-weaker c.finish.result _ _
-    (λ n is. all_words c.args.metric c.args.outputs c.args.k _ _ n c.in_ok-output.ensures.ok c.in_ok-output.ensures.signal is) c.finish.ensures

@@ -1,0 +1,164 @@
+"""A walk among circuits that keep the bound at all vectors: step by step a literal, or a few new ANDs of literals, take the
+place of a node. At a vector where the outputs stay within the bound whatever the node is, they may have any value. Most steps
+leave as many ANDs as before, and some one more; by these the walk leaves the places at which nothing single can be taken away.
+
+A step is looked for at a few vectors. Where all vectors show that it breaks the bound, one at which it does joins the few.
+"""
+import random
+
+from explorer import circuit, errors
+
+# How a walk is named, before its seed.
+NAME = "walk "
+# Of how many inputs all vectors are looked at; netlists of more are not walked from. How many the few are at first.
+MOST_INPUTS, FEW = 20, 512
+# How many literals are joined in pairs, and how many take part where three are joined.
+PAIRED, FIRSTS, JOINED, DIFFERING = 60, 8, 30, 40
+# A circuit has at most so many ANDs more than the best so far, and a step that adds one is looked for so often.
+MORE, WORSE = 5, 0.2
+# A walk ends where its steps have gone through so many ANDs; what else a step does counts as so many.
+WORK, STEP = 1000000, 300
+
+
+class Walk:
+    """The circuit at hand, and the best so far."""
+
+    def __init__(self, exact, start, metric, bound, seed):
+        self.metric, self.bound = metric, bound
+        self.random = random.Random("walk %d" % seed)
+        self.circuit = self.best = circuit.circuit_of(start)
+        inputs = len(exact.inputs)
+        count = 1 << inputs
+        columns = [errors.column(it, count) for it in range(inputs)]
+        self.all = circuit.Values(count, columns, errors.values_of(exact, columns, count))
+        self.few = self.all
+        if count > FEW:
+            self.few = circuit.Values(0, [0] * inputs, [0] * len(exact.outputs))
+            for place in self.random.sample(range(count), FEW):
+                self.few.add_vector(place, self.all)
+        self.all.fill(self.circuit)
+        self.few.fill(self.circuit)
+        self.work = 0
+
+    def breaks(self, values, changed, at=None, output=0):
+        """The vectors at which the bound is broken where some nodes have other values, and the output at a place if one is
+        told."""
+        outputs = values.outputs(self.circuit, changed)
+        if at is not None:
+            outputs[at] = output
+        return errors.beyond(self.metric, self.bound, values.exact, outputs, values.ones)
+
+    def run(self):
+        """Steps until the work is done; the best circuit."""
+        if self.breaks(self.all, {}):
+            return self.best
+        while self.work < WORK and self.circuit.nodes:
+            self.work += len(self.circuit.nodes) + STEP
+            place = self.random.randrange(len(self.circuit.nodes) + len(self.circuit.outputs))
+            if place < len(self.circuit.nodes):
+                self.step(self.circuit.nodes[place])
+            else:
+                self.output_step(place - len(self.circuit.nodes))
+            if len(self.circuit.nodes) <= len(self.best.nodes):
+                self.best = self.circuit
+        return self.best
+
+    def output_step(self, at):
+        """Looks for another literal as an output, and takes the first that may be taken."""
+        few, literal = self.few, self.circuit.outputs[at]
+        care = self.breaks(few, {}, at, few.at(literal) ^ few.ones)
+        signals = [it for it in (*range(self.circuit.inputs + 1), *self.circuit.nodes) if it != literal >> 1]
+        self.random.shuffle(signals)
+        for it in signals:
+            apart = (few.of[it] ^ few.at(literal)) & care
+            if apart in (0, care):
+                other = 2 * it ^ bool(apart)
+                wrong = self.breaks(self.all, {}, at, self.all.at(other))
+                return self.learn(wrong) if wrong else self.take(self.circuit.with_output(at, other), {}, {})
+
+    def step(self, node):
+        """Looks for something in the place of a node, and takes the first that may be taken."""
+        few, pairs = self.few, self.circuit.pairs
+        care = self.breaks(few, few.changes(self.circuit, {node: few.of[node] ^ few.ones}))
+        on, off = few.of[node] & care, care & ~few.of[node]
+        above = self.circuit.above(node)
+        signals = [it for it in (*range(1, self.circuit.inputs + 1), *self.circuit.nodes) if it not in above]
+        self.random.shuffle(signals)
+        literals = [pair for it in signals for pair in ((2 * it, few.of[it]), (2 * it + 1, few.of[it] ^ few.ones))]
+        going = self.circuit.alone(node)
+        more = self.random.random() < WORSE and len(self.circuit.nodes) < len(self.best.nodes) + MORE
+        for literal, added in self.instead(on, off, [(0, 0), (1, few.ones), *literals], going, len(going) + more):
+            if tuple(sorted(added.get(literal >> 1, ()))) != tuple(sorted(pairs[node])) or literal & 1:
+                if self.is_taken(node, literal, added, len(self.circuit.nodes) + more):
+                    return
+
+    def instead(self, on, off, literals, going, most):
+        """What may stand in the place of a node, and of those that go with it: a literal, and the operands of the new ANDs, at
+        most so many."""
+        first = self.circuit.next
+        over = [(it, value & off) for it, value in literals if not on & ~value]
+        under = [(it, on & ~value) for it, value in literals if not value & off]
+        for literal, rest in over:
+            if not rest:
+                yield literal, {}
+        for turned, terms in ((0, over), (1, under)):
+            for one, other in disjoint(terms[:PAIRED]):
+                yield 2 * first + turned, {first: (one ^ turned, other ^ turned)}
+        staying = [it for it in literals if it[0] >> 1 not in going]
+        wholes = [it for it in over if it[0] >> 1 not in going]
+        for whole, rest in wholes[:FIRSTS] if most >= 2 else ():
+            terms = [(it, on & ~value) for it, value in staying if not value & rest and on & value]
+            for one, other in disjoint(terms[:JOINED]):
+                yield 2 * first + 2, {first: (one ^ 1, other ^ 1), first + 1: (whole, 2 * first + 1)}
+        if most >= 3:
+            yield from self.differing(on, on | off, staying)
+
+    def differing(self, on, care, literals):
+        """Two literals that differ just where the node has to be true."""
+        first = self.circuit.next
+        terms = [(it, (value ^ on) & care) for it, value in literals if not it & 1][:DIFFERING]
+        for at, (one, left) in enumerate(terms):
+            for other, right in terms[:at]:
+                apart = left ^ right ^ on
+                if not apart or apart == care:
+                    other ^= bool(apart)
+                    yield 2 * first + 4, {first: (one, other), first + 1: (one ^ 1, other ^ 1),
+                                          first + 2: (2 * first + 1, 2 * first + 3)}
+
+    def is_taken(self, node, literal, added, most):
+        """Whether the circuit is changed so, where it has no more ANDs than that then, or the few vectors have become more."""
+        made = self.circuit.with_literal(node, literal, added)
+        if len(made.nodes) > most:
+            return False
+        for values in (self.few, self.all):
+            for new, (left, right) in added.items():
+                values.of[new] = values.at(left) & values.at(right)
+        changed = {}
+        if self.all.at(literal) != self.all.of[node]:
+            changed = self.all.changes(self.circuit, {node: self.all.at(literal)})
+            wrong = self.breaks(self.all, changed)
+            if wrong:
+                self.learn(wrong)
+                return True
+        is_apart = changed and self.few is not self.all
+        self.take(made, changed, self.few.changes(self.circuit, {node: self.few.at(literal)}) if is_apart else changed)
+        return True
+
+    def learn(self, wrong):
+        """One of these vectors joins the few."""
+        self.few.add_vector(wrong.bit_length() - 1, self.all)
+
+    def take(self, made, changed, few_changed):
+        """Goes on with a circuit, in which some nodes have other values."""
+        self.circuit = made
+        self.all.moved(made, changed)
+        if self.few is not self.all:
+            self.few.moved(made, few_changed)
+
+
+def disjoint(terms):
+    """The pairs of literals whose vectors are apart."""
+    for at, (one, left) in enumerate(terms):
+        for other, right in terms[:at]:
+            if not left & right:
+                yield one, other
