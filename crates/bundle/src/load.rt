@@ -13,8 +13,8 @@ use job_semantics::claim::Claim;
 use net_core::net::Net;
 use std::alloc::Global;
 
-/// The formula and the log of the bundle of the stem, if its files are a certificate of what is claimed. Reads
-/// and judges the files as [`check_bundle`] does, and keeps the log's items besides.
+/// The formula and the log of the bundle of the stem, if its files are a certificate of what is claimed.
+/// Reads and judges the files as [`check_bundle`] does, and keeps the log's items besides.
 pub fn load_bundle<F: Files>(
     alloc: Global,
     net: &Net,

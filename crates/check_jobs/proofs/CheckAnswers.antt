@@ -4,7 +4,7 @@ use Rattle.std.specs.Prelude.{IfOk, IfErr}
 use Rattle.std.proofs.lemmas.Bool.{false_from_ne_true}
 use Rattle.semantics.specs.Texts.{Bytes}
 use Rattle.semantics.specs.Net.{NetValue, IsSound}
-use Rattle.outside_semantics.specs.Outside.{FilesTold, SinkTold, Goes, turn_budget, bytes_of}
+use Rattle.outside_semantics.specs.Outside.{FilesTold, SinkTold, Goes, WhereTold, turn_budget, bytes_of}
 use Rattle.blif_semantics.specs.Reading.{Refusal}
 use Rattle.file_core.proofs.Told.{Goes-Goes, held_before}
 use Rattle.file_reading.specs.declared.unread.Unread.{Unread}
@@ -20,7 +20,7 @@ use Rattle.job_semantics.specs.Certificate.{Texts, texts_of, OfBundle, Certifies
 use Rattle.job_semantics.proofs.Certificates.{verified_law}
 use Rattle.job_semantics.proofs.CheckedFiles.{not_quiet_check}
 use Rattle.job_semantics.specs.Synthesis.{OfInput, WhereHeld, InputRefused}
-use Rattle.job_semantics.specs.Checking.{IsLeftAlone, ShowsItsBound, CheckVerified, CheckRefuted, IsNeeded, CheckEnd, verified, refuted, refused, out_of_memory, not_read, endless, IsVerifiedEnd}
+use Rattle.job_semantics.specs.Checking.{IsLeftAlone, ShowsItsBound, CheckVerified, CheckRefuted, CheckEnd, verified, refuted, refused, out_of_memory, not_read, endless, IsVerifiedEnd}
 use Rattle.job_semantics.specs.Checking.{IsQuietCheck}
 use Rattle.blif_text.specs.declared.refusal.BlifRefusal.{BlifRefusal}
 use Rattle.bundle.specs.declared.verdict.Verdict.{Verdict}
@@ -95,8 +95,8 @@ module _ {claim : Claim} {input stem : Bytes} {old mid new : FilesTold} {N : Net
   since P h = λ a b told tells. let m = held_before mid new kept.goes b tells in h m.0 b m.1 tells
 
   -- a file that is needed for the verdict is needed by the job
-  needed_by_job : {said : SinkTold} (ending : Ending) → OfBundle mid new stem (λ texts. NothingKnown texts → IsNeededFor claim N texts ending)
-      → IsNeeded claim input stem (on_files old new said) ending
+  needed_by_job : (ending : Ending) → OfBundle mid new stem (λ texts. NothingKnown texts → IsNeededFor claim N texts ending)
+      → WhereTold old new (λ a b. (exact : NetValue) × IsReadAs (bytes_of a input) exact × IsNeededFor claim exact (texts_of b stem) ending)
   needed_by_job ending needed = λ a b told tells.
       let m = held_before mid new kept.goes b tells in
       (N, read.told a m.0 told m.1, needed m.0 b m.1 tells tt)

@@ -1,6 +1,7 @@
 -- What a program over the system came to.
 use Rattle.std.specs.Prelude.{◌≡◌, ℕ, [], List, ◌⊎◌, None}
 use Rattle.outside_semantics.specs.Outside.{FilesTold, SinkTold}
+use Rattle.exit_numbers.specs.declared.numbers.TheConstants.{NO_MEMORY, WRITE_FAULT}
 use Rattle.console.specs.Untold.{untold_sink}
 
 -- what a run says of its words, of what files and sink told before and after it, and of its answer
@@ -16,19 +17,13 @@ abbrev pub IsRunOn : {A : Type 0} → RunRelation A → List (List ℕ) → A �
 IsRunOn says words answer = (old new : FilesTold) × (after : SinkTold)
     × IsUntouched old × says words old new (untold_sink 0) after answer
 
--- the exit number where there is no memory for the words, and that where the standard streams can't be held
-abbrev pub no_memory : ℕ
-no_memory = 3
-
-abbrev pub not_held : ℕ
-not_held = 6
-
 -- the number is that of the answer of a run on some words
 abbrev pub IsExitOfRun : {A : Type 0} → RunRelation A → (A → ℕ) → ℕ → Type 0
 IsExitOfRun {A} says exit_number number = (words : List (List ℕ)) × (answer : A)
     × IsRunOn says words answer × (number ≡ exit_number answer)
 
--- a process ended with this number: that of a run's answer, or one of those where no run was made
+-- A process ended with this number: that of a run's answer or, where no run was made, that of want of memory
+-- for the words, or that of a standard stream that can't be held.
 abbrev pub IsEnd : {A : Type 0} → RunRelation A → (A → ℕ) → ℕ → Type 0
 IsEnd says exit_number number =
-    IsExitOfRun says exit_number number ⊎ ((number ≡ no_memory) ⊎ (number ≡ not_held))
+    IsExitOfRun says exit_number number ⊎ ((number ≡ NO_MEMORY) ⊎ (number ≡ WRITE_FAULT))

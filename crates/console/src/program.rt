@@ -12,6 +12,7 @@ use crate::real_files::RealFiles;
 use crate::real_sink::RealSink;
 use crate::streams::hold_streams;
 use crate::terminal::Terminal;
+use exit_numbers::numbers::{NO_MEMORY, WRITE_FAULT};
 use file_core::files::Files;
 use file_core::sink::Sink;
 use file_core::word::Word;
@@ -22,12 +23,6 @@ use std::io;
 use std::process::ExitCode;
 use std::rt::{self, Env};
 use std::time::Clock;
-
-/// The exit number where there is no memory for the words.
-const NO_MEMORY: u8 = 3;
-
-/// The exit number where the standard streams cannot be held.
-const NOT_HELD: u8 = 6;
 
 /// What a program does with the words behind its name.
 pub trait Program {
@@ -141,7 +136,7 @@ pub fn run<G: Program, R: rt::Files + Print + Eprint + Clock + Env + AllocGlobal
         }
         Err(_) => {
             let _ = eprintln!(rt; "salsa: write fault");
-            ExitCode::from(NOT_HELD)
+            ExitCode::from(WRITE_FAULT)
         }
     }
 }

@@ -151,9 +151,10 @@ module _ {words : List Bytes} {call : Call} where
   pub named_is_no_usage : (job : Job) (o : Outcome) → job_of words ≡ Some job → RunSays words call o → o.status ≢ Usage
   named_is_no_usage job o named run usage = let bad : ◌≡◌ {A = Option Job} None (Some job) = sym (run.usage.0 usage) ∙ named in cc
 
-  pub demo-says : {width bound limit : ℕ} (o : Outcome) → job_of words ≡ Some (demo width bound limit)
-      → BundleAnswer (simplifying (demo_aim bound limit) (demo_net width)) demo_stem call o → RunSays words call o
-  demo-says {width} {bound} {limit} o named answer =
+  pub demo-says : {width bound limit : ℕ} {aim : Constraint} (o : Outcome) → aim ≡ demo_aim bound limit → job_of words ≡ Some (demo width bound limit)
+      → BundleAnswer (simplifying aim (demo_net width)) demo_stem call o → RunSays words call o
+  demo-says {width} {bound} {limit} o asked named given =
+      let answer = subst (λ a. BundleAnswer (simplifying a (demo_net width)) demo_stem call o) asked given in
       job_says (demo width bound limit) o named (bundle_is_no_usage (simplifying (demo_aim bound limit) (demo_net width)) demo_stem call (told_queries o) o.status answer)
       (bundle_spends (simplifying (demo_aim bound limit) (demo_net width)) demo_stem call (told_queries o) o.status answer) answer
 

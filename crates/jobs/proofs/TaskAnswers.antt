@@ -37,9 +37,8 @@ use Rattle.jobs.proofs.SynthAnswers.{none_written, read_later}
 -- ---- IN was read, and then the second netlist
 
 -- IN is accepted
-accepted : {input : Bytes} {old mid new : FilesTold} {said says : SinkTold} {N : NetValue} → NetRead old mid input N → Goes mid new
-    → CountsAs IsAccepted (told_call old new said says) input
-accepted {said = said} {says = says} {N = N} read goes = λ a b told tells. (N, (read_later {said = said} {says = says} read goes).told a b told tells)
+accepted : {input : Bytes} {old mid new : FilesTold} {N : NetValue} → NetRead old mid input N → Goes mid new → WhereTold old new (λ a b. IsAccepted (bytes_of a input))
+accepted {old = old} {mid = mid} {new = new} {N = N} read goes = λ a b told tells. let m = held_before mid new goes b tells in (N, read.told a m.0 told m.1)
 
 module _ {input second : Bytes} {old mid new : FilesTold} {said says : SinkTold} {N : NetValue} (read : NetRead old mid input N) where
   both_untouched : FilesStay mid new second → says ≡ said → AreUntouched input second (told_call old new said says)

@@ -3,6 +3,7 @@ ghost use Rattle.std.specs.Prelude.{◌≤◌};
 ghost use Rattle.semantics.specs.Net.{IsSmall};
 ghost use Rattle.chain_semantics.specs.Simplification.{IsBeginning};
 ghost use Rattle.synth_jobs.specs.Calls.{told_call};
+ghost use Rattle.synth_jobs.specs.Requests.{told_request};
 ghost use Rattle.jobs.specs.Run.{BundleAnswer};
 
 use crate::outcome::{Outcome, Status, only, outcome_of};
@@ -31,7 +32,7 @@ pub(crate) fn deliver<F: Files, K: Sink, P: Progress>(
     requires bound { request.aim.bound ≤ LARGEST_ERROR }
     requires limit { 1 ≤ request.aim.limit }
     ensures { BundleAnswer
-        request
+        (told_request request)
         stem.now
         (told_call (F.told files.old) (F.told files.new) (K.told say.old) (K.told say.new))
         result }

@@ -5,6 +5,7 @@ ghost use Rattle.semantics.specs.Net.{IsSmall};
 ghost use Rattle.command_words.specs.Names.{names_of};
 ghost use Rattle.conversions.specs.Input.{NetRead};
 ghost use Rattle.synth_jobs.specs.Calls.{told_call};
+ghost use Rattle.synth_jobs.specs.Requests.{told_request};
 ghost use Rattle.jobs.specs.Run.{TaskAnswer};
 ghost use Rattle.jobs.specs.Second.{SecondUnread, JudgedAnswer};
 
@@ -48,7 +49,7 @@ fn undertake<F: Files, K: Sink, P: Progress>(
     requires bound { request.aim.bound ≤ LARGEST_ERROR }
     requires limit { 1 ≤ request.aim.limit }
     ensures { JudgedAnswer
-        request
+        (told_request request)
         stem.now
         (told_call (F.told files.old) (F.told files.new) (K.told say.old) (K.told say.new))
         result }

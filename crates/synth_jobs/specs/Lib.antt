@@ -1,5 +1,6 @@
 pub mod Calls
 pub mod Demo
+pub mod Requests
 pub mod Spent
 pub mod Work
 pub mod Prepared

@@ -7,6 +7,7 @@ ghost use Rattle.job_semantics.specs.Synthesis as synthesis;
 ghost use Rattle.synth_jobs.specs.Calls.{told_call};
 ghost use Rattle.synth_jobs.specs.Prepared.{IsReady};
 ghost use Rattle.synth_jobs.specs.Delivered.{IsDelivered, IsDeliveredInPart};
+ghost use Rattle.synth_jobs.specs.Requests.{told_request};
 ghost use Rattle.synth_jobs.specs.Work.{WorkSays};
 
 use crate::preparing::{Prepared, prepare};
@@ -83,7 +84,7 @@ pub fn finish<S: Search, F: Files, K: Sink, P: Progress>(
     requires bound { request.aim.bound ≤ LARGEST_ERROR }
     requires limit { 1 ≤ request.aim.limit }
     ensures { WorkSays
-        request
+        (told_request request)
         names.now
         (told_call (F.told files.old) (F.told files.new) (K.told say.old) (K.told say.new))
         result }

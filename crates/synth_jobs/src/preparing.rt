@@ -11,6 +11,7 @@ ghost use Rattle.job_semantics.specs.Synthesis as synthesis;
 ghost use Rattle.job_semantics.specs.Synthesis.{IsTaskDone, is_shown_minimal, request_of};
 ghost use Rattle.worst_case.specs.Maximum.{IsMaximumAnswer};
 ghost use Rattle.synth_jobs.specs.Spent.{told_query};
+ghost use Rattle.synth_jobs.specs.Requests.{told_request};
 ghost use Rattle.synth_jobs.specs.Prepared.{told_shrinking, bundle_of, IsSearched, IsPrepared};
 
 use crate::request::Request;
@@ -197,7 +198,7 @@ pub fn prepare<S: Search, P: Progress>(
     requires beginning { IsBeginning request.aim.metric request.exact request.aim.bound request.begin }
     requires bound { request.aim.bound ≤ LARGEST_ERROR }
     requires limit { 1 ≤ request.aim.limit }
-    ensures { IfOk result (IsPrepared request) }
+    ensures { IfOk result (IsPrepared (told_request request)) }
 {
     let Request {
         task,

@@ -1,9 +1,7 @@
 //! What is to be done with two nets.
-
 use job_semantics::task::Task;
 use net_core::net::Net;
 use proof_semantics::constraint::Constraint;
-use std::marker::Model;
 
 /// Two nets, and what is done with the second.
 #[derive(Drop)]
@@ -14,12 +12,4 @@ pub struct Request {
     pub exact: Net,
     /// The net that is certified or refined.
     pub begin: Net,
-}
-
-impl Model for Request {
-    ghost use Rattle.job_semantics.specs.Synthesis as synthesis;
-
-    ghost Value = { synthesis.Request };
-
-    ghost view = { λ a. record { task = a.task; aim = a.aim; exact = a.exact; begin = a.begin } };
 }
