@@ -154,7 +154,13 @@ module _ (metric : Metric) (E N : NetValue) (bound : ℕ) (m : Move) (vectors : 
   pub broken_first : (k word t p : ℕ) → p ≡ 64 * k + t
       → ((b : ℕ) → b < 64 → (word_bit word b ≡ true) ↔ ((64 * k + b < length vectors) × IsBrokenAt metric E bound N m (vector_at vectors (64 * k + b))))
       → IsFirstSet (word ∷ []) 64 t
-      → ((q : ℕ) → q < 64 * k → q < length vectors → ¬ IsBrokenAt metric E bound N m (vector_at vectors q)) → IsFirstBroken metric E bound N vectors m p
+      → ((q : ℕ) → q < 64 * k → q < length vectors → ¬ IsBrokenAt metric E bound N m (vector_at vectors q)) → IsFirstBroken (record {
+        exact = E;
+        net = N;
+        metric = metric;
+        bound = bound;
+        vectors = vectors;
+      }) m p
   broken_first k word t p at bits first before =
       let here = (bits t first.within).0 (sym (only_word word t first.within) ∙ first.set) in
       record {

@@ -21,6 +21,16 @@ pub record GrowingValue : Type 0 where
   pub bound : ℕ
   pub vectors : List (List Bool)
 
+-- what is judged, over these patterns
+abbrev pub judged_over : Judged → List (List Bool) → GrowingValue
+judged_over j vectors = record {
+  exact = j.nets.exact;
+  net = j.nets.approx;
+  metric = j.metric;
+  bound = j.bound;
+  vectors = vectors;
+}
+
 -- the second list begins with the first
 pub record IsFrontOf (front whole : List (List Bool)) : Type 0 where
   pub shorter : length front ≤ length whole

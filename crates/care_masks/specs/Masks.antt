@@ -4,7 +4,8 @@ use Rattle.semantics.specs.Net.{NetValue, table_count}
 use Rattle.semantics.specs.declared.metric.Metric.{Metric}
 use Rattle.chain_semantics.specs.declared.moves.Move.{Move}
 use Rattle.chain_semantics.specs.Care.{IsCaredFor, Exceeds, IsBrokenAt}
-use Rattle.lane_nets.specs.Blocks.{vector_at, row_at, IsRowWhere}
+use Rattle.lane_nets.specs.Blocks.{vector_at, row_at, IsRowWhere, IsWordWhere}
+use Rattle.care_masks.specs.Growing.{GrowingValue}
 
 -- an approximate net, the patterns, for each table a row, and one more row
 pub record Masks : Type 0 where
@@ -20,16 +21,19 @@ pub record AreMasksOf (metric : Metric) (exact : NetValue) (bound : ℕ) (m : Ma
       → IsRowWhere m.vectors (IsCaredFor metric exact bound m.net t) (row_at m.care t)
   pub exceeds : IsRowWhere m.vectors (Exceeds metric exact bound m.net) m.exceeds
 
+-- the word of block k tells at which of its patterns the moved net exceeds the bound
+abbrev pub IsBrokenWord : GrowingValue → Move → ℕ → ℕ → Type 0
+IsBrokenWord m move = IsWordWhere m.vectors (IsBrokenAt m.metric m.exact m.bound m.net move)
+
 -- p is the first pattern at which the moved net exceeds the bound
-pub record IsFirstBroken (metric : Metric) (exact : NetValue) (bound : ℕ) (N : NetValue)
-    (vectors : List (List Bool)) (move : Move) (p : ℕ) : Type 0 where
-  pub within : p < length vectors
-  pub broken : IsBrokenAt metric exact bound N move (vector_at vectors p)
-  pub first : (q : ℕ) → q < p → ¬ IsBrokenAt metric exact bound N move (vector_at vectors q)
+pub record IsFirstBroken (m : GrowingValue) (move : Move) (p : ℕ) : Type 0 where
+  pub within : p < length m.vectors
+  pub broken : IsBrokenAt m.metric m.exact m.bound m.net move (vector_at m.vectors p)
+  pub first : (q : ℕ) → q < p → ¬ IsBrokenAt m.metric m.exact m.bound m.net move (vector_at m.vectors q)
 
 -- the first pattern that breaks the move is found, or none where none does
-abbrev pub FindsFirstBroken : Metric → NetValue → ℕ → NetValue → List (List Bool) → Move → Option ℕ → Type 0
-FindsFirstBroken metric exact bound N vectors move found =
-    MatchOption found ((p : ℕ) → p < length vectors
-    → ¬ IsBrokenAt metric exact bound N move (vector_at vectors p))
-    (IsFirstBroken metric exact bound N vectors move)
+abbrev pub FindsFirstBroken : GrowingValue → Move → Option ℕ → Type 0
+FindsFirstBroken m move found =
+    MatchOption found ((p : ℕ) → p < length m.vectors
+    → ¬ IsBrokenAt m.metric m.exact m.bound m.net move (vector_at m.vectors p))
+    (IsFirstBroken m move)

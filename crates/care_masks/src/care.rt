@@ -10,7 +10,7 @@ ghost use Rattle.care_masks.specs.Filled.{FitsOutputs};
 ghost use Rattle.care_masks.specs.Flips.{AreLater};
 
 use crate::differences::used_word;
-use crate::flips::{flip_words, list_later};
+use crate::flips::{TurnedTable, flip_words, list_later};
 use crate::judged_nets::over_bound;
 use lane_nets::word_list::WordList;
 use net_core::items::Items;
@@ -71,19 +71,18 @@ pub(crate) fn exceeding_row(
     Ok(WordList::of(row))
 }
 
-/// Sets `row` to the patterns that are cared for at table `t`; the tables `later` depend on `t`. The values
-/// of each block with the table turned over are computed in `words`.
+/// Sets `row` to the patterns that are cared for at a table. The values of each block with the table turned
+/// over are computed in `words`.
 fn set_care_row(
     net: &Net,
-    t: u32,
-    later: &[u32],
+    turned: &TurnedTable,
     blocks: &[WordList],
     limit: &Limit,
     words: &mut [u64],
     row: &mut [u64],
 )
-    requires table { t < table_count net.now }
-    requires later { AreLater net.now t later.now }
+    requires table { turned.now.table < table_count net.now }
+    requires later { AreLater net.now turned.now.table turned.now.later.now }
     requires few_outputs { length net.now.outputs ≤ MOST_OUTPUTS }
     requires limit { FitsOutputs net.now limit.now.count limit.now.outputs }
     requires same { length blocks.now ≡ length limit.now.outputs }
@@ -93,12 +92,13 @@ fn set_care_row(
     ensures { (exact : NetValue) (vectors : List (List Bool))
         → length vectors ≡ limit.now.count → AreOutputWordsOf exact vectors limit.now.outputs
         → AreBlocksOf net.now vectors blocks.now
-        → IsRowWhere vectors (IsCaredFor limit.now.metric exact limit.now.level net.now t) row.new }
+        → IsRowWhere vectors (IsCaredFor limit.now.metric exact limit.now.level net.now turned.now.table)
+        row.new }
 {
     net.see_sound();
     for k in 0..blocks.len() {
         words.copy_from_slice(blocks[k].as_slice());
-        flip_words(net, t, later, words);
+        flip_words(net, turned, words);
         let exact = limit.outputs.get(k).as_slice();
         let used = used_word(limit.count, k);
         row[k] = over_bound(net, limit.metric, limit.level, words, exact, used);
@@ -136,7 +136,11 @@ pub(crate) fn care_rows(
         let mut row = vec![in alloc; 0; blocks.len()]?;
         net.mark_dependents(t, marks);
         let count = list_later(net, order, t, marks, later);
-        set_care_row(net, t, &later[..count], blocks, limit, words, &mut row);
+        let turned = TurnedTable {
+            table: t,
+            later: &later[..count],
+        };
+        set_care_row(net, &turned, blocks, limit, words, &mut row);
         rows.push(WordList::of(row))?;
     }
     Ok(rows)

@@ -100,7 +100,13 @@ pub(crate) fn first_broken(
         → AreBlocksOf net.now vectors blocks.now
         → IsRowWhere vectors (IsCaredFor metric exact bound net.now (table_of step)) care.now
         → IsRowWhere vectors (Exceeds metric exact bound net.now) exceeds.now
-        → FindsFirstBroken metric exact bound net.now vectors step result }
+        → FindsFirstBroken (record {
+          exact = exact;
+          net = net.now;
+          metric = metric;
+          bound = bound;
+          vectors = vectors;
+        }) step result }
 {
     net.see_sound();
     for k in 0..blocks.len() {

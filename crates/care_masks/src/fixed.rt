@@ -85,10 +85,10 @@ impl FixedMasks {
     /// The masks of `approx` against `exact` at these patterns.
     pub fn new(
         alloc: Global,
-        exact: &Net,
-        approx: &Net,
         metric: Metric,
         bound: u128,
+        exact: &Net,
+        approx: &Net,
         patterns: &Patterns,
     ) -> Result<FixedMasks, AllocError>
         requires ports { HasSamePorts exact.now approx.now }
@@ -140,7 +140,13 @@ impl FixedMasks {
     pub fn breaks(&self, step: Move) -> Option<u64>
         requires { Contains (moves_of self.now.net) step }
         ensures { (metric : Metric) (exact : NetValue) (bound : ℕ) → AreMasksOf metric exact bound self.now
-            → FindsFirstBroken metric exact bound self.now.net self.now.vectors step result }
+            → FindsFirstBroken (record {
+              exact = exact;
+              net = self.now.net;
+              metric = metric;
+              bound = bound;
+              vectors = self.now.vectors;
+            }) step result }
     {
         let care = self.care.get(table_of(step) as usize).as_slice();
         first_broken(

@@ -10,6 +10,13 @@ ghost use Rattle.care_masks.specs.Flips.{HasFlippedValues, AreLater};
 use lane_nets::table_words::table_word;
 use net_core::net::Net;
 
+/// A table that is turned over, and the other tables that depend on it, in an order of evaluation.
+#[derive(Clone, Copy)]
+pub struct TurnedTable<'a> {
+    pub table: u32,
+    pub later: &'a [u32],
+}
+
 /// Whether the word of table `i` is computed again: not for table `t` itself, and else where table `i` is
 /// marked.
 fn is_found_again(i: u32, t: u32, marked: bool) -> bool
@@ -40,17 +47,17 @@ pub fn list_later(net: &Net, order: &[u32], t: u32, marks: &[bool], later: &mut 
     count
 }
 
-/// Turns over the words of table `t`, and computes again those of the tables that depend on it.
-pub fn flip_words(net: &Net, t: u32, later: &[u32], words: &mut [u64])
-    requires table { t < table_count net.now }
+/// Turns over the words of a table, and computes again those of the tables that depend on it.
+pub fn flip_words(net: &Net, turned: &TurnedTable, words: &mut [u64])
+    requires table { turned.now.table < table_count net.now }
+    requires later { AreLater net.now turned.now.table turned.now.later.now }
     requires room { length words.old ≡ signal_count net.now }
-    requires later { AreLater net.now t later.now }
     ensures { (b : ℕ) (x : List Bool) → b < 64 → HasValues net.now words.old b x
-        → HasFlippedValues net.now t words.new b x }
+        → HasFlippedValues net.now turned.now.table words.new b x }
 {
     let inputs = net.inputs() as usize;
-    words[inputs + t as usize] = !words[inputs + t as usize];
-    for i in later {
+    words[inputs + turned.table as usize] = !words[inputs + turned.table as usize];
+    for i in turned.later {
         let word = table_word(net.table(*i), words);
         words[inputs + *i as usize] = word;
     }

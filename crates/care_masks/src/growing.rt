@@ -1,17 +1,15 @@
 //! The masks of an approximate net over a list of patterns that grows.
-ghost use Rattle.std.specs.Prelude.{◌≡◌, ◌↔◌, ◌+◌, ◌*◌, ◌<◌, ◌≤◌, ℕ, List, Bool, true, [], map, take, length};
-ghost use Rattle.std.specs.Prelude.{replicate, IfOk, OnOk, OnErr, Contains};
+ghost use Rattle.std.specs.Prelude.{◌≡◌, ◌<◌, ◌≤◌, List, Bool, [], map, take, length, replicate, IfOk, OnOk};
+ghost use Rattle.std.specs.Prelude.{OnErr, Contains};
 ghost use Rattle.semantics.specs.Net.{input_count};
 ghost use Rattle.chain_semantics.specs.Moves.{moves_of, table_of};
-ghost use Rattle.chain_semantics.specs.Care.{IsBrokenAt};
-ghost use Rattle.lane_nets.specs.Words.{word_bit};
-ghost use Rattle.lane_nets.specs.Blocks.{vector_at};
-ghost use Rattle.care_masks.specs.Masks.{FindsFirstBroken};
+ghost use Rattle.care_masks.specs.Masks.{IsBrokenWord, FindsFirstBroken};
 ghost use Rattle.care_masks.specs.Growing.{IsFrontOf, AreBlocksFor, FitBlocks, AreCareWords, FitsRoom};
+ghost use Rattle.care_masks.specs.Growing.{judged_over};
 
 use crate::differences::broken_word;
 use crate::dropped::block_difference;
-use crate::growing_blocks::{Block, Room, add_blocks, reach_care_words};
+use crate::growing_blocks::{Block, JudgedBlocks, Room, add_blocks, reach_care_words};
 use crate::judged_nets::Judged;
 use chain_semantics::moves::Move;
 use lane_bits::kernels::first_set;
@@ -55,73 +53,65 @@ impl<'a> Model for GrowingMasks<'a> {
 /// The lanes where the move breaks the bound, in block k. The words of the patterns that are cared for at its
 /// table are computed when they are asked for.
 fn reach_broken_word(
-    judged: &Judged,
+    known: &JudgedBlocks,
     step: Move,
-    count: u64,
-    blocks: &[Block],
     k: usize,
     room: &mut Room,
     row: &mut WordList,
 ) -> Result<u64, AllocError>
-    requires step { Contains (moves_of judged.now.nets.approx) step }
-    requires fit { FitBlocks judged.now count blocks.now }
-    requires within { k < length blocks.now }
-    requires few { length row.old ≤ length blocks.now }
-    requires room { FitsRoom judged.now room.old }
-    ensures broken { IfOk result
-        (λ word. (vectors : List (List Bool)) → length vectors ≡ count
-        → AreBlocksFor judged.now vectors blocks.now
-        → AreCareWords judged.now vectors (table_of step) row.old → (b : ℕ) → b < 64
-        → (word_bit word b ≡ true) ↔ ((64 * k + b < length vectors)
-        × IsBrokenAt judged.now.metric judged.now.nets.exact judged.now.bound judged.now.nets.approx step
-        (vector_at vectors (64 * k + b)))) }
-    ensures cared { (vectors : List (List Bool)) → length vectors ≡ count
-        → AreBlocksFor judged.now vectors blocks.now
-        → AreCareWords judged.now vectors (table_of step) row.old
-        → AreCareWords judged.now vectors (table_of step) row.new }
-    ensures few { length row.new ≤ length blocks.now }
-    ensures room { FitsRoom judged.now room.new }
+    requires step { Contains (moves_of known.now.judged.now.nets.approx) step }
+    requires fit { FitBlocks known.now.judged.now known.now.count known.now.blocks.now }
+    requires within { k < length known.now.blocks.now }
+    requires few { length row.old ≤ length known.now.blocks.now }
+    requires room { FitsRoom known.now.judged.now room.old }
+    ensures broken { IfOk result (λ word. (vectors : List (List Bool)) → length vectors ≡ known.now.count
+        → AreBlocksFor known.now.judged.now vectors known.now.blocks.now
+        → AreCareWords known.now.judged.now vectors (table_of step) row.old
+        → IsBrokenWord (judged_over known.now.judged.now vectors) step k word) }
+    ensures cared { (vectors : List (List Bool)) → length vectors ≡ known.now.count
+        → AreBlocksFor known.now.judged.now vectors known.now.blocks.now
+        → AreCareWords known.now.judged.now vectors (table_of step) row.old
+        → AreCareWords known.now.judged.now vectors (table_of step) row.new }
+    ensures few { length row.new ≤ length known.now.blocks.now }
+    ensures room { FitsRoom known.now.judged.now room.new }
 {
+    let blocks = known.blocks;
     let block = &blocks[k];
     let words = block.words.as_slice();
     let overlaps = block.overlaps.as_slice();
-    let differs = block_difference(judged.nets.approx(), step, words, overlaps);
+    let differs = block_difference(known.judged.nets.approx(), step, words, overlaps);
     let exceeds = block.exceeds;
     if differs == 0 {
         return Ok(exceeds);
     }
-    reach_care_words(judged, table_of(step), count, blocks, k + 1, room, row)?;
+    reach_care_words(known, table_of(step), k + 1, room, row)?;
     Ok(broken_word(differs, row.as_slice()[k], exceeds))
 }
 
 /// The first pattern at which the moved net exceeds the bound.
 fn first_broken(
-    judged: &Judged,
+    known: &JudgedBlocks,
     step: Move,
-    count: u64,
-    blocks: &[Block],
     room: &mut Room,
     row: &mut WordList,
 ) -> Result<Option<u64>, AllocError>
-    requires step { Contains (moves_of judged.now.nets.approx) step }
-    requires fit { FitBlocks judged.now count blocks.now }
-    requires few { length row.old ≤ length blocks.now }
-    requires room { FitsRoom judged.now room.old }
-    ensures broken { IfOk result
-        (λ found. (vectors : List (List Bool)) → length vectors ≡ count
-        → AreBlocksFor judged.now vectors blocks.now
-        → AreCareWords judged.now vectors (table_of step) row.old
-        → FindsFirstBroken judged.now.metric judged.now.nets.exact judged.now.bound judged.now.nets.approx
-        vectors step found) }
-    ensures cared { (vectors : List (List Bool)) → length vectors ≡ count
-        → AreBlocksFor judged.now vectors blocks.now
-        → AreCareWords judged.now vectors (table_of step) row.old
-        → AreCareWords judged.now vectors (table_of step) row.new }
-    ensures few { length row.new ≤ length blocks.now }
-    ensures room { FitsRoom judged.now room.new }
+    requires step { Contains (moves_of known.now.judged.now.nets.approx) step }
+    requires fit { FitBlocks known.now.judged.now known.now.count known.now.blocks.now }
+    requires few { length row.old ≤ length known.now.blocks.now }
+    requires room { FitsRoom known.now.judged.now room.old }
+    ensures broken { IfOk result (λ found. (vectors : List (List Bool)) → length vectors ≡ known.now.count
+        → AreBlocksFor known.now.judged.now vectors known.now.blocks.now
+        → AreCareWords known.now.judged.now vectors (table_of step) row.old
+        → FindsFirstBroken (judged_over known.now.judged.now vectors) step found) }
+    ensures cared { (vectors : List (List Bool)) → length vectors ≡ known.now.count
+        → AreBlocksFor known.now.judged.now vectors known.now.blocks.now
+        → AreCareWords known.now.judged.now vectors (table_of step) row.old
+        → AreCareWords known.now.judged.now vectors (table_of step) row.new }
+    ensures few { length row.new ≤ length known.now.blocks.now }
+    ensures room { FitsRoom known.now.judged.now room.new }
 {
-    for k in 0..blocks.len() {
-        let broken = reach_broken_word(judged, step, count, blocks, k, room, row)?;
+    for k in 0..known.blocks.len() {
+        let broken = reach_broken_word(known, step, k, room, row)?;
         if let Some(b) = first_set(&[broken], 64) {
             return Ok(Some(64 * k as u64 + b));
         }
@@ -224,17 +214,18 @@ impl<'a> GrowingMasks<'a> {
     /// its table takes memory for them.
     pub fn breaks(&mut self, step: Move) -> Result<Option<u64>, AllocError>
         requires { Contains (moves_of self.old.net) step }
-        ensures broken { IfOk result
-            (FindsFirstBroken self.old.metric self.old.exact self.old.bound self.old.net self.old.vectors
-            step) }
+        ensures broken { IfOk result (FindsFirstBroken self.old step) }
         ensures same { self.new ≡ self.old }
     {
         self.judged.nets.approx().see_sound();
+        let known = JudgedBlocks {
+            judged: &self.judged,
+            count: self.count,
+            blocks: self.blocks.as_slice(),
+        };
         first_broken(
-            &self.judged,
+            &known,
             step,
-            self.count,
-            self.blocks.as_slice(),
             &mut self.room,
             &mut self.care[table_of(step) as usize],
         )

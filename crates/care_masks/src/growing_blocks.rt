@@ -7,7 +7,7 @@ ghost use Rattle.care_masks.specs.Flips.{AreLater};
 ghost use Rattle.care_masks.specs.Growing.{IsBlockOf, AreBlocksFor, FitBlocks, AreCareWords, FitsRoom};
 
 use crate::differences::used_word;
-use crate::flips::{flip_words, list_later};
+use crate::flips::{TurnedTable, flip_words, list_later};
 use crate::judged_nets::{Judged, over_bound};
 use crate::overlaps::overlap_words;
 use lane_bits::kernels::word_count;
@@ -25,6 +25,14 @@ pub(crate) struct Block {
     pub(crate) outputs: WordList,
     pub(crate) exceeds: u64,
     pub(crate) overlaps: WordList,
+}
+
+/// Two nets that are judged, and their blocks of `count` patterns.
+#[derive(Clone, Copy)]
+pub(crate) struct JudgedBlocks<'a> {
+    pub(crate) judged: &'a Judged<'a>,
+    pub(crate) count: u64,
+    pub(crate) blocks: &'a [Block],
 }
 
 /// Room to turn a table over: a mark and a word for each signal.
@@ -86,83 +94,76 @@ pub(crate) fn add_blocks(
     Ok(())
 }
 
-/// Adds to `row` the words of the patterns that are cared for at table `t`, on which the tables `later`
-/// depend, up to `blocks` blocks. The values of each block with the table turned over are computed in
-/// `words`.
+/// Adds to `row` the words of the patterns that are cared for at a table, up to `to` blocks. The values of
+/// each block with the table turned over are computed in `words`.
 fn add_care_words(
-    judged: &Judged,
-    t: u32,
-    later: &[u32],
-    count: u64,
-    blocks: &[Block],
+    known: &JudgedBlocks,
+    turned: &TurnedTable,
     to: usize,
     words: &mut [u64],
     row: &mut WordList,
 ) -> Result<(), AllocError>
-    requires table { t < table_count judged.now.nets.approx }
-    requires later { AreLater judged.now.nets.approx t later.now }
-    requires fit { FitBlocks judged.now count blocks.now }
-    requires within { to ≤ length blocks.now }
+    requires table { turned.now.table < table_count known.now.judged.now.nets.approx }
+    requires later { AreLater known.now.judged.now.nets.approx turned.now.table turned.now.later.now }
+    requires fit { FitBlocks known.now.judged.now known.now.count known.now.blocks.now }
+    requires within { to ≤ length known.now.blocks.now }
     requires row { length row.old ≤ to }
-    requires words { length words.old ≡ signal_count judged.now.nets.approx }
-    ensures cared { (vectors : List (List Bool)) → length vectors ≡ count
-        → AreBlocksFor judged.now vectors blocks.now
-        → AreCareWords judged.now vectors t row.old → AreCareWords judged.now vectors t row.new }
+    requires words { length words.old ≡ signal_count known.now.judged.now.nets.approx }
+    ensures cared { (vectors : List (List Bool)) → length vectors ≡ known.now.count
+        → AreBlocksFor known.now.judged.now vectors known.now.blocks.now
+        → AreCareWords known.now.judged.now vectors turned.now.table row.old
+        → AreCareWords known.now.judged.now vectors turned.now.table row.new }
     ensures few { length row.new ≤ to }
     ensures ok { OnOk result (to ≤ length row.new) }
 {
+    let judged = known.judged;
+    let blocks = known.blocks;
     let net = judged.nets.approx();
     net.see_sound();
     for k in row.len()..to {
         words.copy_from_slice(blocks[k].words.as_slice());
-        flip_words(net, t, later, words);
+        flip_words(net, turned, words);
         let outputs = blocks[k].outputs.as_slice();
-        let used = used_word(count, k);
+        let used = used_word(known.count, k);
         let cared = over_bound(net, judged.metric, judged.bound, words, outputs, used);
         row.push(cared)?;
     }
     Ok(())
 }
 
-/// Lets `row` have the words of the patterns that are cared for at table `t` for at least `blocks` blocks.
+/// Lets `row` have the words of the patterns that are cared for at table `t` for at least `to` blocks.
 pub(crate) fn reach_care_words(
-    judged: &Judged,
+    known: &JudgedBlocks,
     t: u32,
-    count: u64,
-    blocks: &[Block],
     to: usize,
     room: &mut Room,
     row: &mut WordList,
 ) -> Result<(), AllocError>
-    requires table { t < table_count judged.now.nets.approx }
-    requires fit { FitBlocks judged.now count blocks.now }
-    requires within { to ≤ length blocks.now }
-    requires few { length row.old ≤ length blocks.now }
-    requires room { FitsRoom judged.now room.old }
-    ensures cared { (vectors : List (List Bool)) → length vectors ≡ count
-        → AreBlocksFor judged.now vectors blocks.now
-        → AreCareWords judged.now vectors t row.old → AreCareWords judged.now vectors t row.new }
-    ensures few { length row.new ≤ length blocks.now }
+    requires table { t < table_count known.now.judged.now.nets.approx }
+    requires fit { FitBlocks known.now.judged.now known.now.count known.now.blocks.now }
+    requires within { to ≤ length known.now.blocks.now }
+    requires few { length row.old ≤ length known.now.blocks.now }
+    requires room { FitsRoom known.now.judged.now room.old }
+    ensures cared { (vectors : List (List Bool)) → length vectors ≡ known.now.count
+        → AreBlocksFor known.now.judged.now vectors known.now.blocks.now
+        → AreCareWords known.now.judged.now vectors t row.old
+        → AreCareWords known.now.judged.now vectors t row.new }
+    ensures few { length row.new ≤ length known.now.blocks.now }
     ensures ok { OnOk result (to ≤ length row.new) }
-    ensures room { FitsRoom judged.now room.new }
+    ensures room { FitsRoom known.now.judged.now room.new }
 {
     if to <= row.len() {
         return Ok(());
     }
-    let net = judged.nets.approx();
+    let net = known.judged.nets.approx();
     let order = net.order();
     let mut tables = vec![in *room.words.allocator(); 0; order.len()]?;
     let later = tables.as_mut_slice();
     net.mark_dependents(t, &mut room.marks);
     let found = list_later(net, order, t, &room.marks, later);
-    add_care_words(
-        judged,
-        t,
-        &later[..found],
-        count,
-        blocks,
-        to,
-        &mut room.words,
-        row,
-    )
+    let turned = TurnedTable {
+        table: t,
+        later: &later[..found],
+    };
+    add_care_words(known, &turned, to, &mut room.words, row)
 }

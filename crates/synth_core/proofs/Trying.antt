@@ -30,13 +30,13 @@ use Rattle.synth_core.proofs.Pools.{vector_at}
 
 module _ (m : GrowingValue) (move : Move) where
   -- a pattern that breaks the move was found
-  pub found_broken : (found : Option ℕ) (p : ℕ) → found ≡ Some p → FindsFirstBroken m.metric m.exact m.bound m.net m.vectors move found
+  pub found_broken : (found : Option ℕ) (p : ℕ) → found ≡ Some p → FindsFirstBroken m move found
       → IsBrokenBySome m.metric m.exact m.bound m.net m.vectors move
   found_broken None p is h = absurd (cc (is))
   found_broken (Some q) p is h = (slice_index_or m.vectors q [], Contains-get_or m.vectors q [] h.within, h.broken)
 
   -- none was found
-  pub found_none : (found : Option ℕ) → found ≡ None → FindsFirstBroken m.metric m.exact m.bound m.net m.vectors move found → Contains (moves_of m.net) move → IsCandidateMove m move
+  pub found_none : (found : Option ℕ) → found ≡ None → FindsFirstBroken m move found → Contains (moves_of m.net) move → IsCandidateMove m move
   found_none None is h offered = record {
     offered = offered;
     unbroken = λ x there.

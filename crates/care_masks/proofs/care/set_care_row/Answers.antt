@@ -12,7 +12,7 @@ loop-k-preserved c =
     let exact : c.as_slice-exact.result.now ≡ row_at c.args.limit.now.outputs c.loop-k.k =
     c.as_slice-exact.ensures ∙ c.get.ensures ∙ get_or_default c.args.limit.now.outputs c.loop-k.k c.get.result.now [] (omega (arith, c.requires.same, c.loop-k-test.true)) in
     cared_more c.args.limit.now.metric c.args.net.now c.args.limit.now.level c.args.limit.now.count c.args.limit.now.outputs c.args.blocks.now c.see_sound.ensures.sound c.requires.same
-    c.args.t c.loop-k.row c.copy_from_slice.new.self c.flip_words.new.words c.loop-k.k c.over_bound.result c.loop-k-test.true
+    c.args.turned.now.table c.loop-k.row c.copy_from_slice.new.self c.flip_words.new.words c.loop-k.k c.over_bound.result c.loop-k-test.true
     (omega (arith, c.requires.row, c.loop-k.auto.row, c.loop-k-test.true)) old c.flip_words.ensures
     (tells_over c.args.limit.now.metric c.args.net.now c.args.limit.now.level c.args.limit.now.count c.loop-k.k c.args.limit.now.outputs c.flip_words.new.words c.as_slice-exact.result.now
     c.over_bound.result c.used_word-used.result exact c.over_bound.ensures c.used_word-used.ensures) c.loop-k.invariant
@@ -20,5 +20,5 @@ loop-k-preserved c =
 pub returns : goal.returns
 returns c =
     row_all c.args.net.now c.args.limit.now.count c.args.limit.now.outputs c.args.blocks.now
-    (λ exact. IsCaredFor c.args.limit.now.metric exact c.args.limit.now.level c.args.net.now c.args.t) c.loop-k.row
+    (λ exact. IsCaredFor c.args.limit.now.metric exact c.args.limit.now.level c.args.net.now c.args.turned.now.table) c.loop-k.row
     c.loop-k.k (c.loop-k.auto.row ∙ c.requires.row) c.loop-k-test.false c.loop-k.invariant

@@ -7,7 +7,7 @@ returns-in_err-broken-clause-cared c = λ vectors long are before. c.reach_broke
 
 pub returns-in-Some-clause-broken : goal.returns-in-Some-clause-broken
 returns-in-Some-clause-broken c =
-    let j = c.args.judged.now in
+    let j = c.args.known.now.judged.now in
     λ vectors long are before.
     broken_first j.metric j.nets.exact j.nets.approx j.bound c.args.step vectors c.loop-k.k c.in_ok-broken.broken c.in-Some.b _ refl
     (c.in_ok-broken.ensures.broken vectors long are (c.loop-k.invariant.cared vectors long are before)) c.in-Some.ensures (c.loop-k.invariant.none vectors long are before)
@@ -17,7 +17,7 @@ returns-in-Some-clause-cared c = λ vectors long are before. c.reach_broken_word
 
 pub loop-k-preserved : goal.loop-k-preserved
 loop-k-preserved c =
-    let j = c.args.judged.now in
+    let j = c.args.known.now.judged.now in
     record {
       few = c.reach_broken_word.ensures.few;
       room = c.reach_broken_word.ensures.room;

@@ -7,10 +7,11 @@ use Rattle.care_masks.proofs.growing.first_broken.Given as goal
 
 abbrev pub invariant-loop-k : goal.invariant-loop-k
 invariant-loop-k l = record {
-  few : length l.row ≤ length l.blocks;
-  room : FitsRoom l.judged l.room;
-  cared : (vectors : List (List Bool)) → length vectors ≡ l.count → AreBlocksFor l.judged vectors l.blocks → AreCareWords l.judged vectors (table_of l.step) l.fn.row
-      → AreCareWords l.judged vectors (table_of l.step) l.row;
-  none : (vectors : List (List Bool)) → length vectors ≡ l.count → AreBlocksFor l.judged vectors l.blocks → AreCareWords l.judged vectors (table_of l.step) l.fn.row
-      → (p : ℕ) → p < 64 * l.k → p < length vectors → ¬ IsBrokenAt l.judged.metric l.judged.nets.exact l.judged.bound l.judged.nets.approx l.step (vector_at vectors p);
+  few : length l.row ≤ length l.known.blocks.now;
+  room : FitsRoom l.known.judged.now l.room;
+  cared : (vectors : List (List Bool)) → length vectors ≡ l.known.count → AreBlocksFor l.known.judged.now vectors l.known.blocks.now → AreCareWords l.known.judged.now vectors (table_of l.step) l.fn.row
+      → AreCareWords l.known.judged.now vectors (table_of l.step) l.row;
+  none : (vectors : List (List Bool)) → length vectors ≡ l.known.count → AreBlocksFor l.known.judged.now vectors l.known.blocks.now → AreCareWords l.known.judged.now vectors (table_of l.step) l.fn.row
+      → (p : ℕ) → p < 64 * l.k → p < length vectors → ¬ IsBrokenAt l.known.judged.now.metric l.known.judged.now.nets.exact l.known.judged.now.bound l.known.judged.now.nets.approx l.step (vector_at
+      vectors p);
 }

@@ -15,7 +15,7 @@ use Rattle.care_masks.proofs.growing.reach_broken_word.Goals as goal
 
 pub returns-then-differs-eq0-clause-broken : goal.returns-then-differs-eq0-clause-broken
 returns-then-differs-eq0-clause-broken c =
-    let j = c.args.judged.now in
+    let j = c.args.known.now.judged.now in
     let sound : IsSound j.nets.approx = subst IsSound c.approx.ensures.value c.block_difference-differs.ensures.built.sound in
     let is : IsMoveOf j.nets.approx c.args.step = move_is j.nets.approx sound.acyclic c.args.step c.requires.step in
     λ vectors long are care.
@@ -33,19 +33,19 @@ returns-then-differs-eq0-clause-broken c =
 
 pub reach_care_words-requires-clause-table : goal.reach_care_words-requires-clause-table
 reach_care_words-requires-clause-table c =
-    let j = c.args.judged.now in
+    let j = c.args.known.now.judged.now in
     let sound : IsSound j.nets.approx = subst IsSound c.approx.ensures.value c.block_difference-differs.ensures.built.sound in
     let is : IsMoveOf j.nets.approx c.args.step = move_is j.nets.approx sound.acyclic c.args.step c.requires.step in
     omega (arith, c.table_of.ensures, move-within j.nets.approx c.args.step is)
 
 pub returns-in_err-reach_care_words-clause-cared : goal.returns-in_err-reach_care_words-clause-cared
 returns-in_err-reach_care_words-clause-cared c = λ vectors long are before.
-    subst (λ t. AreCareWords c.args.judged.now vectors t c.reach_care_words.new.row) c.table_of.ensures
-    (c.reach_care_words.ensures.cared vectors long are (subst (λ t. AreCareWords c.args.judged.now vectors t c.args.row.now) (sym c.table_of.ensures) before))
+    subst (λ t. AreCareWords c.args.known.now.judged.now vectors t c.reach_care_words.new.row) c.table_of.ensures
+    (c.reach_care_words.ensures.cared vectors long are (subst (λ t. AreCareWords c.args.known.now.judged.now vectors t c.args.row.now) (sym c.table_of.ensures) before))
 
 pub returns-clause-broken : goal.returns-clause-broken
 returns-clause-broken c =
-    let j = c.args.judged.now in
+    let j = c.args.known.now.judged.now in
     let sound : IsSound j.nets.approx = subst IsSound c.approx.ensures.value c.block_difference-differs.ensures.built.sound in
     let is : IsMoveOf j.nets.approx c.args.step = move_is j.nets.approx sound.acyclic c.args.step c.requires.step in
     λ vectors long are before.
@@ -56,8 +56,8 @@ returns-clause-broken c =
     c.block_difference-differs.ensures.bits
     (overlaps_read j.nets.approx _ c.as_slice-words.result.now _ c.as_slice-overlaps.result.now c.as_slice-words.ensures c.as_slice-overlaps.ensures
     block.overlaps) in
-    let row = subst (λ t. AreCareWords c.args.judged.now vectors t c.reach_care_words.new.row) c.table_of.ensures
-    (c.reach_care_words.ensures.cared vectors long are (subst (λ t. AreCareWords c.args.judged.now vectors t c.args.row.now) (sym c.table_of.ensures) before)) in
+    let row = subst (λ t. AreCareWords c.args.known.now.judged.now vectors t c.reach_care_words.new.row) c.table_of.ensures
+    (c.reach_care_words.ensures.cared vectors long are (subst (λ t. AreCareWords c.args.known.now.judged.now vectors t c.args.row.now) (sym c.table_of.ensures) before)) in
     let care : IsWordWhere vectors (IsCaredFor j.metric j.nets.exact j.bound j.nets.approx (table_of c.args.step)) c.args.k (get_or c.as_slice.result.now c.args.k 0) =
     subst (λ (r : List ℕ). IsWordWhere vectors (IsCaredFor j.metric j.nets.exact j.bound j.nets.approx (table_of c.args.step)) c.args.k (get_or r c.args.k 0)) (sym c.as_slice.ensures)
     (row c.args.k (omega (arith, c.in_ok-reach_care_words.ensures.ok))) in
@@ -69,5 +69,5 @@ returns-clause-broken c =
 
 pub returns-clause-cared : goal.returns-clause-cared
 returns-clause-cared c = λ vectors long are before.
-    subst (λ t. AreCareWords c.args.judged.now vectors t c.reach_care_words.new.row) c.table_of.ensures
-    (c.reach_care_words.ensures.cared vectors long are (subst (λ t. AreCareWords c.args.judged.now vectors t c.args.row.now) (sym c.table_of.ensures) before))
+    subst (λ t. AreCareWords c.args.known.now.judged.now vectors t c.reach_care_words.new.row) c.table_of.ensures
+    (c.reach_care_words.ensures.cared vectors long are (subst (λ t. AreCareWords c.args.known.now.judged.now vectors t c.args.row.now) (sym c.table_of.ensures) before))

@@ -17,7 +17,7 @@ pub loop-candidate-preserved : goal.loop-candidate-preserved
 loop-candidate-preserved g c =
     let m : GrowingValue = c.args.masks.now in
     let found =
-    subst (λ (k : GrowingValue). FindsFirstBroken k.metric k.exact k.bound k.net k.vectors c.in-Some.candidate c.in_ok-breaks.field-0) c.loop-candidate.invariant.masks
+    subst (λ (k : GrowingValue). FindsFirstBroken k c.in-Some.candidate c.in_ok-breaks.field-0) c.loop-candidate.invariant.masks
     c.in_ok-breaks.ensures.broken
     in
     record {
@@ -32,7 +32,7 @@ pub returns-in_default-2-clause-next : goal.returns-in_default-2-clause-next
 returns-in_default-2-clause-next g c =
     let m : GrowingValue = c.args.masks.now in
     let found =
-    subst (λ (k : GrowingValue). FindsFirstBroken k.metric k.exact k.bound k.net k.vectors c.in-Some.candidate c.in_ok-breaks.field-0) c.loop-candidate.invariant.masks
+    subst (λ (k : GrowingValue). FindsFirstBroken k c.in-Some.candidate c.in_ok-breaks.field-0) c.loop-candidate.invariant.masks
     c.in_ok-breaks.ensures.broken
     in
     record {

@@ -51,7 +51,7 @@ returns c =
     let vectors = vectors_in (input_count c.self.inside.net) c.self.inside.count c.self.inside.blocks in
     λ metric exact bound masks.
     let inside = subst (AreMasksOf metric exact bound) (sym c.self.view_is) masks in
-    subst (λ (m : Masks). FindsFirstBroken metric exact bound m.net m.vectors c.args.step c.first_broken.result) c.self.view_is
+    subst (λ (m : Masks). FindsFirstBroken (record { exact = exact; net = m.net; metric = metric; bound = bound; vectors = m.vectors }) c.args.step c.first_broken.result) c.self.view_is
     (c.first_broken.ensures metric exact bound vectors (subst (AreBlocksOf c.self.inside.net vectors) (sym c.as_slice.ensures) c.self.invariant.blocks)
     (subst (IsRowWhere vectors (IsCaredFor metric exact bound c.self.inside.net (table_of c.args.step))) (sym row) (inside.care (table_of c.args.step) within))
     (subst (IsRowWhere vectors (Exceeds metric exact bound c.self.inside.net)) (sym c.as_slice-2.ensures) inside.exceeds))

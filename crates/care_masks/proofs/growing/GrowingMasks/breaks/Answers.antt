@@ -66,8 +66,8 @@ returns-clause-broken c =
     let before : AreCareWords c.self.inside.judged vectors (table_of c.args.step) c.index_mut.result.now =
     subst (λ t. AreCareWords c.self.inside.judged vectors t c.index_mut.result.now) c.table_of.ensures
     (subst (AreCareWords c.self.inside.judged vectors c.table_of.result) (sym row) (c.self.invariant.care c.table_of.result within)) in
-    IfOk-weaker c.first_broken.result _ (FindsFirstBroken c.args.self.now.metric c.args.self.now.exact c.args.self.now.bound c.args.self.now.net c.args.self.now.vectors c.args.step)
-    (λ found h. subst (λ (m : GrowingValue). FindsFirstBroken m.metric m.exact m.bound m.net m.vectors c.args.step found) c.self.view_is
+    IfOk-weaker c.first_broken.result _ (FindsFirstBroken c.args.self.now c.args.step)
+    (λ found h. subst (λ (m : GrowingValue). FindsFirstBroken m c.args.step found) c.self.view_is
     (h vectors (vectors-count N c.self.inside.count (map (λ (b : Block). b.words) c.self.inside.blocks.items))
     (subst (AreBlocksFor c.self.inside.judged vectors) (sym c.as_slice.ensures.value) c.self.invariant.blocks) before))
     c.first_broken.ensures.broken
