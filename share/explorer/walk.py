@@ -1,5 +1,5 @@
 """A walk among circuits that keep the bound at all vectors: step by step a literal, or a few new ANDs of literals, take the
-place of a node. At a vector where the outputs stay within the bound whatever the node is, they may have any value. Most steps
+place of a node, or another literal that of an output. At a vector where the outputs stay within the bound whatever the node is, they may have any value. Most steps
 leave as many ANDs as before, and some one more; by these the walk leaves the places at which nothing single can be taken away.
 
 A step is looked for at a few vectors. Where all vectors show that it breaks the bound, one at which it does joins the few.
@@ -98,32 +98,15 @@ class Walk:
         first = self.circuit.next
         over = [(it, value & off) for it, value in literals if not on & ~value]
         under = [(it, on & ~value) for it, value in literals if not value & off]
-        for literal, rest in over:
-            if not rest:
-                yield literal, {}
-        for turned, terms in ((0, over), (1, under)):
-            for one, other in disjoint(terms[:PAIRED]):
-                yield 2 * first + turned, {first: (one ^ turned, other ^ turned)}
         staying = [it for it in literals if it[0] >> 1 not in going]
-        wholes = [it for it in over if it[0] >> 1 not in going]
-        for whole, rest in wholes[:FIRSTS] if most >= 2 else ():
-            terms = [(it, on & ~value) for it, value in staying if not value & rest and on & value]
-            for one, other in disjoint(terms[:JOINED]):
-                yield 2 * first + 2, {first: (one ^ 1, other ^ 1), first + 1: (whole, 2 * first + 1)}
+        yield from ((literal, {}) for literal, rest in over if not rest)
+        yield from joined(first, over[:PAIRED], 0)
+        yield from joined(first, under[:PAIRED], 1)
+        if most >= 2:
+            wholes = [it for it in over if it[0] >> 1 not in going]
+            yield from nested(first, on, wholes[:FIRSTS], staying)
         if most >= 3:
-            yield from self.differing(on, on | off, staying)
-
-    def differing(self, on, care, literals):
-        """Two literals that differ just where the node has to be true."""
-        first = self.circuit.next
-        terms = [(it, (value ^ on) & care) for it, value in literals if not it & 1][:DIFFERING]
-        for at, (one, left) in enumerate(terms):
-            for other, right in terms[:at]:
-                apart = left ^ right ^ on
-                if not apart or apart == care:
-                    other ^= bool(apart)
-                    yield 2 * first + 4, {first: (one, other), first + 1: (one ^ 1, other ^ 1),
-                                          first + 2: (2 * first + 1, 2 * first + 3)}
+            yield from differing(first, on, on | off, [it for it in staying if not it[0] & 1][:DIFFERING])
 
     def is_taken(self, node, literal, added, most):
         """Whether the circuit is changed so, where it has no more ANDs than that then, or the few vectors have become more."""
@@ -162,3 +145,29 @@ def disjoint(terms):
         for other, right in terms[:at]:
             if not left & right:
                 yield one, other
+
+
+def joined(first, terms, turned):
+    """An AND of two literals, or an OR of them."""
+    for one, other in disjoint(terms):
+        yield 2 * first + turned, {first: (one ^ turned, other ^ turned)}
+
+
+def nested(first, on, wholes, literals):
+    """An AND of a literal and an OR of two."""
+    for whole, rest in wholes:
+        terms = [(it, on & ~value) for it, value in literals if not value & rest and on & value]
+        for one, other in disjoint(terms[:JOINED]):
+            yield 2 * first + 2, {first: (one ^ 1, other ^ 1), first + 1: (whole, 2 * first + 1)}
+
+
+def differing(first, on, care, literals):
+    """Two literals that differ just where the node has to be true, or just where it has to be false."""
+    terms = [(it, (value ^ on) & care) for it, value in literals]
+    for at, (one, left) in enumerate(terms):
+        for other, right in terms[:at]:
+            apart = left ^ right ^ on
+            if not apart or apart == care:
+                other ^= bool(apart)
+                yield 2 * first + 4, {first: (one, other), first + 1: (one ^ 1, other ^ 1),
+                                      first + 2: (2 * first + 1, 2 * first + 3)}
