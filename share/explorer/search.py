@@ -40,7 +40,6 @@ class Search:
         self.tries, self.done, self.told = [], set(), set()
         self.planned = 0
         self.rewritings = [*trial.OWN, *(mapper.REWRITINGS if options.abc else ())]
-        self.walks = WALKS if options.inputs <= walk.MOST_INPUTS else 0
         self.is_stopped = False
         self.end = self.asked = self.awaited = None
 
@@ -62,7 +61,7 @@ class Search:
     def walked(self, bound, parent, turn):
         """Tries of walks from what an earlier try is built as."""
         first, net = self.options.seed + WALKS * turn, parent.answer["nets"]["built"]
-        return [self.recipe(bound, net, "%s%d" % (walk.NAME, it), self.order(it)) for it in range(first, first + self.walks)]
+        return [self.recipe(bound, net, "%s%d" % (walk.NAME, it), self.order(it)) for it in range(first, first + WALKS)]
 
     def order(self, turn):
         """An order that changes from turn to turn."""
@@ -95,9 +94,11 @@ class Search:
         first = [(it, None) for it in self.fresh(bound, 1)]
         built = [it for it in self.tries if not it.is_refined and not it.answer["number"]]
         walks = [(it, one) for one in built[:1] for turn in (0, 1) for it in self.walked(bound, one, turn)]
-        # The first try is that of `synth`, which is waited for.
+        # The first try is that of `synth`, which is waited for. Walks take longer where the program has to judge them.
         self.awaited = key_of(first[0][0])
-        self.round(1, first[:1] + walks + self.onward(bound, below, 0) + first[1:], until=self.part_end(FIRST))
+        further = self.onward(bound, below, 0) + first[1:]
+        further = walks + further if self.options.inputs <= walk.MOST_INPUTS else further + walks
+        self.round(1, first[:1] + further, until=self.part_end(FIRST))
         self.awaited = None
         for rung in self.rungs(bound, smaller):
             self.round(1, [(it, None) for it in self.fresh(rung, 0)[:2 * len(self.rewritings)]], until=self.part_end(WAY))

@@ -93,7 +93,7 @@ class Trial:
         if rewriting == "as it is":
             return parent
         if is_walk(rewriting):
-            by = [self.setting["metric"], bound, self.setting["exact"]]
+            by = [self.setting[it] for it in ("metric", "exact", "conflicts", "program_bytes")] + [bound]
         elif rewriting in OWN:
             by = self.setting["program_bytes"] if rewriting == "ANDs" else ""
         else:
@@ -111,7 +111,8 @@ class Trial:
             for name, text in (("in.blif", self.exact), ("start.blif", data)):
                 with open(os.path.join(folder, name), "wb") as file:
                     file.write(text)
-            words = ["--walk", self.setting["metric"], bound, seed, "in.blif", "start.blif", "out.blif"]
+            words = ["--walk", self.setting["metric"], bound, seed, self.setting["program"], self.setting["conflicts"],
+                     "in.blif", "start.blif", "out.blif"]
             number, _, told, _ = self.children.run([sys.executable, TOOL, *words], folder)
             if number:
                 raise Answered(FAILED, "salsa: the walk failed: %s" % (told.strip() or "no line").split("\n")[-1])

@@ -1,8 +1,11 @@
-"""A walk among circuits that keep the bound at all vectors: step by step a literal, or a few new ANDs of literals, take the
-place of a node, or another literal that of an output. At a vector where the outputs stay within the bound whatever the node is, they may have any value. Most steps
-leave as many ANDs as before, and some one more; by these the walk leaves the places at which nothing single can be taken away.
+"""A walk among circuits that keep the bound: step by step a literal, or a few new ANDs of literals, take the place of a node,
+or another literal that of an output. At a vector where the outputs stay within the bound whatever the node is, they may have
+any value. Most steps leave as many ANDs as before, and some one more; by these the walk leaves the places at which nothing
+single can be taken away.
 
-A step is looked for at a few vectors. Where all vectors show that it breaks the bound, one at which it does joins the few.
+A step is looked for at a few vectors. Where all vectors show that it breaks the bound, one at which it does joins the few. Of
+many inputs not all vectors are looked at: a judge is asked now and then, and where it tells a vector at which the bound is
+broken, this one and those next to it join the few, and the walk goes on from what was judged right before.
 """
 import random
 
@@ -10,8 +13,9 @@ from explorer import circuit, errors
 
 # How a walk is named, before its seed.
 NAME = "walk "
-# Of how many inputs all vectors are looked at; netlists of more are not walked from. How many the few are at first.
-MOST_INPUTS, FEW = 20, 512
+# Of how many inputs all vectors are looked at. How many the few are at first, and how many where a judge is asked, and behind
+# how many steps it is.
+MOST_INPUTS, FEW, SAMPLED, JUDGED = 20, 512, 4096, 100
 # How many literals are joined in pairs, and how many take part where three are joined.
 PAIRED, FIRSTS, JOINED, DIFFERING = 60, 8, 30, 40
 # A circuit has at most so many ANDs more than the best so far, and a step that adds one is looked for so often.
@@ -23,22 +27,29 @@ WORK, STEP = 1000000, 300
 class Walk:
     """The circuit at hand, and the best so far."""
 
-    def __init__(self, exact, start, metric, bound, seed):
-        self.metric, self.bound = metric, bound
+    def __init__(self, exact, start, metric, bound, seed, judge=None):
+        """`judge` gives back whether a circuit keeps the bound, and a vector at which it does not, if it knows one. It is asked
+        only where there are too many inputs for all vectors."""
+        self.exact, self.metric, self.bound, self.judge = exact, metric, bound, judge
         self.random = random.Random("walk %d" % seed)
-        self.circuit = self.best = circuit.circuit_of(start)
+        self.circuit = self.best = self.sure = circuit.circuit_of(start)
         inputs = len(exact.inputs)
-        count = 1 << inputs
-        columns = [errors.column(it, count) for it in range(inputs)]
-        self.all = circuit.Values(count, columns, errors.values_of(exact, columns, count))
-        self.few = self.all
-        if count > FEW:
+        self.is_judged = inputs > MOST_INPUTS
+        if self.is_judged:
+            self.all = self.few = self.sampled([self.random.getrandbits(SAMPLED) for _ in range(inputs)], SAMPLED)
+        else:
+            self.all = self.few = self.sampled([errors.column(it, 1 << inputs) for it in range(inputs)], 1 << inputs)
+        if self.all.count > FEW and not self.is_judged:
             self.few = circuit.Values(0, [0] * inputs, [0] * len(exact.outputs))
-            for place in self.random.sample(range(count), FEW):
+            for place in self.random.sample(range(self.all.count), FEW):
                 self.few.add_vector(place, self.all)
         self.all.fill(self.circuit)
         self.few.fill(self.circuit)
-        self.work = 0
+        self.work = self.steps = 0
+
+    def sampled(self, columns, count):
+        """The values at vectors that stand in columns, one for each input."""
+        return circuit.Values(count, columns, errors.values_of(self.exact, columns, count))
 
     def breaks(self, values, changed, at=None, output=0):
         """The vectors at which the bound is broken where some nodes have other values, and the output at a place if one is
@@ -54,6 +65,7 @@ class Walk:
             return self.best
         while self.work < WORK and self.circuit.nodes:
             self.work += len(self.circuit.nodes) + STEP
+            self.steps += 1
             place = self.random.randrange(len(self.circuit.nodes) + len(self.circuit.outputs))
             if place < len(self.circuit.nodes):
                 self.step(self.circuit.nodes[place])
@@ -61,7 +73,35 @@ class Walk:
                 self.output_step(place - len(self.circuit.nodes))
             if len(self.circuit.nodes) <= len(self.best.nodes):
                 self.best = self.circuit
-        return self.best
+            if self.is_judged and (self.steps % JUDGED == 0 or not self.circuit.nodes):
+                self.ask()
+        return self.asked() if self.is_judged else self.best
+
+    def ask(self):
+        """Asks whether the best is right, and goes back to what was right before where it is not."""
+        if self.best is self.sure:
+            return
+        is_right, vector = self.judge(self.best)
+        if is_right:
+            self.sure = self.best
+            return
+        if vector:
+            self.learn_near(vector)
+        self.circuit = self.best = self.sure
+        self.few.fill(self.circuit)
+
+    def learn_near(self, vector):
+        """A vector joins the few, with those that differ from it at one input."""
+        near = [vector, *([bit ^ (at == place) for at, bit in enumerate(vector)] for place in range(len(vector)))]
+        added = [sum(bit << place for place, bit in enumerate(bits)) for bits in zip(*near)]
+        count = self.few.count
+        columns = [self.few.of[at] | bits << count for at, bits in enumerate(added, 1)]
+        self.all = self.few = self.sampled(columns, count + len(near))
+
+    def asked(self):
+        """What is right in the end."""
+        self.ask()
+        return self.sure
 
     def output_step(self, at):
         """Looks for another literal as an output, and takes the first that may be taken."""
