@@ -1,4 +1,4 @@
-use Rattle.std.proofs.Common.{[], length, ap, arith}
+use Rattle.std.proofs.Common.{length, ap, arith}
 use Rattle.cnf_core.specs.LratReads.{LogRead}
 use Rattle.bundle_texts.specs.LogJudged.{HasTaken}
 use Rattle.bundle_texts.proofs.LogChecks.{starts_sound}

@@ -1,7 +1,7 @@
 use Rattle.std.proofs.Common.{◌≡◌, length, take, ap, sym, ◌∙◌, arith}
 use Rattle.std.proofs.lemmas.List.{length-take-le}
 use Rattle.bundle_texts.specs.VectorLine.{LineValue}
-use Rattle.bundle_texts.proofs.JudgedVectors.{end_test, digit_test, first_test}
+use Rattle.bundle_texts.proofs.JudgedVectors.{end_test}
 use Rattle.bundle_texts.proofs.vector_line.VectorLine.is_next.Goals as goal
 
 pub returns-then-self-witness : goal.returns-then-self-witness
