@@ -1,5 +1,5 @@
 -- What is ready before the first file is touched, from its parts.
-use Rattle.std.proofs.Common.{◌≡◌, ◌^◌, ◌<◌, ◌≤◌, ℕ, Option, Some, None, is_none, MatchOption, List, [], ◌∷◌, refl, ap, sym, subst, ◌∙◌, arith}
+use Rattle.std.proofs.Common.{◌≡◌, ◌^◌, ◌<◌, ◌≤◌, ℕ, Option, Some, None, is_none, MatchOption, List, [], ◌∷◌, refl, sym, subst, arith}
 use Rattle.std.specs.Prelude.{Bool, IsTrue, length}
 use Rattle.std.specs.List.{AllByRecursion}
 use Rattle.semantics.specs.declared.limits.TheConstants.{LARGEST_ERROR}
