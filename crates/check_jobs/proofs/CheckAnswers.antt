@@ -29,11 +29,13 @@ use Rattle.bundle.specs.Judging.{FilesKept, IsVerdict, IsFirstFault, verdict_of,
 use Rattle.job_answers.specs.declared.status.Status.{Status}
 use Rattle.job_answers.specs.declared.status.Status.TheVariants.{Verified, Refuted, Text, NoMemory, ReadFault, WriteFault, Endless}
 use Rattle.job_answers.specs.Ends.{EndsWell}
+use Rattle.job_answers.specs.OnFiles.{on_files}
+use Rattle.job_answers.specs.Unread.{answer_of_unread}
 use Rattle.conversions.specs.Input.{NetRead, NetUnread, TextRefused}
 use Rattle.conversions.proofs.InputReadings.{OfInput-later, net_read, text_refused}
 use Rattle.conversions.proofs.Conversions.{untouched}
 use Rattle.job_answers.proofs.Refusals.{AsksNothing, refusal_asks_nothing, blif_is_refusal}
-use Rattle.check_jobs.specs.Answers.{answer_of_unread, status_of_check, IsAnswerFor, CheckAnswer, IsCheckAnswerTo}
+use Rattle.check_jobs.specs.Answers.{status_of_check, IsAnswerFor, CheckAnswer, IsCheckAnswerTo}
 
 -- ---- IN was opened and read, and nothing else
 
