@@ -1,4 +1,4 @@
-use Rattle.std.proofs.Common.{refl, subst, ap, sym, ◌∙◌}
+use Rattle.std.proofs.Common.{refl, subst, ap, ◌∙◌}
 use Rattle.synth_core.specs.Turns.{IsNextMember}
 use Rattle.synth_core.specs.declared.tester.Tester.{Tester}
 use Rattle.synth_core.proofs.shrink.follow.Goals as goal
