@@ -1,12 +1,12 @@
 -- How a search goes over the moves of a net.
 use Rattle.std.proofs.Common.{◌≡◌, Bool, Option, Some, List, [], ◌∷◌, ◌++◌, length, refl, sym, ap, subst, ◌∙◌}
 use Rattle.std.specs.List.{AllByRecursion, Contains}
-use Rattle.std.proofs.lemmas.List.{append-nil, append_assoc}
+use Rattle.std.proofs.lemmas.List.{append_assoc}
 use Rattle.std.proofs.lemmas.List.Elements.{Contains-append_right}
 use Rattle.semantics.specs.Net.{NetValue, input_count}
 use Rattle.net_errors.specs.Compared.{NetPair}
 use Rattle.chain_semantics.specs.declared.moves.Move.{Move}
-use Rattle.chain_semantics.specs.Minimality.{IsBrokenBySome, AreBrokenBySome, IsMinimalBy}
+use Rattle.chain_semantics.specs.Minimality.{IsBrokenBySome, AreBrokenBySome}
 use Rattle.chain_semantics.specs.Moves.{moves_of, moved}
 use Rattle.chain_semantics.specs.Simplification.{IsAllowedMove}
 use Rattle.chain_semantics.proofs.MoveLists.{Contains-here}
@@ -41,10 +41,6 @@ module _ (aim : Constraint) (nets : NetPair) (s t : PatternSet) (move : Move) (x
 module _ (m : GrowingValue) where
   pub searched-none : (left : List Move) → left ≡ moves_of m.net → IsSearched m left
   searched-none left is = record { before = []; stands = sym is; broken = tt }
-
-  pub searched-all : (left : List Move) → left ≡ [] → IsSearched m left → IsMinimalBy m.metric m.exact m.bound m.net m.vectors
-  searched-all left is so_far =
-      subst (AreBrokenBySome m.metric m.exact m.bound m.net m.vectors) (sym (so_far.stands ∙ ap (λ l. so_far.before ++ l) is ∙ append-nil so_far.before)) so_far.broken
 
   module _ (left rest : List Move) (move : Move) (is : left ≡ move ∷ rest) (so_far : IsSearched m left) where
     pub stands_at : moves_of m.net ≡ so_far.before ++ move ∷ rest
