@@ -1,12 +1,12 @@
 -- How a search goes over the moves of a net.
-use Rattle.std.proofs.Common.{◌≡◌, Bool, List, [], ◌∷◌, ◌++◌, length, refl, sym, ap, subst, ◌∙◌}
+use Rattle.std.proofs.Common.{◌≡◌, Bool, Option, Some, List, [], ◌∷◌, ◌++◌, length, refl, sym, ap, subst, ◌∙◌}
 use Rattle.std.specs.List.{AllByRecursion, Contains}
-use Rattle.std.proofs.lemmas.List.{append-nil, append_assoc}
+use Rattle.std.proofs.lemmas.List.{append_assoc}
 use Rattle.std.proofs.lemmas.List.Elements.{Contains-append_right}
 use Rattle.semantics.specs.Net.{NetValue, input_count}
 use Rattle.net_errors.specs.Compared.{NetPair}
 use Rattle.chain_semantics.specs.declared.moves.Move.{Move}
-use Rattle.chain_semantics.specs.Minimality.{IsBrokenBySome, AreBrokenBySome, IsMinimalBy}
+use Rattle.chain_semantics.specs.Minimality.{IsBrokenBySome, AreBrokenBySome}
 use Rattle.chain_semantics.specs.Moves.{moves_of, moved}
 use Rattle.chain_semantics.specs.Simplification.{IsAllowedMove}
 use Rattle.chain_semantics.proofs.MoveLists.{Contains-here}
@@ -18,7 +18,7 @@ use Rattle.care_masks.specs.Growing.{GrowingValue}
 use Rattle.worst_case.specs.declared.query.Spent as spent
 use Rattle.worst_case.specs.Exceeds.{spent_value, IsSpentOn}
 use Rattle.synth_core.specs.MoveTrials.{IsFoundOver}
-use Rattle.synth_core.specs.AllowedMoves.{IsFirstMoved, masks_over, IsMaskedPool, AreAmong, IsSearched, IsCandidateMove}
+use Rattle.synth_core.specs.AllowedMoves.{IsFirstMoved, masks_over, IsMaskedPool, AreAmong, IsSearched, IsCandidateMove, IsFirstUnbroken, IsNextUnbroken}
 use Rattle.synth_core.proofs.Pools.{IsPool-more, each_more}
 
 module _ (aim : Constraint) (nets : NetPair) (s t : PatternSet) (move : Move) (x : List Bool) (pushed : t ≡ record s { vectors = s.vectors ++ x ∷ [] }) where
@@ -41,10 +41,6 @@ module _ (aim : Constraint) (nets : NetPair) (s t : PatternSet) (move : Move) (x
 module _ (m : GrowingValue) where
   pub searched-none : (left : List Move) → left ≡ moves_of m.net → IsSearched m left
   searched-none left is = record { before = []; stands = sym is; broken = tt }
-
-  pub searched-all : (left : List Move) → left ≡ [] → IsSearched m left → IsMinimalBy m.metric m.exact m.bound m.net m.vectors
-  searched-all left is so_far =
-      subst (AreBrokenBySome m.metric m.exact m.bound m.net m.vectors) (sym (so_far.stands ∙ ap (λ l. so_far.before ++ l) is ∙ append-nil so_far.before)) so_far.broken
 
   module _ (left rest : List Move) (move : Move) (is : left ≡ move ∷ rest) (so_far : IsSearched m left) where
     pub stands_at : moves_of m.net ≡ so_far.before ++ move ∷ rest
@@ -69,6 +65,13 @@ module _ (aim : Constraint) (nets : NetPair) where
 
   pub searched-still : (old new : List (List Bool)) (left : List Move) → AreAmong old new → IsSearched (masks_over aim nets old) left → IsSearched (masks_over aim nets new) left
   searched-still old new left among h = record { before = h.before; stands = h.stands; broken = broken_still old new among h.before h.broken }
+
+  -- the next move that no vector of the pool breaks, as the masks tell it
+  pub searched-next : (s : PatternSet) (m : GrowingValue) (rest : List Move) (found : Option Move) (move : Move) → IsMaskedPool aim nets s m → IsNextUnbroken m rest found → found ≡ Some move
+      → IsSearched (masks_over aim nets s.vectors) (move ∷ rest)
+  searched-next s m rest found move masked next is =
+      let first : IsFirstUnbroken m rest move = subst (IsNextUnbroken m rest) is next in
+      subst (λ k. IsSearched k (move ∷ rest)) masked.masks first.searched
 
   -- the first move that none of the old vectors breaks, where vectors may have joined
   module _ (old new : List (List Bool)) (rest : List Move) (move : Move) (so_far : IsSearched (masks_over aim nets old) (move ∷ rest)) (among : AreAmong old new) where

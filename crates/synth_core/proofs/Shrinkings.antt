@@ -1,5 +1,5 @@
 -- The members of the chain from a beginning, and what its search comes to.
-use Rattle.std.proofs.Common.{◌≡◌, Some, None, ap, subst, sym, ◌∙◌}
+use Rattle.std.proofs.Common.{◌≡◌, Some, None, ap, subst, ◌∙◌}
 use Rattle.semantics.specs.Net.{NetValue}
 use Rattle.chain_semantics.specs.Chain.IsInChain.{next}
 use Rattle.chain_semantics.specs.Minimality.{IsMinimalBy}
@@ -15,7 +15,7 @@ use Rattle.worst_case.specs.declared.query.Spent as spent
 use Rattle.worst_case.specs.Exceeds.{spent_value}
 use Rattle.chain_semantics.proofs.Simplifications.{simplified_from-falls}
 use Rattle.synth_core.specs.AllowedMoves.{IsPool, IsFirstMoved}
-use Rattle.synth_core.specs.Turns.{IsReadyFor, IsNextMember}
+use Rattle.synth_core.specs.Turns.{IsNextMember}
 
 module _ (aim : Constraint) (nets : NetPair) where
   -- what the net after the first allowed move is tidied to
@@ -60,7 +60,3 @@ module _ (aim : Constraint) (nets : NetPair) where
 -- the exact net beside a member
 pub beside_member : (P : NetPair) (E exact member : NetValue) → P ≡ record { exact = E; approx = member } → E ≡ exact → P ≡ record { exact = exact; approx = member }
 beside_member P E exact member is same = is ∙ ap (λ (K : NetValue). record { exact = K; approx = member }) same
-
--- a search stays ready while its judge stays for the exact net
-pub still_ready : (aim : Constraint) (nets : NetPair) (old new : NetValue) → new ≡ old → IsReadyFor aim nets old → IsReadyFor aim nets new
-still_ready aim nets old new same ready = subst (IsReadyFor aim nets) (sym same) ready

@@ -1,6 +1,7 @@
 use Rattle.std.proofs.Common.{◌≡◌, List, Bool, [], ◌∷◌, ◌++◌, ◌∙◌, ap, subst}
 use Rattle.lane_bits.specs.Patterns.{PatternSet}
 use Rattle.synth_core.specs.AllowedMoves.{IsCandidateMove}
+use Rattle.synth_core.specs.declared.tester.Tester.{Tester}
 use Rattle.synth_core.proofs.Searching.{masked-more, broken-more}
 use Rattle.synth_core.proofs.Trying.{allowed-few}
 use Rattle.synth_core.proofs.allowed_move.weigh.Goals as goal
@@ -24,7 +25,8 @@ returns-in_ok-add_vector-in-Over-clause-masked g c =
     let t : PatternSet = c.add_vector.new.pool in
     let back = rw c.in-Over.is at c.in_ok-x.ensures.trial in
     let pushed : t ≡ record s { vectors = s.vectors ++ c.in-Over.x ∷ [] } =
-    c.in_ok-add_vector-in-Over.ensures.pool ∙ ap (λ (y : List Bool). record s { vectors = s.vectors ++ y ∷ [] }) c.as_slice.ensures in
+    c.in_ok-add_vector-in-Over.ensures.pool ∙ ap (λ (p : PatternSet). record p { vectors = p.vectors ++ c.as_slice.result.now ∷ [] }) (ap (λ (k : Tester). k.pool) c.try_move.ensures.same)
+    ∙ ap (λ (y : List Bool). record s { vectors = s.vectors ++ y ∷ [] }) c.as_slice.ensures in
     masked-more tester.aim c.args.nets.now s t c.args.candidate c.in-Over.x pushed c.args.trials.now.masks c.add_vector.new.masks c.requires.masked
     c.in_ok-add_vector-in-Over.ensures.masks c.requires.unbroken back.over
 
@@ -35,5 +37,6 @@ returns-in_ok-add_vector-in-Over-clause-weighed g c =
     let t : PatternSet = c.add_vector.new.pool in
     let back = rw c.in-Over.is at c.in_ok-x.ensures.trial in
     let pushed : t ≡ record s { vectors = s.vectors ++ c.in-Over.x ∷ [] } =
-    c.in_ok-add_vector-in-Over.ensures.pool ∙ ap (λ (y : List Bool). record s { vectors = s.vectors ++ y ∷ [] }) c.as_slice.ensures in
+    c.in_ok-add_vector-in-Over.ensures.pool ∙ ap (λ (p : PatternSet). record p { vectors = p.vectors ++ c.as_slice.result.now ∷ [] }) (ap (λ (k : Tester). k.pool) c.try_move.ensures.same)
+    ∙ ap (λ (y : List Bool). record s { vectors = s.vectors ++ y ∷ [] }) c.as_slice.ensures in
     broken-more tester.aim c.args.nets.now s t c.args.candidate c.in-Over.x pushed back.over

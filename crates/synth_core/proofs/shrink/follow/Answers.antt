@@ -1,4 +1,6 @@
-use Rattle.std.proofs.Common.{refl, subst, ap, sym, ◌∙◌}
+use Rattle.std.proofs.Common.{refl, subst, ap, ◌∙◌}
+use Rattle.synth_core.specs.Turns.{IsNextMember}
+use Rattle.synth_core.specs.declared.tester.Tester.{Tester}
 use Rattle.synth_core.proofs.shrink.follow.Goals as goal
 
 pub loop-next-init : goal.loop-next-init
@@ -17,9 +19,10 @@ loop-next-smaller g c = let turned = rw c.in-Next.is at c.in_ok-next.ensures.tur
 
 pub loop-next-preserved : goal.loop-next-preserved
 loop-next-preserved g c =
-    let turned = rw c.in-Next.is at c.in_ok-next.ensures.turn in
+    let turned =
+    subst (λ a. IsNextMember a c.args.nets.now c.loop-next.member c.in-Next.next) (ap (λ (t : Tester). t.aim) c.loop-next.invariant.same) (rw c.in-Next.is at c.in_ok-next.ensures.turn) in
     record {
-      same = c.take_turn.ensures.same ∙ ap (λ t. record t { pool = c.take_turn.new.tester.pool }) c.loop-next.invariant.same;
+      same = c.take_turn.ensures.same ∙ ap (λ (t : Tester). record t { pool = c.take_turn.new.tester.pool }) c.loop-next.invariant.same;
       member = turned.member;
       pool = c.in_ok-next.ensures.pool;
     }

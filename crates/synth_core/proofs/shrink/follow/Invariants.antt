@@ -2,7 +2,6 @@ use Rattle.std.proofs.Common.{◌≡◌}
 use Rattle.semantics.specs.Net.{literal_count}
 use Rattle.chain_semantics.specs.Simplification.{IsInSimplificationFrom}
 use Rattle.synth_core.specs.AllowedMoves.{IsPool}
-use Rattle.synth_core.specs.Turns.{IsReadyFor}
 use Rattle.synth_core.proofs.shrink.follow.Given as goal
 
 -- the net is a member of the chain

@@ -46,7 +46,7 @@ returns-in_ok-tidy-in-Moved-clause-turn g c =
     let P = c.args.nets.now in
     let aim = c.args.tester.now.aim in
     let beside = beside_member c.new-pair.result c.exact.result.now P.exact c.args.member.now c.new-pair.ensures c.exact.ensures.value in
-    let told = subst (λ Q. IsFound aim Q c.find_move.new.tester.pool.vectors c.in_ok-find_move.field-0) beside c.in_ok-find_move.ensures.found in
+    let told = subst (λ Q. IsFound aim Q c.find_move.new.tester.pool.vectors c.in_ok-moved.field-0) beside c.in_ok-moved.ensures.found in
     next-member aim P c.args.member.now c.in-Moved.moved c.in_ok-tidy-in-Moved.field-0 c.requires.ready.beginning c.requires.member (rw c.in-Moved.is at told)
     c.in_ok-tidy-in-Moved.ensures
 
@@ -55,8 +55,8 @@ returns-in-End-clause-turn g c =
     let P = c.args.nets.now in
     let aim = c.args.tester.now.aim in
     let beside = beside_member c.new-pair.result c.exact.result.now P.exact c.args.member.now c.new-pair.ensures c.exact.ensures.value in
-    let told = subst (λ Q. IsFound aim Q c.find_move.new.tester.pool.vectors c.in_ok-find_move.field-0) beside c.in_ok-find_move.ensures.found in
-    shrinking-end aim P c.args.member.now c.find_move.new.tester.pool c.requires.member (subst (λ Q. IsPool Q.exact c.find_move.new.tester.pool) beside c.in_ok-find_move.ensures.pool)
+    let told = subst (λ Q. IsFound aim Q c.find_move.new.tester.pool.vectors c.in_ok-moved.field-0) beside c.in_ok-moved.ensures.found in
+    shrinking-end aim P c.args.member.now c.find_move.new.tester.pool c.requires.member (subst (λ Q. IsPool Q.exact c.find_move.new.tester.pool) beside c.in_ok-moved.ensures.pool)
     (rw c.in-End.is at told)
 
 pub returns-in-Spent-clause-turn : goal.returns-in-Spent-clause-turn
@@ -64,6 +64,6 @@ returns-in-Spent-clause-turn g c =
     let P = c.args.nets.now in
     let aim = c.args.tester.now.aim in
     let beside = beside_member c.new-pair.result c.exact.result.now P.exact c.args.member.now c.new-pair.ensures c.exact.ensures.value in
-    let told = subst (λ Q. IsFound aim Q c.find_move.new.tester.pool.vectors c.in_ok-find_move.field-0) beside c.in_ok-find_move.ensures.found in
-    shrinking-spent aim P c.args.member.now c.find_move.new.tester.pool c.requires.member (subst (λ Q. IsPool Q.exact c.find_move.new.tester.pool) beside c.in_ok-find_move.ensures.pool)
+    let told = subst (λ Q. IsFound aim Q c.find_move.new.tester.pool.vectors c.in_ok-moved.field-0) beside c.in_ok-moved.ensures.found in
+    shrinking-spent aim P c.args.member.now c.find_move.new.tester.pool c.requires.member (subst (λ Q. IsPool Q.exact c.find_move.new.tester.pool) beside c.in_ok-moved.ensures.pool)
     c.in-Spent.spent (rw c.in-Spent.is at told)
