@@ -12,6 +12,8 @@ use net_core::net::Net;
 use net_errors::compared::Compared;
 use net_errors::ports::same_ports;
 use net_moves::apply::apply;
+use progress::progress::Silent;
+use proof_semantics::constraint::Constraint;
 use semantics::limits::MOST_OUTPUTS;
 use semantics::metric::Metric;
 use std::alloc::Global;
@@ -88,10 +90,16 @@ fn is_answered(
     if limit == 0 || exact.outputs() as usize > MOST_OUTPUTS || !same_ports(exact, approx) {
         return Ok(false);
     }
-    match exceeds(alloc, exact, approx, metric, 0, limit)? {
+    let nets = Compared::new(exact, approx);
+    let aim = Constraint {
+        metric,
+        bound: 0,
+        limit,
+    };
+    match exceeds(alloc, &nets, aim, &mut Silent)? {
         Exceed::Over(x) => Ok(fits(x.as_slice(), over)),
         Exceed::Never(log) => {
-            let goal = miter_of(alloc, &Compared::new(exact, approx), metric, 0)?;
+            let goal = miter_of(alloc, &nets, metric, 0)?;
             Ok(over.is_empty() && accepts(alloc, &goal, &log)?)
         }
         Exceed::Spent(spent) => {

@@ -4,6 +4,7 @@ ghost use Rattle.std.specs.Prelude.{◌≤◌};
 use crate::metrics::ABSOLUTE;
 use crate::nets::product;
 use net_core::net::Net;
+use proof_semantics::constraint::Constraint;
 use std::alloc::{AllocError, Global};
 use std::test::Fail;
 use synth_core::shrink::shrink;
@@ -24,7 +25,12 @@ fn left_of_product(alloc: Global, bound: u128, limit: u64) -> Result<(u32, bool,
     requires { 1 ≤ limit }
 {
     let net = product(alloc)?;
-    let shrunk = shrink(alloc, &net, ABSOLUTE, bound, limit)?;
+    let aim = Constraint {
+        metric: ABSOLUTE,
+        bound,
+        limit,
+    };
+    let shrunk = shrink(alloc, &net, aim)?;
     Ok((
         shrunk.net.tables(),
         are_constant(&shrunk.net),
