@@ -20,7 +20,7 @@ use Rattle.job_semantics.specs.Certificate.{Texts, texts_of, IsNetlist, Certifie
 use Rattle.job_semantics.specs.Checking.{ShowsItsBound}
 use Rattle.job_semantics.specs.Shrinking.{Shrinking}
 use Rattle.job_semantics.specs.Synthesis.{claim_of, shrinking_of, IsTaskDone, request_of}
-use Rattle.job_semantics.specs.SecondNetlist.{AreRead, TaskDone}
+use Rattle.job_semantics.specs.SecondNetlist.{AreRead, AreBothRead, TaskDone, IsTaskSpent}
 use Rattle.job_semantics.specs.SecondHeadline.{KeepsTheBound, IsAsAsked, IsCertifiedAs, AreSpentOnSecond, SecondHeadline}
 use Rattle.job_semantics.proofs.FileWords.{file_words_law}
 use Rattle.job_semantics.proofs.CheckedFiles.{one_net, joined_task_law}
@@ -106,13 +106,25 @@ module _ (task : Task) (aim : Constraint) (names : TaskNames) (call : Call) (q :
   abbrev SpentIn : SpentValue → Type 0
   SpentIn level = (exact : NetValue) × (begin : NetValue) × AreRead names.input names.second call exact begin × AreSpentOnSecond (request_of task aim exact begin) level
 
-  spent_in : (status : Status) (level : SpentValue) → TaskAnswerAt task aim names call q status → (q.spent ≡ Some level) ⊎ (q.level ≡ Some level) → SpentIn level
-  spent_in Done level (d, no_level) (inl is) =
-      let w = d.written in
-      (d.exact, d.begin, d.read, of_task aim d.exact d.begin task (shrinking_of w.result) level w.right.search (sym w.is_spent ∙ is))
-  spent_in Done level (d, no_level) (inr is) = let bad : ◌≡◌ {A = Option SpentValue} None (Some level) = sym no_level ∙ is in cc
-  spent_in Budget level (s, at, b) is =
+  no_level_told : (level : SpentValue) → q.level ≡ None → q.level ≡ Some level → ⊥
+  no_level_told level none is = let bad : ◌≡◌ {A = Option SpentValue} None (Some level) = sym none ∙ is in cc
+
+  -- where the bundle was written, the query is that of the search along the chain
+  spent_where_written : (level : SpentValue) (d : TaskDone task aim names q.spent call) → q.spent ≡ Some level → AreSpentOnSecond (request_of task aim d.exact d.begin) level
+  spent_where_written level d is = of_task aim d.exact d.begin task (shrinking_of d.written.result) level d.written.right.search (sym d.written.is_spent ∙ is)
+
+  spent_in_done : (level : SpentValue) → TaskDone task aim names q.spent call → q.level ≡ None → (q.spent ≡ Some level) ⊎ (q.level ≡ Some level) → SpentIn level
+  spent_in_done level d none (inl is) = (d.exact, d.begin, d.read, spent_where_written level d is)
+  spent_in_done level d none (inr is) = absurd (no_level_told level none is)
+
+  spent_in_budget : (level s : SpentValue) → q.level ≡ Some s → AreBothRead names.input names.second call (λ exact begin. IsTaskSpent (request_of task aim exact begin) q.spent s)
+      → (q.spent ≡ Some level) ⊎ (q.level ≡ Some level) → SpentIn level
+  spent_in_budget level s at b is =
       (b.exact, b.begin, b.read, of_task_spent aim b.exact b.begin task q.spent s level b.holds (same_query q.spent q.level s level at is))
+
+  spent_in : (status : Status) (level : SpentValue) → TaskAnswerAt task aim names call q status → (q.spent ≡ Some level) ⊎ (q.level ≡ Some level) → SpentIn level
+  spent_in Done level answer is = spent_in_done level answer.0 answer.1 is
+  spent_in Budget level answer is = spent_in_budget level answer.0 answer.1 answer.2 is
   spent_in (Text reason) level answer is = absurd (none_is level q answer.1 is)
   spent_in (Second reason) level answer is = absurd (none_is level q answer.1 is)
   spent_in Ports level answer is = absurd (none_is level q answer.1 is)

@@ -40,6 +40,12 @@ use Rattle.jobs.proofs.SynthAnswers.{none_written, read_later}
 accepted : {input : Bytes} {old mid new : FilesTold} {N : NetValue} → NetRead old mid input N → Goes mid new → WhereTold old new (λ a b. IsAccepted (bytes_of a input))
 accepted {old = old} {mid = mid} {new = new} {N = N} read goes = λ a b told tells. let m = held_before mid new goes b tells in (N, read.told a m.0 told m.1)
 
+module _ {input second : Bytes} {old mid new : FilesTold} {N : NetValue} (read : NetRead old mid input N) where
+  second_held : {refusal : Refusal} (r : TextRefused refusal mid new second) → WhereTold old new (λ a b. IsTrue (contains_key a second))
+  second_held r = λ a b told tells.
+      let m = held_before mid new r.stay.goes b tells in
+      subst (λ x. IsTrue (contains_key x second)) (read.stay.stays a m.0 told m.1) (r.held m.0 b m.1 tells)
+
 module _ {input second : Bytes} {old mid new : FilesTold} {said says : SinkTold} {N : NetValue} (read : NetRead old mid input N) where
   both_untouched : FilesStay mid new second → says ≡ said → AreUntouched input second (told_call old new said says)
   both_untouched stay quiet = record {
@@ -58,13 +64,8 @@ module _ {input second : Bytes} {old mid new : FilesTold} {said says : SinkTold}
     at_entry = λ a told has_input has_second. h.at_entry a (read.stay.still_told a told has_input) has_second;
   }
 
-  second_held : {refusal : Refusal} (r : TextRefused refusal mid new second) → WhereTold old new (λ a b. IsTrue (contains_key a second))
-  second_held r = λ a b told tells.
-      let m = held_before mid new r.stay.goes b tells in
-      subst (λ x. IsTrue (contains_key x second)) (read.stay.stays a m.0 told m.1) (r.held m.0 b m.1 tells)
-
 -- no query is told as spent
-no_query : SpentQueries
+abbrev no_query : SpentQueries
 no_query = record { spent = None; level = None }
 
 module _ (task : Task) (aim : Constraint) (names : TaskNames) {old mid : FilesTold} (new : FilesTold) (said : SinkTold) {N : NetValue} (read : NetRead old mid names.input N) where
@@ -78,7 +79,7 @@ module _ (task : Task) (aim : Constraint) (names : TaskNames) {old mid : FilesTo
         untouched = both_untouched read r.stay refl;
         exact = N;
         input_read = read_later read r.stay.goes;
-        held = second_held {said = said} {says = said} read r;
+        held = second_held read r;
         refused = of_second read (λ text. IsRefusedFor text refusal) r.stay.goes (text_refused r);
       },
     ),
@@ -101,65 +102,64 @@ module _ (task : Task) (aim : Constraint) (names : TaskNames) {old mid : FilesTo
 
 -- ---- both were read
 
-module _ {names : TaskNames} {old mid next : FilesTold} {N S : NetValue} (read : NetRead old mid names.input N) (begun : NetRead mid next names.second S)
-    (new : FilesTold) (said says : SinkTold) where
+module _ {input second : Bytes} {old mid next : FilesTold} {N S : NetValue} (read : NetRead old mid input N) (begun : NetRead mid next second S) where
   both_unwritten : FilesWritten old next []
   both_unwritten = FilesWritten-then (none_written read) (none_written begun)
 
-  are_read : Goes next new → AreRead names.input names.second (told_call old new said says) N S
-  are_read goes =
+  are_read : (new : FilesTold) (said says : SinkTold) → Goes next new → AreRead input second (told_call old new said says) N S
+  are_read new said says goes =
       let later : Goes mid new = Goes-Goes begun.stay.goes goes in
       record { input_read = read_later read later; second_read = of_second read (λ text. IsReadAs text S) later (read_later begun goes) }
 
-module _ {names : TaskNames} {old mid next : FilesTold} {N S : NetValue} (read : NetRead old mid names.input N) (begun : NetRead mid next names.second S)
-    (new : FilesTold) (said says : SinkTold) where
-  both_read : (P : NetValue → NetValue → Type 0) → new ≡ next → says ≡ said → P N S → AreBothRead names.input names.second (told_call old new said says) P
-  both_read P same quiet holds = subst (λ n. AreBothRead names.input names.second (told_call old n said says) P) (sym same) (record {
+  both_read : (new : FilesTold) (said says : SinkTold) (P : NetValue → NetValue → Type 0) → new ≡ next → says ≡ said → P N S
+      → AreBothRead input second (told_call old new said says) P
+  both_read new said says P same quiet holds = subst (λ n. AreBothRead input second (told_call old n said says) P) (sym same) (record {
     untouched = both_untouched read begun.stay quiet;
     exact = N;
     begin = S;
-    read = are_read {names = names} read begun next said says (Goes-same next);
+    read = are_read next said says (Goes-same next);
     holds = holds;
   })
 
-  nothing_touched : new ≡ next → says ≡ said → AreUntouched names.input names.second (told_call old new said says)
-  nothing_touched same quiet = subst (λ n. AreUntouched names.input names.second (told_call old n said says)) (sym same) (both_untouched read begun.stay quiet)
+  nothing_touched : (new : FilesTold) (said says : SinkTold) → new ≡ next → says ≡ said → AreUntouched input second (told_call old new said says)
+  nothing_touched new said says same quiet = subst (λ n. AreUntouched input second (told_call old n said says)) (sym same) (both_untouched read begun.stay quiet)
 
-  module _ (task : Task) (aim : Constraint) (q : SpentQueries) where
-    TaskAnswer-from : (status : Status) → JudgedAnswerAt (request_of task aim N S) names.stem (told_call next new said says) q status
-        → TaskAnswerAt task aim names (told_call old new said says) q status
-    TaskAnswer-from Done answer = (
-      record {
-        exact = N;
-        begin = S;
-        read = are_read {names = names} read begun new said says answer.1.0.files.goes;
-        beginning = answer.0;
-        written = written_since (both_unwritten {names = names} read begun new said says) answer.1.0;
-      },
-      answer.1.1,
-    )
-    TaskAnswer-from Budget answer =
-        (answer.1.0, answer.1.1, both_read (λ exact begin. IsTaskSpent (request_of task aim exact begin) q.spent answer.1.0) answer.0.0 answer.0.1 answer.1.2)
-    TaskAnswer-from Ports answer = (both_read HasOtherPorts answer.0.0 answer.0.1 answer.1.0, answer.1.1)
-    TaskAnswer-from (Over x) answer = (both_read (IsAboveBound aim.metric aim.bound x) answer.0.0 answer.0.1 answer.1.0, answer.1.1)
-    TaskAnswer-from NoMemory answer = (nothing_touched answer.0.0 answer.0.1, answer.1)
-    TaskAnswer-from WriteFault answer = (
-      record {
-        exact = N;
-        begin = S;
-        read = are_read {names = names} read begun new said says (goes_cut answer.1.0);
-        beginning = answer.0;
-        left = cut_since (both_unwritten {names = names} read begun new said says) answer.1.0;
-      },
-      answer.1.1,
-    )
-    TaskAnswer-from _ answer = absurd answer.1
+module _ (task : Task) (aim : Constraint) (names : TaskNames) {old mid next : FilesTold} (new : FilesTold) (said says : SinkTold) {N S : NetValue}
+    (read : NetRead old mid names.input N) (begun : NetRead mid next names.second S) (q : SpentQueries) where
+  TaskAnswer-from : (status : Status) → JudgedAnswerAt (request_of task aim N S) names.stem (told_call next new said says) q status
+      → TaskAnswerAt task aim names (told_call old new said says) q status
+  TaskAnswer-from Done answer = (
+    record {
+      exact = N;
+      begin = S;
+      read = are_read read begun new said says answer.1.0.files.goes;
+      beginning = answer.0;
+      written = written_since (both_unwritten read begun) answer.1.0;
+    },
+    answer.1.1,
+  )
+  TaskAnswer-from Budget answer =
+      (answer.1.0, answer.1.1, both_read read begun new said says (λ exact begin. IsTaskSpent (request_of task aim exact begin) q.spent answer.1.0) answer.0.0 answer.0.1 answer.1.2)
+  TaskAnswer-from Ports answer = (both_read read begun new said says HasOtherPorts answer.0.0 answer.0.1 answer.1.0, answer.1.1)
+  TaskAnswer-from (Over x) answer = (both_read read begun new said says (IsAboveBound aim.metric aim.bound x) answer.0.0 answer.0.1 answer.1.0, answer.1.1)
+  TaskAnswer-from NoMemory answer = (nothing_touched read begun new said says answer.0.0 answer.0.1, answer.1)
+  TaskAnswer-from WriteFault answer = (
+    record {
+      exact = N;
+      begin = S;
+      read = are_read read begun new said says (goes_cut answer.1.0);
+      beginning = answer.0;
+      left = cut_since (both_unwritten read begun) answer.1.0;
+    },
+    answer.1.1,
+  )
+  TaskAnswer-from _ answer = absurd answer.1
 
 -- the answer of a task, from what the judging of the second net and the work on it say
 pub TaskAnswer-of : (task : Task) (aim : Constraint) (names : TaskNames) {old mid next : FilesTold} (new : FilesTold) (said says : SinkTold) {N S : NetValue} (o : Outcome)
     → NetRead old mid names.input N → NetRead mid next names.second S → JudgedAnswer (request_of task aim N S) names.stem (told_call next new said says) o
     → TaskAnswer task aim names (told_call old new said says) o
-TaskAnswer-of task aim names new said says o read begun answer = TaskAnswer-from {names = names} read begun new said says task aim (told_queries o) o.status answer
+TaskAnswer-of task aim names new said says o read begun answer = TaskAnswer-from task aim names new said says read begun (told_queries o) o.status answer
 
 -- ---- a quiet call
 
