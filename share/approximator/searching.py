@@ -10,7 +10,7 @@ from approximator.tools import NO_PROGRAM, Refused, text_of
 ENDINGS = ("blif", "cnf", "lrat", "wit", "txt")
 EXPLORE = os.path.join(os.path.dirname(os.path.dirname(os.path.realpath(__file__))), "explore")
 # For how long `explore` may take to end behind a signal before it is killed.
-SECONDS_TO_END = 5
+SECONDS_TO_END = 30
 
 
 def run_program(program, name, job, scratch):
