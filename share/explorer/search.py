@@ -13,7 +13,7 @@ WALKS, WAYS, FRESH = 3, 3, 2
 PATIENCE = 8
 # The shares of what is left of a bound's seconds that the first round, each smaller bound on the way, and a later round may
 # take; a later round may always take so many seconds.
-FIRST, WAY, LATER, LEAST = 0.3, 0.1, 0.25, 6
+FIRST, WAY, LATER, LEAST = 0.4, 0.1, 0.25, 6
 
 Try = collections.namedtuple("Try", "number round bound beginning order is_refined answer")
 
@@ -94,11 +94,10 @@ class Search:
         first = [(it, None) for it in self.fresh(bound, 1)]
         built = [it for it in self.tries if not it.is_refined and not it.answer["number"]]
         walks = [(it, one) for one in built[:1] for turn in (0, 1) for it in self.walked(bound, one, turn)]
-        # The first try is that of `synth`, which is waited for. Walks take longer where the program has to judge them.
+        # The first try is that of `synth`, which is waited for. Walks take longer than the others, and come behind them.
         self.awaited = key_of(first[0][0])
-        further = self.onward(bound, below, 0) + first[1:]
-        further = walks + further if self.options.inputs <= walk.MOST_INPUTS else further + walks
-        self.round(1, first[:1] + further, until=self.part_end(FIRST))
+        further = self.onward(bound, below, 0) + first[1:] + walks
+        self.round(1, first[:1] + further, until=self.part_end(FIRST, LEAST))
         self.awaited = None
         for rung in self.rungs(bound, smaller):
             self.round(1, [(it, None) for it in self.fresh(rung, 0)[:2 * len(self.rewritings)]], until=self.part_end(WAY))
