@@ -59,7 +59,7 @@ pub record IsMaximum (metric : Metric) (exact approx : NetValue) (m : MaximumVal
   pub first : input_count exact ≤ FEW_INPUTS
       → IsFirstGreatestAt (input_count exact) (net_error metric exact approx) m.error m.witness
 
--- the search for the greatest error of a net that keeps the bound was spent at a level within the bound
+-- a search for the greatest error was spent at a level within the bound
 pub record IsSpentLevel (aim : Constraint) (exact approx : NetValue) (s : SpentValue) : Type 0 where
   pub query : IsSpentQuery aim.metric exact aim.limit s
   pub net : s.net ≡ approx
