@@ -9,17 +9,23 @@
 //! trial outside of this repository formulas of multipliers then took hardly more conflicts than without any
 //! restart, and large formulas of adders far fewer.
 //!
-//! With few inputs a search ends soonest, once it has gone on for long, if it decides them in the order of
-//! their numbers, without restarts: then it goes over their vectors, as far as clauses do not rule them out
-//! many at a time.
+//! With few inputs a search that has gone on for long decides them in the order of their numbers, without
+//! restarts: then it goes over their vectors, as far as clauses do not rule them out many at a time. So it
+//! ends, but its clauses are long, and each conflict walks much of the net: with sixteen inputs most
+//! formulas end sooner without it.
 ghost use Rattle.std.specs.Prelude.{◌<◌, ◌≤◌};
 
 /// The most inputs that come to be decided in the order of their numbers.
 const ORDERED_INPUTS: u32 = 16;
 
-/// The conflicts of a search, besides an eighth of the vectors, from which on it decides few inputs in the
+/// The conflicts of a search, besides a share of the vectors, from which on it decides few inputs in the
 /// order of their numbers.
 const LONG: u64 = 3000;
+
+/// One in this number of the vectors counts, with fewer inputs than `ORDERED_INPUTS` and with as many.
+const SHARE: u64 = 8;
+
+const LAST_SHARE: u64 = 2;
 
 /// How far the averages reach: a clause weighs 1 / 2 ^ n of the fast or the slow one.
 const FAST: u32 = 5;
@@ -78,8 +84,13 @@ impl Pace {
 
     /// How many inputs are decided first, in the order of their numbers.
     pub fn inputs_first(&self) -> u32 {
-        let few: u64 = 1 << self.inputs.min(ORDERED_INPUTS);
-        if self.learned >= few / 8 + LONG {
+        let vectors: u64 = 1 << self.inputs.min(ORDERED_INPUTS);
+        let part = if self.inputs < ORDERED_INPUTS {
+            vectors / SHARE
+        } else {
+            vectors / LAST_SHARE
+        };
+        if self.learned >= part + LONG {
             self.inputs
         } else {
             0
