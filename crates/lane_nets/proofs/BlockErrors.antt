@@ -1,17 +1,19 @@
 -- Errors in blocks of patterns, and what is found from block to block.
-use Rattle.std.proofs.Common.{◌≡◌, ◌↔◌, ℕ, ◌+◌, ◌*◌, ◌-◌, ◌<◌, ◌≤◌, min, Bool, true, false, List, [], ◌∷◌, ◌++◌, length, map, slice_index, IsTrue, refl, ap, sym, ◌∙◌, subst, inl, inr, arith}
+use Rattle.std.proofs.Common.{◌≡◌, ◌↔◌, ℕ, ◌+◌, ◌*◌, ◌-◌, ◌/◌, ◌%◌, ◌<◌, ◌≤◌, min, Bool, true, false, List, [], ◌∷◌, ◌++◌, length, map, slice_index, IsTrue, refl, ap, sym, ◌∙◌, subst, inl, inr, arith}
 use Rattle.std.proofs.lemmas.Bool.{cases_eq, cases_lt}
 use Rattle.std.proofs.lemmas.List.{length-map, get_or_push, get_or_append_left}
 use Rattle.semantics.specs.Net.{NetValue, IsSound}
 use Rattle.semantics.specs.Value.{outputs_of}
 use Rattle.semantics.specs.declared.metric.Metric.{Metric}
 use Rattle.semantics.specs.Error.{error_of, net_error}
+use Rattle.lane_bits.specs.Patterns.{PatternSet}
 use Rattle.lane_bits.specs.Rows.{row_bit, HasNoneSet, IsFirstSet}
-use Rattle.lane_nets.specs.Words.{word_bit, values_at}
+use Rattle.lane_nets.specs.Words.{values_at}
 use Rattle.lane_nets.specs.Blocks.{vector_at, row_at, IsBlock}
 use Rattle.lane_nets.specs.Lanes.{lane_at, output_words, IsOutputBlock}
+use Rattle.lane_nets.specs.Wide.{lane_words, AreWideOutputs, wides_at}
 use Rattle.lane_nets.specs.Errors.{IsFirstOver, IsGreatestSoFar}
-use Rattle.lane_nets.proofs.RowBits.{row_bit-word, outputs_from_values}
+use Rattle.lane_nets.proofs.RowBits.{outputs_from_values}
 use Rattle.lane_nets.proofs.Greatest.{greatest_kept}
 
 -- ---- outputs
@@ -23,11 +25,6 @@ lane-outputs words b (s ∷ outputs) = ap (λ l. values_at words b s ∷ l) (lan
 pub outputs_lane : (N M : NetValue) (words outputs : List ℕ) (b : ℕ) → M ≡ N → outputs ≡ output_words M words → lane_at outputs b ≡ map (values_at words b) N.outputs
 outputs_lane N M words outputs b same is =
     ap (λ l. lane_at l b) is ∙ lane-outputs words b M.outputs ∙ ap (λ (K : NetValue). map (values_at words b) K.outputs) same
-
-pub over_lane : (metric : Metric) (level word b : ℕ) (exact outputs lane : List ℕ) → outputs ≡ lane
-    → (IsTrue (word_bit word b) ↔ (level < error_of metric (lane_at exact b) (lane_at outputs b)))
-    → IsTrue (word_bit word b) ↔ (level < error_of metric (lane_at exact b) (lane_at lane b))
-over_lane metric level word b exact outputs lane is h = subst (λ (l : List ℕ). IsTrue (word_bit word b) ↔ (level < error_of metric (lane_at exact b) (lane_at l b))) is h
 
 module _ (N : NetValue) (vectors : List (List Bool)) (rows : List (List ℕ)) (k : ℕ) (row : List ℕ) (long : length rows ≡ k) where
   pub widths_more : length row ≡ length N.outputs → ((j : ℕ) → j < k → length (row_at rows j) ≡ length N.outputs)
@@ -56,53 +53,80 @@ output_block_is N vectors k words row sound block is = record {
   lanes = λ b low. outputs_lane N N words row b refl is ∙ outputs_from_values N words b (vector_at vectors (64 * k + b)) sound (block.values b low);
 }
 
--- ---- the errors of a block
+-- ---- the errors of a wide block
 
-module _ (metric : Metric) (E N : NetValue) (vectors : List (List Bool)) (k : ℕ) (exact outputs : List ℕ) (block : IsOutputBlock N vectors k outputs)
-    (right : (b : ℕ) → b < 64 → lane_at exact b ≡ outputs_of E (vector_at vectors (64 * k + b))) where
-  pub error_in_block : (b : ℕ) → b < 64 → error_of metric (lane_at exact b) (lane_at outputs b) ≡ net_error metric E N (vector_at vectors (64 * k + b))
+-- the outputs at pattern p of a wide block
+abbrev pub lane_of : List (List ℕ) → ℕ → List Bool
+lane_of wides p = lane_at (lane_words wides (p / 64)) (p % 64)
+
+pub wide_width : (N : NetValue) (vectors : List (List Bool)) (q : ℕ) (outputs : List (List ℕ)) → AreWideOutputs N vectors q outputs → length outputs ≡ length N.outputs
+wide_width N vectors q outputs are = sym (length-map outputs (λ (w : List ℕ). slice_index w 0)) ∙ (are 0 (omega arith)).width
+
+module _ (metric : Metric) (E N : NetValue) (vectors : List (List Bool)) (q : ℕ) (exact outputs : List (List ℕ)) (right : AreWideOutputs E vectors q exact)
+    (block : AreWideOutputs N vectors q outputs) where
+  pub error_in_block : (p : ℕ) → p < 512 → error_of metric (lane_of exact p) (lane_of outputs p) ≡ net_error metric E N (vector_at vectors (512 * q + p))
   unfolding net_error
-  error_in_block b low = (λ j. error_of metric (right b low j) (block.lanes b low j))
+  error_in_block p low =
+      let lane : p / 64 < 8 = omega (arith, low) in
+      let below : p % 64 < 64 = omega arith in
+      let at : 64 * (8 * q + p / 64) + p % 64 ≡ 512 * q + p = omega arith in
+      (λ i. error_of metric ((right (p / 64) lane).lanes (p % 64) below i) ((block (p / 64) lane).lanes (p % 64) below i))
+      ∙ ap (λ (n : ℕ). error_of metric (outputs_of E (vector_at vectors n)) (outputs_of N (vector_at vectors n))) at
 
-  module _ (level over left : ℕ) (left_is : left ≡ min (length vectors - 64 * k) 64)
-      (bits : (b : ℕ) → b < 64 → IsTrue (word_bit over b) ↔ (level < error_of metric (lane_at exact b) (lane_at outputs b)))
-      (before : (q : ℕ) → q < 64 * k → q < length vectors → net_error metric E N (vector_at vectors q) ≤ level) where
-    one_word : (b : ℕ) → b < 64 → row_bit (over ∷ []) b ≡ word_bit over b
-    one_word b low = let at : b ≡ 64 * 0 + b = omega arith in ap (row_bit (over ∷ [])) at ∙ row_bit-word (over ∷ []) 0 b low
-
-    within_block : (q : ℕ) → 64 * k ≤ q → q < 64 * (k + 1) → row_bit (over ∷ []) (q - 64 * k) ≡ false → net_error metric E N (vector_at vectors q) ≤ level
-    within_block q from low clear =
-        let b : ℕ = q - 64 * k in
-        let at : 64 * k + b ≡ q = omega arith in
-        let fits : b < 64 = omega arith in
-        let here = error_in_block b fits in
-        elim (cases_lt level (net_error metric E N (vector_at vectors q))) [
+  module _ (level left : ℕ) (over : List ℕ) (left_is : left ≡ min (length vectors - 512 * q) 512)
+      (bits : (p : ℕ) → p < 512 → IsTrue (row_bit over p) ↔ (level < error_of metric (lane_of exact p) (lane_of outputs p)))
+      (before : (k : ℕ) → k < 512 * q → k < length vectors → net_error metric E N (vector_at vectors k) ≤ level) where
+    within_block : (k : ℕ) → 512 * q ≤ k → k < 512 * (q + 1) → row_bit over (k - 512 * q) ≡ false → net_error metric E N (vector_at vectors k) ≤ level
+    within_block k from low clear =
+        let p : ℕ = k - 512 * q in
+        let at : 512 * q + p ≡ k = omega (arith, from) in
+        let fits : p < 512 = omega (arith, from, low) in
+        let here = error_in_block p fits in
+        elim (cases_lt level (net_error metric E N (vector_at vectors k))) [
           | inl more ↦
-              let set : word_bit over b ≡ true =
-              (bits b fits).1 (omega (arith, here, more, ap (λ (p : ℕ). net_error metric E N (vector_at vectors p)) at)) in
-              absurd (let none = sym (one_word b fits) ∙ clear in cc)
+              let set : row_bit over p ≡ true = (bits p fits).1 (omega (arith, here, more, ap (λ (n : ℕ). net_error metric E N (vector_at vectors n)) at)) in
+              absurd (let none = clear in cc)
           | inr less ↦ less
         ]
 
-    pub first_in_block : (b : ℕ) → IsFirstSet (over ∷ []) left b → IsFirstOver metric E N level vectors (64 * k + b)
-    first_in_block b first =
-        let low : b < 64 = omega (arith, first.within, left_is) in
+    pub first_in_block : (p : ℕ) → IsFirstSet over left p → IsFirstOver metric E N level vectors (512 * q + p)
+    first_in_block p first =
+        let low : p < 512 = omega (arith, first.within, left_is) in
         record {
           within = omega (arith, first.within, left_is);
-          over = (let more = (bits b low).0 (sym (one_word b low) ∙ first.set) in omega (arith, more, error_in_block b low));
-          first = λ q less.
-              elim (cases_lt q (64 * k)) [
-                | inl earlier ↦ before q earlier (omega (arith, less, first.within, left_is))
-                | inr later ↦ within_block q later (omega (arith, less, low)) (first.before (q - 64 * k) (omega (arith, less, later)))
+          over = (let more = (bits p low).0 first.set in omega (arith, more, error_in_block p low));
+          first = λ k less.
+              elim (cases_lt k (512 * q)) [
+                | inl earlier ↦ before k earlier (omega (arith, less, first.within, left_is))
+                | inr later ↦ within_block k later (omega (arith, less, low)) (first.before (k - 512 * q) (omega (arith, less, later)))
               ];
         }
 
-    pub none_in_block : HasNoneSet (over ∷ []) left → (q : ℕ) → q < 64 * (k + 1) → q < length vectors → net_error metric E N (vector_at vectors q) ≤ level
-    none_in_block none q low inside =
-        elim (cases_lt q (64 * k)) [
-          | inl earlier ↦ before q earlier inside
-          | inr later ↦ within_block q later low (none (q - 64 * k) (omega (arith, low, inside, later, left_is)))
+    pub none_in_block : HasNoneSet over left → (k : ℕ) → k < 512 * (q + 1) → k < length vectors → net_error metric E N (vector_at vectors k) ≤ level
+    none_in_block none k low inside =
+        elim (cases_lt k (512 * q)) [
+          | inl earlier ↦ before k earlier inside
+          | inr later ↦ within_block k later low (none (k - 512 * q) (omega (arith, low, inside, later, left_is)))
         ]
+
+-- the outputs of a wide block, out of those that are held
+pub wide_held : (N M : NetValue) (s t : PatternSet) (q : ℕ) (held outputs : List (List ℕ)) → M ≡ N → s ≡ t → outputs ≡ held → AreWideOutputs M s.vectors q held
+    → AreWideOutputs N t.vectors q outputs
+wide_held N M s t q held outputs net set is are =
+    subst (λ (K : NetValue). AreWideOutputs K t.vectors q outputs) net
+    (subst (λ (u : PatternSet). AreWideOutputs M u.vectors q outputs) set (subst (λ (l : List (List ℕ)). AreWideOutputs M s.vectors q l) (sym is) are))
+
+pub wide_rows_more : (N : NetValue) (vectors : List (List Bool)) (rows : List (List (List ℕ))) (q : ℕ) (row : List (List ℕ)) → length rows ≡ q → AreWideOutputs N vectors q row
+    → ((k : ℕ) → k < q → AreWideOutputs N vectors k (wides_at rows k)) → (k : ℕ) → k < q + 1 → AreWideOutputs N vectors k (wides_at (rows ++ row ∷ []) k)
+wide_rows_more N vectors rows q row long here before k low =
+    elim (cases_eq k q) [
+      | inl e ↦
+          let at : wides_at (rows ++ row ∷ []) k ≡ row = ap (wides_at (rows ++ row ∷ [])) e ∙ get_or_push rows row [] q long in
+          subst (λ (l : List (List ℕ)). AreWideOutputs N vectors k l) (sym at) (subst (λ n. AreWideOutputs N vectors n row) (sym e) here)
+      | inr other ↦
+          let at : wides_at (rows ++ row ∷ []) k ≡ wides_at rows k = get_or_append_left rows (row ∷ []) [] k (omega (arith, low, other, long)) in
+          subst (λ (l : List (List ℕ)). AreWideOutputs N vectors k l) (sym at) (before k (omega (arith, low, other)))
+    ]
 
 -- ---- the greatest error
 
@@ -120,17 +144,32 @@ block_kept f from b at most least here value low before =
     let bound : from + b + 1 ≡ from + (b + 1) = omega arith in
     (subst (λ n. IsGreatestSoFar f n at most) bound (greatest_kept f (from + b) at most here before.0 (sym value) (omega (arith, low, before.1))), before.1)
 
-pub block_all : (f : ℕ → ℕ) (k count used at most new_at new_most : ℕ) → 64 * k < count → used ≡ min (count - 64 * k) 64
-    → (IsGreatestSoFar f (64 * k) at most → IsGreatestSoFar f (64 * k + used) new_at new_most)
-    → IsGreatestSoFar f (min (64 * k) count) at most → IsGreatestSoFar f (min (64 * (k + 1)) count) new_at new_most
-block_all f k count used at most new_at new_most within is step before =
-    let start : min (64 * k) count ≡ 64 * k = omega (arith, within) in
-    let end : 64 * k + used ≡ min (64 * (k + 1)) count = omega (arith, within, is) in
+pub block_skipped : (f : ℕ → ℕ) (from count at most : ℕ) → ((p : ℕ) → p < count → f (from + p) ≤ most) → IsGreatestSoFar f from at most → IsGreatestSoFar f (from + count) at most
+block_skipped f from count at most low h = record {
+  within = λ some. omega (arith, h.within some);
+  attained = h.attained;
+  greatest = λ k below.
+      elim (cases_lt k from) [
+        | inl earlier ↦ h.greatest k earlier
+        | inr later ↦
+            let place : from + (k - from) ≡ k = omega (arith, later) in
+            subst (λ n. f n ≤ most) place (low (k - from) (omega (arith, below, later)))
+      ];
+  first = h.first;
+}
+
+pub block_all : (f : ℕ → ℕ) (q count used at most new_at new_most : ℕ) → 512 * q < count → used ≡ min (count - 512 * q) 512
+    → (IsGreatestSoFar f (512 * q) at most → IsGreatestSoFar f (512 * q + used) new_at new_most)
+    → IsGreatestSoFar f (min (512 * q) count) at most → IsGreatestSoFar f (min (512 * (q + 1)) count) new_at new_most
+block_all f q count used at most new_at new_most within is step before =
+    let start : min (512 * q) count ≡ 512 * q = omega (arith, within) in
+    let end : 512 * q + used ≡ min (512 * (q + 1)) count = omega (arith, within, is) in
     subst (λ n. IsGreatestSoFar f n new_at new_most) end (step (subst (λ n. IsGreatestSoFar f n at most) start before))
 
-pub not_over : (word b level e here : ℕ) → e ≡ here → (IsTrue (word_bit word b) ↔ (level < e)) → word_bit word b ≡ false → here ≤ level
-not_over word b level e here same bits clear =
+-- a pattern that is not over the level
+pub not_over : (row : List ℕ) (p level e here : ℕ) → e ≡ here → (IsTrue (row_bit row p) ↔ (level < e)) → row_bit row p ≡ false → here ≤ level
+not_over row p level e here same bits clear =
     elim (cases_lt level e) [
-      | inl more ↦ absurd (let set : word_bit word b ≡ true = bits.1 more in cc)
+      | inl more ↦ absurd (let set : row_bit row p ≡ true = bits.1 more in cc)
       | inr less ↦ omega (arith, same, less)
     ]

@@ -15,13 +15,13 @@ use Rattle.lane_nets.proofs.WordBits.{not_bit, ones_bit, zero_bit}
 
 -- ---- one bit
 
-abbrev sum_of : Bool → Bool → Bool → Bool
+abbrev pub sum_of : Bool → Bool → Bool → Bool
 sum_of low one carry = turned carry (turned one low)
 
-abbrev carry_of : Bool → Bool → Bool → Bool
+abbrev pub carry_of : Bool → Bool → Bool → Bool
 carry_of low one carry = (low && one) || (turned one low && carry)
 
-abbrev above_of : Bool → Bool → Bool → Bool
+abbrev pub above_of : Bool → Bool → Bool → Bool
 above_of high sum above = (high && not sum) || (above && not (turned sum high))
 
 added : (low one carry : Bool) → bit_number low + bit_number one + bit_number carry ≡ bit_number (sum_of low one carry) + 2 * bit_number (carry_of low one carry)
@@ -44,7 +44,7 @@ compared true false true x y = (λ h. omega arith, λ h. omega arith)
 compared true true false x y = (λ h. omega arith, λ h. omega arith)
 compared true true true x y = (λ h. omega arith, λ h. omega arith)
 
-goes_on : (low high one carry above new_carry new_above : Bool) → new_carry ≡ carry_of low one carry → new_above ≡ above_of high (sum_of low one carry) above
+pub goes_on : (low high one carry above new_carry new_above : Bool) → new_carry ≡ carry_of low one carry → new_above ≡ above_of high (sum_of low one carry) above
     → GoesOn (bit_number low) (bit_number high) (bit_number one) (bit_number carry) (bit_number above) (bit_number new_carry) (bit_number new_above)
 goes_on low high one carry above new_carry new_above is_carry is_above x y =
     let total = added low one carry in
@@ -116,16 +116,14 @@ module _ (low high : List ℕ) (i b rest carry above : ℕ) (P : Type 0) (same :
         λ p. here.0 (let old = before.1 p in omega (arith, old, lows, highs, one)),
       )
 
-  -- no bit is left
-  pub compare_end : carry < 2 ^ 64 → b < 64 → length low ≤ i → rest ≡ 0 → IsTrue (word_bit (bit_and above (bit_not w64 carry)) b) ↔ P
-  compare_end fits within past none =
+  -- no bit is left, and `last` tells where the higher number is above
+  pub compared_all : (last : Bool) → last ≡ (word_bit above b && not (word_bit carry b)) → length low ≤ i → rest ≡ 0 → IsTrue last ↔ P
+  compared_all last is past none =
       let lows : number_of (lane_at (drop i low) b) ≡ 0 = ap (λ l. number_of (lane_at l b)) (drop_all i low past) in
       let highs : number_of (lane_at (drop i high) b) ≡ 0 = ap (λ l. number_of (lane_at l b)) (drop_all i high (omega (arith, past, same))) in
-      let is : word_bit (bit_and above (bit_not w64 carry)) b ≡ (word_bit above b && not (word_bit carry b)) =
-      and_bit above (bit_not w64 carry) b ∙ ap (λ t. word_bit above b && t) (not_bit carry b fits within) in
-      let last = compared_last (word_bit above b) (word_bit carry b) in (
-        λ set. before.0 (let h = last.0 (sym is ∙ set) in omega (arith, h, lows, highs, none)),
-        λ p. is ∙ last.1 (let h = before.1 p in omega (arith, h, lows, highs, none)),
+      let told = compared_last (word_bit above b) (word_bit carry b) in (
+        λ set. before.0 (let h = told.0 (sym is ∙ set) in omega (arith, h, lows, highs, none)),
+        λ p. is ∙ told.1 (let h = before.1 p in omega (arith, h, lows, highs, none)),
       )
     where
       compared_last : (above carry : Bool) → IsTrue (above && not carry) ↔ (bit_number carry < bit_number above)
@@ -133,6 +131,10 @@ module _ (low high : List ℕ) (i b rest carry above : ℕ) (P : Type 0) (same :
       compared_last false true = (λ set. absurd cc, λ h. absurd (omega (arith, h)))
       compared_last true false = (λ set. omega arith, λ h. refl)
       compared_last true true = (λ set. absurd cc, λ h. absurd (omega (arith, h)))
+
+  pub compare_end : carry < 2 ^ 64 → b < 64 → length low ≤ i → rest ≡ 0 → IsTrue (word_bit (bit_and above (bit_not w64 carry)) b) ↔ P
+  compare_end fits within past none =
+      compared_all (word_bit (bit_and above (bit_not w64 carry)) b) (and_bit above (bit_not w64 carry) b ∙ ap (λ t. word_bit above b && t) (not_bit carry b fits within)) past none
 
 pub either : (s t : Bool) → (s || t) ≡ true → (s ≡ true) ⊎ (t ≡ true)
 either true t h = inl refl

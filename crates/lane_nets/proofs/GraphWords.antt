@@ -7,7 +7,7 @@ use Rattle.std.proofs.lemmas.List.{ext_get_or, length-map, get_or-map}
 use Rattle.semantics.specs.Net.{NetValue, IsSound}
 use Rattle.semantics.specs.Value.{outputs_of}
 use Rattle.lane_bits.specs.Rows.{row_bit, turned}
-use Rattle.lane_bits.specs.Patterns.{pattern_bit}
+use Rattle.lane_bits.specs.Patterns.{PatternSet, pattern_bit}
 use Rattle.lane_bits.proofs.Bits.{and_bit, xor_bit}
 use Rattle.aig_core.specs.declared.gate.Gate.{Gate}
 use Rattle.aig_core.specs.Graph.{GraphValue, gate_at, input_node, gate_node, IsGraph, literal_value, value_of, HasOneValue}
@@ -18,6 +18,8 @@ use Rattle.lane_nets.specs.Blocks.{vector_at}
 use Rattle.lane_nets.specs.Lanes.{lane_at}
 use Rattle.lane_nets.specs.Wide.{lane_words, AreWideOutputs}
 use Rattle.lane_nets.specs.Graphs.{HasInputNodes, IsGraphBlock}
+use Rattle.lane_nets.specs.Schedules.{IsSameNode}
+use Rattle.lane_nets.specs.Changes.{IsInputAt}
 use Rattle.lane_nets.proofs.RowBits.{row_bit-word}
 use Rattle.lane_nets.proofs.WordBits.{zero_bit}
 use Rattle.lane_nets.proofs.WideWords.{lane_words_get, lane_words-set, lane_words-length}
@@ -106,22 +108,32 @@ pub constant_stays : (wides : List (List ℕ)) (n : ℕ) (wide : List ℕ) → (
     → (j b : ℕ) → j < 8 → b < 64 → values_at (lane_words (set wides (1 + n) wide) j) b 0 ≡ false
 constant_stays wides n wide before j b lane low = let other : 0 ≢ 1 + n = (λ e. omega (arith, e)) in value_set_other wides (1 + n) wide j b 0 other ∙ before j b lane low
 
-pub input_nodes_more : (vectors : List (List Bool)) (wides : List (List ℕ)) (row wide : List ℕ) (q n : ℕ) → 1 + n < length wides → ((p : ℕ) → row_bit row p ≡ pattern_bit vectors n p)
+-- the input that is set has its bits
+pub input_read : (vectors : List (List Bool)) (wides : List (List ℕ)) (row wide : List ℕ) (q n : ℕ) → 1 + n < length wides → ((p : ℕ) → row_bit row p ≡ pattern_bit vectors n p)
     → ((j : ℕ) → j < 8 → get_or wide j 0 ≡ get_or row (8 * q + j) 0)
-    → ((j b s : ℕ) → j < 8 → b < 64 → s < n → values_at (lane_words wides j) b (input_node s) ≡ pattern_bit vectors s (64 * (8 * q + j) + b))
-    → (j b s : ℕ) → j < 8 → b < 64 → s < n + 1 → values_at (lane_words (set wides (1 + n) wide) j) b (input_node s) ≡ pattern_bit vectors s (64 * (8 * q + j) + b)
-input_nodes_more vectors wides row wide q n room bits is before j b s lane low within =
-    elim (cases_eq s n) [
-      | inl e ↦
-          ap (λ k. values_at (lane_words (set wides (1 + n) wide) j) b (1 + k)) e
-          ∙ value_set_same wides (1 + n) wide j b room
-          ∙ ap (λ w. word_bit w b) (is j lane)
-          ∙ sym (row_bit-word row (8 * q + j) b low)
-          ∙ bits (64 * (8 * q + j) + b)
-          ∙ ap (λ k. pattern_bit vectors k (64 * (8 * q + j) + b)) (sym e)
+    → (j b : ℕ) → j < 8 → b < 64 → values_at (lane_words (set wides (1 + n) wide) j) b (input_node n) ≡ pattern_bit vectors n (64 * (8 * q + j) + b)
+input_read vectors wides row wide q n room bits is j b lane low =
+    value_set_same wides (1 + n) wide j b room
+    ∙ ap (λ w. word_bit w b) (is j lane)
+    ∙ sym (row_bit-word row (8 * q + j) b low)
+    ∙ bits (64 * (8 * q + j) + b)
+
+pub inputs_set : (s : PatternSet) (q : ℕ) (wides : List (List ℕ)) (n : ℕ) (wide : List ℕ) → 1 + n < length wides → IsInputAt s q (set wides (1 + n) wide) n
+    → ((i : ℕ) → i < n → IsInputAt s q wides i) → (i : ℕ) → i < n + 1 → IsInputAt s q (set wides (1 + n) wide) i
+inputs_set s q wides n wide room here before i low =
+    elim (cases_eq i n) [
+      | inl e ↦ subst (λ k. IsInputAt s q (set wides (1 + n) wide) k) (sym e) here
       | inr other ↦
-          let apart : input_node s ≢ 1 + n = (λ e. omega (arith, other, e)) in
-          value_set_other wides (1 + n) wide j b (input_node s) apart ∙ before j b s lane low (omega (arith, within, other))
+          let apart : input_node i ≢ 1 + n = (λ e. omega (arith, other, e)) in
+          λ j b lane below. value_set_other wides (1 + n) wide j b (input_node i) apart ∙ before i (omega (arith, low, other)) j b lane below
+    ]
+
+pub inputs_kept : (s : PatternSet) (q : ℕ) (start wides : List (List ℕ)) (n : ℕ) → IsSameNode start wides (1 + n) → IsInputAt s q start n → ((i : ℕ) → i < n → IsInputAt s q wides i)
+    → (i : ℕ) → i < n + 1 → IsInputAt s q wides i
+inputs_kept s q start wides n same here before i low =
+    elim (cases_eq i n) [
+      | inl e ↦ subst (λ k. IsInputAt s q wides k) (sym e) (λ j b lane below. same j b lane below ∙ here j b lane below)
+      | inr other ↦ before i (omega (arith, low, other))
     ]
 
 -- one more output

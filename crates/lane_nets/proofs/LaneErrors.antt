@@ -28,7 +28,7 @@ lane-bit words b i low = get_or-map (λ word. word_bit word b) words i 0 false l
 
 -- ---- signs
 
-lane-set : (words : List ℕ) (i word b : ℕ) → lane_at (set words i word) b ≡ set (lane_at words b) i (word_bit word b)
+pub lane-set : (words : List ℕ) (i word b : ℕ) → lane_at (set words i word) b ≡ set (lane_at words b) i (word_bit word b)
 lane-set [] i word b = refl
 lane-set (w ∷ words) zero word b = refl
 lane-set (w ∷ words) (suc i) word b = ap (λ l. word_bit w b ∷ l) (lane-set words i word b)

@@ -10,3 +10,5 @@ pub mod Counting
 pub mod WideWords
 pub mod GraphWords
 pub mod Schedules
+pub mod WideErrors
+pub mod ChangedInputs

@@ -11,7 +11,6 @@ use Rattle.aig_core.specs.declared.gate.Gate.{Gate}
 use Rattle.aig_core.specs.Graph.{GraphValue, no_gate, gate_at, input_node, gate_node, node_count, IsGraph, literal_value, value_of}
 use Rattle.aig_core.proofs.Rounds.{value_law, literal_same}
 use Rattle.lane_nets.specs.declared.schedule.Step.{Step}
-use Rattle.lane_nets.specs.declared.schedule.Schedule.{Schedule}
 use Rattle.lane_nets.specs.Words.{word_bit, values_at}
 use Rattle.lane_nets.specs.Wide.{lane_words}
 use Rattle.lane_nets.specs.Schedules.{no_step, step_at, step_of, ReadsOther, ReadsBelow, AreStepsOf, AreFirstReads, IsDone, IsSameNode, IsSettled}

@@ -1,6 +1,6 @@
 -- Wide words lane by lane.
-use Rattle.std.proofs.Common.{◌≡◌, ℕ, zero, suc, ◌+◌, ◌-◌, ◌*◌, ◌/◌, ◌%◌, ◌<◌, ◌≤◌, Bool, true, false, not, cond, ◌&&◌, Fits, w64, List, [], ◌∷◌, length, map, get_or, set, take, drop}
-use Rattle.std.proofs.Common.{refl, ap, sym, subst, ◌∙◌, inl, inr, arith, get_or-set_same, get_or-set_other}
+use Rattle.std.proofs.Common.{◌≡◌, ℕ, zero, suc, ◌+◌, ◌-◌, ◌*◌, ◌<◌, ◌≤◌, Bool, true, false, not, cond, ◌&&◌, Fits, w64, List, [], ◌∷◌, length, map, get_or, set, take, drop}
+use Rattle.std.proofs.Common.{refl, ap, sym, ◌∙◌, inl, inr, arith, get_or-set_same, get_or-set_other}
 use Rattle.std.specs.Int.{bit_not}
 use Rattle.std.specs.Prelude.{bit_and}
 use Rattle.std.proofs.lemmas.Bool.{cases_eq}
@@ -17,7 +17,6 @@ use Rattle.net_core.proofs.InOrder.{HoldsBefore, next_at, holds_none, holds_more
 use Rattle.lane_bits.specs.Rows.{row_bit}
 use Rattle.lane_bits.specs.Patterns.{pattern_bit}
 use Rattle.lane_nets.specs.Words.{word_bit, values_at, HasInputs}
-use Rattle.lane_nets.specs.Lanes.{IsOutputBlock}
 use Rattle.lane_nets.specs.Wide.{lane_words, IsWideBlock, AreWideOutputs}
 use Rattle.lane_nets.proofs.BlockErrors.{output_block_is}
 use Rattle.lane_nets.proofs.RowBits.{row_bit-word}
@@ -130,23 +129,3 @@ pub table_outputs : (N : NetValue) (vectors : List (List Bool)) (q : ℕ) (wides
     → outputs ≡ map (λ s. get_or wides s []) N.outputs → AreWideOutputs N vectors q outputs
 table_outputs N vectors q wides outputs sound block is j lane =
     output_block_is N vectors (8 * q + j) (lane_words wides j) (lane_words outputs j) sound (block j lane) (ap (λ (l : List (List ℕ)). lane_words l j) is ∙ lane-signals wides j N.outputs)
-
--- block k is lane k % 8 of its wide block
-pub lane_block : (N : NetValue) (vectors : List (List Bool)) (k : ℕ) (outputs : List (List ℕ)) → AreWideOutputs N vectors (k / 8) outputs → IsOutputBlock N vectors k (lane_words outputs (k % 8))
-lane_block N vectors k outputs are =
-    let at : 8 * (k / 8) + k % 8 ≡ k = omega arith in
-    subst (λ n. IsOutputBlock N vectors n (lane_words outputs (k % 8))) at (are (k % 8) (omega arith))
-
--- the outputs of block k, out of those that are held
-pub block_held : (N M : NetValue) (vectors : List (List Bool)) (k : ℕ) (held outputs : List (List ℕ)) → M ≡ N → outputs ≡ held → AreWideOutputs M vectors (k / 8) held
-    → IsOutputBlock N vectors k (lane_words outputs (k % 8))
-block_held N M vectors k held outputs same is are =
-    lane_block N vectors k outputs
-    (subst (λ (K : NetValue). AreWideOutputs K vectors (k / 8) outputs) same (subst (λ (l : List (List ℕ)). AreWideOutputs M vectors (k / 8) l) (sym is) are))
-
--- the next block stands in the wide block that is held, where it does not begin another
-pub held_more : (N M : NetValue) (vectors : List (List Bool)) (k : ℕ) (held : List (List ℕ)) → N ≡ M → AreWideOutputs M vectors (k / 8) held
-    → 0 < (k + 1) % 8 → AreWideOutputs N vectors ((k + 1) / 8) held
-held_more N M vectors k held net are some =
-    let same : k / 8 ≡ (k + 1) / 8 = omega arith in
-    subst (λ q. AreWideOutputs N vectors q held) same (subst (λ (K : NetValue). AreWideOutputs K vectors (k / 8) held) (sym net) are)

@@ -5,3 +5,4 @@ pub mod Lanes
 pub mod Wide
 pub mod Schedules
 pub mod Graphs
+pub mod Changes

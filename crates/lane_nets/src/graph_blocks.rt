@@ -1,15 +1,16 @@
 //! The values of a graph's nodes, and the outputs of its net, in blocks of 512 patterns.
-ghost use Rattle.std.specs.Prelude.{◌≡◌, ◌⊎◌, ◌+◌, ◌*◌, ◌<◌, ◌≤◌, ℕ, length, slice_index, IfOk};
+ghost use Rattle.std.specs.Prelude.{◌≡◌, ◌⊎◌, ◌*◌, ◌<◌, ◌≤◌, ℕ, length, slice_index, IfOk};
 ghost use Rattle.semantics.specs.Net.{input_count};
 ghost use Rattle.lane_bits.specs.Rows.{word_count};
-ghost use Rattle.lane_bits.specs.Patterns.{pattern_bit};
-ghost use Rattle.aig_core.specs.Graph.{input_node, literal_value, node_count};
+ghost use Rattle.aig_core.specs.Graph.{literal_value, node_count};
 ghost use Rattle.aig_core.specs.Signals.{IsGraphOf};
 ghost use Rattle.lane_nets.specs.Words.{values_at};
 ghost use Rattle.lane_nets.specs.Wide.{lane_words, AreWideOutputs};
 ghost use Rattle.lane_nets.specs.Schedules.{IsSameNode, IsSchedule, IsSettled};
 ghost use Rattle.lane_nets.specs.Graphs.{IsGraphBlock, IsWalkOf};
+ghost use Rattle.lane_nets.specs.Changes.{AreKeptInputs, HasInputBlock};
 
+use crate::changes::{NextBlock, is_marked};
 use crate::graph_words::{eval_steps, literal_wide};
 use crate::schedule::{Schedule, scheduled};
 use crate::wide_blocks::wide_at;
@@ -41,41 +42,44 @@ fn first_changed(from: usize, first: usize, old: u64x8, new: u64x8) -> usize
     }
 }
 
-/// Sets the words of the inputs to those of wide block q, and gives the place of the first step that reads
-/// one that changed.
-fn change_inputs(patterns: &Patterns, q: usize, firsts: &[usize], wides: &mut [u64x8]) -> usize
-    requires room { patterns.now.inputs < length wides.old }
+/// Sets the words of the inputs that are marked to those of the next wide block, and gives the place of the
+/// first step that reads one that changed.
+fn change_inputs(next: &NextBlock, firsts: &[usize], wides: &mut [u64x8]) -> usize
+    requires room { next.now.patterns.now.inputs < length wides.old }
     requires firsts { length firsts.now ≡ length wides.old }
-    requires within { 8 * q ≤ word_count (length patterns.now.vectors) }
-    ensures inputs { (j b s : ℕ) → j < 8 → b < 64 → s < patterns.now.inputs
-        → values_at (lane_words wides.new j) b (input_node s)
-        ≡ pattern_bit patterns.now.vectors s (64 * (8 * q + j) + b) }
+    requires within { 8 * next.now.q ≤ word_count (length next.now.patterns.now.vectors) }
+    requires kept { AreKeptInputs next.now.patterns.now next.now.q next.now.marks wides.old }
+    ensures inputs { HasInputBlock next.now.patterns.now next.now.q wides.new }
     ensures changed { (n : ℕ) → IsSameNode wides.old wides.new n ⊎ (result ≤ slice_index firsts.now n) }
     ensures constant { IsSameNode wides.old wides.new 0 }
-    ensures gates { (n : ℕ) → patterns.now.inputs < n → IsSameNode wides.old wides.new n }
+    ensures gates { (n : ℕ) → next.now.patterns.now.inputs < n → IsSameNode wides.old wides.new n }
 {
     let mut from = usize::MAX;
-    for s in 0..patterns.inputs() {
-        let node = 1 + s as usize;
-        let wide = wide_at(patterns.row(s), 8 * q);
-        from = first_changed(from, firsts[node], wides[node], wide);
-        wides[node] = wide;
+    for s in 0..next.patterns.inputs() {
+        if is_marked(next.marks, s) {
+            let node = 1 + s as usize;
+            let wide = wide_at(next.patterns.row(s), 8 * next.q);
+            from = first_changed(from, firsts[node], wides[node], wide);
+            wides[node] = wide;
+        }
     }
     from
 }
 
-/// Sets `wides` from the values of a graph's nodes in another wide block to those in wide block q.
-fn set_graph_block(walk: &GraphWalk, patterns: &Patterns, q: usize, wides: &mut [u64x8])
+/// Sets `wides` from the values of a graph's nodes in another wide block to those in the next one.
+fn set_graph_block(walk: &GraphWalk, next: &NextBlock, wides: &mut [u64x8])
     requires schedule { IsSchedule walk.now.made.graph walk.now.schedule }
-    requires inputs { patterns.now.inputs ≡ walk.now.made.graph.inputs }
-    requires within { 8 * q ≤ word_count (length patterns.now.vectors) }
+    requires inputs { next.now.patterns.now.inputs ≡ walk.now.made.graph.inputs }
+    requires within { 8 * next.now.q ≤ word_count (length next.now.patterns.now.vectors) }
     requires room { length wides.old ≡ node_count walk.now.made.graph }
     requires settled { IsSettled walk.now.schedule.steps.items wides.old }
+    requires kept { AreKeptInputs next.now.patterns.now next.now.q next.now.marks wides.old }
     ensures settled { IsSettled walk.now.schedule.steps.items wides.new }
-    ensures block { IsGraphBlock walk.now.made.graph patterns.now.vectors q wides.new }
+    ensures inputs { HasInputBlock next.now.patterns.now next.now.q wides.new }
+    ensures block { IsGraphBlock walk.now.made.graph next.now.patterns.now.vectors next.now.q wides.new }
 {
     walk.made.graph.is_graph();
-    let from = change_inputs(patterns, q, &walk.schedule.firsts, wides);
+    let from = change_inputs(next, &walk.schedule.firsts, wides);
     eval_steps(&walk.schedule.steps, from, wides);
 }
 
@@ -97,25 +101,26 @@ fn set_literals(net: &Net, literals: &[Literal], wides: &[u64x8], outputs: &mut 
     }
 }
 
-/// Sets `outputs` to a net's outputs in wide block q, by the values of its graph's nodes. Those of another
-/// wide block stand in `wides`, and what changes is computed there.
+/// Sets `outputs` to a net's outputs in the next wide block, by the values of its graph's nodes. Those of
+/// another wide block stand in `wides`, and what changes is computed there.
 pub(crate) fn set_graph_outputs(
     net: &Net,
     walk: &GraphWalk,
-    patterns: &Patterns,
-    q: usize,
+    next: &NextBlock,
     wides: &mut [u64x8],
     outputs: &mut [u64x8],
 )
     requires walk { IsWalkOf net.now walk.now wides.old }
-    requires inputs { patterns.now.inputs ≡ input_count net.now }
-    requires within { 8 * q ≤ word_count (length patterns.now.vectors) }
+    requires inputs { next.now.patterns.now.inputs ≡ input_count net.now }
+    requires within { 8 * next.now.q ≤ word_count (length next.now.patterns.now.vectors) }
     requires room { length outputs.old ≡ length net.now.outputs }
+    requires kept { AreKeptInputs next.now.patterns.now next.now.q next.now.marks wides.old }
     ensures walk { IsWalkOf net.now walk.now wides.new }
-    ensures outputs { AreWideOutputs net.now patterns.now.vectors q outputs.new }
+    ensures inputs { HasInputBlock next.now.patterns.now next.now.q wides.new }
+    ensures outputs { AreWideOutputs net.now next.now.patterns.now.vectors next.now.q outputs.new }
 {
     net.see_sound();
-    set_graph_block(walk, patterns, q, wides);
+    set_graph_block(walk, next, wides);
     set_literals(net, &walk.made.literals, wides, outputs);
 }
 

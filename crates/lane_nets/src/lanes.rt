@@ -227,7 +227,7 @@ fn single_errors(kind: Kind, level: u128, exact: &[u64], approx: &[u64]) -> u64
 }
 
 /// The lanes where the error of one word exceeds the level.
-fn over_by_kind(kind: Kind, level: u128, exact: &[u64], approx: &[u64]) -> u64
+pub(crate) fn over_by_kind(kind: Kind, level: u128, exact: &[u64], approx: &[u64]) -> u64
     requires same { length exact.now ≡ length approx.now }
     requires few { length exact.now ≤ MOST_OUTPUTS }
     ensures { (b : ℕ) → b < 64

@@ -4,6 +4,7 @@
 #![tactic(auto)]
 
 pub mod blocks;
+mod changes;
 pub mod cone_order;
 mod graph_blocks;
 mod graph_words;
@@ -15,6 +16,7 @@ pub mod table_words;
 pub mod trials;
 pub mod values;
 mod wide_blocks;
+mod wide_lanes;
 mod wide_outputs;
 mod wide_words;
 pub mod word_list;

@@ -4,17 +4,14 @@ ghost use Rattle.semantics.specs.Net.{input_count, signal_count};
 ghost use Rattle.lane_nets.specs.Words.{word_bit};
 ghost use Rattle.lane_bits.specs.Rows.{word_count};
 ghost use Rattle.lane_nets.specs.Lanes.{output_words, IsOutputBlock, AreOutputWordsOf};
-ghost use Rattle.lane_nets.specs.Wide.{lane_words};
 
 use crate::blocks::set_block;
-use crate::wide_outputs::{WideOutputs, set_lane_words};
 use crate::word_list::WordList;
 use lane_bits::kernels::word_count;
 use lane_bits::patterns::Patterns;
 use net_core::items::Items;
 use net_core::net::Net;
 use std::alloc::{AllocError, Global};
-use std::simd::u64x8;
 
 /// One bit of a word.
 pub(crate) fn word_bit(word: u64, b: u32) -> bool
@@ -63,16 +60,6 @@ pub fn output_block(
     output_row(alloc, net, words)
 }
 
-/// The words of one of the eight blocks, in memory of their own.
-fn lane_row(alloc: Global, wides: &[u64x8], j: usize) -> Result<WordList, AllocError>
-    requires { j < 8 }
-    ensures { IfOk result (λ row. row ≡ lane_words wides.now j) }
-{
-    let mut row = vec![in alloc; 0; wides.len()]?;
-    set_lane_words(wides, j, &mut row);
-    Ok(WordList::of(row))
-}
-
 /// The words of a net's outputs at all patterns, in blocks of 64.
 pub fn output_rows(
     alloc: Global,
@@ -82,12 +69,9 @@ pub fn output_rows(
     requires { patterns.now.inputs ≡ input_count net.now }
     ensures { IfOk result (AreOutputWordsOf net.now patterns.now.vectors) }
 {
-    let count = word_count(patterns.count());
-    let mut wide = WideOutputs::new(alloc, net, patterns)?;
     let mut rows = Items::new(alloc);
-    for k in 0..count {
-        wide.reach(patterns, k as usize);
-        rows.push(lane_row(alloc, wide.outputs(), k as usize % 8)?)?;
+    for k in 0..word_count(patterns.count()) {
+        rows.push(output_block(alloc, net, patterns, k as usize)?)?;
     }
     Ok(rows)
 }

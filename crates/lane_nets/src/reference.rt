@@ -4,10 +4,10 @@ ghost use Rattle.semantics.specs.Net.{input_count};
 ghost use Rattle.semantics.specs.Error.{IsCandidate};
 ghost use Rattle.lane_nets.specs.Errors.{FindsFirstOver, IsFirstGreatest};
 
-use crate::outputs::output_rows;
+use crate::changes::changes;
 use crate::trials::{Greatest, first_over, greatest_error};
-use crate::wide_outputs::WideOutputs;
-use crate::word_list::WordList;
+use crate::wide_outputs::{WideOutputs, wide_rows};
+use crate::word_list::WideList;
 use lane_bits::patterns::Patterns;
 use net_core::items::Items;
 use net_core::net::Net;
@@ -16,25 +16,30 @@ use semantics::metric::Metric;
 use std::alloc::{AllocError, Global};
 use std::marker::Model;
 
-/// An exact net, a set of patterns, and the words of the net's outputs at these patterns, in blocks of 64.
+/// An exact net, a set of patterns, and the net's outputs at these patterns, in blocks of 512.
 #[derive(Drop)]
 pub struct Reference<'a> {
     exact: &'a Net,
     patterns: Patterns,
-    outputs: Items<WordList>,
+    outputs: Items<WideList>,
+    /// Marks of the inputs that may differ from wide block to wide block.
+    changes: Vec<u64>,
 }
 
 impl<'a> Model for Reference<'a> {
     ghost use Rattle.std.specs.Prelude.{◌≡◌};
     ghost use Rattle.semantics.specs.Net.{input_count};
-    ghost use Rattle.lane_nets.specs.Lanes.{ReferenceValue, AreOutputWordsOf};
+    ghost use Rattle.lane_nets.specs.Lanes.{ReferenceValue};
+    ghost use Rattle.lane_nets.specs.Wide.{AreWideOutputsOf};
+    ghost use Rattle.lane_nets.specs.Changes.{AreChanges};
 
     ghost Value = { ReferenceValue };
 
     ghost view = { λ r. record { exact = r.exact.now; patterns = r.patterns } };
 
     ghost invariant = { λ r. (r.patterns.inputs ≡ input_count r.exact.now)
-        × AreOutputWordsOf r.exact.now r.patterns.vectors r.outputs };
+        × AreWideOutputsOf r.exact.now r.patterns.vectors r.outputs
+        × AreChanges r.patterns r.changes.items };
 }
 
 impl<'a> Reference<'a> {
@@ -47,11 +52,13 @@ impl<'a> Reference<'a> {
         requires { patterns.inputs ≡ input_count exact.now }
         ensures { IfOk result (λ r. r ≡ record { exact = exact.now; patterns = patterns }) }
     {
-        let outputs = output_rows(alloc, exact, &patterns)?;
+        let changes = changes(alloc, &patterns)?;
+        let outputs = wide_rows(alloc, exact, &patterns, &changes)?;
         Ok(Reference {
             exact,
             patterns,
             outputs,
+            changes,
         })
     }
 
@@ -75,7 +82,7 @@ impl<'a> Reference<'a> {
         ensures { IfOk result (FindsFirstOver metric self.now.exact approx.now level
             self.now.patterns.vectors) }
     {
-        let mut wide = WideOutputs::new(alloc, approx, &self.patterns)?;
+        let mut wide = WideOutputs::new(alloc, approx, &self.patterns, &self.changes)?;
         Ok(first_over(
             &Compared::new(self.exact, approx),
             metric,
@@ -99,7 +106,7 @@ impl<'a> Reference<'a> {
         ensures { IfOk result
             (λ g. IsFirstGreatest metric self.now.exact approx.now self.now.patterns.vectors g.error g.at) }
     {
-        let mut wide = WideOutputs::new(alloc, approx, &self.patterns)?;
+        let mut wide = WideOutputs::new(alloc, approx, &self.patterns, &self.changes)?;
         Ok(greatest_error(
             &Compared::new(self.exact, approx),
             metric,

@@ -1,16 +1,17 @@
 //! The first of some input vectors whose error exceeds a level, and the one with the greatest error.
-ghost use Rattle.std.specs.Prelude.{◌≡◌, ◌↔◌, ◌+◌, ◌<◌, ◌≤◌, ◌^◌, ℕ, length, IsTrue};
-ghost use Rattle.semantics.specs.Net.{input_count};
-ghost use Rattle.semantics.specs.Error.{error_of};
-ghost use Rattle.lane_nets.specs.Words.{word_bit};
-ghost use Rattle.lane_nets.specs.Lanes.{lane_at, AreOutputWordsOf};
-ghost use Rattle.lane_nets.specs.Wide.{lane_words};
+ghost use Rattle.std.specs.Prelude.{◌≡◌, ◌↔◌, ◌+◌, ◌*◌, ◌/◌, ◌%◌, ◌<◌, ◌≤◌, ◌^◌, ℕ, false, length};
+ghost use Rattle.std.specs.Prelude.{IsTrue};
+ghost use Rattle.semantics.specs.Error.{error_of, IsCandidate};
+ghost use Rattle.lane_bits.specs.Rows.{row_bit};
+ghost use Rattle.lane_nets.specs.Lanes.{lane_at};
+ghost use Rattle.lane_nets.specs.Wide.{lane_words, AreWideOutputsOf};
 ghost use Rattle.lane_nets.specs.Errors.{FindsFirstOver, IsFirstGreatest, IsGreatestSoFar};
 
-use crate::lanes::{lane_error, over_word};
+use crate::lanes::lane_error;
 use crate::outputs::word_bit;
+use crate::wide_lanes::over_wide;
 use crate::wide_outputs::{WideOutputs, set_lane_words};
-use crate::word_list::WordList;
+use crate::word_list::WideList;
 use lane_bits::kernels::first_set;
 use lane_bits::patterns::Patterns;
 use net_errors::compared::Compared;
@@ -25,57 +26,48 @@ pub struct Greatest {
     pub at: u64,
 }
 
-/// The lanes where the error exceeds the level, at the patterns of one of the eight blocks.
+/// The lanes where the error exceeds the level, in the eight words of a wide block.
 fn block_over(
     nets: &Compared,
     metric: Metric,
     level: u128,
-    exact: &[u64],
+    exact: &[u64x8],
     wides: &[u64x8],
-    j: usize,
-) -> u64
-    requires lane { j < 8 }
+) -> [u64; 8]
+    requires candidate { IsCandidate nets.now.exact nets.now.approx }
     requires exact { length exact.now ≡ length nets.now.exact.outputs }
     requires wides { length wides.now ≡ length nets.now.approx.outputs }
-    ensures { (b : ℕ) → b < 64 → IsTrue (word_bit result b)
-        ↔ (level < error_of metric (lane_at exact.now b)
-        (lane_at (lane_words wides.now j) b)) }
+    ensures length { length result ≡ 8 }
+    ensures bits { (p : ℕ) → p < 512 → IsTrue (row_bit result p)
+        ↔ (level < error_of metric (lane_at (lane_words exact.now (p / 64)) (p % 64))
+        (lane_at (lane_words wides.now (p / 64)) (p % 64))) }
 {
-    let mut room = [0; MOST_OUTPUTS];
-    let outputs = &mut room[..nets.approx().outputs() as usize];
-    set_lane_words(wides, j, outputs);
-    over_word(metric, level, exact, outputs)
+    over_wide(metric, level, exact, wides).to_array()
 }
 
 /// The first pattern whose error exceeds the level, where `outputs` are those of the exact net. The outputs
-/// of the approximate net are computed into `wide`, eight blocks at a time, up to that pattern.
+/// of the approximate net are computed into `wide`, 512 patterns at a time, up to that pattern.
 pub(crate) fn first_over(
     nets: &Compared,
     metric: Metric,
     level: u128,
     patterns: &Patterns,
-    outputs: &[WordList],
+    outputs: &[WideList],
     wide: &mut WideOutputs,
 ) -> Option<u64>
-    requires inputs { patterns.now.inputs ≡ input_count wide.old.net }
-    requires outputs { AreOutputWordsOf nets.now.exact patterns.now.vectors outputs.now }
+    requires candidate { IsCandidate nets.now.exact nets.now.approx }
+    requires patterns { wide.old.patterns ≡ patterns.now }
+    requires outputs { AreWideOutputsOf nets.now.exact patterns.now.vectors outputs.now }
     requires wide { wide.old.net ≡ nets.now.approx }
     ensures { FindsFirstOver metric nets.now.exact nets.now.approx level patterns.now.vectors result }
 {
     let count = patterns.count();
-    for k in 0..outputs.len() {
-        wide.reach(patterns, k);
-        let over = block_over(
-            nets,
-            metric,
-            level,
-            outputs[k].as_slice(),
-            wide.outputs(),
-            k % 8,
-        );
-        let from = 64 * k as u64;
-        if let Some(b) = first_set(&[over], (count - from).min(64)) {
-            return Some(from + b);
+    for q in 0..outputs.len() {
+        wide.reach(q);
+        let over = block_over(nets, metric, level, outputs[q].as_slice(), wide.outputs());
+        let from = 512 * q as u64;
+        if let Some(p) = first_set(&over, (count - from).min(512)) {
+            return Some(from + p);
         }
     }
     None
@@ -93,71 +85,98 @@ fn greater(so_far: Greatest, error: u128, at: u64) -> Greatest
     }
 }
 
-/// The greatest error up to the first `count` patterns of one of the eight blocks, which begins at pattern
-/// `from`.
+/// The error at pattern p of a wide block.
+fn wide_error(nets: &Compared, metric: Metric, exact: &[u64x8], wides: &[u64x8], p: u32) -> u128
+    requires pattern { p < 512 }
+    requires candidate { IsCandidate nets.now.exact nets.now.approx }
+    requires exact { length exact.now ≡ length nets.now.exact.outputs }
+    requires wides { length wides.now ≡ length nets.now.approx.outputs }
+    ensures { result ≡ error_of metric (lane_at (lane_words exact.now (p / 64)) (p % 64))
+        (lane_at (lane_words wides.now (p / 64)) (p % 64)) }
+{
+    let mut exact_room = [0; MOST_OUTPUTS];
+    let mut approx_room = [0; MOST_OUTPUTS];
+    let right = &mut exact_room[..nets.exact().outputs() as usize];
+    let outputs = &mut approx_room[..nets.approx().outputs() as usize];
+    set_lane_words(exact, (p / 64) as usize, right);
+    set_lane_words(wides, (p / 64) as usize, outputs);
+    lane_error(metric, right, outputs, p % 64)
+}
+
+/// The first place below `count` whose bit is 1, or `count`.
+fn first_place(row: &[u64], count: u32) -> u32
+    requires { count ≤ 64 * length row.now }
+    ensures within { result ≤ count }
+    ensures clear { (p : ℕ) → p < result → row_bit row.now p ≡ false }
+{
+    match first_set(row, u64::from(count)) {
+        Some(p) => p as u32,
+        None => count,
+    }
+}
+
+/// The greatest error up to the first `count` patterns of a wide block, which begins at pattern `from`. The
+/// errors are computed one by one where some of them exceeds the greatest error before.
 fn greatest_in_block(
     nets: &Compared,
     metric: Metric,
-    exact: &[u64],
+    exact: &[u64x8],
     wides: &[u64x8],
-    j: usize,
     from: u64,
     count: u32,
     so_far: Greatest,
 ) -> Greatest
-    requires lane { j < 8 }
+    requires candidate { IsCandidate nets.now.exact nets.now.approx }
     requires exact { length exact.now ≡ length nets.now.exact.outputs }
     requires wides { length wides.now ≡ length nets.now.approx.outputs }
-    requires few { count ≤ 64 }
+    requires few { count ≤ 512 }
     requires room { from + count < 2 ^ 64 }
-    ensures { (f : ℕ → ℕ) → ((b : ℕ) → b < 64 → f (from + b)
-        ≡ error_of metric (lane_at exact.now b)
-        (lane_at (lane_words wides.now j) b))
+    ensures { (f : ℕ → ℕ) → ((p : ℕ) → p < 512 → f (from + p)
+        ≡ error_of metric (lane_at (lane_words exact.now (p / 64)) (p % 64))
+        (lane_at (lane_words wides.now (p / 64)) (p % 64)))
         → IsGreatestSoFar f from so_far.at so_far.error
         → IsGreatestSoFar f (from + count) result.at result.error }
 {
-    let mut room = [0; MOST_OUTPUTS];
-    let outputs = &mut room[..nets.approx().outputs() as usize];
-    set_lane_words(wides, j, outputs);
-    let over = over_word(metric, so_far.error, exact, outputs);
+    let over = block_over(nets, metric, so_far.error, exact, wides);
     let mut greatest = so_far;
-    for b in 0..count {
-        if word_bit(over, b) {
-            let error = lane_error(metric, exact, outputs, b);
-            greatest = greater(greatest, error, from + u64::from(b));
+    let first = first_place(&over, count);
+    for p in first..count {
+        if word_bit(over[(p / 64) as usize], p % 64) {
+            let error = wide_error(nets, metric, exact, wides, p);
+            greatest = greater(greatest, error, from + u64::from(p));
         }
     }
     greatest
 }
 
 /// The greatest error of the patterns, and the first pattern that has it, where `outputs` are those of the
-/// exact net. The outputs of the approximate net are computed into `wide`, eight blocks at a time.
+/// exact net. The outputs of the approximate net are computed into `wide`, 512 patterns at a time.
 pub(crate) fn greatest_error(
     nets: &Compared,
     metric: Metric,
     patterns: &Patterns,
-    outputs: &[WordList],
+    outputs: &[WideList],
     wide: &mut WideOutputs,
 ) -> Greatest
-    requires inputs { patterns.now.inputs ≡ input_count wide.old.net }
+    requires candidate { IsCandidate nets.now.exact nets.now.approx }
+    requires patterns { wide.old.patterns ≡ patterns.now }
     requires some { 0 < length patterns.now.vectors }
-    requires outputs { AreOutputWordsOf nets.now.exact patterns.now.vectors outputs.now }
+    requires outputs { AreWideOutputsOf nets.now.exact patterns.now.vectors outputs.now }
     requires wide { wide.old.net ≡ nets.now.approx }
     ensures { IsFirstGreatest metric nets.now.exact nets.now.approx patterns.now.vectors result.error
         result.at }
 {
     let count = patterns.count();
     let mut greatest = Greatest { error: 0, at: 0 };
-    for k in 0..outputs.len() {
-        wide.reach(patterns, k);
-        let from = 64 * k as u64;
-        let used = (count - from).min(64) as u32;
+    for q in 0..outputs.len() {
+        wide.reach(q);
+        let from = 512 * q as u64;
+        let used = (count - from).min(512) as u32;
         greatest = greatest_in_block(
             nets,
             metric,
-            outputs[k].as_slice(),
+            outputs[q].as_slice(),
             wide.outputs(),
-            k % 8,
             from,
             used,
             greatest,

@@ -26,7 +26,7 @@ pub(crate) fn and_wide(a: u64x8, b: u64x8) -> u64x8
 
 /// The disjunction of two wide words.
 #[inline(always)]
-fn or_wide(a: u64x8, b: u64x8) -> u64x8
+pub(crate) fn or_wide(a: u64x8, b: u64x8) -> u64x8
     ensures { (j : ℕ) → j < 8 → slice_index result j ≡ bit_or (slice_index a j) (slice_index b j) }
 {
     a | b
@@ -38,6 +38,15 @@ pub(crate) fn xor_wide(a: u64x8, b: u64x8) -> u64x8
     ensures { (j : ℕ) → j < 8 → slice_index result j ≡ bit_xor (slice_index a j) (slice_index b j) }
 {
     a ^ b
+}
+
+/// A wide word with each bit turned over.
+#[inline(always)]
+pub(crate) fn not_wide(a: u64x8) -> u64x8
+    ensures { (j b : ℕ) → j < 8 → b < 64
+        → word_bit (slice_index result j) b ≡ not (word_bit (slice_index a j) b) }
+{
+    !a
 }
 
 /// Whether two wide words are equal.

@@ -1,9 +1,11 @@
 //! Words in memory of their own: the words of a block, one for each signal, or those of a row, one for each
 //! 64 patterns.
-ghost use Rattle.std.specs.Prelude.{◌≡◌, [], ◌∷◌, ◌++◌, length, take, OnOk, OnErr};
+ghost use Rattle.std.specs.Prelude.{◌≡◌, [], ◌∷◌, ◌++◌, length, take};
+ghost use Rattle.std.specs.Prelude.{IfOk, OnOk, OnErr};
 
 use std::alloc::{AllocError, Global};
 use std::marker::Model;
+use std::simd::u64x8;
 
 /// A list of words.
 #[derive(Drop)]
@@ -64,5 +66,37 @@ impl WordList {
         ensures { self.new ≡ take count self.old }
     {
         self.words.truncate(count);
+    }
+}
+
+/// A list of wide words in memory of their own: the outputs of a net at 512 patterns.
+#[derive(Drop)]
+pub struct WideList {
+    wides: Vec<u64x8>,
+}
+
+impl Model for WideList {
+    ghost use Rattle.std.specs.Prelude.{List, ℕ};
+
+    ghost Value = { List (List ℕ) };
+
+    ghost view = { λ a. a.wides.items };
+}
+
+impl WideList {
+    /// A copy of these wide words.
+    pub fn from_slice(alloc: Global, wides: &[u64x8]) -> Result<WideList, AllocError>
+        ensures { IfOk result (λ list. list ≡ wides.now) }
+    {
+        let mut copy = vec![in alloc; u64x8::splat(0); wides.len()]?;
+        copy.copy_from_slice(wides);
+        Ok(WideList { wides: copy })
+    }
+
+    /// The wide words.
+    pub fn as_slice(&self) -> &[u64x8]
+        ensures { result.now ≡ self.now }
+    {
+        self.wides.as_slice()
     }
 }

@@ -49,11 +49,30 @@ impl<'a> Model for Judge<'a> {
         × IfSome j.every (IsEachVectorHeld j.exact.now) };
 }
 
-/// The decider by diagrams; it holds no diagrams where every vector is held from the beginning.
+/// The most inputs with which no diagrams are made: with 20 inputs every vector is tried in some milliseconds,
+/// and to find that a multiplier has no small diagrams takes half a second.
+const MOST_INPUTS_WITHOUT: u32 = 20;
+
+/// How many tables are computed at 512 vectors in the time of one step of a question to diagrams.
+const TABLES_A_STEP: u64 = 64;
+
+/// The most steps of a question to diagrams: where every vector can be tried instead, as many as take about
+/// as long as that.
+fn question_steps(exact: &Net) -> u64 {
+    let inputs = exact.inputs();
+    if inputs > MOST_TRIED_INPUTS {
+        return QUESTION_STEPS;
+    }
+    let blocks: u64 = (1 << inputs) / 512;
+    let trial = blocks.saturating_mul(u64::from(exact.tables()));
+    QUESTION_STEPS.min(trial / TABLES_A_STEP)
+}
+
+/// The decider by diagrams; it holds no diagrams where every vector is tried soon enough without them.
 fn decider_for<'a>(alloc: Global, exact: &'a Net) -> Result<Decider<'a>, AllocError>
     ensures { IfOk result (λ d. d ≡ exact.now) }
 {
-    if exact.inputs() <= LANE_INPUTS {
+    if exact.inputs() <= MOST_INPUTS_WITHOUT {
         return Ok(Decider::none(exact));
     }
     Decider::new(alloc, exact)
@@ -122,7 +141,7 @@ impl<'a> Judge<'a> {
         ensures answer { IfOk result
             (λ found. IfSome found (IsSureAnswer aim nets.now.exact nets.now.approx)) }
     {
-        by_diagrams(alloc, nets, &mut self.decider, aim, QUESTION_STEPS)
+        by_diagrams(alloc, nets, &mut self.decider, aim, question_steps(self.exact))
     }
 
     /// The answer of every vector, with at most `MOST_TRIED_INPUTS` inputs.

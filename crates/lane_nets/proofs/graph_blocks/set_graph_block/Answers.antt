@@ -1,5 +1,5 @@
-use Rattle.std.proofs.Common.{◌≡◌, ◌+◌, ◌*◌, ◌<◌, ℕ, List, length, ◌∙◌, sym, subst, ap, arith}
-use Rattle.aig_core.specs.Graph.{node_count, input_node}
+use Rattle.std.proofs.Common.{◌+◌, ◌*◌, ◌<◌, ℕ, List, length, ◌∙◌, sym, subst, ap, arith}
+use Rattle.aig_core.specs.Graph.{input_node}
 use Rattle.lane_nets.specs.declared.schedule.Step.{Step}
 use Rattle.lane_nets.specs.Blocks.{vector_at}
 use Rattle.lane_nets.specs.Schedules.{IsSettled, AreStepsOf, AreFirstReads, IsDone, step_at}
@@ -47,12 +47,21 @@ returns-clause-settled c =
       done = c.eval_steps.ensures.done;
     })
 
+pub returns-clause-inputs : goal.returns-clause-inputs
+returns-clause-inputs c =
+    let g = c.args.walk.now.made.graph in
+    let are = subst (AreStepsOf c.args.walk.now.made.graph) (sym c.deref-2.ensures.value) c.requires.schedule.steps in
+    λ i within j b lane low.
+    c.eval_steps.ensures.others (input_node i)
+    (λ p inside. step_gates g c.deref-2.result.now c.is_graph.ensures.graph are p (input_node i) inside (omega (arith, within, c.requires.inputs))) j b lane low
+    ∙ c.change_inputs-from.ensures.inputs i within j b lane low
+
 pub returns-clause-block : goal.returns-clause-block
 returns-clause-block c =
     let g = c.args.walk.now.made.graph in
     let are = subst (AreStepsOf c.args.walk.now.made.graph) (sym c.deref-2.ensures.value) c.requires.schedule.steps in
     λ j b lane low.
-    settled_nodes g c.deref-2.result.now c.is_graph.ensures.graph are c.eval_steps.new.wides j b (vector_at c.args.patterns.now.vectors (64 * (8 * c.args.q + j) + b)) lane low
+    settled_nodes g c.deref-2.result.now c.is_graph.ensures.graph are c.eval_steps.new.wides j b (vector_at c.args.next.now.patterns.now.vectors (64 * (8 * c.args.next.now.q + j) + b)) lane low
     (record {
       constant = λ j b lane low.
           c.eval_steps.ensures.others 0 (λ p within. step_gates g c.deref-2.result.now c.is_graph.ensures.graph are p 0 within (omega arith)) j b lane low
@@ -61,4 +70,4 @@ returns-clause-block c =
     })
     (λ i within.
     c.eval_steps.ensures.others (input_node i) (λ p inside. step_gates g c.deref-2.result.now c.is_graph.ensures.graph are p (input_node i) inside (omega (arith, within))) j b lane low
-    ∙ c.change_inputs-from.ensures.inputs j b i lane low (omega (arith, within, c.requires.inputs)))
+    ∙ c.change_inputs-from.ensures.inputs i (omega (arith, within, c.requires.inputs)) j b lane low)

@@ -1,4 +1,4 @@
-use Rattle.std.proofs.Common.{List, length, ◌<◌, ◌∙◌, sym, subst, arith}
+use Rattle.std.proofs.Common.{List, ◌∙◌, sym, subst, arith}
 use Rattle.std.proofs.Math.ListN.{length-set}
 use Rattle.lane_nets.specs.declared.schedule.Step.{Step}
 use Rattle.lane_nets.specs.Schedules.{IsSettled, AreStepsOf}

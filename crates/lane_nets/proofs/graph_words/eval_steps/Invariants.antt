@@ -1,4 +1,4 @@
-use Rattle.std.proofs.Common.{◌≡◌, ◌≢◌, ℕ, ◌<◌, length}
+use Rattle.std.proofs.Common.{◌≢◌, ℕ, ◌<◌, length}
 use Rattle.lane_nets.specs.Schedules.{step_at, IsDone, IsSameNode}
 use Rattle.lane_nets.proofs.graph_words.eval_steps.Given as goal
 

@@ -1,7 +1,5 @@
-use Rattle.std.proofs.Common.{ℕ, List, ◌≡◌, ◌+◌, ◌*◌, ◌<◌, length, get_or, ap, sym, subst, ◌∙◌, arith}
-use Rattle.aig_core.specs.declared.gate.Gate.{Gate}
+use Rattle.std.proofs.Common.{◌≡◌, ◌+◌, ◌*◌, ◌<◌, length, get_or, ap, sym, subst, ◌∙◌, arith}
 use Rattle.aig_core.specs.Graph.{gate_node}
-use Rattle.lane_nets.specs.declared.schedule.Step.{Step}
 use Rattle.lane_nets.specs.Schedules.{AreStepsBelow}
 use Rattle.lane_nets.proofs.Schedules.{steps_pushed, steps_kept, steps_next, step_is}
 use Rattle.lane_nets.proofs.schedule.push_class.Goals as goal

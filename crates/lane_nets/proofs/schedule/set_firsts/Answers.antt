@@ -1,6 +1,5 @@
-use Rattle.std.proofs.Common.{refl, get_or, ◌/◌, ◌∙◌, arith}
-use Rattle.std.proofs.lemmas.List.{get_or_default}
-use Rattle.lane_nets.specs.Schedules.{no_step, step_at}
+use Rattle.std.proofs.Common.{refl, ◌/◌, arith}
+use Rattle.lane_nets.specs.Schedules.{step_at}
 use Rattle.lane_nets.proofs.Schedules.{firsts_more}
 use Rattle.lane_nets.proofs.schedule.set_firsts.Goals as goal
 

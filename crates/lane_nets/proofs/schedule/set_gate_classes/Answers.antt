@@ -1,4 +1,4 @@
-use Rattle.std.proofs.Common.{List, ◌≡◌, ◌<◌, ◌/◌, length, get_or, refl, ap, ◌∙◌, arith}
+use Rattle.std.proofs.Common.{List, ◌≡◌, ◌<◌, ◌/◌, length, get_or, ap, arith}
 use Rattle.aig_core.specs.declared.gate.Gate.{Gate}
 use Rattle.aig_core.specs.Graph.{no_gate, gate_node, node_count}
 use Rattle.lane_nets.proofs.Schedules.{few_set, lefts_more, rights_more}

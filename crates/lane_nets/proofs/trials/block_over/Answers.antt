@@ -1,7 +1,7 @@
-use Rattle.lane_nets.specs.Wide.{lane_words}
-use Rattle.lane_nets.proofs.BlockErrors.{over_lane}
+use Rattle.std.proofs.Common.{◌/◌, ◌%◌, arith}
+use Rattle.lane_bits.specs.Rows.{row_bit}
 use Rattle.lane_nets.proofs.trials.block_over.Goals as goal
 
-pub returns : goal.returns
-returns c = λ b low.
-    over_lane c.args.metric c.args.level c.over_word.result b c.args.exact.now c.set_lane_words.new.words (lane_words c.args.wides.now c.args.j) c.set_lane_words.ensures (c.over_word.ensures b low)
+pub returns-clause-bits : goal.returns-clause-bits
+unfolding row_bit
+returns-clause-bits c = λ p low. c.over_wide.ensures (p / 64) (p % 64) (omega (arith, low)) (omega arith)

@@ -1,42 +1,57 @@
-use Rattle.std.proofs.Common.{◌≡◌, ◌-◌, ◌*◌, ◌%◌, ℕ, min, [], ap, sym, ◌∙◌}
+use Rattle.std.proofs.Common.{◌≡◌, ◌-◌, ◌*◌, ℕ, List, min, [], length, ap, sym, subst, ◌∙◌, arith}
 use Rattle.std.proofs.lemmas.List.{get_or_default}
-use Rattle.semantics.specs.Net.{NetValue, input_count}
-use Rattle.lane_nets.specs.Blocks.{row_at}
-use Rattle.lane_nets.specs.Lanes.{lane_at}
-use Rattle.lane_nets.specs.Wide.{lane_words}
-use Rattle.lane_nets.proofs.BlockErrors.{first_in_block, none_in_block}
-use Rattle.lane_nets.proofs.WideWords.{block_held, held_more}
+use Rattle.lane_bits.specs.Patterns.{PatternSet}
+use Rattle.lane_nets.specs.Wide.{AreWideOutputs, wides_at}
+use Rattle.lane_nets.proofs.BlockErrors.{first_in_block, none_in_block, wide_held, wide_width}
 use Rattle.lane_nets.proofs.trials.first_over.Goals as goal
+
+pub reach-requires-clause-within : goal.reach-requires-clause-within
+reach-requires-clause-within c =
+    let all : length c.loop-q.wide.patterns.vectors ≡ length c.args.patterns.now.vectors = ap (λ (s : PatternSet). length s.vectors) c.loop-q.invariant.patterns in
+    omega (arith, c.loop-q-test.true, c.requires.outputs.count, all)
+
+pub block_over-over-requires-clause-exact : goal.block_over-over-requires-clause-exact
+block_over-over-requires-clause-exact c =
+    let exact : c.as_slice.result.now ≡ wides_at c.args.outputs.now c.loop-q.q =
+    c.as_slice.ensures ∙ c.index-outputs-q.is ∙ get_or_default c.args.outputs.now c.loop-q.q c.index-outputs-q.result [] c.loop-q-test.true in
+    let right : AreWideOutputs c.args.nets.now.exact c.args.patterns.now.vectors c.loop-q.q c.as_slice.result.now =
+    subst (λ (l : List (List ℕ)). AreWideOutputs c.args.nets.now.exact c.args.patterns.now.vectors c.loop-q.q l) (sym exact) (c.requires.outputs.are c.loop-q.q c.loop-q-test.true) in
+    wide_width c.args.nets.now.exact c.args.patterns.now.vectors c.loop-q.q c.as_slice.result.now right
+
+pub block_over-over-requires-clause-wides : goal.block_over-over-requires-clause-wides
+block_over-over-requires-clause-wides c =
+    let block : AreWideOutputs c.args.nets.now.approx c.args.patterns.now.vectors c.loop-q.q c.outputs.result.now =
+    wide_held c.args.nets.now.approx c.loop-q.wide.net c.loop-q.wide.patterns c.args.patterns.now c.loop-q.q c.reach.new.self.outputs c.outputs.result.now c.loop-q.invariant.net
+    c.loop-q.invariant.patterns c.outputs.ensures.outputs c.reach.ensures.outputs in
+    wide_width c.args.nets.now.approx c.args.patterns.now.vectors c.loop-q.q c.outputs.result.now block
 
 pub returns-in-Some : goal.returns-in-Some
 returns-in-Some c =
-    let nets = c.args.nets.now in
-    let k = c.loop-k.k in
-    let exact : c.as_slice.result.now ≡ row_at c.args.outputs.now k =
-    c.as_slice.ensures ∙ c.index-outputs-k.is ∙ get_or_default c.args.outputs.now k c.index-outputs-k.result [] c.loop-k-test.true in
-    first_in_block c.args.metric nets.exact nets.approx c.args.patterns.now.vectors k c.as_slice.result.now (lane_words c.outputs.result.now (k % 8))
-    (block_held nets.approx c.loop-k.wide.net c.args.patterns.now.vectors k c.reach.new.self.outputs c.outputs.result.now c.loop-k.invariant.net c.outputs.ensures.outputs c.reach.ensures.outputs)
-    (λ b low. ap (λ l. lane_at l b) exact ∙ c.requires.outputs.are k b c.loop-k-test.true low)
-    c.args.level c.block_over-over.result c.min.result (c.min.ensures ∙ ap (λ (n : ℕ). min (n - 64 * k) 64) c.count-count.ensures.value) c.block_over-over.ensures c.loop-k.invariant.none c.in-Some.b
+    let exact : c.as_slice.result.now ≡ wides_at c.args.outputs.now c.loop-q.q =
+    c.as_slice.ensures ∙ c.index-outputs-q.is ∙ get_or_default c.args.outputs.now c.loop-q.q c.index-outputs-q.result [] c.loop-q-test.true in
+    let right : AreWideOutputs c.args.nets.now.exact c.args.patterns.now.vectors c.loop-q.q c.as_slice.result.now =
+    subst (λ (l : List (List ℕ)). AreWideOutputs c.args.nets.now.exact c.args.patterns.now.vectors c.loop-q.q l) (sym exact) (c.requires.outputs.are c.loop-q.q c.loop-q-test.true) in
+    let block : AreWideOutputs c.args.nets.now.approx c.args.patterns.now.vectors c.loop-q.q c.outputs.result.now =
+    wide_held c.args.nets.now.approx c.loop-q.wide.net c.loop-q.wide.patterns c.args.patterns.now c.loop-q.q c.reach.new.self.outputs c.outputs.result.now c.loop-q.invariant.net
+    c.loop-q.invariant.patterns c.outputs.ensures.outputs c.reach.ensures.outputs in
+    first_in_block c.args.metric c.args.nets.now.exact c.args.nets.now.approx c.args.patterns.now.vectors c.loop-q.q c.as_slice.result.now c.outputs.result.now right block
+    c.args.level c.min.result c.block_over-over.result (c.min.ensures ∙ ap (λ (n : ℕ). min (n - 512 * c.loop-q.q) 512) c.count-count.ensures.value) c.block_over-over.ensures.bits c.loop-q.invariant.none c.in-Some.p
     c.in-Some.ensures
 
-pub loop-k-preserved : goal.loop-k-preserved
-loop-k-preserved c =
-    let nets = c.args.nets.now in
-    let k = c.loop-k.k in
-    let exact : c.as_slice.result.now ≡ row_at c.args.outputs.now k =
-    c.as_slice.ensures ∙ c.index-outputs-k.is ∙ get_or_default c.args.outputs.now k c.index-outputs-k.result [] c.loop-k-test.true in
+pub loop-q-preserved : goal.loop-q-preserved
+loop-q-preserved c =
+    let exact : c.as_slice.result.now ≡ wides_at c.args.outputs.now c.loop-q.q =
+    c.as_slice.ensures ∙ c.index-outputs-q.is ∙ get_or_default c.args.outputs.now c.loop-q.q c.index-outputs-q.result [] c.loop-q-test.true in
+    let right : AreWideOutputs c.args.nets.now.exact c.args.patterns.now.vectors c.loop-q.q c.as_slice.result.now =
+    subst (λ (l : List (List ℕ)). AreWideOutputs c.args.nets.now.exact c.args.patterns.now.vectors c.loop-q.q l) (sym exact) (c.requires.outputs.are c.loop-q.q c.loop-q-test.true) in
+    let block : AreWideOutputs c.args.nets.now.approx c.args.patterns.now.vectors c.loop-q.q c.outputs.result.now =
+    wide_held c.args.nets.now.approx c.loop-q.wide.net c.loop-q.wide.patterns c.args.patterns.now c.loop-q.q c.reach.new.self.outputs c.outputs.result.now c.loop-q.invariant.net
+    c.loop-q.invariant.patterns c.outputs.ensures.outputs c.reach.ensures.outputs in
     record {
-      net = c.reach.ensures.net ∙ c.loop-k.invariant.net;
-      there = held_more c.reach.new.self.net c.loop-k.wide.net c.args.patterns.now.vectors k c.reach.new.self.outputs c.reach.ensures.net c.reach.ensures.outputs;
+      net = c.reach.ensures.net ∙ c.loop-q.invariant.net;
+      patterns = c.reach.ensures.patterns ∙ c.loop-q.invariant.patterns;
       none =
-          none_in_block c.args.metric nets.exact nets.approx c.args.patterns.now.vectors k c.as_slice.result.now (lane_words c.outputs.result.now (k % 8))
-          (block_held nets.approx c.loop-k.wide.net c.args.patterns.now.vectors k c.reach.new.self.outputs c.outputs.result.now c.loop-k.invariant.net c.outputs.ensures.outputs
-          c.reach.ensures.outputs)
-          (λ b low. ap (λ l. lane_at l b) exact ∙ c.requires.outputs.are k b c.loop-k-test.true low)
-          c.args.level c.block_over-over.result c.min.result (c.min.ensures ∙ ap (λ (n : ℕ). min (n - 64 * k) 64) c.count-count.ensures.value) c.block_over-over.ensures c.loop-k.invariant.none
+          none_in_block c.args.metric c.args.nets.now.exact c.args.nets.now.approx c.args.patterns.now.vectors c.loop-q.q c.as_slice.result.now c.outputs.result.now right block
+          c.args.level c.min.result c.block_over-over.result (c.min.ensures ∙ ap (λ (n : ℕ). min (n - 512 * c.loop-q.q) 512) c.count-count.ensures.value) c.block_over-over.ensures.bits c.loop-q.invariant.none
           c.in_default.ensures;
     }
-
-pub reach-requires-clause-inputs : goal.reach-requires-clause-inputs
-reach-requires-clause-inputs c = c.requires.inputs ∙ ap (λ (N : NetValue). input_count N) (c.requires.wide ∙ sym c.loop-k.invariant.net)

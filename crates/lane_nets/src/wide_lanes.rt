@@ -1,0 +1,185 @@
+//! Errors at 512 patterns at a time: each output is eight words side by side, the first output for bit 0 of a
+//! number, and bit b of word j has the outputs at pattern 64 j + b.
+ghost use Rattle.std.specs.Prelude.{◌≡◌, ◌↔◌, ◌+◌, ◌<◌, ◌≤◌, ℕ, length, slice_index, IsTrue};
+ghost use Rattle.semantics.specs.Error.{bit_number, number_of, sign_flipped, distance, differing};
+ghost use Rattle.semantics.specs.Error.{word_error, error_of};
+ghost use Rattle.semantics.specs.declared.metric.Kind.TheVariants.{Sabs};
+ghost use Rattle.lane_nets.specs.Words.{word_bit};
+ghost use Rattle.lane_nets.specs.Lanes.{lane_at, lane_number, HasReached, GoesOn};
+ghost use Rattle.lane_nets.specs.Wide.{lane_words};
+
+use crate::lanes::over_by_kind;
+use crate::wide_outputs::set_lane_words;
+use crate::wide_words::{and_wide, equal_words, not_wide, or_wide, xor_wide};
+use net_errors::words::{word_count, word_place};
+use semantics::limits::MOST_OUTPUTS;
+use semantics::metric::{Kind, Metric};
+use std::simd::u64x8;
+
+/// How the bits so far compare: the carry of the sum of the lower number and the constant, and where the
+/// higher number is above that sum.
+#[derive(Clone, Copy)]
+struct WideComparison {
+    carry: u64x8,
+    above: u64x8,
+}
+
+/// The word whose bits are all 1, or all 0.
+#[inline(always)]
+fn bit_word(one: bool) -> u64
+    ensures { (b : ℕ) → b < 64 → word_bit result b ≡ one }
+{
+    if one { u64::MAX } else { 0 }
+}
+
+/// The comparison after one more bit of both numbers and of the constant that is added to the lower number.
+#[inline(always)]
+fn compare_wide(low: u64x8, high: u64x8, one: bool, so_far: WideComparison) -> WideComparison
+    ensures { (j b : ℕ) → j < 8 → b < 64
+        → GoesOn (lane_number (slice_index low j) b) (lane_number (slice_index high j) b) (bit_number one)
+        (lane_number (slice_index so_far.carry j) b) (lane_number (slice_index so_far.above j) b)
+        (lane_number (slice_index result.carry j) b) (lane_number (slice_index result.above j) b) }
+{
+    let constant = equal_words(bit_word(one));
+    let half = xor_wide(low, constant);
+    let sum = xor_wide(half, so_far.carry);
+    let apart = xor_wide(high, sum);
+    let carry = or_wide(and_wide(low, constant), and_wide(half, so_far.carry));
+    let more = and_wide(high, not_wide(sum));
+    let above = or_wide(more, and_wide(so_far.above, not_wide(apart)));
+    WideComparison { carry, above }
+}
+
+/// The lanes where the lower number plus `level` is less than the higher number.
+fn above_wide(low: &[u64x8], high: &[u64x8], level: u128) -> u64x8
+    requires { length low.now ≡ length high.now }
+    ensures { (j b : ℕ) → j < 8 → b < 64
+        → IsTrue (word_bit (slice_index result j) b)
+        ↔ (number_of (lane_at (lane_words low.now j) b) + level
+        < number_of (lane_at (lane_words high.now j) b)) }
+{
+    let mut rest = level;
+    let mut so_far = WideComparison {
+        carry: equal_words(0),
+        above: equal_words(0),
+    };
+    for (i, wide) in low.iter().enumerate() {
+        so_far = compare_wide(*wide, high[i], rest % 2 == 1, so_far);
+        rest /= 2;
+    }
+    if rest == 0 {
+        and_wide(so_far.above, not_wide(so_far.carry))
+    } else {
+        equal_words(0)
+    }
+}
+
+/// The lanes where the numbers are further apart than the level.
+fn apart_wide(exact: &[u64x8], approx: &[u64x8], level: u128) -> u64x8
+    requires { length exact.now ≡ length approx.now }
+    ensures { (j b : ℕ) → j < 8 → b < 64 → IsTrue (word_bit (slice_index result j) b)
+        ↔ (level < distance (number_of (lane_at (lane_words exact.now j) b))
+        (number_of (lane_at (lane_words approx.now j) b))) }
+{
+    or_wide(
+        above_wide(exact, approx, level),
+        above_wide(approx, exact, level),
+    )
+}
+
+/// Sets `turned` to the wide words with the last one, that of the signs, turned over.
+fn set_turned_wide(wides: &[u64x8], turned: &mut [u64x8])
+    requires { length wides.now ≡ length turned.old }
+    ensures { (j b : ℕ) → j < 8 → b < 64
+        → lane_at (lane_words turned.new j) b ≡ sign_flipped (lane_at (lane_words wides.now j) b) }
+{
+    turned.copy_from_slice(wides);
+    let count = turned.len();
+    if count > 0 {
+        turned[count - 1] = not_wide(turned[count - 1]);
+    }
+}
+
+/// The lanes where the signed numbers are further apart than the level.
+fn signed_apart_wide(exact: &[u64x8], approx: &[u64x8], level: u128) -> u64x8
+    requires same { length exact.now ≡ length approx.now }
+    requires few { length exact.now ≤ MOST_OUTPUTS }
+    ensures { (j b : ℕ) → j < 8 → b < 64 → IsTrue (word_bit (slice_index result j) b)
+        ↔ (level < word_error Sabs (lane_at (lane_words exact.now j) b)
+        (lane_at (lane_words approx.now j) b)) }
+{
+    let mut exact_room = [u64x8::splat(0); MOST_OUTPUTS];
+    let mut approx_room = [u64x8::splat(0); MOST_OUTPUTS];
+    let right = &mut exact_room[..exact.len()];
+    let outputs = &mut approx_room[..exact.len()];
+    set_turned_wide(exact, right);
+    set_turned_wide(approx, outputs);
+    apart_wide(right, outputs, level)
+}
+
+/// The lanes of one of the eight words where the error of one word exceeds the level.
+fn lane_over(kind: Kind, level: u128, exact: &[u64x8], approx: &[u64x8], j: usize) -> u64
+    requires lane { j < 8 }
+    requires same { length exact.now ≡ length approx.now }
+    requires few { length exact.now ≤ MOST_OUTPUTS }
+    ensures { (b : ℕ) → b < 64 → IsTrue (word_bit result b)
+        ↔ (level < word_error kind (lane_at (lane_words exact.now j) b)
+        (lane_at (lane_words approx.now j) b)) }
+{
+    let mut exact_room = [0; MOST_OUTPUTS];
+    let mut approx_room = [0; MOST_OUTPUTS];
+    let right = &mut exact_room[..exact.len()];
+    let outputs = &mut approx_room[..exact.len()];
+    set_lane_words(exact, j, right);
+    set_lane_words(approx, j, outputs);
+    over_by_kind(kind, level, right, outputs)
+}
+
+/// The lanes where the error of one word exceeds the level, found in one of the eight words after another.
+fn over_by_lanes(kind: Kind, level: u128, exact: &[u64x8], approx: &[u64x8]) -> u64x8
+    requires same { length exact.now ≡ length approx.now }
+    requires few { length exact.now ≤ MOST_OUTPUTS }
+    ensures { (j b : ℕ) → j < 8 → b < 64 → IsTrue (word_bit (slice_index result j) b)
+        ↔ (level < word_error kind (lane_at (lane_words exact.now j) b)
+        (lane_at (lane_words approx.now j) b)) }
+{
+    let mut words = [0; 8];
+    for j in 0..8 {
+        words[j] = lane_over(kind, level, exact, approx, j);
+    }
+    u64x8::from_array(words)
+}
+
+/// The lanes where the error of one word exceeds the level.
+fn over_one_wide(kind: Kind, level: u128, exact: &[u64x8], approx: &[u64x8]) -> u64x8
+    requires same { length exact.now ≡ length approx.now }
+    requires few { length exact.now ≤ MOST_OUTPUTS }
+    ensures { (j b : ℕ) → j < 8 → b < 64 → IsTrue (word_bit (slice_index result j) b)
+        ↔ (level < word_error kind (lane_at (lane_words exact.now j) b)
+        (lane_at (lane_words approx.now j) b)) }
+{
+    match kind {
+        Kind::Abs => apart_wide(exact, approx, level),
+        Kind::Sabs => signed_apart_wide(exact, approx, level),
+        Kind::Rel | Kind::Ham => over_by_lanes(kind, level, exact, approx),
+    }
+}
+
+/// The lanes where the error exceeds the level: those where the error of some word does.
+pub(crate) fn over_wide(metric: Metric, level: u128, exact: &[u64x8], approx: &[u64x8]) -> u64x8
+    requires same { length exact.now ≡ length approx.now }
+    requires few { length exact.now ≤ MOST_OUTPUTS }
+    ensures { (j b : ℕ) → j < 8 → b < 64 → IsTrue (word_bit (slice_index result j) b)
+        ↔ (level < error_of metric (lane_at (lane_words exact.now j) b)
+        (lane_at (lane_words approx.now j) b)) }
+{
+    let outputs = exact.len() as u32;
+    let mut over = equal_words(0);
+    for word in 0..word_count(metric, outputs) {
+        let (first, size) = word_place(metric, outputs, word);
+        let (begin, end) = (first as usize, (first + size) as usize);
+        let here = over_one_wide(metric.kind, level, &exact[begin..end], &approx[begin..end]);
+        over = or_wide(over, here);
+    }
+    over
+}
