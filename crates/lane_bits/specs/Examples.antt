@@ -1,8 +1,9 @@
 -- Worked examples, computed from the definitions.
-use Rattle.std.specs.Prelude.{◌≡◌, true, false, [], ◌∷◌, map}
+use Rattle.std.specs.Prelude.{◌≡◌, Bool, true, false, List, [], ◌∷◌, map}
 use Rattle.semantics.specs.Vectors.{all_vectors}
 use Rattle.lane_bits.specs.Rows.{row_bit, word_count}
-use Rattle.lane_bits.specs.Patterns.{pattern_bit, vectors_in}
+use Rattle.lane_bits.specs.Patterns.{PatternSet, pattern_bit, vectors_in}
+use Rattle.lane_bits.specs.InputOrder.{HasEveryVector}
 
 pub record RowExamples : Type 0 where
   pub words : map word_count (0 ∷ 1 ∷ 64 ∷ 65 ∷ []) ≡ 0 ∷ 1 ∷ 1 ∷ 2 ∷ []
@@ -19,3 +20,15 @@ pub record PatternExamples : Type 0 where
       ∷ (true ∷ false ∷ []) ∷ (true ∷ true ∷ []) ∷ []
   pub bits : map (pattern_bit (all_vectors 2) 1) (0 ∷ 1 ∷ 2 ∷ 3 ∷ 4 ∷ [])
       ≡ false ∷ false ∷ true ∷ true ∷ false ∷ []
+
+-- a set of vectors of one input
+abbrev pub of_one_input : List (List Bool) → PatternSet
+of_one_input vectors = record { inputs = 1; vectors = vectors }
+
+-- one input has two vectors, in whichever order, and no input has one, which has no bits
+pub record EveryVectorExamples : Type 0 where
+  pub both : HasEveryVector (of_one_input ((false ∷ []) ∷ (true ∷ []) ∷ []))
+  pub turned : HasEveryVector (of_one_input ((true ∷ []) ∷ (false ∷ []) ∷ []))
+  pub one : HasEveryVector (of_one_input ((false ∷ []) ∷ [])) → ⊥
+  pub twice : HasEveryVector (of_one_input ((true ∷ []) ∷ (true ∷ []) ∷ [])) → ⊥
+  pub without_inputs : HasEveryVector (record { inputs = 0; vectors = [] ∷ [] })

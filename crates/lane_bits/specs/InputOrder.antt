@@ -1,5 +1,5 @@
 -- Which input is at which place of a counting order, and sets of vectors in such an order.
-use Rattle.std.specs.Prelude.{◌≡◌, ℕ, ◌<◌, ◌≤◌, ◌^◌, Bool, List, [], length, slice_index, slice_index_or}
+use Rattle.std.specs.Prelude.{◌≡◌, ℕ, ◌<◌, ◌^◌, Bool, List, [], length, slice_index, slice_index_or}
 use Rattle.lane_bits.specs.Patterns.{PatternSet}
 
 -- each place has an input, and each input its place

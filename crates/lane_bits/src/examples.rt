@@ -1,5 +1,5 @@
 //! Worked examples of the definitions, computed by the checker: each function's contract is its examples.
-ghost use Rattle.lane_bits.specs.Examples.{RowExamples, PatternExamples};
+ghost use Rattle.lane_bits.specs.Examples.{RowExamples, PatternExamples, EveryVectorExamples};
 
 /// Bits of rows, and how many words they take.
 pub fn rows()
@@ -9,4 +9,9 @@ pub fn rows()
 /// The vectors that rows hold.
 pub fn patterns()
     ensures { PatternExamples }
+{}
+
+/// Which sets have every vector.
+pub fn every_vector()
+    ensures { EveryVectorExamples }
 {}

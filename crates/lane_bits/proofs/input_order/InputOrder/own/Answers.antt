@@ -1,4 +1,4 @@
-use Rattle.std.proofs.Common.{subst, sym, ◌∙◌, ap, arith}
+use Rattle.std.proofs.Common.{arith}
 use Rattle.lane_bits.proofs.CountingOrder.{own_places}
 use Rattle.lane_bits.proofs.input_order.InputOrder.own.Goals as goal
 
