@@ -7,11 +7,10 @@ import os
 import shlex
 import signal
 import subprocess
-import sys
 import threading
 import time
 
-from explorer import store
+from explorer import store, streams
 from explorer.children import Ended, end
 
 PAUSE = 0.2
@@ -137,7 +136,7 @@ class Remote:
 def forward(source):
     """Hands on what a runner says, line by line."""
     for line in source:
-        sys.stderr.write(line)
+        streams.tell(line)
 
 
 def begun(words, **how):

@@ -107,29 +107,31 @@ class Walk:
         """Looks for another literal as an output, and takes the first that may be taken."""
         few, literal = self.few, self.circuit.outputs[at]
         care = self.breaks(few, {}, at, few.at(literal) ^ few.ones)
-        signals = [it for it in (*range(self.circuit.inputs + 1), *self.circuit.nodes) if it != literal >> 1]
-        self.random.shuffle(signals)
-        for it in signals:
+        for it in self.shuffled(it for it in (*range(self.circuit.inputs + 1), *self.circuit.nodes) if it != literal >> 1):
             apart = (few.of[it] ^ few.at(literal)) & care
             if apart in (0, care):
                 other = 2 * it ^ bool(apart)
                 wrong = self.breaks(self.all, {}, at, self.all.at(other))
                 return self.learn(wrong) if wrong else self.take(self.circuit.with_output(at, other), {}, {})
 
+    def shuffled(self, signals):
+        """Signals in an order that hangs on the seed."""
+        number = self.random.random
+        return sorted(signals, key=lambda _: number())
+
     def step(self, node):
         """Looks for something in the place of a node, and takes the first that may be taken."""
-        few, pairs = self.few, self.circuit.pairs
-        care = self.breaks(few, few.changes(self.circuit, {node: few.of[node] ^ few.ones}))
+        few, pairs, above = self.few, self.circuit.pairs, self.circuit.above(node)
+        care = self.breaks(few, few.changes(self.circuit, node, few.of[node] ^ few.ones, above))
         on, off = few.of[node] & care, care & ~few.of[node]
-        above = self.circuit.above(node)
-        signals = [it for it in (*range(1, self.circuit.inputs + 1), *self.circuit.nodes) if it not in above]
-        self.random.shuffle(signals)
+        signals = self.shuffled(it for it in (*range(1, self.circuit.inputs + 1), *self.circuit.nodes)
+                                if it not in above and it != node)
         literals = [pair for it in signals for pair in ((2 * it, few.of[it]), (2 * it + 1, few.of[it] ^ few.ones))]
         going = self.circuit.alone(node)
         more = self.random.random() < WORSE and len(self.circuit.nodes) < len(self.best.nodes) + MORE
         for literal, added in self.instead(on, off, [(0, 0), (1, few.ones), *literals], going, len(going) + more):
             if tuple(sorted(added.get(literal >> 1, ()))) != tuple(sorted(pairs[node])) or literal & 1:
-                if self.is_taken(node, literal, added, len(self.circuit.nodes) + more):
+                if self.is_taken((node, literal, added, above), len(self.circuit.nodes) + more):
                     return
 
     def instead(self, on, off, literals, going, most):
@@ -148,9 +150,10 @@ class Walk:
         if most >= 3:
             yield from differing(first, on, on | off, [it for it in staying if not it[0] & 1][:DIFFERING])
 
-    def is_taken(self, node, literal, added, most):
+    def is_taken(self, change, most):
         """Whether the circuit is changed so, where it has no more ANDs than that then, or the few vectors have become more."""
-        made = self.circuit.with_literal(node, literal, added)
+        made = self.circuit.with_literal(*change)
+        node, literal, added, above = change
         if len(made.nodes) > most:
             return False
         for values in (self.few, self.all):
@@ -158,13 +161,14 @@ class Walk:
                 values.of[new] = values.at(left) & values.at(right)
         changed = {}
         if self.all.at(literal) != self.all.of[node]:
-            changed = self.all.changes(self.circuit, {node: self.all.at(literal)})
+            changed = self.all.changes(self.circuit, node, self.all.at(literal), above)
             wrong = self.breaks(self.all, changed)
             if wrong:
                 self.learn(wrong)
                 return True
         is_apart = changed and self.few is not self.all
-        self.take(made, changed, self.few.changes(self.circuit, {node: self.few.at(literal)}) if is_apart else changed)
+        few_changed = self.few.changes(self.circuit, node, self.few.at(literal), above) if is_apart else changed
+        self.take(made, changed, few_changed)
         return True
 
     def learn(self, wrong):
