@@ -8,7 +8,7 @@ from explorer import mapper, trial, walk
 # A round goes on from so many of the best results and so many others of the best; and from so many of each smaller bound.
 KEPT, OTHERS, NEAR, HANDED_ON = 2, 2, 16, 3
 # From each of these so many walks, and so many other writings; besides so many new orders of IN's writings.
-WALKS, WAYS, FRESH = 3, 3, 2
+WALKS, WAYS, FRESH = 4, 1, 2
 # Rounds without gain behind which the search ends.
 PATIENCE = 8
 # The shares of what is left of a bound's seconds that the first round, each smaller bound on the way, and a later round may
@@ -48,35 +48,38 @@ class Search:
     def recipe(self, bound, parent, rewriting, order, is_refined=True):
         return {"bound": str(bound), "parent": parent, "rewriting": rewriting, "order": order, "is_refined": is_refined}
 
-    def fresh(self, bound, number):
-        """Tries of IN's writings: as they are written, in topological order, turned round, and so many shuffles."""
-        orders = ["as it is", "topological", "turned round", *("shuffled %d" % (self.options.seed + it) for it in range(number))]
-        return [self.recipe(bound, self.options.exact, rewriting, order) for order in orders for rewriting in self.rewritings]
+    def fresh(self, bound):
+        """Tries of IN's writings, as they are written."""
+        return [self.recipe(bound, self.options.exact, it, "as it is") for it in self.rewritings]
 
     def fresh_at(self, bound, turn):
-        """Tries of some of IN's writings in a new order."""
+        """Tries of some of IN's writings in another order."""
         ways = [self.rewritings[(turn * FRESH + it) % len(self.rewritings)] for it in range(FRESH)]
-        return [self.recipe(bound, self.options.exact, it, "shuffled %d" % (self.options.seed + turn)) for it in ways]
+        return [self.recipe(bound, self.options.exact, it, self.order(turn)) for it in ways]
 
     def walked(self, bound, parent, turn):
         """Tries of walks from what an earlier try is built as."""
         first, net = self.options.seed + WALKS * turn, parent.answer["nets"]["built"]
         return [self.recipe(bound, net, "%s%d" % (walk.NAME, it), self.order(it)) for it in range(first, first + WALKS)]
 
+    def from_built(self, bound):
+        """Tries of walks from what IN is built as."""
+        built = [it for it in self.tries if not it.is_refined and not it.answer["number"]]
+        return [(it, one) for one in built[:1] for it in self.walked(bound, one, 0)]
+
     def order(self, turn):
         """An order that changes from turn to turn."""
         return ("topological", "shuffled %d" % (self.options.seed + turn), "turned round")[turn % 3]
 
-    def onward(self, bound, parents, turn, number=None):
-        """Tries that go on from earlier results: walks from what they are built as, and so many other writings, all where no
-        number is given."""
+    def onward(self, bound, parents, turn, number):
+        """Tries that go on from earlier results: walks from what they are built as, and so many other writings."""
         found = [(it, parent) for parent in parents for it in self.walked(bound, parent, turn)]
         for at, parent in enumerate(parents):
             nets = parent.answer["nets"]
             # Another function's own netlist is refined as it is where the bound was smaller.
             ways = self.rewritings if int(parent.bound) < bound else self.rewritings[1:]
-            begin = 0 if number is None else (turn * len(parents) + at) * number
-            for place in range(begin, begin + (number or len(ways))):
+            begin = (turn * len(parents) + at) * number
+            for place in range(begin, begin + number):
                 name = nets["built" if (place + turn) % 2 else "result"]
                 found.append((self.recipe(bound, name, ways[place % len(ways)], self.order(at + place + turn)), parent))
         return found
@@ -91,17 +94,12 @@ class Search:
         self.awaited = None
         below = self.handed_on(bound)
         self.round(0, [(self.recipe(bound, self.options.exact, "as it is", "as it is", False), None)])
-        first = [(it, None) for it in self.fresh(bound, 1)]
-        built = [it for it in self.tries if not it.is_refined and not it.answer["number"]]
-        walks = [(it, one) for one in built[:1] for turn in (0, 1) for it in self.walked(bound, one, turn)]
+        first = [(it, None) for it in self.fresh(bound)]
         # The first try is that of `synth`, which is waited for. Walks take longer than the others, and come behind them.
         self.awaited = key_of(first[0][0])
-        further = self.onward(bound, below, 0) + first[1:] + walks
+        further = self.onward(bound, below, 0, WAYS) + first[1:] + self.from_built(bound)
         self.round(1, first[:1] + further, until=self.part_end(FIRST, LEAST))
         self.awaited = None
-        for rung in self.rungs(bound, smaller):
-            self.round(1, [(it, None) for it in self.fresh(rung, 0)[:2 * len(self.rewritings)]], until=self.part_end(WAY))
-        self.round(1, self.onward(bound, self.handed_on(bound), 1), until=self.part_end(WAY))
         self.rounds(bound)
         return self.best(bound)
 
@@ -164,7 +162,7 @@ class Search:
         # A try has the number of its place in the plan, whoever ends first, so that the same words find the same winner.
         numbers = {key_of(recipe): self.planned + at for at, recipe in enumerate(todo, 1)}
         self.planned += len(todo)
-        for recipe, answer in self.runner.run(todo, lambda: self.tell(self) or self.is_over(until)):
+        for recipe, answer in self.runner.run(todo, lambda: self.tell(self) or self.is_over(until), lambda: self.is_over(self.end)):
             key = key_of(recipe)
             self.awaited = None if key == self.awaited else self.awaited
             self.add(numbers[key], number, recipe, beginnings[key], answer)
