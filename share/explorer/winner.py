@@ -36,27 +36,41 @@ class Bundle:
         parent, base = os.path.split(os.path.abspath(self.stem))
         folder = tempfile.mkdtemp(prefix=".%s." % base, dir=parent)
         try:
-            for at in range(0, min(MOST, len(tries)), self.jobs):
-                found = self.of_few(tries[at:min(MOST, at + self.jobs)], folder)
+            asked = [it for one in tries[:MOST] for it in self.candidates(one)]
+            for at in range(0, len(asked), self.jobs):
+                found = self.of_few(asked[at:at + self.jobs], folder)
                 if found:
                     return found
         finally:
             shutil.rmtree(folder, ignore_errors=True)
         return None
 
-    def of_few(self, tries, folder):
-        """That of a few tries, which are certified side by side."""
+    def candidates(self, one):
+        """What may be certified of a try, each with the job, the name of its netlist, and how it is told: the netlist as it is
+        built; and where the area is that of a clean-up, which changes no function, what the search left, whose certificate
+        takes no longer than the search did."""
+        area, nets = self.trial.setting["area"], one.answer["nets"]
+        left = ("refine", nets["start"]) if one.is_refined and one.bound == str(self.bound) else ("certify", nets["result"])
+        found = [(one, "certify", nets["built"], "as it is built")]
+        if area == "literals":
+            # Literals are those that the program leaves, so its own bundle, which may say `minimal yes`, is taken.
+            return [(one, *left, "as it is left")]
+        return found + [(one, *left, "as it is left")] if area == "ands" else found
+
+    def of_few(self, few, folder):
+        """The first of a few candidates, which are certified side by side."""
         children = self.trial.children
-        pool = concurrent.futures.ThreadPoolExecutor(len(tries))
+        pool = concurrent.futures.ThreadPoolExecutor(len(few))
         try:
-            asked = [(one, path, pool.submit(self.certified, one, path)) for one, path in
-                     ((one, tempfile.mkdtemp(dir=folder)) for one in tries)]
-            for one, path, answer in asked:
+            asked = [(it, path, pool.submit(self.certified, it, path)) for it, path in
+                     ((it, tempfile.mkdtemp(dir=folder)) for it in few)]
+            for (one, _, _, how), path, answer in asked:
                 told, why = answer.result()
                 if told:
                     self.put_in_place(path)
                     return one, told, why
-                self.say("bound %d: try %d, of area %s, is not taken: %s" % (self.bound, one.number, one.answer["area"], why))
+                self.say("bound %d: try %d, of area %s, is not taken %s: %s" % (
+                    self.bound, one.number, one.answer["area"], how, why))
         except Ended:
             raise KeyboardInterrupt from None
         finally:
@@ -65,21 +79,17 @@ class Bundle:
             children.open()
         return None
 
-    def certified(self, one, folder):
+    def certified(self, candidate, folder):
         """The report of a bundle that is verified, and by which job; else None and why it is not."""
-        until = max(self.until, time.monotonic() + LEAST + TIMES * one.answer["seconds"])
+        until = max(self.until, time.monotonic() + LEAST + TIMES * candidate[0].answer["seconds"])
         try:
-            return self.verified(one, folder, until)
+            return self.verified(candidate, folder, until)
         except Late:
             return None, "it is not certified in the seconds that are left"
 
-    def verified(self, one, folder, until):
+    def verified(self, candidate, folder, until):
         """The same, or an exception where the time is over."""
-        setting, nets = self.trial.setting, one.answer["nets"]
-        # Literals are those that the program leaves, so its own bundle, which may say `minimal yes`, is taken.
-        is_own = setting["area"] == "literals" and one.is_refined and one.bound == str(self.bound)
-        job = "refine" if is_own else "certify"
-        second = nets["start"] if job == "refine" else nets["built"]
+        setting, (_, job, second, _) = self.trial.setting, candidate
         for name, data in (("in.blif", self.trial.exact), ("second.blif", self.trial.store.net(second))):
             with open(os.path.join(folder, name), "wb") as file:
                 file.write(data)
