@@ -16,11 +16,11 @@ from explorer.trial import reports
 # earlier netlist stands beside files that are not its own; `confirm` trusts none of them, so whichever files stand
 # together, it verifies them only where they are right.
 ORDER = ("cnf", "lrat", "wit", "txt", "blif")
-# How many tries are certified, from the best on, before none is said to verify.
-MOST = 20
-# A try has so many seconds, and so many times those of its search, where nothing is left of the seconds of the bound; and so
-# many where the bound has none.
-LEAST, TIMES, ENDLESS = 5, 3, 60
+# How many tries are certified, from the best on, and how many of the first ones that were made when none of those is.
+MOST, FIRST = 20, 2
+# A try has so many seconds, and so many times those of its search, where nothing is left of the seconds of the bound. A bound
+# without seconds has so many for its certificates, the best tries have so many more together, and the first ones again.
+LEAST, TIMES, MORE = 5, 3, 60
 
 
 class Bundle:
@@ -28,7 +28,7 @@ class Bundle:
 
     def __init__(self, trial, stem, bound, say, jobs, until):
         self.trial, self.stem, self.bound, self.say, self.jobs = trial, stem, bound, say, jobs
-        self.until = time.monotonic() + ENDLESS if until is None else until
+        self.until = time.monotonic() + MORE if until is None else until
 
     def of_best(self, tries):
         """The first try of which a bundle verifies, with its report and the job that verifies it, or None. The bundle is in
@@ -36,13 +36,21 @@ class Bundle:
         parent, base = os.path.split(os.path.abspath(self.stem))
         folder = tempfile.mkdtemp(prefix=".%s." % base, dir=parent)
         try:
-            asked = [it for one in tries[:MOST] for it in self.candidates(one)]
-            for at in range(0, len(asked), self.jobs):
-                found = self.of_few(asked[at:at + self.jobs], folder)
-                if found:
-                    return found
+            found = self.of_many(tries[:MOST], folder, time.monotonic() + MORE)
+            if found is None and len(tries) > FIRST:
+                self.until = time.monotonic() + MORE
+                found = self.of_many(sorted(tries, key=lambda it: it.number)[:FIRST], folder, self.until)
+            return found
         finally:
             shutil.rmtree(folder, ignore_errors=True)
+
+    def of_many(self, tries, folder, end):
+        """The same of some tries, of which none is begun behind an end."""
+        asked = [it for one in tries for it in self.candidates(one)]
+        for at in range(0, len(asked), self.jobs):
+            found = self.of_few(asked[at:at + self.jobs], folder) if time.monotonic() < max(end, self.until) else None
+            if found:
+                return found
         return None
 
     def candidates(self, one):
