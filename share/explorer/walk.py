@@ -4,8 +4,8 @@ any value. Most steps leave as many ANDs as before, and some one more; by these 
 single can be taken away.
 
 A step is looked for at a few vectors. Where all vectors show that it breaks the bound, one at which it does joins the few. Of
-many inputs not all vectors are looked at: a judge is asked now and then, and where it tells a vector at which the bound is
-broken, this one and those next to it join the few, and the walk goes on from what was judged right before.
+many inputs not all vectors are looked at in each step: a judge is asked now and then, and where it tells a vector at which the
+bound is broken, this one and those next to it are looked at too, and the walk goes on from what was judged right before.
 """
 import random
 
@@ -13,9 +13,11 @@ from explorer import circuit, errors
 
 # How a walk is named, before its seed.
 NAME = "walk "
-# Of how many inputs all vectors are looked at. How many the few are at first, and how many where a judge is asked, and behind
-# how many steps it is.
-MOST_INPUTS, FEW, SAMPLED, JUDGED = 20, 512, 4096, 100
+# Of how many inputs all vectors are looked at in each step, and of how many by the judge.
+MOST_INPUTS, JUDGED_INPUTS = 16, 20
+# How many the few are at first, and how many are looked at where a judge is asked. It is asked behind so many steps, behind fewer
+# where it says no, and tells at most so many vectors.
+FEW, SAMPLED, JUDGED, SOONEST, TOLD = 512, 8192, 100, 12, 32
 # How many literals are joined in pairs, and how many take part where three are joined.
 PAIRED, FIRSTS, JOINED, DIFFERING = 60, 8, 30, 40
 # A circuit has at most so many ANDs more than the best so far, and a step that adds one is looked for so often.
@@ -28,9 +30,11 @@ class Walk:
     """The circuit at hand, and the best so far."""
 
     def __init__(self, exact, start, metric, bound, seed, judge=None):
-        """`judge` gives back whether a circuit keeps the bound, and a vector at which it does not, if it knows one. It is asked
+        """`judge` gives back whether a circuit keeps the bound, and vectors at which it does not, if it knows some. It is asked
         only where there are too many inputs for all vectors."""
-        self.exact, self.metric, self.bound, self.judge = exact, metric, bound, judge
+        self.exact, self.metric, self.bound = exact, metric, bound
+        self.judge = judge if len(exact.inputs) > JUDGED_INPUTS else self.judged_by_all
+        self.every, self.wait = None, JUDGED
         self.random = random.Random("walk %d" % seed)
         self.circuit = self.best = self.sure = circuit.circuit_of(start)
         inputs = len(exact.inputs)
@@ -39,13 +43,27 @@ class Walk:
             self.all = self.few = self.sampled([self.random.getrandbits(SAMPLED) for _ in range(inputs)], SAMPLED)
         else:
             self.all = self.few = self.sampled([errors.column(it, 1 << inputs) for it in range(inputs)], 1 << inputs)
-        if self.all.count > FEW and not self.is_judged:
+        if self.all.count > FEW:
             self.few = circuit.Values(0, [0] * inputs, [0] * len(exact.outputs))
             for place in self.random.sample(range(self.all.count), FEW):
                 self.few.add_vector(place, self.all)
         self.all.fill(self.circuit)
         self.few.fill(self.circuit)
         self.work = self.steps = 0
+
+    def judged_by_all(self, found):
+        """Whether a circuit keeps the bound at all vectors, and some at which it does not."""
+        inputs = len(self.exact.inputs)
+        columns = [errors.column(it, 1 << inputs) for it in range(inputs)]
+        self.every = self.every or errors.values_of(self.exact, columns, 1 << inputs)
+        values = circuit.Values(1 << inputs, columns, self.every)
+        values.fill(found)
+        wrong = errors.beyond(self.metric, self.bound, self.every, values.outputs(found, {}), values.ones)
+        places = set()
+        for begin in (self.random.randrange(1 << inputs) for _ in range(TOLD if wrong else 0)):
+            behind = wrong >> begin
+            places.add(begin + (behind & -behind).bit_length() - 1 if behind else wrong.bit_length() - 1)
+        return not wrong, [[place >> it & 1 for it in range(inputs)] for place in sorted(places)]
 
     def sampled(self, columns, count):
         """The values at vectors that stand in columns, one for each input."""
@@ -73,30 +91,31 @@ class Walk:
                 self.output_step(place - len(self.circuit.nodes))
             if len(self.circuit.nodes) <= len(self.best.nodes):
                 self.best = self.circuit
-            if self.is_judged and (self.steps % JUDGED == 0 or not self.circuit.nodes):
+            self.wait -= 1
+            if self.is_judged and (self.wait <= 0 or not self.circuit.nodes):
                 self.ask()
         return self.asked() if self.is_judged else self.best
 
     def ask(self):
         """Asks whether the best is right, and goes back to what was right before where it is not."""
+        self.wait = JUDGED
         if self.best is self.sure:
             return
-        is_right, vector = self.judge(self.best)
+        is_right, vectors = self.judge(self.best)
         if is_right:
             self.sure = self.best
             return
-        if vector:
-            self.learn_near(vector)
+        self.wait = SOONEST
+        self.all, self.few = (self.with_vectors(it, vectors) if vectors else it for it in (self.all, self.few))
         self.circuit = self.best = self.sure
+        self.all.fill(self.circuit)
         self.few.fill(self.circuit)
 
-    def learn_near(self, vector):
-        """A vector joins the few, with those that differ from it at one input."""
-        near = [vector, *([bit ^ (at == place) for at, bit in enumerate(vector)] for place in range(len(vector)))]
-        added = [sum(bit << place for place, bit in enumerate(bits)) for bits in zip(*near)]
-        count = self.few.count
-        columns = [self.few.of[at] | bits << count for at, bits in enumerate(added, 1)]
-        self.all = self.few = self.sampled(columns, count + len(near))
+    def with_vectors(self, values, vectors):
+        """The values of the inputs at further vectors too."""
+        added = [sum(bit << place for place, bit in enumerate(bits)) for bits in zip(*vectors)]
+        columns = [values.of[at] | bits << values.count for at, bits in enumerate(added, 1)]
+        return self.sampled(columns, values.count + len(vectors))
 
     def asked(self):
         """What is right in the end."""

@@ -25,14 +25,17 @@ def main(metric, bound, seed, program, conflicts, exact, start, made):
             file.write(netlist.text_of(found.net(nets[0])))
 
     def judge(found):
-        """Whether the program certifies a circuit, and else the vector that it tells."""
+        """Whether the program certifies a circuit, and else the vector that it tells, with those that differ from it at one
+        input."""
         import re
         import subprocess
         write(found, made)
         words = [program, "certify", metric, bound, conflicts, exact, made, made + ".judged"]
         ran = subprocess.run(words, stdin=subprocess.DEVNULL, stdout=subprocess.DEVNULL, stderr=subprocess.PIPE, check=False)
         told = re.search(rb"error above the bound at ([01]+)", ran.stderr)
-        return ran.returncode == 0, [bit - ord("0") for bit in told.group(1)] if told else None
+        vector = [bit - ord("0") for bit in told.group(1)] if told else []
+        near = [[bit ^ (at == place) for at, bit in enumerate(vector)] for place in range(len(vector))]
+        return ran.returncode == 0, [vector, *near] if told else []
 
     write(walk.Walk(*nets, metric, int(bound), int(seed), judge).run(), made)
 
