@@ -12,6 +12,10 @@ class Ended(Exception):
     """The process was ended because the run ends, or its time is over."""
 
 
+class Late(Ended):
+    """The process was ended because its own time was over."""
+
+
 class Children:
     """The processes that run now."""
 
@@ -32,7 +36,7 @@ class Children:
         try:
             said, told = child.communicate(timeout=seconds)
         except subprocess.TimeoutExpired:
-            raise Ended from None
+            raise Late from None
         finally:
             with self.lock:
                 end(child)

@@ -1,43 +1,25 @@
 """A circuit of ANDs in which nodes are put in the place of others, and the values of its nodes at vectors, one bit of a
-large number for each vector. Literals and nodes are those of the hashed graph.
+large number for each vector. Literals and nodes are those of the hashed graph. A node has a greater number than its operands.
+
+What changes with a node is hashed anew; all else keeps its number.
 """
 import collections
 
 from explorer import graph
 
 
-def order_of(pairs, outputs):
-    """The nodes that these literals read, each behind its operands; `pairs` has the operands of each AND."""
-    seen, found = set(), []
-    todo = [(it >> 1, False) for it in outputs]
-    while todo:
-        node, is_entered = todo.pop()
-        if is_entered:
-            found.append(node)
-        elif node not in seen and node in pairs:
-            seen.add(node)
-            todo += [(node, True), (pairs[node][0] >> 1, False), (pairs[node][1] >> 1, False)]
-    return found
+class Circuit(graph.Graph):
+    """ANDs that the outputs read, all of them, from the least number on in `nodes`."""
 
-
-class Circuit:
-    """ANDs by their numbers in `pairs`, listed behind their operands in `nodes`, and the literals of the outputs."""
-
-    def __init__(self, inputs, pairs, outputs):
-        """Hashes the ANDs that the outputs read. `place` says which literal each node of `pairs` has here."""
-        made = graph.Graph(inputs)
-        self.place = place = {it: 2 * it for it in range(inputs + 1)}
-        for node in order_of(pairs, outputs):
-            left, right = pairs[node]
-            place[node] = made.conjunction(place[left >> 1] ^ left & 1, place[right >> 1] ^ right & 1)
-        self.inputs = inputs
-        self.outputs = [place[it >> 1] ^ it & 1 for it in outputs]
-        self.nodes = graph.used(made, self.outputs)
-        self.pairs = {it: made.operands[it] for it in self.nodes}
-        self.next = len(made.operands)
+    def __init__(self, inputs, pairs, outputs, number):
+        super().__init__(inputs)
+        self.pairs, self.outputs, self.next = pairs, outputs, number
+        self.nodes = sorted(pairs)
+        self.known = {pair: 2 * it for it, pair in pairs.items()}
         # How many operands and outputs read each node.
-        read = (it >> 1 for literals in (self.outputs, *self.pairs.values()) for it in literals)
-        self.readers = collections.Counter(read)
+        self.readers = collections.Counter(it >> 1 for pair in pairs.values() for it in pair)
+        self.readers.update(it >> 1 for it in outputs)
+        self.place = {}
 
     def alone(self, node):
         """The nodes that only this one needs, with itself."""
@@ -51,39 +33,74 @@ class Circuit:
         return found
 
     def above(self, node):
-        """The node and those that depend on it."""
-        found = {node}
+        """The nodes that depend on a node, each behind those that it depends on."""
+        found, pairs = {node: None}, self.pairs
         for it in self.nodes[self.nodes.index(node) + 1:]:
-            left, right = self.pairs[it]
+            left, right = pairs[it]
             if left >> 1 in found or right >> 1 in found:
-                found.add(it)
+                found[it] = None
+        del found[node]
         return found
 
-    def with_literal(self, node, literal, added):
-        """The circuit with a literal, over its nodes and some more, in the place of a node."""
-        pairs = {**self.pairs, **added}
-        for it, (left, right) in self.pairs.items():
-            if left >> 1 == node or right >> 1 == node:
-                pairs[it] = (literal ^ left & 1 if left >> 1 == node else left, literal ^ right & 1 if right >> 1 == node else right)
-        return Circuit(self.inputs, pairs, [literal ^ it & 1 if it >> 1 == node else it for it in self.outputs])
+    def copy(self):
+        """The same circuit, to be changed."""
+        made = Circuit.__new__(Circuit)
+        made.inputs, made.turned, made.next = self.inputs, self.turned, self.next
+        made.pairs, made.known, made.readers = dict(self.pairs), dict(self.known), dict(self.readers)
+        return made
+
+    def with_literal(self, node, literal, added, above):
+        """The circuit with a literal in the place of a node, above which those nodes are. The literal may be of a node that is
+        added, with its operands; `place` of what is made says which literal each node that was added or changed has there."""
+        made, place = self.copy(), {}
+        for it, (left, right) in added.items():
+            place[it] = made.conjunction(place.get(left >> 1, left & -2) ^ left & 1, place.get(right >> 1, right & -2) ^ right & 1)
+        place[node] = place.get(literal >> 1, literal & -2) ^ literal & 1
+        for it in above:
+            left, right = self.pairs[it]
+            place[it] = made.conjunction(place.get(left >> 1, left & -2) ^ left & 1, place.get(right >> 1, right & -2) ^ right & 1)
+        made.outputs = [place.get(it >> 1, it & -2) ^ it & 1 for it in self.outputs]
+        return made.settled(self, place, (*above, node))
 
     def with_output(self, at, literal):
         """The circuit with another literal as an output."""
-        outputs = list(self.outputs)
-        outputs[at] = literal
-        return Circuit(self.inputs, self.pairs, outputs)
+        made = self.copy()
+        made.outputs = list(self.outputs)
+        made.outputs[at] = literal
+        return made.settled(self, {}, (self.outputs[at] >> 1,))
+
+    def settled(self, before, place, changed):
+        """The circuit, made of one before, when it has its outputs: nodes that nothing reads go, of those that changed and of
+        new ones the first."""
+        readers, fresh = self.readers, range(before.next, self.next)
+        for it in fresh:
+            for literal in self.pairs[it]:
+                readers[literal >> 1] = readers.get(literal >> 1, 0) + 1
+        for old, new in zip(before.outputs, self.outputs):
+            readers[old >> 1] -= 1
+            readers[new >> 1] = readers.get(new >> 1, 0) + 1
+        todo = [*changed, *fresh]
+        while todo:
+            node = todo.pop()
+            if node in self.pairs and not readers.get(node):
+                pair = self.pairs.pop(node)
+                del self.known[pair]
+                for literal in pair:
+                    readers[literal >> 1] -= 1
+                    todo.append(literal >> 1)
+        self.place = place
+        self.nodes = [it for it in (*before.nodes, *fresh) if it in self.pairs]
+        return self
 
     def net(self, like):
         """The circuit as tables, with the ports of a net."""
-        made = graph.Graph(self.inputs)
-        made.operands += [self.pairs.get(it, (0, 0)) for it in range(self.inputs + 1, self.next)]
-        return graph.net_of_graph(like, made, self.outputs)
+        return graph.net_of_graph(like, self, self.outputs)
 
 
 def circuit_of(net):
     """The circuit of a net."""
     made, outputs = graph.graph_of(net)
-    return Circuit(len(net.inputs), {it: made.operands[it] for it in graph.used(made, outputs)}, outputs)
+    return Circuit(len(net.inputs), {it: made.pairs[it] for it in graph.used(made, outputs)}, outputs, made.next)
 
 
 class Values:
@@ -103,17 +120,17 @@ class Values:
             left, right = circuit.pairs[node]
             self.of[node] = self.at(left) & self.at(right)
 
-    def changes(self, circuit, changed):
-        """The values of nodes that change with those that are given, with these."""
-        found, of, ones = dict(changed), self.of, self.ones
-        for node in circuit.nodes:
-            left, right = circuit.pairs[node]
-            if (left >> 1 in found or right >> 1 in found) and node not in changed:
+    def changes(self, circuit, node, value, above):
+        """The values of nodes that change with that of a node, with it; those above it are told."""
+        found, of, ones, pairs = {node: value}, self.of, self.ones, circuit.pairs
+        for it in above:
+            left, right = pairs[it]
+            if left >> 1 in found or right >> 1 in found:
                 one = found.get(left >> 1, of[left >> 1])
                 other = found.get(right >> 1, of[right >> 1])
                 value = (one ^ ones if left & 1 else one) & (other ^ ones if right & 1 else other)
-                if value != of[node]:
-                    found[node] = value
+                if value != of[it]:
+                    found[it] = value
         return found
 
     def outputs(self, circuit, changed):
@@ -123,11 +140,12 @@ class Values:
 
     def moved(self, circuit, changed):
         """Takes the values over to a circuit that was made of the one at hand."""
-        of, ones = self.of, self.ones
-        found = {it: of[it] for it in range(circuit.inputs + 1)}
+        of, ones, pairs, inputs = self.of, self.ones, circuit.pairs, circuit.inputs
+        found = {it: value for it, value in of.items() if it <= inputs or it in pairs}
         for node, literal in circuit.place.items():
-            value = changed.get(node, of.get(node))
-            found[literal >> 1] = value ^ ones if literal & 1 else value
+            if literal >> 1 in pairs:
+                value = changed.get(node, of[node])
+                found[literal >> 1] = value ^ ones if literal & 1 else value
         self.of = found
 
     def add_vector(self, place, other):

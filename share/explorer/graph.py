@@ -13,12 +13,13 @@ MOST_FACTORED = 1000
 
 
 class Graph:
-    """ANDs over inputs. `turned` takes operands from the last on, which makes another graph of the same function."""
+    """ANDs over inputs: the operands of each by its number in `pairs`, and in `known` its literal by its operands. `turned` takes
+    operands from the last on, which makes another graph of the same function."""
 
     def __init__(self, inputs, turned=False):
         self.inputs, self.turned = inputs, turned
-        self.operands = [None] * (inputs + 1)
-        self.known = {}
+        self.pairs, self.known = {}, {}
+        self.next = inputs + 1
 
     def conjunction(self, left, right):
         """The literal of both."""
@@ -28,19 +29,20 @@ class Graph:
             return FALSE
         if left == TRUE or left == right:
             return right
-        found = self.simpler(left, right)
+        found = self.known.get((left, right))
+        if found is None:
+            found = self.simpler(left, right)
         if found is None:
             found = self.simpler(right, left)
-        if found is not None:
-            return found
-        if (left, right) not in self.known:
-            self.known[left, right] = 2 * len(self.operands)
-            self.operands.append((left, right))
-        return self.known[left, right]
+        if found is None:
+            found = self.known[left, right] = 2 * self.next
+            self.pairs[self.next] = (left, right)
+            self.next += 1
+        return found
 
     def simpler(self, literal, other):
         """The conjunction by the operands of the other literal's node, or None where they show nothing."""
-        pair = self.operands[other >> 1]
+        pair = self.pairs.get(other >> 1)
         if pair is None:
             return None
         if other & 1:
@@ -104,9 +106,9 @@ def used(graph, outputs):
     seen, todo = set(), [it >> 1 for it in outputs]
     while todo:
         node = todo.pop()
-        if node not in seen and graph.operands[node] is not None:
+        if node not in seen and node in graph.pairs:
             seen.add(node)
-            todo += [it >> 1 for it in graph.operands[node]]
+            todo += [it >> 1 for it in graph.pairs[node]]
     return sorted(seen)
 
 
@@ -114,7 +116,7 @@ def depth_of(graph, outputs):
     """The greatest number of ANDs on a path."""
     depths = {}
     for node in used(graph, outputs):
-        depths[node] = 1 + max(depths.get(it >> 1, 0) for it in graph.operands[node])
+        depths[node] = 1 + max(depths.get(it >> 1, 0) for it in graph.pairs[node])
     return max((depths.get(it >> 1, 0) for it in outputs), default=0)
 
 
@@ -124,7 +126,7 @@ def net_of_graph(net, graph, outputs):
     names = dict(zip(range(1, len(net.inputs) + 1), net.inputs))
     # An output that no other output turns over or repeats has the name of its AND.
     for name, literal in zip(net.outputs, outputs):
-        if not literal & 1 and graph.operands[literal >> 1] is not None and literal >> 1 not in names:
+        if not literal & 1 and literal >> 1 in graph.pairs and literal >> 1 not in names:
             names[literal >> 1] = name
     count = 0
     for node in nodes:
@@ -132,7 +134,7 @@ def net_of_graph(net, graph, outputs):
             count += 1
             if "n%d" % count not in taken:
                 names[node] = "n%d" % count
-    tables = [and_table(names, node, graph.operands[node]) for node in nodes]
+    tables = [and_table(names, node, graph.pairs[node]) for node in nodes]
     for name, literal in dict(zip(net.outputs, outputs)).items():
         if literal in (FALSE, TRUE):
             tables.append(Table(name, (), ("",) if literal else (), "1"))

@@ -7,11 +7,10 @@ import os
 import shlex
 import signal
 import subprocess
-import sys
 import threading
 import time
 
-from explorer import store
+from explorer import store, streams
 from explorer.children import Ended, end
 
 PAUSE = 0.2
@@ -31,13 +30,15 @@ class Local:
     def __init__(self, trial, jobs):
         self.trial, self.jobs = trial, jobs
 
-    def run(self, recipes, is_over):
-        """Pairs of a recipe and its answer, as they come, until it is over."""
+    def run(self, recipes, is_over, is_at_end):
+        """Pairs of a recipe and its answer, as they come. None is begun when it is over, and none is waited for at the end."""
         self.trial.children.open()
         pool = concurrent.futures.ThreadPoolExecutor(self.jobs)
         waiting = {pool.submit(self.performed, recipe): recipe for recipe in recipes}
         try:
-            while waiting and not is_over():
+            while waiting and not is_at_end():
+                if is_over():
+                    waiting = {it: recipe for it, recipe in waiting.items() if not it.cancel()}
                 done, _ = concurrent.futures.wait(waiting, PAUSE, concurrent.futures.FIRST_COMPLETED)
                 for it in done:
                     recipe, answer = waiting.pop(it), it.result()
@@ -62,7 +63,7 @@ class Remote:
         self.trial, self.jobs, self.words, self.script = trial, jobs, words, script
         self.round = 0
 
-    def run(self, recipes, is_over):
+    def run(self, recipes, is_over, _):
         """Pairs of a recipe and its answer, as they come, until it is over."""
         left = {}
         for recipe in recipes:
@@ -137,7 +138,7 @@ class Remote:
 def forward(source):
     """Hands on what a runner says, line by line."""
     for line in source:
-        sys.stderr.write(line)
+        streams.tell(line)
 
 
 def begun(words, **how):

@@ -5,15 +5,16 @@ import time
 
 from explorer import mapper, trial, walk
 
-# A round goes on from so many of the best results and so many others of the best; and from so many of each smaller bound.
-KEPT, OTHERS, NEAR, HANDED_ON = 2, 2, 16, 3
+# A round goes on from so many of the best results, from one of so many that come next, and from one of so many of the best that
+# IN's writings left; and from so many of each smaller bound.
+KEPT, NEAR, HANDED_ON = 2, 8, 3
 # From each of these so many walks, and so many other writings; besides so many new orders of IN's writings.
-WALKS, WAYS, FRESH = 3, 3, 2
+WALKS, WAYS, FRESH = 3, 1, 4
 # Rounds without gain behind which the search ends.
 PATIENCE = 8
-# The shares of what is left of a bound's seconds that the first round, each smaller bound on the way, and a later round may
-# take; a later round may always take so many seconds.
-FIRST, WAY, LATER, LEAST = 0.4, 0.1, 0.25, 6
+# The shares of what is left of a bound's seconds in which the first round and a later round may begin tries, or so many seconds
+# where these are more. Those that run then may take as long again, and besides so many times what the first try took.
+FIRST, LATER, LEAST, LONGER = 0.3, 0.2, 4, 4
 
 Try = collections.namedtuple("Try", "number round bound beginning order is_refined answer")
 
@@ -48,42 +49,45 @@ class Search:
     def recipe(self, bound, parent, rewriting, order, is_refined=True):
         return {"bound": str(bound), "parent": parent, "rewriting": rewriting, "order": order, "is_refined": is_refined}
 
-    def fresh(self, bound, number):
-        """Tries of IN's writings: as they are written, in topological order, turned round, and so many shuffles."""
-        orders = ["as it is", "topological", "turned round", *("shuffled %d" % (self.options.seed + it) for it in range(number))]
-        return [self.recipe(bound, self.options.exact, rewriting, order) for order in orders for rewriting in self.rewritings]
+    def fresh(self, bound):
+        """Tries of IN's writings, as they are written."""
+        return [self.recipe(bound, self.options.exact, it, "as it is") for it in self.rewritings]
 
     def fresh_at(self, bound, turn):
-        """Tries of some of IN's writings in a new order."""
+        """Tries of some of IN's writings in another order."""
         ways = [self.rewritings[(turn * FRESH + it) % len(self.rewritings)] for it in range(FRESH)]
-        return [self.recipe(bound, self.options.exact, it, "shuffled %d" % (self.options.seed + turn)) for it in ways]
+        return [self.recipe(bound, self.options.exact, it, self.order(turn)) for it in ways]
 
     def walked(self, bound, parent, turn):
         """Tries of walks from what an earlier try is built as."""
         first, net = self.options.seed + WALKS * turn, parent.answer["nets"]["built"]
         return [self.recipe(bound, net, "%s%d" % (walk.NAME, it), self.order(it)) for it in range(first, first + WALKS)]
 
+    def from_built(self, bound):
+        """Tries of walks from what IN is built as."""
+        built = [it for it in self.tries if not it.is_refined and not it.answer["number"]]
+        return [(it, one) for one in built[:1] for it in self.walked(bound, one, 0)]
+
     def order(self, turn):
         """An order that changes from turn to turn."""
         return ("topological", "shuffled %d" % (self.options.seed + turn), "turned round")[turn % 3]
 
-    def onward(self, bound, parents, turn, number=None):
-        """Tries that go on from earlier results: walks from what they are built as, and so many other writings, all where no
-        number is given."""
+    def onward(self, bound, parents, turn, number):
+        """Tries that go on from earlier results: walks from what they are built as, and so many other writings."""
         found = [(it, parent) for parent in parents for it in self.walked(bound, parent, turn)]
         for at, parent in enumerate(parents):
             nets = parent.answer["nets"]
             # Another function's own netlist is refined as it is where the bound was smaller.
             ways = self.rewritings if int(parent.bound) < bound else self.rewritings[1:]
-            begin = 0 if number is None else (turn * len(parents) + at) * number
-            for place in range(begin, begin + (number or len(ways))):
+            begin = (turn * len(parents) + at) * number
+            for place in range(begin, begin + number):
                 name = nets["built" if (place + turn) % 2 else "result"]
                 found.append((self.recipe(bound, name, ways[place % len(ways)], self.order(at + place + turn)), parent))
         return found
 
     # Rounds.
 
-    def at(self, bound, smaller):
+    def at(self, bound):
         """Searches at a bound, from IN and from the results of smaller bounds: what fits in, the best first."""
         self.end = time.monotonic() + self.options.seconds if self.options.seconds else None
         self.asked = self.options.tries
@@ -91,17 +95,12 @@ class Search:
         self.awaited = None
         below = self.handed_on(bound)
         self.round(0, [(self.recipe(bound, self.options.exact, "as it is", "as it is", False), None)])
-        first = [(it, None) for it in self.fresh(bound, 1)]
-        built = [it for it in self.tries if not it.is_refined and not it.answer["number"]]
-        walks = [(it, one) for one in built[:1] for turn in (0, 1) for it in self.walked(bound, one, turn)]
-        # The first try is that of `synth`, which is waited for. Walks take longer than the others, and come behind them.
+        first = [(it, None) for it in self.fresh(bound)]
+        # The first try is that of `synth`, which is waited for.
         self.awaited = key_of(first[0][0])
-        further = self.onward(bound, below, 0) + first[1:] + walks
-        self.round(1, first[:1] + further, until=self.part_end(FIRST, LEAST))
+        further = self.onward(bound, below, 0, WAYS) + self.from_built(bound) + first[1:]
+        self.round(1, first[:1] + further, FIRST)
         self.awaited = None
-        for rung in self.rungs(bound, smaller):
-            self.round(1, [(it, None) for it in self.fresh(rung, 0)[:2 * len(self.rewritings)]], until=self.part_end(WAY))
-        self.round(1, self.onward(bound, self.handed_on(bound), 1), until=self.part_end(WAY))
         self.rounds(bound)
         return self.best(bound)
 
@@ -110,16 +109,14 @@ class Search:
         rungs = sorted({int(it.bound) for it in self.tries if int(it.bound) < bound})
         return [it for rung in rungs[-2:] for it in self.best(rung, exactly=True)[:HANDED_ON]]
 
-    def rungs(self, bound, smaller):
-        """The smaller bounds on the way to this one that are not searched by themselves."""
-        if self.options.tries is not None and self.options.tries < 3 * len(self.rewritings):
-            return []
-        return sorted({bound // 4, bound // 2} - set(smaller) - {bound})
-
-    def part_end(self, share, least=0):
-        """Until when a part of what is left of the seconds goes, or so many seconds where these are more."""
+    def part_ends(self, share):
+        """Until when tries of a round begin that has a share of what is left of the seconds, and until when they run."""
+        if self.end is None or share is None:
+            return self.end, self.end
         now = time.monotonic()
-        return self.end and now + max(share * (self.end - now), min(least, self.end - now))
+        part = max(share * (self.end - now), LEAST)
+        longer = LONGER * max((it.answer["seconds"] for it in self.tries[:2] if not it.answer["number"]), default=0)
+        return min(self.end, now + part), min(self.end, now + 2 * part + longer)
 
     def rounds(self, bound):
         """Rounds until several, one after another, have brought nothing."""
@@ -131,16 +128,20 @@ class Search:
             recipes = self.onward(bound, parents, turn, WAYS)
             recipes += [(it, None) for it in self.fresh_at(bound, turn)]
             count = len(self.tries)
-            self.round(turn, recipes, until=self.part_end(LATER, LEAST))
+            self.round(turn, recipes, LATER)
             is_better = self.best(bound) and rank(self.best(bound)[0])[:1] != before
             idle = 0 if is_better else idle + 1
             if len(self.tries) == count and not parents:
                 return
 
     def parents(self, best, turn):
-        """The best few, and some of those that are nearly as good."""
-        near = best[KEPT:NEAR]
-        return best[:KEPT] + random.Random("parents %d %d" % (self.options.seed, turn)).sample(near, min(OTHERS, len(near)))
+        """The best few, one that is nearly as good, and one of those that IN's own writings left."""
+        source, found = random.Random("parents %d %d" % (self.options.seed, turn)), best[:KEPT]
+        own = [it for it in best if it.beginning.startswith("IN") and it.is_refined]
+        for some in (best[KEPT:NEAR], own[:NEAR]):
+            others = [it for it in some if it not in found]
+            found += source.sample(others, min(1, len(others)))
+        return found
 
     def is_over(self, until):
         """Whether nothing more is to be waited for."""
@@ -148,9 +149,9 @@ class Search:
             return True
         return until is not None and self.awaited is None and time.monotonic() > until
 
-    def round(self, number, recipes, until=None):
-        """Performs what was not performed before, and keeps what comes of it."""
-        until = until or self.end
+    def round(self, number, recipes, share=None):
+        """Performs what was not performed before, in a share of what is left of the seconds, and keeps what comes of it."""
+        until, end = self.part_ends(share)
         beginnings, todo = {}, []
         for recipe, parent in recipes:
             if key_of(recipe) not in self.done:
@@ -164,7 +165,7 @@ class Search:
         # A try has the number of its place in the plan, whoever ends first, so that the same words find the same winner.
         numbers = {key_of(recipe): self.planned + at for at, recipe in enumerate(todo, 1)}
         self.planned += len(todo)
-        for recipe, answer in self.runner.run(todo, lambda: self.tell(self) or self.is_over(until)):
+        for recipe, answer in self.runner.run(todo, lambda: self.tell(self) or self.is_over(until), lambda: self.is_over(end)):
             key = key_of(recipe)
             self.awaited = None if key == self.awaited else self.awaited
             self.add(numbers[key], number, recipe, beginnings[key], answer)

@@ -11,7 +11,7 @@ import os
 import socket
 
 # Changes whenever an answer means something else.
-FORMAT = 2
+FORMAT = 3
 
 
 def digest(data):

@@ -10,8 +10,8 @@ from explorer.children import Ended
 
 # Ways of writing that need no other tool.
 OWN = ("as it is", "ANDs", "hashed", "hashed, turned")
-# The tool of which this folder has the parts.
-TOOL = os.path.join(os.path.dirname(os.path.dirname(os.path.realpath(__file__))), "explore")
+# What is run for a walk.
+WALKING = os.path.join(os.path.dirname(os.path.realpath(__file__)), "walking.py")
 # The program's answers that the same question always gets.
 LASTING = (0, 2, 4, 11, 12, 13, 14)
 FAILED = 26
@@ -111,9 +111,9 @@ class Trial:
             for name, text in (("in.blif", self.exact), ("start.blif", data)):
                 with open(os.path.join(folder, name), "wb") as file:
                     file.write(text)
-            words = ["--walk", self.setting["metric"], bound, seed, self.setting["program"], self.setting["conflicts"],
-                     "in.blif", "start.blif", "out.blif"]
-            number, _, told, _ = self.children.run([sys.executable, TOOL, *words], folder)
+            words = [self.setting["metric"], bound, seed, self.setting["program"], self.setting["conflicts"], "in.blif",
+                     "start.blif", "out.blif"]
+            number, _, told, _ = self.children.run([sys.executable, "-S", WALKING, *words], folder)
             if number:
                 raise Answered(FAILED, "salsa: the walk failed: %s" % (told.strip() or "no line").split("\n")[-1])
             with open(os.path.join(folder, "out.blif"), "rb") as file:

@@ -4,8 +4,8 @@ any value. Most steps leave as many ANDs as before, and some one more; by these 
 single can be taken away.
 
 A step is looked for at a few vectors. Where all vectors show that it breaks the bound, one at which it does joins the few. Of
-many inputs not all vectors are looked at: a judge is asked now and then, and where it tells a vector at which the bound is
-broken, this one and those next to it join the few, and the walk goes on from what was judged right before.
+many inputs not all vectors are looked at in each step: a judge is asked now and then, and where it tells a vector at which the
+bound is broken, this one and those next to it are looked at too, and the walk goes on from what was judged right before.
 """
 import random
 
@@ -13,9 +13,11 @@ from explorer import circuit, errors
 
 # How a walk is named, before its seed.
 NAME = "walk "
-# Of how many inputs all vectors are looked at. How many the few are at first, and how many where a judge is asked, and behind
-# how many steps it is.
-MOST_INPUTS, FEW, SAMPLED, JUDGED = 20, 512, 4096, 100
+# Of how many inputs all vectors are looked at in each step, and of how many by the judge.
+MOST_INPUTS, JUDGED_INPUTS = 16, 20
+# How many the few are at first, and how many are looked at where a judge is asked. It is asked behind so many steps, behind fewer
+# where it says no, and tells at most so many vectors.
+FEW, SAMPLED, JUDGED, SOONEST, TOLD = 512, 8192, 100, 12, 32
 # How many literals are joined in pairs, and how many take part where three are joined.
 PAIRED, FIRSTS, JOINED, DIFFERING = 60, 8, 30, 40
 # A circuit has at most so many ANDs more than the best so far, and a step that adds one is looked for so often.
@@ -28,9 +30,11 @@ class Walk:
     """The circuit at hand, and the best so far."""
 
     def __init__(self, exact, start, metric, bound, seed, judge=None):
-        """`judge` gives back whether a circuit keeps the bound, and a vector at which it does not, if it knows one. It is asked
+        """`judge` gives back whether a circuit keeps the bound, and vectors at which it does not, if it knows some. It is asked
         only where there are too many inputs for all vectors."""
-        self.exact, self.metric, self.bound, self.judge = exact, metric, bound, judge
+        self.exact, self.metric, self.bound = exact, metric, bound
+        self.judge = judge if len(exact.inputs) > JUDGED_INPUTS else self.judged_by_all
+        self.every, self.wait = None, JUDGED
         self.random = random.Random("walk %d" % seed)
         self.circuit = self.best = self.sure = circuit.circuit_of(start)
         inputs = len(exact.inputs)
@@ -39,13 +43,27 @@ class Walk:
             self.all = self.few = self.sampled([self.random.getrandbits(SAMPLED) for _ in range(inputs)], SAMPLED)
         else:
             self.all = self.few = self.sampled([errors.column(it, 1 << inputs) for it in range(inputs)], 1 << inputs)
-        if self.all.count > FEW and not self.is_judged:
+        if self.all.count > FEW:
             self.few = circuit.Values(0, [0] * inputs, [0] * len(exact.outputs))
             for place in self.random.sample(range(self.all.count), FEW):
                 self.few.add_vector(place, self.all)
         self.all.fill(self.circuit)
         self.few.fill(self.circuit)
         self.work = self.steps = 0
+
+    def judged_by_all(self, found):
+        """Whether a circuit keeps the bound at all vectors, and some at which it does not."""
+        inputs = len(self.exact.inputs)
+        columns = [errors.column(it, 1 << inputs) for it in range(inputs)]
+        self.every = self.every or errors.values_of(self.exact, columns, 1 << inputs)
+        values = circuit.Values(1 << inputs, columns, self.every)
+        values.fill(found)
+        wrong = errors.beyond(self.metric, self.bound, self.every, values.outputs(found, {}), values.ones)
+        places = set()
+        for begin in (self.random.randrange(1 << inputs) for _ in range(TOLD if wrong else 0)):
+            behind = wrong >> begin
+            places.add(begin + (behind & -behind).bit_length() - 1 if behind else wrong.bit_length() - 1)
+        return not wrong, [[place >> it & 1 for it in range(inputs)] for place in sorted(places)]
 
     def sampled(self, columns, count):
         """The values at vectors that stand in columns, one for each input."""
@@ -73,30 +91,31 @@ class Walk:
                 self.output_step(place - len(self.circuit.nodes))
             if len(self.circuit.nodes) <= len(self.best.nodes):
                 self.best = self.circuit
-            if self.is_judged and (self.steps % JUDGED == 0 or not self.circuit.nodes):
+            self.wait -= 1
+            if self.is_judged and (self.wait <= 0 or not self.circuit.nodes):
                 self.ask()
         return self.asked() if self.is_judged else self.best
 
     def ask(self):
         """Asks whether the best is right, and goes back to what was right before where it is not."""
+        self.wait = JUDGED
         if self.best is self.sure:
             return
-        is_right, vector = self.judge(self.best)
+        is_right, vectors = self.judge(self.best)
         if is_right:
             self.sure = self.best
             return
-        if vector:
-            self.learn_near(vector)
+        self.wait = SOONEST
+        self.all, self.few = (self.with_vectors(it, vectors) if vectors else it for it in (self.all, self.few))
         self.circuit = self.best = self.sure
+        self.all.fill(self.circuit)
         self.few.fill(self.circuit)
 
-    def learn_near(self, vector):
-        """A vector joins the few, with those that differ from it at one input."""
-        near = [vector, *([bit ^ (at == place) for at, bit in enumerate(vector)] for place in range(len(vector)))]
-        added = [sum(bit << place for place, bit in enumerate(bits)) for bits in zip(*near)]
-        count = self.few.count
-        columns = [self.few.of[at] | bits << count for at, bits in enumerate(added, 1)]
-        self.all = self.few = self.sampled(columns, count + len(near))
+    def with_vectors(self, values, vectors):
+        """The values of the inputs at further vectors too."""
+        added = [sum(bit << place for place, bit in enumerate(bits)) for bits in zip(*vectors)]
+        columns = [values.of[at] | bits << values.count for at, bits in enumerate(added, 1)]
+        return self.sampled(columns, values.count + len(vectors))
 
     def asked(self):
         """What is right in the end."""
@@ -107,29 +126,31 @@ class Walk:
         """Looks for another literal as an output, and takes the first that may be taken."""
         few, literal = self.few, self.circuit.outputs[at]
         care = self.breaks(few, {}, at, few.at(literal) ^ few.ones)
-        signals = [it for it in (*range(self.circuit.inputs + 1), *self.circuit.nodes) if it != literal >> 1]
-        self.random.shuffle(signals)
-        for it in signals:
+        for it in self.shuffled(it for it in (*range(self.circuit.inputs + 1), *self.circuit.nodes) if it != literal >> 1):
             apart = (few.of[it] ^ few.at(literal)) & care
             if apart in (0, care):
                 other = 2 * it ^ bool(apart)
                 wrong = self.breaks(self.all, {}, at, self.all.at(other))
                 return self.learn(wrong) if wrong else self.take(self.circuit.with_output(at, other), {}, {})
 
+    def shuffled(self, signals):
+        """Signals in an order that hangs on the seed."""
+        number = self.random.random
+        return sorted(signals, key=lambda _: number())
+
     def step(self, node):
         """Looks for something in the place of a node, and takes the first that may be taken."""
-        few, pairs = self.few, self.circuit.pairs
-        care = self.breaks(few, few.changes(self.circuit, {node: few.of[node] ^ few.ones}))
+        few, pairs, above = self.few, self.circuit.pairs, self.circuit.above(node)
+        care = self.breaks(few, few.changes(self.circuit, node, few.of[node] ^ few.ones, above))
         on, off = few.of[node] & care, care & ~few.of[node]
-        above = self.circuit.above(node)
-        signals = [it for it in (*range(1, self.circuit.inputs + 1), *self.circuit.nodes) if it not in above]
-        self.random.shuffle(signals)
+        signals = self.shuffled(it for it in (*range(1, self.circuit.inputs + 1), *self.circuit.nodes)
+                                if it not in above and it != node)
         literals = [pair for it in signals for pair in ((2 * it, few.of[it]), (2 * it + 1, few.of[it] ^ few.ones))]
         going = self.circuit.alone(node)
         more = self.random.random() < WORSE and len(self.circuit.nodes) < len(self.best.nodes) + MORE
         for literal, added in self.instead(on, off, [(0, 0), (1, few.ones), *literals], going, len(going) + more):
             if tuple(sorted(added.get(literal >> 1, ()))) != tuple(sorted(pairs[node])) or literal & 1:
-                if self.is_taken(node, literal, added, len(self.circuit.nodes) + more):
+                if self.is_taken((node, literal, added, above), len(self.circuit.nodes) + more):
                     return
 
     def instead(self, on, off, literals, going, most):
@@ -148,9 +169,10 @@ class Walk:
         if most >= 3:
             yield from differing(first, on, on | off, [it for it in staying if not it[0] & 1][:DIFFERING])
 
-    def is_taken(self, node, literal, added, most):
+    def is_taken(self, change, most):
         """Whether the circuit is changed so, where it has no more ANDs than that then, or the few vectors have become more."""
-        made = self.circuit.with_literal(node, literal, added)
+        made = self.circuit.with_literal(*change)
+        node, literal, added, above = change
         if len(made.nodes) > most:
             return False
         for values in (self.few, self.all):
@@ -158,13 +180,14 @@ class Walk:
                 values.of[new] = values.at(left) & values.at(right)
         changed = {}
         if self.all.at(literal) != self.all.of[node]:
-            changed = self.all.changes(self.circuit, {node: self.all.at(literal)})
+            changed = self.all.changes(self.circuit, node, self.all.at(literal), above)
             wrong = self.breaks(self.all, changed)
             if wrong:
                 self.learn(wrong)
                 return True
         is_apart = changed and self.few is not self.all
-        self.take(made, changed, self.few.changes(self.circuit, {node: self.few.at(literal)}) if is_apart else changed)
+        few_changed = self.few.changes(self.circuit, node, self.few.at(literal), above) if is_apart else changed
+        self.take(made, changed, few_changed)
         return True
 
     def learn(self, wrong):

@@ -1,27 +1,34 @@
 """What was found becomes a bundle: the netlist as it is built is certified against IN, confirmed, and only then put in the
-place of what stood there.
+place of what stood there. A certificate may take longer than anybody waits, so each try has a time, and the best few are
+certified side by side.
 """
+import concurrent.futures
 import os
 import shutil
 import signal
 import tempfile
+import time
 
-from explorer.children import Ended
+from explorer.children import Ended, Late
 from explorer.trial import reports
 
 # The netlist comes last: where it is new, the certificate beside it is new and whole. Were the renaming cut off before, the
 # earlier netlist stands beside files that are not its own; `confirm` trusts none of them, so whichever files stand
 # together, it verifies them only where they are right.
 ORDER = ("cnf", "lrat", "wit", "txt", "blif")
-# How many tries are certified, from the best on, before none is said to verify.
-MOST = 20
+# How many tries are certified, from the best on, and how many of the first ones that were made when none of those is.
+MOST, FIRST = 20, 2
+# A try has so many seconds, and so many times those of its search, where nothing is left of the seconds of the bound. A bound
+# without seconds has so many for its certificates, the best tries have so many more together, and the first ones again.
+LEAST, TIMES, MORE = 5, 3, 60
 
 
 class Bundle:
-    """Certifies the tries of one bound, from the best on."""
+    """Certifies the tries of one bound, from the best on, so many side by side, until a time if one is given."""
 
-    def __init__(self, trial, stem, bound, say):
-        self.trial, self.stem, self.bound, self.say = trial, stem, bound, say
+    def __init__(self, trial, stem, bound, say, jobs, until):
+        self.trial, self.stem, self.bound, self.say, self.jobs = trial, stem, bound, say, jobs
+        self.until = time.monotonic() + MORE if until is None else until
 
     def of_best(self, tries):
         """The first try of which a bundle verifies, with its report and the job that verifies it, or None. The bundle is in
@@ -29,42 +36,92 @@ class Bundle:
         parent, base = os.path.split(os.path.abspath(self.stem))
         folder = tempfile.mkdtemp(prefix=".%s." % base, dir=parent)
         try:
-            for one in tries[:MOST]:
-                told, why = self.certified(one, folder)
-                if told:
-                    self.put_in_place(folder)
-                    return one, told, why
-                self.say("bound %d: try %d, of area %s, is not taken: %s" % (self.bound, one.number, one.answer["area"], why))
+            found = self.of_many(tries[:MOST], folder, time.monotonic() + MORE)
+            if found is None and len(tries) > FIRST:
+                self.until = time.monotonic() + MORE
+                found = self.of_many(sorted(tries, key=lambda it: it.number)[:FIRST], folder, self.until)
+            return found
         finally:
             shutil.rmtree(folder, ignore_errors=True)
+
+    def of_many(self, tries, folder, end):
+        """The same of some tries, of which none is begun behind an end."""
+        asked = [it for one in tries for it in self.candidates(one)]
+        for at in range(0, len(asked), self.jobs):
+            found = self.of_few(asked[at:at + self.jobs], folder) if time.monotonic() < max(end, self.until) else None
+            if found:
+                return found
         return None
 
-    def certified(self, one, folder):
+    def candidates(self, one):
+        """What may be certified of a try, each with the job, the name of its netlist, and how it is told: the netlist as it is
+        built; and where the area is that of a clean-up, which changes no function, what the search left, whose certificate
+        takes no longer than the search did."""
+        area, nets = self.trial.setting["area"], one.answer["nets"]
+        left = ("refine", nets["start"]) if one.is_refined and one.bound == str(self.bound) else ("certify", nets["result"])
+        found = [(one, "certify", nets["built"], "as it is built")]
+        if area == "literals":
+            # Literals are those that the program leaves, so its own bundle, which may say `minimal yes`, is taken.
+            return [(one, *left, "as it is left")]
+        return found + [(one, *left, "as it is left")] if area == "ands" else found
+
+    def of_few(self, few, folder):
+        """The first of a few candidates, which are certified side by side."""
+        children = self.trial.children
+        pool = concurrent.futures.ThreadPoolExecutor(len(few))
+        try:
+            asked = [(it, path, pool.submit(self.certified, it, path)) for it, path in
+                     ((it, tempfile.mkdtemp(dir=folder)) for it in few)]
+            for (one, _, _, how), path, answer in asked:
+                told, why = answer.result()
+                if told:
+                    self.put_in_place(path)
+                    return one, told, why
+                self.say("bound %d: try %d, of area %s, is not taken %s: %s" % (
+                    self.bound, one.number, one.answer["area"], how, why))
+        except Ended:
+            raise KeyboardInterrupt from None
+        finally:
+            children.close()
+            pool.shutdown(wait=True, cancel_futures=True)
+            children.open()
+        return None
+
+    def certified(self, candidate, folder):
         """The report of a bundle that is verified, and by which job; else None and why it is not."""
-        setting, nets = self.trial.setting, one.answer["nets"]
-        # Literals are those that the program leaves, so its own bundle, which may say `minimal yes`, is taken.
-        is_own = setting["area"] == "literals" and one.is_refined and one.bound == str(self.bound)
-        job = "refine" if is_own else "certify"
-        second = nets["start"] if job == "refine" else nets["built"]
+        until = max(self.until, time.monotonic() + LEAST + TIMES * candidate[0].answer["seconds"])
+        try:
+            return self.verified(candidate, folder, until)
+        except Late:
+            return None, "it is not certified in the seconds that are left"
+
+    def verified(self, candidate, folder, until):
+        """The same, or an exception where the time is over."""
+        setting, (_, job, second, _) = self.trial.setting, candidate
         for name, data in (("in.blif", self.trial.exact), ("second.blif", self.trial.store.net(second))):
             with open(os.path.join(folder, name), "wb") as file:
                 file.write(data)
         words = [setting["metric"], str(self.bound)]
-        said, line = self.run(folder, job, *words, setting["conflicts"], "in.blif", "second.blif", "out")
+        said, line = self.run(folder, until, job, *words, setting["conflicts"], "in.blif", "second.blif", "out")
         if said is None:
             return None, line
         report = reports(said)
-        confirmed, line = self.run(folder, "confirm", *words, "in.blif", "out")
+        confirmed, line = self.run(folder, until, "confirm", *words, "in.blif", "out")
         if confirmed is None:
             return None, "`confirm` does not verify it: " + line
-        return report, "confirm" if self.run(folder, "check", *words, "in.blif", "out")[0] is None else "check"
+        return report, self.strictest(folder, until, words)
 
-    def run(self, folder, *words):
-        """What a job said, or None and its line."""
+    def strictest(self, folder, until, words):
+        """The strictest job that verifies the bundle, which `confirm` does."""
         try:
-            number, said, told, _ = self.trial.children.run([self.trial.setting["program"], *words], folder)
-        except Ended:
-            raise KeyboardInterrupt from None
+            return "confirm" if self.run(folder, until, "check", *words, "in.blif", "out")[0] is None else "check"
+        except Late:
+            return "confirm"
+
+    def run(self, folder, until, *words):
+        """What a job said by a time, or None and its line."""
+        seconds = max(0.1, until - time.monotonic())
+        number, said, told, _ = self.trial.children.run([self.trial.setting["program"], *words], folder, seconds)
         lines = [it.strip() for it in told.split("\n") if it.startswith("salsa: ")] or ["salsa: ended with %d" % number]
         return (said, "") if number == 0 else (None, lines[-1].removeprefix("salsa: "))
 
