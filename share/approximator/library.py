@@ -68,26 +68,27 @@ def is_mapped_to(text, scratch):
         return False
 
 
-def put_usable(path, text, scratch):
+def put_usable(name, text, scratch):
     """Puts a Liberty text into the folder: where ABC ends at its delays, and at nothing else, the text without them."""
     if is_mapped_to(text, scratch):
         return
     if is_mapped_to(without_delays(text), scratch):
-        say("`%s` is taken without its delays, by functions and areas: ABC ends at them, as where some cells have none" % path)
+        say("`%s` is taken without its delays, by functions and areas: ABC ends at them, as where some cells have none" % name)
     else:
         put_text(text, scratch, "library.lib")
 
 
-def prepare(path, scratch):
-    """Puts a library into the folder, and gives back the names of its cells."""
+def prepare(path, name, scratch):
+    """Puts a library into the folder, as it can be mapped to, and gives back the names of its cells. What is told has the name by
+    which it was given."""
     try:
         text = liberty_of(text_of(path)) if path.endswith(".genlib") else text_of(path)
         put_text(text, scratch, "library.lib")
         yosys("read it as Liberty", READ_LIBERTY + "; write_rtlil library.il; write_json library.json", scratch)
     except Refused as refused:
-        raise Refused(READ, "the library `%s` can't be read: %s" % (path, refused.lines[0]), heard=refused.heard) from None
+        raise Refused(READ, "the library `%s` can't be read: %s" % (name, refused.lines[0]), heard=refused.heard) from None
     cells = json.loads(text_of(scratch, "library.json"))["modules"]
     if not cells:
-        raise Refused(READ, "the library `%s` can't be read: no cell in it has a function" % path)
-    put_usable(path, text, scratch)
+        raise Refused(READ, "the library `%s` can't be read: no cell in it has a function" % name)
+    put_usable(name, text, scratch)
     return frozenset(cells)

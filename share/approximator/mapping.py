@@ -39,7 +39,7 @@ def target_of(word):
 
 def with_cells(target, scratch):
     """The target, with the cells of its library."""
-    return target._replace(cells=prepare(target.library, scratch)) if target and target.library else target
+    return target._replace(cells=prepare(target.library, target.word, scratch)) if target and target.library else target
 
 
 def area_of(target, scratch):
