@@ -2,7 +2,7 @@
 import json
 import re
 
-from approximator.tools import READ, Refused, put_text, text_of, yosys
+from approximator.tools import READ, Refused, put_text, say, text_of, yosys
 
 ENDINGS = (".lib", ".genlib")
 # Registers and cells without a function are no fault of a library: no netlist here has them.
@@ -13,6 +13,10 @@ GATE = re.compile(r"""GATE\s+("[^"\n]+"|[^\s"]+)\s+([0-9.]+(?:[eE][-+]?[0-9]+)?)
                   r"""=\s*([\s()!'*+&|^\w.\[\]<>]+);""")
 CONSTANTS = {"CONST0": "0", "CONST1": "1"}
 PIN = re.compile(r"[A-Za-z_][\w.\[\]<>]*")
+# What begins a group of delays in a Liberty text, what ends groups, and what hides both.
+DELAYS = re.compile(r'''/\*.*?\*/|"(?:[^"\\]|\\.)*"|\btiming\s*\([^)]*\)\s*\{|[{}]''', re.S)
+# One gate, by which it is seen whether ABC ends at a library.
+PROBE = ".model probe\n.inputs a b\n.outputs y\n.gate $_AND_ A=a B=b Y=y\n.end\n"
 
 
 def liberty_of(text):
@@ -40,15 +44,51 @@ def cell_text(name, area, output, function):
     return text + '    pin("%s") { direction : output; function : "%s"; }\n  }\n' % (output, " ".join(function.split()))
 
 
-def prepare(path, scratch):
-    """Puts a library into the folder, and gives back the names of its cells."""
+def without_delays(text):
+    """A Liberty text without its groups of delays."""
+    kept, begin, depth = [], 0, 0
+    for token in DELAYS.finditer(text):
+        if depth:
+            depth += {"{": 1, "}": -1}.get(token[0], 0)
+            begin = token.end()
+        elif token[0].startswith("timing"):
+            kept.append(text[begin:token.start()])
+            begin, depth = token.end(), 1
+    return "".join(kept) + text[begin:]
+
+
+def is_mapped_to(text, scratch):
+    """Puts a Liberty text into the folder, and tells whether Yosys and ABC map one gate to it."""
+    put_text(text, scratch, "library.lib")
+    put_text(PROBE, scratch, "probe.blif")
     try:
-        text = text_of(path)
-        put_text(liberty_of(text) if path.endswith(".genlib") else text, scratch, "library.lib")
+        yosys("map a gate", "read_blif probe.blif; abc -liberty library.lib -script +strash;map,-a", scratch)
+        return True
+    except Refused:
+        return False
+
+
+def put_usable(name, text, scratch):
+    """Puts a Liberty text into the folder: where ABC ends at its delays, and at nothing else, the text without them."""
+    if is_mapped_to(text, scratch):
+        return
+    if is_mapped_to(without_delays(text), scratch):
+        say("`%s` is taken without its delays, by functions and areas: ABC ends at them, as where some cells have none" % name)
+    else:
+        put_text(text, scratch, "library.lib")
+
+
+def prepare(path, name, scratch):
+    """Puts a library into the folder, as it can be mapped to, and gives back the names of its cells. What is told has the name by
+    which it was given."""
+    try:
+        text = liberty_of(text_of(path)) if path.endswith(".genlib") else text_of(path)
+        put_text(text, scratch, "library.lib")
         yosys("read it as Liberty", READ_LIBERTY + "; write_rtlil library.il; write_json library.json", scratch)
     except Refused as refused:
-        raise Refused(READ, "the library `%s` can't be read: %s" % (path, refused.lines[0]), heard=refused.heard) from None
+        raise Refused(READ, "the library `%s` can't be read: %s" % (name, refused.lines[0]), heard=refused.heard) from None
     cells = json.loads(text_of(scratch, "library.json"))["modules"]
     if not cells:
-        raise Refused(READ, "the library `%s` can't be read: no cell in it has a function" % path)
+        raise Refused(READ, "the library `%s` can't be read: no cell in it has a function" % name)
+    put_usable(name, text, scratch)
     return frozenset(cells)

@@ -18,6 +18,7 @@ CELLS = ("synth -flatten; abc -liberty library.lib -script +strash;&get,-n;&frai
          "opt_clean -purge; tee -q -o area.txt stat -liberty library.lib")
 CELL_AREA = re.compile(r"Chip area for (?:top )?module '[^']*': *([0-9.eE+-]+)")
 UNKNOWN = "-"
+NEEDS = "a library needs an inverter and a gate of two inputs such as NAND; ABC's own `read_%s %s` shows what else it finds wrong"
 
 # What to map to: the word of the command line, the pins of a LUT or None, the path of a library or None, the names of its
 # cells.
@@ -38,14 +39,17 @@ def target_of(word):
 
 def with_cells(target, scratch):
     """The target, with the cells of its library."""
-    return target._replace(cells=prepare(target.library, scratch)) if target and target.library else target
+    return target._replace(cells=prepare(target.library, target.word, scratch)) if target and target.library else target
 
 
-def area_of(target):
+def area_of(target, scratch):
     """The words of `salsa explore` for what is to be small."""
     if target is None or target.word == "gates":
         return ["ands"]
-    return ["cells", target.library] if target.library else ["luts%d" % target.pins]
+    if target.library:
+        # A genlib as it is given; a Liberty file as it can be mapped to.
+        return ["cells", target.library if target.library.endswith(".genlib") else os.path.join(scratch, "library.lib")]
+    return ["luts%d" % target.pins]
 
 
 def free_pattern(letter, ports):
@@ -64,7 +68,7 @@ def mapped(name, path, out, target, ports, scratch):
     try:
         yosys("map module `%s` to %s" % (name, target.word), "; ".join([*steps, "write_blif " + out]), scratch)
     except Refused as refused:
-        more = ["a library needs an inverter and a gate of two inputs such as NAND, and no fewer cells"] if target.library else []
+        more = [NEEDS % ("genlib" if target.word.endswith(".genlib") else "lib", target.word)] if target.library else []
         raise Refused(refused.number, *refused.lines, *more, heard=refused.heard) from None
     if not target.library:
         return Mapped(built_tables(os.path.join(scratch, out)), UNKNOWN, None)

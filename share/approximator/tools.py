@@ -20,6 +20,30 @@ def say(text):
     print("salsa: " + text, file=sys.stderr, flush=True)
 
 
+class Line:
+    """What is being done, on a terminal: one line, which what came of it ends, or which is taken away again."""
+
+    def __init__(self):
+        self.is_shown = sys.stderr.isatty() and "SALSA_QUIET" not in os.environ
+        self.is_begun = False
+
+    def put(self, text, end):
+        if self.is_begun:
+            print(text, end=end, file=sys.stderr, flush=True)
+
+    def begin(self, text):
+        self.is_begun = self.is_shown
+        self.put("salsa: " + text, " .. ")
+
+    def end(self, text):
+        self.put(text, "\n")
+        self.is_begun = False
+
+    def clear(self):
+        self.put("\r\x1b[K", "")
+        self.is_begun = False
+
+
 def text_of(*path):
     with open(os.path.join(*path), encoding="utf-8", errors="surrogateescape") as text:
         return text.read()
