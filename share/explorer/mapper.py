@@ -25,6 +25,8 @@ REWRITINGS = {
     "fx": "strash; dch; if -K 4; sop; fx",
     "balance": "strash; balance",
 }
+# One gate, by which it is seen whether ABC takes a library.
+PROBE = b".model probe\n.inputs a b\n.outputs y\n.names a b y\n11 1\n.end\n"
 CLEAN = "strash; dc2; %s; dc2; %s" % (RESYN, RESYN)
 # The commands that read a library, by the ending of its name: genlib, and Liberty.
 READERS = {".genlib": "read_genlib", ".lib": "read_lib"}
@@ -95,3 +97,11 @@ class Mapper:
             raise Failed("ABC does not tell the area: %s" % said.strip()[-200:])
         size = float(told.group(1))
         return int(size) if size == int(size) else size, int(told.group(2)), net
+
+    def fault(self, library):
+        """What ABC says where it can't map a gate to a library, given by its name and its bytes; else None."""
+        try:
+            self.built("cells", PROBE, library)
+            return None
+        except Failed as failed:
+            return str(failed).rpartition("`: ")[2]

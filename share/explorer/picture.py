@@ -87,7 +87,7 @@ def steps(top):
 def told(value):
     value = round(value, 6)
     if value == int(value):
-        return str(int(value)) if value < 10 ** 6 else "%.3g" % value
+        return str(int(value)) if value < 10 ** 7 else "%.3g" % value
     return "%g" % value
 
 
