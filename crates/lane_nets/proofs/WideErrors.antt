@@ -119,7 +119,8 @@ lanes_cut wides j first count =
 pub wide_joined : (metric : Metric) (level over here joined j b k first size : ℕ) (exact approx : List (List ℕ)) → length exact ≡ length approx
     → first ≡ k * word_width metric (length exact) → size ≡ min (word_width metric (length exact)) (length exact - k * word_width metric (length exact))
     → joined ≡ bit_or over here
-    → (IsTrue (word_bit here b) ↔ (level < word_error metric.kind (lane_at (lane_words (take (first + size - first) (drop first exact)) j) b) (lane_at (lane_words (take (first + size - first) (drop first approx)) j) b)))
+    → (IsTrue (word_bit here b) ↔ (level < word_error metric.kind (lane_at (lane_words (take (first + size - first) (drop first exact)) j) b)
+    (lane_at (lane_words (take (first + size - first) (drop first approx)) j) b)))
     → (IsTrue (word_bit over b) ↔ (level < greatest_of (error_of_word metric (lane_at (lane_words exact j) b) (lane_at (lane_words approx j) b)) k))
     → IsTrue (word_bit joined b) ↔ (level < greatest_of (error_of_word metric (lane_at (lane_words exact j) b) (lane_at (lane_words approx j) b)) (k + 1))
 wide_joined metric level over here joined j b k first size exact approx same begin count is one before =

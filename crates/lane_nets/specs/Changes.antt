@@ -38,7 +38,8 @@ HasInputBlock s q wides = (i : ℕ) → i < s.inputs → IsInputAt s q wides i
 abbrev pub AreKeptInputs : PatternSet → ℕ → ℕ → List (List ℕ) → Type 0
 AreKeptInputs s q marks wides = (i : ℕ) → i < s.inputs → IsKept marks i → IsInputAt s q wides i
 
--- where a graph is walked, the nodes of the inputs have their bits in the wide block before `next`, or in none
+-- where a graph is walked, the nodes of the inputs have their bits in the wide block before `next`; in none
+-- where it is 0
 abbrev pub HasNext : PatternSet → Option GraphWalk → ℕ → List (List ℕ) → Type 0
 HasNext s walk next wides = IfSome walk (λ _. 0 < next → HasInputBlock s (next - 1) wides)
 

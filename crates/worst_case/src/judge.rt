@@ -49,8 +49,8 @@ impl<'a> Model for Judge<'a> {
         × IfSome j.every (IsEachVectorHeld j.exact.now) };
 }
 
-/// The most inputs with which no diagrams are made: with 20 inputs every vector is tried in some milliseconds,
-/// and to find that a multiplier has no small diagrams takes half a second.
+/// The most inputs with which no diagrams are made: with 20 inputs every vector is tried in some
+/// milliseconds, and to find that a multiplier has no small diagrams takes half a second.
 const MOST_INPUTS_WITHOUT: u32 = 20;
 
 /// How many tables are computed at 512 vectors in the time of one step of a question to diagrams.

@@ -35,8 +35,8 @@ returns-in-Some c =
     wide_held c.args.nets.now.approx c.loop-q.wide.net c.loop-q.wide.patterns c.args.patterns.now c.loop-q.q c.reach.new.self.outputs c.outputs.result.now c.loop-q.invariant.net
     c.loop-q.invariant.patterns c.outputs.ensures.outputs c.reach.ensures.outputs in
     first_in_block c.args.metric c.args.nets.now.exact c.args.nets.now.approx c.args.patterns.now.vectors c.loop-q.q c.as_slice.result.now c.outputs.result.now right block
-    c.args.level c.min.result c.block_over-over.result (c.min.ensures ∙ ap (λ (n : ℕ). min (n - 512 * c.loop-q.q) 512) c.count-count.ensures.value) c.block_over-over.ensures.bits c.loop-q.invariant.none c.in-Some.p
-    c.in-Some.ensures
+    c.args.level c.min.result c.block_over-over.result (c.min.ensures ∙ ap (λ (n : ℕ). min (n - 512 * c.loop-q.q) 512) c.count-count.ensures.value) c.block_over-over.ensures.bits c.loop-q.invariant.none
+    c.in-Some.p c.in-Some.ensures
 
 pub loop-q-preserved : goal.loop-q-preserved
 loop-q-preserved c =

@@ -9,7 +9,8 @@ use Rattle.lane_nets.proofs.wide_lanes.above_wide.Goals.{then-rest-eq0, else-res
 
 pub loop-i-init : goal.loop-i-init
 loop-i-init c = λ j b lane low.
-    wide_start (number_of (lane_at (lane_words c.args.low.now j) b)) (number_of (lane_at (lane_words c.args.high.now j) b)) c.args.level _ _ b (c.equal_words.ensures j lane) (c.equal_words-2.ensures j lane)
+    wide_start (number_of (lane_at (lane_words c.args.low.now j) b)) (number_of (lane_at (lane_words c.args.high.now j) b)) c.args.level _ _ b
+    (c.equal_words.ensures j lane) (c.equal_words-2.ensures j lane)
 
 pub loop-i-preserved : goal.loop-i-preserved
 loop-i-preserved c = λ j b lane low.
