@@ -1,0 +1,9 @@
+use Rattle.std.proofs.lemmas.Result.{IfOk-weaker}
+use Rattle.graph_questions.proofs.Questions.{answered}
+use Rattle.graph_questions.proofs.question.ask_solver.Goals as goal
+
+pub returns : goal.returns
+returns g c =
+    IfOk-weaker c.solve_guided.result _ _
+    (λ answer is. answered c.args.graph.now c.args.goal c.in_ok-formula.formula c.new-none.result c.args.limit answer c.in_ok-formula.ensures.needed c.in_ok-formula.ensures.variables is)
+    c.solve_guided.ensures

@@ -1,0 +1,9 @@
+//! Whether some input vector makes the output of a net 1, asked of the solver over the net's graph.
+#![tactic(auto)]
+
+mod candidates;
+mod clauses;
+mod cone;
+mod guide;
+pub mod question;
+pub mod verdict;
