@@ -54,6 +54,6 @@ loop-q-preserved c =
       none =
           none_in_block c.args.metric c.args.nets.now.exact c.args.nets.now.approx c.args.patterns.now.vectors c.loop-q.q c.as_slice.result.now c.outputs.result.now right block
           c.args.level c.min.result c.block_over-over.result
-    (c.min.ensures ∙ ap (λ (n : ℕ). min (n - 512 * c.loop-q.q) 512) c.count-count.ensures.value) c.block_over-over.ensures.bits c.loop-q.invariant.none
+          (c.min.ensures ∙ ap (λ (n : ℕ). min (n - 512 * c.loop-q.q) 512) c.count-count.ensures.value) c.block_over-over.ensures.bits c.loop-q.invariant.none
           c.in_default.ensures;
     }
