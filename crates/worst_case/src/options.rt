@@ -23,11 +23,6 @@ pub const TRIALS: u32 = 8192;
 /// search. `bench/CIRCUITS.md` shows which logs go by cases.
 pub const FEW_CONFLICTS: u64 = 3000;
 
-/// The most conflicts of the solver before a sweep by cases is tried, where no error exceeds 0. Of nine such
-/// questions that were tried, seven have logs of the solver with fewer steps than this behind the merges, and
-/// most of these logs are shorter than those of a sweep.
-pub const EASY_CONFLICTS: u64 = 2000;
-
 /// The most queries of one question, the first among them. The last formulas of common blocks that 10,000
 /// conflicts leave open end within a small multiple of 100,000 conflicts: `bench/SOLVER.md`, 'Questions put
 /// again'.

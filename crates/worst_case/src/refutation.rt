@@ -1,9 +1,8 @@
 //! The log that no error exceeds a level, where this is known. With at most eight inputs the log goes by
-//! cases. With nine to sixteen, where no error exceeds 0, a sweep by cases is tried, which shows that the two
-//! nets are equal. Else the solver is asked. Where the conflicts are enough for the inputs, the solver
+//! cases. With more inputs the solver is asked. Where the conflicts are enough for the inputs, the solver
 //! gets few of them, and if these do not do, the log goes by cases after all: two steps for each vector, with
 //! many hints each, so that with more inputs more conflicts are worth a try.
-ghost use Rattle.std.specs.Prelude.{◌↔◌, ◌≤◌, ◌<◌, IfOk, IfSome, IsTrue};
+ghost use Rattle.std.specs.Prelude.{◌↔◌, ◌≤◌, ◌<◌, IfOk, IsTrue};
 ghost use Rattle.semantics.specs.Net.{input_count};
 ghost use Rattle.semantics.specs.Error.{IsWithin};
 ghost use Rattle.proof_semantics.specs.Conflicts.{IsEnough};
@@ -11,11 +10,10 @@ ghost use Rattle.proof_semantics.specs.Queries.{IsNever};
 ghost use Rattle.worst_case.specs.Exceeds.{IsAnswer};
 
 use crate::comparable::see_comparable;
-use crate::options::{EASY_CONFLICTS, FEW_CONFLICTS, LANE_INPUTS};
+use crate::options::FEW_CONFLICTS;
 use crate::query::Exceed;
 use crate::repeated_query::ask_repeatedly;
-use crate::solver_query::{ask_solver, kept_refutation, pose};
-use case_sweep::sweep::refute_by_sweep;
+use crate::solver_query::ask_solver;
 use case_tree::refute::refute;
 use miter::level::joint_miter;
 use net_errors::compared::Compared;
@@ -51,46 +49,6 @@ fn refute_by_cases(alloc: Global, nets: &Compared, aim: Constraint) -> Result<Lo
     refute(alloc, &miter.net, &miter.formula)
 }
 
-/// The log of a sweep by cases, where it finds one: where no error exceeds 0 the two nets are equal at each
-/// input, and mostly their tables are so one after another.
-fn sweep(alloc: Global, nets: &Compared, aim: Constraint) -> Result<Option<Log>, AllocError>
-    ensures { IfOk result
-        (λ found. IfSome found (IsNever aim.metric nets.now.exact nets.now.approx aim.bound)) }
-{
-    let question = pose(alloc, nets, aim)?;
-    let joint = &question.joint;
-    let tables = nets.exact().tables().saturating_add(nets.approx().tables());
-    let found = refute_by_sweep(alloc, &joint.net, &joint.formula, &question.merged, tables)?;
-    match found {
-        Some(log) => {
-            let first = question.merged.len();
-            let kept = kept_refutation(alloc, nets, &question, first, &log)?;
-            Ok(Some(kept))
-        }
-        None => Ok(None),
-    }
-}
-
-/// The log of the solver, where a query of few conflicts finds one, or else of a sweep by cases, where that
-/// finds one.
-fn refute_equal<P: Progress>(
-    alloc: Global,
-    nets: &Compared,
-    aim: Constraint,
-    progress: &mut P,
-) -> Result<Option<Log>, AllocError>
-    requires many_inputs { FEW_INPUTS < input_count nets.now.exact }
-    requires limit { 1 ≤ aim.limit }
-    ensures { IfOk result
-        (λ found. IfSome found (IsNever aim.metric nets.now.exact nets.now.approx aim.bound)) }
-{
-    let limit = aim.limit.min(EASY_CONFLICTS);
-    match ask_solver(alloc, nets, Constraint { limit, ..aim }, progress)? {
-        Exceed::Never(log) => Ok(Some(log)),
-        _ => sweep(alloc, nets, aim),
-    }
-}
-
 /// The log of the solver, where a query of few conflicts finds one, and else the log by cases.
 fn refute_by_few_conflicts<P: Progress>(
     alloc: Global,
@@ -111,9 +69,8 @@ fn refute_by_few_conflicts<P: Progress>(
 }
 
 /// A log that refutes that some error exceeds the bound, or the spent query, with as many conflicts as the
-/// limit. With nine inputs and more the solver is asked, and where the conflicts are enough for the inputs,
-/// the log goes by cases where the solver has none.
-fn refute_by_conflicts<P: Progress>(
+/// limit.
+pub(crate) fn refute_level<P: Progress>(
     alloc: Global,
     nets: &Compared,
     aim: Constraint,
@@ -134,29 +91,4 @@ fn refute_by_conflicts<P: Progress>(
         refute_by_cases(alloc, nets, aim)?
     };
     Ok(Exceed::Never(log))
-}
-
-/// A log that refutes that some error exceeds the bound, or the spent query, with as many conflicts as the
-/// limit.
-pub(crate) fn refute_level<P: Progress>(
-    alloc: Global,
-    nets: &Compared,
-    aim: Constraint,
-    progress: &mut P,
-) -> Result<Exceed, AllocError>
-    requires limit { 1 ≤ aim.limit }
-    requires within { IsWithin aim.metric nets.now.exact aim.bound nets.now.approx }
-    ensures { IfOk result (IsAnswer aim nets.now.exact nets.now.approx) }
-{
-    let inputs = nets.exact().inputs();
-    if inputs > FEW_INPUTS
-        && inputs <= LANE_INPUTS
-        && aim.bound == 0
-        && !is_enough(aim.limit, inputs)
-    {
-        if let Some(log) = refute_equal(alloc, nets, aim, progress)? {
-            return Ok(Exceed::Never(log));
-        }
-    }
-    refute_by_conflicts(alloc, nets, aim, progress)
 }

@@ -1,6 +1,0 @@
-use Rattle.std.proofs.Common.{take}
-use Rattle.lrat_check.specs.Checker.{StandsAfter}
-use Rattle.case_sweep.proofs.checked.is_accepted.Given as goal
-
-abbrev pub invariant-loop-item : goal.invariant-loop-item
-invariant-loop-item l = StandsAfter l.formula.clauses (take l.item-index l.items) l.checker
