@@ -46,7 +46,8 @@ module _ (metric : Metric) (E N : NetValue) (bound : ℕ) (vectors : List (List 
   pub vectors_are : vectors_in (input_count N) count blocks ≡ vectors
   vectors_are = ap (λ k. vectors_in (input_count N) k blocks) is ∙ vectors-back N vectors blocks sound.acyclic are widths
 
-  pub filled : (room : List ℕ) → count < 2 ^ 64 → length care ≡ table_count N → length room ≡ word_count count → AreFilled N count blocks care exceeds room
+  pub filled : (room : List ℕ) → count < 2 ^ 64 → length care ≡ table_count N → length room ≡ word_count count
+      → AreFilled N count blocks (record { care = care; exceeds = exceeds; room = room })
   filled room few tables long = record {
     blocks = rw vectors_are are;
     sound = sound;

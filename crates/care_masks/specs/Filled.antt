@@ -17,16 +17,22 @@ pub record IsRowFor (count : ℕ) (row : List ℕ) : Type 0 where
   pub words : length row ≡ word_count count
   pub clear : (p : ℕ) → count ≤ p → row_bit row p ≡ false
 
+-- the rows of the patterns that are cared for at each table, the row of those at which the net itself exceeds
+-- the bound, and room for one more row
+pub record MaskRows : Type 0 where
+  pub care : List (List ℕ)
+  pub exceeds : List ℕ
+  pub room : List ℕ
+
 -- what the fields of the masks of a net hold, whatever nets they were made for
-pub record AreFilled (N : NetValue) (count : ℕ) (held rows : List (List ℕ))
-    (last room : List ℕ) : Type 0 where
+pub record AreFilled (N : NetValue) (count : ℕ) (held : List (List ℕ)) (rows : MaskRows) : Type 0 where
   pub blocks : AreBlocksOf N (vectors_in (input_count N) count held) held
   pub sound : IsSound N
   pub few : count < 2 ^ 64
-  pub tables : length rows ≡ table_count N
-  pub care : (t : ℕ) → t < table_count N → IsRowFor count (row_at rows t)
-  pub exceeds : IsRowFor count last
-  pub differs : length room ≡ word_count count
+  pub tables : length rows.care ≡ table_count N
+  pub care : (t : ℕ) → t < table_count N → IsRowFor count (row_at rows.care t)
+  pub exceeds : IsRowFor count rows.exceeds
+  pub differs : length rows.room ≡ word_count count
 
 -- words of outputs for `count` patterns: in each block as many words as the net has outputs
 pub record FitsOutputs (N : NetValue) (count : ℕ) (outputs : List (List ℕ)) : Type 0 where

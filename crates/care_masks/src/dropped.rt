@@ -54,16 +54,16 @@ fn missed_literal_word(table: &Table, row: usize, pin: usize, words: &[u64], val
 }
 
 /// Where the move changes its table's value, in one block.
-pub(crate) fn block_difference(net: &Net, step: Move, words: &[u64], overlaps: &[u64]) -> u64
-    requires step { Contains (moves_of net.now) step }
+pub(crate) fn block_difference(net: &Net, a_move: Move, words: &[u64], overlaps: &[u64]) -> u64
+    requires offered { Contains (moves_of net.now) a_move }
     requires room { length words.now ≡ signal_count net.now }
     requires overlaps_room { length overlaps.now ≡ table_count net.now }
     ensures bits { AreOverlapsOf net.now words.now overlaps.now → (b : ℕ) (x : List Bool) → b < 64
-        → HasValues net.now words.now b x → IsTrue (word_bit result b) ↔ Changes net.now step x }
+        → HasValues net.now words.now b x → IsTrue (word_bit result b) ↔ Changes net.now a_move x }
     ensures built { IsBuilt net.now }
 {
     let inputs = net.inputs();
-    match step {
+    match a_move {
         Move::DropRow { t, row } => {
             lone_row_word(net.table(t), row as usize, words, overlaps[t as usize])
         }
@@ -71,6 +71,6 @@ pub(crate) fn block_difference(net: &Net, step: Move, words: &[u64], overlaps: &
             let value = words[(inputs + t) as usize];
             missed_literal_word(net.table(t), row as usize, pin as usize, words, value)
         }
-        _ => difference_word(net, step, words),
+        _ => difference_word(net, a_move, words),
     }
 }

@@ -51,7 +51,8 @@ impl Model for FixedMasks {
       exceeds = a.exceeds;
     } };
 
-    ghost invariant = { λ a. AreFilled a.net a.count a.blocks a.care a.exceeds a.differs.items };
+    ghost invariant = { λ a. AreFilled a.net a.count a.blocks
+        (record { care = a.care; exceeds = a.exceeds; room = a.differs.items }) };
 }
 
 impl FixedMasks {
@@ -64,7 +65,8 @@ impl FixedMasks {
         exceeds: WordList,
         differs: Vec<u64>,
     ) -> FixedMasks
-        requires { AreFilled net count blocks care exceeds differs.items }
+        requires { AreFilled net count blocks
+            (record { care = care; exceeds = exceeds; room = differs.items }) }
         ensures { result ≡ record {
           net = net;
           vectors = vectors_in (input_count net) count blocks;
@@ -121,14 +123,14 @@ impl FixedMasks {
     }
 
     /// The row of the patterns at which the move changes the value of its table.
-    pub fn differs(&mut self, step: Move) -> &[u64]
-        requires { Contains (moves_of self.old.net) step }
+    pub fn differs(&mut self, a_move: Move) -> &[u64]
+        requires { Contains (moves_of self.old.net) a_move }
         ensures* masks { sem 𝓛 (StayTheSame self.entry) }
-        ensures row { IsRowWhere self.old.vectors (Changes self.old.net step) result.now }
+        ensures row { IsRowWhere self.old.vectors (Changes self.old.net a_move) result.now }
     {
         set_differences(
             &self.net,
-            step,
+            a_move,
             self.count,
             self.blocks.as_slice(),
             &mut self.differs,
@@ -137,8 +139,8 @@ impl FixedMasks {
     }
 
     /// The first pattern at which the moved net exceeds the bound.
-    pub fn breaks(&self, step: Move) -> Option<u64>
-        requires { Contains (moves_of self.now.net) step }
+    pub fn breaks(&self, a_move: Move) -> Option<u64>
+        requires { Contains (moves_of self.now.net) a_move }
         ensures { (metric : Metric) (exact : NetValue) (bound : ℕ) → AreMasksOf metric exact bound self.now
             → FindsFirstBroken (record {
               exact = exact;
@@ -146,12 +148,12 @@ impl FixedMasks {
               metric = metric;
               bound = bound;
               vectors = self.now.vectors;
-            }) step result }
+            }) a_move result }
     {
-        let care = self.care.get(table_of(step) as usize).as_slice();
+        let care = self.care.get(table_of(a_move) as usize).as_slice();
         first_broken(
             &self.net,
-            step,
+            a_move,
             self.blocks.as_slice(),
             care,
             self.exceeds.as_slice(),

@@ -54,24 +54,24 @@ impl<'a> Model for GrowingMasks<'a> {
 /// table are computed when they are asked for.
 fn reach_broken_word(
     known: &JudgedBlocks,
-    step: Move,
+    a_move: Move,
     k: usize,
     room: &mut Room,
     row: &mut WordList,
 ) -> Result<u64, AllocError>
-    requires step { Contains (moves_of known.now.judged.now.nets.approx) step }
+    requires offered { Contains (moves_of known.now.judged.now.nets.approx) a_move }
     requires fit { FitBlocks known.now.judged.now known.now.count known.now.blocks.now }
     requires within { k < length known.now.blocks.now }
     requires few { length row.old ≤ length known.now.blocks.now }
     requires room { FitsRoom known.now.judged.now room.old }
     ensures broken { IfOk result (λ word. (vectors : List (List Bool)) → length vectors ≡ known.now.count
         → AreBlocksFor known.now.judged.now vectors known.now.blocks.now
-        → AreCareWords known.now.judged.now vectors (table_of step) row.old
-        → IsBrokenWord (judged_over known.now.judged.now vectors) step k word) }
+        → AreCareWords known.now.judged.now vectors (table_of a_move) row.old
+        → IsBrokenWord (judged_over known.now.judged.now vectors) a_move k word) }
     ensures cared { (vectors : List (List Bool)) → length vectors ≡ known.now.count
         → AreBlocksFor known.now.judged.now vectors known.now.blocks.now
-        → AreCareWords known.now.judged.now vectors (table_of step) row.old
-        → AreCareWords known.now.judged.now vectors (table_of step) row.new }
+        → AreCareWords known.now.judged.now vectors (table_of a_move) row.old
+        → AreCareWords known.now.judged.now vectors (table_of a_move) row.new }
     ensures few { length row.new ≤ length known.now.blocks.now }
     ensures room { FitsRoom known.now.judged.now room.new }
 {
@@ -79,39 +79,39 @@ fn reach_broken_word(
     let block = &blocks[k];
     let words = block.words.as_slice();
     let overlaps = block.overlaps.as_slice();
-    let differs = block_difference(known.judged.nets.approx(), step, words, overlaps);
+    let differs = block_difference(known.judged.nets.approx(), a_move, words, overlaps);
     let exceeds = block.exceeds;
     if differs == 0 {
         return Ok(exceeds);
     }
-    reach_care_words(known, table_of(step), k + 1, room, row)?;
+    reach_care_words(known, table_of(a_move), k + 1, room, row)?;
     Ok(broken_word(differs, row.as_slice()[k], exceeds))
 }
 
 /// The first pattern at which the moved net exceeds the bound.
 fn first_broken(
     known: &JudgedBlocks,
-    step: Move,
+    a_move: Move,
     room: &mut Room,
     row: &mut WordList,
 ) -> Result<Option<u64>, AllocError>
-    requires step { Contains (moves_of known.now.judged.now.nets.approx) step }
+    requires offered { Contains (moves_of known.now.judged.now.nets.approx) a_move }
     requires fit { FitBlocks known.now.judged.now known.now.count known.now.blocks.now }
     requires few { length row.old ≤ length known.now.blocks.now }
     requires room { FitsRoom known.now.judged.now room.old }
     ensures broken { IfOk result (λ found. (vectors : List (List Bool)) → length vectors ≡ known.now.count
         → AreBlocksFor known.now.judged.now vectors known.now.blocks.now
-        → AreCareWords known.now.judged.now vectors (table_of step) row.old
-        → FindsFirstBroken (judged_over known.now.judged.now vectors) step found) }
+        → AreCareWords known.now.judged.now vectors (table_of a_move) row.old
+        → FindsFirstBroken (judged_over known.now.judged.now vectors) a_move found) }
     ensures cared { (vectors : List (List Bool)) → length vectors ≡ known.now.count
         → AreBlocksFor known.now.judged.now vectors known.now.blocks.now
-        → AreCareWords known.now.judged.now vectors (table_of step) row.old
-        → AreCareWords known.now.judged.now vectors (table_of step) row.new }
+        → AreCareWords known.now.judged.now vectors (table_of a_move) row.old
+        → AreCareWords known.now.judged.now vectors (table_of a_move) row.new }
     ensures few { length row.new ≤ length known.now.blocks.now }
     ensures room { FitsRoom known.now.judged.now room.new }
 {
     for k in 0..known.blocks.len() {
-        let broken = reach_broken_word(known, step, k, room, row)?;
+        let broken = reach_broken_word(known, a_move, k, room, row)?;
         if let Some(b) = first_set(&[broken], 64) {
             return Ok(Some(64 * k as u64 + b));
         }
@@ -212,9 +212,9 @@ impl<'a> GrowingMasks<'a> {
 
     /// The first pattern at which the moved net exceeds the bound. The first move that asks for more words of
     /// its table takes memory for them.
-    pub fn breaks(&mut self, step: Move) -> Result<Option<u64>, AllocError>
-        requires { Contains (moves_of self.old.net) step }
-        ensures broken { IfOk result (FindsFirstBroken self.old step) }
+    pub fn breaks(&mut self, a_move: Move) -> Result<Option<u64>, AllocError>
+        requires { Contains (moves_of self.old.net) a_move }
+        ensures broken { IfOk result (FindsFirstBroken self.old a_move) }
         ensures same { self.new ≡ self.old }
     {
         self.judged.nets.approx().see_sound();
@@ -225,9 +225,9 @@ impl<'a> GrowingMasks<'a> {
         };
         first_broken(
             &known,
-            step,
+            a_move,
             &mut self.room,
-            &mut self.care[table_of(step) as usize],
+            &mut self.care[table_of(a_move) as usize],
         )
     }
 }

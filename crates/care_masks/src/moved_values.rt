@@ -78,14 +78,15 @@ fn without_literal(table: &Table, row: usize, pin: usize, words: &[u64]) -> u64
 }
 
 /// The value that a move of a net gives to its table, where the signals have these values.
-pub fn moved_word(net: &Net, step: Move, words: &[u64]) -> u64
-    requires step { Contains (moves_of net.now) step }
+pub fn moved_word(net: &Net, a_move: Move, words: &[u64]) -> u64
+    requires offered { Contains (moves_of net.now) a_move }
     requires room { length words.now ≡ signal_count net.now }
     ensures { (b : ℕ) → b < 64 → word_bit result b
-        ≡ table_value (moved_table (table_at net.now.tables (table_of step)) step) (values_at words.now b) }
+        ≡ table_value (moved_table (table_at net.now.tables (table_of a_move)) a_move)
+        (values_at words.now b) }
 {
     net.see_sound();
-    match step {
+    match a_move {
         Move::Const { value, .. } => constant_word(value),
         Move::DropRow { t, row } => without_row(net.table(t), row as usize, words),
         Move::DropLiteral { t, row, pin } => {

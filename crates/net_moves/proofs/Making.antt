@@ -56,12 +56,12 @@ few_literals N t sound small within =
     )
 
 -- the table that stood there comes again
-pub taken_back : (before now : NetValue) (step : Move) (table : TableValue) (t : ℕ) → IsMadeIn before step table now → t ≡ table_of step → with_table now t table ≡ before
-taken_back before now step table t m at =
-    let again : set (set before.tables (table_of step) (moved_table (table_at before.tables (table_of step)) step)) (table_of step) table ≡ before.tables =
-    set-set before.tables (table_of step) (moved_table (table_at before.tables (table_of step)) step) table ∙ ap (set before.tables (table_of step)) m.stood
-    ∙ set-get_or before.tables (table_of step) no_table in
-    ap (λ k. with_table now k table) at ∙ ap (λ (N : NetValue). with_table N (table_of step) table) m.made ∙ ap (λ ts. record before { tables = ts }) again
+pub taken_back : (before now : NetValue) (move : Move) (table : TableValue) (t : ℕ) → IsMadeIn before move table now → t ≡ table_of move → with_table now t table ≡ before
+taken_back before now move table t m at =
+    let again : set (set before.tables (table_of move) (moved_table (table_at before.tables (table_of move)) move)) (table_of move) table ≡ before.tables =
+    set-set before.tables (table_of move) (moved_table (table_at before.tables (table_of move)) move) table ∙ ap (set before.tables (table_of move)) m.stood
+    ∙ set-get_or before.tables (table_of move) no_table in
+    ap (λ k. with_table now k table) at ∙ ap (λ (N : NetValue). with_table N (table_of move) table) m.made ∙ ap (λ ts. record before { tables = ts }) again
 
-pub back-acyclic : (before now : NetValue) (step : Move) (table : TableValue) (t : ℕ) → IsMadeIn before step table now → t ≡ table_of step → IsAcyclic (input_count now) (replaced now.tables t table)
-back-acyclic before now step table t m at = subst (λ (N : NetValue). IsAcyclic (input_count N) N.tables) (sym (taken_back before now step table t m at)) m.sound.acyclic
+pub back-acyclic : (before now : NetValue) (move : Move) (table : TableValue) (t : ℕ) → IsMadeIn before move table now → t ≡ table_of move → IsAcyclic (input_count now) (replaced now.tables t table)
+back-acyclic before now move table t m at = subst (λ (N : NetValue). IsAcyclic (input_count N) N.tables) (sym (taken_back before now move table t m at)) m.sound.acyclic

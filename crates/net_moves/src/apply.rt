@@ -94,11 +94,11 @@ fn with_rows(table: &Table, rows: RowList) -> Result<Table, AllocError>
 }
 
 /// What a move makes of its table.
-fn moved_table(alloc: Global, table: &Table, step: Move) -> Result<Table, AllocError>
-    requires { Fits table.now step }
-    ensures { IfOk result (λ t. t ≡ moved_table table.now step) }
+fn moved_table(alloc: Global, table: &Table, a_move: Move) -> Result<Table, AllocError>
+    requires { Fits table.now a_move }
+    ensures { IfOk result (λ t. t ≡ moved_table table.now a_move) }
 {
-    match step {
+    match a_move {
         Move::Const { value, .. } => constant_table(alloc, table.name().copy()?, value),
         Move::DropRow { row, .. } => {
             let rows = without_row(alloc, table.rows().as_slice(), row as usize)?;
@@ -122,10 +122,10 @@ fn moved_table(alloc: Global, table: &Table, step: Move) -> Result<Table, AllocE
 }
 
 /// The table that a move changes.
-pub fn table_of(step: Move) -> u32
-    ensures { result ≡ table_of step }
+pub fn table_of(a_move: Move) -> u32
+    ensures { result ≡ table_of a_move }
 {
-    match step {
+    match a_move {
         Move::Const { t, .. } => t,
         Move::DropRow { t, .. } => t,
         Move::DropLiteral { t, .. } => t,
@@ -135,37 +135,37 @@ pub fn table_of(step: Move) -> u32
 }
 
 /// The net after one of its moves. Nothing is tidied.
-pub fn apply(alloc: Global, net: &Net, step: Move) -> Result<Net, AllocError>
-    requires { Contains (moves_of net.now) step }
-    ensures { IfOk result (λ n. n ≡ moved net.now step) }
+pub fn apply(alloc: Global, net: &Net, a_move: Move) -> Result<Net, AllocError>
+    requires { Contains (moves_of net.now) a_move }
+    ensures { IfOk result (λ n. n ≡ moved net.now a_move) }
 {
     net.see_sound();
-    let t = table_of(step);
-    let table = moved_table(alloc, net.table(t), step)?;
+    let t = table_of(a_move);
+    let table = moved_table(alloc, net.table(t), a_move)?;
     net.with_table(t, table)
 }
 
 /// Makes one of a net's moves in the net, and returns the table that stood there. No other table is touched,
 /// and nothing is tidied. Where memory is wanting, the net stays as it was.
-pub fn make(alloc: Global, net: &mut Net, step: Move) -> Result<Table, AllocError>
-    requires { Contains (moves_of net.old) step }
-    ensures ok { OnOk result (net.new ≡ moved net.old step) }
+pub fn make(alloc: Global, net: &mut Net, a_move: Move) -> Result<Table, AllocError>
+    requires { Contains (moves_of net.old) a_move }
+    ensures ok { OnOk result (net.new ≡ moved net.old a_move) }
     ensures err { OnErr result (net.new ≡ net.old) }
-    ensures taken { IfOk result (λ table. table ≡ table_at net.old.tables (table_of step)) }
+    ensures taken { IfOk result (λ table. table ≡ table_at net.old.tables (table_of a_move)) }
 {
     net.see_sound();
-    let t = table_of(step);
-    let table = moved_table(alloc, net.table(t), step)?;
+    let t = table_of(a_move);
+    let table = moved_table(alloc, net.table(t), a_move)?;
     net.exchange_table(t, table)
 }
 
 /// Takes back a move that was made in a net: puts back the table that stood there. Where memory is wanting,
 /// the net stays as it was.
-pub fn take_back(net: &mut Net, step: Move, table: Table) -> Result<(), AllocError>
-    requires { (before : NetValue) × IsMadeIn before step table net.old }
-    ensures ok { OnOk result ((before : NetValue) → IsMadeIn before step table net.old → net.new ≡ before) }
+pub fn take_back(net: &mut Net, a_move: Move, table: Table) -> Result<(), AllocError>
+    requires { (before : NetValue) × IsMadeIn before a_move table net.old }
+    ensures ok { OnOk result ((before : NetValue) → IsMadeIn before a_move table net.old → net.new ≡ before) }
     ensures err { OnErr result (net.new ≡ net.old) }
 {
-    net.exchange_table(table_of(step), table)?;
+    net.exchange_table(table_of(a_move), table)?;
     Ok(())
 }

@@ -37,8 +37,8 @@ impl<'a> Moves<'a> {
         ensures { GivesFirst self.old result self.new }
     {
         while self.table < self.net.tables() {
-            if let Some(step) = self.moves.next() {
-                return Some(step);
+            if let Some(a_move) = self.moves.next() {
+                return Some(a_move);
             }
             self.moves.start(self.net, self.table, self.pairs);
             self.table += 1;

@@ -97,10 +97,10 @@ impl PairMoves {
         }
         let s = self.near.get(self.first);
         let u = self.near.get(self.second);
-        let step = pair_move(self.t, s, u, self.flips);
+        let a_move = pair_move(self.t, s, u, self.flips);
         self.flips += 1;
         if self.flips < FLIPS {
-            return Some(step);
+            return Some(a_move);
         }
         self.flips = 0;
         self.second += 1;
@@ -108,6 +108,6 @@ impl PairMoves {
             self.first += 1;
             self.second = self.first + 1;
         }
-        Some(step)
+        Some(a_move)
     }
 }

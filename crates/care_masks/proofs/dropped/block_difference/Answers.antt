@@ -16,22 +16,22 @@ use Rattle.care_masks.proofs.dropped.block_difference.Goals as goal
 
 pub table-requires : goal.table-requires
 table-requires c =
-    let is = subst (IsMoveOf c.args.net.now) c.in-DropRow.is (move_is c.args.net.now c.inputs-inputs.ensures.built.sound.acyclic c.args.step c.requires.step) in
+    let is = subst (IsMoveOf c.args.net.now) c.in-DropRow.is (move_is c.args.net.now c.inputs-inputs.ensures.built.sound.acyclic c.args.a_move c.requires.offered) in
     is.0
 
 pub bounds-overlaps-t : goal.bounds-overlaps-t
 bounds-overlaps-t c =
-    let is = subst (IsMoveOf c.args.net.now) c.in-DropRow.is (move_is c.args.net.now c.inputs-inputs.ensures.built.sound.acyclic c.args.step c.requires.step) in
+    let is = subst (IsMoveOf c.args.net.now) c.in-DropRow.is (move_is c.args.net.now c.inputs-inputs.ensures.built.sound.acyclic c.args.a_move c.requires.offered) in
     omega (arith, is.0, c.requires.overlaps_room)
 
 pub lone_row_word-requires-clause-within : goal.lone_row_word-requires-clause-within
 lone_row_word-requires-clause-within c =
-    let is = subst (IsMoveOf c.args.net.now) c.in-DropRow.is (move_is c.args.net.now c.inputs-inputs.ensures.built.sound.acyclic c.args.step c.requires.step) in
+    let is = subst (IsMoveOf c.args.net.now) c.in-DropRow.is (move_is c.args.net.now c.inputs-inputs.ensures.built.sound.acyclic c.args.a_move c.requires.offered) in
     subst (λ (t : TableValue). c.in-DropRow.row < length t.rows) (sym c.table.ensures.value) is.2
 
 pub returns-in-DropRow-clause-bits : goal.returns-in-DropRow-clause-bits
 returns-in-DropRow-clause-bits c =
-    let is = subst (IsMoveOf c.args.net.now) c.in-DropRow.is (move_is c.args.net.now c.inputs-inputs.ensures.built.sound.acyclic c.args.step c.requires.step) in
+    let is = subst (IsMoveOf c.args.net.now) c.in-DropRow.is (move_is c.args.net.now c.inputs-inputs.ensures.built.sound.acyclic c.args.a_move c.requires.offered) in
     let N = c.args.net.now in
     let words = c.args.words.now in
     λ overlaps b x low values.
@@ -45,33 +45,33 @@ returns-in-DropRow-clause-bits c =
 
 pub overflow_add-value : goal.overflow_add-value
 overflow_add-value c =
-    let is = subst (IsMoveOf c.args.net.now) c.in-DropLiteral.is (move_is c.args.net.now c.inputs-inputs.ensures.built.sound.acyclic c.args.step c.requires.step) in
+    let is = subst (IsMoveOf c.args.net.now) c.in-DropLiteral.is (move_is c.args.net.now c.inputs-inputs.ensures.built.sound.acyclic c.args.a_move c.requires.offered) in
     omega (arith, is.0, c.inputs-inputs.ensures.value, c.inputs-inputs.ensures.built.few_signals)
 
 pub bounds-words-inputs : goal.bounds-words-inputs
 bounds-words-inputs c =
-    let is = subst (IsMoveOf c.args.net.now) c.in-DropLiteral.is (move_is c.args.net.now c.inputs-inputs.ensures.built.sound.acyclic c.args.step c.requires.step) in
+    let is = subst (IsMoveOf c.args.net.now) c.in-DropLiteral.is (move_is c.args.net.now c.inputs-inputs.ensures.built.sound.acyclic c.args.a_move c.requires.offered) in
     omega (arith, is.0, c.inputs-inputs.ensures.value, c.requires.room)
 
 pub table-requires-in-DropLiteral : goal.table-requires-in-DropLiteral
 table-requires-in-DropLiteral c =
-    let is = subst (IsMoveOf c.args.net.now) c.in-DropLiteral.is (move_is c.args.net.now c.inputs-inputs.ensures.built.sound.acyclic c.args.step c.requires.step) in
+    let is = subst (IsMoveOf c.args.net.now) c.in-DropLiteral.is (move_is c.args.net.now c.inputs-inputs.ensures.built.sound.acyclic c.args.a_move c.requires.offered) in
     is.0
 
 pub missed_literal_word-requires-clause-row : goal.missed_literal_word-requires-clause-row
 missed_literal_word-requires-clause-row c =
-    let is = subst (IsMoveOf c.args.net.now) c.in-DropLiteral.is (move_is c.args.net.now c.inputs-inputs.ensures.built.sound.acyclic c.args.step c.requires.step) in
+    let is = subst (IsMoveOf c.args.net.now) c.in-DropLiteral.is (move_is c.args.net.now c.inputs-inputs.ensures.built.sound.acyclic c.args.a_move c.requires.offered) in
     subst (λ (t : TableValue). c.in-DropLiteral.row < length t.rows) (sym c.table-in-DropLiteral.ensures.value) is.1
 
 pub missed_literal_word-requires-clause-pin : goal.missed_literal_word-requires-clause-pin
 missed_literal_word-requires-clause-pin c =
-    let is = subst (IsMoveOf c.args.net.now) c.in-DropLiteral.is (move_is c.args.net.now c.inputs-inputs.ensures.built.sound.acyclic c.args.step c.requires.step) in
+    let is = subst (IsMoveOf c.args.net.now) c.in-DropLiteral.is (move_is c.args.net.now c.inputs-inputs.ensures.built.sound.acyclic c.args.a_move c.requires.offered) in
     subst (λ (t : TableValue). c.in-DropLiteral.pin < length (row_at t.rows c.in-DropLiteral.row)) (sym c.table-in-DropLiteral.ensures.value)
     (literal_within (row_at _ c.in-DropLiteral.row) c.in-DropLiteral.pin is.2)
 
 pub returns-in-DropLiteral-clause-bits : goal.returns-in-DropLiteral-clause-bits
 returns-in-DropLiteral-clause-bits c =
-    let is = subst (IsMoveOf c.args.net.now) c.in-DropLiteral.is (move_is c.args.net.now c.inputs-inputs.ensures.built.sound.acyclic c.args.step c.requires.step) in
+    let is = subst (IsMoveOf c.args.net.now) c.in-DropLiteral.is (move_is c.args.net.now c.inputs-inputs.ensures.built.sound.acyclic c.args.a_move c.requires.offered) in
     let N = c.args.net.now in
     let words = c.args.words.now in
     let t = c.in-DropLiteral.t in

@@ -9,7 +9,7 @@ pub returns-in-Some-clause-broken : goal.returns-in-Some-clause-broken
 returns-in-Some-clause-broken c =
     let j = c.args.known.now.judged.now in
     λ vectors long are before.
-    broken_first j.metric j.nets.exact j.nets.approx j.bound c.args.step vectors c.loop-k.k c.in_ok-broken.broken c.in-Some.b _ refl
+    broken_first j.metric j.nets.exact j.nets.approx j.bound c.args.a_move vectors c.loop-k.k c.in_ok-broken.broken c.in-Some.b _ refl
     (c.in_ok-broken.ensures.broken vectors long are (c.loop-k.invariant.cared vectors long are before)) c.in-Some.ensures (c.loop-k.invariant.none vectors long are before)
 
 pub returns-in-Some-clause-cared : goal.returns-in-Some-clause-cared
@@ -23,6 +23,6 @@ loop-k-preserved c =
       room = c.reach_broken_word.ensures.room;
       cared = λ vectors long are before. c.reach_broken_word.ensures.cared vectors long are (c.loop-k.invariant.cared vectors long are before);
       none = λ vectors long are before.
-          broken_none j.metric j.nets.exact j.nets.approx j.bound c.args.step vectors c.loop-k.k c.in_ok-broken.broken
+          broken_none j.metric j.nets.exact j.nets.approx j.bound c.args.a_move vectors c.loop-k.k c.in_ok-broken.broken
           (c.in_ok-broken.ensures.broken vectors long are (c.loop-k.invariant.cared vectors long are before)) c.in_default.ensures (c.loop-k.invariant.none vectors long are before);
     }

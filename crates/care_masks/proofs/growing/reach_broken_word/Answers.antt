@@ -17,16 +17,16 @@ pub returns-then-differs-eq0-clause-broken : goal.returns-then-differs-eq0-claus
 returns-then-differs-eq0-clause-broken c =
     let j = c.args.known.now.judged.now in
     let sound : IsSound j.nets.approx = subst IsSound c.approx.ensures.value c.block_difference-differs.ensures.built.sound in
-    let is : IsMoveOf j.nets.approx c.args.step = move_is j.nets.approx sound.acyclic c.args.step c.requires.step in
+    let is : IsMoveOf j.nets.approx c.args.a_move = move_is j.nets.approx sound.acyclic c.args.a_move c.requires.offered in
     λ vectors long are care.
     let block : IsBlockOf j vectors c.args.k c.index-blocks-k.result =
     subst (IsBlockOf j vectors c.args.k) (sym c.index-blocks-k.is) (are c.args.k c.index-blocks-k.result c.requires.within) in
     let tells = subst (λ (N : NetValue). AreOverlapsOf N c.as_slice-words.result.now c.as_slice-overlaps.result.now → (b : ℕ) (x : List Bool) → b < 64
-    → HasValues N c.as_slice-words.result.now b x → IsTrue (word_bit c.block_difference-differs.result b) ↔ Changes N c.args.step x) c.approx.ensures.value
+    → HasValues N c.as_slice-words.result.now b x → IsTrue (word_bit c.block_difference-differs.result b) ↔ Changes N c.args.a_move x) c.approx.ensures.value
     c.block_difference-differs.ensures.bits
     (overlaps_read j.nets.approx _ c.as_slice-words.result.now _ c.as_slice-overlaps.result.now c.as_slice-words.ensures c.as_slice-overlaps.ensures
     block.overlaps) in
-    left_told j.metric j.nets.exact j.nets.approx j.bound c.args.step sound is vectors c.args.k c.as_slice-words.result.now _
+    left_told j.metric j.nets.exact j.nets.approx j.bound c.args.a_move sound is vectors c.args.k c.as_slice-words.result.now _
     (subst (IsBlock j.nets.approx vectors c.args.k) (sym c.as_slice-words.ensures) block.values)
     block.exceeds
     c.block_difference-differs.result c.if-differs-eq0.true tells
@@ -35,8 +35,8 @@ pub reach_care_words-requires-clause-table : goal.reach_care_words-requires-clau
 reach_care_words-requires-clause-table c =
     let j = c.args.known.now.judged.now in
     let sound : IsSound j.nets.approx = subst IsSound c.approx.ensures.value c.block_difference-differs.ensures.built.sound in
-    let is : IsMoveOf j.nets.approx c.args.step = move_is j.nets.approx sound.acyclic c.args.step c.requires.step in
-    omega (arith, c.table_of.ensures, move-within j.nets.approx c.args.step is)
+    let is : IsMoveOf j.nets.approx c.args.a_move = move_is j.nets.approx sound.acyclic c.args.a_move c.requires.offered in
+    omega (arith, c.table_of.ensures, move-within j.nets.approx c.args.a_move is)
 
 pub returns-in_err-reach_care_words-clause-cared : goal.returns-in_err-reach_care_words-clause-cared
 returns-in_err-reach_care_words-clause-cared c = λ vectors long are before.
@@ -47,25 +47,25 @@ pub returns-clause-broken : goal.returns-clause-broken
 returns-clause-broken c =
     let j = c.args.known.now.judged.now in
     let sound : IsSound j.nets.approx = subst IsSound c.approx.ensures.value c.block_difference-differs.ensures.built.sound in
-    let is : IsMoveOf j.nets.approx c.args.step = move_is j.nets.approx sound.acyclic c.args.step c.requires.step in
+    let is : IsMoveOf j.nets.approx c.args.a_move = move_is j.nets.approx sound.acyclic c.args.a_move c.requires.offered in
     λ vectors long are before.
     let block : IsBlockOf j vectors c.args.k c.index-blocks-k.result =
     subst (IsBlockOf j vectors c.args.k) (sym c.index-blocks-k.is) (are c.args.k c.index-blocks-k.result c.requires.within) in
     let tells = subst (λ (N : NetValue). AreOverlapsOf N c.as_slice-words.result.now c.as_slice-overlaps.result.now → (b : ℕ) (x : List Bool) → b < 64
-    → HasValues N c.as_slice-words.result.now b x → IsTrue (word_bit c.block_difference-differs.result b) ↔ Changes N c.args.step x) c.approx.ensures.value
+    → HasValues N c.as_slice-words.result.now b x → IsTrue (word_bit c.block_difference-differs.result b) ↔ Changes N c.args.a_move x) c.approx.ensures.value
     c.block_difference-differs.ensures.bits
     (overlaps_read j.nets.approx _ c.as_slice-words.result.now _ c.as_slice-overlaps.result.now c.as_slice-words.ensures c.as_slice-overlaps.ensures
     block.overlaps) in
     let row = subst (λ t. AreCareWords c.args.known.now.judged.now vectors t c.reach_care_words.new.row) c.table_of.ensures
     (c.reach_care_words.ensures.cared vectors long are (subst (λ t. AreCareWords c.args.known.now.judged.now vectors t c.args.row.now) (sym c.table_of.ensures) before)) in
-    let care : IsWordWhere vectors (IsCaredFor j.metric j.nets.exact j.bound j.nets.approx (table_of c.args.step)) c.args.k (get_or c.as_slice.result.now c.args.k 0) =
-    subst (λ (r : List ℕ). IsWordWhere vectors (IsCaredFor j.metric j.nets.exact j.bound j.nets.approx (table_of c.args.step)) c.args.k (get_or r c.args.k 0)) (sym c.as_slice.ensures)
+    let care : IsWordWhere vectors (IsCaredFor j.metric j.nets.exact j.bound j.nets.approx (table_of c.args.a_move)) c.args.k (get_or c.as_slice.result.now c.args.k 0) =
+    subst (λ (r : List ℕ). IsWordWhere vectors (IsCaredFor j.metric j.nets.exact j.bound j.nets.approx (table_of c.args.a_move)) c.args.k (get_or r c.args.k 0)) (sym c.as_slice.ensures)
     (row c.args.k (omega (arith, c.in_ok-reach_care_words.ensures.ok))) in
-    broken_told j.metric j.nets.exact j.nets.approx j.bound c.args.step sound is vectors c.args.k c.as_slice-words.result.now _
+    broken_told j.metric j.nets.exact j.nets.approx j.bound c.args.a_move sound is vectors c.args.k c.as_slice-words.result.now _
     (subst (IsBlock j.nets.approx vectors c.args.k) (sym c.as_slice-words.ensures) block.values)
     block.exceeds
     (get_or c.as_slice.result.now c.args.k 0) _ care
-    (λ b x low values. broken_bits j.nets.approx c.args.step x _ _ _ _ (tells b x low values) (c.broken_word.ensures b low))
+    (λ b x low values. broken_bits j.nets.approx c.args.a_move x _ _ _ _ (tells b x low values) (c.broken_word.ensures b low))
 
 pub returns-clause-cared : goal.returns-clause-cared
 returns-clause-cared c = λ vectors long are before.

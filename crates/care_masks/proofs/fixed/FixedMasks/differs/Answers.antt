@@ -21,7 +21,7 @@ returns c =
       record {
         masks = tt;
         row = rw row
-            (subst (λ (m : Masks). IsRowWhere m.vectors (Changes m.net c.args.step) c.set_differences.new.row) c.self.view_is
+            (subst (λ (m : Masks). IsRowWhere m.vectors (Changes m.net c.args.a_move) c.set_differences.new.row) c.self.view_is
             (c.set_differences.ensures (vectors_in (input_count c.self.inside.net) c.self.inside.count c.self.inside.blocks)
             (vectors-count c.self.inside.net c.self.inside.count c.self.inside.blocks)
             (subst (AreBlocksOf c.self.inside.net (vectors_in (input_count c.self.inside.net) c.self.inside.count c.self.inside.blocks)) (sym c.as_slice.ensures) c.self.invariant.blocks)));

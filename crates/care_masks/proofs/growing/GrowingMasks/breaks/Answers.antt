@@ -18,18 +18,18 @@ use Rattle.care_masks.proofs.growing.GrowingMasks.breaks.Goals as goal
 pub index_mut-requires : goal.index_mut-requires
 index_mut-requires c =
     let N : NetValue = c.self.inside.judged.nets.approx in
-    let step = subst (λ (M : NetValue). Contains (moves_of M) c.args.step) (sym (ap (λ (m : GrowingValue). m.net) c.self.view_is)) c.requires in
+    let offered = subst (λ (M : NetValue). Contains (moves_of M) c.args.a_move) (sym (ap (λ (m : GrowingValue). m.net) c.self.view_is)) c.requires in
     let sound : IsSound N = subst IsSound c.approx.ensures.value c.see_sound.ensures.sound in
-    let is : IsMoveOf N c.args.step = move_is N sound.acyclic c.args.step step in
-    omega (arith, c.table_of.ensures, move-within N c.args.step is, c.self.invariant.tables, c.self.inside.care.ok.0)
+    let is : IsMoveOf N c.args.a_move = move_is N sound.acyclic c.args.a_move offered in
+    omega (arith, c.table_of.ensures, move-within N c.args.a_move is, c.self.invariant.tables, c.self.inside.care.ok.0)
 
 pub first_broken-requires-clause-few : goal.first_broken-requires-clause-few
 first_broken-requires-clause-few c =
     let N : NetValue = c.self.inside.judged.nets.approx in
-    let step = subst (λ (M : NetValue). Contains (moves_of M) c.args.step) (sym (ap (λ (m : GrowingValue). m.net) c.self.view_is)) c.requires in
+    let offered = subst (λ (M : NetValue). Contains (moves_of M) c.args.a_move) (sym (ap (λ (m : GrowingValue). m.net) c.self.view_is)) c.requires in
     let sound : IsSound N = subst IsSound c.approx.ensures.value c.see_sound.ensures.sound in
-    let is : IsMoveOf N c.args.step = move_is N sound.acyclic c.args.step step in
-    let within : c.table_of.result < table_count N = omega (arith, c.table_of.ensures, move-within N c.args.step is) in
+    let is : IsMoveOf N c.args.a_move = move_is N sound.acyclic c.args.a_move offered in
+    let within : c.table_of.result < table_count N = omega (arith, c.table_of.ensures, move-within N c.args.a_move is) in
     let row : c.index_mut.result.now ≡ row_at c.self.inside.care.items c.table_of.result =
     c.index_mut.ensures.value ∙ get_or_default c.self.inside.care.items c.table_of.result c.index_mut.result.now [] (omega (arith, within, c.self.invariant.tables)) in
     omega (arith, ap length row, c.self.invariant.few c.table_of.result within, ap length c.as_slice.ensures.value)
@@ -37,14 +37,14 @@ first_broken-requires-clause-few c =
 pub invariant_of-self : goal.invariant_of-self
 invariant_of-self c =
     let N : NetValue = c.self.inside.judged.nets.approx in
-    let step = subst (λ (M : NetValue). Contains (moves_of M) c.args.step) (sym (ap (λ (m : GrowingValue). m.net) c.self.view_is)) c.requires in
+    let offered = subst (λ (M : NetValue). Contains (moves_of M) c.args.a_move) (sym (ap (λ (m : GrowingValue). m.net) c.self.view_is)) c.requires in
     let sound : IsSound N = subst IsSound c.approx.ensures.value c.see_sound.ensures.sound in
-    let is : IsMoveOf N c.args.step = move_is N sound.acyclic c.args.step step in
-    let within : c.table_of.result < table_count N = omega (arith, c.table_of.ensures, move-within N c.args.step is) in
+    let is : IsMoveOf N c.args.a_move = move_is N sound.acyclic c.args.a_move offered in
+    let within : c.table_of.result < table_count N = omega (arith, c.table_of.ensures, move-within N c.args.a_move is) in
     let row : c.index_mut.result.now ≡ row_at c.self.inside.care.items c.table_of.result =
     c.index_mut.ensures.value ∙ get_or_default c.self.inside.care.items c.table_of.result c.index_mut.result.now [] (omega (arith, within, c.self.invariant.tables)) in
     let vectors : List (List Bool) = vectors_in_blocks (input_count N) c.self.inside.count c.self.inside.blocks.items in
-    let before : AreCareWords c.self.inside.judged vectors (table_of c.args.step) c.index_mut.result.now =
+    let before : AreCareWords c.self.inside.judged vectors (table_of c.args.a_move) c.index_mut.result.now =
     subst (λ t. AreCareWords c.self.inside.judged vectors t c.index_mut.result.now) c.table_of.ensures
     (subst (AreCareWords c.self.inside.judged vectors c.table_of.result) (sym row) (c.self.invariant.care c.table_of.result within)) in
     let after = c.first_broken.ensures.cared vectors (vectors-count N c.self.inside.count (map (λ (b : Block). b.words) c.self.inside.blocks.items))
@@ -56,18 +56,18 @@ invariant_of-self c =
 pub returns-clause-broken : goal.returns-clause-broken
 returns-clause-broken c =
     let N : NetValue = c.self.inside.judged.nets.approx in
-    let step = subst (λ (M : NetValue). Contains (moves_of M) c.args.step) (sym (ap (λ (m : GrowingValue). m.net) c.self.view_is)) c.requires in
+    let offered = subst (λ (M : NetValue). Contains (moves_of M) c.args.a_move) (sym (ap (λ (m : GrowingValue). m.net) c.self.view_is)) c.requires in
     let sound : IsSound N = subst IsSound c.approx.ensures.value c.see_sound.ensures.sound in
-    let is : IsMoveOf N c.args.step = move_is N sound.acyclic c.args.step step in
-    let within : c.table_of.result < table_count N = omega (arith, c.table_of.ensures, move-within N c.args.step is) in
+    let is : IsMoveOf N c.args.a_move = move_is N sound.acyclic c.args.a_move offered in
+    let within : c.table_of.result < table_count N = omega (arith, c.table_of.ensures, move-within N c.args.a_move is) in
     let row : c.index_mut.result.now ≡ row_at c.self.inside.care.items c.table_of.result =
     c.index_mut.ensures.value ∙ get_or_default c.self.inside.care.items c.table_of.result c.index_mut.result.now [] (omega (arith, within, c.self.invariant.tables)) in
     let vectors : List (List Bool) = vectors_in_blocks (input_count N) c.self.inside.count c.self.inside.blocks.items in
-    let before : AreCareWords c.self.inside.judged vectors (table_of c.args.step) c.index_mut.result.now =
+    let before : AreCareWords c.self.inside.judged vectors (table_of c.args.a_move) c.index_mut.result.now =
     subst (λ t. AreCareWords c.self.inside.judged vectors t c.index_mut.result.now) c.table_of.ensures
     (subst (AreCareWords c.self.inside.judged vectors c.table_of.result) (sym row) (c.self.invariant.care c.table_of.result within)) in
-    IfOk-weaker c.first_broken.result _ (FindsFirstBroken c.args.self.now c.args.step)
-    (λ found h. subst (λ (m : GrowingValue). FindsFirstBroken m c.args.step found) c.self.view_is
+    IfOk-weaker c.first_broken.result _ (FindsFirstBroken c.args.self.now c.args.a_move)
+    (λ found h. subst (λ (m : GrowingValue). FindsFirstBroken m c.args.a_move found) c.self.view_is
     (h vectors (vectors-count N c.self.inside.count (map (λ (b : Block). b.words) c.self.inside.blocks.items))
     (subst (AreBlocksFor c.self.inside.judged vectors) (sym c.as_slice.ensures.value) c.self.invariant.blocks) before))
     c.first_broken.ensures.broken
