@@ -92,30 +92,30 @@ module _ (P : Move → Type 0) where
     told = λ i move within at. absurd (omega (arith, within, ap length none));
   }
 
-  pub marked_member : (moves left rest : List Move) (marks after : List Bool) (step : Move) → left ≡ step ∷ rest → AreMarkedSoFar P moves left marks after → Contains moves step
-  marked_member moves left rest marks after step is h =
-      subst (λ l. Contains l step) (sym (h.stands ∙ ap (λ l. h.given ++ l) is)) (Contains-append_right h.given (step ∷ rest) step (Contains-here step rest))
+  pub marked_member : (moves left rest : List Move) (marks after : List Bool) (move : Move) → left ≡ move ∷ rest → AreMarkedSoFar P moves left marks after → Contains moves move
+  marked_member moves left rest marks after move is h =
+      subst (λ l. Contains l move) (sym (h.stands ∙ ap (λ l. h.given ++ l) is)) (Contains-append_right h.given (move ∷ rest) move (Contains-here move rest))
 
-  pub marked_next : (moves left rest : List Move) (marks after : List Bool) (step : Move) (mark : Bool) → left ≡ step ∷ rest → AreMarkedSoFar P moves left marks after
-      → (mark ≡ true) ↔ ((get_or marks (length after) false ≡ true) ⊎ P step) → AreMarkedSoFar P moves rest marks (after ++ mark ∷ [])
-  marked_next moves left rest marks after step mark is h here = record {
-    given = h.given ++ step ∷ [];
-    stands = h.stands ∙ ap (λ l. h.given ++ l) is ∙ sym (append_assoc h.given (step ∷ []) rest);
-    count = omega (arith, length_push h.given step, length_push after mark, h.count);
-    told = λ i move within at.
+  pub marked_next : (moves left rest : List Move) (marks after : List Bool) (move : Move) (mark : Bool) → left ≡ move ∷ rest → AreMarkedSoFar P moves left marks after
+      → (mark ≡ true) ↔ ((get_or marks (length after) false ≡ true) ⊎ P move) → AreMarkedSoFar P moves rest marks (after ++ mark ∷ [])
+  marked_next moves left rest marks after move mark is h here = record {
+    given = h.given ++ move ∷ [];
+    stands = h.stands ∙ ap (λ l. h.given ++ l) is ∙ sym (append_assoc h.given (move ∷ []) rest);
+    count = omega (arith, length_push h.given move, length_push after mark, h.count);
+    told = λ i other within at.
         elim (cases_lt i (length after)) [
           | inl before ↦
               let same = get_or_append_left after (mark ∷ []) false i before in
-              let both = h.told i move before at in
+              let both = h.told i other before at in
               (λ e. both.0 (sym same ∙ e), λ e. same ∙ both.1 e)
           | inr late ↦
               let last : i ≡ length after = omega (arith, late, within, length_push after mark) in
-              let is_step : step ≡ move =
-              sym (get_or-append_seam h.given step rest move)
-              ∙ ap (λ l. get_or l (length h.given) move) (sym (h.stands ∙ ap (λ l. h.given ++ l) is)) ∙ ap (λ n. get_or moves n move) (h.count ∙ sym last) ∙ at.here in
+              let is_move : move ≡ other =
+              sym (get_or-append_seam h.given move rest other)
+              ∙ ap (λ l. get_or l (length h.given) other) (sym (h.stands ∙ ap (λ l. h.given ++ l) is)) ∙ ap (λ n. get_or moves n other) (h.count ∙ sym last) ∙ at.here in
               let same : get_or (after ++ mark ∷ []) i false ≡ mark = ap (λ n. get_or (after ++ mark ∷ []) n false) last ∙ get_or-append_seam after mark [] false in
-              let both : (mark ≡ true) ↔ ((get_or marks i false ≡ true) ⊎ P move) =
-              subst (λ n. (mark ≡ true) ↔ ((get_or marks n false ≡ true) ⊎ P move)) (sym last) (subst (λ m. (mark ≡ true) ↔ ((get_or marks (length after) false ≡ true) ⊎ P m)) is_step here) in
+              let both : (mark ≡ true) ↔ ((get_or marks i false ≡ true) ⊎ P other) =
+              subst (λ n. (mark ≡ true) ↔ ((get_or marks n false ≡ true) ⊎ P other)) (sym last) (subst (λ m. (mark ≡ true) ↔ ((get_or marks (length after) false ≡ true) ⊎ P m)) is_move here) in
               (λ e. both.0 (sym same ∙ e), λ e. same ∙ both.1 e)
         ];
   }

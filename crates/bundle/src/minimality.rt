@@ -30,7 +30,7 @@ pub(crate) fn first_marks(alloc: Global, asked: &Asked) -> Result<Vec<bool>, All
         return Ok(marks);
     };
     let mut left = moves;
-    while let Some(_step) = left.next() {
+    while let Some(_a_move) = left.next() {
         marks.push(false)?;
     }
     Ok(marks)
@@ -38,17 +38,17 @@ pub(crate) fn first_marks(alloc: Global, asked: &Asked) -> Result<Vec<bool>, All
 
 /// Whether the move is broken by vectors before those of the masks, which its mark says, or by one of the
 /// vectors of the masks.
-fn mark_after(masks: &mut GrowingMasks, step: Move, mark: bool) -> Result<bool, AllocError>
-    requires { Contains (moves_of masks.old.net) step }
+fn mark_after(masks: &mut GrowingMasks, a_move: Move, mark: bool) -> Result<bool, AllocError>
+    requires { Contains (moves_of masks.old.net) a_move }
     ensures mark { IfOk result (λ after. (after ≡ true) ↔ ((mark ≡ true)
         ⊎ IsBrokenBySome masks.old.metric masks.old.exact masks.old.bound masks.old.net masks.old.vectors
-        step)) }
+        a_move)) }
     ensures same { masks.new ≡ masks.old }
 {
     if mark {
         return Ok(true);
     }
-    Ok(masks.breaks(step)?.is_some())
+    Ok(masks.breaks(a_move)?.is_some())
 }
 
 /// The marks once the vectors of a block were taken too.
@@ -69,10 +69,10 @@ fn marks_after(
     let mut masks = asked.masks(alloc, block)?;
     let mut left = moves;
     for mark in marks {
-        let Some(step) = left.next() else {
+        let Some(a_move) = left.next() else {
             return Ok(after);
         };
-        after.push(mark_after(&mut masks, step, *mark)?)?;
+        after.push(mark_after(&mut masks, a_move, *mark)?)?;
     }
     Ok(after)
 }

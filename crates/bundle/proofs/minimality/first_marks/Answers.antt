@@ -3,8 +3,8 @@ use Rattle.std.proofs.lemmas.List.{length_push}
 use Rattle.bundle.proofs.Marks.{push_false}
 use Rattle.bundle.proofs.minimality.first_marks.Goals as goal
 
-pub loop-step-preserved : goal.loop-step-preserved
-loop-step-preserved c = record {
-  same = omega (arith, ap length c.in_ok-push.ensures.items, length_push c.loop-step.marks.items false, ap length c.in-Some-next.ensures, c.loop-step.invariant.same);
-  none = subst (λ (marks : List Bool). (i : ℕ) → get_or marks i false ≡ false) (sym c.in_ok-push.ensures.items) (push_false c.loop-step.marks.items c.loop-step.invariant.none);
+pub loop-a_move-preserved : goal.loop-a_move-preserved
+loop-a_move-preserved c = record {
+  same = omega (arith, ap length c.in_ok-push.ensures.items, length_push c.loop-a_move.marks.items false, ap length c.in-Some-next.ensures, c.loop-a_move.invariant.same);
+  none = subst (λ (marks : List Bool). (i : ℕ) → get_or marks i false ≡ false) (sym c.in_ok-push.ensures.items) (push_false c.loop-a_move.marks.items c.loop-a_move.invariant.none);
 }

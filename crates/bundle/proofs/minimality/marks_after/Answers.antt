@@ -23,25 +23,25 @@ loop-mark-init c =
 pub mark_after-requires : goal.mark_after-requires
 mark_after-requires c =
     let a = c.args.asked.now in
-    let there = marked_member (IsBroken a c.args.block.now.vectors) (asked_moves a) c.loop-mark.left c.next.new.self c.args.marks.now c.loop-mark.after.items c.in-Some-next.step
+    let there = marked_member (IsBroken a c.args.block.now.vectors) (asked_moves a) c.loop-mark.left c.next.new.self c.args.marks.now c.loop-mark.after.items c.in-Some-next.a_move
     c.in-Some-next.ensures c.loop-mark.invariant.so_far in
-    subst (λ (m : GrowingValue). Contains (moves_of m.net) c.in-Some-next.step) (sym c.loop-mark.invariant.masks) (claimed_move a.version a.approx c.in-Some-next.step there)
+    subst (λ (m : GrowingValue). Contains (moves_of m.net) c.in-Some-next.a_move) (sym c.loop-mark.invariant.masks) (claimed_move a.version a.approx c.in-Some-next.a_move there)
 
 pub loop-mark-preserved : goal.loop-mark-preserved
 loop-mark-preserved c =
     let a = c.args.asked.now in
-    let step = c.in-Some-next.step in
+    let move = c.in-Some-next.a_move in
     let marks = c.args.marks.now in
     let mark = c.in_ok-mark_after.field-0 in
     let at = c.loop-mark.mark-index in
     let told =
-    subst (λ (m : GrowingValue). (mark ≡ true) ↔ ((get_or marks at false ≡ true) ⊎ IsBrokenBySome m.metric m.exact m.bound m.net m.vectors step)) c.loop-mark.invariant.masks
+    subst (λ (m : GrowingValue). (mark ≡ true) ↔ ((get_or marks at false ≡ true) ⊎ IsBrokenBySome m.metric m.exact m.bound m.net m.vectors move)) c.loop-mark.invariant.masks
     c.in_ok-mark_after.ensures.mark in
-    let here = subst (λ n. (mark ≡ true) ↔ ((get_or marks n false ≡ true) ⊎ IsBroken a c.args.block.now.vectors step)) (sym c.loop-mark.invariant.count) told in
+    let here = subst (λ n. (mark ≡ true) ↔ ((get_or marks n false ≡ true) ⊎ IsBroken a c.args.block.now.vectors move)) (sym c.loop-mark.invariant.count) told in
     record {
       so_far =
           subst (AreMarkedSoFar (IsBroken a c.args.block.now.vectors) (asked_moves a) c.next.new.self marks) (sym c.in_ok-push.ensures.items)
-          (marked_next (IsBroken a c.args.block.now.vectors) (asked_moves a) c.loop-mark.left c.next.new.self marks c.loop-mark.after.items step mark c.in-Some-next.ensures
+          (marked_next (IsBroken a c.args.block.now.vectors) (asked_moves a) c.loop-mark.left c.next.new.self marks c.loop-mark.after.items move mark c.in-Some-next.ensures
           c.loop-mark.invariant.so_far here);
       count = omega (arith, ap length c.in_ok-push.ensures.items, length_push c.loop-mark.after.items mark, c.loop-mark.invariant.count);
       masks = c.in_ok-mark_after.ensures.same ∙ c.loop-mark.invariant.masks;
