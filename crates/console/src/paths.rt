@@ -1,6 +1,6 @@
 //! Where files are opened by their paths: what a file may be that a call opens. So the adapter's own calls
 //! can be told apart, while the system's say nothing.
-ghost use Rattle.std.specs.Prelude.{ℕ, List, ⊤, IfOk};
+ghost use Rattle.std.specs.Prelude.{ℕ, List, ⊤, IfOk, IsErr};
 ghost use Rattle.std.specs.declared.fs.options.OpenOptions.{OpenOptions};
 
 use std::fs::OpenOptions;
@@ -14,9 +14,13 @@ pub trait Paths {
     /// What a file may be that is opened so at this path.
     ghost opened: { Self → OpenOptions → List ℕ → Self.File → Type 0 };
 
+    /// Whether a file that is to be opened so at this path may be refused.
+    ghost refused: { Self → OpenOptions → List ℕ → Type 0 };
+
     /// Opens the file at this path, or answers the system's error.
     fn open_at(&self, how: &OpenOptions, path: &str) -> io::Result<Self::File>
-        ensures { IfOk result (opened self.now how.now path.now) };
+        ensures opens { IfOk result (opened self.now how.now path.now) }
+        ensures refuses { IsErr result → refused self.now how.now path.now };
 }
 
 /// The file system of a runtime. The library's contracts say nothing of what a path names.
@@ -36,6 +40,8 @@ impl<R: rt::Files> Paths for SystemPaths<'_, R> {
     type File = R::File;
 
     ghost opened = { λ _ _ _ _. ⊤ };
+
+    ghost refused = { λ _ _ _. ⊤ };
 
     fn open_at(&self, how: &OpenOptions, path: &str) -> io::Result<R::File> {
         how.open(self.runtime, path)

@@ -2,6 +2,7 @@
 //! is open and the read turns, and nothing else.
 ghost use Rattle.std.specs.Prelude.{◌≡◌, ◌<◌, ◌≤◌, [], None, length, take};
 ghost use Rattle.std.specs.Prelude.{IsErr, IsSomeAnd, IfOk, OnOk, OnErr};
+ghost use Rattle.std.specs.Str.{IsUtf8};
 ghost use Rattle.std.specs.Io.KnownBytes.{Appends, Consumes, IsAtEnd};
 ghost use Rattle.outside_semantics.specs.Outside.{Gave, ReadFailed, Wrote, WriteFailed, Opened, OpenFailed};
 ghost use Rattle.outside_semantics.specs.Outside.{Created, CreateFailed};
@@ -75,6 +76,7 @@ impl<R: Paths + Drop> Files for RealFiles<R> {
         ensures opens { OnOk result
             (IsSomeAnd self.new.reading (R.opened self.old.paths to_read name.now)) }
         ensures closes { OnErr result (self.new.reading ≡ None) }
+        ensures refuses { IsErr result → IsUtf8 name.now → R.refused self.old.paths to_read name.now }
         ensures apart { (self.new.writing ≡ self.old.writing) × (self.new.paths ≡ self.old.paths) }
     {
         self.reading = None;
@@ -126,6 +128,7 @@ impl<R: Paths + Drop> Files for RealFiles<R> {
         ensures opens { OnOk result
             (IsSomeAnd self.new.writing (R.opened self.old.paths to_create name.now)) }
         ensures closes { OnErr result (self.new.writing ≡ None) }
+        ensures refuses { IsErr result → IsUtf8 name.now → R.refused self.old.paths to_create name.now }
         ensures apart { (self.new.reading ≡ self.old.reading) × (self.new.paths ≡ self.old.paths) }
     {
         self.writing = None;

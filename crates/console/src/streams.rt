@@ -1,7 +1,8 @@
 //! The numbers of the three standard streams. Where a process was started with some of them closed, a file
 //! that it opens would get the number of a closed stream, and what goes to that stream would land in the
 //! file.
-ghost use Rattle.std.specs.Prelude.{IfOk};
+ghost use Rattle.std.specs.Prelude.{IfOk, IsErr, codes};
+ghost use Rattle.console.specs.Options.{to_read};
 ghost use Rattle.console.specs.Streams.{IsNothing, AreHeld};
 
 use crate::paths::Paths;
@@ -25,7 +26,8 @@ pub struct HeldStreams<F: Drop> {
 
 /// A file that nothing can be written to.
 fn open_nothing<P: Paths>(paths: &P) -> io::Result<P::File>
-    ensures { IfOk result (IsNothing (P.opened paths.now)) }
+    ensures opens { IfOk result (IsNothing (P.opened paths.now)) }
+    ensures refuses { IsErr result → P.refused paths.now to_read (codes "/") }
 {
     match paths.open_at(&options_of_open(), NOTHING) {
         Ok(file) => Ok(file),
@@ -36,7 +38,8 @@ fn open_nothing<P: Paths>(paths: &P) -> io::Result<P::File>
 /// Holds the numbers of the three standard streams: each open takes the least number that is free. It is an
 /// error where three files cannot be opened.
 pub fn hold_streams<P: Paths>(paths: &P) -> io::Result<HeldStreams<P::File>>
-    ensures { IfOk result (AreHeld (P.opened paths.now)) }
+    ensures held { IfOk result (AreHeld (P.opened paths.now)) }
+    ensures refuses { IsErr result → P.refused paths.now to_read (codes "/") }
 {
     Ok(HeldStreams {
         first: open_nothing(paths)?,
