@@ -177,8 +177,8 @@ fn are_moves(alloc: Global, net: &Net, wanted: &[Move]) -> Result<bool, AllocErr
     requires { IsSmall net.now }
 {
     let mut moves = moves(alloc, net)?;
-    for step in wanted {
-        if moves.next() != Some(*step) {
+    for a_move in wanted {
+        if moves.next() != Some(*a_move) {
             return Ok(false);
         }
     }

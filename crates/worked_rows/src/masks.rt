@@ -40,13 +40,13 @@ fn last_word(row: &[u64]) -> Option<u64> {
 /// first pattern at which the move breaks the bound.
 type Told = (Option<u64>, Option<u64>, Option<u64>);
 
-fn told(masks: &mut FixedMasks, step: Move) -> Told
+fn told(masks: &mut FixedMasks, a_move: Move) -> Told
     requires carry { 1 < table_count masks.old.net }
-    requires step { Contains (moves_of masks.old.net) step }
+    requires offered { Contains (moves_of masks.old.net) a_move }
 {
     let care = last_word(masks.care(1));
-    let differs = last_word(masks.differs(step));
-    (care, differs, masks.breaks(step))
+    let differs = last_word(masks.differs(a_move));
+    (care, differs, masks.breaks(a_move))
 }
 
 /// What the masks of the net within 1 of the half adder tell of the constant 0 as its carry.
@@ -59,7 +59,7 @@ fn carry_as_zero(
     requires small { IsSmall approx.now }
     requires inputs { patterns.now.inputs ≡ 2 }
 {
-    let Some(step) = move_of(alloc, approx, Move::Const { t: 1, value: false })? else {
+    let Some(a_move) = move_of(alloc, approx, Move::Const { t: 1, value: false })? else {
         return Err(Fail::new("no move of the net"));
     };
     if exact.inputs() != 2 || exact.outputs() != 2 || approx.tables() != 2 {
@@ -69,7 +69,7 @@ fn carry_as_zero(
         return Err(Fail::new("no approximation of the half adder"));
     }
     let mut masks = FixedMasks::new(alloc, ABSOLUTE, 1, exact, approx, patterns)?;
-    Ok(told(&mut masks, step))
+    Ok(told(&mut masks, a_move))
 }
 
 /// What [`carry_as_zero`] tells of the net of a text, at these patterns.

@@ -31,9 +31,9 @@ pub fn move_of(alloc: Global, net: &Net, wanted: Move) -> Result<Option<Move>, A
     ensures { IfOk result (λ found. IfSome found (Contains (moves_of net.now))) }
 {
     let mut moves = moves(alloc, net)?;
-    while let Some(step) = moves.next() {
-        if step == wanted {
-            return Ok(Some(step));
+    while let Some(a_move) = moves.next() {
+        if a_move == wanted {
+            return Ok(Some(a_move));
         }
     }
     Ok(None)

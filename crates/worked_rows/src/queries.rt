@@ -48,7 +48,7 @@ fn approximation(alloc: Global, net: &Net, is_even: bool) -> Result<Net, Fail>
     let first = net.output_signals().first().copied().unwrap_or(0);
     let t = first.saturating_sub(net.inputs());
     match move_of(alloc, net, Move::Const { t, value: false })? {
-        Some(step) => Ok(apply(alloc, net, step)?),
+        Some(a_move) => Ok(apply(alloc, net, a_move)?),
         None => Err(Fail::new("no move of the net")),
     }
 }
