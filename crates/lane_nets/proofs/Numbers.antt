@@ -91,7 +91,8 @@ module _ (old now number : List (List ℕ)) (from i j b : ℕ) (c : Bool)
       let first : number_below (wide_bit old j b) (from + (i + 1)) ≡ number_below (wide_bit old j b) p + place_value x p =
       ap (number_below (wide_bit old j b)) next ∙ below_more (wide_bit old j b) p ∙ ap (λ (w : List ℕ). number_below (wide_bit old j b) p + place_value (word_bit (get_or w j 0) b) p) (sym kept) in
       let second : 2 ^ from * number_below (wide_bit number j b) (i + 1) ≡ 2 ^ from * number_below (wide_bit number j b) i + place_value y p =
-      ap (λ n. 2 ^ from * n) (below_more (wide_bit number j b) i) ∙ split (2 ^ from) (number_below (wide_bit number j b) i) (place_value y i) ∙ ap (λ n. 2 ^ from * number_below (wide_bit number j b) i + n) (sym (place_shifted y from i)) in
+      ap (λ n. 2 ^ from * n) (below_more (wide_bit number j b) i) ∙ split (2 ^ from) (number_below (wide_bit number j b) i) (place_value y i)
+      ∙ ap (λ n. 2 ^ from * number_below (wide_bit number j b) i + n) (sym (place_shifted y from i)) in
       omega (arith, after, carried, first, second, before, added_places x y c p)
     where
       split : (k m n : ℕ) → k * (m + n) ≡ k * m + k * n
