@@ -9,10 +9,10 @@ ghost use Rattle.lane_nets.specs.Lanes.{lane_at, lane_number, HasReached, GoesOn
 ghost use Rattle.lane_nets.specs.Wide.{lane_words};
 
 use crate::lanes::over_by_kind;
-use crate::wide_numbers::{WideComparison, compare_sum, no_comparison};
+use crate::wide_numbers::{WideComparison, no_comparison};
 use crate::wide_outputs::set_lane_words;
 use crate::wide_relative::{RelativeRoom, has_room, relative_wide};
-use crate::wide_words::{and_wide, equal_words, not_wide, or_wide};
+use crate::wide_words::{and_wide, equal_words, not_wide, or_wide, xor_wide};
 use net_errors::words::{word_count, word_place};
 use semantics::limits::MOST_OUTPUTS;
 use semantics::metric::{Kind, Metric};
@@ -27,6 +27,7 @@ fn bit_word(one: bool) -> u64
 }
 
 /// The comparison after one more bit of both numbers and of the constant that is added to the lower number.
+/// This is what `compare_sum` does; a call of that would hand a wide word on in memory for each bit.
 #[inline(always)]
 fn compare_wide(low: u64x8, high: u64x8, one: bool, so_far: WideComparison) -> WideComparison
     ensures { (j b : ℕ) → j < 8 → b < 64
@@ -34,7 +35,14 @@ fn compare_wide(low: u64x8, high: u64x8, one: bool, so_far: WideComparison) -> W
         (lane_number (slice_index so_far.carry j) b) (lane_number (slice_index so_far.above j) b)
         (lane_number (slice_index result.carry j) b) (lane_number (slice_index result.above j) b) }
 {
-    compare_sum(low, equal_words(bit_word(one)), high, so_far)
+    let constant = equal_words(bit_word(one));
+    let half = xor_wide(low, constant);
+    let sum = xor_wide(half, so_far.carry);
+    let apart = xor_wide(high, sum);
+    let carry = or_wide(and_wide(low, constant), and_wide(half, so_far.carry));
+    let more = and_wide(high, not_wide(sum));
+    let above = or_wide(more, and_wide(so_far.above, not_wide(apart)));
+    WideComparison { carry, above }
 }
 
 /// The lanes where the lower number plus `level` is less than the higher number.
