@@ -27,7 +27,8 @@ fn bit_word(one: bool) -> u64
 }
 
 /// The comparison after one more bit of both numbers and of the constant that is added to the lower number.
-/// This is what `compare_sum` does; a call of that would hand a wide word on in memory for each bit.
+/// It is `compare_sum` with a word of equal bits, written out: where the compiler does not inline it, handing
+/// that word on costs time for each bit.
 #[inline(always)]
 fn compare_wide(low: u64x8, high: u64x8, one: bool, so_far: WideComparison) -> WideComparison
     ensures { (j b : ℕ) → j < 8 → b < 64
