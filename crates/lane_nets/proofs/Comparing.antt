@@ -11,15 +11,10 @@ use Rattle.lane_bits.specs.Rows.{turned}
 use Rattle.lane_bits.proofs.Bits.{and_bit, or_bit, xor_bit, flips}
 use Rattle.lane_nets.specs.Words.{word_bit}
 use Rattle.lane_nets.specs.Lanes.{lane_at, lane_number, GoesOn}
+use Rattle.lane_nets.specs.Numbers.{sum_of, carry_of}
 use Rattle.lane_nets.proofs.WordBits.{not_bit, ones_bit, zero_bit}
 
 -- ---- one bit
-
-abbrev pub sum_of : Bool → Bool → Bool → Bool
-sum_of low one carry = turned carry (turned one low)
-
-abbrev pub carry_of : Bool → Bool → Bool → Bool
-carry_of low one carry = (low && one) || (turned one low && carry)
 
 abbrev pub above_of : Bool → Bool → Bool → Bool
 above_of high sum above = (high && not sum) || (above && not (turned sum high))
@@ -91,12 +86,12 @@ compared_words low high constant carry above one is low_fits high_fits carry_fit
 
 -- ---- all bits
 
-digit : (r : ℕ) → r < 2 → bit_number (r == 1) ≡ r
+pub digit : (r : ℕ) → r < 2 → bit_number (r == 1) ≡ r
 digit zero h = refl
 digit (suc zero) h = refl
 digit (suc (suc r)) h = absurd (omega arith)
 
-number_from : (words : List ℕ) (i b : ℕ) → i < length words
+pub number_from : (words : List ℕ) (i b : ℕ) → i < length words
     → number_of (lane_at (drop i words) b) ≡ lane_number (get_or words i 0) b + 2 * number_of (lane_at (drop (i + 1) words) b)
 number_from words i b low = ap (λ l. number_of (lane_at l b)) (drop_more words i 0 low)
 

@@ -5,10 +5,13 @@ pub mod BlockErrors
 pub mod FirstOver
 pub mod Evaluating
 pub mod Comparing
+pub mod Numbers
 pub mod LaneErrors
 pub mod Counting
 pub mod WideWords
 pub mod GraphWords
 pub mod Schedules
 pub mod WideErrors
+pub mod WideSums
+pub mod RelativeErrors
 pub mod ChangedInputs

@@ -3,6 +3,7 @@ pub mod Blocks
 pub mod Errors
 pub mod Lanes
 pub mod Wide
+pub mod Numbers
 pub mod Schedules
 pub mod Graphs
 pub mod Changes

@@ -17,6 +17,8 @@ pub mod trials;
 pub mod values;
 mod wide_blocks;
 mod wide_lanes;
+mod wide_numbers;
 mod wide_outputs;
+mod wide_relative;
 mod wide_words;
 pub mod word_list;

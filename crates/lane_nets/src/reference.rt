@@ -7,6 +7,7 @@ ghost use Rattle.lane_nets.specs.Errors.{FindsFirstOver, IsFirstGreatest};
 use crate::changes::changes;
 use crate::trials::{Greatest, first_over, greatest_error};
 use crate::wide_outputs::{WideOutputs, wide_rows};
+use crate::wide_relative::relative_room;
 use crate::word_list::WideList;
 use lane_bits::patterns::Patterns;
 use net_core::items::Items;
@@ -83,6 +84,7 @@ impl<'a> Reference<'a> {
             self.now.patterns.vectors) }
     {
         let mut wide = WideOutputs::new(alloc, approx, &self.patterns, &self.changes)?;
+        let mut room = relative_room(alloc, metric, self.exact.outputs())?;
         Ok(first_over(
             &Compared::new(self.exact, approx),
             metric,
@@ -90,6 +92,7 @@ impl<'a> Reference<'a> {
             &self.patterns,
             self.outputs.as_slice(),
             &mut wide,
+            &mut room,
         ))
     }
 
@@ -107,12 +110,14 @@ impl<'a> Reference<'a> {
             (λ g. IsFirstGreatest metric self.now.exact approx.now self.now.patterns.vectors g.error g.at) }
     {
         let mut wide = WideOutputs::new(alloc, approx, &self.patterns, &self.changes)?;
+        let mut room = relative_room(alloc, metric, self.exact.outputs())?;
         Ok(greatest_error(
             &Compared::new(self.exact, approx),
             metric,
             &self.patterns,
             self.outputs.as_slice(),
             &mut wide,
+            &mut room,
         ))
     }
 }

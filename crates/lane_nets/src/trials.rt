@@ -11,6 +11,7 @@ use crate::lanes::lane_error;
 use crate::outputs::word_bit;
 use crate::wide_lanes::over_wide;
 use crate::wide_outputs::{WideOutputs, set_lane_words};
+use crate::wide_relative::RelativeRoom;
 use crate::word_list::WideList;
 use lane_bits::kernels::first_set;
 use lane_bits::patterns::Patterns;
@@ -33,6 +34,7 @@ fn block_over(
     level: u128,
     exact: &[u64x8],
     wides: &[u64x8],
+    room: &mut RelativeRoom,
 ) -> [u64; 8]
     requires candidate { IsCandidate nets.now.exact nets.now.approx }
     requires exact { length exact.now ≡ length nets.now.exact.outputs }
@@ -42,7 +44,7 @@ fn block_over(
         ↔ (level < error_of metric (lane_at (lane_words exact.now (p / 64)) (p % 64))
         (lane_at (lane_words wides.now (p / 64)) (p % 64))) }
 {
-    over_wide(metric, level, exact, wides).to_array()
+    over_wide(metric, level, exact, wides, room).to_array()
 }
 
 /// The first pattern whose error exceeds the level, where `outputs` are those of the exact net. The outputs
@@ -54,6 +56,7 @@ pub(crate) fn first_over(
     patterns: &Patterns,
     outputs: &[WideList],
     wide: &mut WideOutputs,
+    room: &mut RelativeRoom,
 ) -> Option<u64>
     requires candidate { IsCandidate nets.now.exact nets.now.approx }
     requires patterns { wide.old.patterns ≡ patterns.now }
@@ -64,7 +67,8 @@ pub(crate) fn first_over(
     let count = patterns.count();
     for q in 0..outputs.len() {
         wide.reach(q);
-        let over = block_over(nets, metric, level, outputs[q].as_slice(), wide.outputs());
+        let exact = outputs[q].as_slice();
+        let over = block_over(nets, metric, level, exact, wide.outputs(), room);
         let from = 512 * q as u64;
         if let Some(p) = first_set(&over, (count - from).min(512)) {
             return Some(from + p);
@@ -125,6 +129,7 @@ fn greatest_in_block(
     from: u64,
     count: u32,
     so_far: Greatest,
+    room: &mut RelativeRoom,
 ) -> Greatest
     requires candidate { IsCandidate nets.now.exact nets.now.approx }
     requires exact { length exact.now ≡ length nets.now.exact.outputs }
@@ -137,7 +142,7 @@ fn greatest_in_block(
         → IsGreatestSoFar f from so_far.at so_far.error
         → IsGreatestSoFar f (from + count) result.at result.error }
 {
-    let over = block_over(nets, metric, so_far.error, exact, wides);
+    let over = block_over(nets, metric, so_far.error, exact, wides, room);
     let mut greatest = so_far;
     let first = first_place(&over, count);
     for p in first..count {
@@ -157,6 +162,7 @@ pub(crate) fn greatest_error(
     patterns: &Patterns,
     outputs: &[WideList],
     wide: &mut WideOutputs,
+    room: &mut RelativeRoom,
 ) -> Greatest
     requires candidate { IsCandidate nets.now.exact nets.now.approx }
     requires patterns { wide.old.patterns ≡ patterns.now }
@@ -180,6 +186,7 @@ pub(crate) fn greatest_error(
             from,
             used,
             greatest,
+            room,
         );
     }
     greatest

@@ -3,26 +3,20 @@
 ghost use Rattle.std.specs.Prelude.{◌≡◌, ◌↔◌, ◌+◌, ◌<◌, ◌≤◌, ℕ, length, slice_index, IsTrue};
 ghost use Rattle.semantics.specs.Error.{bit_number, number_of, sign_flipped, distance, differing};
 ghost use Rattle.semantics.specs.Error.{word_error, error_of};
-ghost use Rattle.semantics.specs.declared.metric.Kind.TheVariants.{Sabs};
+ghost use Rattle.semantics.specs.declared.metric.Kind.TheVariants.{Rel, Sabs};
 ghost use Rattle.lane_nets.specs.Words.{word_bit};
 ghost use Rattle.lane_nets.specs.Lanes.{lane_at, lane_number, HasReached, GoesOn};
 ghost use Rattle.lane_nets.specs.Wide.{lane_words};
 
 use crate::lanes::over_by_kind;
+use crate::wide_numbers::{WideComparison, no_comparison};
 use crate::wide_outputs::set_lane_words;
+use crate::wide_relative::{RelativeRoom, has_room, relative_wide};
 use crate::wide_words::{and_wide, equal_words, not_wide, or_wide, xor_wide};
 use net_errors::words::{word_count, word_place};
 use semantics::limits::MOST_OUTPUTS;
 use semantics::metric::{Kind, Metric};
 use std::simd::u64x8;
-
-/// How the bits so far compare: the carry of the sum of the lower number and the constant, and where the
-/// higher number is above that sum.
-#[derive(Clone, Copy)]
-struct WideComparison {
-    carry: u64x8,
-    above: u64x8,
-}
 
 /// The word whose bits are all 1, or all 0.
 #[inline(always)]
@@ -33,6 +27,8 @@ fn bit_word(one: bool) -> u64
 }
 
 /// The comparison after one more bit of both numbers and of the constant that is added to the lower number.
+/// It is `compare_sum` with a word of equal bits, written out: where the compiler does not inline it, handing
+/// that word on costs time for each bit.
 #[inline(always)]
 fn compare_wide(low: u64x8, high: u64x8, one: bool, so_far: WideComparison) -> WideComparison
     ensures { (j b : ℕ) → j < 8 → b < 64
@@ -59,10 +55,7 @@ fn above_wide(low: &[u64x8], high: &[u64x8], level: u128) -> u64x8
         < number_of (lane_at (lane_words high.now j) b)) }
 {
     let mut rest = level;
-    let mut so_far = WideComparison {
-        carry: equal_words(0),
-        above: equal_words(0),
-    };
+    let mut so_far = no_comparison();
     for (i, wide) in low.iter().enumerate() {
         so_far = compare_wide(*wide, high[i], rest % 2 == 1, so_far);
         rest /= 2;
@@ -150,8 +143,29 @@ fn over_by_lanes(kind: Kind, level: u128, exact: &[u64x8], approx: &[u64x8]) -> 
     u64x8::from_array(words)
 }
 
+/// The lanes where the relative error exceeds the level, in this room where it is large enough.
+fn relative_over(level: u128, exact: &[u64x8], approx: &[u64x8], room: &mut RelativeRoom) -> u64x8
+    requires same { length exact.now ≡ length approx.now }
+    requires few { length exact.now ≤ MOST_OUTPUTS }
+    ensures { (j b : ℕ) → j < 8 → b < 64 → IsTrue (word_bit (slice_index result j) b)
+        ↔ (level < word_error Rel (lane_at (lane_words exact.now j) b)
+        (lane_at (lane_words approx.now j) b)) }
+{
+    if has_room(room, exact.len(), level) {
+        relative_wide(level as u32, exact, approx, room)
+    } else {
+        over_by_lanes(Kind::Rel, level, exact, approx)
+    }
+}
+
 /// The lanes where the error of one word exceeds the level.
-fn over_one_wide(kind: Kind, level: u128, exact: &[u64x8], approx: &[u64x8]) -> u64x8
+fn over_one_wide(
+    kind: Kind,
+    level: u128,
+    exact: &[u64x8],
+    approx: &[u64x8],
+    room: &mut RelativeRoom,
+) -> u64x8
     requires same { length exact.now ≡ length approx.now }
     requires few { length exact.now ≤ MOST_OUTPUTS }
     ensures { (j b : ℕ) → j < 8 → b < 64 → IsTrue (word_bit (slice_index result j) b)
@@ -161,12 +175,19 @@ fn over_one_wide(kind: Kind, level: u128, exact: &[u64x8], approx: &[u64x8]) -> 
     match kind {
         Kind::Abs => apart_wide(exact, approx, level),
         Kind::Sabs => signed_apart_wide(exact, approx, level),
-        Kind::Rel | Kind::Ham => over_by_lanes(kind, level, exact, approx),
+        Kind::Rel => relative_over(level, exact, approx, room),
+        Kind::Ham => over_by_lanes(kind, level, exact, approx),
     }
 }
 
 /// The lanes where the error exceeds the level: those where the error of some word does.
-pub(crate) fn over_wide(metric: Metric, level: u128, exact: &[u64x8], approx: &[u64x8]) -> u64x8
+pub(crate) fn over_wide(
+    metric: Metric,
+    level: u128,
+    exact: &[u64x8],
+    approx: &[u64x8],
+    room: &mut RelativeRoom,
+) -> u64x8
     requires same { length exact.now ≡ length approx.now }
     requires few { length exact.now ≤ MOST_OUTPUTS }
     ensures { (j b : ℕ) → j < 8 → b < 64 → IsTrue (word_bit (slice_index result j) b)
@@ -178,7 +199,8 @@ pub(crate) fn over_wide(metric: Metric, level: u128, exact: &[u64x8], approx: &[
     for word in 0..word_count(metric, outputs) {
         let (first, size) = word_place(metric, outputs, word);
         let (begin, end) = (first as usize, (first + size) as usize);
-        let here = over_one_wide(metric.kind, level, &exact[begin..end], &approx[begin..end]);
+        let (right, wrong) = (&exact[begin..end], &approx[begin..end]);
+        let here = over_one_wide(metric.kind, level, right, wrong, room);
         over = or_wide(over, here);
     }
     over

@@ -8,7 +8,7 @@ ghost use Rattle.worst_case.specs.Maximum.{IsGreatestUpTo};
 ghost use Rattle.worst_case.specs.VectorsTried.{IsHeldFor, IsEachVectorHeldUpTo};
 
 use crate::margin::{Margin, by_diagrams, by_solver};
-use crate::options::{LANE_INPUTS, MOST_TRIED_INPUTS};
+use crate::options::{LANE_INPUTS, MOST_INPUTS_WITHOUT, MOST_TRIED_INPUTS, TABLES_A_STEP};
 use crate::vectors_tried::{
     Attained, greatest_of, hold_each_vector, hold_every_vector, hold_vectors, try_vectors,
 };
@@ -48,13 +48,6 @@ impl<'a> Model for Judge<'a> {
     ghost invariant = { λ j. IsHeldFor j.exact.now j.known × (j.decider ≡ j.exact.now)
         × IfSome j.every (IsEachVectorHeld j.exact.now) };
 }
-
-/// The most inputs with which no diagrams are made: with 20 inputs every vector is tried in some
-/// milliseconds, and to find that a multiplier has no small diagrams takes half a second.
-const MOST_INPUTS_WITHOUT: u32 = 20;
-
-/// How many tables are computed at 512 vectors in the time of one step of a question to diagrams.
-const TABLES_A_STEP: u64 = 64;
 
 /// The most steps of a question to diagrams: where every vector can be tried instead, as many as take about
 /// as long as that.

@@ -12,6 +12,17 @@ pub const LANE_INPUTS: u32 = 16;
 /// multipliers with 20 and 24 inputs, to whose questions the solver alone had no answer in 500 s.
 pub const MOST_TRIED_INPUTS: u32 = 24;
 
+/// The most inputs with which no diagrams are made: with 20 inputs every vector is tried in some
+/// milliseconds, and to find that a multiplier has no small diagrams takes half a second. `bench/growth` has
+/// multipliers with 16 to 24 inputs.
+pub const MOST_INPUTS_WITHOUT: u32 = 20;
+
+/// How many tables are computed at 512 vectors in the time of one step of a question to diagrams. A question
+/// that every vector can answer gets as many steps as that takes. With all of its steps, nearly all the time
+/// of a colour conversion with 24 inputs went into questions of up to half a second each. `bench/growth` has
+/// multipliers with 22 and 24 inputs.
+pub const TABLES_A_STEP: u64 = 64;
+
 /// The number of vectors that are tried of a net with more than `LANE_INPUTS` inputs: sixteen blocks of 512,
 /// which together take less time than one question to diagrams. With an eighth of these vectors, four times
 /// as many questions of a Sobel filter (`sobel4` in `bench/CIRCUITS.md`) found a vector, and each of these

@@ -12,11 +12,11 @@ reach-requires-clause-within c =
 
 pub block_over-over-requires-clause-exact : goal.block_over-over-requires-clause-exact
 block_over-over-requires-clause-exact c =
-    let exact : c.as_slice.result.now ≡ wides_at c.args.outputs.now c.loop-q.q =
-    c.as_slice.ensures ∙ c.index-outputs-q.is ∙ get_or_default c.args.outputs.now c.loop-q.q c.index-outputs-q.result [] c.loop-q-test.true in
-    let right : AreWideOutputs c.args.nets.now.exact c.args.patterns.now.vectors c.loop-q.q c.as_slice.result.now =
+    let exact : c.as_slice-exact.result.now ≡ wides_at c.args.outputs.now c.loop-q.q =
+    c.as_slice-exact.ensures ∙ c.index-outputs-q.is ∙ get_or_default c.args.outputs.now c.loop-q.q c.index-outputs-q.result [] c.loop-q-test.true in
+    let right : AreWideOutputs c.args.nets.now.exact c.args.patterns.now.vectors c.loop-q.q c.as_slice-exact.result.now =
     subst (λ (l : List (List ℕ)). AreWideOutputs c.args.nets.now.exact c.args.patterns.now.vectors c.loop-q.q l) (sym exact) (c.requires.outputs.are c.loop-q.q c.loop-q-test.true) in
-    wide_width c.args.nets.now.exact c.args.patterns.now.vectors c.loop-q.q c.as_slice.result.now right
+    wide_width c.args.nets.now.exact c.args.patterns.now.vectors c.loop-q.q c.as_slice-exact.result.now right
 
 pub block_over-over-requires-clause-wides : goal.block_over-over-requires-clause-wides
 block_over-over-requires-clause-wides c =
@@ -27,23 +27,23 @@ block_over-over-requires-clause-wides c =
 
 pub returns-in-Some : goal.returns-in-Some
 returns-in-Some c =
-    let exact : c.as_slice.result.now ≡ wides_at c.args.outputs.now c.loop-q.q =
-    c.as_slice.ensures ∙ c.index-outputs-q.is ∙ get_or_default c.args.outputs.now c.loop-q.q c.index-outputs-q.result [] c.loop-q-test.true in
-    let right : AreWideOutputs c.args.nets.now.exact c.args.patterns.now.vectors c.loop-q.q c.as_slice.result.now =
+    let exact : c.as_slice-exact.result.now ≡ wides_at c.args.outputs.now c.loop-q.q =
+    c.as_slice-exact.ensures ∙ c.index-outputs-q.is ∙ get_or_default c.args.outputs.now c.loop-q.q c.index-outputs-q.result [] c.loop-q-test.true in
+    let right : AreWideOutputs c.args.nets.now.exact c.args.patterns.now.vectors c.loop-q.q c.as_slice-exact.result.now =
     subst (λ (l : List (List ℕ)). AreWideOutputs c.args.nets.now.exact c.args.patterns.now.vectors c.loop-q.q l) (sym exact) (c.requires.outputs.are c.loop-q.q c.loop-q-test.true) in
     let block : AreWideOutputs c.args.nets.now.approx c.args.patterns.now.vectors c.loop-q.q c.outputs.result.now =
     wide_held c.args.nets.now.approx c.loop-q.wide.net c.loop-q.wide.patterns c.args.patterns.now c.loop-q.q c.reach.new.self.outputs c.outputs.result.now c.loop-q.invariant.net
     c.loop-q.invariant.patterns c.outputs.ensures.outputs c.reach.ensures.outputs in
-    first_in_block c.args.metric c.args.nets.now.exact c.args.nets.now.approx c.args.patterns.now.vectors c.loop-q.q c.as_slice.result.now c.outputs.result.now right block
+    first_in_block c.args.metric c.args.nets.now.exact c.args.nets.now.approx c.args.patterns.now.vectors c.loop-q.q c.as_slice-exact.result.now c.outputs.result.now right block
     c.args.level c.min.result c.block_over-over.result
     (c.min.ensures ∙ ap (λ (n : ℕ). min (n - 512 * c.loop-q.q) 512) c.count-count.ensures.value) c.block_over-over.ensures.bits c.loop-q.invariant.none c.in-Some.p
     c.in-Some.ensures
 
 pub loop-q-preserved : goal.loop-q-preserved
 loop-q-preserved c =
-    let exact : c.as_slice.result.now ≡ wides_at c.args.outputs.now c.loop-q.q =
-    c.as_slice.ensures ∙ c.index-outputs-q.is ∙ get_or_default c.args.outputs.now c.loop-q.q c.index-outputs-q.result [] c.loop-q-test.true in
-    let right : AreWideOutputs c.args.nets.now.exact c.args.patterns.now.vectors c.loop-q.q c.as_slice.result.now =
+    let exact : c.as_slice-exact.result.now ≡ wides_at c.args.outputs.now c.loop-q.q =
+    c.as_slice-exact.ensures ∙ c.index-outputs-q.is ∙ get_or_default c.args.outputs.now c.loop-q.q c.index-outputs-q.result [] c.loop-q-test.true in
+    let right : AreWideOutputs c.args.nets.now.exact c.args.patterns.now.vectors c.loop-q.q c.as_slice-exact.result.now =
     subst (λ (l : List (List ℕ)). AreWideOutputs c.args.nets.now.exact c.args.patterns.now.vectors c.loop-q.q l) (sym exact) (c.requires.outputs.are c.loop-q.q c.loop-q-test.true) in
     let block : AreWideOutputs c.args.nets.now.approx c.args.patterns.now.vectors c.loop-q.q c.outputs.result.now =
     wide_held c.args.nets.now.approx c.loop-q.wide.net c.loop-q.wide.patterns c.args.patterns.now c.loop-q.q c.reach.new.self.outputs c.outputs.result.now c.loop-q.invariant.net
@@ -52,7 +52,7 @@ loop-q-preserved c =
       net = c.reach.ensures.net ∙ c.loop-q.invariant.net;
       patterns = c.reach.ensures.patterns ∙ c.loop-q.invariant.patterns;
       none =
-          none_in_block c.args.metric c.args.nets.now.exact c.args.nets.now.approx c.args.patterns.now.vectors c.loop-q.q c.as_slice.result.now c.outputs.result.now right block
+          none_in_block c.args.metric c.args.nets.now.exact c.args.nets.now.approx c.args.patterns.now.vectors c.loop-q.q c.as_slice-exact.result.now c.outputs.result.now right block
           c.args.level c.min.result c.block_over-over.result
           (c.min.ensures ∙ ap (λ (n : ℕ). min (n - 512 * c.loop-q.q) 512) c.count-count.ensures.value) c.block_over-over.ensures.bits c.loop-q.invariant.none
           c.in_default.ensures;

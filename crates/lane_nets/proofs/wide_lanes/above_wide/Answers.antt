@@ -10,7 +10,7 @@ use Rattle.lane_nets.proofs.wide_lanes.above_wide.Goals.{then-rest-eq0, else-res
 pub loop-i-init : goal.loop-i-init
 loop-i-init c = λ j b lane low.
     wide_start (number_of (lane_at (lane_words c.args.low.now j) b)) (number_of (lane_at (lane_words c.args.high.now j) b)) c.args.level _ _ b
-    (c.equal_words.ensures j lane) (c.equal_words-2.ensures j lane)
+    (c.no_comparison-so_far.ensures.carry j lane) (c.no_comparison-so_far.ensures.above j lane)
 
 pub loop-i-preserved : goal.loop-i-preserved
 loop-i-preserved c = λ j b lane low.
@@ -26,5 +26,5 @@ returns c = λ j b lane low. elim c.if-rest-eq0.branch [
   | else-rest-eq0 w ↦
       rw w.result-is
       (wide_none_above c.args.low.now c.args.high.now c.loop-i.i j b c.loop-i.rest (get_or c.loop-i.so_far.carry j 0) (get_or c.loop-i.so_far.above j 0) _ c.requires
-      (c.loop-i.invariant j b lane low) _ (w.equal_words-else-rest-eq0.ensures j lane) c.loop-i-test.false (omega (arith, w.if-rest-eq0.false)))
+      (c.loop-i.invariant j b lane low) _ (w.equal_words.ensures j lane) c.loop-i-test.false (omega (arith, w.if-rest-eq0.false)))
 ]

@@ -1,7 +1,8 @@
 use Rattle.std.proofs.Common.{Bool, ◌≡◌, not, get_or, refl, ap, ◌∙◌}
 use Rattle.lane_bits.specs.Rows.{turned}
 use Rattle.lane_nets.specs.Words.{word_bit}
-use Rattle.lane_nets.proofs.Comparing.{sum_of, goes_on}
+use Rattle.lane_nets.specs.Numbers.{sum_of}
+use Rattle.lane_nets.proofs.Comparing.{goes_on}
 use Rattle.lane_nets.proofs.WideErrors.{and_lane, or_lane, xor_lane}
 use Rattle.lane_nets.proofs.wide_lanes.compare_wide.Goals as goal
 
