@@ -3,6 +3,8 @@ import os
 import subprocess
 import sys
 
+from explorer import streams
+
 USAGE, READ, WRITE = 1, 5, 6
 NO_MODULE, BAD_MARK, YOSYS, UNSUITABLE, NOT_EQUAL = 20, 21, 22, 23, 24
 NO_PROGRAM = 127
@@ -17,19 +19,19 @@ class Refused(Exception):
 
 
 def say(text):
-    print("salsa: " + text, file=sys.stderr, flush=True)
+    streams.tell("salsa: %s\n" % text)
 
 
 class Line:
     """What is being done, on a terminal: one line, which what came of it ends, or which is taken away again."""
 
     def __init__(self):
-        self.is_shown = sys.stderr.isatty() and "SALSA_QUIET" not in os.environ
+        self.is_shown = sys.stderr is not None and sys.stderr.isatty() and "SALSA_QUIET" not in os.environ
         self.is_begun = False
 
     def put(self, text, end):
         if self.is_begun:
-            print(text, end=end, file=sys.stderr, flush=True)
+            streams.tell(text + end)
 
     def begin(self, text):
         self.is_begun = self.is_shown
