@@ -1,11 +1,12 @@
 """The proved program and `explore` over the netlist of a module, and what they leave."""
 import os
+import re
 import shutil
 import signal
 import subprocess
 import sys
 
-from approximator.tools import NO_PROGRAM, Refused, text_of
+from approximator.tools import NO_PROGRAM, Refused, put_text, text_of
 
 ENDINGS = ("blif", "cnf", "lrat", "wit", "txt")
 EXPLORE = os.path.join(os.path.dirname(os.path.dirname(os.path.realpath(__file__))), "explore")
@@ -51,6 +52,9 @@ def explore(program, name, words, options, stem, scratch):
     refuse_failed(name, "explore", child.returncode, heard)
     for it in ENDINGS:
         os.replace("%s/best.%s" % (folder, it), os.path.join(scratch, "new", "%s.%s" % (stem, it)))
+    # A netlist that went through other tools may have their name; no certificate speaks of it.
+    text = text_of(scratch, "new", stem + ".blif")
+    put_text(re.sub(r"^\.model .*$", lambda _: ".model " + name, text, count=1, flags=re.M), scratch, "new", stem + ".blif")
     os.replace(folder + "/best.tries.tsv", os.path.join(scratch, "new", name + ".tries.tsv"))
     shutil.rmtree(folder)
     return report_of(text_of(scratch, "new", stem + ".txt"))
