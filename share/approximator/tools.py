@@ -1,5 +1,6 @@
 """How a run ends with a number, its files, and Yosys."""
 import os
+import re
 import subprocess
 import sys
 
@@ -8,6 +9,8 @@ from explorer import streams
 USAGE, READ, WRITE = 1, 5, 6
 NO_MODULE, BAD_MARK, YOSYS, UNSUITABLE, NOT_EQUAL = 20, 21, 22, 23, 24
 NO_PROGRAM = 127
+# What Yosys says where a shell does not find ABC.
+NO_ABC = re.compile(r"ABC: execution of command .* failed: return code 127")
 
 
 class Refused(Exception):
@@ -65,7 +68,8 @@ def yosys(doing, script, folder, *files):
     except FileNotFoundError:
         raise Refused(YOSYS, "Yosys is not on the PATH: approximate needs `yosys`, which Debian packs") from None
     if ran.returncode:
-        raise Refused(YOSYS, "Yosys could not " + doing, heard=ran.stdout)
+        more = ["hint: Yosys calls ABC, and does not find it: Debian packs it as `berkeley-abc`"] if NO_ABC.search(ran.stdout) else []
+        raise Refused(YOSYS, "Yosys could not " + doing, *more, heard=ran.stdout)
     return ran.stdout
 
 
