@@ -26,27 +26,32 @@ def say(text):
 
 
 class Line:
-    """What is being done, on a terminal: one line, which what came of it ends, or which is taken away again."""
+    """What is being done, on a terminal: one line with how far it is, which what came of it ends, or which is taken away again."""
 
     def __init__(self):
         self.is_shown = sys.stderr is not None and sys.stderr.isatty() and "SALSA_QUIET" not in os.environ
-        self.is_begun = False
-
-    def put(self, text, end):
-        if self.is_begun:
-            streams.tell(text + end)
+        self.begun = self.followed = ""
 
     def begin(self, text):
-        self.is_begun = self.is_shown
-        self.put("salsa: " + text, " .. ")
+        if self.is_shown:
+            self.begun, self.followed = "salsa: %s .. " % text, ""
+            streams.tell(self.begun)
+
+    def follow(self, text):
+        """Shows how far it is, in the place of what was shown of that."""
+        if self.begun and text != self.followed:
+            self.followed = text
+            streams.tell("\r\x1b[K" + self.begun + text)
 
     def end(self, text):
-        self.put(text, "\n")
-        self.is_begun = False
+        if self.begun:
+            streams.tell(("\r\x1b[K" + self.begun if self.followed else "") + text + "\n")
+        self.begun = ""
 
     def clear(self):
-        self.put("\r\x1b[K", "")
-        self.is_begun = False
+        if self.begun:
+            streams.tell("\r\x1b[K")
+        self.begun = ""
 
 
 def text_of(*path):
