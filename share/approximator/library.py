@@ -1,12 +1,13 @@
 """Libraries of cells: Liberty as Yosys reads it, and genlib as a Liberty file of the same cells."""
 import json
+import os
 import re
 
 from approximator.tools import READ, Refused, put_text, say, text_of, yosys
 
 ENDINGS = (".lib", ".genlib")
 # Registers and cells without a function are no fault of a library: no netlist here has them.
-READ_LIBERTY = "read_liberty -ignore_miss_func -ignore_miss_dir -ignore_miss_data_latch library.lib"
+READ_LIBERTY = "read_liberty -ignore_miss_func -ignore_miss_dir -ignore_miss_data_latch {}"
 # The functions of the cells, in the place of black boxes of their names.
 READ_CELLS = "read_rtlil -overwrite library.il"
 GATE = re.compile(r"""GATE\s+("[^"\n]+"|[^\s"]+)\s+([0-9.]+(?:[eE][-+]?[0-9]+)?)\s+("[^"\n]+"|[^\s="]+)\s*"""
@@ -57,38 +58,41 @@ def without_delays(text):
     return "".join(kept) + text[begin:]
 
 
-def is_mapped_to(text, scratch):
-    """Puts a Liberty text into the folder, and tells whether Yosys and ABC map one gate to it."""
-    put_text(text, scratch, "library.lib")
+def is_mapped_to(text, place, scratch):
+    """Puts a Liberty text into its place, and tells whether Yosys and ABC map one gate to it."""
+    put_text(text, place, "library.lib")
     put_text(PROBE, scratch, "probe.blif")
     try:
-        yosys("map a gate", "read_blif probe.blif; abc -liberty library.lib -script +strash;map,-a", scratch)
+        yosys("map a gate", "read_blif probe.blif; abc -liberty %s/library.lib -script +strash;map,-a" % place, scratch)
         return True
     except Refused:
         return False
 
 
-def put_usable(name, text, scratch):
-    """Puts a Liberty text into the folder: where ABC ends at its delays, and at nothing else, the text without them."""
-    if is_mapped_to(text, scratch):
+def put_usable(name, text, place, scratch):
+    """Puts a Liberty text into its place: where ABC ends at its delays, and at nothing else, the text without them."""
+    if is_mapped_to(text, place, scratch):
         return
-    if is_mapped_to(without_delays(text), scratch):
+    if is_mapped_to(without_delays(text), place, scratch):
         say("`%s` is taken without its delays, by functions and areas: ABC ends at them, as where some cells have none" % name)
     else:
-        put_text(text, scratch, "library.lib")
+        put_text(text, place, "library.lib")
 
 
-def prepare(path, name, scratch):
-    """Puts a library into the folder, as it can be mapped to, and gives back the names of its cells. What is told has the name by
-    which it was given."""
+def prepare(path, name, place, scratch):
+    """Puts a library into its place, as it can be mapped to, and gives back the names of its cells. What is told has the name by
+    which it was given. ABC takes no blank in the name of the place."""
     try:
-        text = liberty_of(text_of(path)) if path.endswith(".genlib") else text_of(path)
-        put_text(text, scratch, "library.lib")
-        yosys("read it as Liberty", READ_LIBERTY + "; write_rtlil library.il; write_json library.json", scratch)
+        given = text_of(path)
+        text = liberty_of(given) if path.endswith(".genlib") else given
+        put_text(given, place, "given" + os.path.splitext(path)[1])
+        put_text(text, place, "library.lib")
+        yosys("read it as Liberty", READ_LIBERTY.format(place + "/library.lib") + "; write_rtlil library.il; write_json library.json",
+              scratch)
     except Refused as refused:
         raise Refused(READ, "the library `%s` can't be read: %s" % (name, refused.lines[0]), heard=refused.heard) from None
     cells = json.loads(text_of(scratch, "library.json"))["modules"]
     if not cells:
         raise Refused(READ, "the library `%s` can't be read: no cell in it has a function" % name)
-    put_usable(name, text, scratch)
+    put_usable(name, text, place, scratch)
     return frozenset(cells)

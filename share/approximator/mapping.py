@@ -14,15 +14,15 @@ from approximator.tools import USAGE, YOSYS, Refused, text_of, yosys
 GATES = "synth -flatten{top}; abc -g AND,OR,XOR; opt_clean -purge"
 LUTS = "synth -flatten; abc -lut %d; opt_clean -purge"
 # Unlike the script of Yosys this one needs neither a buffer nor constants among the cells.
-CELLS = ("synth -flatten; abc -liberty library.lib -script +strash;&get,-n;&fraig,-x;&put;scorr;dc2;strash;dch;map,-a; "
-         "opt_clean -purge; tee -q -o area.txt stat -liberty library.lib")
+CELLS = ("synth -flatten; abc -liberty {0}/library.lib -script +strash;&get,-n;&fraig,-x;&put;scorr;dc2;strash;dch;map,-a; "
+         "opt_clean -purge; tee -q -o area.txt stat -liberty {0}/library.lib")
 CELL_AREA = re.compile(r"Chip area for (?:top )?module '[^']*': *([0-9.eE+-]+)")
 UNKNOWN = "-"
 NEEDS = "a library needs an inverter and a gate of two inputs such as NAND; ABC's own `read_%s %s` shows what else it finds wrong"
 
 # What to map to: the word of the command line, the pins of a LUT or None, the path of a library or None, the names of its
-# cells.
-Target = collections.namedtuple("Target", "word pins library cells")
+# cells, and the folder in which tools find it.
+Target = collections.namedtuple("Target", "word pins library cells place")
 # A netlist as it is built: how many cells it has, and where they are those of a library their area, as text, and the module
 # that has them.
 Mapped = collections.namedtuple("Mapped", "count area module")
@@ -31,24 +31,26 @@ Mapped = collections.namedtuple("Mapped", "count area module")
 def target_of(word):
     """The target that a word names."""
     if word in ("gates", "lut4", "lut6"):
-        return Target(word, None if word == "gates" else int(word[3:]), None, frozenset())
+        return Target(word, None if word == "gates" else int(word[3:]), None, frozenset(), None)
     if word.endswith(ENDINGS):
-        return Target(word, None, os.path.abspath(word), frozenset())
+        return Target(word, None, os.path.abspath(word), frozenset(), None)
     raise Refused(USAGE, "--map takes gates, lut4, lut6 or a library, FILE.lib or FILE.genlib, and not `%s`" % word)
 
 
-def with_cells(target, scratch):
-    """The target, with the cells of its library."""
-    return target._replace(cells=prepare(target.library, target.word, scratch)) if target and target.library else target
+def with_cells(target, place, scratch):
+    """The target, with the cells of its library, which is put into its place."""
+    if not target or not target.library:
+        return target
+    return target._replace(cells=prepare(target.library, target.word, place, scratch), place=place)
 
 
-def area_of(target, scratch):
+def area_of(target):
     """The words of `salsa explore` for what is to be small."""
     if target is None or target.word == "gates":
         return ["ands"]
     if target.library:
         # A genlib as it is given; a Liberty file as it can be mapped to.
-        return ["cells", target.library if target.library.endswith(".genlib") else os.path.join(scratch, "library.lib")]
+        return ["cells", target.place + ("/given.genlib" if target.library.endswith(".genlib") else "/library.lib")]
     return ["luts%d" % target.pins]
 
 
@@ -63,8 +65,8 @@ def mapped(name, path, out, target, ports, scratch):
     """Maps the netlist of a module, and writes what is built as tables."""
     steps = ["read_blif " + path, LUTS % target.pins if target.pins else GATES.format(top=""), free_pattern("n", ports)]
     if target.library:
-        steps[1:] = [CELLS, free_pattern("n", ports), "write_json mapped.json", READ_CELLS, "hierarchy -top " + name, "flatten",
-                     "opt_clean -purge", free_pattern("x", ports)]
+        steps[1:] = [CELLS.format(target.place), free_pattern("n", ports), "write_json mapped.json", READ_CELLS,
+                     "hierarchy -top " + name, "flatten", "opt_clean -purge", free_pattern("x", ports)]
     try:
         yosys("map module `%s` to %s" % (name, target.word), "; ".join([*steps, "write_blif " + out]), scratch)
     except Refused as refused:
@@ -76,7 +78,8 @@ def mapped(name, path, out, target, ports, scratch):
     unknown = sorted({it["type"] for it in module["cells"].values()} - target.cells)
     if unknown:
         raise Refused(YOSYS, "module `%s`: it is mapped to `%s`, of which `%s` has no function" % (name, unknown[0], target.word))
-    return Mapped(len(module["cells"]), cell_area(text_of(scratch, "area.txt")), module)
+    area = cell_area(text_of(scratch, "area.txt")) if module["cells"] else "0"
+    return Mapped(len(module["cells"]), area, module)
 
 
 def cell_area(told):

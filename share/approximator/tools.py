@@ -1,11 +1,16 @@
 """How a run ends with a number, its files, and Yosys."""
 import os
+import re
 import subprocess
 import sys
+
+from explorer import streams
 
 USAGE, READ, WRITE = 1, 5, 6
 NO_MODULE, BAD_MARK, YOSYS, UNSUITABLE, NOT_EQUAL = 20, 21, 22, 23, 24
 NO_PROGRAM = 127
+# What Yosys says where a shell does not find ABC.
+NO_ABC = re.compile(r"ABC: execution of command .* failed: return code 127")
 
 
 class Refused(Exception):
@@ -17,31 +22,36 @@ class Refused(Exception):
 
 
 def say(text):
-    print("salsa: " + text, file=sys.stderr, flush=True)
+    streams.tell("salsa: %s\n" % text)
 
 
 class Line:
-    """What is being done, on a terminal: one line, which what came of it ends, or which is taken away again."""
+    """What is being done, on a terminal: one line with how far it is, which what came of it ends, or which is taken away again."""
 
     def __init__(self):
-        self.is_shown = sys.stderr.isatty() and "SALSA_QUIET" not in os.environ
-        self.is_begun = False
-
-    def put(self, text, end):
-        if self.is_begun:
-            print(text, end=end, file=sys.stderr, flush=True)
+        self.is_shown = sys.stderr is not None and sys.stderr.isatty() and "SALSA_QUIET" not in os.environ
+        self.begun = self.followed = ""
 
     def begin(self, text):
-        self.is_begun = self.is_shown
-        self.put("salsa: " + text, " .. ")
+        if self.is_shown:
+            self.begun, self.followed = "salsa: %s .. " % text, ""
+            streams.tell(self.begun)
+
+    def follow(self, text):
+        """Shows how far it is, in the place of what was shown of that."""
+        if self.begun and text != self.followed:
+            self.followed = text
+            streams.tell("\r\x1b[K" + self.begun + text)
 
     def end(self, text):
-        self.put(text, "\n")
-        self.is_begun = False
+        if self.begun:
+            streams.tell(("\r\x1b[K" + self.begun if self.followed else "") + text + "\n")
+        self.begun = ""
 
     def clear(self):
-        self.put("\r\x1b[K", "")
-        self.is_begun = False
+        if self.begun:
+            streams.tell("\r\x1b[K")
+        self.begun = ""
 
 
 def text_of(*path):
@@ -63,7 +73,8 @@ def yosys(doing, script, folder, *files):
     except FileNotFoundError:
         raise Refused(YOSYS, "Yosys is not on the PATH: approximate needs `yosys`, which Debian packs") from None
     if ran.returncode:
-        raise Refused(YOSYS, "Yosys could not " + doing, heard=ran.stdout)
+        more = ["hint: Yosys calls ABC, and does not find it: Debian packs it as `berkeley-abc`"] if NO_ABC.search(ran.stdout) else []
+        raise Refused(YOSYS, "Yosys could not " + doing, *more, heard=ran.stdout)
     return ran.stdout
 
 
