@@ -5,5 +5,6 @@ mod candidates;
 mod clauses;
 mod cone;
 mod guide;
+pub mod levels;
 pub mod question;
 pub mod verdict;

@@ -52,7 +52,7 @@ fn tried(alloc: Global, net: &Net, model: &Bits) -> Result<Verdict, AllocError>
 }
 
 /// What the solver answers over the cone of a literal.
-fn ask_solver<P: Progress>(
+pub(crate) fn ask_solver<P: Progress>(
     alloc: Global,
     graph: &Aig,
     goal: Literal,

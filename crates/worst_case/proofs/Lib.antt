@@ -4,4 +4,3 @@ pub mod Ranges
 pub mod Tried
 pub mod Decided
 pub mod Repeated
-pub mod GraphQuestions

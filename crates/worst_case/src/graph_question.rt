@@ -1,18 +1,17 @@
-//! Whether the error exceeds a level, asked over the graph of the joint net, without a log.
+//! Whether the error exceeds a level, asked over a graph of both nets and of the network of the level, without
+//! a log.
 //!
-//! The exact and the approximate net have most of their tables in common, and the error's network reads both:
-//! in the hashed graph of the joint net what is equal is one node, and much falls. Its formula has less than
-//! half of the clauses of the joint net's, and no merges at its head. What is left open here is asked again
-//! over the joint net's own formula, since a query that was spent is shown by that.
+//! The exact and the approximate net have most of their tables in common: in the hashed graph of both what is
+//! equal is one node, and much falls. The network of the level is that of the diagrams, which subtracts once:
+//! where two outputs are one node it is mostly constant. What is left open here is asked again over the joint
+//! net's own formula, since a query that was spent is shown by that.
 ghost use Rattle.std.specs.Prelude.{◌≡◌, ◌≤◌, IfOk, IfSome};
 ghost use Rattle.worst_case.specs.Levels.{IsSureAnswer};
 
-use crate::comparable::see_comparable;
-use crate::margin::Margin;
-use graph_questions::question::ask;
-use graph_questions::verdict::Verdict;
+use crate::margin::{Margin, decided_margin};
+use bdd_levels::level::Level;
+use graph_questions::levels::decide;
 use lane_bits::patterns::Patterns;
-use miter::joint::joint;
 use net_errors::compared::Compared;
 use progress::progress::Progress;
 use proof_semantics::constraint::Constraint;
@@ -30,11 +29,7 @@ pub(crate) fn by_graph<P: Progress>(
     requires limit { 1 ≤ aim.limit }
     ensures { IfOk result (λ found. IfSome found (IsSureAnswer aim nets.now.exact nets.now.approx)) }
 {
-    see_comparable(nets);
-    let net = joint(alloc, nets.exact(), nets.approx(), aim.metric, aim.bound)?;
-    match ask(alloc, &net, patterns, aim.limit, progress)? {
-        Verdict::Over(x) => Ok(Some(Margin::Over(x))),
-        Verdict::Never => Ok(Some(Margin::Within)),
-        Verdict::Unknown => Ok(None),
-    }
+    let level = Level::new(alloc, nets.exact(), aim.metric, aim.bound)?;
+    let decision = decide(alloc, nets, &level, patterns, aim.limit, progress)?;
+    decided_margin(alloc, nets, aim, decision)
 }
