@@ -7,7 +7,7 @@
 //! diagrams. A question that takes more than `QUESTION_STEPS` steps is decided by every vector, where there
 //! are at most `MOST_TRIED_INPUTS` inputs: the products of multipliers have no small diagrams, and take the
 //! solver minutes. With still more inputs it goes to the solver, which is quick where errors may be large:
-//! first over the graph of the joint net, and where that leaves it open over the joint net's clauses. Where
+//! first over a hashed graph of both nets, and where that leaves it open over the joint net's clauses. Where
 //! the solver's conflicts are spent too, the diagrams get as many steps as their nodes allow (`LAST_STEPS`),
 //! and then the solver gets further queries, before the question counts as open. What a budget leaves open is
 //! never taken for an answer.
