@@ -116,14 +116,7 @@ pub fn decide<P: Progress>(
     if goal.literal == constant(false) {
         return Ok(Decision::Never);
     }
-    match ask_solver(
-        alloc,
-        &goal.graph,
-        goal.literal,
-        patterns,
-        limit,
-        progress,
-    )? {
+    match ask_solver(alloc, &goal.graph, goal.literal, patterns, limit, progress)? {
         Answer::Refuted(_) => Ok(Decision::Never),
         Answer::Spent(_) => Ok(Decision::Unknown),
         Answer::Model(model) => tried(alloc, nets, level, &model),

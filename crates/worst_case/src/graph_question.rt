@@ -1,5 +1,5 @@
-//! Whether the error exceeds a level, asked over a graph of both nets and of the network of the level, without
-//! a log.
+//! Whether the error exceeds a level, asked over a graph of both nets and of the network of the level,
+//! without a log.
 //!
 //! The exact and the approximate net have most of their tables in common: in the hashed graph of both what is
 //! equal is one node, and much falls. The network of the level is that of the diagrams, which subtracts once:

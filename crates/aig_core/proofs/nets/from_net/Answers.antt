@@ -14,5 +14,6 @@ signal_literals-requires c = record {
 pub returns : goal.returns
 returns c =
     graph_done c.args.net.now c.new-graph.result c.signal_literals.new.g c.in_ok-inputs.inputs.items c.in_ok-literals.literals.items c.see_sound.ensures.sound.acyclic
-    (ap (λ (g : GraphValue). g.inputs) c.new-graph.ensures ∙ c.inputs.ensures.value) c.in_ok-literals.ensures.grows c.in_ok-inputs.ensures.length c.in_ok-inputs.ensures.inputs c.in_ok-literals.ensures.length
+    (ap (λ (g : GraphValue). g.inputs) c.new-graph.ensures ∙ c.inputs.ensures.value) c.in_ok-literals.ensures.grows
+    c.in_ok-inputs.ensures.length c.in_ok-inputs.ensures.inputs c.in_ok-literals.ensures.length
     (subst (λ (l : List ℕ). AreSignalsOver c.signal_literals.new.g c.args.net.now.tables l c.in_ok-literals.literals.items) c.deref.ensures.value c.in_ok-literals.ensures.signals) c.values.ensures
