@@ -52,8 +52,8 @@ fn tried(alloc: Global, net: &Net, model: &Bits) -> Result<Verdict, AllocError>
     }
 }
 
-/// The conflicts without pairs, before nodes that agree at the patterns are tried: a question that ends within
-/// so few mostly takes more of them where pairs come first.
+/// The conflicts without pairs, before nodes that agree at the patterns are tried: a question that ends
+/// within so few mostly takes more of them where pairs come first.
 const PLAIN_CONFLICTS: u64 = 20_000;
 
 /// What the solver answers over the cone of a literal: first by the search alone, and where that leaves it
