@@ -56,6 +56,19 @@ pub same_outputs : (N M : NetValue) → IsCandidate N M → length N.outputs ≡
 same_outputs N M candidate =
     sym (length-map N.outputs (name_of (signal_names N))) ∙ ap length candidate.ports.outputs ∙ length-map M.outputs (name_of (signal_names M))
 
+-- the network of a level says of both nets' outputs whether their error exceeds it
+pub error_told : (metric : Metric) (N M Q : NetValue) (w k : ℕ) (x : List Bool) → IsCandidate N M → w ≡ length N.outputs → TellsLevel metric w k Q
+    → outputs_of Q (outputs_of N x ++ outputs_of M x) ≡ ltb k (net_error metric N M x) ∷ []
+error_told metric N M Q w k x candidate width level =
+    let e : List Bool = outputs_of N x in
+    let m : List Bool = outputs_of M x in
+    let e_width : length e ≡ w = length-outputs_of N x ∙ sym width in
+    let m_width : length m ≡ w = length-outputs_of M x ∙ sym (same_outputs N M candidate) ∙ sym width in
+    let front : take w (e ++ m) ≡ e = subst (λ n. take n (e ++ m) ≡ e) e_width (take-append_seam e m) in
+    let rest : drop w (e ++ m) ≡ m = subst (λ n. drop n (e ++ m) ≡ m) e_width (drop-append_seam e m) in
+    level.tells (e ++ m) (omega (arith, length-append e m, e_width, m_width))
+    ∙ (rw (front, rest) (ap (λ n. ltb k n ∷ []) (sym (error_unfolds metric N M x))))
+
 -- both words' diagrams
 pub both_within : (nodes : List Node) (first second both : List ℕ) → both ≡ first ++ second → All (λ f. f < length nodes) first → All (λ f. f < length nodes) second → All (λ f. f < length nodes) both
 both_within nodes first second both is a b = rw is (All-append (λ f. f < length nodes) first second a b)
@@ -75,16 +88,10 @@ module _ (a b c : List Node) (metric : Metric) (N M Q : NetValue) (w k : ℕ) (i
         is = λ x v val.
             let at_b : IsValuation b x v = valuation_before b c x v bc val in
             let at_a : IsValuation a x v = valuation_before a b x v ab at_b in
-            let e : List Bool = outputs_of N (map v inputs) in
-            let m : List Bool = outputs_of M (map v inputs) in
-            let words : map v both ≡ e ++ m = ap (map v) is ∙ map-append v first second ∙ (rw (exact.is x v at_a, approximate.is x v at_b) refl) in
-            let e_width : length e ≡ w = length-outputs_of N (map v inputs) ∙ sym width in
-            let m_width : length m ≡ w = length-outputs_of M (map v inputs) ∙ sym (same_outputs N M candidate) ∙ sym width in
-            let front : take w (e ++ m) ≡ e = subst (λ n. take n (e ++ m) ≡ e) e_width (take-append_seam e m) in
-            let rest : drop w (e ++ m) ≡ m = subst (λ n. drop n (e ++ m) ≡ m) e_width (drop-append_seam e m) in
+            let words : map v both ≡ outputs_of N (map v inputs) ++ outputs_of M (map v inputs) =
+            ap (map v) is ∙ map-append v first second ∙ (rw (exact.is x v at_a, approximate.is x v at_b) refl) in
             let told : map v over ≡ ltb k (net_error metric N M (map v inputs)) ∷ [] =
-            asked.is x v val ∙ ap (outputs_of Q) words ∙ level.tells (e ++ m) (omega (arith, length-append e m, e_width, m_width))
-            ∙ (rw (front, rest) (ap (λ n. ltb k n ∷ []) (sym (error_unfolds metric N M (map v inputs))))) in
+            asked.is x v val ∙ ap (outputs_of Q) words ∙ error_told metric N M Q w k (map v inputs) candidate width level in
             ap v read ∙ sym (get_or-map v over 0 f false some) ∙ ap (λ (bits : List Bool). get_or bits 0 false) told;
       }
 

@@ -1,2 +1,3 @@
 pub mod ClauseValues
+pub mod ErrorLiterals
 pub mod Questions

@@ -1,11 +1,9 @@
 //! The guide of a search over the clauses of a graph's cone. Signal n is node n, so that the constant counts
 //! as an input.
-use crate::candidates::candidates_of;
 use crate::cone::is_within;
 use aig_core::graph::Aig;
 use aig_core::literal::node_of;
 use cdcl_core::guide::Guide;
-use lane_bits::patterns::Patterns;
 use net_parts::items::{Items, SignalList};
 use std::alloc::{AllocError, Global};
 
@@ -30,20 +28,14 @@ fn order_of(alloc: Global, graph: &Aig, cone: &[bool]) -> Result<SignalList, All
     Ok(order)
 }
 
-/// A guide for the formula of a cone: its gates, and the pairs of nodes that agree at the known vectors, or
-/// are opposite at all of them.
-pub(crate) fn guide_of(
-    alloc: Global,
-    graph: &Aig,
-    cone: &[bool],
-    patterns: &Patterns,
-) -> Result<Guide, AllocError> {
+/// A guide for the formula of a cone: its gates, without pairs of nodes.
+pub(crate) fn guide_of(alloc: Global, graph: &Aig, cone: &[bool]) -> Result<Guide, AllocError> {
     Ok(Guide {
         inputs: graph.inputs().saturating_add(1),
         signals: graph.nodes(),
         pins: pins_of(alloc, graph)?,
         order: order_of(alloc, graph, cone)?,
-        candidates: candidates_of(alloc, graph, cone, patterns)?,
+        candidates: Items::new(alloc),
         search_first: true,
     })
 }

@@ -9,6 +9,7 @@ ghost use Rattle.aig_core.specs.Graph.{IsLiteralOf, node_count};
 ghost use Rattle.graph_questions.specs.GraphClauses.{IsAnsweredOf};
 ghost use Rattle.graph_questions.specs.Verdicts.{IsVerdict, output_at};
 
+use crate::candidates::candidates_of;
 use crate::clauses::formula_of;
 use crate::cone::cone_of;
 use crate::guide::guide_of;
@@ -51,8 +52,13 @@ fn tried(alloc: Global, net: &Net, model: &Bits) -> Result<Verdict, AllocError>
     }
 }
 
-/// What the solver answers over the cone of a literal.
-fn ask_solver<P: Progress>(
+/// The conflicts without pairs, before nodes that agree at the patterns are tried: a question that ends
+/// within so few mostly takes more of them where pairs come first.
+const PLAIN_CONFLICTS: u64 = 20_000;
+
+/// What the solver answers over the cone of a literal: first by the search alone, and where that leaves it
+/// open with the pairs of nodes that agree at the patterns.
+pub(crate) fn ask_solver<P: Progress>(
     alloc: Global,
     graph: &Aig,
     goal: Literal,
@@ -66,9 +72,15 @@ fn ask_solver<P: Progress>(
 {
     let cone = cone_of(alloc, graph, goal)?;
     let formula = formula_of(alloc, graph, &cone, goal)?;
-    let guide = guide_of(alloc, graph, &cone, patterns)?;
+    let mut guide = guide_of(alloc, graph, &cone)?;
     let none = Items::new(alloc);
     progress.asked();
+    let few = limit.min(PLAIN_CONFLICTS);
+    match solve_guided(alloc, &formula, &none, &guide, few, progress)? {
+        Answer::Spent(_) => {}
+        decided => return Ok(decided),
+    }
+    guide.candidates = candidates_of(alloc, graph, &cone, patterns)?;
     solve_guided(alloc, &formula, &none, &guide, limit, progress)
 }
 

@@ -4,6 +4,7 @@
 
 mod comparable;
 pub mod exceeds;
+mod graph_question;
 pub mod judge;
 pub mod margin;
 pub mod maximum;

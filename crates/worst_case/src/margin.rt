@@ -1,6 +1,7 @@
 //! Whether the error stays within a level, where nobody asks for a log: by diagrams, or by the solver.
 ghost use Rattle.std.specs.Prelude.{◌≡◌, ◌<◌, ◌≤◌, IfOk, IfSome};
 ghost use Rattle.semantics.specs.Net.{input_count};
+ghost use Rattle.bdd_levels.specs.Levels.{IsLevelDecided};
 ghost use Rattle.worst_case.specs.Exceeds.{IsChainOn, IsPosed};
 ghost use Rattle.worst_case.specs.Levels.{IsLevelAnswer, IsSureAnswer, without_log};
 
@@ -28,8 +29,25 @@ pub enum Margin {
     Spent(Spent),
 }
 
-/// The answer of the diagrams, where they find one within `steps` steps.
+/// What a decision without a log says of the two nets: nothing where it is open.
 #[tactic(auto, using(crate::proofs::Decided::answer_over, crate::proofs::Decided::answer_within))]
+pub(crate) fn decided_margin(
+    alloc: Global,
+    nets: &Compared,
+    aim: Constraint,
+    decision: Decision,
+) -> Result<Option<Margin>, AllocError>
+    requires { IsLevelDecided aim.metric nets.now.exact nets.now.approx aim.bound decision }
+    ensures { IfOk result (λ found. IfSome found (IsSureAnswer aim nets.now.exact nets.now.approx)) }
+{
+    match decision {
+        Decision::Never => Ok(Some(Margin::Within)),
+        Decision::At(x) => Ok(Some(Margin::Over(Bits::from_slice(alloc, &x)?))),
+        Decision::Unknown => Ok(None),
+    }
+}
+
+/// The answer of the diagrams, where they find one within `steps` steps.
 pub(crate) fn by_diagrams(
     alloc: Global,
     nets: &Compared,
@@ -42,11 +60,8 @@ pub(crate) fn by_diagrams(
     ensures answer { IfOk result
         (λ found. IfSome found (IsSureAnswer aim nets.now.exact nets.now.approx)) }
 {
-    match decider.decide(alloc, nets.approx(), aim.metric, aim.bound, steps)? {
-        Decision::Never => Ok(Some(Margin::Within)),
-        Decision::At(x) => Ok(Some(Margin::Over(Bits::from_slice(alloc, &x)?))),
-        Decision::Unknown => Ok(None),
-    }
+    let decision = decider.decide(alloc, nets.approx(), aim.metric, aim.bound, steps)?;
+    decided_margin(alloc, nets, aim, decision)
 }
 
 /// What an answer of the solver says where nobody asks for a log.

@@ -6,14 +6,16 @@
 //! net are small: adders, filters, medians and sums of differences take milliseconds a question with
 //! diagrams. A question that takes more than `QUESTION_STEPS` steps is decided by every vector, where there
 //! are at most `MOST_TRIED_INPUTS` inputs: the products of multipliers have no small diagrams, and take the
-//! solver minutes. With still more inputs it goes to the solver, which is quick where errors may be large.
-//! Where the solver's conflicts are spent too, the diagrams get as many steps as their nodes allow
-//! (`LAST_STEPS`), and then the solver gets further queries, before the question counts as open. What a
-//! budget leaves open is never taken for an answer.
+//! solver minutes. With still more inputs it goes to the solver, which is quick where errors may be large:
+//! first over a hashed graph of both nets, and where that leaves it open over the joint net's clauses. Where
+//! the solver's conflicts are spent too, the diagrams get as many steps as their nodes allow (`LAST_STEPS`),
+//! and then the solver gets further queries, before the question counts as open. What a budget leaves open is
+//! never taken for an answer.
 ghost use Rattle.std.specs.Prelude.{◌≡◌, ◌≤◌, IfOk};
 ghost use Rattle.semantics.specs.Net.{input_count};
 ghost use Rattle.worst_case.specs.Levels.{IsAnsweredUpTo, IsLevelAnswer, IsSureAnswer};
 
+use crate::graph_question::by_graph;
 use crate::judge::Judge;
 use crate::margin::Margin;
 use crate::options::MOST_TRIED_INPUTS;
@@ -58,7 +60,10 @@ pub fn within_level<P: Progress>(
     ensures sure { IfOk result (λ margin. input_count nets.now.exact ≤ MOST_TRIED_INPUTS
         → IsSureAnswer aim nets.now.exact nets.now.approx margin) }
 {
-    match without_solver(alloc, nets, judge, aim)? {
+    if let Some(margin) = without_solver(alloc, nets, judge, aim)? {
+        return Ok(margin);
+    }
+    match by_graph(alloc, nets, judge.known().patterns(), aim, progress)? {
         Some(margin) => Ok(margin),
         None => judge.by_solver(alloc, nets, aim, progress),
     }

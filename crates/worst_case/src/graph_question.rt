@@ -1,0 +1,35 @@
+//! Whether the error exceeds a level, asked over a graph of both nets and of the network of the level,
+//! without a log.
+//!
+//! The exact and the approximate net have most of their tables in common: in the hashed graph of both what is
+//! equal is one node, and much falls. The network of the level is that of the diagrams, which subtracts once:
+//! where two outputs are one node it is mostly constant. What is left open here is asked again over the joint
+//! net's own formula, since a query that was spent is shown by that.
+ghost use Rattle.std.specs.Prelude.{◌≡◌, ◌≤◌, IfOk, IfSome};
+ghost use Rattle.worst_case.specs.Levels.{IsSureAnswer};
+
+use crate::margin::{Margin, decided_margin};
+use bdd_levels::level::Level;
+use graph_questions::levels::decide;
+use lane_bits::patterns::Patterns;
+use net_errors::compared::Compared;
+use progress::progress::Progress;
+use proof_semantics::constraint::Constraint;
+use std::alloc::{AllocError, Global};
+
+/// The answer over the graph, where the solver finds one within the limit. Nodes that agree at the patterns
+/// are tried first.
+pub(crate) fn by_graph<P: Progress>(
+    alloc: Global,
+    nets: &Compared,
+    patterns: &Patterns,
+    aim: Constraint,
+    progress: &mut P,
+) -> Result<Option<Margin>, AllocError>
+    requires limit { 1 ≤ aim.limit }
+    ensures { IfOk result (λ found. IfSome found (IsSureAnswer aim nets.now.exact nets.now.approx)) }
+{
+    let level = Level::new(alloc, nets.exact(), aim.metric, aim.bound)?;
+    let decision = decide(alloc, nets, &level, patterns, aim.limit, progress)?;
+    decided_margin(alloc, nets, aim, decision)
+}
