@@ -17,8 +17,10 @@
 ghost use Rattle.std.specs.Prelude.{◌≡◌, ◌<◌, ◌≤◌, ◌^◌, IfOk};
 ghost use Rattle.proof_semantics.specs.Clauses.{IsLiteralOf};
 
+use crate::guide::Guide;
 use crate::literal::Literal;
 use crate::ring::Ring;
+use crate::trail::Trail;
 use std::alloc::{AllocError, Global};
 use std::marker::Model;
 
@@ -75,6 +77,75 @@ impl Order {
             noted: Vec::new(alloc),
             keeps_order: signals > 0,
         })
+    }
+
+    /// The order in which the inputs come first, and each variable has its value in `values` as the last one.
+    pub fn with_values(
+        alloc: Global,
+        variables: u32,
+        guide: &Guide,
+        values: &[bool],
+    ) -> Result<Order, AllocError>
+        requires { variables < 2 ^ 31 }
+        ensures { IfOk result (λ order. order ≡ variables) }
+    {
+        let mut order = Order::new(alloc, variables, guide.signals)?;
+        for v in 0..variables.min(guide.inputs) {
+            order.bring(Literal::of(v + 1, true));
+        }
+        for (place, value) in values.iter().enumerate() {
+            order.set_value(place, *value);
+        }
+        order.ring.rewind();
+        Ok(order)
+    }
+
+    /// The order in which the variables that are read come first, the last of them before the others.
+    pub fn of_read(alloc: Global, variables: u32, read: &[bool]) -> Result<Order, AllocError>
+        requires { variables < 2 ^ 31 }
+        ensures { IfOk result (λ order. order ≡ variables) }
+    {
+        let mut order = Order::new(alloc, variables, 0)?;
+        order.keeps_order = true;
+        for v in 0..variables {
+            let at = v as usize + 1;
+            if at < read.len() && read[at] {
+                order.bring(Literal::of(v + 1, true));
+            }
+        }
+        order.ring.rewind();
+        Ok(order)
+    }
+
+    /// Notes a value as the last one of the variable behind a place.
+    fn set_value(&mut self, place: usize, value: bool)
+        ensures { self.new ≡ self.old }
+    {
+        if place < self.values.len() - 1 {
+            self.values[place + 1] = value;
+        }
+    }
+
+    /// How many variables there are.
+    pub fn variables(&self) -> usize
+        ensures { result ≡ self.now }
+    {
+        self.values.len() - 1
+    }
+
+    /// Notes that no literal of the trail is true any more.
+    pub fn reopen(&mut self, trail: &Trail)
+        requires { trail.now.variables < 2 ^ 31 }
+        ensures { self.new ≡ self.old }
+    {
+        if trail.variables() as usize != self.variables() {
+            return;
+        }
+        trail.consistent();
+        for i in 0..trail.len() {
+            self.open(trail.literal(i));
+        }
+        self.ring.rewind();
     }
 
     /// Where the search for an open variable begins, or 0 where there is none.
