@@ -20,7 +20,6 @@ ghost use Rattle.proof_semantics.specs.Clauses.{IsLiteralOf};
 use crate::guide::Guide;
 use crate::literal::Literal;
 use crate::ring::Ring;
-use crate::trail::Trail;
 use std::alloc::{AllocError, Global};
 use std::marker::Model;
 
@@ -71,11 +70,25 @@ impl Order {
         } else {
             signals.min(variables)
         };
+        Order::of_first(alloc, variables, last, signals > 0)
+    }
+
+    /// The first `last` of the variables, the last one before the others; each has the last value true.
+    fn of_first(
+        alloc: Global,
+        variables: u32,
+        last: u32,
+        keeps_order: bool,
+    ) -> Result<Order, AllocError>
+        requires variables { variables < 2 ^ 31 }
+        requires last { last ≤ variables }
+        ensures { IfOk result (λ order. order ≡ variables) }
+    {
         Ok(Order {
             ring: Ring::new(alloc, last)?,
             values: vec![in alloc; true; variables as usize + 1]?,
             noted: Vec::new(alloc),
-            keeps_order: signals > 0,
+            keeps_order,
         })
     }
 
@@ -96,7 +109,7 @@ impl Order {
         for (place, value) in values.iter().enumerate() {
             order.set_value(place, *value);
         }
-        order.ring.rewind();
+        order.rewind();
         Ok(order)
     }
 
@@ -105,15 +118,14 @@ impl Order {
         requires { variables < 2 ^ 31 }
         ensures { IfOk result (λ order. order ≡ variables) }
     {
-        let mut order = Order::new(alloc, variables, 0)?;
-        order.keeps_order = true;
+        let mut order = Order::of_first(alloc, variables, variables, true)?;
         for v in 0..variables {
             let at = v as usize + 1;
             if at < read.len() && read[at] {
                 order.bring(Literal::of(v + 1, true));
             }
         }
-        order.ring.rewind();
+        order.rewind();
         Ok(order)
     }
 
@@ -133,18 +145,10 @@ impl Order {
         self.values.len() - 1
     }
 
-    /// Notes that no literal of the trail is true any more.
-    pub fn reopen(&mut self, trail: &Trail)
-        requires { trail.now.variables < 2 ^ 31 }
+    /// Lets the search for an open variable begin at the front.
+    pub fn rewind(&mut self)
         ensures { self.new ≡ self.old }
     {
-        if trail.variables() as usize != self.variables() {
-            return;
-        }
-        trail.consistent();
-        for i in 0..trail.len() {
-            self.open(trail.literal(i));
-        }
         self.ring.rewind();
     }
 

@@ -81,8 +81,8 @@ fn read_variables(
     Ok(read)
 }
 
-/// What a round leaves to the next one: the order and the pace of the search; the ids of the clauses with which
-/// each round begins; and the learned clauses that the next one keeps.
+/// What a round leaves to the next one: the order and the pace of the search; the ids of the clauses with
+/// which each round begins; and the learned clauses that the next one keeps.
 #[derive(Drop)]
 struct Memory {
     habits: Habits,

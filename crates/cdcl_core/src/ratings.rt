@@ -2,8 +2,8 @@
 //!
 //! A clause whose literals stood on few levels when it was learned is likely to be used again, and stays. A
 //! clause of some levels stays for two rounds behind the last one in which it was a hint, any other for one.
-//! Of those that are then left the better half stays: that of fewer levels, and of fewer literals. Source: the
-//! levels of Glucose, and the tiers of CaDiCaL; here a clause is used where it is a hint.
+//! Of those that are then left the better half stays: that of fewer levels, and of fewer literals. Source:
+//! the levels of Glucose, and the tiers of CaDiCaL; here a clause is used where it is a hint.
 ghost use Rattle.proof_semantics.specs.Logs.{IsDerivation};
 
 use crate::kept_clauses::step_clause;
@@ -146,8 +146,8 @@ fn push_learned(clauses: &mut Vec<Kept>, next: u64, levels: &[u32]) -> Result<()
     Ok(())
 }
 
-/// The last round: the clauses that it kept, the place of the first of them, its steps, and the clauses that it
-/// learned, by the numbers of their levels; in the whole log these have the ids from `next` on.
+/// The last round: the clauses that it kept, the place of the first of them, its steps, and the clauses that
+/// it learned, by the numbers of their levels; in the whole log these have the ids from `next` on.
 #[derive(Clone, Copy, Drop)]
 pub struct LastRound<'a> {
     pub kept: &'a [Kept],
@@ -171,8 +171,8 @@ pub fn kept_after(
     kept_of(alloc, cnf, whole, &clauses)
 }
 
-/// The learned clauses that the first round keeps, of those that a log adds. Nothing is known of their levels:
-/// so many as a clause has literals are taken. The last steps count as the last round.
+/// The learned clauses that the first round keeps, of those that a log adds. Nothing is known of their
+/// levels: so many as a clause has literals are taken. The last steps count as the last round.
 pub fn first_kept(alloc: Global, cnf: &Cnf, derived: &Log) -> Result<Vec<Kept>, AllocError>
     requires { IsDerivation cnf.now derived.now }
 {

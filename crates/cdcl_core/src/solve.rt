@@ -18,6 +18,7 @@ use crate::answer::Answer;
 use crate::decision_order::Order;
 use crate::first_watches::watch_all;
 use crate::guide::Guide;
+use crate::jump::reopen;
 use crate::learning::log_refutation;
 use crate::literal::Literal;
 use crate::pace::Pace;
@@ -113,13 +114,21 @@ fn answer(alloc: Global, search: Search, end: Turn) -> Result<Ended, AllocError>
         → IsAnswer f merged limit ended.answer) }
 {
     let mut order = search.order;
-    order.reopen(&search.trail);
-    let answer = match end {
-        Turn::Further => Answer::Spent(search.log.into_log(alloc)?),
-        Turn::Refuted => Answer::Refuted(search.log.into_log(alloc)?),
-        Turn::Full => Answer::Model(values(alloc, &search.trail)?),
-    };
-    Ok(Ended { answer, order })
+    reopen(&mut order, &search.trail);
+    match end {
+        Turn::Further => Ok(Ended {
+            answer: Answer::Spent(search.log.into_log(alloc)?),
+            order,
+        }),
+        Turn::Refuted => Ok(Ended {
+            answer: Answer::Refuted(search.log.into_log(alloc)?),
+            order,
+        }),
+        Turn::Full => Ok(Ended {
+            answer: Answer::Model(values(alloc, &search.trail)?),
+            order,
+        }),
+    }
 }
 
 /// Searches from the start to the end.
@@ -140,11 +149,12 @@ fn search_whole<P: Progress>(
 {
     let mut search = search;
     let end = search_from(alloc, &mut search, pace, guide, limit, progress)?;
-    answer(alloc, search, end)
+    let ended = answer(alloc, search, end)?;
+    Ok(ended)
 }
 
-/// What a search goes on with where an earlier one ended: the order of the variables, with the value that each
-/// had last, and the pace. No statement depends on it.
+/// What a search goes on with where an earlier one ended: the order of the variables, with the value that
+/// each had last, and the pace. No statement depends on it.
 #[derive(Drop)]
 pub struct Habits {
     pub order: Option<Order>,

@@ -259,9 +259,9 @@ fn steps_behind(
     Ok(Some(Direct { log: steps, base }))
 }
 
-/// Steps behind a derived log whose clauses speak of the net's signals alone, as far as they are not too many:
-/// with the clauses `base` of the log and the formula the inputs of the net may have the same values as with
-/// the formula. The first `signals` variables are those of the signals, and `order` has the signals of the
+/// Steps behind a derived log whose clauses speak of the net's signals alone, as far as they are few: with
+/// the clauses `base` of the log and the formula the inputs of the net may have the same values as with the
+/// formula. The first `signals` variables are those of the signals, and `order` has the signals of the
 /// tables, each behind those that its table reads; no statement depends on them. The base is empty where no
 /// such steps are found. The error is want of memory.
 pub fn direct_clauses(

@@ -1,8 +1,8 @@
 //! The tables of a net, read back from the clauses of its formula.
 //!
 //! A formula has for each table its rows, that each row implies a literal of the table's signal, and that the
-//! signal's other literal implies some row; behind the tables stands what else is asked. Nothing rests on what
-//! is read here: a formula of another form gives other tables, and then steps that no checker accepts.
+//! signal's other literal implies some row; behind the tables stands what else is asked. Nothing rests on
+//! what is read here: a formula of another form gives other tables, and then steps that no checker accepts.
 use proof_parts::clause::Lits;
 use std::alloc::{AllocError, Global};
 use std::mem;
@@ -14,8 +14,8 @@ pub(crate) struct Pin {
     pub(crate) id: u64,
 }
 
-/// A row: its variable, its literals, the id of the clause by which they imply it, and the id of the clause by
-/// which it implies the table's literal.
+/// A row: its variable, its literals, the id of the clause by which they imply it, and the id of the clause
+/// by which it implies the table's literal.
 #[derive(Drop)]
 pub(crate) struct RowForm {
     pub(crate) variable: u32,

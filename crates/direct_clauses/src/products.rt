@@ -1,4 +1,5 @@
-//! Which clauses say that a table's literal needs some row: one literal of each row, in all ways, without those
+//! Which clauses say that a table's literal needs some row: one literal of each row, in all ways, without
+//! those
 //! that say nothing, or no more than another one.
 use crate::equal_signals::Links;
 use crate::forms::RowForm;

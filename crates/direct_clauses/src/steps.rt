@@ -7,8 +7,8 @@ use proof_parts::cnf::Cnf;
 use proof_parts::log::{Ids, Item, Log, Step};
 use std::alloc::{AllocError, Global};
 
-/// A formula, the log behind which steps are made, the signals that it shows to be equal, these steps, the last
-/// id, what is known while hints are found, and the ids of the clauses that a search is to read.
+/// A formula, the log behind which steps are made, the signals that it shows to be equal, these steps, the
+/// last id, what is known while hints are found, and the ids of the clauses that a search is to read.
 #[derive(Drop)]
 pub(crate) struct Maker<'a> {
     pub(crate) alloc: Global,

@@ -1,10 +1,13 @@
 use Rattle.std.proofs.Common.{arith}
-use Rattle.cdcl_core.proofs.Renaming.{open_first}
 use Rattle.cdcl_core.proofs.Rounds.{next_model, next_refuted, next_open}
 use Rattle.cdcl_core.proofs.forgetting.solve_forgetting.Goals as goal
 
 pub rounds-init : goal.rounds-init
-rounds-init g c = record { behind = open_first c.args.cnf.now c.args.derived c.requires.derived; within = omega arith; some = omega arith }
+rounds-init g c = record {
+  behind = record { begins = c.in_ok-direct.ensures.begins; derivation = c.in_ok-direct.ensures.derivation };
+  within = omega arith;
+  some = omega arith;
+}
 
 pub returns-in-Model : goal.returns-in-Model
 returns-in-Model g c = next_model c.args.cnf.now c.rounds.whole c.in-Model.bits _ c.in_ok-bits.ensures c.in-Model.is

@@ -1,12 +1,12 @@
 use Rattle.std.proofs.Common.{◌<◌, ◌^◌, ℕ, List, length, subst, sym, arith}
 use Rattle.proof_semantics.specs.Clauses.{AreClausesOf}
 use Rattle.proof_semantics.specs.Formula.{Formula}
-use Rattle.proof_semantics.specs.Conflicts.{added_clauses}
-use Rattle.cdcl_core.proofs.Named.{round_literals}
+use Rattle.proof_semantics.specs.Conflicts.{clauses_with}
+use Rattle.cdcl_core.proofs.Named.{round_literals, none_named}
 use Rattle.cdcl_core.proofs.kept_clauses.round_of.Goals as goal
 
 pub push_with_ids-requires-clause-named : goal.push_with_ids-requires-clause-named
-push_with_ids-requires-clause-named c = ?
+push_with_ids-requires-clause-named c = rw (c.new.ensures, c.new-2.ensures) (none_named (clauses_with c.args.cnf.now.clauses c.args.whole.now))
 
 pub new-formula-requires : goal.new-formula-requires
 new-formula-requires c = record {
