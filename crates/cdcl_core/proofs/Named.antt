@@ -1,23 +1,18 @@
 -- Clauses of a round, under the ids that they have in the whole.
-use Rattle.std.proofs.Common.{◌≡◌, ℕ, zero, suc, ◌+◌, ◌-◌, ◌<◌, Bool, true, false, ◌&&◌, List, [], ◌∷◌, ◌++◌, take, drop, length, get_or, refl, ap, subst, sym, ◌∙◌, inl, inr, arith, length-append}
+use Rattle.std.proofs.Common.{◌≡◌, ℕ, zero, suc, ◌+◌, ◌-◌, ◌<◌, List, [], ◌∷◌, ◌++◌, length, get_or, refl, ap, subst, sym, ◌∙◌, inl, inr, arith, length-append}
 use Rattle.std.specs.Prelude.{All, Option, Some, IfSome}
 use Rattle.std.specs.Borrow.{Bor}
 use Rattle.std.proofs.lemmas.Bool.{cases_lt}
-use Rattle.std.proofs.lemmas.List.{take-append-drop, take-append-le, length-take}
 use Rattle.std.proofs.lemmas.List.Elements.{All-append, All-get_or, All-from_get_or}
-use Rattle.std.proofs.lemmas.List.Folds.{list_all-append}
-use Rattle.std.specs.List.{list_all}
 use Rattle.std.proofs.Math.ListN.{get_or-append}
 use Rattle.std.proofs.Math.Seq.{get_or-append_seam}
 use Rattle.proof_semantics.specs.declared.item.Item.TheVariants.{Add, Remove}
-use Rattle.proof_semantics.specs.Clauses.{Clause, IsLiteralOf, AreClausesOf, Satisfies, clause_value}
+use Rattle.proof_semantics.specs.Clauses.{Clause, IsLiteralOf, AreClausesOf}
 use Rattle.proof_semantics.specs.Formula.{Formula}
-use Rattle.proof_semantics.specs.Variables.{by_place}
 use Rattle.proof_semantics.specs.Logs.{StepValue, LogItem, AddsInTurn, IsDerivation}
 use Rattle.proof_semantics.specs.Conflicts.{clause_at, added_clauses, clauses_with}
 use Rattle.proof_semantics.proofs.Conflicts.{length-added}
-use Rattle.cdcl_core.specs.Answers.{IsModel}
-use Rattle.cdcl_core.specs.Rounds.{HasId, AreNamed, IsRound}
+use Rattle.cdcl_core.specs.Rounds.{HasId, AreNamed}
 use Rattle.cdcl_core.proofs.Searching.{added-literals}
 
 pub has_wider : (whole more : List Clause) (C : Clause) (id : ℕ) → HasId whole C id → HasId (whole ++ more) C id

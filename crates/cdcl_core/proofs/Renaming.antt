@@ -1,5 +1,5 @@
 -- The steps of a round derive under the ids of the whole log.
-use Rattle.std.proofs.Common.{◌≡◌, ℕ, zero, suc, ◌+◌, ◌-◌, ◌^◌, ◌<◌, ◌≤◌, Bool, cond, List, [], ◌∷◌, ◌++◌, map}
+use Rattle.std.proofs.Common.{◌≡◌, ℕ, zero, suc, ◌+◌, ◌-◌, ◌^◌, ◌<◌, ◌≤◌, cond, List, [], ◌∷◌, ◌++◌, map}
 use Rattle.std.proofs.Common.{take, length, get_or, refl, ap, subst, sym, ◌∙◌, inl, inr, arith, length-append, append_assoc, Option, None, Some}
 use Rattle.std.specs.Prelude.{◌⊎◌}
 use Rattle.std.specs.Cmp.{nat_cmp_total, unsigned_tied}
@@ -20,12 +20,12 @@ use Rattle.proof_semantics.specs.Conflicts.{clause_at, added_clauses, clauses_wi
 use Rattle.proof_semantics.specs.ConflictLaws.{IsNextStep}
 use Rattle.proof_semantics.proofs.Conflicts.{derivation_law, length-added, clauses_with-pushed}
 use Rattle.proof_semantics.proofs.HeldClauses.{held_of-at, held_of-push}
-use Rattle.cdcl_core.specs.Answers.{IsModel, IsRefutation, IsSpent, IsAnswer}
+use Rattle.cdcl_core.specs.Answers.{IsRefutation, IsSpent, IsAnswer}
 use Rattle.cdcl_core.specs.Searched.{Begins}
 use Rattle.cdcl_core.specs.Outcomes.{IsOpenBehind, IsRefutationBehind}
 use Rattle.cdcl_core.specs.Rounds.{HasId, IsRound, HasNextIds, IsLogWithin, IsAnswerWithin, whole_id, renamed}
 use Rattle.cdcl_core.specs.declared.answer.Answer.{Answer}
-use Rattle.cdcl_core.specs.declared.answer.Answer.TheVariants.{Model, Refuted, Spent}
+use Rattle.cdcl_core.specs.declared.answer.Answer.TheVariants.{Refuted, Spent}
 use Rattle.cdcl_core.proofs.Named.{has_wider, has_last}
 
 -- ---- what is held has its id

@@ -90,29 +90,31 @@ struct Memory {
     kept: Vec<Kept>,
 }
 
-/// The memory before the first round. A round begins with the clauses that have the ids `base`, or with those
-/// of the formula where there are none.
+/// The memory before the first round, behind the first `count` steps, which were learned. A round begins with
+/// the clauses that have the ids `base`, or with those of the formula where there are none.
 fn first_memory(
     alloc: Global,
     cnf: &Cnf,
     derived: &Log,
+    count: usize,
     guide: &Guide,
     base: Ids,
 ) -> Result<Memory, AllocError>
-    requires { IsDerivation cnf.now derived.now }
+    requires derivation { IsDerivation cnf.now derived.now }
+    requires count { count ≤ length derived.now }
 {
     let pace = Pace::new(alloc, 0, guide.signals > 0);
     if base.len() == 0 {
         let mut base = base;
         push_next_ids(&mut base, 1, cnf.clauses().len() as u64)?;
-        let kept = first_kept(alloc, cnf, derived)?;
+        let kept = first_kept(alloc, cnf, derived, count, None)?;
         let habits = Habits { order: None, pace };
         return Ok(Memory { habits, base, kept });
     }
     let read = read_variables(alloc, cnf, derived, base.as_slice(), guide.signals)?;
     let order = Some(Order::of_read(alloc, cnf.vars(), &read)?);
     let habits = Habits { order, pace };
-    let kept = Vec::new(alloc);
+    let kept = first_kept(alloc, cnf, derived, count, Some(&read))?;
     Ok(Memory { habits, base, kept })
 }
 
@@ -276,9 +278,10 @@ pub fn solve_forgetting<P: Progress>(
     ensures { IfOk result (IsOutcome cnf.now derived) }
 {
     let guide = guide_without_pairs(alloc, guide)?;
+    let count = derived.len();
     let direct = direct_clauses(alloc, cnf, derived, guide.order.as_slice(), guide.signals)?;
     let mut whole = direct.log;
-    let mut memory = first_memory(alloc, cnf, &whole, &guide, direct.base)?;
+    let mut memory = first_memory(alloc, cnf, &whole, count, &guide, direct.base)?;
     let mut spent = 0;
     let mut most = FIRST_ROUND;
     'rounds: while spent < limit {

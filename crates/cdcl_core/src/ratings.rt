@@ -4,6 +4,7 @@
 //! clause of some levels stays for two rounds behind the last one in which it was a hint, any other for one.
 //! Of those that are then left the better half stays: that of fewer levels, and of fewer literals. Source:
 //! the levels of Glucose, and the tiers of CaDiCaL; here a clause is used where it is a hint.
+ghost use Rattle.std.specs.Prelude.{◌≤◌, length};
 ghost use Rattle.proof_semantics.specs.Logs.{IsDerivation};
 
 use crate::kept_clauses::step_clause;
@@ -171,30 +172,63 @@ pub fn kept_after(
     kept_of(alloc, cnf, whole, &clauses)
 }
 
-/// The learned clauses that the first round keeps, of those that a log adds. Nothing is known of their
-/// levels: so many as a clause has literals are taken. The last steps count as the last round.
-pub fn first_kept(alloc: Global, cnf: &Cnf, derived: &Log) -> Result<Vec<Kept>, AllocError>
-    requires { IsDerivation cnf.now derived.now }
+/// Whether each variable of a clause is read.
+fn is_read(read: &[bool], literals: &[i32]) -> bool {
+    for literal in literals {
+        let at = literal.unsigned_abs() as usize;
+        if at >= read.len() || !read[at] {
+            return false;
+        }
+    }
+    true
+}
+
+/// Whether a step was learned behind direct clauses: its last hint is then no clause of the formula.
+fn is_behind(first: usize, item: &Item) -> bool {
+    match item {
+        Item::Add(step) => match step.hints().as_slice().last() {
+            Some(hint) => *hint > first as u64,
+            None => false,
+        },
+        Item::Remove(_) => false,
+    }
+}
+
+/// The learned clauses that the first round keeps, of those that the first `count` items of a log add: where
+/// some variables are not read, those alone whose variables are, and which were learned behind direct
+/// clauses. Nothing is known of their levels: so many as a clause has literals are taken. The last steps
+/// count as the last round.
+pub fn first_kept(
+    alloc: Global,
+    cnf: &Cnf,
+    derived: &Log,
+    count: usize,
+    read: Option<&[bool]>,
+) -> Result<Vec<Kept>, AllocError>
+    requires derivation { IsDerivation cnf.now derived.now }
+    requires count { count ≤ length derived.now }
 {
     let first = cnf.clauses().len();
-    let count = derived.len();
     let from = count.saturating_sub(LAST_STEPS);
-    let used = used_in(
-        alloc,
-        first.saturating_add(count),
-        &derived.as_slice()[from..],
-    )?;
+    let items = derived.as_slice();
+    let used = used_in(alloc, first.saturating_add(count), &items[from..count])?;
     let mut clauses = Vec::new(alloc);
     for i in 0..count {
         let id = (first as u64).saturating_add(i as u64).saturating_add(1);
         if let Some(lits) = step_clause(cnf, derived, id) {
+            let stays = match read {
+                Some(read) => is_read(read, lits.as_slice()) && is_behind(first, &items[i]),
+                None => true,
+            };
             let place = first.saturating_add(i);
             let is_late = from <= i || place < used.len() && used[place];
-            clauses.push(Kept {
-                id,
-                levels: u32::try_from(lits.len()).unwrap_or(u32::MAX),
-                lately: if is_late { LATELY } else { 0 },
-            })?;
+            if stays {
+                clauses.push(Kept {
+                    id,
+                    levels: u32::try_from(lits.len()).unwrap_or(u32::MAX),
+                    lately: if is_late { LATELY } else { 0 },
+                })?;
+            }
         }
     }
     kept_of(alloc, cnf, derived, &clauses)

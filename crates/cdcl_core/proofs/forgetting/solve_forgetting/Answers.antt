@@ -1,4 +1,5 @@
-use Rattle.std.proofs.Common.{arith}
+use Rattle.std.proofs.Common.{length, ap, arith}
+use Rattle.std.proofs.lemmas.List.{length-take}
 use Rattle.cdcl_core.proofs.Rounds.{next_model, next_refuted, next_open}
 use Rattle.cdcl_core.proofs.forgetting.solve_forgetting.Goals as goal
 
@@ -21,3 +22,8 @@ rounds-preserved g c = record {
   within = omega arith;
   some = omega arith;
 }
+
+pub first_memory-requires-clause-count : goal.first_memory-requires-clause-count
+first_memory-requires-clause-count g c =
+    let same = ap length c.in_ok-direct.ensures.begins in
+    omega (arith, same, length-take (length c.args.derived) c.in_ok-direct.direct.log)
