@@ -1,23 +1,18 @@
 -- Clauses of a round, under the ids that they have in the whole.
-use Rattle.std.proofs.Common.{◌≡◌, ℕ, zero, suc, ◌+◌, ◌-◌, ◌<◌, Bool, true, false, ◌&&◌, List, [], ◌∷◌, ◌++◌, take, drop, length, get_or, refl, ap, subst, sym, ◌∙◌, inl, inr, arith, length-append}
+use Rattle.std.proofs.Common.{◌≡◌, ℕ, zero, suc, ◌+◌, ◌-◌, ◌<◌, List, [], ◌∷◌, ◌++◌, length, get_or, refl, ap, subst, sym, ◌∙◌, inl, inr, arith, length-append}
 use Rattle.std.specs.Prelude.{All, Option, Some, IfSome}
 use Rattle.std.specs.Borrow.{Bor}
 use Rattle.std.proofs.lemmas.Bool.{cases_lt}
-use Rattle.std.proofs.lemmas.List.{take-append-drop, take-append-le, length-take}
 use Rattle.std.proofs.lemmas.List.Elements.{All-append, All-get_or, All-from_get_or}
-use Rattle.std.proofs.lemmas.List.Folds.{list_all-append}
-use Rattle.std.specs.List.{list_all}
 use Rattle.std.proofs.Math.ListN.{get_or-append}
 use Rattle.std.proofs.Math.Seq.{get_or-append_seam}
 use Rattle.proof_semantics.specs.declared.item.Item.TheVariants.{Add, Remove}
-use Rattle.proof_semantics.specs.Clauses.{Clause, IsLiteralOf, AreClausesOf, Satisfies, clause_value}
+use Rattle.proof_semantics.specs.Clauses.{Clause, IsLiteralOf, AreClausesOf}
 use Rattle.proof_semantics.specs.Formula.{Formula}
-use Rattle.proof_semantics.specs.Variables.{by_place}
 use Rattle.proof_semantics.specs.Logs.{StepValue, LogItem, AddsInTurn, IsDerivation}
 use Rattle.proof_semantics.specs.Conflicts.{clause_at, added_clauses, clauses_with}
 use Rattle.proof_semantics.proofs.Conflicts.{length-added}
-use Rattle.cdcl_core.specs.Answers.{IsModel}
-use Rattle.cdcl_core.specs.Rounds.{HasId, AreNamed, IsRound}
+use Rattle.cdcl_core.specs.Rounds.{HasId, AreNamed}
 use Rattle.cdcl_core.proofs.Searching.{added-literals}
 
 pub has_wider : (whole more : List Clause) (C : Clause) (id : ℕ) → HasId whole C id → HasId (whole ++ more) C id
@@ -76,12 +71,6 @@ named_pushed_as whole round longer ids more C id h new clauses names = rw (claus
 pub found_has_id : (whole : List Clause) (found : Option (Bor Clause)) (lits : Bor Clause) (id : ℕ) → IfSome found (λ x. HasId whole x.now id) → found ≡ Some lits → HasId whole lits.now id
 found_has_id whole found lits id h is = subst (λ o. IfSome o (λ x. HasId whole x.now id)) is h
 
--- one clause more does not change the first ones
-pub begins_pushed : (xs old new : List Clause) (C : Clause) → take (length xs) old ≡ xs → new ≡ old ++ C ∷ [] → take (length xs) new ≡ xs
-begins_pushed xs old new C h e =
-    let count = ap length h in
-    rw e (take-append-le (length xs) old (C ∷ []) (omega (arith, count, length-take (length xs) old)) ∙ h)
-
 -- ---- clauses of the whole log
 
 added_at : (variables last : ℕ) (log : List LogItem) (place : ℕ) (s : StepValue) → AddsInTurn variables last log → place < length log → get_or log place (Add s) ≡ Add s
@@ -120,20 +109,12 @@ round_literals f whole round ids literals derivation h =
     let inside = named.within in
     subst (All (IsLiteralOf f.variables)) named.is (All-get_or (All (IsLiteralOf f.variables)) (clauses_with f.clauses whole) (id - 1) [] (omega arith) all))
 
-first_true : (a b : Bool) → (a && b) ≡ true → a ≡ true
-first_true true b e = refl
-first_true false b e = e
+-- a clause of the formula
+pub formula_has_id : (f : Formula) (whole : List LogItem) (C : Clause) (place id : ℕ) → place < length f.clauses → C ≡ clause_at f.clauses place → id ≡ place + 1
+    → HasId (clauses_with f.clauses whole) C id
+formula_has_id f whole C place id within is e =
+    has_wider f.clauses (added_clauses whole) C id (has_at f.clauses C place id within (sym is) e)
 
--- a model of a round's formula is one of the formula
-pub round_model : (f round : Formula) (whole : List LogItem) (ids : List ℕ) (bits : List Bool) → IsRound f whole round ids → IsModel round bits → IsModel f bits
-round_model f round whole ids bits h m =
-    let a : ℕ → Bool = by_place (λ place. get_or bits place false) in
-    let parts : take (length f.clauses) round.clauses ++ drop (length f.clauses) round.clauses ≡ round.clauses = take-append-drop (length f.clauses) round.clauses in
-    let split : Satisfies a (f.clauses ++ drop (length f.clauses) round.clauses) =
-    subst (λ first. Satisfies a (first ++ drop (length f.clauses) round.clauses)) h.begins (subst (Satisfies a) (sym parts) m.satisfies) in
-    record {
-      width = m.width ∙ h.variables;
-      satisfies =
-          first_true (list_all (clause_value a) f.clauses) (list_all (clause_value a) (drop (length f.clauses) round.clauses))
-          (sym (list_all-append (clause_value a) f.clauses (drop (length f.clauses) round.clauses)) ∙ split);
-    }
+-- nothing is named
+pub none_named : (whole : List Clause) → AreNamed whole [] []
+none_named whole = record { count = refl; each = λ k within. absurd (omega (arith, within)) }

@@ -1,5 +1,5 @@
 -- The steps of a round derive under the ids of the whole log.
-use Rattle.std.proofs.Common.{◌≡◌, ℕ, zero, suc, ◌+◌, ◌-◌, ◌^◌, ◌<◌, ◌≤◌, Bool, cond, List, [], ◌∷◌, ◌++◌, map}
+use Rattle.std.proofs.Common.{◌≡◌, ℕ, zero, suc, ◌+◌, ◌-◌, ◌^◌, ◌<◌, ◌≤◌, cond, List, [], ◌∷◌, ◌++◌, map}
 use Rattle.std.proofs.Common.{take, length, get_or, refl, ap, subst, sym, ◌∙◌, inl, inr, arith, length-append, append_assoc, Option, None, Some}
 use Rattle.std.specs.Prelude.{◌⊎◌}
 use Rattle.std.specs.Cmp.{nat_cmp_total, unsigned_tied}
@@ -20,13 +20,13 @@ use Rattle.proof_semantics.specs.Conflicts.{clause_at, added_clauses, clauses_wi
 use Rattle.proof_semantics.specs.ConflictLaws.{IsNextStep}
 use Rattle.proof_semantics.proofs.Conflicts.{derivation_law, length-added, clauses_with-pushed}
 use Rattle.proof_semantics.proofs.HeldClauses.{held_of-at, held_of-push}
-use Rattle.cdcl_core.specs.Answers.{IsModel, IsRefutation, IsSpent, IsAnswer}
+use Rattle.cdcl_core.specs.Answers.{IsRefutation, IsSpent, IsAnswer}
 use Rattle.cdcl_core.specs.Searched.{Begins}
 use Rattle.cdcl_core.specs.Outcomes.{IsOpenBehind, IsRefutationBehind}
-use Rattle.cdcl_core.specs.Rounds.{HasId, IsRound, HasNextIds, IsAnswerWithin, whole_id, renamed}
+use Rattle.cdcl_core.specs.Rounds.{HasId, IsRound, HasNextIds, IsLogWithin, IsAnswerWithin, whole_id, renamed}
 use Rattle.cdcl_core.specs.declared.answer.Answer.{Answer}
-use Rattle.cdcl_core.specs.declared.answer.Answer.TheVariants.{Model, Refuted, Spent}
-use Rattle.cdcl_core.proofs.Named.{has_wider, has_last, round_model}
+use Rattle.cdcl_core.specs.declared.answer.Answer.TheVariants.{Refuted, Spent}
+use Rattle.cdcl_core.proofs.Named.{has_wider, has_last}
 
 -- ---- what is held has its id
 
@@ -192,11 +192,6 @@ round_refuted f round whole new log ids h r is = record {
 
 -- ---- what a round's answer shows
 
--- a log of the round for whose steps the whole log has room
-pub record IsLogWithin (f : Formula) (whole : List LogItem) (round : Formula) (log : List LogItem) : Type 0 where
-  pub steps : IsDerivation round log
-  pub room : length f.clauses + length whole + length log < 2 ^ 63
-
 pub within_refuted : (f round : Formula) (whole log : List LogItem) (answer : Answer) → IsAnswerWithin f whole round answer → answer ≡ Refuted log → IsLogWithin f whole round log
 within_refuted f round whole log answer h is =
     let right : IsRefutation round [] log h.conflicts = subst (IsAnswer round [] h.conflicts) is h.right in
@@ -220,12 +215,6 @@ pub refuted_behind : (f round : Formula) (whole new log : List LogItem) (ids : L
 refuted_behind f round whole new log ids answer h kind open_behind is =
     let right : IsRefutation round [] log h.conflicts = subst (IsAnswer round [] h.conflicts) kind h.right in
     round_refuted f round whole new log ids open_behind right.refutes is
-
-pub model_behind : (f round : Formula) (whole : List LogItem) (ids : List ℕ) (bits : List Bool) (answer : Answer) → IsRound f whole round ids → IsAnswerWithin f whole round answer
-    → answer ≡ Model bits → IsModel f bits
-model_behind f round whole ids bits answer r h is =
-    let right : IsModel round bits = subst (IsAnswer round [] h.conflicts) is h.right in
-    round_model f round whole ids bits r right
 
 -- ---- rounds behind rounds
 

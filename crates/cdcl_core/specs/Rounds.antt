@@ -4,7 +4,7 @@ use Rattle.std.specs.Prelude.{◌≡◌, ℕ, ◌+◌, ◌-◌, ◌^◌, ◌<◌
 use Rattle.proof_semantics.specs.declared.item.Item.TheVariants.{Add, Remove}
 use Rattle.proof_semantics.specs.Clauses.{Clause}
 use Rattle.proof_semantics.specs.Formula.{Formula}
-use Rattle.proof_semantics.specs.Logs.{LogItem}
+use Rattle.proof_semantics.specs.Logs.{LogItem, IsDerivation}
 use Rattle.proof_semantics.specs.Conflicts.{clause_at, clauses_with}
 use Rattle.cdcl_core.specs.Answers.{IsAnswer}
 use Rattle.cdcl_core.specs.declared.answer.Answer.{Answer}
@@ -20,10 +20,9 @@ pub record AreNamed (whole round : List Clause) (ids : List ℕ) : Type 0 where
   pub count : length ids ≡ length round
   pub each : (k : ℕ) → k < length round → HasId whole (clause_at round k) (slice_index_or ids k 0)
 
--- the clauses of the formula come first, and the kept ones are among those that the whole log adds
+-- the clauses of the round are among those of the formula and those that the whole log adds
 pub record IsRound (f : Formula) (whole : List LogItem) (round : Formula) (ids : List ℕ) : Type 0 where
   pub variables : round.variables ≡ f.variables
-  pub begins : take (length f.clauses) round.clauses ≡ f.clauses
   pub named : AreNamed (clauses_with f.clauses whole) round.clauses ids
 
 -- `more` ids from `next` on stand behind the old ones
@@ -44,6 +43,12 @@ renamed ids (Add s) = Add (record {
   hints = map (whole_id ids) s.hints;
 })
 renamed ids (Remove removed) = Remove (map (whole_id ids) removed)
+
+-- a log of the round, for whose steps the whole log has room
+pub record IsLogWithin (f : Formula) (whole : List LogItem) (round : Formula)
+    (log : List LogItem) : Type 0 where
+  pub steps : IsDerivation round log
+  pub room : length f.clauses + length whole + length log < 2 ^ 63
 
 -- the answer of a round within a number of conflicts, for whose steps the whole log has room
 pub record IsAnswerWithin (f : Formula) (whole : List LogItem) (round : Formula)

@@ -17,6 +17,7 @@
 ghost use Rattle.std.specs.Prelude.{◌≡◌, ◌<◌, ◌≤◌, ◌^◌, IfOk};
 ghost use Rattle.proof_semantics.specs.Clauses.{IsLiteralOf};
 
+use crate::guide::Guide;
 use crate::literal::Literal;
 use crate::ring::Ring;
 use std::alloc::{AllocError, Global};
@@ -69,12 +70,86 @@ impl Order {
         } else {
             signals.min(variables)
         };
+        Order::of_first(alloc, variables, last, signals > 0)
+    }
+
+    /// The first `last` of the variables, the last one before the others; each has the last value true.
+    fn of_first(
+        alloc: Global,
+        variables: u32,
+        last: u32,
+        keeps_order: bool,
+    ) -> Result<Order, AllocError>
+        requires variables { variables < 2 ^ 31 }
+        requires last { last ≤ variables }
+        ensures { IfOk result (λ order. order ≡ variables) }
+    {
         Ok(Order {
             ring: Ring::new(alloc, last)?,
             values: vec![in alloc; true; variables as usize + 1]?,
             noted: Vec::new(alloc),
-            keeps_order: signals > 0,
+            keeps_order,
         })
+    }
+
+    /// The order in which the inputs come first, and each variable has its value in `values` as the last one.
+    pub fn with_values(
+        alloc: Global,
+        variables: u32,
+        guide: &Guide,
+        values: &[bool],
+    ) -> Result<Order, AllocError>
+        requires { variables < 2 ^ 31 }
+        ensures { IfOk result (λ order. order ≡ variables) }
+    {
+        let mut order = Order::new(alloc, variables, guide.signals)?;
+        for v in 0..variables.min(guide.inputs) {
+            order.bring(Literal::of(v + 1, true));
+        }
+        for (place, value) in values.iter().enumerate() {
+            order.set_value(place, *value);
+        }
+        order.rewind();
+        Ok(order)
+    }
+
+    /// The order in which the variables that are read come first, the last of them before the others.
+    pub fn of_read(alloc: Global, variables: u32, read: &[bool]) -> Result<Order, AllocError>
+        requires { variables < 2 ^ 31 }
+        ensures { IfOk result (λ order. order ≡ variables) }
+    {
+        let mut order = Order::of_first(alloc, variables, variables, true)?;
+        for v in 0..variables {
+            let at = v as usize + 1;
+            if at < read.len() && read[at] {
+                order.bring(Literal::of(v + 1, true));
+            }
+        }
+        order.rewind();
+        Ok(order)
+    }
+
+    /// Notes a value as the last one of the variable behind a place.
+    fn set_value(&mut self, place: usize, value: bool)
+        ensures { self.new ≡ self.old }
+    {
+        if place < self.values.len() - 1 {
+            self.values[place + 1] = value;
+        }
+    }
+
+    /// How many variables there are.
+    pub fn variables(&self) -> usize
+        ensures { result ≡ self.now }
+    {
+        self.values.len() - 1
+    }
+
+    /// Lets the search for an open variable begin at the front.
+    pub fn rewind(&mut self)
+        ensures { self.new ≡ self.old }
+    {
+        self.ring.rewind();
     }
 
     /// Where the search for an open variable begins, or 0 where there is none.

@@ -3,7 +3,7 @@
 //! The search goes back to the greatest level among the other literals of the learned clause. There these are
 //! all false, and the clause's literal of the conflict's level follows. No level between is worth keeping:
 //! the clause would force that literal already there. Source: the jump of GRASP and Chaff.
-ghost use Rattle.std.specs.Prelude.{◌≡◌, ◌⊎◌, ◌<◌, [], ◌∷◌, ◌++◌, length, neg_ℤ, All, OnOk, OnErr};
+ghost use Rattle.std.specs.Prelude.{◌≡◌, ◌⊎◌, ◌<◌, ◌^◌, [], ◌∷◌, ◌++◌, length, neg_ℤ, All, OnOk, OnErr};
 ghost use Rattle.proof_semantics.specs.Clauses.{IsLiteralOf};
 ghost use Rattle.cdcl_core.specs.Trail.{literal_at, IsTrueBelow, IsLearned, AreLevels};
 ghost use Rattle.cdcl_core.specs.Watching.{IsWatching, IsWatchedBelow};
@@ -82,6 +82,17 @@ fn open_from(order: &mut Order, trail: &Trail, from: usize)
     trail.consistent();
     for i in from..trail.len() {
         order.open(trail.literal(i));
+    }
+}
+
+/// Notes that no variable has a value any more, where the order is one of the trail's variables.
+pub fn reopen(order: &mut Order, trail: &Trail)
+    requires { trail.now.variables < 2 ^ 31 }
+    ensures { order.new ≡ order.old }
+{
+    if order.variables() == trail.variables() as usize {
+        open_from(order, trail, 0);
+        order.rewind();
     }
 }
 

@@ -1,4 +1,4 @@
-//! The formula of a round: the clauses of the formula, and those clauses of the whole log that are kept.
+//! The formula of a round: clauses of the formula, and of the whole log.
 ghost use Rattle.std.specs.Prelude.{◌≡◌, ℕ, ◌<◌, ◌^◌, ◌∷◌, ◌++◌, List, [], take, length, IfOk, OnOk, IfSome};
 ghost use Rattle.proof_semantics.specs.Clauses.{Clause};
 ghost use Rattle.proof_semantics.specs.Logs.{IsDerivation};
@@ -36,23 +36,6 @@ fn push_named(alloc: Global, draft: &mut Draft, lits: &Lits, id: u64) -> Result<
     Ok(())
 }
 
-/// The clauses of the formula, under their ids.
-fn formula_clauses(alloc: Global, cnf: &Cnf) -> Result<Draft, AllocError>
-    ensures clauses { IfOk result (λ draft. draft.clauses ≡ cnf.now.clauses) }
-    ensures named { IfOk result (λ draft. (added : List Clause)
-        → AreNamed (cnf.now.clauses ++ added) draft.clauses draft.ids) }
-{
-    let mut draft = Draft {
-        clauses: Items::new(alloc),
-        ids: Items::new(alloc),
-    };
-    let clauses = cnf.clauses().as_slice();
-    for i in 0..clauses.len() {
-        push_named(alloc, &mut draft, &clauses[i], i as u64 + 1)?;
-    }
-    Ok(draft)
-}
-
 /// The clause that a step of the whole log adds under this id; None where no step has the id.
 pub fn step_clause<'a>(cnf: &Cnf, whole: &'a Log, id: u64) -> Option<&'a Lits>
     requires { IsDerivation cnf.now whole.now }
@@ -72,23 +55,38 @@ pub fn step_clause<'a>(cnf: &Cnf, whole: &'a Log, id: u64) -> Option<&'a Lits>
     }
 }
 
-/// Adds the clauses of the whole log that have these ids.
-fn push_kept(
+/// The clause that has this id in the whole log: a clause of the formula, or one that a step adds. None where
+/// no clause has the id.
+pub fn whole_clause<'a>(cnf: &'a Cnf, whole: &'a Log, id: u64) -> Option<&'a Lits>
+    requires { IsDerivation cnf.now whole.now }
+    ensures { IfSome result (λ lits. HasId (clauses_with cnf.now.clauses whole.now) lits.now id) }
+{
+    let clauses = cnf.clauses().as_slice();
+    if id == 0 {
+        return None;
+    }
+    let place = (id - 1) as usize;
+    if place < clauses.len() {
+        return Some(&clauses[place]);
+    }
+    step_clause(cnf, whole, id)
+}
+
+/// Adds the clauses that have these ids in the whole log.
+fn push_with_ids(
     alloc: Global,
     draft: &mut Draft,
     cnf: &Cnf,
     whole: &Log,
-    kept: &[u64],
+    ids: &[u64],
 ) -> Result<(), AllocError>
     requires derivation { IsDerivation cnf.now whole.now }
-    requires begins { take (length cnf.now.clauses) draft.old.clauses ≡ cnf.now.clauses }
     requires named { AreNamed (clauses_with cnf.now.clauses whole.now) draft.old.clauses draft.old.ids }
-    ensures begins { OnOk result (take (length cnf.now.clauses) draft.new.clauses ≡ cnf.now.clauses) }
     ensures named { OnOk result
         (AreNamed (clauses_with cnf.now.clauses whole.now) draft.new.clauses draft.new.ids) }
 {
-    for id in kept {
-        if let Some(lits) = step_clause(cnf, whole, *id) {
+    for id in ids {
+        if let Some(lits) = whole_clause(cnf, whole, *id) {
             push_named(alloc, draft, lits, *id)?;
         }
     }
@@ -102,14 +100,17 @@ fn see_few(ids: &[u64])
     let _count = ids.len();
 }
 
-/// The round over the formula and the clauses of the whole log that have these ids.
-pub fn round_of(alloc: Global, cnf: &Cnf, whole: &Log, kept: &[u64]) -> Result<Round, AllocError>
+/// The round over the clauses that have these ids in the whole log.
+pub fn round_of(alloc: Global, cnf: &Cnf, whole: &Log, ids: &[u64]) -> Result<Round, AllocError>
     requires { IsDerivation cnf.now whole.now }
     ensures round { IfOk result (λ round. IsRound cnf.now whole.now round.formula round.ids) }
     ensures short { IfOk result (λ round. length round.formula.clauses < 2 ^ 63) }
 {
-    let mut draft = formula_clauses(alloc, cnf)?;
-    push_kept(alloc, &mut draft, cnf, whole, kept)?;
+    let mut draft = Draft {
+        clauses: Items::new(alloc),
+        ids: Items::new(alloc),
+    };
+    push_with_ids(alloc, &mut draft, cnf, whole, ids)?;
     see_few(draft.ids.as_slice());
     let Draft { clauses, ids } = draft;
     let formula = Cnf::new(cnf.vars(), clauses);

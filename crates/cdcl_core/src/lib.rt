@@ -17,7 +17,6 @@ mod later_conflicts;
 pub mod laws;
 mod learning;
 mod literal;
-mod log_copy;
 pub mod outcome;
 mod pace;
 mod propagation;

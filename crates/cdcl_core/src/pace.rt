@@ -15,6 +15,8 @@
 //! formulas end sooner without it.
 ghost use Rattle.std.specs.Prelude.{◌<◌, ◌≤◌};
 
+use std::alloc::{AllocError, Global};
+
 /// The most inputs that come to be decided in the order of their numbers.
 const ORDERED_INPUTS: u32 = 16;
 
@@ -38,8 +40,8 @@ const NET_MARGIN: u64 = 105;
 
 const BARE_MARGIN: u64 = 120;
 
-/// The averages, the clauses that were learned, those since the last restart, and the number of inputs where
-/// they are few.
+/// The averages, the clauses that were learned, those since the last restart, the number of inputs where they
+/// are few, and the number of levels of each clause that was learned since these were taken last.
 #[derive(Drop)]
 pub struct Pace {
     fast: u64,
@@ -48,6 +50,7 @@ pub struct Pace {
     since: u64,
     inputs: u32,
     is_net: bool,
+    levels: Vec<u32>,
 }
 
 /// An average with one number more, which is a plain one at the beginning.
@@ -63,7 +66,7 @@ fn average(so_far: u64, levels: u64, learned: u64, shift: u32) -> u64
 
 impl Pace {
     /// Nothing was learned yet. `is_net`: the signals of a net are known.
-    pub fn new(inputs: u32, is_net: bool) -> Pace {
+    pub fn new(alloc: Global, inputs: u32, is_net: bool) -> Pace {
         Pace {
             fast: 0,
             slow: 0,
@@ -71,7 +74,24 @@ impl Pace {
             since: 0,
             inputs: if inputs <= ORDERED_INPUTS { inputs } else { 0 },
             is_net,
+            levels: Vec::new(alloc),
         }
+    }
+
+    /// Lists the number of levels of a clause that was learned.
+    pub fn list(&mut self, levels: u64) -> Result<(), AllocError> {
+        self.levels.push(u32::try_from(levels).unwrap_or(u32::MAX))?;
+        Ok(())
+    }
+
+    /// The numbers of levels that were listed.
+    pub fn levels(&self) -> &[u32] {
+        &self.levels
+    }
+
+    /// Ends the list of levels.
+    pub fn end_list(&mut self) {
+        self.levels.clear();
     }
 
     /// Notes that a clause was learned whose literals stand on `levels` levels of decisions.

@@ -124,6 +124,13 @@ impl Ring {
         self.stamps[number as usize]
     }
 
+    /// Lets the search begin at the front.
+    pub fn rewind(&mut self)
+        ensures { self.new ≡ self.old }
+    {
+        self.search = self.after[0];
+    }
+
     /// Notes that the number has no value any more.
     pub fn open(&mut self, number: u32)
         requires { number < self.old }

@@ -17,12 +17,12 @@ use crate::clause::{push_added, push_all};
 use crate::clause_list::ClauseList;
 use crate::decision::decide;
 use crate::decision_order::Order;
-use crate::log_copy::log_copy;
 use crate::propagation::propagate;
 use crate::step_log::StepLog;
 use crate::trail::Trail;
 use crate::trail_marks::Marks;
 use crate::watches::Watches;
+use direct_clauses::log_copy::log_copy;
 use proof_parts::cnf::Cnf;
 use proof_parts::log::Log;
 use std::alloc::{AllocError, Global};
@@ -50,10 +50,10 @@ fn all_clauses(alloc: Global, cnf: &Cnf, log: &Log) -> Result<ClauseList, AllocE
     Ok(clauses)
 }
 
-/// The search at its start: no variable has a value, and the log is `merged`. The variables up to `signals`
-/// are decided, or all variables where `signals` is 0.
-pub fn start(alloc: Global, cnf: &Cnf, merged: &Log, signals: u32) -> Result<Search, AllocError>
-    requires { IsDerivation cnf.now merged.now }
+/// The search at its start: no variable has a value, and the log is `merged`.
+pub fn start(alloc: Global, cnf: &Cnf, merged: &Log, order: Order) -> Result<Search, AllocError>
+    requires merged { IsDerivation cnf.now merged.now }
+    requires order { order ≡ cnf.now.variables }
     ensures search { IfOk result (IsSearch cnf.now merged.now 0) }
     ensures starts { IfOk result (λ search. search.trail.starts ≡ []) }
     ensures watches { IfOk result (λ search. search.watches ≡ no_watches search.trail.variables) }
@@ -62,7 +62,6 @@ pub fn start(alloc: Global, cnf: &Cnf, merged: &Log, signals: u32) -> Result<Sea
     let clauses = all_clauses(alloc, cnf, merged)?;
     let trail = Trail::new(alloc, variables)?;
     let watches = Watches::new(alloc, variables)?;
-    let order = Order::new(alloc, variables, signals)?;
     let log = StepLog::new(alloc, log_copy(alloc, merged.as_slice())?);
     let marks = Marks::new(alloc);
     let learned = Learned::none(alloc);

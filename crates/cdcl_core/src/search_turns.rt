@@ -131,6 +131,7 @@ fn is_back_due(
     guide: &Guide,
     levels: u64,
 ) -> Result<bool, AllocError> {
+    pace.list(levels)?;
     if sweep.is_on(guide) {
         return sweep.count(guide);
     }

@@ -37,4 +37,4 @@ pub const FEW_CONFLICTS: u64 = 3000;
 /// The most queries of one question, the first among them. The last formulas of common blocks that 10,000
 /// conflicts leave open end within a small multiple of 100,000 conflicts: `bench/SOLVER.md`, 'Questions put
 /// again'.
-pub const MOST_QUERIES: u32 = 16;
+pub const MOST_QUERIES: u64 = 16;

@@ -23,7 +23,8 @@ use semantics::limits::FEW_INPUTS;
 use std::alloc::{AllocError, Global};
 
 /// Makes further queries behind `derived`, until one of them decides the formula, or there were
-/// `MOST_QUERIES` with the one that came before. Tells `progress` what the solver does.
+/// `MOST_QUERIES` with the one that came before: one search that forgets, with the conflicts of all of them.
+/// Tells `progress` what the solver does.
 fn ask_further<P: Progress>(
     alloc: Global,
     question: &Question,
@@ -34,18 +35,10 @@ fn ask_further<P: Progress>(
     requires derived { IsDerivation question.now.joint.formula derived }
     ensures { IfOk result (IsOutcome question.now.joint.formula derived) }
 {
+    progress.asked();
     let formula = &question.joint.formula;
-    let limit = question.aim.limit;
-    let mut log = derived;
-    for _query in 1..MOST_QUERIES {
-        progress.asked();
-        let outcome = solve_forgetting(alloc, formula, log, &question.guide, limit, progress)?;
-        match outcome {
-            Outcome::Open(longer) => log = longer,
-            decided => return Ok(decided),
-        }
-    }
-    Ok(Outcome::Open(log))
+    let conflicts = question.aim.limit.saturating_mul(MOST_QUERIES - 1);
+    solve_forgetting(alloc, formula, derived, &question.guide, conflicts, progress)
 }
 
 /// The first `count` items of a log. They are taken out of it, and not copied.

@@ -1,8 +1,5 @@
-use Rattle.cdcl_core.proofs.Renaming.{within_refuted, within_spent, within_open, refuted_behind, model_behind}
+use Rattle.cdcl_core.proofs.Renaming.{within_refuted, within_spent, within_open, refuted_behind}
 use Rattle.cdcl_core.proofs.forgetting.outcome.Goals as goal
-
-pub returns-in-Model : goal.returns-in-Model
-returns-in-Model c = model_behind c.args.cnf.now c.args.round.formula c.args.whole c.args.round.ids c.in-Model.bits c.args.answer c.requires.round c.requires.answer c.in-Model.is
 
 pub append_round-requires : goal.append_round-requires
 append_round-requires c = (within_refuted c.args.cnf.now c.args.round.formula c.args.whole c.in-Refuted.log c.args.answer c.requires.answer c.in-Refuted.is).room
@@ -15,19 +12,5 @@ returns-in-Refuted c =
     (within_refuted c.args.cnf.now c.args.round.formula c.args.whole c.in-Refuted.log c.args.answer c.requires.answer c.in-Refuted.is) c.in_ok-append_round-in-Refuted.ensures.ids
     c.in_ok-append_round-in-Refuted.ensures.items) c.in_ok-append_round-in-Refuted.ensures.items
 
-pub append_round-requires-in-Spent : goal.append_round-requires-in-Spent
-append_round-requires-in-Spent c = (within_spent c.args.cnf.now c.args.round.formula c.args.whole c.in-Spent.log c.args.answer c.requires.answer c.in-Spent.is).room
-
-pub kept_ids-requires : goal.kept_ids-requires
-kept_ids-requires c =
-    (within_open c.args.cnf.now c.args.round.formula c.args.whole c.append_round-in-Spent.new.whole c.in-Spent.log c.args.round.ids c.append_round-in-Spent.new.ids
-    c.requires.derivation c.requires.round
-    (within_spent c.args.cnf.now c.args.round.formula c.args.whole c.in-Spent.log c.args.answer c.requires.answer c.in-Spent.is) c.in_ok-append_round-in-Spent.ensures.ids
-    c.in_ok-append_round-in-Spent.ensures.items).derivation
-
-pub returns : goal.returns
-returns c =
-    within_open c.args.cnf.now c.args.round.formula c.args.whole c.append_round-in-Spent.new.whole c.in-Spent.log c.args.round.ids c.append_round-in-Spent.new.ids
-    c.requires.derivation c.requires.round
-    (within_spent c.args.cnf.now c.args.round.formula c.args.whole c.in-Spent.log c.args.answer c.requires.answer c.in-Spent.is) c.in_ok-append_round-in-Spent.ensures.ids
-    c.in_ok-append_round-in-Spent.ensures.items
+pub go_on-requires-clause-steps : goal.go_on-requires-clause-steps
+go_on-requires-clause-steps c = within_spent c.args.cnf.now c.args.round.formula c.args.whole c.in-Spent.log c.args.answer c.requires.answer c.in-Spent.is

@@ -1,10 +1,14 @@
-use Rattle.std.proofs.Common.{arith}
-use Rattle.cdcl_core.proofs.Renaming.{open_first}
+use Rattle.std.proofs.Common.{length, ap, arith}
+use Rattle.std.proofs.lemmas.List.{length-take}
 use Rattle.cdcl_core.proofs.Rounds.{next_model, next_refuted, next_open}
 use Rattle.cdcl_core.proofs.forgetting.solve_forgetting.Goals as goal
 
 pub rounds-init : goal.rounds-init
-rounds-init g c = record { behind = open_first c.args.cnf.now c.args.derived c.requires.derived; within = omega arith; some = omega arith }
+rounds-init g c = record {
+  behind = record { begins = c.in_ok-direct.ensures.begins; derivation = c.in_ok-direct.ensures.derivation };
+  within = omega arith;
+  some = omega arith;
+}
 
 pub returns-in-Model : goal.returns-in-Model
 returns-in-Model g c = next_model c.args.cnf.now c.rounds.whole c.in-Model.bits _ c.in_ok-bits.ensures c.in-Model.is
@@ -18,3 +22,8 @@ rounds-preserved g c = record {
   within = omega arith;
   some = omega arith;
 }
+
+pub first_memory-requires-clause-count : goal.first_memory-requires-clause-count
+first_memory-requires-clause-count g c =
+    let same = ap length c.in_ok-direct.ensures.begins in
+    omega (arith, same, length-take (length c.args.derived) c.in_ok-direct.direct.log)

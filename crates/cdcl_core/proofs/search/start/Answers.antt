@@ -10,11 +10,11 @@ returns-clause-search c =
       clauses = c.in_ok-clauses.clauses;
       trail = c.in_ok-trail.trail;
       watches = c.in_ok-watches.watches;
-      order = c.in_ok-order.order;
+      order = c.args.order;
       log = c.new-log.result;
       marks = c.new-marks.result;
       learned = c.none-learned.result;
     })
-    c.vars-variables.ensures.formed.literals c.vars-variables.ensures.formed.few_variables c.requires c.in_ok-clauses.ensures
+    c.vars-variables.ensures.formed.literals c.vars-variables.ensures.formed.few_variables c.requires.merged c.in_ok-clauses.ensures
     (c.in_ok-trail.ensures ∙ ap (λ n. record { variables = n; literals = []; reasons = []; starts = [] }) c.vars-variables.ensures.value)
-    (c.in_ok-order.ensures ∙ c.vars-variables.ensures.value) (ap (λ (l : LogValue). l.items) c.new-log.ensures ∙ c.in_ok-log_copy.ensures ∙ c.as_slice.ensures)
+    c.requires.order (ap (λ (l : LogValue). l.items) c.new-log.ensures ∙ c.in_ok-log_copy.ensures ∙ c.as_slice.ensures)

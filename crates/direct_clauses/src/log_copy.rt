@@ -6,7 +6,8 @@ use proof_parts::clause::Lits;
 use proof_parts::log::{Item, Log, Step};
 use std::alloc::{AllocError, Global};
 
-fn item_copy(alloc: Global, item: &Item) -> Result<Item, AllocError>
+/// An equal item.
+pub(crate) fn item_copy(alloc: Global, item: &Item) -> Result<Item, AllocError>
     ensures { IfOk result (λ copy. copy ≡ item.now) }
 {
     match item {
