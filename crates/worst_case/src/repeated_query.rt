@@ -38,7 +38,14 @@ fn ask_further<P: Progress>(
     progress.asked();
     let formula = &question.joint.formula;
     let conflicts = question.aim.limit.saturating_mul(MOST_QUERIES - 1);
-    solve_forgetting(alloc, formula, derived, &question.guide, conflicts, progress)
+    solve_forgetting(
+        alloc,
+        formula,
+        derived,
+        &question.guide,
+        conflicts,
+        progress,
+    )
 }
 
 /// The first `count` items of a log. They are taken out of it, and not copied.
