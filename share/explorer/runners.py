@@ -31,12 +31,13 @@ class Local:
         self.trial, self.jobs = trial, jobs
 
     def run(self, recipes, is_over, is_at_end):
-        """Pairs of a recipe and its answer, as they come. None is begun when it is over, and none is waited for at the end."""
+        """Pairs of a recipe and its answer, as they come. None is begun when it is over, and none is waited for where those that run
+        are at their end."""
         self.trial.children.open()
         pool = concurrent.futures.ThreadPoolExecutor(self.jobs)
         waiting = {pool.submit(self.performed, recipe): recipe for recipe in recipes}
         try:
-            while waiting and not is_at_end():
+            while waiting and not is_at_end(waiting.values()):
                 if is_over():
                     waiting = {it: recipe for it, recipe in waiting.items() if not it.cancel()}
                 done, _ = concurrent.futures.wait(waiting, PAUSE, concurrent.futures.FIRST_COMPLETED)
@@ -166,6 +167,7 @@ class Slurm(Remote):
     """An array job, which `sbatch --wait` waits for."""
 
     def started(self, file, count):
+        """The process of `sbatch` over a file of so many lines."""
         elements = min(count, MOST_ELEMENTS)
         script = file + ".sbatch"
         text = ('#!/bin/sh\n#SBATCH --array=1-%d\n#SBATCH --output=/dev/null\n'
