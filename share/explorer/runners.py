@@ -11,7 +11,7 @@ import threading
 import time
 
 from explorer import store, streams
-from explorer.children import Ended, end
+from explorer.children import Children, Ended, end
 
 PAUSE = 0.2
 # Seconds that an answer from another machine may take to be seen, behind the end of its job.
@@ -24,18 +24,65 @@ class NoRunner(Exception):
     """A tool that was asked for is missing, or failed."""
 
 
+class Beside:
+    """One thing that is done beside the rounds, which none of them ends, with processes of its own."""
+
+    def __init__(self, trial):
+        self.children = Children()
+        self.trial = trial.beside(self.children)
+        self.pool = concurrent.futures.ThreadPoolExecutor(1)
+        self.asked = None
+
+    def begin(self, performed, *words):
+        """Begins with it."""
+        self.asked = self.pool.submit(performed, *words)
+
+    def runs(self):
+        """Whether it is being done."""
+        return self.asked is not None and not self.asked.done()
+
+    def taken(self):
+        """What came of it, where it has ended and was not taken before; else None."""
+        if self.asked is None or self.runs():
+            return None
+        asked, self.asked = self.asked, None
+        return asked.result()
+
+    def close(self):
+        """Ends it."""
+        self.children.close()
+        self.pool.shutdown(wait=True, cancel_futures=True)
+
+
 class Local:
-    """So many threads, each of which waits for the processes of its try."""
+    """So many threads, each of which waits for the processes of its try. One try may go on beside the rounds."""
 
     def __init__(self, trial, jobs):
         self.trial, self.jobs = trial, jobs
+        self.beside = None
+
+    def begin_beside(self, recipe):
+        """Begins with a try that no round ends."""
+        self.beside = Beside(self.trial)
+        self.beside.begin(performed, self.beside.trial, recipe)
+
+    def taken_beside(self):
+        """The answer of this try, where it has ended and was not taken before; else None."""
+        return self.beside.taken() if self.beside else None
+
+    def close(self):
+        """Ends the try beside the rounds."""
+        if self.beside:
+            self.beside.close()
+            self.beside = None
 
     def run(self, recipes, is_over, is_at_end):
         """Pairs of a recipe and its answer, as they come. None is begun when it is over, and none is waited for where those that run
         are at their end."""
         self.trial.children.open()
-        pool = concurrent.futures.ThreadPoolExecutor(self.jobs)
-        waiting = {pool.submit(self.performed, recipe): recipe for recipe in recipes}
+        jobs = max(1, self.jobs - 1) if self.beside and self.beside.runs() else self.jobs
+        pool = concurrent.futures.ThreadPoolExecutor(jobs)
+        waiting = {pool.submit(performed, self.trial, recipe): recipe for recipe in recipes}
         try:
             while waiting and not is_at_end(waiting.values()):
                 if is_over():
@@ -50,11 +97,13 @@ class Local:
             pool.shutdown(wait=True, cancel_futures=True)
             self.trial.children.open()
 
-    def performed(self, recipe):
-        try:
-            return self.trial.perform(recipe)
-        except Ended:
-            return None
+
+def performed(trial, recipe):
+    """The answer of a try, or None where it was ended."""
+    try:
+        return trial.perform(recipe)
+    except Ended:
+        return None
 
 
 class Remote:
@@ -63,6 +112,9 @@ class Remote:
     def __init__(self, trial, jobs, words, script):
         self.trial, self.jobs, self.words, self.script = trial, jobs, words, script
         self.round = 0
+
+    def close(self):
+        """Each round has ended what it began."""
 
     def run(self, recipes, is_over, _):
         """Pairs of a recipe and its answer, as they come, until it is over."""

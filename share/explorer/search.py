@@ -3,7 +3,7 @@ import collections
 import random
 import time
 
-from explorer import mapper, trial, walk
+from explorer import mapper, runners, trial, walk
 
 # A round goes on from so many of the best results, from one of so many that come next, and from one of so many of the best that
 # IN's writings left; and from so many of each smaller bound.
@@ -18,6 +18,7 @@ FIRST, LATER, LEAST, LONGER = 0.3, 0.2, 4, 4
 # Of more inputs than a walk looks at all vectors of, `refine` may take longer than all walks. It is left out of later rounds where
 # none has ended in the first one, or the quickest took more than this share of a bound's seconds.
 SLOW = 0.1
+PAUSE = 0.2
 
 Try = collections.namedtuple("Try", "number round bound beginning order is_refined answer")
 
@@ -45,7 +46,7 @@ class Search:
         self.planned = 0
         self.rewritings = [*trial.OWN, *(mapper.REWRITINGS if options.abc else ())]
         self.is_stopped = False
-        self.end = self.asked = self.awaited = None
+        self.end = self.asked = self.awaited = self.beside = None
         self.is_large = options.inputs > walk.MOST_INPUTS
 
     # What is tried.
@@ -101,13 +102,42 @@ class Search:
         below = self.handed_on(bound)
         self.round(0, [(self.recipe(bound, self.options.exact, "as it is", "as it is", False), None)])
         first = [(it, None) for it in self.fresh(bound)]
-        # The first try is that of `synth`, which is waited for where it can't take long.
-        self.awaited = None if self.is_large else key_of(first[0][0])
+        # The first try is that of `synth`, which is waited for; where it may take long, beside the rounds.
+        if self.begins_beside(first[0][0]):
+            first = []
+        elif not self.is_large:
+            self.awaited = key_of(first[0][0])
         further = self.onward(bound, below, 0, WAYS) + self.from_built(bound) + first[1:]
         self.round(1, first[:1] + further, FIRST)
         self.awaited = None
         self.rounds(bound)
+        self.wait_beside()
         return self.best(bound)
+
+    def begins_beside(self, recipe):
+        """Whether a try goes on beside the rounds from now on, as long as there are seconds."""
+        if not self.is_large or self.end is None or self.asked is not None or not isinstance(self.runner, runners.Local):
+            return False
+        self.done.add(key_of(recipe))
+        self.planned += 1
+        self.beside = (self.planned, recipe)
+        self.runner.begin_beside(recipe)
+        return True
+
+    def look(self):
+        """Looks after what goes on beside the rounds: whether the run is stopped."""
+        answer = self.beside and self.runner.taken_beside()
+        if answer:
+            (number, recipe), self.beside = self.beside, None
+            self.add(number, 1, recipe, None, answer)
+        return self.tell(self)
+
+    def wait_beside(self):
+        """Waits for the try beside the rounds, as long as there are seconds."""
+        while self.beside and not self.look() and not self.is_over(self.end):
+            time.sleep(PAUSE)
+        self.beside = None
+        self.runner.close()
 
     def handed_on(self, bound):
         """The best few of the two greatest smaller bounds."""
@@ -188,7 +218,7 @@ class Search:
         # A try has the number of its place in the plan, whoever ends first, so that the same words find the same winner.
         numbers = {key_of(recipe): self.planned + at for at, recipe in enumerate(todo, 1)}
         self.planned += len(todo)
-        for recipe, answer in self.runner.run(todo, lambda: self.tell(self) or self.is_over(until), is_at_end):
+        for recipe, answer in self.runner.run(todo, lambda: self.look() or self.is_over(until), is_at_end):
             key = key_of(recipe)
             self.awaited = None if key == self.awaited else self.awaited
             self.add(numbers[key], number, recipe, beginnings[key], answer)

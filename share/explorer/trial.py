@@ -60,6 +60,10 @@ class Trial:
         """The net of a name."""
         return net_of(self.store.net(name))
 
+    def beside(self, children):
+        """The same trial with other processes."""
+        return Trial(self.setting, self.store, children)
+
     def inputs(self):
         """How many inputs IN has."""
         return len(self.net(self.setting["exact"]).inputs)

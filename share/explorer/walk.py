@@ -26,9 +26,8 @@ ATTACKED = 25
 PAIRED, FIRSTS, JOINED, DIFFERING = 60, 8, 30, 40
 # A circuit has at most so many ANDs more than the best so far, and a step that adds one is looked for so often.
 MORE, WORSE = 5, 0.2
-# A walk ends where its steps have gone through so many ANDs, or through so many where it is judged; what else a step does counts
-# as so many.
-WORK, LONG_WORK, STEP = 1000000, 2000000, 300
+# A walk ends where its steps have gone through so many ANDs; what else a step does counts as so many.
+WORK, STEP = 1000000, 300
 
 
 class Walk:
@@ -99,8 +98,7 @@ class Walk:
         """Steps until the work is done; the best circuit."""
         if self.breaks(self.all, {}):
             return self.best
-        most = LONG_WORK if self.is_judged else WORK
-        while self.work < most and self.circuit.nodes:
+        while self.work < WORK and self.circuit.nodes:
             self.work += len(self.circuit.nodes) + STEP
             self.steps += 1
             place = self.random.randrange(len(self.circuit.nodes) + len(self.circuit.outputs))

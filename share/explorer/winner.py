@@ -13,8 +13,9 @@ import tempfile
 import time
 
 from explorer import scratch
-from explorer.children import Children, Ended, Late
-from explorer.trial import Trial, reports
+from explorer.children import Ended, Late
+from explorer.runners import Beside
+from explorer.trial import reports
 
 # The netlist comes last: where it is new, the certificate beside it is new and whole. Were the renaming cut off before, the
 # earlier netlist stands beside files that are not its own; `confirm` trusts none of them, so whichever files stand
@@ -170,24 +171,22 @@ class Ahead:
     """Certifies the best so far while the search goes on, one try at a time."""
 
     def __init__(self, trial, stem, bound):
-        self.children = Children()
-        self.bundle = Bundle(Trial(trial.setting, trial.store, self.children), stem, bound, None, 1, 0)
+        self.beside = Beside(trial)
+        self.bundle = Bundle(self.beside.trial, stem, bound, None, 1, 0)
         self.folder = folder_beside(stem)
-        self.pool = concurrent.futures.ThreadPoolExecutor(1)
-        self.asked, self.seen, self.standing = None, set(), None
+        self.seen, self.standing = set(), None
 
     def look(self, tries):
         """Begins with one of the best, in their order, where none is being certified, and keeps in mind what was."""
-        if self.asked is not None:
-            if not self.asked.done():
-                return
-            self.standing, self.asked = self.asked.result() or self.standing, None
+        if self.beside.runs():
+            return
+        self.standing = self.beside.taken() or self.standing
         for one in tries[:BEST]:
             if self.standing and built(one) == built(self.standing.one):
                 return
             if built(one) not in self.seen:
                 self.seen.add(built(one))
-                self.asked = self.pool.submit(self.certified, one)
+                self.beside.begin(self.certified, one)
                 return
 
     def certified(self, one):
@@ -205,15 +204,13 @@ class Ahead:
 
     def ended(self):
         """Ends what is being certified; the best that stands, or None."""
-        self.children.close()
-        if self.asked is not None:
-            self.standing, self.asked = self.asked.result() or self.standing, None
+        self.beside.close()
+        self.standing = self.beside.taken() or self.standing
         return self.standing
 
     def close(self):
         """Ends all, and takes the folder away."""
-        self.children.close()
-        self.pool.shutdown(wait=True, cancel_futures=True)
+        self.beside.close()
         shutil.rmtree(self.folder, ignore_errors=True)
 
 
