@@ -21,9 +21,10 @@ def limit():
 class Judge:
     """Tells whether the program certifies a circuit, and in `maximum` what it says is the greatest error of the last one."""
 
-    def __init__(self, program, metric, bound, conflicts, exact, ports, made):
-        self.words = [program, "certify", metric, bound, conflicts, exact]
-        self.ports, self.made, self.stem = ports, made, made.removesuffix(".blif") + BUNDLE
+    def __init__(self, words, ports, made):
+        """The words are those of the program without the circuit and the stem; `made` is where a circuit with these ports is put."""
+        self.words, self.ports, self.made = words, ports, made
+        self.stem = made.removesuffix(".blif") + BUNDLE
         self.maximum = None
 
     def __call__(self, found):

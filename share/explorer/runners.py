@@ -77,8 +77,8 @@ class Local:
             self.beside = None
 
     def run(self, recipes, is_over, is_at_end):
-        """Pairs of a recipe and its answer, as they come. None is begun when it is over, and none is waited for where those that run
-        are at their end."""
+        """Pairs of a recipe and its answer, as they come. None is begun when it is over, and none is waited for where those that
+        run are at their end."""
         self.trial.children.open()
         jobs = max(1, self.jobs - 1) if self.beside and self.beside.runs() else self.jobs
         pool = concurrent.futures.ThreadPoolExecutor(jobs)
@@ -116,8 +116,9 @@ class Remote:
     def close(self):
         """Each round has ended what it began."""
 
-    def run(self, recipes, is_over, _):
-        """Pairs of a recipe and its answer, as they come, until it is over."""
+    def run(self, recipes, is_over, is_at_end):
+        """Pairs of a recipe and its answer, as they come, until it is over and those that are left are at their end: which of them
+        run already is not known here."""
         left = {}
         for recipe in recipes:
             asked = self.trial.try_question(recipe)
@@ -134,7 +135,7 @@ class Remote:
         forwarding.start()
         ended = None
         try:
-            while left and not is_over():
+            while left and not (is_over() and is_at_end([recipe for recipe, _ in left.values()])):
                 if ended is None and child.poll() is not None:
                     ended = time.monotonic()
                 for key in list(left):
@@ -241,7 +242,10 @@ class Slurm(Remote):
 
     def stop(self, child, is_done):
         if child.poll() is None and self.number and not is_done:
-            subprocess.run(["scancel", self.number], stdin=subprocess.DEVNULL, check=False)
+            try:
+                subprocess.run(["scancel", self.number], stdin=subprocess.DEVNULL, check=False)
+            except OSError as error:
+                streams.tell("salsa: `scancel %s` can't be run: %s\n" % (self.number, error.strerror))
         super().stop(child, is_done)
 
     def refuse_failure(self, child):

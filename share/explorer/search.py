@@ -15,9 +15,10 @@ PATIENCE = 8
 # The shares of what is left of a bound's seconds in which the first round and a later round may begin tries, or so many seconds
 # where these are more. Those that run then may take as long again, and besides so many times what the first try took.
 FIRST, LATER, LEAST, LONGER = 0.3, 0.2, 4, 4
-# Of more inputs than a walk looks at all vectors of, `refine` may take longer than all walks. It is left out of later rounds where
-# none has ended in the first one, or the quickest took more than this share of a bound's seconds.
+# Of more inputs than a walk looks at all vectors of, `refine` may take longer than all walks. It is left out of rounds until one has
+# ended that took no more than this share of a bound's seconds.
 SLOW = 0.1
+# Seconds between two looks at a try that is waited for.
 PAUSE = 0.2
 
 Try = collections.namedtuple("Try", "number round bound beginning order is_refined answer")
@@ -66,8 +67,11 @@ class Search:
     def walked(self, bound, parent, turn):
         """Tries of walks from what an earlier try is built as. Where a walk is judged, it is not refined."""
         first, net = self.options.seed + WALKS * turn, parent.answer["nets"]["built"]
-        return [self.recipe(bound, net, "%s%d" % (walk.NAME, it), "as it is" if self.is_large else self.order(it), not self.is_large)
-                for it in range(first, first + WALKS)]
+        found = []
+        for it in range(first, first + WALKS):
+            how = ("as it is", False) if self.is_large else (self.order(it), True)
+            found.append(self.recipe(bound, net, "%s%d" % (walk.NAME, it), *how))
+        return found
 
     def from_built(self, bound):
         """Tries of walks from what IN is built as."""
@@ -183,8 +187,9 @@ class Search:
         """Whether walks alone go on, since `refine` takes too much of the seconds."""
         if not self.is_large or self.end is None:
             return False
-        seconds = [it.answer["seconds"] for it in self.tries if it.is_refined and it.bound == str(bound) and not it.answer["number"]]
-        return min(seconds, default=self.options.seconds) > SLOW * self.options.seconds
+        ended = [it.answer["seconds"] for it in self.tries
+                 if it.is_refined and it.bound == str(bound) and not it.answer["number"]]
+        return min(ended, default=self.options.seconds) > SLOW * self.options.seconds
 
     def is_over(self, until):
         """Whether nothing more is to be waited for."""
@@ -194,8 +199,8 @@ class Search:
         return until is not None and self.awaited is None and now > until
 
     def is_at_end(self, until, end):
-        """Of the recipes of the tries that run, whether they are waited for. Of a large netlist walks alone are waited for until the
-        seconds are over, since nothing is left of one that is ended."""
+        """Whether the tries that run are waited for no longer, by their recipes. Of a large netlist walks alone are waited for, until
+        the seconds are over, since nothing is left of one that is ended."""
         if not self.is_large:
             return lambda running: self.is_over(end)
         return lambda running: self.is_over(self.end) or (

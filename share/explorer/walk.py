@@ -49,17 +49,21 @@ class Walk:
         self.trail = [self.circuit]
         self.pace = ATTACKED if self.attack else JUDGED
         self.every, self.wait, self.due = None, self.pace, JUDGED if self.attack else 0
+        self.work = self.steps = 0
+        self.put_vectors(inputs)
+
+    def put_vectors(self, inputs):
+        """Takes the vectors that are looked at, and the few of them."""
         if self.is_judged:
             self.all = self.few = self.sampled(attack.columns_of(inputs, SAMPLED, self.random), SAMPLED)
         else:
             self.all = self.few = self.sampled([errors.column(it, 1 << inputs) for it in range(inputs)], 1 << inputs)
         if self.all.count > FEW:
-            self.few = circuit.Values(0, [0] * inputs, [0] * len(exact.outputs))
+            self.few = circuit.Values(0, [0] * inputs, [0] * len(self.exact.outputs))
             for place in self.random.sample(range(self.all.count), FEW):
                 self.few.add_vector(place, self.all)
         self.all.fill(self.circuit)
         self.few.fill(self.circuit)
-        self.work = self.steps = 0
 
     def at_all(self, found):
         """The values of a circuit at all vectors."""
@@ -110,18 +114,19 @@ class Walk:
                 self.best = self.circuit
             self.wait -= 1
             if self.is_judged and (self.wait <= 0 or not self.circuit.nodes):
-                self.ask()
+                # Where nothing is left, nothing comes later.
+                self.ask(is_last=not self.circuit.nodes)
         return self.judged_last() if self.is_judged else self.best
 
     def ask(self, is_last=False):
         """Asks whether the best is right, at the end and where it is due by the judge, and goes back where it is not."""
-        self.wait = self.pace
-        if self.best is self.trail[0] or (self.best is self.trail[-1] and not is_last):
+        self.wait, is_due = self.pace, is_last or self.steps >= self.due
+        if self.best is self.trail[0] or (self.best is self.trail[-1] and not is_due):
             return
         vectors = self.attack.vectors(self.best) if self.attack else []
         if vectors:
             self.go_back(vectors)
-        elif not is_last and self.steps < self.due:
+        elif not is_due:
             self.trail.append(self.best)
         else:
             is_right, vectors = self.judge(self.best)

@@ -18,17 +18,18 @@ def net_at(path):
         return netlist.net_of(file.read())
 
 
-def judge_of(program, metric, bound, conflicts, exact, ports, made):
+def judge_of(words, ports, made):
     """The program as the judge, where all vectors are too many."""
     if len(ports.inputs) <= walk.JUDGED_INPUTS:
         return None
     from explorer import judging
-    return judging.Judge(program, metric, bound, conflicts, exact, ports, made)
+    return judging.Judge(words, ports, made)
 
 
 def main(metric, bound, seed, program, conflicts, exact, start, made):
+    """Walks, writes what was found, and tells its greatest error."""
     nets = [net_at(it) for it in (exact, start)]
-    judge = judge_of(program, metric, bound, conflicts, exact, nets[0], made)
+    judge = judge_of([program, "certify", metric, bound, conflicts, exact], nets[0], made)
     walked = walk.Walk(*nets, metric, int(bound), int(seed), judge)
     found = walked.run()
     with open(made, "w", encoding="latin-1") as file:
