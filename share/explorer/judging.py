@@ -8,7 +8,7 @@ import subprocess
 from explorer import netlist
 
 # It has so many seconds of a processor: what needs more is taken for wrong.
-SECONDS = 5
+SECONDS = 10
 # What stands behind the name of what is made in the stem of its bundle.
 BUNDLE = "_judged"
 

@@ -43,7 +43,7 @@ class Walk:
         self.is_judged = inputs > MOST_INPUTS
         self.judge, self.attack, self.gain = self.judged_by_all, None, 0
         if inputs > JUDGED_INPUTS:
-            # Steps without gain make a netlist less and less like the exact one, and its certificate dearer.
+            # New ANDs and steps without gain make a netlist less and less like the exact one, and its certificate dearer.
             self.judge, self.attack, self.gain = judge, attack.Attack(exact, metric, bound, self.random), seed % 2
         # What was judged right, and behind it what came later, of which no vector is known that breaks the bound.
         self.trail = [self.circuit]
@@ -210,6 +210,8 @@ class Walk:
         under = [(it, on & ~value) for it, value in literals if not value & off]
         staying = [it for it in literals if it[0] >> 1 not in going]
         yield from ((literal, {}) for literal, rest in over if not rest)
+        if self.gain:
+            return
         yield from joined(first, over[:PAIRED], 0)
         yield from joined(first, under[:PAIRED], 1)
         if most >= 2:
