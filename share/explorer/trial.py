@@ -92,14 +92,15 @@ class Trial:
 
     def program(self, job, files, *words):
         """Runs a job in a folder of its own, in which stand the files: its report, what of `out.blif` or `out` it wrote,
-        and seconds."""
+        seconds, and of a large netlist the bundle of `refine`, which may take as long to certify again."""
         with scratch.folder_with(files) as folder:
             number, said, told, seconds = self.children.run([self.setting["program"], job, *words], folder)
             if number:
                 lines = [it for it in told.split("\n") if it.startswith("salsa: ")] or [told.strip() or "no line"]
                 raise Answered(number if number > 0 else 128 - number, lines[-1].strip())
             made = "out.blif" if job in ("refine", "certify") else "out"
-            return said, scratch.bytes_of(os.path.join(folder, made)), seconds
+            bundle = self.kept_bundle(os.path.join(folder, "out")) if job == "refine" and self.inputs() > walk.MOST_INPUTS else {}
+            return said, scratch.bytes_of(os.path.join(folder, made)), seconds, bundle
 
     def written(self, rewriting, parent, bound):
         """A netlist of the same function, written in another way, or one that a walk within the bound finds; of a walk that was
@@ -166,12 +167,12 @@ class Trial:
         def computed():
             files = {"in.blif": self.exact, "start.blif": self.store.net(start)}
             try:
-                said, net, seconds = self.program("refine", files, *words, "in.blif", "start.blif", "out")
+                said, net, seconds, bundle = self.program("refine", files, *words, "in.blif", "start.blif", "out")
             except Answered as ended:
                 return {"number": ended.number, "line": ended.line, "nets": {}}
             report = reports(said)
             return {"number": 0, "line": "", "nets": {"result": self.store.keep_net(net)}, "maximum": report["maximum"][0],
-                    "minimal": report["minimal"][0], "seconds": round(seconds, 3)}
+                    "minimal": report["minimal"][0], "seconds": round(seconds, 3), "bundle": bundle}
 
         asked["words"] = list(words)
         return self.answer(asked, computed)
