@@ -157,6 +157,18 @@ def beyond(metric, bound, exact, approx, ones):
     return found
 
 
+def greatest(metric, most, exact, approx, ones):
+    """The greatest error, where it is at most so much."""
+    least = 0
+    while least < most:
+        middle = (least + most) // 2
+        if beyond(metric, middle, exact, approx, ones):
+            least = middle + 1
+        else:
+            most = middle
+    return least
+
+
 def number_at(columns, place):
     return sum((it >> place & 1) << at for at, it in enumerate(columns))
 

@@ -4,7 +4,8 @@ here looks at a bound or changes a function, and where one did, the program woul
 import os
 import re
 import shutil
-import tempfile
+
+from explorer import scratch
 
 NAMES = ("berkeley-abc", "abc", "yosys-abc")
 SECONDS = 120
@@ -66,16 +67,11 @@ class Mapper:
 
     def script(self, script, data, library=None):
         """Runs a script over a netlist, `in.blif`: what ABC said, and the bytes of `out.blif`."""
-        with tempfile.TemporaryDirectory(prefix="salsa-explore-") as folder:
-            for name, bytes_of in (("in.blif", data), library or (None, None)):
-                if name:
-                    with open(os.path.join(folder, name), "wb") as file:
-                        file.write(bytes_of)
+        with scratch.folder_with(dict([("in.blif", data), *([library] if library else [])])) as folder:
             words = [self.path, "-q", "read_blif in.blif; %s; write_blif out.blif" % script]
             number, said, told, _ = self.children.run(words, folder, SECONDS)
             try:
-                with open(os.path.join(folder, "out.blif"), "rb") as file:
-                    return said, undated(file.read())
+                return said, undated(scratch.bytes_of(os.path.join(folder, "out.blif")))
             except OSError:
                 lines = (told + said).strip().split("\n")
                 raise Failed("ABC failed (%d) on `%s`: %s" % (number, script, lines[-1])) from None

@@ -80,6 +80,8 @@ def topological(net):
     """The tables so that each stands behind those that it reads, else as the outputs ask for them."""
     by_name = {table.name: table for table in net.tables}
     placed, found = set(), []
+    # A walk along a cycle waits for ever more tables.
+    most = 2 * sum(len(table.pins) + 1 for table in net.tables) + 2
     for root in [*net.outputs, *by_name]:
         todo = [(root, False)]
         while todo:
@@ -92,14 +94,9 @@ def topological(net):
             else:
                 todo.append((name, True))
                 todo += [(pin, False) for pin in reversed(by_name[name].pins) if pin not in placed]
-                refuse_cycle(len(todo), net)
+                if len(todo) > most:
+                    raise NoNetlist("a table depends on itself")
     return found
-
-
-def refuse_cycle(waiting, net):
-    """A walk along a cycle waits for ever more tables."""
-    if waiting > 2 * sum(len(table.pins) + 1 for table in net.tables) + 2:
-        raise NoNetlist("a table depends on itself")
 
 
 def in_order(net, order):

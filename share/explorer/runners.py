@@ -11,7 +11,7 @@ import threading
 import time
 
 from explorer import store, streams
-from explorer.children import Ended, end
+from explorer.children import Children, Ended, end
 
 PAUSE = 0.2
 # Seconds that an answer from another machine may take to be seen, behind the end of its job.
@@ -24,19 +24,67 @@ class NoRunner(Exception):
     """A tool that was asked for is missing, or failed."""
 
 
+class Beside:
+    """One thing that is done beside the rounds, which none of them ends, with processes of its own."""
+
+    def __init__(self, trial):
+        self.children = Children()
+        self.trial = trial.beside(self.children)
+        self.pool = concurrent.futures.ThreadPoolExecutor(1)
+        self.asked = None
+
+    def begin(self, performed, *words):
+        """Begins with it."""
+        self.asked = self.pool.submit(performed, *words)
+
+    def runs(self):
+        """Whether it is being done."""
+        return self.asked is not None and not self.asked.done()
+
+    def taken(self):
+        """What came of it, where it has ended and was not taken before; else None."""
+        if self.asked is None or self.runs():
+            return None
+        asked, self.asked = self.asked, None
+        return asked.result()
+
+    def close(self):
+        """Ends it."""
+        self.children.close()
+        self.pool.shutdown(wait=True, cancel_futures=True)
+
+
 class Local:
-    """So many threads, each of which waits for the processes of its try."""
+    """So many threads, each of which waits for the processes of its try. One try may go on beside the rounds."""
 
     def __init__(self, trial, jobs):
         self.trial, self.jobs = trial, jobs
+        self.beside = None
+
+    def begin_beside(self, recipe):
+        """Begins with a try that no round ends."""
+        self.beside = Beside(self.trial)
+        self.beside.begin(performed, self.beside.trial, recipe)
+
+    def taken_beside(self):
+        """The answer of this try, where it has ended and was not taken before; else None."""
+        return self.beside.taken() if self.beside else None
+
+    def close(self):
+        """Ends the try beside the rounds."""
+        if self.beside:
+            self.beside.close()
+            self.beside = None
 
     def run(self, recipes, is_over, is_at_end):
-        """Pairs of a recipe and its answer, as they come. None is begun when it is over, and none is waited for at the end."""
+        """Pairs of a recipe and its answer, as they come. None is begun when it is over, and none is waited for where those that
+        run are at their end."""
         self.trial.children.open()
-        pool = concurrent.futures.ThreadPoolExecutor(self.jobs)
-        waiting = {pool.submit(self.performed, recipe): recipe for recipe in recipes}
+        jobs = max(1, self.jobs - 1) if self.beside and self.beside.runs() else self.jobs
+        pool = concurrent.futures.ThreadPoolExecutor(jobs)
+        waiting = {pool.submit(performed, self.trial, recipe): recipe for recipe in recipes}
         try:
-            while waiting and not is_at_end():
+            while waiting and not is_at_end(waiting.values()):
                 if is_over():
                     waiting = {it: recipe for it, recipe in waiting.items() if not it.cancel()}
                 done, _ = concurrent.futures.wait(waiting, PAUSE, concurrent.futures.FIRST_COMPLETED)
@@ -49,11 +97,13 @@ class Local:
             pool.shutdown(wait=True, cancel_futures=True)
             self.trial.children.open()
 
-    def performed(self, recipe):
-        try:
-            return self.trial.perform(recipe)
-        except Ended:
-            return None
+
+def performed(trial, recipe):
+    """The answer of a try, or None where it was ended."""
+    try:
+        return trial.perform(recipe)
+    except Ended:
+        return None
 
 
 class Remote:
@@ -63,8 +113,12 @@ class Remote:
         self.trial, self.jobs, self.words, self.script = trial, jobs, words, script
         self.round = 0
 
-    def run(self, recipes, is_over, _):
-        """Pairs of a recipe and its answer, as they come, until it is over."""
+    def close(self):
+        """Each round has ended what it began."""
+
+    def run(self, recipes, is_over, is_at_end):
+        """Pairs of a recipe and its answer, as they come, until it is over and those that are left are at their end: which of them
+        run already is not known here."""
         left = {}
         for recipe in recipes:
             asked = self.trial.try_question(recipe)
@@ -81,7 +135,7 @@ class Remote:
         forwarding.start()
         ended = None
         try:
-            while left and not is_over():
+            while left and not (is_over() and is_at_end([recipe for recipe, _ in left.values()])):
                 if ended is None and child.poll() is not None:
                     ended = time.monotonic()
                 for key in list(left):
@@ -166,6 +220,7 @@ class Slurm(Remote):
     """An array job, which `sbatch --wait` waits for."""
 
     def started(self, file, count):
+        """The process of `sbatch` over a file of so many lines."""
         elements = min(count, MOST_ELEMENTS)
         script = file + ".sbatch"
         text = ('#!/bin/sh\n#SBATCH --array=1-%d\n#SBATCH --output=/dev/null\n'
@@ -187,7 +242,10 @@ class Slurm(Remote):
 
     def stop(self, child, is_done):
         if child.poll() is None and self.number and not is_done:
-            subprocess.run(["scancel", self.number], stdin=subprocess.DEVNULL, check=False)
+            try:
+                subprocess.run(["scancel", self.number], stdin=subprocess.DEVNULL, check=False)
+            except OSError as error:
+                streams.tell("salsa: `scancel %s` can't be run: %s\n" % (self.number, error.strerror))
         super().stop(child, is_done)
 
     def refuse_failure(self, child):

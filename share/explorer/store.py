@@ -11,7 +11,7 @@ import os
 import socket
 
 # Changes whenever an answer means something else.
-FORMAT = 3
+FORMAT = 4
 
 
 def digest(data):
@@ -44,17 +44,17 @@ class Store:
                 os.unlink(begun)
             raise
 
-    def keep_net(self, data):
-        """Keeps the bytes of a netlist, and gives back its name."""
+    def keep_net(self, data, ending="blif"):
+        """Keeps the bytes of a netlist, or of another file of a bundle, and gives back its name."""
         name = digest(data)
-        if self.net(name) is None:
-            self.write(name + ".blif", data)
+        if self.net(name, ending) is None:
+            self.write("%s.%s" % (name, ending), data)
         return name
 
-    def net(self, name):
+    def net(self, name, ending="blif"):
         """The bytes of a netlist by its name, or None where they are not there whole."""
         try:
-            with open(self.path(name + ".blif"), "rb") as file:
+            with open(self.path("%s.%s" % (name, ending)), "rb") as file:
                 data = file.read()
         except OSError:
             return None

@@ -3,10 +3,9 @@ built and measured. Each step is a question to the store before it is computed.
 """
 import os
 import sys
-import tempfile
 
-from explorer import errors, graph, mapper, netlist, store, walk
-from explorer.children import Ended
+from explorer import errors, graph, judging, mapper, netlist, scratch, store, walk
+from explorer.words import ENDINGS
 
 # Ways of writing that need no other tool.
 OWN = ("as it is", "ANDs", "hashed", "hashed, turned")
@@ -34,6 +33,16 @@ def is_walk(rewriting):
     return rewriting.startswith(walk.NAME)
 
 
+def net_of(data):
+    """The net that bytes say."""
+    return netlist.net_of(data.decode("latin-1"))
+
+
+def bytes_of(net):
+    """The bytes of a net."""
+    return netlist.text_of(net).encode("latin-1")
+
+
 class Trial:
     """Performs tries by a setting, which says all but the recipe: program, metric, conflicts, exact netlist, area, tools,
     seed. A recipe says bound, parent, rewriting, order, and whether it is refined."""
@@ -47,9 +56,17 @@ class Trial:
             self.library = (setting["library"], kept.net(setting["library_bytes"]))
         self.judge = None
 
+    def net(self, name):
+        """The net of a name."""
+        return net_of(self.store.net(name))
+
+    def beside(self, children):
+        """The same trial with other processes."""
+        return Trial(self.setting, self.store, children)
+
     def inputs(self):
         """How many inputs IN has."""
-        return len(netlist.net_of(self.exact.decode("latin-1")).inputs)
+        return len(self.net(self.setting["exact"]).inputs)
 
     # Questions.
 
@@ -75,23 +92,21 @@ class Trial:
 
     def program(self, job, files, *words):
         """Runs a job in a folder of its own, in which stand the files: its report, what of `out.blif` or `out` it wrote,
-        and seconds."""
-        with tempfile.TemporaryDirectory(prefix="salsa-explore-") as folder:
-            for name, data in files.items():
-                with open(os.path.join(folder, name), "wb") as file:
-                    file.write(data)
+        seconds, and of a large netlist the bundle of `refine`, which may take as long to certify again."""
+        with scratch.folder_with(files) as folder:
             number, said, told, seconds = self.children.run([self.setting["program"], job, *words], folder)
             if number:
                 lines = [it for it in told.split("\n") if it.startswith("salsa: ")] or [told.strip() or "no line"]
                 raise Answered(number if number > 0 else 128 - number, lines[-1].strip())
-            made = os.path.join(folder, "out.blif" if job in ("refine", "certify") else "out")
-            with open(made, "rb") as file:
-                return said, file.read(), seconds
+            made = "out.blif" if job in ("refine", "certify") else "out"
+            bundle = self.kept_bundle(os.path.join(folder, "out")) if job == "refine" and self.inputs() > walk.MOST_INPUTS else {}
+            return said, scratch.bytes_of(os.path.join(folder, made)), seconds, bundle
 
     def written(self, rewriting, parent, bound):
-        """The name of a netlist of the same function, written in another way, or of one that a walk within the bound finds."""
+        """A netlist of the same function, written in another way, or one that a walk within the bound finds; of a walk that was
+        judged, with its greatest error and its seconds."""
         if rewriting == "as it is":
-            return parent
+            return {"nets": {"made": parent}}
         if is_walk(rewriting):
             by = [self.setting[it] for it in ("metric", "exact", "conflicts", "program_bytes")] + [bound]
         elif rewriting in OWN:
@@ -101,41 +116,47 @@ class Trial:
         asked = self.question("rewrite", rewriting=rewriting, by=by, net=parent)
 
         def computed():
-            return {"nets": {"made": self.store.keep_net(self.rewrite(rewriting, self.store.net(parent), bound))}}
+            data = self.store.net(parent)
+            made, told = self.walked(rewriting, data, bound) if is_walk(rewriting) else (self.rewrite(rewriting, data), {})
+            return {"nets": {"made": self.store.keep_net(made)}, **told}
 
-        return self.answer(asked, computed)["nets"]["made"]
+        return self.answer(asked, computed)
 
-    def walked(self, seed, data, bound):
-        """What a walk, which has a process of its own, finds within the bound."""
-        with tempfile.TemporaryDirectory(prefix="salsa-explore-") as folder:
-            for name, text in (("in.blif", self.exact), ("start.blif", data)):
-                with open(os.path.join(folder, name), "wb") as file:
-                    file.write(text)
-            words = [self.setting["metric"], bound, seed, self.setting["program"], self.setting["conflicts"], "in.blif",
-                     "start.blif", "out.blif"]
-            number, _, told, _ = self.children.run([sys.executable, "-S", WALKING, *words], folder)
+    def walked(self, rewriting, data, bound):
+        """What a walk, which has a process of its own, finds within the bound, and what it tells of it."""
+        with scratch.folder_with({"in.blif": self.exact, "start.blif": data}) as folder:
+            words = [self.setting["metric"], bound, rewriting.removeprefix(walk.NAME), self.setting["program"],
+                     self.setting["conflicts"], "in.blif", "start.blif", "out.blif"]
+            number, said, told, seconds = self.children.run([sys.executable, "-S", WALKING, *words], folder)
             if number:
                 raise Answered(FAILED, "salsa: the walk failed: %s" % (told.strip() or "no line").split("\n")[-1])
-            with open(os.path.join(folder, "out.blif"), "rb") as file:
-                return file.read()
+            made = scratch.bytes_of(os.path.join(folder, "out.blif"))
+            bundle = self.kept_bundle(os.path.join(folder, "out" + judging.BUNDLE))
+            return made, {"maximum": said.strip(), "seconds": round(seconds, 3), "bundle": bundle}
 
-    def rewrite(self, rewriting, data, bound):
-        if is_walk(rewriting):
-            return self.walked(rewriting.removeprefix(walk.NAME), data, bound)
+    def kept_bundle(self, stem):
+        """The names of the files of a bundle by their endings, which are kept then; none where it is not there."""
+        paths = {it: "%s.%s" % (stem, it) for it in ENDINGS}
+        if not all(map(os.path.exists, paths.values())):
+            return {}
+        return {it: self.store.keep_net(scratch.bytes_of(path), it) for it, path in paths.items()}
+
+    def rewrite(self, rewriting, data):
+        """The same function, written in a way."""
         if rewriting == "ANDs":
             ands = self.program("aag", {"in.blif": data}, "in.blif", "out")[1]
             return self.program("blif", {"in.aag": ands}, "in.aag", "out")[1]
         if rewriting in OWN:
-            net = netlist.net_of(data.decode("latin-1"))
-            return netlist.text_of(graph.hashed(net, rewriting == "hashed, turned")[0]).encode("latin-1")
+            net = net_of(data)
+            return bytes_of(graph.hashed(net, rewriting == "hashed, turned")[0])
         return self.mapper.rewritten(rewriting, data)
 
     def ordered(self, order, name):
         """The name of the netlist with its tables in another order."""
         if order == "as it is":
             return name
-        net = netlist.net_of(self.store.net(name).decode("latin-1"))
-        return self.store.keep_net(netlist.text_of(netlist.in_order(net, order)).encode("latin-1"))
+        net = self.net(name)
+        return self.store.keep_net(bytes_of(netlist.in_order(net, order)))
 
     def refined(self, bound, start):
         """What the program leaves of a beginning."""
@@ -146,12 +167,12 @@ class Trial:
         def computed():
             files = {"in.blif": self.exact, "start.blif": self.store.net(start)}
             try:
-                said, net, seconds = self.program("refine", files, *words, "in.blif", "start.blif", "out")
+                said, net, seconds, bundle = self.program("refine", files, *words, "in.blif", "start.blif", "out")
             except Answered as ended:
                 return {"number": ended.number, "line": ended.line, "nets": {}}
             report = reports(said)
             return {"number": 0, "line": "", "nets": {"result": self.store.keep_net(net)}, "maximum": report["maximum"][0],
-                    "minimal": report["minimal"][0], "seconds": round(seconds, 3)}
+                    "minimal": report["minimal"][0], "seconds": round(seconds, 3), "bundle": bundle}
 
         asked["words"] = list(words)
         return self.answer(asked, computed)
@@ -169,13 +190,14 @@ class Trial:
         return self.answer(asked, computed)
 
     def build(self, data):
+        """The area, the depth, and the netlist as it is built."""
         area = self.setting["area"]
         if area == "literals" or not self.mapper:
-            net = netlist.net_of(data.decode("latin-1"))
+            net = net_of(data)
             if area == "literals":
                 return netlist.literals_of(net), netlist.depth_of(net), data
             made, ands, depth = graph.smaller(net)
-            return ands, depth, netlist.text_of(made).encode("latin-1")
+            return ands, depth, bytes_of(made)
         return self.mapper.built(area, data, self.library)
 
     def errors(self, name):
@@ -184,8 +206,8 @@ class Trial:
         asked = self.question("errors", metric=setting["metric"], exact=setting["exact"], seed=setting["seed"], net=name)
 
         def computed():
-            self.judge = self.judge or errors.Judge(netlist.net_of(self.exact.decode("latin-1")), setting["metric"], setting["seed"])
-            mean, rate = self.judge.errors_of(netlist.net_of(self.store.net(name).decode("latin-1")))
+            self.judge = self.judge or errors.Judge(self.net(self.setting["exact"]), setting["metric"], setting["seed"])
+            mean, rate = self.judge.errors_of(self.net(name))
             return {"mean": mean, "rate": rate, "vectors": self.judge.vectors, "are_all": self.judge.are_all, "nets": {}}
 
         return self.answer(asked, computed)
@@ -201,9 +223,11 @@ class Trial:
         return dict(self.answer(asked, lambda: self.computed(recipe)), is_kept=False)
 
     def computed(self, recipe):
+        """The answer of a try that was not kept."""
         try:
-            start = self.ordered(recipe["order"], self.written(recipe["rewriting"], recipe["parent"], recipe["bound"]))
-            found = self.refined(recipe["bound"], start) if recipe["is_refined"] else self.unrefined(start)
+            written = self.written(recipe["rewriting"], recipe["parent"], recipe["bound"])
+            start = self.ordered(recipe["order"], written["nets"]["made"])
+            found = self.refined(recipe["bound"], start) if recipe["is_refined"] else self.unrefined(start, written)
             if found["number"]:
                 return dict(found, nets={"start": start})
             result = found["nets"]["result"]
@@ -212,14 +236,13 @@ class Trial:
             return {"number": ended.number, "line": ended.line, "nets": {}}
         except (mapper.Failed, netlist.NoNetlist, KeyError) as failed:
             return {"number": FAILED, "line": "salsa: %s" % failed, "nets": {}}
-        literals = netlist.literals_of(netlist.net_of(self.store.net(result).decode("latin-1")))
+        literals = netlist.literals_of(self.net(result))
         nets = {"start": start, "result": result, "built": built["nets"]["built"]}
         told = {key: it for key, it in self.errors(result).items() if key != "nets"}
         return dict(found, nets=nets, area=built["area"], depth=built["depth"], literals=literals, **told)
 
-    def unrefined(self, start):
-        """A netlist of the exact function as it is."""
-        return {"number": 0, "line": "", "nets": {"result": start}, "maximum": "0", "minimal": "no", "seconds": 0.0}
+    def unrefined(self, start, written):
+        """A netlist as it was written: of the exact function, or what a walk tells of it."""
+        return {"number": 0, "line": "", "nets": {"result": start}, "maximum": written.get("maximum", "0"), "minimal": "no",
+                "seconds": written.get("seconds", 0.0), "bundle": written.get("bundle", {})}
 
-
-__all__ = ["Answered", "Ended", "Trial", "OWN", "reports"]

@@ -4,20 +4,24 @@ any value. Most steps leave as many ANDs as before, and some one more; by these 
 single can be taken away.
 
 A step is looked for at a few vectors. Where all vectors show that it breaks the bound, one at which it does joins the few. Of
-many inputs not all vectors are looked at in each step: a judge is asked now and then, and where it tells a vector at which the
-bound is broken, this one and those next to it are looked at too, and the walk goes on from what was judged right before.
+many inputs not all vectors are looked at in each step: now and then the best is attacked, and a judge is asked, or all vectors are
+looked at where they are not so many. Vectors at which the bound is broken join those that are looked at, and the
+walk goes on from the latest that keeps it at these too, or from what was judged right before.
 """
 import random
 
-from explorer import circuit, errors
+from explorer import attack, circuit, errors
 
 # How a walk is named, before its seed.
 NAME = "walk "
 # Of how many inputs all vectors are looked at in each step, and of how many by the judge.
 MOST_INPUTS, JUDGED_INPUTS = 16, 20
-# How many the few are at first, and how many are looked at where a judge is asked. It is asked behind so many steps, behind fewer
-# where it says no, and tells at most so many vectors.
-FEW, SAMPLED, JUDGED, SOONEST, TOLD = 512, 8192, 100, 12, 32
+# How many the few are at first, and how many are looked at where a judge is asked. The best is attacked, or judged by all vectors,
+# behind so many steps, and behind fewer where it was wrong. Of all vectors so many wrong ones are told. Another judge is asked again
+# when the walk is so many times as long as where its answer was dear, and at the end at most so often.
+FEW, SAMPLED, JUDGED, SOONEST, TOLD, SELDOM, LAST = 512, 8192, 100, 12, 32, 3, 3
+# What a judge has to show is attacked behind so many steps.
+ATTACKED = 25
 # How many literals are joined in pairs, and how many take part where three are joined.
 PAIRED, FIRSTS, JOINED, DIFFERING = 60, 8, 30, 40
 # A circuit has at most so many ANDs more than the best so far, and a step that adds one is looked for so often.
@@ -33,37 +37,54 @@ class Walk:
         """`judge` gives back whether a circuit keeps the bound, and vectors at which it does not, if it knows some. It is asked
         only where there are too many inputs for all vectors."""
         self.exact, self.metric, self.bound = exact, metric, bound
-        self.judge = judge if len(exact.inputs) > JUDGED_INPUTS else self.judged_by_all
-        self.every, self.wait = None, JUDGED
         self.random = random.Random("walk %d" % seed)
-        self.circuit = self.best = self.sure = circuit.circuit_of(start)
+        self.circuit = self.best = circuit.circuit_of(start)
         inputs = len(exact.inputs)
         self.is_judged = inputs > MOST_INPUTS
+        self.judge, self.attack, self.gain = self.judged_by_all, None, 0
+        if inputs > JUDGED_INPUTS:
+            # New ANDs and steps without gain make a netlist less and less like the exact one, and its certificate dearer.
+            self.judge, self.attack, self.gain = judge, attack.Attack(exact, metric, bound, self.random), seed % 2
+        # What was judged right, and behind it what came later, of which no vector is known that breaks the bound.
+        self.trail = [self.circuit]
+        self.pace = ATTACKED if self.attack else JUDGED
+        self.every, self.wait, self.due = None, self.pace, JUDGED if self.attack else 0
+        self.work = self.steps = 0
+        self.put_vectors(inputs)
+
+    def put_vectors(self, inputs):
+        """Takes the vectors that are looked at, and the few of them."""
         if self.is_judged:
-            self.all = self.few = self.sampled([self.random.getrandbits(SAMPLED) for _ in range(inputs)], SAMPLED)
+            self.all = self.few = self.sampled(attack.columns_of(inputs, SAMPLED, self.random), SAMPLED)
         else:
             self.all = self.few = self.sampled([errors.column(it, 1 << inputs) for it in range(inputs)], 1 << inputs)
         if self.all.count > FEW:
-            self.few = circuit.Values(0, [0] * inputs, [0] * len(exact.outputs))
+            self.few = circuit.Values(0, [0] * inputs, [0] * len(self.exact.outputs))
             for place in self.random.sample(range(self.all.count), FEW):
                 self.few.add_vector(place, self.all)
         self.all.fill(self.circuit)
         self.few.fill(self.circuit)
-        self.work = self.steps = 0
 
-    def judged_by_all(self, found):
-        """Whether a circuit keeps the bound at all vectors, and some at which it does not."""
+    def at_all(self, found):
+        """The values of a circuit at all vectors."""
         inputs = len(self.exact.inputs)
         columns = [errors.column(it, 1 << inputs) for it in range(inputs)]
         self.every = self.every or errors.values_of(self.exact, columns, 1 << inputs)
         values = circuit.Values(1 << inputs, columns, self.every)
         values.fill(found)
+        return values
+
+    def judged_by_all(self, found):
+        """Whether a circuit keeps the bound at all vectors, and some at which it does not."""
+        values = self.at_all(found)
         wrong = errors.beyond(self.metric, self.bound, self.every, values.outputs(found, {}), values.ones)
-        places = set()
-        for begin in (self.random.randrange(1 << inputs) for _ in range(TOLD if wrong else 0)):
-            behind = wrong >> begin
-            places.add(begin + (behind & -behind).bit_length() - 1 if behind else wrong.bit_length() - 1)
-        return not wrong, [[place >> it & 1 for it in range(inputs)] for place in sorted(places)]
+        inputs = range(len(self.exact.inputs))
+        return not wrong, [[place >> it & 1 for it in inputs] for place in attack.places_of(wrong, TOLD, self.random)]
+
+    def greatest(self):
+        """The greatest error of what was judged right last, of all vectors."""
+        values = self.at_all(self.trail[0])
+        return errors.greatest(self.metric, self.bound, self.every, values.outputs(self.trail[0], {}), values.ones)
 
     def sampled(self, columns, count):
         """The values at vectors that stand in columns, one for each input."""
@@ -93,22 +114,42 @@ class Walk:
                 self.best = self.circuit
             self.wait -= 1
             if self.is_judged and (self.wait <= 0 or not self.circuit.nodes):
-                self.ask()
-        return self.asked() if self.is_judged else self.best
+                # Where nothing is left, nothing comes later.
+                self.ask(is_last=not self.circuit.nodes)
+        return self.judged_last() if self.is_judged else self.best
 
-    def ask(self):
-        """Asks whether the best is right, and goes back to what was right before where it is not."""
-        self.wait = JUDGED
-        if self.best is self.sure:
+    def ask(self, is_last=False):
+        """Asks whether the best is right, at the end and where it is due by the judge, and goes back where it is not."""
+        self.wait, is_due = self.pace, is_last or self.steps >= self.due
+        if self.best is self.trail[0] or (self.best is self.trail[-1] and not is_due):
             return
-        is_right, vectors = self.judge(self.best)
-        if is_right:
-            self.sure = self.best
-            return
+        vectors = self.attack.vectors(self.best) if self.attack else []
+        if vectors:
+            self.go_back(vectors)
+        elif not is_due:
+            self.trail.append(self.best)
+        else:
+            is_right, vectors = self.judge(self.best)
+            # An answer without vectors is dear, and one with vectors is not.
+            self.due = SELDOM * self.steps if self.attack and not vectors else 0
+            if is_right:
+                self.trail = [self.best]
+            else:
+                self.go_back(vectors)
+
+    def go_back(self, vectors):
+        """Goes on from the latest that keeps the bound at these vectors too, or from far before where none is known."""
         self.wait = SOONEST
-        self.all, self.few = (self.with_vectors(it, vectors) if vectors else it for it in (self.all, self.few))
-        self.circuit = self.best = self.sure
+        if vectors:
+            self.all, self.few = (self.with_vectors(it, vectors) for it in (self.all, self.few))
+        else:
+            del self.trail[max(1, len(self.trail) // 4):]
+        self.circuit = self.best = self.trail[-1]
         self.all.fill(self.circuit)
+        while len(self.trail) > 1 and self.breaks(self.all, {}):
+            self.trail.pop()
+            self.circuit = self.best = self.trail[-1]
+            self.all.fill(self.circuit)
         self.few.fill(self.circuit)
 
     def with_vectors(self, values, vectors):
@@ -117,10 +158,13 @@ class Walk:
         columns = [values.of[at] | bits << values.count for at, bits in enumerate(added, 1)]
         return self.sampled(columns, values.count + len(vectors))
 
-    def asked(self):
-        """What is right in the end."""
-        self.ask()
-        return self.sure
+    def judged_last(self):
+        """What is judged right in the end."""
+        for _ in range(LAST):
+            if self.best is self.trail[0]:
+                break
+            self.ask(is_last=True)
+        return self.trail[0]
 
     def output_step(self, at):
         """Looks for another literal as an output, and takes the first that may be taken."""
@@ -131,7 +175,11 @@ class Walk:
             if apart in (0, care):
                 other = 2 * it ^ bool(apart)
                 wrong = self.breaks(self.all, {}, at, self.all.at(other))
-                return self.learn(wrong) if wrong else self.take(self.circuit.with_output(at, other), {}, {})
+                if wrong:
+                    return self.learn(wrong)
+                made = self.circuit.with_output(at, other)
+                if len(made.nodes) <= len(self.circuit.nodes) - self.gain:
+                    return self.take(made, {}, {})
 
     def shuffled(self, signals):
         """Signals in an order that hangs on the seed."""
@@ -148,6 +196,7 @@ class Walk:
         literals = [pair for it in signals for pair in ((2 * it, few.of[it]), (2 * it + 1, few.of[it] ^ few.ones))]
         going = self.circuit.alone(node)
         more = self.random.random() < WORSE and len(self.circuit.nodes) < len(self.best.nodes) + MORE
+        more = -1 if self.gain else more
         for literal, added in self.instead(on, off, [(0, 0), (1, few.ones), *literals], going, len(going) + more):
             if tuple(sorted(added.get(literal >> 1, ()))) != tuple(sorted(pairs[node])) or literal & 1:
                 if self.is_taken((node, literal, added, above), len(self.circuit.nodes) + more):
@@ -161,6 +210,8 @@ class Walk:
         under = [(it, on & ~value) for it, value in literals if not value & off]
         staying = [it for it in literals if it[0] >> 1 not in going]
         yield from ((literal, {}) for literal, rest in over if not rest)
+        if self.gain:
+            return
         yield from joined(first, over[:PAIRED], 0)
         yield from joined(first, under[:PAIRED], 1)
         if most >= 2:

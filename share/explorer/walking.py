@@ -1,6 +1,7 @@
 """A walk in a process of its own: walking.py METRIC BOUND SEED PROGRAM CONFLICTS EXACT START MADE
 
 MADE gets the netlist that a walk from START within BOUND of EXACT finds. Where it can't look at all vectors, PROGRAM judges.
+Where it does not look at all of them in each step, it tells the greatest error of what it made.
 """
 import os
 import sys
@@ -17,27 +18,24 @@ def net_at(path):
         return netlist.net_of(file.read())
 
 
+def judge_of(words, ports, made):
+    """The program as the judge, where all vectors are too many."""
+    if len(ports.inputs) <= walk.JUDGED_INPUTS:
+        return None
+    from explorer import judging
+    return judging.Judge(words, ports, made)
+
+
 def main(metric, bound, seed, program, conflicts, exact, start, made):
+    """Walks, writes what was found, and tells its greatest error."""
     nets = [net_at(it) for it in (exact, start)]
-
-    def write(found, path):
-        with open(path, "w", encoding="latin-1") as file:
-            file.write(netlist.text_of(found.net(nets[0])))
-
-    def judge(found):
-        """Whether the program certifies a circuit, and else the vector that it tells, with those that differ from it at one
-        input."""
-        import re
-        import subprocess
-        write(found, made)
-        words = [program, "certify", metric, bound, conflicts, exact, made, made + ".judged"]
-        ran = subprocess.run(words, stdin=subprocess.DEVNULL, stdout=subprocess.DEVNULL, stderr=subprocess.PIPE, check=False)
-        told = re.search(rb"error above the bound at ([01]+)", ran.stderr)
-        vector = [bit - ord("0") for bit in told.group(1)] if told else []
-        near = [[bit ^ (at == place) for at, bit in enumerate(vector)] for place in range(len(vector))]
-        return ran.returncode == 0, [vector, *near] if told else []
-
-    write(walk.Walk(*nets, metric, int(bound), int(seed), judge).run(), made)
+    judge = judge_of([program, "certify", metric, bound, conflicts, exact], nets[0], made)
+    walked = walk.Walk(*nets, metric, int(bound), int(seed), judge)
+    found = walked.run()
+    with open(made, "w", encoding="latin-1") as file:
+        file.write(netlist.text_of(found.net(nets[0])))
+    if walked.is_judged:
+        print(walked.greatest() if judge is None else judge.maximum or "")
 
 
 if __name__ == "__main__":

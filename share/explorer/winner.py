@@ -1,15 +1,20 @@
 """What was found becomes a bundle: the netlist as it is built is certified against IN, confirmed, and only then put in the
 place of what stood there. A certificate may take longer than anybody waits, so each try has a time, and the best few are
-certified side by side.
+certified side by side. Of large netlists the best so far is certified while the search goes on, so that something is certified
+when its time is over.
 """
+import collections
 import concurrent.futures
+import itertools
 import os
 import shutil
 import signal
 import tempfile
 import time
 
+from explorer import scratch
 from explorer.children import Ended, Late
+from explorer.runners import Beside
 from explorer.trial import reports
 
 # The netlist comes last: where it is new, the certificate beside it is new and whole. Were the renaming cut off before, the
@@ -21,6 +26,9 @@ MOST, FIRST = 20, 2
 # A try has so many seconds, and so many times those of its search, where nothing is left of the seconds of the bound. A bound
 # without seconds has so many for its certificates, the best tries have so many more together, and the first ones again.
 LEAST, TIMES, MORE = 5, 3, 60
+# Where something was certified while the search went on, what is better has this share of the seconds of the bound besides, and
+# one of so many of the best is certified so.
+SHARE, BEST = 0.15, 3
 
 
 class Bundle:
@@ -29,13 +37,21 @@ class Bundle:
     def __init__(self, trial, stem, bound, say, jobs, until):
         self.trial, self.stem, self.bound, self.say, self.jobs = trial, stem, bound, say, jobs
         self.until = time.monotonic() + MORE if until is None else until
+        self.is_last = False
 
-    def of_best(self, tries):
+    def of_best(self, tries, ahead=None, seconds=0):
         """The first try of which a bundle verifies, with its report and the job that verifies it, or None. The bundle is in
-        its place then."""
-        parent, base = os.path.split(os.path.abspath(self.stem))
-        folder = tempfile.mkdtemp(prefix=".%s." % base, dir=parent)
+        its place then. What was certified ahead is taken where nothing better is in this share of so many seconds."""
+        folder = folder_beside(self.stem)
         try:
+            standing = ahead.ended() if ahead else None
+            if standing:
+                better = list(itertools.takewhile(lambda it: built(it) != built(standing.one), tries))
+                self.until, self.is_last = max(self.until, time.monotonic() + max(LEAST, SHARE * seconds)), True
+                found = self.of_many(better[:MOST], folder, self.until)
+                if found is None:
+                    self.put_in_place(standing.folder)
+                return found or (standing.one, standing.report, standing.verified_by)
             found = self.of_many(tries[:MOST], folder, time.monotonic() + MORE)
             if found is None and len(tries) > FIRST:
                 self.until = time.monotonic() + MORE
@@ -56,10 +72,12 @@ class Bundle:
     def candidates(self, one):
         """What may be certified of a try, each with the job, the name of its netlist, and how it is told: the netlist as it is
         built; and where the area is that of a clean-up, which changes no function, what the search left, whose certificate
-        takes no longer than the search did."""
+        takes no longer than the search did, or is there already."""
         area, nets = self.trial.setting["area"], one.answer["nets"]
         left = ("refine", nets["start"]) if one.is_refined and one.bound == str(self.bound) else ("certify", nets["result"])
-        found = [(one, "certify", nets["built"], "as it is built")]
+        if one.answer.get("bundle") and one.bound == str(self.bound):
+            left = ("", one.answer["bundle"])
+        found = [(one, "certify", built(one), "as it is built")]
         if area == "literals":
             # Literals are those that the program leaves, so its own bundle, which may say `minimal yes`, is taken.
             return [(one, *left, "as it is left")]
@@ -89,7 +107,9 @@ class Bundle:
 
     def certified(self, candidate, folder):
         """The report of a bundle that is verified, and by which job; else None and why it is not."""
-        until = max(self.until, time.monotonic() + LEAST + TIMES * candidate[0].answer["seconds"])
+        until = self.until
+        if not self.is_last:
+            until = max(until, time.monotonic() + LEAST + TIMES * candidate[0].answer["seconds"])
         try:
             return self.verified(candidate, folder, until)
         except Late:
@@ -97,19 +117,27 @@ class Bundle:
 
     def verified(self, candidate, folder, until):
         """The same, or an exception where the time is over."""
-        setting, (_, job, second, _) = self.trial.setting, candidate
-        for name, data in (("in.blif", self.trial.exact), ("second.blif", self.trial.store.net(second))):
-            with open(os.path.join(folder, name), "wb") as file:
-                file.write(data)
-        words = [setting["metric"], str(self.bound)]
-        said, line = self.run(folder, until, job, *words, setting["conflicts"], "in.blif", "second.blif", "out")
+        words = [self.trial.setting["metric"], str(self.bound)]
+        said, line = self.made(candidate, folder, until, words)
         if said is None:
             return None, line
-        report = reports(said)
         confirmed, line = self.run(folder, until, "confirm", *words, "in.blif", "out")
         if confirmed is None:
             return None, "`confirm` does not verify it: " + line
-        return report, self.strictest(folder, until, words)
+        return reports(said), self.strictest(folder, until, words)
+
+    def made(self, candidate, folder, until, words):
+        """The report of a bundle that is made in a folder, or None and why it is not. A try without a job has its bundle."""
+        (_, job, second, _), net = candidate, self.trial.store.net
+        scratch.put({"in.blif": self.trial.exact}, folder)
+        if job:
+            scratch.put({"second.blif": net(second)}, folder)
+            return self.run(folder, until, job, *words, self.trial.setting["conflicts"], "in.blif", "second.blif", "out")
+        files = {"out." + it: net(name, it) for it, name in second.items()}
+        if None in files.values():
+            return None, "its bundle is damaged"
+        scratch.put(files, folder)
+        return files["out.txt"].decode("latin-1"), ""
 
     def strictest(self, folder, until, words):
         """The strictest job that verifies the bundle, which `confirm` does."""
@@ -134,3 +162,64 @@ class Bundle:
                 os.replace(os.path.join(folder, "out." + ending), "%s.%s" % (self.stem, ending))
         finally:
             signal.pthread_sigmask(signal.SIG_SETMASK, before)
+
+
+Standing = collections.namedtuple("Standing", "one report verified_by folder")
+
+
+class Ahead:
+    """Certifies the best so far while the search goes on, one try at a time."""
+
+    def __init__(self, trial, stem, bound):
+        self.beside = Beside(trial)
+        self.bundle = Bundle(self.beside.trial, stem, bound, None, 1, 0)
+        self.folder = folder_beside(stem)
+        self.seen, self.standing = set(), None
+
+    def look(self, tries):
+        """Begins with one of the best, in their order, where none is being certified, and keeps in mind what was."""
+        if self.beside.runs():
+            return
+        self.standing = self.beside.taken() or self.standing
+        for one in tries[:BEST]:
+            if self.standing and built(one) == built(self.standing.one):
+                return
+            if built(one) not in self.seen:
+                self.seen.add(built(one))
+                self.beside.begin(self.certified, one)
+                return
+
+    def certified(self, one):
+        """What stands of a try, or None."""
+        try:
+            # What has its bundle comes first.
+            for candidate in sorted(self.bundle.candidates(one), key=lambda it: it[1]):
+                folder = tempfile.mkdtemp(dir=self.folder)
+                report, verified_by = self.bundle.certified(candidate, folder)
+                if report:
+                    return Standing(one, report, verified_by, folder)
+        except Ended:
+            pass
+        return None
+
+    def ended(self):
+        """Ends what is being certified; the best that stands, or None."""
+        self.beside.close()
+        self.standing = self.beside.taken() or self.standing
+        return self.standing
+
+    def close(self):
+        """Ends all, and takes the folder away."""
+        self.beside.close()
+        shutil.rmtree(self.folder, ignore_errors=True)
+
+
+def built(one):
+    """The name of the netlist as which a try is built."""
+    return one.answer["nets"]["built"]
+
+
+def folder_beside(stem):
+    """A new folder on the device of a stem, from which files can be renamed."""
+    parent, base = os.path.split(os.path.abspath(stem))
+    return tempfile.mkdtemp(prefix=".%s." % base, dir=parent)
