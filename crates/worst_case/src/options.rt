@@ -38,3 +38,9 @@ pub const FEW_CONFLICTS: u64 = 3000;
 /// conflicts leave open end within a small multiple of 100,000 conflicts: `bench/SOLVER.md`, 'Questions put
 /// again'.
 pub const MOST_QUERIES: u64 = 16;
+
+/// The conflicts within which a question is asked first where more are allowed: a first query of many
+/// conflicts forgets nothing and reads the clauses of rows, so it takes longer than the search that forgets
+/// behind it. With 100,000 the last log of a Sobel filter took ten times as long as with 10,000:
+/// `bench/SOLVER.md`, 'Clauses over signals alone'.
+pub const EARLY_CONFLICTS: u64 = 10_000;

@@ -9,7 +9,7 @@ ghost use Rattle.proof_semantics.specs.Logs.{IsDerivation};
 ghost use Rattle.cdcl_core.specs.Outcomes.{IsOutcome};
 ghost use Rattle.worst_case.specs.Exceeds.{IsAsked, IsChainOn, IsPosed};
 
-use crate::options::MOST_QUERIES;
+use crate::options::{EARLY_CONFLICTS, MOST_QUERIES};
 use crate::query::{Exceed, Spent};
 use crate::solver_query::{Question, ask_once, input_bits, kept_refutation, pose};
 use cdcl_core::forgetting::solve_forgetting;
@@ -103,7 +103,7 @@ pub(crate) fn ask_again<P: Progress>(
 
 /// An input whose error exceeds the bound, a log that refutes that there is such an input, or a log with as
 /// many conflicts as the limit behind the merges, where no query of the question decides it.
-pub(crate) fn ask_repeatedly<P: Progress>(
+fn ask_within<P: Progress>(
     alloc: Global,
     nets: &Compared,
     aim: Constraint,
@@ -119,4 +119,31 @@ pub(crate) fn ask_repeatedly<P: Progress>(
         Exceed::Spent(spent) => ask_again(alloc, nets, &question, spent, progress),
         decided => Ok(decided),
     }
+}
+
+/// An answer as [`ask_within`] gives it. Where more than `EARLY_CONFLICTS` conflicts are allowed, the question
+/// is first asked within these: a search that forgets is behind them soon, and is mostly the quicker one. What
+/// that leaves open counts for nothing, since a spent query has to have all the conflicts that are allowed.
+pub(crate) fn ask_repeatedly<P: Progress>(
+    alloc: Global,
+    nets: &Compared,
+    aim: Constraint,
+    progress: &mut P,
+) -> Result<Exceed, AllocError>
+    requires many_inputs { FEW_INPUTS < input_count nets.now.exact }
+    requires limit { 1 ≤ aim.limit }
+    ensures { IfOk result (IsAsked aim nets.now.exact nets.now.approx) }
+{
+    if aim.limit > EARLY_CONFLICTS {
+        let early = Constraint {
+            limit: EARLY_CONFLICTS,
+            ..aim
+        };
+        match ask_within(alloc, nets, early, progress)? {
+            Exceed::Over(x) => return Ok(Exceed::Over(x)),
+            Exceed::Never(log) => return Ok(Exceed::Never(log)),
+            Exceed::Spent(_) => {}
+        }
+    }
+    ask_within(alloc, nets, aim, progress)
 }

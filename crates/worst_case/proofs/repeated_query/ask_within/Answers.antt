@@ -2,7 +2,7 @@ use Rattle.std.proofs.Common.{subst}
 use Rattle.std.proofs.lemmas.Result.{IfOk-weaker}
 use Rattle.worst_case.specs.Exceeds.{IsAsked}
 use Rattle.worst_case.proofs.Queries.{asked_at}
-use Rattle.worst_case.proofs.repeated_query.ask_repeatedly.Goals as goal
+use Rattle.worst_case.proofs.repeated_query.ask_within.Goals as goal
 
 pub ask_once-requires : goal.ask_once-requires
 ask_once-requires g c = record { many_inputs = c.requires.many_inputs; limit = rw c.in_ok-question.ensures.aim c.requires.limit; posed = c.in_ok-question.ensures.posed }
