@@ -143,7 +143,34 @@ fn over_by_lanes(kind: Kind, level: u128, exact: &[u64x8], approx: &[u64x8]) -> 
     u64x8::from_array(words)
 }
 
-/// The lanes where the relative error exceeds the level, in this room where it is large enough.
+/// The most lanes of 512 with outputs that differ in which relative errors are computed one by one. Products
+/// are made for all lanes, so where few outputs differ they take longer: the chain of an 8-bit multiplier
+/// within 50,000 parts per million took half as long again with products alone.
+const FEW_DIFFERING: u32 = 64;
+
+/// The lanes where outputs differ. No statement depends on it.
+fn differing_wide(exact: &[u64x8], approx: &[u64x8]) -> u64x8
+    requires { length exact.now ≡ length approx.now }
+{
+    let mut differs = equal_words(0);
+    for (i, wide) in exact.iter().enumerate() {
+        differs = or_wide(differs, xor_wide(*wide, approx[i]));
+    }
+    differs
+}
+
+/// Whether at most `FEW_DIFFERING` lanes are marked.
+fn are_few(lanes: u64x8) -> bool {
+    let words = lanes.to_array();
+    let mut count = 0;
+    for word in words.iter() {
+        count = word.count_ones().saturating_add(count);
+    }
+    count <= FEW_DIFFERING
+}
+
+/// The lanes where the relative error exceeds the level: one by one where few outputs differ, and else in
+/// this room where it is large enough.
 fn relative_over(level: u128, exact: &[u64x8], approx: &[u64x8], room: &mut RelativeRoom) -> u64x8
     requires same { length exact.now ≡ length approx.now }
     requires few { length exact.now ≤ MOST_OUTPUTS }
@@ -151,7 +178,9 @@ fn relative_over(level: u128, exact: &[u64x8], approx: &[u64x8], room: &mut Rela
         ↔ (level < word_error Rel (lane_at (lane_words exact.now j) b)
         (lane_at (lane_words approx.now j) b)) }
 {
-    if has_room(room, exact.len(), level) {
+    if are_few(differing_wide(exact, approx)) {
+        over_by_lanes(Kind::Rel, level, exact, approx)
+    } else if has_room(room, exact.len(), level) {
         relative_wide(level as u32, exact, approx, room)
     } else {
         over_by_lanes(Kind::Rel, level, exact, approx)

@@ -41,6 +41,8 @@ pub const MOST_QUERIES: u64 = 16;
 
 /// The conflicts within which a question is asked first where more are allowed: a first query of many
 /// conflicts forgets nothing and reads the clauses of rows, so it takes longer than the search that forgets
-/// behind it. With 100,000 the last log of a Sobel filter took ten times as long as with 10,000:
-/// `bench/SOLVER.md`, 'Clauses over signals alone'.
-pub const EARLY_CONFLICTS: u64 = 10_000;
+/// behind it. With 100,000 the last log of a Sobel filter took seven times as long as within these. With
+/// 10,000 it would take less still, but the sweep has a quarter of the conflicts, and the log of an 8-bit
+/// multiplier within a relative error would have five times the bytes: `bench/SOLVER.md`, 'Clauses over
+/// signals alone'.
+pub const EARLY_CONFLICTS: u64 = 20_000;
