@@ -121,9 +121,10 @@ fn ask_within<P: Progress>(
     }
 }
 
-/// An answer as [`ask_within`] gives it. Where more than `EARLY_CONFLICTS` conflicts are allowed, the question
-/// is first asked within these: a search that forgets is behind them soon, and is mostly the quicker one. What
-/// that leaves open counts for nothing, since a spent query has to have all the conflicts that are allowed.
+/// An answer as [`ask_within`] gives it. Where more than `EARLY_CONFLICTS` conflicts are allowed, the
+/// question is first asked within these: a search that forgets is behind them soon, and is mostly the quicker
+/// one. What that leaves open counts for nothing, since a spent query has to have all the conflicts that are
+/// allowed.
 pub(crate) fn ask_repeatedly<P: Progress>(
     alloc: Global,
     nets: &Compared,
