@@ -144,8 +144,8 @@ fn over_by_lanes(kind: Kind, level: u128, exact: &[u64x8], approx: &[u64x8]) -> 
 }
 
 /// The most lanes of 512 with outputs that differ in which relative errors are computed one by one. Products
-/// are made for all lanes, also where nothing differs. The number was not tuned: on an 8-bit multiplier within
-/// 50,000 parts per million no difference was seen beside other work.
+/// are made for all lanes, also where nothing differs. The number was not tuned: on an 8-bit multiplier
+/// within 50,000 parts per million no difference was seen beside other work.
 const FEW_DIFFERING: u32 = 64;
 
 /// The lanes where outputs differ. No statement depends on it.
