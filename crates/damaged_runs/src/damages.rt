@@ -1,7 +1,7 @@
 //! The bundle of the half adder within 1 with one or two files damaged, and what a check of it answers.
 use file_core::lists::FileList;
 use file_core::memory_files::MemFiles;
-use jobs::outcome::Status;
+use job_answers::status::Status;
 use memory_runs::bundles::whole_bundle;
 use memory_runs::half_adder::{CHECK, HALF_ADDER, NAMES};
 use memory_runs::held::{add_file, bytes_of, joined};

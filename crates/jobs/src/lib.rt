@@ -1,11 +1,5 @@
-//! The jobs of the command line: the job that the words name is carried out over the files and the sink that
-//! are handed in. The top call is [`run::run`].
+//! The jobs of the command line, by the search of the program: the job that the words name is carried out
+//! over the files and the sink that are handed in. The top call is [`run::run`].
 #![tactic(auto)]
 
-mod commands;
-mod delivery;
-mod demonstration;
-pub mod outcome;
 pub mod run;
-mod second;
-mod synthesis;

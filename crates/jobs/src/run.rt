@@ -16,18 +16,18 @@ ghost use Rattle.file_core.specs.Sure.{sure_told, sure_sink_told};
 ghost use Rattle.synth_jobs.specs.Spent.{told_query};
 ghost use Rattle.check_jobs.specs.Answers.{IsCheckAnswerTo};
 ghost use Rattle.synth_jobs.specs.Calls.{told_call};
-ghost use Rattle.jobs.specs.Outcome.{answered_by};
-ghost use Rattle.jobs.specs.Run.{RunSays, IsQuietJob, EndsAsAsked, IsAnswerTo, IsWorkOf};
+ghost use Rattle.job_runs.specs.Outcome.{answered_by};
+ghost use Rattle.job_runs.specs.Run.{RunSays, IsQuietJob, EndsAsAsked, IsAnswerTo, IsWorkOf};
 
-use crate::commands::carry_out;
-use crate::outcome::{Outcome, Status};
 use file_core::files::Files;
 use file_core::sink::Sink;
 use file_core::sure_files::SureFiles;
 use file_core::sure_sink::SureSink;
 use file_core::word::Word;
+use job_runs::outcome::{Outcome, Status};
 use progress::progress::{Progress, Silent};
 use std::alloc::Global;
+use synth_core::chain::Chain;
 
 /// Carries out the job that the words name.
 pub fn run<F: Files, K: Sink>(alloc: Global, words: &[Word], files: &mut F, say: &mut K) -> Outcome
@@ -97,7 +97,7 @@ pub fn run_followed<F: Files, K: Sink, P: Progress>(
         → IsQuietJob job (told_call (F.told files.old) (F.told files.new) (K.told say.old) (K.told say.new))
         → EndsAsAsked job (F.told files.old) result }
 {
-    carry_out(alloc, words, files, say, progress)
+    job_runs::run::run_followed::<Chain, F, K, P>(alloc, words, files, say, progress)
 }
 
 /// Carries out the job that the words name over files and a sink that never fail: no fault is answered, and
@@ -141,5 +141,5 @@ pub fn run_surely(
     ensures complete { (job : Job) → job_of words.now ≡ Some job
         → EndsAsAsked job (sure_told files.old) result }
 {
-    run(alloc, words, files, say)
+    job_runs::run::run_surely::<Chain>(alloc, words, files, say)
 }

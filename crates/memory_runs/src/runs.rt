@@ -5,7 +5,7 @@ use crate::held::{holding, words};
 use file_core::lists::{CallList, FileList};
 use file_core::memory_files::MemFiles;
 use file_core::memory_sink::MemSink;
-use jobs::outcome::Status;
+use job_answers::status::Status;
 use jobs::run::run;
 use std::alloc::{AllocError, Global};
 

@@ -3,9 +3,9 @@ use Rattle.semantics.specs.Net.{NetValue}
 use Rattle.semantics.specs.Error.{IsWithin}
 use Rattle.proof_semantics.specs.declared.constraint.Constraint.{Constraint}
 use Rattle.proof_semantics.specs.Queries.{IsOver}
-use Rattle.worst_case.specs.Exceeds.{IsSpentOn}
-use Rattle.worst_case.specs.declared.margin.Margin.{Margin}
-use Rattle.worst_case.specs.declared.margin.Margin.TheVariants.{Over, Within, Spent}
+use Rattle.level_answers.specs.Exceeds.{IsSpentOn}
+use Rattle.level_answers.specs.declared.margin.Margin.{Margin}
+use Rattle.level_answers.specs.declared.margin.Margin.TheVariants.{Over, Within, Spent}
 
 -- what is answered to the question whether the error of a net stays within the bound
 abbrev pub IsBoundAnswer : Constraint → NetValue → NetValue → Margin → Type 0

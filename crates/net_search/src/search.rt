@@ -4,18 +4,18 @@ ghost use Rattle.std.specs.Prelude.{◌≡◌, ◌≤◌, option_map, IfOk};
 ghost use Rattle.semantics.specs.Net.{input_count, IsSmall};
 ghost use Rattle.semantics.specs.Error.{IsWithin};
 ghost use Rattle.job_semantics.specs.Shrinking.{IsShrinking};
-ghost use Rattle.worst_case.specs.Exceeds.{spent_value};
-ghost use Rattle.worst_case.specs.Maximum.{IsMaximumAnswer};
+ghost use Rattle.level_answers.specs.Exceeds.{spent_value};
+ghost use Rattle.level_answers.specs.Maximum.{IsMaximumAnswer};
 ghost use Rattle.net_search.specs.Bounds.{IsBoundAnswer};
 
 use lane_bits::patterns::Patterns;
+use level_answers::margin::Margin;
+use level_answers::query::{Maximum, Spent};
 use net_core::net::Net;
 use net_errors::compared::Compared;
 use progress::progress::Progress;
 use proof_semantics::constraint::Constraint;
 use std::alloc::{AllocError, Global};
-use worst_case::margin::Margin;
-use worst_case::query::{Maximum, Spent};
 
 /// The last member of the chain that was reached, the vectors that break moves, and the spent query, where
 /// one was spent.

@@ -6,8 +6,8 @@ use Rattle.job_semantics.specs.Call.{Call}
 use Rattle.job_answers.specs.declared.status.Status.{Status}
 use Rattle.job_answers.specs.declared.status.Status.TheVariants.{Done, Usage}
 use Rattle.synth_jobs.specs.Calls.{told_call, IsStill}
-use Rattle.jobs.specs.Run.{RunSays}
-use Rattle.jobs.specs.declared.outcome.Outcome.{Outcome}
+use Rattle.job_runs.specs.Run.{RunSays}
+use Rattle.job_runs.specs.declared.outcome.Outcome.{Outcome}
 
 -- The status is that of a run on these words, over files and a sink that told this at entry and at exit;
 -- words that are no job touch nothing.

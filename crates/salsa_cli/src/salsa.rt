@@ -7,7 +7,7 @@ use console::program::Program;
 use file_core::files::Files;
 use file_core::sink::Sink;
 use file_core::word::Word;
-use jobs::outcome::Status;
+use job_answers::status::Status;
 use jobs::run::run_followed;
 use progress::progress::Progress;
 use std::alloc::Global;

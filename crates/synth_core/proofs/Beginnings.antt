@@ -2,9 +2,9 @@
 use Rattle.std.proofs.Common.{◌<◌, arith}
 use Rattle.semantics.specs.Net.{NetValue, input_count}
 use Rattle.proof_semantics.specs.declared.constraint.Constraint.{Constraint}
-use Rattle.worst_case.specs.declared.margin.Margin.{Margin}
-use Rattle.worst_case.specs.declared.margin.Margin.TheVariants.{Over, Within, Spent}
-use Rattle.worst_case.specs.Levels.{IsLevelAnswer}
+use Rattle.level_answers.specs.declared.margin.Margin.{Margin}
+use Rattle.level_answers.specs.declared.margin.Margin.TheVariants.{Over, Within, Spent}
+use Rattle.level_answers.specs.Levels.{IsLevelAnswer}
 use Rattle.net_search.specs.Bounds.{IsBoundAnswer}
 
 -- with many inputs the vector need not be the first

@@ -15,8 +15,8 @@ use Rattle.job_semantics.specs.Shrinking.{IsSpentMove}
 use Rattle.job_semantics.proofs.MinimalNets.{minimal-none_allowed}
 use Rattle.lane_bits.specs.Patterns.{PatternSet}
 use Rattle.care_masks.specs.Growing.{GrowingValue}
-use Rattle.worst_case.specs.declared.query.Spent as spent
-use Rattle.worst_case.specs.Exceeds.{spent_value, IsSpentOn}
+use Rattle.level_answers.specs.declared.query.Spent as spent
+use Rattle.level_answers.specs.Exceeds.{spent_value, IsSpentOn}
 use Rattle.synth_core.specs.MoveTrials.{IsFoundOver}
 use Rattle.synth_core.specs.AllowedMoves.{IsFirstMoved, masks_over, IsMaskedPool, AreAmong, IsSearched, IsCandidateMove, IsFirstUnbroken, IsNextUnbroken}
 use Rattle.synth_core.proofs.Pools.{IsPool-more, each_more}

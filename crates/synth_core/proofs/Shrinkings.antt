@@ -11,8 +11,8 @@ use Rattle.job_semantics.specs.Shrinking.{IsSpentMove, IsShrinking}
 use Rattle.job_semantics.proofs.MinimalNets.{minimal-none_allowed}
 use Rattle.lane_bits.specs.Patterns.{PatternSet}
 use Rattle.net_errors.specs.Compared.{NetPair}
-use Rattle.worst_case.specs.declared.query.Spent as spent
-use Rattle.worst_case.specs.Exceeds.{spent_value}
+use Rattle.level_answers.specs.declared.query.Spent as spent
+use Rattle.level_answers.specs.Exceeds.{spent_value}
 use Rattle.chain_semantics.proofs.Simplifications.{simplified_from-falls}
 use Rattle.synth_core.specs.AllowedMoves.{IsPool, IsFirstMoved}
 use Rattle.synth_core.specs.Turns.{IsNextMember}

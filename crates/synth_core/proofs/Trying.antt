@@ -21,9 +21,9 @@ use Rattle.care_masks.specs.Growing.{GrowingValue}
 use Rattle.lane_bits.specs.Patterns.{PatternSet}
 use Rattle.net_errors.specs.Compared.{NetPair}
 use Rattle.proof_semantics.specs.declared.constraint.Constraint.{Constraint}
-use Rattle.worst_case.specs.declared.margin.Margin.{Margin}
-use Rattle.worst_case.specs.declared.margin.Margin.TheVariants.{Over, Within, Spent}
-use Rattle.worst_case.specs.Levels.{IsLevelAnswer}
+use Rattle.level_answers.specs.declared.margin.Margin.{Margin}
+use Rattle.level_answers.specs.declared.margin.Margin.TheVariants.{Over, Within, Spent}
+use Rattle.level_answers.specs.Levels.{IsLevelAnswer}
 use Rattle.synth_core.specs.MoveTrials.{IsJudged}
 use Rattle.synth_core.specs.AllowedMoves.{masks_over, IsMaskedPool, IsCandidateMove}
 use Rattle.synth_core.proofs.Pools.{vector_at}

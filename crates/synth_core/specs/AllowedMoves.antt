@@ -15,7 +15,7 @@ use Rattle.proof_semantics.specs.declared.constraint.Constraint.{Constraint}
 use Rattle.job_semantics.specs.Shrinking.{AreApart, IsSpentMove}
 use Rattle.lane_bits.specs.Patterns.{PatternSet}
 use Rattle.care_masks.specs.Growing.{GrowingValue}
-use Rattle.worst_case.specs.Exceeds.{spent_value, IsSpentOn}
+use Rattle.level_answers.specs.Exceeds.{spent_value, IsSpentOn}
 use Rattle.synth_core.specs.declared.allowed_move.Weighed.{Weighed}
 use Rattle.synth_core.specs.declared.allowed_move.Weighed.TheVariants as weighed
 use Rattle.synth_core.specs.declared.allowed_move.Found.{Found}

@@ -8,10 +8,10 @@ use Rattle.proof_semantics.specs.declared.constraint.Constraint.{Constraint}
 use Rattle.chain_semantics.specs.declared.moves.Move.{Move}
 use Rattle.chain_semantics.specs.Moves.{moved}
 use Rattle.chain_semantics.specs.Simplification.{IsAllowedMove}
-use Rattle.worst_case.specs.declared.margin.Margin.{Margin}
-use Rattle.worst_case.specs.declared.margin.Margin.TheVariants.{Over, Within, Spent}
-use Rattle.worst_case.specs.Exceeds.{IsSpentOn}
-use Rattle.worst_case.specs.VectorsTried.{IsExceededAt}
+use Rattle.level_answers.specs.declared.margin.Margin.{Margin}
+use Rattle.level_answers.specs.declared.margin.Margin.TheVariants.{Over, Within, Spent}
+use Rattle.level_answers.specs.Exceeds.{IsSpentOn}
+use Rattle.level_answers.specs.Levels.{IsExceededAt}
 
 -- the error of M exceeds the bound at this vector; this never happens with at most eight inputs, where
 -- nothing is asked

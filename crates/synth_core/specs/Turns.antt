@@ -6,7 +6,7 @@ use Rattle.net_errors.specs.Compared.{NetPair}
 use Rattle.chain_semantics.specs.Simplification.{IsBeginning, IsInSimplificationFrom}
 use Rattle.proof_semantics.specs.declared.constraint.Constraint.{Constraint}
 use Rattle.job_semantics.specs.Shrinking.{IsShrinking}
-use Rattle.worst_case.specs.Exceeds.{spent_value}
+use Rattle.level_answers.specs.Exceeds.{spent_value}
 use Rattle.synth_core.specs.declared.turn.Turn.{Turn}
 use Rattle.synth_core.specs.declared.turn.Turn.TheVariants.{Next, End}
 

@@ -10,13 +10,13 @@ use crate::unbroken::next_unbroken;
 use care_masks::growing::GrowingMasks;
 use chain_semantics::moves::Move;
 use lane_bits::patterns::Patterns;
+use level_answers::margin::Margin;
+use level_answers::query::Spent;
 use net_core::net::Net;
 use net_errors::compared::Compared;
 use net_moves::moves::moves;
 use progress::progress::Progress;
 use std::alloc::{AllocError, Global};
-use worst_case::margin::Margin;
-use worst_case::query::Spent;
 
 /// What is found out about the moves of a member of the chain.
 #[derive(Drop)]

@@ -5,6 +5,8 @@ ghost use Rattle.std.specs.Prelude.{◌≤◌, IfOk};
 ghost use Rattle.semantics.specs.Net.{IsSmall};
 ghost use Rattle.net_search.specs.Bounds.{IsBoundAnswer};
 
+use level_answers::margin::Margin;
+use level_answers::query::Exceed;
 use net_errors::compared::Compared;
 use progress::progress::Progress;
 use proof_semantics::constraint::Constraint;
@@ -12,9 +14,7 @@ use semantics::limits::FEW_INPUTS;
 use std::alloc::{AllocError, Global};
 use worst_case::exceeds::exceeds;
 use worst_case::judge::Judge;
-use worst_case::margin::Margin;
 use worst_case::policy::within_level;
-use worst_case::query::Exceed;
 
 /// The answer with the first vector at which the error exceeds the bound.
 fn first_over<P: Progress>(

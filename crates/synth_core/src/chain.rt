@@ -2,14 +2,14 @@
 //! greatest error.
 use crate::beginning::within_bound;
 use crate::shrink::shrink_from;
+use level_answers::margin::Margin;
+use level_answers::query::Maximum;
 use net_errors::compared::Compared;
 use net_search::search::{Search, Shrunk};
 use progress::progress::Progress;
 use proof_semantics::constraint::Constraint;
 use std::alloc::{AllocError, Global};
-use worst_case::margin::Margin;
 use worst_case::maximum::maximum;
-use worst_case::query::Maximum;
 
 /// The search along the chain, and the searches by queries.
 pub struct Chain;

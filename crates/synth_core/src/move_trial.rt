@@ -9,13 +9,13 @@ ghost use Rattle.synth_core.specs.MoveTrials.{IsJudged, IsTrial};
 
 use crate::tester::Tester;
 use chain_semantics::moves::Move;
+use level_answers::margin::Margin;
 use net_core::net::Net;
 use net_errors::compared::Compared;
 use net_moves::apply::{make, take_back};
 use progress::progress::Progress;
 use semantics::limits::FEW_INPUTS;
 use std::alloc::{AllocError, Global};
-use worst_case::margin::Margin;
 use worst_case::policy::within_level;
 
 /// Whether a moved net keeps the bound. With few inputs every vector is known to break no move that is left,

@@ -14,12 +14,13 @@ ghost use Rattle.semantics.specs.Net.{input_count, IsSmall};
 ghost use Rattle.semantics.specs.Error.{IsWithin};
 ghost use Rattle.chain_semantics.specs.Simplification.{IsInSimplificationFrom};
 ghost use Rattle.job_semantics.specs.Shrinking.{IsShrinking};
-ghost use Rattle.worst_case.specs.Exceeds.{spent_value};
+ghost use Rattle.level_answers.specs.Exceeds.{spent_value};
 ghost use Rattle.synth_core.specs.AllowedMoves.{IsPool};
 ghost use Rattle.synth_core.specs.Turns.{IsReadyFor};
 
 use crate::tester::{Tester, tester_for};
 use crate::turn::{Turn, take_turn};
+use level_answers::query::Spent;
 use net_core::net::Net;
 use net_errors::compared::Compared;
 use net_search::search::Shrunk;
@@ -28,7 +29,6 @@ use progress::progress::{Progress, Silent};
 use proof_semantics::constraint::Constraint;
 use semantics::limits::MOST_OUTPUTS;
 use std::alloc::{AllocError, Global};
-use worst_case::query::Spent;
 
 /// Goes from member to member of the chain, up to its end or to a spent query. Returns the spent query.
 fn follow<P: Progress>(

@@ -6,12 +6,12 @@ ghost use Rattle.synth_core.specs.Turns.{IsReadyFor, IsTurn};
 
 use crate::allowed_move::{Found, find_move};
 use crate::tester::Tester;
+use level_answers::query::Spent;
 use net_core::net::Net;
 use net_errors::compared::Compared;
 use net_tidy::tidy::tidy;
 use progress::progress::Progress;
 use std::alloc::{AllocError, Global};
-use worst_case::query::Spent;
 
 /// What a turn comes to.
 #[derive(Drop)]

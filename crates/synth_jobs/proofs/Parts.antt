@@ -29,7 +29,7 @@ use Rattle.job_semantics.proofs.Certificates.{net_read, written_version, written
 use Rattle.job_semantics.proofs.SmallNets.{literals_at_most}
 use Rattle.job_semantics.specs.Shrinking.{Shrinking, IsSpentMove, IsShownEnd}
 use Rattle.job_semantics.specs.Synthesis.{Request, Simplified, claim_of, shrinking_of, IsTaskDone, IsSimplifiedFrom, IsRefutedBy, is_shown_minimal, synth_bundle}
-use Rattle.worst_case.specs.declared.query.Spent as spent
+use Rattle.level_answers.specs.declared.query.Spent as spent
 use Rattle.bundle_writing.specs.Value.{FitsReport}
 use Rattle.synth_jobs.specs.Spent.{told_query}
 use Rattle.synth_jobs.specs.declared.preparing.Findings.{Findings}

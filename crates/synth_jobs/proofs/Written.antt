@@ -13,7 +13,7 @@ use Rattle.job_semantics.specs.Certificate.{Texts, texts_of, OfBundle, OfReport,
 use Rattle.job_semantics.proofs.BundleFiles.{bundle_files-holds}
 use Rattle.job_semantics.specs.Call.{Call}
 use Rattle.job_semantics.specs.Synthesis.{Request, claim_of, BundleWritten, BundleCutShort}
-use Rattle.worst_case.specs.declared.query.Spent as spent
+use Rattle.level_answers.specs.declared.query.Spent as spent
 use Rattle.bundle_writing.specs.Value.{files_of}
 use Rattle.synth_jobs.specs.Spent.{told_query}
 use Rattle.synth_jobs.specs.Prepared.{IsReady}

@@ -3,7 +3,7 @@ use Rattle.semantics.specs.Net.{NetValue}
 use Rattle.chain_semantics.specs.Simplification.{IsBeginning}
 use Rattle.proof_semantics.specs.declared.constraint.Constraint.{Constraint}
 use Rattle.job_semantics.specs.SecondNetlist.{HasOtherPorts, IsAboveBound, IsBoundSpent}
-use Rattle.worst_case.specs.Exceeds.{spent_value}
+use Rattle.level_answers.specs.Exceeds.{spent_value}
 use Rattle.synth_jobs.specs.declared.beginning.Beginning.{Beginning}
 use Rattle.synth_jobs.specs.declared.beginning.Beginning.TheVariants.{Ports, Over, Spent, Within}
 

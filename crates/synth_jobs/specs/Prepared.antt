@@ -13,9 +13,9 @@ use Rattle.job_semantics.specs.Certificate.{IsNetlist, OfReport, IsOfAllowedSize
 use Rattle.job_semantics.specs.Shrinking.{Shrinking}
 use Rattle.job_semantics.specs.Synthesis.{Request, Simplified, claim_of, IsTaskDone, IsSimplifiedFrom}
 use Rattle.job_semantics.specs.Synthesis.{IsRefutedBy, MaximumSpent, is_shown_minimal, synth_bundle}
+use Rattle.level_answers.specs.declared.query.Spent as spent
+use Rattle.level_answers.specs.Exceeds.{spent_value}
 use Rattle.net_search.specs.declared.search.Shrunk.{Shrunk}
-use Rattle.worst_case.specs.declared.query.Spent as spent
-use Rattle.worst_case.specs.Exceeds.{spent_value}
 use Rattle.synth_jobs.specs.declared.preparing.Findings.{Findings}
 use Rattle.synth_jobs.specs.declared.preparing.Searched as searched
 use Rattle.synth_jobs.specs.declared.preparing.Prepared.{Prepared}

@@ -5,7 +5,7 @@ use Rattle.exit_numbers.specs.declared.numbers.TheConstants.{DONE, NO_MEMORY, CO
 use Rattle.exit_numbers.specs.declared.numbers.TheConstants.{WRITE_FAULT}
 use Rattle.job_semantics.specs.Call.{Call}
 use Rattle.job_semantics.specs.Synthesis.{Request, BundleWritten, BundleCutShort, MaximumSpent}
-use Rattle.worst_case.specs.Exceeds.{spent_value}
+use Rattle.level_answers.specs.Exceeds.{spent_value}
 use Rattle.synth_jobs.specs.Calls.{IsStill}
 use Rattle.synth_jobs.specs.declared.work.Work.{Work}
 use Rattle.synth_jobs.specs.declared.work.Work.TheVariants.{Done, Budget, NoMemory, WriteFault}

@@ -5,6 +5,8 @@ ghost use Rattle.semantics.specs.Net.{NetValue, IsSound, IsSmall, HasSamePorts};
 ghost use Rattle.net_search.specs.Bounds.{IsBoundAnswer};
 ghost use Rattle.synth_jobs.specs.Beginnings.{IsBeginningJudged};
 
+use level_answers::margin::Margin;
+use level_answers::query::Spent;
 use net_core::items::Bits;
 use net_core::net::Net;
 use net_errors::compared::Compared;
@@ -13,8 +15,6 @@ use net_search::search::Search;
 use progress::progress::Progress;
 use proof_semantics::constraint::Constraint;
 use std::alloc::{AllocError, Global};
-use worst_case::margin::Margin;
-use worst_case::query::Spent;
 
 /// How a second net stands to the exact one.
 #[derive(Drop)]

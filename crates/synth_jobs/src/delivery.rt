@@ -19,11 +19,11 @@ use bundle_writing::writing::{put_report, write_bundle};
 use file_core::fault::FileFault;
 use file_core::files::Files;
 use file_core::sink::Sink;
+use level_answers::query::Spent;
 use net_search::search::Search;
 use progress::progress::Progress;
 use semantics::limits::LARGEST_ERROR;
 use std::alloc::Global;
-use worst_case::query::Spent;
 
 /// Writes the files of a bundle, and then puts its report to the sink.
 fn deliver<F: Files, K: Sink>(

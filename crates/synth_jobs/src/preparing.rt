@@ -9,7 +9,7 @@ ghost use Rattle.synth_jobs.specs.declared.preparing.Prepared.TheVariants.{Ready
 ghost use Rattle.bundle_writing.specs.Value.{FitsReport};
 ghost use Rattle.job_semantics.specs.Synthesis as synthesis;
 ghost use Rattle.job_semantics.specs.Synthesis.{IsTaskDone, is_shown_minimal, request_of};
-ghost use Rattle.worst_case.specs.Maximum.{IsMaximumAnswer};
+ghost use Rattle.level_answers.specs.Maximum.{IsMaximumAnswer};
 ghost use Rattle.synth_jobs.specs.Spent.{told_query};
 ghost use Rattle.synth_jobs.specs.Requests.{told_request};
 ghost use Rattle.synth_jobs.specs.Prepared.{told_shrinking, bundle_of, IsSearched, IsPrepared};
@@ -20,6 +20,7 @@ use cnf_core::cnf::Cnf;
 use cnf_core::log::Log;
 use job_semantics::task::Task;
 use lane_bits::patterns::Patterns;
+use level_answers::query::{Maximum, Spent};
 use miter::level::miter_of;
 use net_core::items::Bits;
 use net_core::net::Net;
@@ -30,7 +31,6 @@ use proof_semantics::constraint::Constraint;
 use semantics::limits::LARGEST_ERROR;
 use semantics::metric::Metric;
 use std::alloc::{AllocError, Global};
-use worst_case::query::{Maximum, Spent};
 
 /// What is ready before the first file is touched.
 #[derive(Drop)]

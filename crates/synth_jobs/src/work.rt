@@ -3,7 +3,7 @@ ghost use Rattle.std.specs.Prelude.{◌≡◌};
 ghost use Rattle.synth_jobs.specs.Work.{work_exit};
 
 use exit_numbers::numbers::{CONFLICTS_SPENT, DONE, NO_MEMORY, WRITE_FAULT};
-use worst_case::query::Spent;
+use level_answers::query::Spent;
 
 /// What the work on a net comes to.
 #[derive(Drop)]

@@ -6,6 +6,7 @@ use crate::nets::{move_of, net, product};
 use chain_semantics::moves::Move;
 use cnf_core::cnf::Cnf;
 use cnf_core::log::{Item, Log};
+use level_answers::query::Exceed;
 use lrat_check::checker::Checker;
 use miter::level::miter_of;
 use net_core::net::Net;
@@ -19,7 +20,6 @@ use semantics::metric::Metric;
 use std::alloc::Global;
 use std::test::Fail;
 use worst_case::exceeds::exceeds;
-use worst_case::query::Exceed;
 
 /// The conjunction of 16 inputs as one table.
 const CONJUNCTION: &[u8] =

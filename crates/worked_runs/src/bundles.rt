@@ -1,6 +1,6 @@
 //! What a run over the bundle of the half adder within 1, with one file changed, answers.
 use file_core::memory_files::MemFiles;
-use jobs::outcome::Status;
+use job_answers::status::Status;
 use memory_runs::bundles::with_file;
 use memory_runs::runs::run_over;
 use std::alloc::{AllocError, Global};

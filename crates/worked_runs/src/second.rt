@@ -1,5 +1,5 @@
 //! Second netlists against the half adder: certified, refined, and refused.
-use jobs::outcome::Status;
+use job_answers::status::Status;
 use memory_runs::half_adder::HALF_ADDER;
 use memory_runs::held::{add_file, holding, holds};
 use memory_runs::runs::{Run, run_after, run_over};

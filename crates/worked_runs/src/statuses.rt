@@ -1,5 +1,5 @@
 //! The exit number and the line of each answer.
-use jobs::outcome::Status;
+use job_answers::status::Status;
 use std::alloc::{AllocError, Global};
 use std::test::Fail;
 

@@ -5,14 +5,15 @@ use Rattle.semantics.specs.Error.{IsWithin}
 use Rattle.bdd_levels.specs.Levels.{IsOverAt}
 use Rattle.proof_semantics.specs.declared.constraint.Constraint.{Constraint}
 use Rattle.proof_semantics.specs.Conflicts.{IsEnough}
+use Rattle.level_answers.specs.Levels.{IsExceededAt}
+use Rattle.level_answers.specs.Levels.{IsLevelAnswer, IsSureAnswer}
+use Rattle.level_answers.specs.declared.query.Exceed.{Exceed}
+use Rattle.level_answers.specs.declared.query.Exceed.TheVariants as exceed
+use Rattle.level_answers.specs.declared.margin.Margin.{Margin}
+use Rattle.level_answers.specs.declared.margin.Margin.TheVariants.{Over, Within, Spent}
 use Rattle.worst_case.specs.Exceeds.{IsAsked}
-use Rattle.worst_case.specs.VectorsTried.{IsExceededAt}
-use Rattle.worst_case.specs.Levels.{IsLevelAnswer, IsSureAnswer, without_log}
+use Rattle.worst_case.specs.Levels.{without_log}
 use Rattle.worst_case.proofs.Queries.{asked_at}
-use Rattle.worst_case.specs.declared.query.Exceed.{Exceed}
-use Rattle.worst_case.specs.declared.query.Exceed.TheVariants as exceed
-use Rattle.worst_case.specs.declared.margin.Margin.{Margin}
-use Rattle.worst_case.specs.declared.margin.Margin.TheVariants.{Over, Within, Spent}
 
 pub answer_over : (aim : Constraint) (N M E A : NetValue) (x y : List Bool) → E ≡ N → A ≡ M → x ≡ y → IsOverAt aim.metric E A aim.bound y → IsExceededAt aim N M x
 answer_over aim N M E A x y exact approx same over =

@@ -23,8 +23,8 @@ use Rattle.proof_semantics.specs.Conflicts.{IsConflictChain}
 use Rattle.cdcl_core.specs.Answers.{IsModel, IsAnswer}
 use Rattle.cdcl_core.specs.declared.answer.Answer.{Answer}
 use Rattle.cdcl_core.specs.declared.answer.Answer.TheVariants.{Model, Refuted, Spent}
+use Rattle.level_answers.specs.declared.query.Exceed.{Exceed}
 use Rattle.worst_case.specs.Exceeds.{IsAsked, told}
-use Rattle.worst_case.specs.declared.query.Exceed.{Exceed}
 
 module _ (metric : Metric) (N M : NetValue) (k : ℕ) (h : AreComparable N M) where
   -- a model of the miter has a bit for each input

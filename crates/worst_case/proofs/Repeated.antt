@@ -14,8 +14,8 @@ use Rattle.cdcl_core.specs.Searched.{Begins}
 use Rattle.cdcl_core.specs.Outcomes.{IsOutcome}
 use Rattle.cdcl_core.specs.declared.outcome.Outcome.{Outcome}
 use Rattle.cdcl_core.specs.declared.outcome.Outcome.TheVariants.{Model, Refuted, Open}
+use Rattle.level_answers.specs.declared.query.Spent as spent
 use Rattle.worst_case.specs.Exceeds.{IsChainOn}
-use Rattle.worst_case.specs.declared.query.Spent as spent
 
 -- the first items of a log that begins with another one
 front_of : (n : ℕ) (b c : List LogItem) → n ≤ length b → Begins b c → take n c ≡ take n b

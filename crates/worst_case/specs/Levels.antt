@@ -1,25 +1,12 @@
--- What is answered to the question whether the error stays within a level, without a log.
+-- Answers to the question whether the error stays within a level, as they come from one of its ways.
 use Rattle.std.specs.Prelude.{ℕ, ◌<◌, Option, MatchOption}
 use Rattle.semantics.specs.Net.{NetValue, input_count}
-use Rattle.semantics.specs.Error.{IsWithin}
 use Rattle.proof_semantics.specs.declared.constraint.Constraint.{Constraint}
-use Rattle.worst_case.specs.Exceeds.{IsSpentOn}
-use Rattle.worst_case.specs.VectorsTried.{IsExceededAt}
-use Rattle.worst_case.specs.declared.query.Exceed.{Exceed}
-use Rattle.worst_case.specs.declared.query.Exceed.TheVariants as exceed
-use Rattle.worst_case.specs.declared.margin.Margin.{Margin}
-use Rattle.worst_case.specs.declared.margin.Margin.TheVariants.{Over, Within, Spent}
-
-abbrev pub IsLevelAnswer : Constraint → NetValue → NetValue → Margin → Type 0
-IsLevelAnswer aim exact approx (Over x) = IsExceededAt aim exact approx x
-IsLevelAnswer aim exact approx Within = IsWithin aim.metric exact aim.bound approx
-IsLevelAnswer aim exact approx (Spent s) = IsSpentOn aim exact approx s
-
--- an answer for which nothing was spent
-abbrev pub IsSureAnswer : Constraint → NetValue → NetValue → Margin → Type 0
-IsSureAnswer aim exact approx (Over x) = IsExceededAt aim exact approx x
-IsSureAnswer aim exact approx Within = IsWithin aim.metric exact aim.bound approx
-IsSureAnswer aim exact approx (Spent s) = ⊥
+use Rattle.level_answers.specs.Levels.{IsSureAnswer}
+use Rattle.level_answers.specs.declared.query.Exceed.{Exceed}
+use Rattle.level_answers.specs.declared.query.Exceed.TheVariants as exceed
+use Rattle.level_answers.specs.declared.margin.Margin.{Margin}
+use Rattle.level_answers.specs.declared.margin.Margin.TheVariants.{Over, Within, Spent}
 
 -- the answer of the solver without its log
 abbrev pub without_log : Exceed → Margin

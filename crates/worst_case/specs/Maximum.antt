@@ -1,4 +1,4 @@
--- What the search for the greatest error answers.
+-- The range of the search for the greatest error, and how it ends.
 use Rattle.std.specs.Prelude.{◌≡◌, ℕ, ◌<◌, ◌≤◌, ◌-◌, Option, MatchOption, length}
 use Rattle.semantics.specs.declared.limits.TheConstants.{FEW_INPUTS, LARGEST_ERROR}
 use Rattle.semantics.specs.Net.{NetValue, input_count}
@@ -6,18 +6,11 @@ use Rattle.semantics.specs.declared.metric.Metric.{Metric}
 use Rattle.semantics.specs.Error.{net_error, IsWithin}
 use Rattle.semantics.specs.Vectors.{IsFirstGreatestAt}
 use Rattle.proof_semantics.specs.declared.constraint.Constraint.{Constraint}
-use Rattle.proof_semantics.specs.Queries.{IsNever, IsMaximum, IsSpentLevel}
-use Rattle.worst_case.specs.Exceeds.{spent_value}
-use Rattle.worst_case.specs.declared.query.Maximum.{Maximum}
-use Rattle.worst_case.specs.declared.query.Maximum.TheVariants.{Found, Spent}
-use Rattle.worst_case.specs.declared.query.Spent as spent
+use Rattle.proof_semantics.specs.Queries.{IsNever, IsSpentLevel}
+use Rattle.level_answers.specs.Exceeds.{spent_value}
+use Rattle.level_answers.specs.declared.query.Spent as spent
 use Rattle.worst_case.specs.declared.range.Range.{Range}
 use Rattle.worst_case.specs.declared.vectors_tried.Attained.{Attained}
-
-abbrev pub IsMaximumAnswer : Constraint → NetValue → NetValue → Maximum → Type 0
-IsMaximumAnswer aim exact approx (Found most witness log)
-    = IsMaximum aim.metric exact approx (record { error = most; witness = witness; log = log })
-IsMaximumAnswer aim exact approx (Spent s) = IsSpentLevel aim exact approx (spent_value s)
 
 -- the greatest error of all input vectors, and the first of them that has it; it may not be found where there
 -- are more than `most` inputs

@@ -7,6 +7,7 @@ use Rattle.proof_semantics.specs.declared.constraint.Constraint.{Constraint}
 use Rattle.lane_bits.specs.InputOrder.{HasEveryVector}
 use Rattle.lane_bits.specs.Patterns.{PatternSet}
 use Rattle.lane_nets.specs.Lanes.{ReferenceValue}
+use Rattle.level_answers.specs.Levels.{IsExceededAt}
 use Rattle.worst_case.specs.declared.options.TheConstants.{LANE_INPUTS}
 
 -- one or more vectors of `inputs` bits; with at most sixteen inputs they are all vectors in counting order
@@ -24,11 +25,6 @@ pub record IsFirstGreatestIn (f : List Bool → ℕ) (vectors : List (List Bool)
   pub attained : f x ≡ most
   pub greatest : (k : ℕ) → k < length vectors → f (slice_index_or vectors k []) ≤ most
   pub first : (k : ℕ) → k < at → f (slice_index_or vectors k []) < most
-
--- an input vector whose error exceeds the level that is asked about
-pub record IsExceededAt (aim : Constraint) (exact approx : NetValue) (x : List Bool) : Type 0 where
-  pub width : length x ≡ input_count exact
-  pub exceeds : aim.bound < net_error aim.metric exact approx x
 
 -- x is an input vector whose error exceeds the level; where the vectors that were tried are all in counting
 -- order, it is the first

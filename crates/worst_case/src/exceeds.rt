@@ -1,15 +1,15 @@
 //! Whether some error exceeds a level. With at most sixteen inputs every vector is tried, and the log is made
 //! where no vector's error exceeds the level; with more inputs the solver is asked.
 ghost use Rattle.std.specs.Prelude.{◌≤◌, IfOk};
-ghost use Rattle.worst_case.specs.Exceeds.{IsAnswer};
+ghost use Rattle.level_answers.specs.Exceeds.{IsAnswer};
 ghost use Rattle.worst_case.specs.VectorsTried.{IsEveryVectorHeld};
 
 use crate::options::LANE_INPUTS;
-use crate::query::Exceed;
 use crate::refutation::refute_level;
 use crate::repeated_query::ask_repeatedly;
 use crate::vectors_tried::{hold_every_vector, try_vectors};
 use lane_nets::reference::Reference;
+use level_answers::query::Exceed;
 use net_errors::compared::Compared;
 use progress::progress::Progress;
 use proof_semantics::constraint::Constraint;

@@ -6,12 +6,13 @@
 //! where two outputs are one node it is mostly constant. What is left open here is asked again over the joint
 //! net's own formula, since a query that was spent is shown by that.
 ghost use Rattle.std.specs.Prelude.{◌≡◌, ◌≤◌, IfOk, IfSome};
-ghost use Rattle.worst_case.specs.Levels.{IsSureAnswer};
+ghost use Rattle.level_answers.specs.Levels.{IsSureAnswer};
 
-use crate::margin::{Margin, decided_margin};
+use crate::margin::decided_margin;
 use bdd_levels::level::Level;
 use graph_questions::levels::decide;
 use lane_bits::patterns::Patterns;
+use level_answers::margin::Margin;
 use net_errors::compared::Compared;
 use progress::progress::Progress;
 use proof_semantics::constraint::Constraint;

@@ -3,11 +3,12 @@
 //! order they are asked.
 ghost use Rattle.std.specs.Prelude.{◌≡◌, ◌≤◌, ◌<◌, IfOk, IfSome};
 ghost use Rattle.semantics.specs.Net.{input_count, IsSmall};
-ghost use Rattle.worst_case.specs.Levels.{IsAnsweredUpTo, IsLevelAnswer, IsSureAnswer};
+ghost use Rattle.level_answers.specs.Levels.{IsLevelAnswer, IsSureAnswer};
+ghost use Rattle.worst_case.specs.Levels.{IsAnsweredUpTo};
 ghost use Rattle.worst_case.specs.Maximum.{IsGreatestUpTo};
 ghost use Rattle.worst_case.specs.VectorsTried.{IsHeldFor, IsEachVectorHeldUpTo};
 
-use crate::margin::{Margin, by_diagrams, by_solver};
+use crate::margin::{by_diagrams, by_solver};
 use crate::options::{LANE_INPUTS, MOST_INPUTS_WITHOUT, MOST_TRIED_INPUTS, TABLES_A_STEP};
 use crate::vectors_tried::{
     Attained, greatest_of, hold_each_vector, hold_every_vector, hold_vectors, try_vectors,
@@ -15,6 +16,7 @@ use crate::vectors_tried::{
 use bdd_levels::budgets::QUESTION_STEPS;
 use bdd_levels::decider::Decider;
 use lane_nets::reference::Reference;
+use level_answers::margin::Margin;
 use net_core::net::Net;
 use net_errors::compared::Compared;
 use progress::progress::Progress;

@@ -2,32 +2,23 @@
 ghost use Rattle.std.specs.Prelude.{◌≡◌, ◌<◌, ◌≤◌, IfOk, IfSome};
 ghost use Rattle.semantics.specs.Net.{input_count};
 ghost use Rattle.bdd_levels.specs.Levels.{IsLevelDecided};
+ghost use Rattle.level_answers.specs.Levels.{IsLevelAnswer, IsSureAnswer};
 ghost use Rattle.worst_case.specs.Exceeds.{IsChainOn, IsPosed};
-ghost use Rattle.worst_case.specs.Levels.{IsLevelAnswer, IsSureAnswer, without_log};
+ghost use Rattle.worst_case.specs.Levels.{without_log};
 
 use crate::options::LANE_INPUTS;
-use crate::query::{Exceed, Spent};
 use crate::repeated_query::ask_again;
 use crate::solver_query::{Question, ask_once, pose};
 use bdd_levels::budgets::LAST_STEPS;
 use bdd_levels::decider::Decider;
 use bdd_nets::ever_true::Decision;
+use level_answers::margin::Margin;
+use level_answers::query::{Exceed, Spent};
 use net_core::items::Bits;
 use net_errors::compared::Compared;
 use progress::progress::Progress;
 use proof_semantics::constraint::Constraint;
 use std::alloc::{AllocError, Global};
-
-/// Whether the error exceeds a level.
-#[derive(Drop)]
-pub enum Margin {
-    /// The error exceeds the level at this input vector.
-    Over(Bits),
-    /// The error exceeds the level at no input vector.
-    Within,
-    /// The allowed conflicts were spent without an answer.
-    Spent(Spent),
-}
 
 /// What a decision without a log says of the two nets: nothing where it is open.
 #[tactic(auto, using(crate::proofs::Decided::answer_over, crate::proofs::Decided::answer_within))]

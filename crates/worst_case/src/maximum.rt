@@ -7,12 +7,13 @@
 ghost use Rattle.std.specs.Prelude.{◌≡◌, ◌≤◌, IfOk};
 ghost use Rattle.semantics.specs.Net.{IsSmall};
 ghost use Rattle.semantics.specs.Error.{IsWithin};
-ghost use Rattle.worst_case.specs.Maximum.{IsRange, IsEnd, IsMaximumAnswer};
+ghost use Rattle.level_answers.specs.Maximum.{IsMaximumAnswer};
+ghost use Rattle.worst_case.specs.Maximum.{IsRange, IsEnd};
 
 use crate::judge::Judge;
-use crate::query::{Exceed, Maximum, Spent};
 use crate::range::{Range, first_range, narrow, try_known};
 use crate::refutation::refute_level;
+use level_answers::query::{Exceed, Maximum, Spent};
 use net_errors::compared::Compared;
 use progress::progress::Progress;
 use proof_semantics::constraint::Constraint;

@@ -13,12 +13,13 @@
 //! never taken for an answer.
 ghost use Rattle.std.specs.Prelude.{◌≡◌, ◌≤◌, IfOk};
 ghost use Rattle.semantics.specs.Net.{input_count};
-ghost use Rattle.worst_case.specs.Levels.{IsAnsweredUpTo, IsLevelAnswer, IsSureAnswer};
+ghost use Rattle.level_answers.specs.Levels.{IsLevelAnswer, IsSureAnswer};
+ghost use Rattle.worst_case.specs.Levels.{IsAnsweredUpTo};
 
 use crate::graph_question::by_graph;
 use crate::judge::Judge;
-use crate::margin::Margin;
 use crate::options::MOST_TRIED_INPUTS;
+use level_answers::margin::Margin;
 use net_errors::compared::Compared;
 use progress::progress::Progress;
 use proof_semantics::constraint::Constraint;

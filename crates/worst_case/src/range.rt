@@ -6,10 +6,10 @@ ghost use Rattle.worst_case.specs.Maximum.{IsNarrowed, IsRange, IsRangeOrSpent};
 
 use crate::exceeds::exceeds;
 use crate::judge::Judge;
-use crate::margin::Margin;
 use crate::options::LANE_INPUTS;
-use crate::query::{Exceed, Spent};
 use crate::vectors_tried::greatest_of;
+use level_answers::margin::Margin;
+use level_answers::query::{Exceed, Spent};
 use net_core::items::Bits;
 use net_errors::compared::Compared;
 use net_errors::net_error::error_at;

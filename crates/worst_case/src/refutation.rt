@@ -7,14 +7,14 @@ ghost use Rattle.semantics.specs.Net.{input_count};
 ghost use Rattle.semantics.specs.Error.{IsWithin};
 ghost use Rattle.proof_semantics.specs.Conflicts.{IsEnough};
 ghost use Rattle.proof_semantics.specs.Queries.{IsNever};
-ghost use Rattle.worst_case.specs.Exceeds.{IsAnswer};
+ghost use Rattle.level_answers.specs.Exceeds.{IsAnswer};
 
 use crate::comparable::see_comparable;
 use crate::options::FEW_CONFLICTS;
-use crate::query::Exceed;
 use crate::repeated_query::ask_repeatedly;
 use crate::solver_query::ask_solver;
 use case_tree::refute::refute;
+use level_answers::query::Exceed;
 use miter::level::joint_miter;
 use net_errors::compared::Compared;
 use progress::progress::Progress;

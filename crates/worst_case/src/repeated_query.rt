@@ -10,10 +10,10 @@ ghost use Rattle.cdcl_core.specs.Outcomes.{IsOutcome};
 ghost use Rattle.worst_case.specs.Exceeds.{IsAsked, IsChainOn, IsPosed};
 
 use crate::options::{EARLY_CONFLICTS, MOST_QUERIES};
-use crate::query::{Exceed, Spent};
 use crate::solver_query::{Question, ask_once, input_bits, kept_refutation, pose};
 use cdcl_core::forgetting::solve_forgetting;
 use cdcl_core::outcome::Outcome;
+use level_answers::query::{Exceed, Spent};
 use net_core::items::Items;
 use net_errors::compared::Compared;
 use progress::progress::Progress;

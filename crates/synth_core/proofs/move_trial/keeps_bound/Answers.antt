@@ -2,7 +2,7 @@ use Rattle.std.proofs.Common.{ap, subst, sym, ◌∙◌, arith}
 use Rattle.std.proofs.lemmas.Result.{IfOk-weaker}
 use Rattle.semantics.specs.Net.{input_count}
 use Rattle.semantics.specs.Error.{IsCandidate}
-use Rattle.worst_case.specs.Levels.{IsLevelAnswer}
+use Rattle.level_answers.specs.Levels.{IsLevelAnswer}
 use Rattle.synth_core.proofs.Trying.{judged-by}
 use Rattle.synth_core.proofs.move_trial.keeps_bound.Goals as goal
 

@@ -1,7 +1,7 @@
 use Rattle.std.proofs.Common.{sym, subst}
 use Rattle.semantics.specs.Error.{IsWithin}
 use Rattle.job_semantics.specs.Synthesis.{request_of}
-use Rattle.worst_case.specs.Maximum.{IsMaximumAnswer}
+use Rattle.level_answers.specs.Maximum.{IsMaximumAnswer}
 use Rattle.synth_jobs.specs.Prepared.{told_shrinking}
 use Rattle.synth_jobs.proofs.Parts.{kept, kept-candidate}
 use Rattle.synth_jobs.proofs.preparing.search.Goals as goal

@@ -1,0 +1,3 @@
+pub mod Exceeds
+pub mod Levels
+pub mod Maximum
