@@ -7,15 +7,15 @@
 //! Source: GRASP, and Chaff for the first point.
 //!
 //! Then marked entries of lower levels that the other marked entries imply are replaced too, as in MiniSat,
-//! which makes the clause shorter; and so are entries that stand without a decision, so that no learned
-//! clause mentions them. Each replacement is a resolution and gives a hint; in reverse, the hints are the
-//! reasons in the order of the trail, and then the conflict's clause. An entry is replaced once, after all
-//! entries behind it that are replaced, so each reason is one hint. So the room that the clause and its hints
-//! can take is known before, and the analysis itself takes no memory (`HasRoom`).
-ghost use Rattle.std.specs.Prelude.{◌≡◌, ◌⊎◌, ◌+◌, ◌<◌, ◌≤◌, ◌^◌, length, vec_len, vec_capacity, neg_ℤ, All};
-ghost use Rattle.std.specs.Prelude.{IfSome, OnOk, reverse};
+//! with the entries between, which makes the clause shorter; and so are entries that stand without a
+//! decision, so that no learned clause mentions them. Each replacement is a resolution and gives a hint; in
+//! reverse, the hints are the reasons in the order of the trail, and then the conflict's clause. An entry is
+//! replaced once, after all entries behind it that are replaced, so each reason is one hint. So the room that
+//! the clause and its hints can take is known before, and the analysis itself takes no memory (`HasRoom`).
+ghost use Rattle.std.specs.Prelude.{◌≡◌, ◌+◌, ◌<◌, ◌≤◌, ◌^◌, length, vec_len, vec_capacity, All, OnOk};
+ghost use Rattle.std.specs.Prelude.{reverse};
 ghost use Rattle.proof_semantics.specs.Clauses.{AreClausesOf};
-ghost use Rattle.cdcl_core.specs.Trail.{IsReason, IsTrail, IsTrueBelow};
+ghost use Rattle.cdcl_core.specs.Trail.{IsTrail};
 ghost use Rattle.cdcl_core.specs.Explained.{IsExplained};
 ghost use Rattle.cdcl_core.specs.Placed.{last_start};
 ghost use Rattle.cdcl_core.specs.Propagation.{IsConflict};
@@ -26,6 +26,7 @@ ghost use Rattle.cdcl_core.specs.Jump.{IsRunning};
 
 use crate::clause_list::{ClauseList, id_of};
 use crate::decision_order::Order;
+use crate::implied::Implied;
 use crate::literal::Literal;
 use crate::resolution::{mark_conflict, resolve};
 use crate::trail::Trail;
@@ -62,6 +63,7 @@ pub fn make_room(
     clauses: &mut ClauseList,
     order: &mut Order,
     marks: &mut Marks,
+    implied: &mut Implied,
     learned: &mut Learned,
 ) -> Result<(), AllocError>
     requires { entries < 2 ^ 32 }
@@ -73,6 +75,7 @@ pub fn make_room(
 {
     order.make_room(entries)?;
     marks.make_room(entries)?;
+    implied.make_room(entries)?;
     learned.clause.clear();
     learned.clause.reserve(marks.len())?;
     learned.hints.clear();
@@ -173,55 +176,13 @@ pub fn bring_forward(
     }
 }
 
-/// Whether the entries that make the literals of a clause false, but for one literal, are marked or stand
-/// before `first`.
-fn is_implied(trail: &Trail, marks: &Marks, clause: &[Literal], own: Literal, first: usize) -> bool
-    requires marks { length trail.now.literals ≤ length marks.now }
-    requires others { All (λ a. (a ≡ own)
-        ⊎ IsTrueBelow trail.now.literals (length trail.now.literals) (neg_ℤ a)) clause.now }
-{
-    for literal in clause {
-        if !literal.is(own) {
-            let place = trail.place(*literal);
-            if first <= place && !marks.is(place) {
-                return false;
-            }
-        }
-    }
-    true
-}
-
-/// The reason of an entry, where the other marked entries and those before `first` imply the entry by this
-/// reason.
-fn redundant(
-    trail: &Trail,
-    clauses: &ClauseList,
-    marks: &Marks,
-    place: usize,
-    first: usize,
-) -> Option<usize>
-    requires marks { length trail.now.literals ≤ length marks.now }
-    requires place { place < length trail.now.literals }
-    requires trail { IsTrail clauses.now.list trail.now.literals trail.now.reasons trail.now.starts }
-    ensures { IfSome result (IsReason clauses.now.list trail.now.literals place) }
-{
-    let reason = trail.reason(place)?;
-    let clause = clauses.get(reason);
-    if is_implied(trail, marks, clause, trail.literal(place), first) {
-        Some(reason)
-    } else {
-        None
-    }
-}
-
-/// Resolves the entry at `place`, if it is marked and the other marked entries imply it.
+/// Resolves the entry at `place`, if it is marked and has a reason.
 fn shorten_at(
     trail: &Trail,
     clauses: &ClauseList,
     marks: &mut Marks,
     hints: &mut Vec<u64>,
     place: usize,
-    first: usize,
 )
     requires marks { length trail.now.literals ≤ length marks.old }
     requires room { vec_len hints.old < vec_capacity hints.old }
@@ -236,17 +197,18 @@ fn shorten_at(
     if !marks.is(place) {
         return;
     }
-    if let Some(reason) = redundant(trail, clauses, marks, place, first) {
+    if let Some(reason) = trail.reason(place) {
         resolve(trail, clauses, marks, hints, place, reason);
     }
 }
 
-/// Resolves the marked entries from `first` to before `start` that the other marked entries imply, from the
-/// last on. Returns the number of places that were sorted.
+/// Resolves the entries from `first` to before `start` that the other marked entries imply, from the last on.
+/// Returns the number of places that were sorted.
 fn shorten(
     trail: &Trail,
     clauses: &ClauseList,
     marks: &mut Marks,
+    implied: &mut Implied,
     hints: &mut Vec<u64>,
     start: usize,
     first: usize,
@@ -262,13 +224,13 @@ fn shorten(
     ensures room { vec_len hints.new + first ≤ vec_capacity hints.new }
 {
     let places = marks.sort(first, start);
-    let mut rest = places;
+    let mut rest = implied.find(trail, clauses, marks, first, places);
     let mut top = start;
     'down: while rest > 0 {
         rest -= 1;
-        let place = marks.sorted_place(rest).unwrap_or(start);
+        let place = implied.implied_place(rest).unwrap_or(start);
         if first <= place && place < top {
-            shorten_at(trail, clauses, marks, hints, place, first);
+            shorten_at(trail, clauses, marks, hints, place);
             top = place;
         }
     }
@@ -293,7 +255,7 @@ fn resolve_base(
 {
     let mut top = first;
     'down: while let Some(next) = marks.find_highest(0, top) {
-        shorten_at(trail, clauses, marks, hints, next, first);
+        shorten_at(trail, clauses, marks, hints, next);
         top = next;
     }
 }
@@ -337,6 +299,7 @@ pub fn learn(
     trail: &Trail,
     clauses: &ClauseList,
     marks: &mut Marks,
+    implied: &mut Implied,
     learned: &mut Learned,
     conflict: usize,
 )
@@ -356,7 +319,8 @@ pub fn learn(
     learned.hints.clear();
     learned.hints.push_reserved(id_of(clauses, conflict));
     learned.place = reach_one(trail, clauses, marks, &mut learned.hints, start);
-    let places = shorten(trail, clauses, marks, &mut learned.hints, start, first);
+    let hints = &mut learned.hints;
+    let places = shorten(trail, clauses, marks, implied, hints, start, first);
     resolve_base(trail, clauses, marks, &mut learned.hints, first);
     learned.levels = count_levels(trail, marks, places, start);
     marks.gather_clause(trail, &mut learned.clause);

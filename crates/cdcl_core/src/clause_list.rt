@@ -68,6 +68,15 @@ impl ClauseList {
         &self.region[start as usize..end as usize]
     }
 
+    /// The clause at place `i`, from 0, or no literals where there is no such clause.
+    pub fn find(&self, i: usize) -> &[Literal] {
+        if i < self.spans.len() {
+            self.get(i)
+        } else {
+            &[]
+        }
+    }
+
     /// Makes room for a clause of `literals` literals. Returns an error where memory is wanting, or where
     /// half a word holds no further place.
     pub fn reserve(&mut self, literals: usize) -> Result<(), AllocError>

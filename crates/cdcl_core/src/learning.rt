@@ -30,6 +30,7 @@ pub fn log_refutation(alloc: Global, search: &mut Search, conflict: usize) -> Re
         &mut search.clauses,
         &mut search.order,
         &mut search.marks,
+        &mut search.implied,
         &mut search.learned,
     )?;
     refute(
@@ -66,6 +67,7 @@ pub fn learn_from(alloc: Global, search: &mut Search, conflict: usize) -> Result
         &mut search.clauses,
         &mut search.order,
         &mut search.marks,
+        &mut search.implied,
         &mut search.learned,
     )?;
     let id = count(&search.clauses) + 1;
@@ -73,6 +75,7 @@ pub fn learn_from(alloc: Global, search: &mut Search, conflict: usize) -> Result
         &search.trail,
         &search.clauses,
         &mut search.marks,
+        &mut search.implied,
         &mut search.learned,
         conflict,
     );

@@ -11,6 +11,7 @@ mod decision_order;
 mod first_watches;
 pub mod forgetting;
 pub mod guide;
+mod implied;
 mod jump;
 mod kept_clauses;
 mod later_conflicts;

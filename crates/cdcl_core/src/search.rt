@@ -17,6 +17,7 @@ use crate::clause::{push_added, push_all};
 use crate::clause_list::ClauseList;
 use crate::decision::decide;
 use crate::decision_order::Order;
+use crate::implied::Implied;
 use crate::propagation::propagate;
 use crate::step_log::StepLog;
 use crate::trail::Trail;
@@ -28,7 +29,7 @@ use proof_parts::log::Log;
 use std::alloc::{AllocError, Global};
 
 /// The clauses that are held, the literals that are true, the watches, the order of the variables, the log of
-/// what was derived, room for the marks of an analysis, and what was learned last.
+/// what was derived, room for the marks of an analysis and for what they imply, and what was learned last.
 #[derive(Drop)]
 pub struct Search {
     pub clauses: ClauseList,
@@ -37,6 +38,7 @@ pub struct Search {
     pub order: Order,
     pub log: StepLog,
     pub marks: Marks,
+    pub implied: Implied,
     pub learned: Learned,
 }
 
@@ -64,6 +66,7 @@ pub fn start(alloc: Global, cnf: &Cnf, merged: &Log, order: Order) -> Result<Sea
     let watches = Watches::new(alloc, variables)?;
     let log = StepLog::new(alloc, log_copy(alloc, merged.as_slice())?);
     let marks = Marks::new(alloc);
+    let implied = Implied::new(alloc);
     let learned = Learned::none(alloc);
     Ok(Search {
         clauses,
@@ -72,6 +75,7 @@ pub fn start(alloc: Global, cnf: &Cnf, merged: &Log, order: Order) -> Result<Sea
         order,
         log,
         marks,
+        implied,
         learned,
     })
 }

@@ -151,6 +151,22 @@ impl Trail {
         self.places[literal.variable()]
     }
 
+    /// The reason of an entry, where there is such an entry.
+    pub fn find_reason(&self, i: usize) -> Option<usize> {
+        match self.reasons.get(i) {
+            Some(reason) => *reason,
+            None => None,
+        }
+    }
+
+    /// The place where the literal's variable got a value last, or 0 where it never had one.
+    pub fn find_place(&self, literal: Literal) -> usize {
+        match self.places.get(literal.variable()) {
+            Some(place) => *place,
+            None => 0,
+        }
+    }
+
     /// How many levels are open.
     pub fn levels(&self) -> usize
         ensures { result ≡ length self.now.starts }

@@ -13,14 +13,15 @@ use crate::trail::Trail;
 use std::alloc::{AllocError, Global};
 use std::marker::Model;
 
-/// Marks by place; whether a place is listed; the places that were marked since the marks were cleared; and a
-/// sorted part of these places.
+/// Marks by place; whether a place is listed; the places that were marked since the marks were cleared; a
+/// sorted part of these places; and how many places had been marked when they were sorted.
 #[derive(Drop)]
 pub struct Marks {
     on: Vec<bool>,
     listed: Vec<bool>,
     touched: Vec<usize>,
     sorted: Vec<usize>,
+    before: usize,
 }
 
 impl Model for Marks {
@@ -93,6 +94,7 @@ impl Marks {
             listed: Vec::new(alloc),
             touched: Vec::new(alloc),
             sorted: Vec::new(alloc),
+            before: 0,
         }
     }
 
@@ -117,6 +119,11 @@ impl Marks {
         ensures { result ≡ mark_at self.now place }
     {
         self.on[place]
+    }
+
+    /// Whether a place is one of the marked ones.
+    pub fn has(&self, place: usize) -> bool {
+        place < self.on.len() && self.on[place]
     }
 
     /// Marks a place.
@@ -177,9 +184,9 @@ impl Marks {
         self.on.len()
     }
 
-    /// How many places were marked since the marks were cleared.
+    /// How many places were marked before they were sorted.
     pub fn touched(&self) -> usize {
-        self.touched.len()
+        self.before
     }
 
     /// One of the places that were marked.
@@ -195,6 +202,7 @@ impl Marks {
     pub fn sort(&mut self, low: usize, high: usize) -> usize
         ensures { self.new ≡ self.old }
     {
+        self.before = self.touched.len();
         self.sorted.clear();
         gather_marked(&self.on, &self.touched, low, high, &mut self.sorted);
         self.sorted.sort_unstable();

@@ -13,6 +13,7 @@ returns-clause-search c =
       order = c.args.order;
       log = c.new-log.result;
       marks = c.new-marks.result;
+      implied = c.new-implied.result;
       learned = c.none-learned.result;
     })
     c.vars-variables.ensures.formed.literals c.vars-variables.ensures.formed.few_variables c.requires.merged c.in_ok-clauses.ensures
