@@ -1,5 +1,5 @@
 //! The signals of the names in a model, at one of its uses.
-ghost use Rattle.std.specs.Prelude.{◌≡◌, ◌+◌, ◌<◌, ◌^◌, ◌++◌, IfOk, length, map, filter, sum_by};
+ghost use Rattle.std.specs.Prelude.{◌≡◌, ◌+◌, ◌<◌, ◌≤◌, ◌^◌, ◌++◌, IfOk, None, length, map, filter, sum_by};
 ghost use Rattle.std.specs.List.{range_with_len};
 ghost use Rattle.semantics.specs.Refusals.{has_name};
 ghost use Rattle.hierarchy_semantics.specs.Models.{model_named};
@@ -159,7 +159,9 @@ pub fn offsets_of(
     sizes: &Sizes,
     m: &BlifModel,
 ) -> Result<Option<SignalList>, AllocError>
-    ensures { IfOk result (λ o. AreOffsets sizes.now m.now o) }
+    ensures offsets { IfOk result (λ o. AreOffsets sizes.now m.now o) }
+    ensures none { IfOk result
+        (λ o. o ≡ None → 2 ^ 31 ≤ sum_by (part_size sizes.now) m.now.parts) }
 {
     if sizes.parts_size(m) >= 1 << 31 {
         return Ok(None);
