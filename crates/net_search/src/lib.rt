@@ -2,4 +2,5 @@
 //! found.
 #![tactic(auto)]
 
+pub mod judging;
 pub mod search;
