@@ -1,7 +1,6 @@
 -- The literal of the error, and what is decided by it.
-use Rattle.std.proofs.Common.{◌≡◌, ℕ, ◌<◌, ltb, Bool, true, false, List, [], ◌∷◌, ◌++◌, length, get_or, map, refl, sym, ap, subst, ◌∙◌, arith}
+use Rattle.std.proofs.Common.{◌≡◌, ℕ, ◌<◌, ◌≤◌, ltb, Bool, true, false, List, [], ◌∷◌, ◌++◌, length, get_or, map, refl, sym, ap, subst, ◌∙◌, arith}
 use Rattle.std.specs.Prelude.{All}
-use Rattle.std.proofs.lemmas.Bool.{ltb-true, ltb-false}
 use Rattle.std.proofs.lemmas.List.{length-append, length-map, get_or-map, map-append, ext_get_or}
 use Rattle.std.proofs.lemmas.List.Elements.{All-append}
 use Rattle.semantics.specs.Net.{NetValue, input_count}
@@ -14,7 +13,8 @@ use Rattle.aig_core.specs.Signals.{AreOutputsOver}
 use Rattle.aig_core.proofs.Growing.{consistent_before}
 use Rattle.bdd_levels.specs.Levels.{TellsLevel}
 use Rattle.bdd_levels.proofs.Drawing.{same_outputs, error_told}
-use Rattle.graph_questions.specs.Levels.{IsOverLiteral, IsOverGraph}
+use Rattle.net_errors.specs.Compared.{NetPair}
+use Rattle.graph_questions.specs.Levels.{LevelQuestion, asked_error, IsOverLiteral, IsTrueWhereOver, IsGoalOf}
 
 -- both nets' outputs
 pub both_within : (g : GraphValue) (first second both : List ℕ) → both ≡ first ++ second → All (IsLiteralOf g) first → All (IsLiteralOf g) second → All (IsLiteralOf g) both
@@ -27,7 +27,7 @@ both_count N M Q metric w k g after inputs first second both candidate width lev
 
 module _ (a b c : GraphValue) (metric : Metric) (N M Q : NetValue) (w k : ℕ) (inputs first second both over : List ℕ) (l d : ℕ) where
   pub over_is : Grows a b → Grows b c → IsCandidate N M → w ≡ length N.outputs → TellsLevel metric w k Q → AreOutputsOver a N inputs first → AreOutputsOver b M inputs second → both ≡ first ++ second
-      → AreOutputsOver c Q both over → l ≡ get_or over 0 d → IsOverLiteral c metric N M k inputs l
+      → AreOutputsOver c Q both over → l ≡ get_or over 0 d → IsOverLiteral c (record { metric = metric; nets = record { exact = N; approx = M }; k = k }) inputs l
   over_is ab bc candidate width level exact approximate is asked read =
       let some : 0 < length over = omega (arith, asked.count, level.one) in
       record {
@@ -52,21 +52,31 @@ input_bits start g x v inputs grows val count width are =
     get_or-map (literal_value v) inputs i 0 false inside ∙ (are i (omega (arith, inside, count))).is x v (consistent_before start g x v grows val))
 
 -- over the graph's own inputs
-pub over_graph : (metric : Metric) (N M : NetValue) (k : ℕ) (start g : GraphValue) (inputs : List ℕ) (l : ℕ) → start.inputs ≡ input_count N → Grows start g → length inputs ≡ start.inputs
-    → ((i : ℕ) → i < start.inputs → IsInputOf start i (get_or inputs i 0)) → IsOverLiteral g metric N M k inputs l → ((x : List Bool) → HasOneValue g x) → IsOverGraph metric N M k g l
-over_graph metric N M k start g inputs l first grows count are over law = record {
+pub over_graph : (q : LevelQuestion) (start g : GraphValue) (inputs : List ℕ) (l : ℕ) → start.inputs ≡ input_count q.nets.exact → Grows start g → length inputs ≡ start.inputs
+    → ((i : ℕ) → i < start.inputs → IsInputOf start i (get_or inputs i 0)) → IsTrueWhereOver g q inputs l → ((x : List Bool) → HasOneValue g x) → IsGoalOf g q l
+over_graph q start g inputs l first grows count are asked law = record {
   inputs = grows.inputs ∙ first;
-  within = over.within;
-  is = λ x width.
+  within = asked.within;
+  over = λ x width exceeds.
       let v : Assignment = value_of g x in
       let val : IsConsistent g x v = (law x).consistent in
-      over.is x v val ∙ ap (λ (bits : List Bool). ltb k (net_error metric N M bits)) (input_bits start g x v inputs grows val count (width ∙ sym first) are);
+      let bits : map (literal_value v) inputs ≡ x = input_bits start g x v inputs grows val count (width ∙ sym first) are in
+      asked.over x v val (subst (λ (y : List Bool). q.k < asked_error q y) (sym bits) exceeds);
 }
 
+-- where the literal is false, the error stays within the level
+within_at : (k e : ℕ) (b : Bool) → (k < e → b ≡ true) → b ≡ false → e ≤ k
+within_at k e b over is = not_over (λ low. absurd_bool (sym (over low) ∙ is)) where
+  absurd_bool : true ≡ false → ⊥
+  absurd_bool no = cc
+
+  not_over : (k < e → ⊥) → e ≤ k
+  not_over no = omega (arith, no)
+
 -- a literal that is never true
-pub never_over : (metric : Metric) (N M : NetValue) (k : ℕ) (g : GraphValue) (l : ℕ) → IsOverGraph metric N M k g l → ((x : List Bool) → truth_of g x l ≡ false) → IsWithin metric N k M
-never_over metric N M k g l over never x width = ltb-false k (net_error metric N M x) (sym (over.is x width) ∙ never x)
+pub never_over : (q : LevelQuestion) (g : GraphValue) (l : ℕ) → IsGoalOf g q l → ((x : List Bool) → truth_of g x l ≡ false) → IsWithin q.metric q.nets.exact q.k q.nets.approx
+never_over q g l goal never x width = within_at q.k (asked_error q x) (truth_of g x l) (goal.over x width) (never x)
 
 -- the constant false
-pub constant_over : (metric : Metric) (N M : NetValue) (k : ℕ) (g : GraphValue) (l : ℕ) → IsOverGraph metric N M k g l → l ≡ 0 → ((x : List Bool) → HasOneValue g x) → IsWithin metric N k M
-constant_over metric N M k g l over is law = never_over metric N M k g l over (λ x. ap (truth_of g x) is ∙ (law x).consistent.constant)
+pub constant_over : (q : LevelQuestion) (g : GraphValue) (l : ℕ) → IsGoalOf g q l → l ≡ 0 → ((x : List Bool) → HasOneValue g x) → IsWithin q.metric q.nets.exact q.k q.nets.approx
+constant_over q g l goal is law = never_over q g l goal (λ x. ap (truth_of g x) is ∙ (law x).consistent.constant)

@@ -1,3 +1,4 @@
 pub mod ClauseValues
+pub mod Differences
 pub mod ErrorLiterals
 pub mod Questions

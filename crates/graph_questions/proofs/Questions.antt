@@ -1,18 +1,16 @@
--- What a refuted formula and a constant literal say of a net.
-use Rattle.std.proofs.Common.{◌≡◌, ℕ, ◌<◌, Bool, true, false, List, length, get_or, refl, sym, ap, subst, ◌∙◌, arith}
-use Rattle.std.proofs.lemmas.Grind.{get_or_default_zero}
-use Rattle.semantics.specs.Net.{NetValue, input_count, signal_count, IsSound}
-use Rattle.semantics.specs.Value.{value_of}
+-- What a refuted formula says of a literal.
+use Rattle.std.proofs.Common.{◌≡◌, ℕ, Bool, true, false, List, length, refl, ◌∙◌}
 use Rattle.aig_core.specs.Graph.{GraphValue, node_count, truth_of}
-use Rattle.aig_core.specs.Signals.{IsGraphOf}
 use Rattle.proof_semantics.specs.Formula.{Formula}
 use Rattle.proof_semantics.specs.Logs.{LogItem, Refutes}
 use Rattle.proof_semantics.proofs.Refutations.{refutes_sound}
 use Rattle.cdcl_core.specs.Answers.{IsAnswer}
+use Rattle.cdcl_core.specs.Outcomes.{IsOutcome}
 use Rattle.cdcl_core.specs.declared.answer.Answer.{Answer}
 use Rattle.cdcl_core.specs.declared.answer.Answer.TheVariants.{Model, Refuted, Spent}
-use Rattle.graph_questions.specs.GraphClauses.{node_values, AreNeededFor, IsAnsweredOf}
-use Rattle.graph_questions.specs.Verdicts.{IsNeverOne}
+use Rattle.cdcl_core.specs.declared.outcome.Outcome.{Outcome}
+use Rattle.cdcl_core.specs.declared.outcome.Outcome.TheVariants as outcome
+use Rattle.graph_questions.specs.GraphClauses.{node_values, AreNeededFor, IsAnsweredOf, answer_of}
 
 -- a refuted formula that is needed for a literal shows that the literal is never true
 never_true : (g : GraphValue) (l : ℕ) (f : Formula) (log : List LogItem) → AreNeededFor g l f.clauses → Refutes f.clauses log → (x : List Bool) → truth_of g x l ≡ false
@@ -28,15 +26,9 @@ answered g l f merged limit (Model bits) needed count is = is.width ∙ count
 answered g l f merged limit (Refuted log) needed count is = never_true g l f log needed is.refutes
 answered g l f merged limit (Spent log) needed count is = tt
 
--- a literal that is never true, of the first output
-pub never_one : (N : NetValue) (g : GraphValue) (literals : List ℕ) (s l d : ℕ) → IsGraphOf N g literals → IsSound N → 0 < length N.outputs → s ≡ get_or N.outputs 0 0
-    → l ≡ get_or literals s d → ((x : List Bool) → truth_of g x l ≡ false) → IsNeverOne N
-never_one N g literals s l d made sound some output is never x width =
-    let low : s < signal_count N = subst (λ t. t < signal_count N) (sym output) (sound.outputs_are_signals 0 0 some) in
-    let read : l ≡ get_or literals s 0 = is ∙ get_or_default_zero literals s d (omega (arith, made.count, low)) in
-    let same : truth_of g x (get_or literals s 0) ≡ value_of (input_count N) N.tables x s = (made.signals s low).is x in
-    ap (λ t. value_of (input_count N) N.tables x t) (sym output) ∙ sym same ∙ ap (λ k. truth_of g x k) (sym read) ∙ never x
-
-pub refuted_one : (N : NetValue) (g : GraphValue) (literals : List ℕ) (s l d : ℕ) (answer : Answer) (log : List LogItem) → IsGraphOf N g literals → IsSound N → 0 < length N.outputs
-    → s ≡ get_or N.outputs 0 0 → l ≡ get_or literals s d → IsAnsweredOf g l answer → answer ≡ Refuted log → IsNeverOne N
-refuted_one N g literals s l d answer log made sound some output is answered refuted = never_one N g literals s l d made sound some output is (subst (IsAnsweredOf g l) refuted answered)
+-- what the outcome of a search that forgets says of the graph
+pub came_to : (g : GraphValue) (l : ℕ) (f : Formula) (derived : List LogItem) (o : Outcome) → AreNeededFor g l f.clauses → f.variables ≡ node_count g
+    → IsOutcome f derived o → IsAnsweredOf g l (answer_of o)
+came_to g l f derived (outcome.Model bits) needed count is = is.width ∙ count
+came_to g l f derived (outcome.Refuted log) needed count is = never_true g l f log needed is.refutes
+came_to g l f derived (outcome.Open log) needed count is = tt

@@ -10,6 +10,8 @@ use Rattle.proof_semantics.specs.NetClauses.{literal_at}
 use Rattle.proof_semantics.specs.Variables.{by_place}
 use Rattle.cdcl_core.specs.declared.answer.Answer.{Answer}
 use Rattle.cdcl_core.specs.declared.answer.Answer.TheVariants.{Model, Refuted, Spent}
+use Rattle.cdcl_core.specs.declared.outcome.Outcome.{Outcome}
+use Rattle.cdcl_core.specs.declared.outcome.Outcome.TheVariants as outcome
 
 -- the literal of the formula that is true where a literal of the graph has this value
 abbrev pub where_is : ℕ → Bool → ℤ
@@ -49,3 +51,9 @@ abbrev pub IsAnsweredOf : GraphValue → ℕ → Answer → Type 0
 IsAnsweredOf g l (Model bits) = length bits ≡ node_count g
 IsAnsweredOf g l (Refuted log) = (x : List Bool) → truth_of g x l ≡ false
 IsAnsweredOf g l (Spent log) = Unit {0}
+
+-- what a search that forgets came to, as an answer
+abbrev pub answer_of : Outcome → Answer
+answer_of (outcome.Model bits) = Model bits
+answer_of (outcome.Refuted log) = Refuted log
+answer_of (outcome.Open log) = Spent log

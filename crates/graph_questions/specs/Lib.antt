@@ -1,3 +1,3 @@
-pub mod Verdicts
 pub mod GraphClauses
+pub mod Differences
 pub mod Levels

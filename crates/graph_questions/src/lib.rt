@@ -1,11 +1,9 @@
-//! Whether the error of an approximate net exceeds a level, and whether some input vector makes the output of
-//! a net 1, asked of the solver over a hashed graph.
+//! Whether the error of an approximate net exceeds a level, asked of the solver over a hashed graph.
 #![tactic(auto)]
 
-mod candidates;
 mod clauses;
 mod cone;
+mod difference;
 mod guide;
 pub mod levels;
-pub mod question;
-pub mod verdict;
+mod question;

@@ -3,34 +3,38 @@
 //!
 //! The exact and the approximate net have most of their tables in common: in the hashed graph of both what is
 //! equal is one node, and much falls. The network of the level is that of the diagrams, which subtracts once:
-//! where two outputs are one node it is mostly constant. What is left open here is asked again over the joint
-//! net's own formula, since a query that was spent is shown by that.
+//! where two outputs are one node it is mostly constant. Where the approximate net was made by a change from a
+//! net that keeps the bound, only the input vectors are asked about at which the change makes a difference.
+//! What is left open here is asked again over the joint net's own formula, since a query that was spent is
+//! shown by that.
 ghost use Rattle.std.specs.Prelude.{◌≡◌, ◌≤◌, IfOk, IfSome};
 ghost use Rattle.level_answers.specs.Levels.{IsSureAnswer};
+ghost use Rattle.graph_questions.specs.Levels.{IsChangeFor};
+ghost use Rattle.worst_case.specs.Levels.{asked_level};
 
 use crate::margin::decided_margin;
 use bdd_levels::level::Level;
 use graph_questions::levels::decide;
-use lane_bits::patterns::Patterns;
 use level_answers::margin::Margin;
 use net_errors::compared::Compared;
+use net_search::judging::Change;
 use progress::progress::Progress;
 use proof_semantics::constraint::Constraint;
 use std::alloc::{AllocError, Global};
 
-/// The answer over the graph, where the solver finds one within the limit. Nodes that agree at the patterns
-/// are tried first.
+/// The answer over the graph, where the solver finds one within the limit.
 pub(crate) fn by_graph<P: Progress>(
     alloc: Global,
     nets: &Compared,
-    patterns: &Patterns,
+    change: Option<&Change>,
     aim: Constraint,
     progress: &mut P,
 ) -> Result<Option<Margin>, AllocError>
     requires limit { 1 ≤ aim.limit }
+    requires change { IfSome change (λ c. IsChangeFor (asked_level aim nets.now) c.now) }
     ensures { IfOk result (λ found. IfSome found (IsSureAnswer aim nets.now.exact nets.now.approx)) }
 {
     let level = Level::new(alloc, nets.exact(), aim.metric, aim.bound)?;
-    let decision = decide(alloc, nets, &level, patterns, aim.limit, progress)?;
+    let decision = decide(alloc, nets, change, &level, aim.limit, progress)?;
     decided_margin(alloc, nets, aim, decision)
 }

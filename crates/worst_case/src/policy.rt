@@ -7,20 +7,25 @@
 //! diagrams. A question that takes more than `QUESTION_STEPS` steps is decided by every vector, where there
 //! are at most `MOST_TRIED_INPUTS` inputs: the products of multipliers have no small diagrams, and take the
 //! solver minutes. With still more inputs it goes to the solver, which is quick where errors may be large:
-//! first over a hashed graph of both nets, and where that leaves it open over the joint net's clauses. Where
+//! first over a hashed graph of both nets, at those input vectors alone at which the last change makes a
+//! difference, and where that leaves it open over the joint net's clauses. Where
 //! the solver's conflicts are spent too, the diagrams get as many steps as their nodes allow (`LAST_STEPS`),
 //! and then the solver gets further queries, before the question counts as open. What a budget leaves open is
 //! never taken for an answer.
-ghost use Rattle.std.specs.Prelude.{◌≡◌, ◌≤◌, IfOk};
+ghost use Rattle.std.specs.Prelude.{◌≡◌, ◌≤◌, IfOk, IfSome};
 ghost use Rattle.semantics.specs.Net.{input_count};
+ghost use Rattle.semantics.specs.Error.{IsWithin};
 ghost use Rattle.level_answers.specs.Levels.{IsLevelAnswer, IsSureAnswer};
-ghost use Rattle.worst_case.specs.Levels.{IsAnsweredUpTo};
+ghost use Rattle.net_search.specs.Judging.{IsChange};
+ghost use Rattle.graph_questions.specs.Levels.{IsChangeFor};
+ghost use Rattle.worst_case.specs.Levels.{IsAnsweredUpTo, asked_level};
 
 use crate::graph_question::by_graph;
 use crate::judge::Judge;
 use crate::options::MOST_TRIED_INPUTS;
 use level_answers::margin::Margin;
 use net_errors::compared::Compared;
+use net_search::judging::Change;
 use progress::progress::Progress;
 use proof_semantics::constraint::Constraint;
 use std::alloc::{AllocError, Global};
@@ -45,6 +50,32 @@ fn without_solver(
     judge.by_every_vector(alloc, nets, aim)
 }
 
+/// The answer by all means, in their order.
+fn by_all<P: Progress>(
+    alloc: Global,
+    nets: &Compared,
+    change: Option<&Change>,
+    judge: &mut Judge,
+    aim: Constraint,
+    progress: &mut P,
+) -> Result<Margin, AllocError>
+    requires judge { judge.old ≡ nets.now.exact }
+    requires limit { 1 ≤ aim.limit }
+    requires change { IfSome change (λ c. IsChangeFor (asked_level aim nets.now) c.now) }
+    ensures same { judge.new ≡ judge.old }
+    ensures answer { IfOk result (IsLevelAnswer aim nets.now.exact nets.now.approx) }
+    ensures sure { IfOk result (λ margin. input_count nets.now.exact ≤ MOST_TRIED_INPUTS
+        → IsSureAnswer aim nets.now.exact nets.now.approx margin) }
+{
+    if let Some(margin) = without_solver(alloc, nets, judge, aim)? {
+        return Ok(margin);
+    }
+    match by_graph(alloc, nets, change, aim, progress)? {
+        Some(margin) => Ok(margin),
+        None => judge.by_solver(alloc, nets, aim, progress),
+    }
+}
+
 /// An input whose error exceeds the bound, or that there is none. With at most 24 inputs nothing is spent.
 /// With more inputs the solver is asked where neither the known vectors nor diagrams tell.
 pub fn within_level<P: Progress>(
@@ -61,11 +92,27 @@ pub fn within_level<P: Progress>(
     ensures sure { IfOk result (λ margin. input_count nets.now.exact ≤ MOST_TRIED_INPUTS
         → IsSureAnswer aim nets.now.exact nets.now.approx margin) }
 {
-    if let Some(margin) = without_solver(alloc, nets, judge, aim)? {
-        return Ok(margin);
-    }
-    match by_graph(alloc, nets, judge.known().patterns(), aim, progress)? {
-        Some(margin) => Ok(margin),
-        None => judge.by_solver(alloc, nets, aim, progress),
-    }
+    by_all(alloc, nets, None, judge, aim, progress)
+}
+
+/// Whether the error of a net stays within the bound, as [`within_level`] says, where the net was made by a change
+/// from a net that keeps the bound.
+pub fn within_level_after<P: Progress>(
+    alloc: Global,
+    nets: &Compared,
+    change: &Change,
+    judge: &mut Judge,
+    aim: Constraint,
+    progress: &mut P,
+) -> Result<Margin, AllocError>
+    requires judge { judge.old ≡ nets.now.exact }
+    requires limit { 1 ≤ aim.limit }
+    requires before { IsWithin aim.metric nets.now.exact aim.bound change.now.before.now }
+    requires change { IsChange change.now.before.now nets.now.approx change.now.signal }
+    ensures same { judge.new ≡ judge.old }
+    ensures answer { IfOk result (IsLevelAnswer aim nets.now.exact nets.now.approx) }
+    ensures sure { IfOk result (λ margin. input_count nets.now.exact ≤ MOST_TRIED_INPUTS
+        → IsSureAnswer aim nets.now.exact nets.now.approx margin) }
+{
+    by_all(alloc, nets, Some(change), judge, aim, progress)
 }
