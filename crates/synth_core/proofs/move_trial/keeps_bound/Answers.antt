@@ -21,19 +21,10 @@ judge-requires g c = λ k.
     let exact = ap (λ P. P.exact) c.new-moved_nets.ensures ∙ c.exact-2.ensures.value in
     let approx = ap (λ P. P.approx) c.new-moved_nets.ensures in
     let within = subst (λ N. IsWithin aim.metric c.args.nets.now.exact aim.bound N) (sym c.approx.ensures.value) c.requires.within in
-    let change = subst (λ N. IsChange N c.args.moved.now c.args.signal) (sym c.approx.ensures.value) c.requires.change in (
-      (refl, tt),
-      (
-        c.requires.judge ∙ sym exact,
-        (
-          c.requires.limit,
-          (
-            subst (λ E. IsWithin aim.metric E aim.bound c.approx.result.now) (sym exact) within,
-            subst (λ M. IsChange c.approx.result.now M c.args.signal) (sym approx) change,
-          ),
-        ),
-      ),
-    )
+    let before = subst (λ E. IsWithin aim.metric E aim.bound c.approx.result.now) (sym exact) within in
+    let changed = subst (λ N. IsChange N c.args.moved.now c.args.signal) (sym c.approx.ensures.value) c.requires.change in
+    let change = subst (λ M. IsChange c.approx.result.now M c.args.signal) (sym approx) changed in
+    ((refl, tt), (c.requires.judge ∙ sym exact, (c.requires.limit, (before, change))))
 
 pub returns-clause-judged : goal.returns-clause-judged
 returns-clause-judged g c =

@@ -7,7 +7,9 @@ loop-next-init g c = record { aim = refl; judge = refl; member = c.requires.memb
 
 -- k is the lifetimes of the call, since the judge is generic in one
 pub take_turn-requires : goal.take_turn-requires
-take_turn-requires g c = λ k. rw c.loop-next.invariant.aim (rw c.loop-next.invariant.judge ((refl, tt), (c.requires.ready, (c.requires.limit, (c.loop-next.invariant.member, c.loop-next.invariant.pool)))))
+take_turn-requires g c = λ k.
+    let so_far = c.loop-next.invariant in
+    rw so_far.aim (rw so_far.judge ((refl, tt), (c.requires.ready, (c.requires.limit, (so_far.member, so_far.pool)))))
 
 pub loop-next-smaller : goal.loop-next-smaller
 loop-next-smaller g c = let turned = rw c.in-Next.is at c.in_ok-next.ensures.turn in turned.fewer
