@@ -19,6 +19,7 @@ ghost use Rattle.synth_jobs.specs.Calls.{told_call};
 ghost use Rattle.job_runs.specs.Outcome.{answered_by};
 ghost use Rattle.job_runs.specs.Run.{RunSays, IsQuietJob, EndsAsAsked, IsAnswerTo, IsWorkOf};
 
+use chain_search::chain::Chain;
 use file_core::files::Files;
 use file_core::sink::Sink;
 use file_core::sure_files::SureFiles;
@@ -27,7 +28,6 @@ use file_core::word::Word;
 use job_runs::outcome::{Outcome, Status};
 use progress::progress::{Progress, Silent};
 use std::alloc::Global;
-use synth_core::chain::Chain;
 
 /// Carries out the job that the words name.
 pub fn run<F: Files, K: Sink>(alloc: Global, words: &[Word], files: &mut F, say: &mut K) -> Outcome

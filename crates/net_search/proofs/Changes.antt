@@ -1,5 +1,5 @@
 -- Where a change of a net that keeps the bound breaks it.
-use Rattle.std.proofs.Common.{◌≡◌, ◌≢◌, ℕ, ◌<◌, Bool, List, length, sym, ap, subst, ◌∙◌, arith}
+use Rattle.std.proofs.Common.{◌≡◌, ◌≢◌, ℕ, ◌<◌, Bool, List, length, ap, ◌∙◌, arith}
 use Rattle.semantics.specs.Net.{NetValue, input_count}
 use Rattle.semantics.specs.Value.{outputs_of}
 use Rattle.semantics.specs.Error.{error_of, net_error, IsWithin}

@@ -15,6 +15,7 @@ use proof_semantics::constraint::Constraint;
 use std::alloc::{AllocError, Global};
 
 /// A net, and the signal by whose function alone another net differs from it.
+#[derive(Drop)]
 pub struct Change<'a> {
     pub before: &'a Net,
     pub signal: Signal,

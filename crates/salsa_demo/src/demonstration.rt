@@ -2,6 +2,7 @@
 ghost use Rattle.std.specs.Prelude.{◌≡◌};
 ghost use Rattle.salsa_demo.specs.Demonstration.{program_says, answer_exit, has_line};
 
+use chain_search::chain::Chain;
 use command_words::usage::usage_line;
 use command_words::words::{Command, command_named};
 use console::program::Program;
@@ -12,7 +13,6 @@ use file_core::word::Word;
 use progress::progress::Progress;
 use std::alloc::Global;
 use std::fmt;
-use synth_core::chain::Chain;
 use synth_jobs::demonstration::{demo_aim, demonstrate};
 use synth_jobs::work::Work;
 

@@ -1,4 +1,4 @@
-pub mod Beginnings
+pub mod MovedChanges
 pub mod Pools
 pub mod Trying
 pub mod Searching

@@ -1,6 +1,7 @@
 //! The first allowed move of a member of the chain.
 ghost use Rattle.std.specs.Prelude.{◌≡◌, ◌≤◌, ◌++◌, ◌∷◌, [], length, IfOk, OnOk};
 ghost use Rattle.semantics.specs.Net.{input_count, IsSmall};
+ghost use Rattle.semantics.specs.Error.{IsWithin};
 ghost use Rattle.synth_core.specs.AllowedMoves.{IsPool, masks_over, IsMaskedPool, IsCandidateMove};
 ghost use Rattle.synth_core.specs.AllowedMoves.{AreAmong, IsWeighed, IsScratchAfter, IsFound};
 
@@ -15,6 +16,7 @@ use level_answers::query::Spent;
 use net_core::net::Net;
 use net_errors::compared::Compared;
 use net_moves::moves::moves;
+use net_search::judging::Judging;
 use progress::progress::Progress;
 use std::alloc::{AllocError, Global};
 
@@ -48,10 +50,10 @@ pub(crate) struct MemberTrials<'a> {
 }
 
 /// The masks of the approximate net over the pool.
-fn pool_masks<'a>(
+fn pool_masks<'a, J: Drop>(
     alloc: Global,
     nets: &Compared<'a>,
-    tester: &Tester,
+    tester: &Tester<J>,
 ) -> Result<GrowingMasks<'a>, AllocError>
     requires inputs { tester.now.pool.inputs ≡ input_count nets.now.exact }
     ensures { IfOk result (λ m. m ≡ masks_over tester.now.aim nets.now tester.now.pool.vectors) }
@@ -62,10 +64,10 @@ fn pool_masks<'a>(
 }
 
 /// What the moves of the approximate net are tried with.
-fn begin_trials<'a>(
+fn begin_trials<'a, J: Drop>(
     alloc: Global,
     nets: &Compared<'a>,
-    tester: &Tester,
+    tester: &Tester<J>,
 ) -> Result<MemberTrials<'a>, AllocError>
     requires pool { IsPool nets.now.exact tester.now.pool }
     ensures masked { IfOk result
@@ -92,20 +94,22 @@ fn add_vector(pool: &mut Patterns, masks: &mut GrowingMasks, x: &[bool]) -> Resu
 
 /// Tries a move that no vector of the pool breaks, in the copy of the approximate net. A vector that breaks
 /// it joins the pool.
-fn weigh<P: Progress>(
+fn weigh<'a, J: Judging<'a>, P: Progress>(
     alloc: Global,
     nets: &Compared,
-    tester: &mut Tester,
+    tester: &mut Tester<J>,
     trials: &mut MemberTrials,
     candidate: Move,
     progress: &mut P,
 ) -> Result<Weighed, AllocError>
-    requires judge { tester.old.judge ≡ nets.now.exact }
+    requires judge { J.exact tester.old.judge ≡ nets.now.exact }
     requires limit { 1 ≤ tester.old.aim.limit }
+    requires within { IsWithin tester.old.aim.metric nets.now.exact tester.old.aim.bound nets.now.approx }
     requires scratch { trials.old.scratch ≡ nets.now.approx }
     requires masked { IsMaskedPool tester.old.aim nets.now tester.old.pool trials.old.masks }
     requires unbroken { IsCandidateMove trials.old.masks candidate }
-    ensures same { tester.new ≡ record tester.old { pool = tester.new.pool } }
+    ensures aim { tester.new.aim ≡ tester.old.aim }
+    ensures judge { J.exact tester.new.judge ≡ J.exact tester.old.judge }
     ensures masked { IfOk result
         (λ _. IsMaskedPool tester.old.aim nets.now tester.new.pool trials.new.masks) }
     ensures among { IfOk result (λ _. AreAmong tester.old.pool.vectors tester.new.pool.vectors) }
@@ -131,17 +135,19 @@ fn weigh<P: Progress>(
 
 /// Tries the moves of the approximate net in order, in a copy of it. Each vector that a query gives joins the
 /// pool and the masks.
-pub(crate) fn find_move<P: Progress>(
+pub(crate) fn find_move<'a, J: Judging<'a>, P: Progress>(
     alloc: Global,
     nets: &Compared,
-    tester: &mut Tester,
+    tester: &mut Tester<J>,
     progress: &mut P,
 ) -> Result<Found, AllocError>
-    requires judge { tester.old.judge ≡ nets.now.exact }
+    requires judge { J.exact tester.old.judge ≡ nets.now.exact }
     requires small { IsSmall nets.now.approx }
     requires limit { 1 ≤ tester.old.aim.limit }
+    requires within { IsWithin tester.old.aim.metric nets.now.exact tester.old.aim.bound nets.now.approx }
     requires pool { IsPool nets.now.exact tester.old.pool }
-    ensures same { tester.new ≡ record tester.old { pool = tester.new.pool } }
+    ensures aim { tester.new.aim ≡ tester.old.aim }
+    ensures judge { J.exact tester.new.judge ≡ J.exact tester.old.judge }
     ensures pool { IfOk result (λ _. IsPool nets.now.exact tester.new.pool) }
     ensures found { IfOk result (IsFound tester.old.aim nets.now tester.new.pool.vectors) }
 {

@@ -23,6 +23,7 @@ use crate::turn::{Turn, take_turn};
 use level_answers::query::Spent;
 use net_core::net::Net;
 use net_errors::compared::Compared;
+use net_search::judging::Judging;
 use net_search::search::Shrunk;
 use net_tidy::tidy::tidy;
 use progress::progress::{Progress, Silent};
@@ -31,14 +32,14 @@ use semantics::limits::MOST_OUTPUTS;
 use std::alloc::{AllocError, Global};
 
 /// Goes from member to member of the chain, up to its end or to a spent query. Returns the spent query.
-fn follow<P: Progress>(
+fn follow<'a, J: Judging<'a>, P: Progress>(
     alloc: Global,
     nets: &Compared,
-    tester: &mut Tester,
+    tester: &mut Tester<J>,
     member: &mut Net,
     progress: &mut P,
 ) -> Result<Option<Spent>, AllocError>
-    requires ready { IsReadyFor tester.old.aim nets.now tester.old.judge }
+    requires ready { IsReadyFor tester.old.aim nets.now (J.exact tester.old.judge) }
     requires limit { 1 ≤ tester.old.aim.limit }
     requires member { IsInSimplificationFrom tester.old.aim.metric nets.now.exact tester.old.aim.bound
         nets.now.approx member.old }
@@ -58,9 +59,9 @@ fn follow<P: Progress>(
 
 /// Follows the chain of simplifications that begins with the approximate net, within the bound on the error
 /// against the exact one. Tells `progress` how far the search is.
-pub fn shrink_from<P: Progress>(
+pub fn shrink_from<'a, J: Judging<'a>, P: Progress>(
     alloc: Global,
-    nets: &Compared,
+    nets: &Compared<'a>,
     aim: Constraint,
     progress: &mut P,
 ) -> Result<Shrunk, AllocError>
@@ -73,7 +74,7 @@ pub fn shrink_from<P: Progress>(
     ensures pool { IfOk result (λ s. s.pool.inputs ≡ input_count nets.now.exact) }
 {
     nets.approx().see_sound();
-    let mut tester = tester_for(alloc, nets.exact(), aim)?;
+    let mut tester: Tester<J> = tester_for(alloc, nets.exact(), aim)?;
     let mut member = tidy(alloc, nets.approx().copy()?)?;
     let spent = follow(alloc, nets, &mut tester, &mut member, progress)?;
     Ok(Shrunk {
@@ -84,7 +85,11 @@ pub fn shrink_from<P: Progress>(
 }
 
 /// Follows the chain of simplifications that begins with the exact net itself, as [`shrink_from`] does.
-pub fn shrink(alloc: Global, net: &Net, aim: Constraint) -> Result<Shrunk, AllocError>
+pub fn shrink<'a, J: Judging<'a>>(
+    alloc: Global,
+    net: &'a Net,
+    aim: Constraint,
+) -> Result<Shrunk, AllocError>
     requires few_outputs { length net.now.outputs ≤ MOST_OUTPUTS }
     requires small { IsSmall net.now }
     requires limit { 1 ≤ aim.limit }
@@ -93,5 +98,5 @@ pub fn shrink(alloc: Global, net: &Net, aim: Constraint) -> Result<Shrunk, Alloc
     ensures pool { IfOk result (λ s. s.pool.inputs ≡ input_count net.now) }
 {
     let nets = Compared::new(net, net);
-    shrink_from(alloc, &nets, aim, &mut Silent)
+    shrink_from::<J, Silent>(alloc, &nets, aim, &mut Silent)
 }

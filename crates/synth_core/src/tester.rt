@@ -5,17 +5,17 @@ ghost use Rattle.synth_core.specs.AllowedMoves.{IsPool};
 
 use lane_bits::patterns::Patterns;
 use net_core::net::Net;
+use net_search::judging::Judging;
 use proof_semantics::constraint::Constraint;
 use semantics::limits::FEW_INPUTS;
 use std::alloc::{AllocError, Global};
-use worst_case::judge::Judge;
 
-/// What is asked of a moved net, what is held of the exact net, and the vectors that are known to break
+/// What is asked of a moved net, who judges it against the exact net, and the vectors that are known to break
 /// moves.
 #[derive(Drop)]
-pub(crate) struct Tester<'a> {
+pub(crate) struct Tester<J> {
     pub(crate) aim: Constraint,
-    pub(crate) judge: Judge<'a>,
+    pub(crate) judge: J,
     pub(crate) pool: Patterns,
 }
 
@@ -32,19 +32,19 @@ fn first_pool(alloc: Global, net: &Net) -> Result<Patterns, AllocError>
 }
 
 /// What moves are judged by at the beginning of a chain.
-pub(crate) fn tester_for<'a>(
+pub(crate) fn tester_for<'a, J: Judging<'a>>(
     alloc: Global,
     exact: &'a Net,
     aim: Constraint,
-) -> Result<Tester<'a>, AllocError>
+) -> Result<Tester<J>, AllocError>
     requires { IsSmall exact.now }
     ensures aim { IfOk result (λ tester. tester.aim ≡ aim) }
-    ensures judge { IfOk result (λ tester. tester.judge ≡ exact.now) }
+    ensures judge { IfOk result (λ tester. J.exact tester.judge ≡ exact.now) }
     ensures pool { IfOk result (λ tester. IsPool exact.now tester.pool) }
 {
     Ok(Tester {
         aim,
-        judge: Judge::new(alloc, exact)?,
+        judge: J::begin(alloc, exact)?,
         pool: first_pool(alloc, exact)?,
     })
 }

@@ -9,6 +9,7 @@ use crate::tester::Tester;
 use level_answers::query::Spent;
 use net_core::net::Net;
 use net_errors::compared::Compared;
+use net_search::judging::Judging;
 use net_tidy::tidy::tidy;
 use progress::progress::Progress;
 use std::alloc::{AllocError, Global};
@@ -24,19 +25,20 @@ pub(crate) enum Turn {
 
 /// Makes the first allowed move of a member in a copy of it, and tidies the moved net. Tells `progress` the
 /// literals of the member, and then each table as its moves begin.
-pub(crate) fn take_turn<P: Progress>(
+pub(crate) fn take_turn<'a, J: Judging<'a>, P: Progress>(
     alloc: Global,
     nets: &Compared,
-    tester: &mut Tester,
+    tester: &mut Tester<J>,
     member: &Net,
     progress: &mut P,
 ) -> Result<Turn, AllocError>
-    requires ready { IsReadyFor tester.old.aim nets.now tester.old.judge }
+    requires ready { IsReadyFor tester.old.aim nets.now (J.exact tester.old.judge) }
     requires limit { 1 ≤ tester.old.aim.limit }
     requires member { IsInSimplificationFrom tester.old.aim.metric nets.now.exact tester.old.aim.bound
         nets.now.approx member.now }
     requires pool { IsPool nets.now.exact tester.old.pool }
-    ensures same { tester.new ≡ record tester.old { pool = tester.new.pool } }
+    ensures aim { tester.new.aim ≡ tester.old.aim }
+    ensures judge { J.exact tester.new.judge ≡ J.exact tester.old.judge }
     ensures pool { IfOk result (λ _. IsPool nets.now.exact tester.new.pool) }
     ensures turn { IfOk result (IsTurn tester.old.aim nets.now member.now tester.new.pool.vectors) }
 {

@@ -8,6 +8,7 @@ use proof_semantics::constraint::Constraint;
 use std::alloc::{AllocError, Global};
 use std::test::Fail;
 use synth_core::shrink::shrink;
+use worst_case::judge::Judge;
 
 /// Whether no table reads a signal.
 fn are_constant(net: &Net) -> bool {
@@ -30,7 +31,7 @@ fn left_of_product(alloc: Global, bound: u128, limit: u64) -> Result<(u32, bool,
         bound,
         limit,
     };
-    let shrunk = shrink(alloc, &net, aim)?;
+    let shrunk = shrink::<Judge>(alloc, &net, aim)?;
     Ok((
         shrunk.net.tables(),
         are_constant(&shrunk.net),

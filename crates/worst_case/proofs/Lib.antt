@@ -1,3 +1,4 @@
+pub mod Beginnings
 pub mod Queries
 pub mod FirstGreatest
 pub mod Ranges

@@ -2,10 +2,12 @@
 //! greatest error.
 #![tactic(auto)]
 
+pub mod beginning;
 mod comparable;
 pub mod exceeds;
 mod graph_question;
 pub mod judge;
+mod judging;
 mod margin;
 pub mod maximum;
 pub mod options;

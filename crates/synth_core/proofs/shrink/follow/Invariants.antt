@@ -7,7 +7,8 @@ use Rattle.synth_core.proofs.shrink.follow.Given as goal
 -- the net is a member of the chain
 abbrev pub invariant-loop-next : goal.invariant-loop-next
 invariant-loop-next g l = record {
-  same : l.tester ≡ record l.fn.tester { pool = l.tester.pool };
+  aim : l.tester.aim ≡ l.fn.tester.aim;
+  judge : g.J.Judging.exact l.tester.judge ≡ g.J.Judging.exact l.fn.tester.judge;
   member : IsInSimplificationFrom l.fn.tester.aim.metric l.nets.exact l.fn.tester.aim.bound l.nets.approx l.member;
   pool : IsPool l.nets.exact l.tester.pool;
 }

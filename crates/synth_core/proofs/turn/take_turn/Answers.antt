@@ -1,6 +1,6 @@
-use Rattle.std.proofs.Common.{subst, sym, ap, ◌∙◌, arith}
+use Rattle.std.proofs.Common.{refl, subst, sym, ap, ◌∙◌, arith}
 use Rattle.semantics.specs.Net.{IsSmall}
-use Rattle.semantics.specs.Error.{IsCandidate}
+use Rattle.semantics.specs.Error.{IsCandidate, IsWithin}
 use Rattle.chain_semantics.proofs.Simplifications.{simplified_from, simplified_from-small}
 use Rattle.job_semantics.proofs.SmallNets.{literals_at_most}
 use Rattle.synth_core.specs.AllowedMoves.{IsPool, IsFound}
@@ -26,20 +26,20 @@ new-pair-requires g c =
       few_outputs = c.exact.ensures.candidate.few_outputs;
     })
 
-pub find_move-requires-clause-judge : goal.find_move-requires-clause-judge
-find_move-requires-clause-judge g c = c.requires.ready.judge ∙ sym (ap (λ P. P.exact) c.new-pair.ensures ∙ c.exact.ensures.value)
-
-pub find_move-requires-clause-small : goal.find_move-requires-clause-small
-find_move-requires-clause-small g c =
+-- k is the lifetimes of the call, since the judge is generic in one
+pub find_move-requires : goal.find_move-requires
+find_move-requires g c = λ k.
     let P = c.args.nets.now in
     let aim = c.args.tester.now.aim in
-    subst (λ Q. IsSmall Q.approx) (sym c.new-pair.ensures)
-    (simplified_from-small aim.metric P.exact aim.bound P.approx c.requires.ready.beginning c.args.member.now c.requires.ready.small c.requires.member)
-
-pub find_move-requires-clause-pool : goal.find_move-requires-clause-pool
-find_move-requires-clause-pool g c =
-    let P = c.args.nets.now in
-    subst (λ Q. IsPool Q.exact c.args.tester.now.pool) (sym (beside_member c.new-pair.result c.exact.result.now P.exact c.args.member.now c.new-pair.ensures c.exact.ensures.value)) c.requires.pool
+    let N = c.args.member.now in
+    let begin = c.requires.ready.beginning in
+    let beside = beside_member c.new-pair.result c.exact.result.now P.exact N c.new-pair.ensures c.exact.ensures.value in
+    let judge = c.requires.ready.judge ∙ sym (ap (λ Q. Q.exact) beside) in
+    let small = subst (λ Q. IsSmall Q.approx) (sym beside) (simplified_from-small aim.metric P.exact aim.bound P.approx begin N c.requires.ready.small c.requires.member) in
+    let keeps = (simplified_from aim.metric P.exact aim.bound P.approx begin N c.requires.member).within in
+    let within = subst (λ Q. IsWithin aim.metric Q.exact aim.bound Q.approx) (sym beside) keeps in
+    let pool = subst (λ Q. IsPool Q.exact c.args.tester.now.pool) (sym beside) c.requires.pool in
+    ((refl, tt), (judge, (small, (c.requires.limit, (within, pool)))))
 
 pub returns-in_ok-tidy-in-Moved-clause-turn : goal.returns-in_ok-tidy-in-Moved-clause-turn
 returns-in_ok-tidy-in-Moved-clause-turn g c =

@@ -5,6 +5,9 @@ ghost use Rattle.std.specs.Prelude.{◌≤◌, IfOk};
 ghost use Rattle.semantics.specs.Net.{IsSmall};
 ghost use Rattle.net_search.specs.Bounds.{IsBoundAnswer};
 
+use crate::exceeds::exceeds;
+use crate::judge::Judge;
+use crate::policy::within_level;
 use level_answers::margin::Margin;
 use level_answers::query::Exceed;
 use net_errors::compared::Compared;
@@ -12,9 +15,6 @@ use progress::progress::Progress;
 use proof_semantics::constraint::Constraint;
 use semantics::limits::FEW_INPUTS;
 use std::alloc::{AllocError, Global};
-use worst_case::exceeds::exceeds;
-use worst_case::judge::Judge;
-use worst_case::policy::within_level;
 
 /// The answer with the first vector at which the error exceeds the bound.
 fn first_over<P: Progress>(

@@ -1,7 +1,5 @@
 //! The searches of `salsa`: whether the net to begin with keeps the bound, along the chain, and for the
 //! greatest error.
-use crate::beginning::within_bound;
-use crate::shrink::shrink_from;
 use level_answers::margin::Margin;
 use level_answers::query::Maximum;
 use net_errors::compared::Compared;
@@ -9,6 +7,9 @@ use net_search::search::{Search, Shrunk};
 use progress::progress::Progress;
 use proof_semantics::constraint::Constraint;
 use std::alloc::{AllocError, Global};
+use synth_core::shrink::shrink_from;
+use worst_case::beginning::within_bound;
+use worst_case::judge::Judge;
 use worst_case::maximum::maximum;
 
 /// The search along the chain, and the searches by queries.
@@ -30,7 +31,7 @@ impl Search for Chain {
         aim: Constraint,
         progress: &mut P,
     ) -> Result<Shrunk, AllocError> {
-        shrink_from(alloc, nets, aim, progress)
+        shrink_from::<Judge, P>(alloc, nets, aim, progress)
     }
 
     fn maximum<P: Progress>(

@@ -1,8 +1,8 @@
 use Rattle.std.proofs.Common.{ap, ◌∙◌, arith}
 use Rattle.std.proofs.lemmas.Result.{IfOk-weaker}
 use Rattle.semantics.specs.Net.{input_count}
-use Rattle.synth_core.proofs.Beginnings.{bound_answer}
-use Rattle.synth_core.proofs.beginning.within_bound.Goals as goal
+use Rattle.worst_case.proofs.Beginnings.{bound_answer}
+use Rattle.worst_case.proofs.beginning.within_bound.Goals as goal
 
 pub returns : goal.returns
 returns g c =
