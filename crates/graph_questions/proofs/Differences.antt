@@ -1,6 +1,7 @@
 -- The difference that a change makes, and what is asked where there is one.
 use Rattle.std.proofs.Common.{◌≡◌, ◌≢◌, ℕ, ◌+◌, ◌<◌, Bool, true, false, not, ◌&&◌, ◌||◌, List, length, get_or, map, refl, sym, ap, subst, ◌∙◌, arith}
 use Rattle.std.proofs.lemmas.Bool.{lt-ltb}
+use Rattle.std.proofs.lemmas.Grind.{get_or_default_zero}
 use Rattle.std.proofs.lemmas.List.{length-map}
 use Rattle.semantics.specs.Net.{NetValue, input_count, signal_count}
 use Rattle.semantics.specs.Value.{Assignment, value_of}
@@ -34,25 +35,28 @@ exclusive_is g₁ g₂ g₃ a b na nb first second r up upper not_a not_b one tw
 }
 
 differ_true : (a b : Bool) → a ≢ b → differ a b ≡ true
-differ_true true true no = absurd (no refl)
-differ_true true false no = refl
-differ_true false true no = refl
-differ_true false false no = absurd (no refl)
+differ_true true true apart = absurd (apart refl)
+differ_true true false apart = refl
+differ_true false true apart = refl
+differ_true false false apart = absurd (apart refl)
 
 and_true : (a b : Bool) → a ≡ true → b ≡ true → (a && b) ≡ true
 and_true a b is too = cc
 
 -- the literals of the signal in both nets, and where exactly one is true
-pub difference_is : (b c d : GraphValue) (change : Change) (after : NetValue) (inputs before behind : List ℕ) (l p q : ℕ) → Grows b c → Grows c d
+pub difference_is : (b c d : GraphValue) (change : Change) (after : NetValue) (inputs before behind : List ℕ) (l p q e f : ℕ) → Grows b c → Grows c d
     → length inputs ≡ input_count change.before.now → length inputs ≡ input_count after → change.signal < signal_count change.before.now → change.signal < signal_count after
-    → AreSignalsOver b change.before.now.tables inputs before → AreSignalsOver c after.tables inputs behind → p ≡ get_or before change.signal 0 → q ≡ get_or behind change.signal 0
+    → length before ≡ signal_count change.before.now → length behind ≡ signal_count after → AreSignalsOver b change.before.now.tables inputs before → AreSignalsOver c after.tables inputs behind
+    → p ≡ get_or before change.signal e → q ≡ get_or behind change.signal f
     → IsExclusiveOf d p q l → IsDifferenceOf d change after inputs l
-difference_is b c d change after inputs before behind l p q up upper count count_after low low_after first second is_p is_q exclusive = record {
+difference_is b c d change after inputs before behind l p q e f up upper count count_after low low_after all_before all_behind first second read_p read_q exclusive = record {
   within = exclusive.within;
   is = λ x v val.
       let val_c : IsConsistent c x v = consistent_before c d x v upper val in
       let val_b : IsConsistent b x v = consistent_before b c x v up val_c in
       let x_of = map (literal_value v) inputs in
+      let is_p = read_p ∙ get_or_default_zero before change.signal e (omega (arith, low, all_before)) in
+      let is_q = read_q ∙ get_or_default_zero behind change.signal f (omega (arith, low_after, all_behind)) in
       let one : literal_value v p ≡ signal_value change.before.now x_of change.signal =
       ap (literal_value v) is_p ∙ (first change.signal (omega (arith, low, count))).is x v val_b ∙ ap (λ n. value_of n change.before.now.tables x_of change.signal) count in
       let two : literal_value v q ≡ signal_value after x_of change.signal =
@@ -76,7 +80,7 @@ over_changed b c d q change inputs over differs l up upper count same_inputs mad
       let x_of = map (literal_value v) inputs in
       let width : length x_of ≡ input_count q.nets.exact = length-map inputs (literal_value v) ∙ count in
       let apart : signal_value change.before.now x_of change.signal ≢ signal_value q.nets.approx x_of change.signal =
-      change-differs q.metric q.nets.exact change.before.now q.nets.approx q.k change.signal x_of made.before made.change same_inputs width exceeds in
+      change-differs q.metric q.nets.exact change.before.now q.nets.approx q.k change.signal x_of made.keeps made.made same_inputs width exceeds in
       both.is x v val ∙ and_true _ _
       (is.is x v val_b ∙ lt-ltb q.k (asked_error q x_of) exceeds)
       (different.is x v val_c ∙ differ_true _ _ apart);

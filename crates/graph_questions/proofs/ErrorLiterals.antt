@@ -68,10 +68,10 @@ over_graph q start g inputs l first grows count are asked law = record {
 within_at : (k e : ℕ) (b : Bool) → (k < e → b ≡ true) → b ≡ false → e ≤ k
 within_at k e b over is = not_over (λ low. absurd_bool (sym (over low) ∙ is)) where
   absurd_bool : true ≡ false → ⊥
-  absurd_bool no = cc
+  absurd_bool both = cc
 
   not_over : (k < e → ⊥) → e ≤ k
-  not_over no = omega (arith, no)
+  not_over never = omega (arith, never)
 
 -- a literal that is never true
 pub never_over : (q : LevelQuestion) (g : GraphValue) (l : ℕ) → IsGoalOf g q l → ((x : List Bool) → truth_of g x l ≡ false) → IsWithin q.metric q.nets.exact q.k q.nets.approx

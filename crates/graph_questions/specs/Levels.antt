@@ -27,8 +27,8 @@ asked_error q x = net_error q.metric q.nets.exact q.nets.approx x
 
 -- the error of the net before the change does not exceed k, and the approximate net is the one after it
 pub record IsChangeFor (q : LevelQuestion) (change : Change) : Type 0 where
-  pub before : IsWithin q.metric q.nets.exact q.k change.before.now
-  pub change : IsChange change.before.now q.nets.approx change.signal
+  pub keeps : IsWithin q.metric q.nets.exact q.k change.before.now
+  pub made : IsChange change.before.now q.nets.approx change.signal
 
 -- l says whether the error exceeds k where each input has the value of its literal
 pub record IsOverLiteral (g : GraphValue) (q : LevelQuestion) (inputs : List ℕ) (l : ℕ) : Type 0 where
