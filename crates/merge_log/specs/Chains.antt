@@ -79,7 +79,7 @@ row_chain m id (mark ∷ marks) (p ∷ pins) (q ∷ others) c = elim (asked mark
   | Some sign ↦ row_chain m (suc id) marks pins others (carried (implied c id (literal_at p sign)) m p q sign)
 ]
 
--- that of a row with these marks over its pins, and the other pins
+-- the chain of a row with these marks that stands here, and of the pins of another row
 abbrev pub placed_row_chain : MergedValue → List Mark → PlacedPins → PlacedPins → ChainValue → ChainValue
 placed_row_chain m marks at other c = row_chain m at.place.clause marks at.pins.now other.pins.now c
 
@@ -91,7 +91,7 @@ table_chain row other implication equal (suc count) c =
     table_chain (suc row) (suc other) (suc implication) (suc (suc equal)) count
     (implied (implied c implication (literal_at row false)) equal (literal_at other false))
 
--- that of `count` rows from one place on, and of those from the other place on, whose ids are those of the
+-- the chain of `count` rows from the place `rows` on, and of as many from the place `equal` on, by the
 -- clauses that made them equal
 abbrev pub placed_table_chain : Place → Place → ℕ → ChainValue → ChainValue
 placed_table_chain rows equal count c = table_chain rows.row equal.row rows.clause equal.clause count c
