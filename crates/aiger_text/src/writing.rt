@@ -1,7 +1,7 @@
 //! A circuit is written as its AIGER text, gathered in a page; nothing is allocated.
 ghost use Rattle.std.specs.Prelude.{ℕ};
 ghost use Rattle.semantics.specs.Texts.{line_text};
-ghost use Rattle.file_core.specs.Page.{Gathers, Writes};
+ghost use Rattle.file_core.specs.Page.{Gathers, Writes, with_page};
 ghost use Rattle.aiger_semantics.specs.Text.{header_line, number_line, and_line, aiger_text};
 ghost use Rattle.aiger_text.specs.CircuitText.{inputs_text, outputs_text, ands_text, symbols_text, body_text};
 
@@ -16,7 +16,7 @@ use net_core::name::Name;
 
 /// Puts the line `aag`, the greatest variable and the numbers of inputs, latches, outputs and ANDs.
 fn write_header<F: Files>(circuit: &Ands, files: &mut F, page: &mut Page) -> Result<(), FileFault>
-    ensures { Gathers result (F.told files.old) (F.told files.new) page.old page.new
+    ensures { Gathers result (with_page (F.told files.old) page.old) (with_page (F.told files.new) page.new)
         (line_text (header_line circuit.now)) }
 {
     let mut greatest = Buffer::new();
@@ -42,7 +42,7 @@ fn write_header<F: Files>(circuit: &Ands, files: &mut F, page: &mut Page) -> Res
 
 /// Puts the line of a number.
 fn write_number<F: Files>(number: u64, files: &mut F, page: &mut Page) -> Result<(), FileFault>
-    ensures { Gathers result (F.told files.old) (F.told files.new) page.old page.new
+    ensures { Gathers result (with_page (F.told files.old) page.old) (with_page (F.told files.new) page.new)
         (line_text (number_line number)) }
 {
     let mut digits = Buffer::new();
@@ -54,7 +54,7 @@ fn write_inputs<F: Files>(
     files: &mut F,
     page: &mut Page,
 ) -> Result<(), FileFault>
-    ensures { Gathers result (F.told files.old) (F.told files.new) page.old page.new
+    ensures { Gathers result (with_page (F.told files.old) page.old) (with_page (F.told files.new) page.new)
         (inputs_text variables.now) }
 {
     for variable in variables {
@@ -68,7 +68,7 @@ fn write_outputs<F: Files>(
     files: &mut F,
     page: &mut Page,
 ) -> Result<(), FileFault>
-    ensures { Gathers result (F.told files.old) (F.told files.new) page.old page.new
+    ensures { Gathers result (with_page (F.told files.old) page.old) (with_page (F.told files.new) page.new)
         (outputs_text literals.now) }
 {
     for literal in literals {
@@ -79,7 +79,7 @@ fn write_outputs<F: Files>(
 
 /// Puts the line of an AND.
 fn write_and<F: Files>(and: AndLine, files: &mut F, page: &mut Page) -> Result<(), FileFault>
-    ensures { Gathers result (F.told files.old) (F.told files.new) page.old page.new
+    ensures { Gathers result (with_page (F.told files.old) page.old) (with_page (F.told files.new) page.new)
         (line_text (and_line and)) }
 {
     let mut literal = Buffer::new();
@@ -100,7 +100,8 @@ fn write_and<F: Files>(and: AndLine, files: &mut F, page: &mut Page) -> Result<(
 }
 
 fn write_ands<F: Files>(ands: &[AndLine], files: &mut F, page: &mut Page) -> Result<(), FileFault>
-    ensures { Gathers result (F.told files.old) (F.told files.new) page.old page.new (ands_text ands.now) }
+    ensures { Gathers result (with_page (F.told files.old) page.old) (with_page (F.told files.new) page.new)
+        (ands_text ands.now) }
 {
     for and in ands {
         write_and(*and, files, page)?;
@@ -110,7 +111,8 @@ fn write_ands<F: Files>(ands: &[AndLine], files: &mut F, page: &mut Page) -> Res
 
 /// Puts the lines before the symbols.
 fn write_body<F: Files>(circuit: &Ands, files: &mut F, page: &mut Page) -> Result<(), FileFault>
-    ensures { Gathers result (F.told files.old) (F.told files.new) page.old page.new (body_text circuit.now) }
+    ensures { Gathers result (with_page (F.told files.old) page.old) (with_page (F.told files.new) page.new)
+        (body_text circuit.now) }
 {
     write_header(circuit, files, page)?;
     write_inputs(circuit.inputs(), files, page)?;
@@ -125,7 +127,7 @@ fn write_symbols<F: Files>(
     files: &mut F,
     page: &mut Page,
 ) -> Result<(), FileFault>
-    ensures { Gathers result (F.told files.old) (F.told files.new) page.old page.new
+    ensures { Gathers result (with_page (F.told files.old) page.old) (with_page (F.told files.new) page.new)
         (symbols_text letter names.now) }
 {
     for i in 0..names.len() {

@@ -19,7 +19,9 @@ use Rattle.bdd_nets.specs.declared.ever_true.Decision.{Decision}
 use Rattle.bdd_nets.specs.declared.ever_true.Decision.TheVariants.{Never, At, Unknown}
 use Rattle.bdd_nets.proofs.Signals.{within_later}
 use Rattle.bdd_nets.proofs.Deciding.{looked_up, looked_up_all}
-use Rattle.bdd_levels.specs.Levels.{TellsLevel, IsOverOf, AreDrawn, AreInputVariables, IsLevelDecided}
+use Rattle.net_errors.specs.Compared.{NetPair}
+use Rattle.bdd_levels.specs.declared.level.Level.{Level}
+use Rattle.bdd_levels.specs.Levels.{TellsLevel, IsLevelOf, IsOverOf, AreDrawn, AreInputVariables, IsLevelDecided}
 
 pub variables_later : (b c : List Node) (variables fs : List ℕ) → Grows b c → AreVariablesOf b variables fs → AreVariablesOf c variables fs
 variables_later b c variables fs grows are = record {
@@ -78,40 +80,45 @@ pub both_count : (N M Q : NetValue) (metric : Metric) (w k : ℕ) (nodes after :
 both_count N M Q metric w k nodes after inputs first second both candidate width level exact approximate is =
     omega (arith, ap length is, length-append first second, exact.count, approximate.count, same_outputs N M candidate, width, level.inputs)
 
-module _ (a b c : List Node) (metric : Metric) (N M Q : NetValue) (w k : ℕ) (inputs first second both over : List ℕ) (f : ℕ) where
-  pub over_is : Grows a b → Grows b c → IsCandidate N M → w ≡ length N.outputs → TellsLevel metric w k Q → AreOutputsOf a N inputs first → AreOutputsOf b M inputs second → both ≡ first ++ second
-      → AreOutputsOf c Q both over → f ≡ get_or over 0 f → IsOverOf c metric N M k inputs f
-  over_is ab bc candidate width level exact approximate is asked read =
-      let some : 0 < length over = omega (arith, asked.count, level.one) in
+module _ (a b c : List Node) (nets : NetPair) (level : Level) (inputs first second both over : List ℕ) (f : ℕ) where
+  pub over_is : Grows a b → Grows b c → IsCandidate nets.exact nets.approx → IsLevelOf nets.exact level → AreOutputsOf a nets.exact inputs first → AreOutputsOf b nets.approx inputs second
+      → both ≡ first ++ second → AreOutputsOf c level.network both over → f ≡ get_or over 0 f → IsOverOf c nets level inputs f
+  over_is ab bc candidate is_level exact approximate is asked read =
+      let some : 0 < length over = omega (arith, asked.count, is_level.one) in
       record {
         within = rw read (asked.within 0 f some);
         is = λ x v val.
             let at_b : IsValuation b x v = valuation_before b c x v bc val in
             let at_a : IsValuation a x v = valuation_before a b x v ab at_b in
-            let words : map v both ≡ outputs_of N (map v inputs) ++ outputs_of M (map v inputs) =
+            let words : map v both ≡ outputs_of nets.exact (map v inputs) ++ outputs_of nets.approx (map v inputs) =
             ap (map v) is ∙ map-append v first second ∙ (rw (exact.is x v at_a, approximate.is x v at_b) refl) in
-            let told : map v over ≡ ltb k (net_error metric N M (map v inputs)) ∷ [] =
-            asked.is x v val ∙ ap (outputs_of Q) words ∙ error_told metric N M Q w k (map v inputs) candidate width level in
+            let told : map v over ≡ ltb level.k (net_error level.metric nets.exact nets.approx (map v inputs)) ∷ [] =
+            asked.is x v val ∙ ap (outputs_of level.network) words
+            ∙ error_told level.metric nets.exact nets.approx level.network (length nets.exact.outputs) level.k (map v inputs) candidate refl is_level in
             ap v read ∙ sym (get_or-map v over 0 f false some) ∙ ap (λ (bits : List Bool). get_or bits 0 false) told;
       }
 
-module _ (nodes : List Node) (metric : Metric) (N M : NetValue) (k : ℕ) (variables inputs : List ℕ) (f : ℕ) where
+module _ (nodes : List Node) (nets : NetPair) (level : Level) (variables inputs : List ℕ) (f : ℕ) where
+  -- the error at an input vector
+  abbrev error_at : List Bool → ℕ
+  error_at = net_error level.metric nets.exact nets.approx
+
   -- what is decided of the diagram is decided of the error
-  pub level_decided : AreInputVariables N variables → AreVariablesOf nodes variables inputs → IsOverOf nodes metric N M k inputs f → ((x : Assignment) → HasOneValuation nodes x)
-      → (d : Decision) → IsDiagramDecided nodes variables f d → IsLevelDecided metric N M k d
+  pub level_decided : AreInputVariables nets.exact variables → AreVariablesOf nodes variables inputs → IsOverOf nodes nets level inputs f → ((x : Assignment) → HasOneValuation nodes x)
+      → (d : Decision) → IsDiagramDecided nodes variables f d → IsLevelDecided level.metric nets.exact nets.approx level.k d
   level_decided own are over law = by_decision
     where
-      told : (x : Assignment) → value_of nodes x f ≡ ltb k (net_error metric N M (map x variables))
-      told x = over.is x (value_of nodes x) (law x).is ∙ ap (λ (bits : List Bool). ltb k (net_error metric N M bits)) (are.is x (value_of nodes x) (law x).is)
+      told : (x : Assignment) → value_of nodes x f ≡ ltb level.k (error_at (map x variables))
+      told x = over.is x (value_of nodes x) (law x).is ∙ ap (λ (bits : List Bool). ltb level.k (error_at bits)) (are.is x (value_of nodes x) (law x).is)
 
-      by_decision : (d : Decision) → IsDiagramDecided nodes variables f d → IsLevelDecided metric N M k d
+      by_decision : (d : Decision) → IsDiagramDecided nodes variables f d → IsLevelDecided level.metric nets.exact nets.approx level.k d
       by_decision Never never = λ bits width.
           let values : map (looked_up variables bits) variables ≡ bits = looked_up_all variables bits own.distinct (width ∙ sym own.count) in
-          ltb-false k (net_error metric N M bits)
-          (subst (λ (b : List Bool). ltb k (net_error metric N M b) ≡ false) values (sym (told (looked_up variables bits)) ∙ never (looked_up variables bits)))
+          ltb-false level.k (error_at bits)
+          (subst (λ (b : List Bool). ltb level.k (error_at b) ≡ false) values (sym (told (looked_up variables bits)) ∙ never (looked_up variables bits)))
       by_decision (At bits) there = record {
         width = ap length there.bits_are ∙ length-map variables there.x ∙ own.count;
-        exceeds = ltb-true k (net_error metric N M bits.items)
-            (ap (λ (b : List Bool). ltb k (net_error metric N M b)) there.bits_are ∙ sym (told there.x) ∙ there.true_there);
+        exceeds = ltb-true level.k (error_at bits.items)
+            (ap (λ (b : List Bool). ltb level.k (error_at b)) there.bits_are ∙ sym (told there.x) ∙ there.true_there);
       }
       by_decision Unknown nothing = tt

@@ -61,7 +61,7 @@ differing_quality v W e a k widths =
     ]
 
 pub differing_says : (k : ℕ) (W V : WordNetValue) (e a : List ℕ) (s : ℕ) → length e ≡ length a → V ≡ (word_quality Ham W e a k).net → s ≡ (word_quality Ham W e a k).signal
-    → SaysWordExcess Ham k e a V s
+    → SaysWordExcess Ham k (record { exact = e; approximate = a }) V s
 differing_says k W V e a s widths made is = record { at = λ v fits. ap v is ∙ differing_quality v W e a k widths (subst (Fits v) made fits) }
 
 -- ---- the first words
@@ -93,7 +93,7 @@ exceeds_none metric n k W s start is within = record {
 }
 
 pub exceeds_more : (metric : Metric) (n k : ℕ) (W V U : WordNetValue) (s t r j : ℕ) → ExceedsBefore metric n k W s j → BeginsWith V W
-    → SaysWordExcess metric.kind k (exact_bus (word_width metric n) n j) (approximate_bus (word_width metric n) n j) V t
+    → SaysWordExcess metric.kind k (record { exact = exact_bus (word_width metric n) n j; approximate = approximate_bus (word_width metric n) n j }) V t
     → BeginsWith U V → r < signals U → HasBit U r (λ v. v s || v t) → ExceedsBefore metric n k U r (j + 1)
 exceeds_more metric n k W V U s t r j before to_V word to_U within joined = record {
   begins = begins_after (started (n + n)) W U (begins_after W V U to_U to_V) before.begins;

@@ -26,7 +26,7 @@ few_or_one (suc w) e some below = let one : 0 < 2 ^ w = pow_pos w in grind (arit
 
 pub ratio_says : (k : ℕ) (ratio : Ratio) (M L V : WordNetValue) (e a m z : List ℕ) (s : ℕ) → 0 < length e → HasNumber M m (λ v. max 1 (number v e)) → BeginsWith L M
     → HasNumber L z (λ v. ratio.numerator * number v m) → BeginsWith V L → HasBit V s (λ v. ltb (number v z) (distance (number v e) (number v a) * ratio.denominator)) → IsRatioFor (length e) k ratio
-    → SaysWordExcess Rel k e a V s
+    → SaysWordExcess Rel k (record { exact = e; approximate = a }) V s
 ratio_says k ratio M L V e a m z s some divisor to_M level to_L far is = record {
   at = λ v fits.
       let at_L = Fits-earlier v V L to_L fits in
@@ -46,7 +46,7 @@ most w narrow = let few : 2 ^ w ≤ 2 ^ 64 = pow-le-pow_right (omega arith) narr
 
 -- no relative error exceeds a level from the greatest one on
 pub never_says : (w k : ℕ) (W : WordNetValue) (e a : List ℕ) (s : ℕ) → w ≡ length e → w ≤ 64 → length e ≡ length a → ((1 * 2 ^ w) % 2 ^ 128 - 1) * 1000000 ≤ k → s ≡ W.inputs
-    → SaysWordExcess Rel k e a W s
+    → SaysWordExcess Rel k (record { exact = e; approximate = a }) W s
 never_says w k W e a s width narrow widths high is = record {
   at = λ v fits.
       let within = word_error-le Rel w (map v e) (map v a) (length-map e v ∙ sym width) (length-map a v ∙ sym widths ∙ sym width) in

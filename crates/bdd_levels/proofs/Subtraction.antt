@@ -70,7 +70,7 @@ place_value : (a b c t s d : Bool) → t ≡ differs a b → s ≡ differs t c �
 place_value a b c t s d et es ed = rw (ed, es, et) (place_bits a b c)
 
 pub place_made : (W T S V : WordNetValue) (a b c t s d : ℕ) → T ≡ appended W (xor2 a b) → t ≡ signals W → S ≡ appended T (xor2 t c) → s ≡ signals T → V ≡ appended S (choice t b c) → d ≡ signals S
-    → IsPlaceOf V a b c s d
+    → IsPlaceOf V (record { minuend = a; subtrahend = b; borrow_in = c; difference = s; borrow_out = d })
 place_made W T S V a b c t s d hT ht hS hs hV hd = record {
   at = λ v fits.
       let at_V : Fits v (appended S (choice t b c)) = subst (Fits v) hV fits in
@@ -134,7 +134,8 @@ subtracting_none W x y within = record {
 
 pub subtracting_more : (start now after : WordNetValue) (x y bits bits' : List ℕ) (borrow i a b s d : ℕ) → Subtracting start now x y bits borrow i → i < length x → length x ≡ length y
     → a ≡ get_or x i a → b ≡ get_or y i b
-    → IsPlaceOf after a b borrow s d → bits' ≡ bits ++ s ∷ [] → s < signals after → d < signals after → signals now ≤ signals after → BeginsWith after now → Subtracting start after x y bits' d (i + 1)
+    → IsPlaceOf after (record { minuend = a; subtrahend = b; borrow_in = borrow; difference = s; borrow_out = d }) → bits' ≡ bits ++ s ∷ [] → s < signals after → d < signals after
+    → signals now ≤ signals after → BeginsWith after now → Subtracting start after x y bits' d (i + 1)
 subtracting_more start now after x y bits bits' borrow i a b s d h within same ea eb place pushed s_in d_in more begins = record {
   begins = begins_through start now after begins h.begins;
   more = omega (arith, h.more, more);
@@ -217,7 +218,7 @@ once : (n : ℕ) → n * 1 ≡ n
 once n = omega arith
 
 pub absolute_says : (k : ℕ) (W V : WordNetValue) (e a z : List ℕ) (s : ℕ) → HasNumber W z (λ v. k) → BeginsWith V W → HasBit V s (λ v. ltb (number v z) (distance (number v e) (number v a) * 1))
-    → SaysWordExcess Abs k e a V s
+    → SaysWordExcess Abs k (record { exact = e; approximate = a }) V s
 absolute_says k W V e a z s level begins far = record {
   at = λ v fits.
       far.at v fits ∙ ap (λ n. ltb n (distance (number v e) (number v a) * 1)) (level.at v (Fits-earlier v V W begins fits)) ∙ ap (ltb k) (once (distance (number v e) (number v a)));
@@ -228,7 +229,7 @@ signed_apart (pos t) i j n m h is first second = omega (arith, ints, is, first, 
 signed_apart (negsuc t) i j n m h is first second = omega (arith, ints, is, first, second)
 
 pub signed_says : (k : ℕ) (E A V : WordNetValue) (x y e a z : List ℕ) (s : ℕ) → length x ≡ length y → HasFlipped E e x → BeginsWith A E → HasFlipped A a y → HasNumber A z (λ v. k) → BeginsWith V A
-    → HasBit V s (λ v. ltb (number v z) (distance (number v e) (number v a) * 1)) → SaysWordExcess Sabs k x y V s
+    → HasBit V s (λ v. ltb (number v z) (distance (number v e) (number v a) * 1)) → SaysWordExcess Sabs k (record { exact = x; approximate = y }) V s
 signed_says k E A V x y e a z s widths first to_E second level to_A far = record {
   at = λ v fits.
       let at_A = Fits-earlier v V A to_A fits in

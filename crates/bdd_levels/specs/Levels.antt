@@ -6,6 +6,7 @@ use Rattle.semantics.specs.Value.{Assignment}
 use Rattle.semantics.specs.declared.metric.Metric.{Metric}
 use Rattle.semantics.specs.Error.{net_error, IsWithin}
 use Rattle.quality_semantics.specs.Quality.{TellsExcess}
+use Rattle.net_errors.specs.Compared.{NetPair}
 use Rattle.bdd_core.specs.declared.node.Node.{Node}
 use Rattle.bdd_core.specs.Diagrams.{IsValuation}
 use Rattle.bdd_nets.specs.Signals.{AreVariablesOf, AreOutputsOf}
@@ -24,12 +25,12 @@ pub record TellsLevel (metric : Metric) (w k : ℕ) (N : NetValue) : Type 0 wher
 abbrev pub IsLevelOf : NetValue → Level → Type 0
 IsLevelOf N level = TellsLevel level.metric (length N.outputs) level.k level.network
 
--- f says whether the error exceeds k where each input has the value of its diagram
-pub record IsOverOf (nodes : List Node) (metric : Metric) (exact approx : NetValue) (k : ℕ) (inputs : List ℕ)
+-- f says whether the error exceeds the level where each input has the value of its diagram
+pub record IsOverOf (nodes : List Node) (nets : NetPair) (level : Level) (inputs : List ℕ)
     (f : ℕ) : Type 0 where
   pub within : f < length nodes
   pub is : (x v : Assignment) → IsValuation nodes x v
-      → v f ≡ nat_lt k (net_error metric exact approx (map v inputs))
+      → v f ≡ nat_lt level.k (net_error level.metric nets.exact nets.approx (map v inputs))
 
 -- the diagrams of a net's inputs, each of which is that of a variable of its own, and the diagrams of the
 -- net's outputs

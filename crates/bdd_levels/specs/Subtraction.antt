@@ -5,11 +5,19 @@ use Rattle.semantics.specs.Error.{bit_number}
 use Rattle.quality_semantics.specs.WordNets.{WordNetValue}
 use Rattle.quality_semantics.specs.Laws.{Fits, number}
 
--- one place of a subtraction: the bit and the borrow of a less b, and less the borrow of the place before
-pub record IsPlaceOf (W : WordNetValue) (a b before bit borrow : ℕ) : Type 0 where
+-- the signals of one place of a subtraction, a full subtractor: its three inputs and its two outputs
+pub record FullSubtractor : Type 0 where
+  pub minuend : ℕ
+  pub subtrahend : ℕ
+  pub borrow_in : ℕ
+  pub difference : ℕ
+  pub borrow_out : ℕ
+
+-- the difference and the borrow of the minuend less the subtrahend, and less the borrow of the place before
+pub record IsPlaceOf (W : WordNetValue) (p : FullSubtractor) : Type 0 where
   pub at : (v : Assignment) → Fits v W
-      → bit_number (v a) + 2 * bit_number (v borrow)
-      ≡ bit_number (v b) + bit_number (v before) + bit_number (v bit)
+      → bit_number (v p.minuend) + 2 * bit_number (v p.borrow_out)
+      ≡ bit_number (v p.subtrahend) + bit_number (v p.borrow_in) + bit_number (v p.difference)
 
 -- d is x less y, plus 2 to the width where something is borrowed
 pub record IsDifferenceOf (W : WordNetValue) (x y d : List ℕ) (borrow : ℕ) : Type 0 where

@@ -8,9 +8,15 @@ use Rattle.semantics.specs.Error.{word_error, error_of}
 use Rattle.quality_semantics.specs.WordNets.{WordNetValue, started, BeginsWith}
 use Rattle.quality_semantics.specs.Laws.{Fits}
 
--- the signal says whether the error of the word a against the word e exceeds k
-pub record SaysWordExcess (kind : Kind) (k : ℕ) (e a : List ℕ) (W : WordNetValue) (s : ℕ) : Type 0 where
-  pub at : (v : Assignment) → Fits v W → v s ≡ nat_lt k (word_error kind (map v e) (map v a))
+-- the signals of an exact word, and those of a word that is judged against it
+pub record WordPair : Type 0 where
+  pub exact : List ℕ
+  pub approximate : List ℕ
+
+-- the signal says whether the error of a word against the exact one exceeds k
+pub record SaysWordExcess (kind : Kind) (k : ℕ) (words : WordPair) (W : WordNetValue) (s : ℕ) : Type 0 where
+  pub at : (v : Assignment) → Fits v W
+      → v s ≡ nat_lt k (word_error kind (map v words.exact) (map v words.approximate))
 
 -- the signal of a network over n exact outputs, and n approximate ones behind them, says whether their error
 -- exceeds k

@@ -41,7 +41,13 @@ fn subtract_place(
     ensures more { signals net.old ≤ signals net.new }
     ensures within { IfOk result (λ r. (r.0 < signals net.new) × (r.1 < signals net.new)) }
     ensures begins { BeginsWith net.new net.old }
-    ensures is { IfOk result (λ r. IsPlaceOf net.new a b before r.0 r.1) }
+    ensures is { IfOk result (λ r. IsPlaceOf net.new (record {
+      minuend = a;
+      subtrahend = b;
+      borrow_in = before;
+      difference = r.0;
+      borrow_out = r.1;
+    })) }
 {
     let differs = net.append_form([a, b], &XOR2)?;
     let bit = net.append_form([differs, before], &XOR2)?;
@@ -142,7 +148,8 @@ pub(crate) fn absolute_excess(
     requires narrow { length exact.now ≤ MOST_OUTPUTS }
     ensures within { IfOk result (λ s. s < signals net.new) }
     ensures begins { OnOk result (BeginsWith net.new net.old) }
-    ensures says { IfOk result (SaysWordExcess Abs k exact.now approximate.now net.new) }
+    ensures says { IfOk result (SaysWordExcess Abs k
+        (record { exact = exact.now; approximate = approximate.now }) net.new) }
 {
     let level = net.constant(k)?;
     far_apart(alloc, net, exact, approximate, 1, &level)
@@ -164,7 +171,8 @@ pub(crate) fn signed_excess(
     requires narrow { length exact.now ≤ MOST_OUTPUTS }
     ensures within { IfOk result (λ s. s < signals net.new) }
     ensures begins { OnOk result (BeginsWith net.new net.old) }
-    ensures says { IfOk result (SaysWordExcess Sabs k exact.now approximate.now net.new) }
+    ensures says { IfOk result (SaysWordExcess Sabs k
+        (record { exact = exact.now; approximate = approximate.now }) net.new) }
 {
     let flipped_exact = net.flip_top(exact)?;
     let flipped_approximate = net.flip_top(approximate)?;

@@ -66,8 +66,7 @@ fn over_diagram(
     requires within { All (λ f. f < length d.old) inputs.now }
     requires outputs { AreOutputsOf d.old nets.now.exact inputs.now outputs.now }
     ensures grows { Grows d.old d.new }
-    ensures ok { IfOk result
-        (IsOverOf d.new level.now.metric nets.now.exact nets.now.approx level.now.k inputs.now) }
+    ensures ok { IfOk result (IsOverOf d.new nets.now level.now inputs.now) }
 {
     let approximate = output_diagrams(alloc, d, nets.approx(), inputs)?;
     let both = joined(alloc, outputs, &approximate)?;

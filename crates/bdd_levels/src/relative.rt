@@ -165,7 +165,7 @@ fn ratio_excess(
     ensures within { IfOk result (λ s. s < signals net.new) }
     ensures begins { OnOk result (BeginsWith net.new net.old) }
     ensures says { IfOk result (λ s. (k : ℕ) → IsRatioFor (length exact.now) k ratio
-        → SaysWordExcess Rel k exact.now approximate.now net.new s) }
+        → SaysWordExcess Rel k (record { exact = exact.now; approximate = approximate.now }) net.new s) }
 {
     let divisor = net.not_zero_low(exact)?;
     let level = net.times(&divisor, ratio.numerator)?;
@@ -188,7 +188,8 @@ pub(crate) fn relative_excess(
     requires narrow { length exact.now ≤ MOST_OUTPUTS }
     ensures within { IfOk result (λ s. s < signals net.new) }
     ensures begins { OnOk result (BeginsWith net.new net.old) }
-    ensures says { IfOk result (SaysWordExcess Rel k exact.now approximate.now net.new) }
+    ensures says { IfOk result (SaysWordExcess Rel k
+        (record { exact = exact.now; approximate = approximate.now }) net.new) }
 {
     let width = exact.len() as u32;
     if k >= ((1u128 << width) - 1) * MILLION {

@@ -34,7 +34,8 @@ fn word_excess(
     requires narrow { length exact.now ≤ MOST_OUTPUTS }
     ensures within { IfOk result (λ s. s < signals net.new) }
     ensures begins { OnOk result (BeginsWith net.new net.old) }
-    ensures says { IfOk result (SaysWordExcess kind k exact.now approximate.now net.new) }
+    ensures says { IfOk result (SaysWordExcess kind k
+        (record { exact = exact.now; approximate = approximate.now }) net.new) }
 {
     match kind {
         Kind::Abs => absolute_excess(alloc, net, exact, approximate, k),
@@ -59,9 +60,10 @@ fn excess_at(
     requires word { word < word_count metric outputs }
     ensures within { IfOk result (λ s. s < signals net.new) }
     ensures begins { OnOk result (BeginsWith net.new net.old) }
-    ensures says { IfOk result (SaysWordExcess metric.kind k
-        (exact_bus (word_width metric outputs) outputs word)
-        (approximate_bus (word_width metric outputs) outputs word) net.new) }
+    ensures says { IfOk result (SaysWordExcess metric.kind k (record {
+      exact = exact_bus (word_width metric outputs) outputs word;
+      approximate = approximate_bus (word_width metric outputs) outputs word;
+    }) net.new) }
 {
     let (first, size) = word_place(metric, outputs, word);
     let exact = net.input_bus(first, size)?;

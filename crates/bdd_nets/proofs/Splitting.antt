@@ -10,7 +10,7 @@ use Rattle.bdd_core.specs.declared.node.Node.{Node}
 use Rattle.bdd_core.specs.Diagrams.{IsValuation, AreDiagrams, Grows, IsIteOf}
 use Rattle.bdd_core.proofs.Growing.{grows_trans, valuation_before}
 use Rattle.bdd_nets.specs.Tables.{signal_values, IsSomeRowOf}
-use Rattle.bdd_nets.specs.Splits.{IsSettled, IsSplitOver}
+use Rattle.bdd_nets.specs.Splits.{IsSettled, DrawnRows, IsSplitOver}
 
 -- a mark asks for what is not chosen, or for nothing else
 abbrev pub IsOpposite : Mark → Mark → Type 0
@@ -96,24 +96,22 @@ chosen_anew [] p m n = refl
 chosen_anew (c ∷ cs) zero m n = refl
 chosen_anew (c ∷ cs) (suc p) m n = ap (λ ds. c ∷ ds) (chosen_anew cs p m n)
 
-pub settled_true : (nodes : List Node) (rows : List (List Mark)) (pins signals : List ℕ) (chosen : List Mark) → AreDiagrams nodes → length chosen ≡ length pins → IsSettled rows chosen true
-    → IsSplitOver nodes rows pins signals chosen 1
-settled_true nodes rows pins signals chosen are width settled = record {
+pub settled_true : (nodes : List Node) (t : DrawnRows) (chosen : List Mark) → AreDiagrams nodes → length chosen ≡ length t.pins → IsSettled t.rows chosen true → IsSplitOver nodes t chosen 1
+settled_true nodes t chosen are width settled = record {
   within = omega (arith, are.constants);
-  is = λ x v val on. val.one_is ∙ sym (settled pins (signal_values signals v) (sym width) on);
+  is = λ x v val on. val.one_is ∙ sym (settled t.pins (signal_values t.signals v) (sym width) on);
 }
 
-pub settled_false : (nodes : List Node) (rows : List (List Mark)) (pins signals : List ℕ) (chosen : List Mark) → AreDiagrams nodes → length chosen ≡ length pins → IsSettled rows chosen false
-    → IsSplitOver nodes rows pins signals chosen 0
-settled_false nodes rows pins signals chosen are width settled = record {
+pub settled_false : (nodes : List Node) (t : DrawnRows) (chosen : List Mark) → AreDiagrams nodes → length chosen ≡ length t.pins → IsSettled t.rows chosen false → IsSplitOver nodes t chosen 0
+settled_false nodes t chosen are width settled = record {
   within = omega (arith, are.constants);
-  is = λ x v val on. val.zero_is ∙ sym (settled pins (signal_values signals v) (sym width) on);
+  is = λ x v val on. val.zero_is ∙ sym (settled t.pins (signal_values t.signals v) (sym width) on);
 }
 
 -- both halves of a split
-module _ (b c e : List Node) (rows : List (List Mark)) (pins signals : List ℕ) (chosen : List Mark) (p pin low high r : ℕ) where
-  pub split_halves : IsSplitOver b rows pins signals (slice_set chosen p Zero) low → IsSplitOver c rows pins signals (slice_set chosen p One) high → Grows b c → Grows c e → IsIteOf e pin high low r
-      → pin ≡ get_or signals (get_or pins p 0) 0 → IsSplitOver e rows pins signals chosen r
+module _ (b c e : List Node) (t : DrawnRows) (chosen : List Mark) (p pin low high r : ℕ) where
+  pub split_halves : IsSplitOver b t (slice_set chosen p Zero) low → IsSplitOver c t (slice_set chosen p One) high → Grows b c → Grows c e → IsIteOf e pin high low r
+      → pin ≡ get_or t.signals (get_or t.pins p 0) 0 → IsSplitOver e t chosen r
   split_halves is_low is_high bc ce ite read = record {
     within = ite.within;
     is = λ x v val on.
@@ -122,14 +120,14 @@ module _ (b c e : List Node) (rows : List (List Mark)) (pins signals : List ℕ)
         ite.is x v val ∙ half x v at_b at_c on (v pin) refl;
   }
     where
-      half : (x v : Assignment) → IsValuation b x v → IsValuation c x v → row_matches chosen pins (signal_values signals v) ≡ true → (t : Bool) → v pin ≡ t
-          → cond (v pin) (v high) (v low) ≡ list_any (λ marks. row_matches marks pins (signal_values signals v)) rows
+      half : (x v : Assignment) → IsValuation b x v → IsValuation c x v → row_matches chosen t.pins (signal_values t.signals v) ≡ true → (bit : Bool) → v pin ≡ bit
+          → cond (v pin) (v high) (v low) ≡ list_any (λ marks. row_matches marks t.pins (signal_values t.signals v)) t.rows
       half x v at_b at_c on true is =
-          ap (λ t. cond t (v high) (v low)) is
-          ∙ is_high.is x v at_c (chosen_more chosen pins (signal_values signals v) p One (ap v (sym read) ∙ is) on)
+          ap (λ bit. cond bit (v high) (v low)) is
+          ∙ is_high.is x v at_c (chosen_more chosen t.pins (signal_values t.signals v) p One (ap v (sym read) ∙ is) on)
       half x v at_b at_c on false is =
-          ap (λ t. cond t (v high) (v low)) is
-          ∙ is_low.is x v at_b (chosen_more chosen pins (signal_values signals v) p Zero (rw (← read, is) refl) on)
+          ap (λ bit. cond bit (v high) (v low)) is
+          ∙ is_low.is x v at_b (chosen_more chosen t.pins (signal_values t.signals v) p Zero (rw (← read, is) refl) on)
 
 -- where nothing is chosen
 nothing_chosen : (n : ℕ) (pins : List ℕ) (v : Assignment) → row_matches (replicate n Dash) pins v ≡ true
@@ -137,9 +135,8 @@ nothing_chosen zero pins v = refl
 nothing_chosen (suc n) [] v = refl
 nothing_chosen (suc n) (s ∷ ps) v = nothing_chosen n ps v
 
-pub split_all : (nodes : List Node) (rows : List (List Mark)) (pins signals : List ℕ) (chosen : List Mark) (n r : ℕ) → chosen ≡ replicate n Dash → IsSplitOver nodes rows pins signals chosen r
-    → IsSomeRowOf nodes rows pins signals r
-split_all nodes rows pins signals chosen n r is over = record {
+pub split_all : (nodes : List Node) (t : DrawnRows) (chosen : List Mark) (n r : ℕ) → chosen ≡ replicate n Dash → IsSplitOver nodes t chosen r → IsSomeRowOf nodes t.rows t.pins t.signals r
+split_all nodes t chosen n r is over = record {
   within = over.within;
-  is = λ x v val. over.is x v val (ap (λ (cs : List Mark). row_matches cs pins (signal_values signals v)) is ∙ nothing_chosen n pins (signal_values signals v));
+  is = λ x v val. over.is x v val (ap (λ (cs : List Mark). row_matches cs t.pins (signal_values t.signals v)) is ∙ nothing_chosen n t.pins (signal_values t.signals v));
 }

@@ -13,10 +13,15 @@ IsSettled rows chosen some =
     (pins : List ℕ) (v : Assignment) → length pins ≡ length chosen → row_matches chosen pins v ≡ true
     → list_any (λ marks. row_matches marks pins v) rows ≡ some
 
+-- a table's rows and pins, and the diagrams of all signals
+pub record DrawnRows : Type 0 where
+  pub rows : List (List Mark)
+  pub pins : List ℕ
+  pub signals : List ℕ
+
 -- where the pins are as they are chosen, r is true where some row matches
-pub record IsSplitOver (nodes : List Node) (rows : List (List Mark)) (pins signals : List ℕ)
-    (chosen : List Mark) (r : ℕ) : Type 0 where
+pub record IsSplitOver (nodes : List Node) (t : DrawnRows) (chosen : List Mark) (r : ℕ) : Type 0 where
   pub within : r < length nodes
   pub is : (x v : Assignment) → IsValuation nodes x v
-      → row_matches chosen pins (signal_values signals v) ≡ true
-      → v r ≡ list_any (λ marks. row_matches marks pins (signal_values signals v)) rows
+      → row_matches chosen t.pins (signal_values t.signals v) ≡ true
+      → v r ≡ list_any (λ marks. row_matches marks t.pins (signal_values t.signals v)) t.rows

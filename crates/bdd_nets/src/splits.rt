@@ -123,7 +123,8 @@ fn split(
     requires signals { All (λ f. f < length d.old) signals.now }
     ensures grows { Grows d.old d.new }
     ensures same { OnOk result (chosen.new ≡ chosen.old) }
-    ensures ok { IfOk result (IsSplitOver d.new rows.now pins.now signals.now chosen.old) }
+    ensures ok { IfOk result (IsSplitOver d.new
+        (record { rows = rows.now; pins = pins.now; signals = signals.now }) chosen.old) }
 {
     d.are_diagrams();
     if let Some(some) = settled(rows, chosen) {

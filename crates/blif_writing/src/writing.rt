@@ -3,7 +3,7 @@ ghost use Rattle.std.specs.Prelude.{◌≡◌, ◌<◌, [], ◌∷◌, ◌++◌,
 ghost use Rattle.semantics.specs.Texts.{line_text, bit_byte};
 ghost use Rattle.semantics.specs.Net.{signal_count, signal_names};
 ghost use Rattle.semantics.specs.Blif.{mark_byte, row_line, names_line, blif_text};
-ghost use Rattle.file_core.specs.Page.{Gathers, Writes};
+ghost use Rattle.file_core.specs.Page.{Gathers, Writes, with_page};
 ghost use Rattle.blif_writing.specs.NetText.{blank_words, blank_names, marks_text, rows_text, table_text};
 ghost use Rattle.blif_writing.specs.NetText.{tables_text, header_text};
 
@@ -37,14 +37,15 @@ fn plane_byte(plane: bool) -> u8
 
 /// Puts a blank and a name into the page.
 fn write_name<F: Files>(name: &Name, files: &mut F, page: &mut Page) -> Result<(), FileFault>
-    ensures { Gathers result (F.told files.old) (F.told files.new) page.old page.new (32 ∷ name.now) }
+    ensures { Gathers result (with_page (F.told files.old) page.old) (with_page (F.told files.new) page.new)
+        (32 ∷ name.now) }
 {
     gather_pieces(files, page, &[b" ", name.bytes()])
 }
 
 /// Puts a blank and a name for each input.
 fn write_inputs<F: Files>(net: &Net, files: &mut F, page: &mut Page) -> Result<(), FileFault>
-    ensures { Gathers result (F.told files.old) (F.told files.new) page.old page.new
+    ensures { Gathers result (with_page (F.told files.old) page.old) (with_page (F.told files.new) page.new)
         (blank_words net.now.inputs) }
 {
     for s in 0..net.inputs() {
@@ -55,7 +56,7 @@ fn write_inputs<F: Files>(net: &Net, files: &mut F, page: &mut Page) -> Result<(
 
 /// Puts a blank and a name for each output.
 fn write_outputs<F: Files>(net: &Net, files: &mut F, page: &mut Page) -> Result<(), FileFault>
-    ensures { Gathers result (F.told files.old) (F.told files.new) page.old page.new
+    ensures { Gathers result (with_page (F.told files.old) page.old) (with_page (F.told files.new) page.new)
         (blank_names (signal_names net.now) net.now.outputs) }
 {
     for i in 0..net.outputs() {
@@ -72,7 +73,7 @@ fn write_signals<F: Files>(
     page: &mut Page,
 ) -> Result<(), FileFault>
     requires { All (λ s. s < signal_count net.now) signals.now }
-    ensures { Gathers result (F.told files.old) (F.told files.new) page.old page.new
+    ensures { Gathers result (with_page (F.told files.old) page.old) (with_page (F.told files.new) page.new)
         (blank_names (signal_names net.now) signals.now) }
 {
     for s in signals {
@@ -83,7 +84,8 @@ fn write_signals<F: Files>(
 
 /// Puts the three lines before the tables.
 fn write_header<F: Files>(net: &Net, files: &mut F, page: &mut Page) -> Result<(), FileFault>
-    ensures { Gathers result (F.told files.old) (F.told files.new) page.old page.new (header_text net.now) }
+    ensures { Gathers result (with_page (F.told files.old) page.old) (with_page (F.told files.new) page.new)
+        (header_text net.now) }
 {
     gather_pieces(
         files,
@@ -104,7 +106,7 @@ fn write_names_line<F: Files>(
     page: &mut Page,
 ) -> Result<(), FileFault>
     requires { All (λ s. s < signal_count net.now) table.now.pins }
-    ensures { Gathers result (F.told files.old) (F.told files.new) page.old page.new
+    ensures { Gathers result (with_page (F.told files.old) page.old) (with_page (F.told files.new) page.new)
         (line_text (names_line (signal_names net.now) table.now)) }
 {
     gather(files, page, b".names")?;
@@ -113,7 +115,8 @@ fn write_names_line<F: Files>(
 }
 
 fn write_marks<F: Files>(marks: &[Mark], files: &mut F, page: &mut Page) -> Result<(), FileFault>
-    ensures { Gathers result (F.told files.old) (F.told files.new) page.old page.new (marks_text marks.now) }
+    ensures { Gathers result (with_page (F.told files.old) page.old) (with_page (F.told files.new) page.new)
+        (marks_text marks.now) }
 {
     for mark in marks {
         gather(files, page, &[mark_byte(*mark)])?;
@@ -128,7 +131,7 @@ fn write_row<F: Files>(
     files: &mut F,
     page: &mut Page,
 ) -> Result<(), FileFault>
-    ensures { Gathers result (F.told files.old) (F.told files.new) page.old page.new
+    ensures { Gathers result (with_page (F.told files.old) page.old) (with_page (F.told files.new) page.new)
         (line_text (row_line plane marks.now)) }
 {
     if marks.is_empty() {
@@ -144,7 +147,7 @@ fn write_rows<F: Files>(
     files: &mut F,
     page: &mut Page,
 ) -> Result<(), FileFault>
-    ensures { Gathers result (F.told files.old) (F.told files.new) page.old page.new
+    ensures { Gathers result (with_page (F.told files.old) page.old) (with_page (F.told files.new) page.new)
         (rows_text plane rows.now) }
 {
     for row in rows {
@@ -160,7 +163,7 @@ fn write_table<F: Files>(
     page: &mut Page,
 ) -> Result<(), FileFault>
     requires { All (λ s. s < signal_count net.now) table.now.pins }
-    ensures { Gathers result (F.told files.old) (F.told files.new) page.old page.new
+    ensures { Gathers result (with_page (F.told files.old) page.old) (with_page (F.told files.new) page.new)
         (table_text (signal_names net.now) table.now) }
 {
     write_names_line(net, table, files, page)?;
@@ -168,7 +171,7 @@ fn write_table<F: Files>(
 }
 
 fn write_tables<F: Files>(net: &Net, files: &mut F, page: &mut Page) -> Result<(), FileFault>
-    ensures { Gathers result (F.told files.old) (F.told files.new) page.old page.new
+    ensures { Gathers result (with_page (F.told files.old) page.old) (with_page (F.told files.new) page.new)
         (tables_text (signal_names net.now) net.now.tables) }
 {
     for t in 0..net.tables() {

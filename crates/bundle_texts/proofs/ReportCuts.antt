@@ -12,7 +12,7 @@ use Rattle.job_semantics.proofs.ReportTexts.{report_head, two_words, few_digits,
 use Rattle.bundle_texts.specs.declared.report_reading.Counts.{Counts}
 use Rattle.bundle_texts.specs.declared.report_reading.ReportRead.{ReportRead}
 use Rattle.bundle_texts.specs.Pieces.{IsNumberBefore, IsVectorBefore}
-use Rattle.bundle_texts.specs.ReportParts.{head_text, counts_text, minimal_text, tail_text, AreCountsBefore, IsFrontBefore, IsTail}
+use Rattle.bundle_texts.specs.ReportParts.{head_text, counts_text, minimal_text, tail_text, AreCountsBefore, Front, IsFrontBefore, IsTail}
 use Rattle.bundle_texts.specs.Reading.{report_read}
 
 number_once : (end n m : ℕ) (s t : Bytes) → is_digit end ≡ false → n ≤ LARGEST_ERROR → m ≤ LARGEST_ERROR → decimal n ++ end ∷ s ≡ decimal m ++ end ∷ t → (n ≡ m) × (s ≡ t)
@@ -70,34 +70,33 @@ module _ (text : Bytes) (a b : ℕ) (r1 : Bytes) (tables : AreCountsBefore (code
 -- ---- the head, the maximum and the witness
 
 module _ (head : Bytes) (width : ℕ) (text r1 : Bytes) (start : text ≡ head ++ r1) where
-  maximum_start : (maximum : ℕ) (x : List Bool) (rest : Bytes) → IsFrontBefore head width text maximum x rest
-      → r1 ≡ decimal maximum ++ 10 ∷ (codes "witness " ++ (bits_word x ++ 10 ∷ rest))
-  maximum_start maximum x rest h = append_cancel_left head r1 _ (sym start ∙ h.spelled)
+  maximum_start : (f : Front) → IsFrontBefore head width text f
+      → r1 ≡ decimal f.maximum ++ 10 ∷ (codes "witness " ++ (bits_word f.witness ++ 10 ∷ f.rest))
+  maximum_start f h = append_cancel_left head r1 _ (sym start ∙ h.spelled)
 
   module _ (most : ℕ) (all : most ≡ LARGEST_ERROR) where
-    pub no_maximum : ((n : ℕ) (rest : Bytes) → ¬ IsNumberBefore most 10 r1 n rest) → (maximum : ℕ) (x : List Bool) (rest : Bytes) → ¬ IsFrontBefore head width text maximum x rest
-    no_maximum none maximum x rest h =
-        none maximum (codes "witness " ++ (bits_word x ++ 10 ∷ rest)) (record { few = omega (arith, h.few, all); spelled = maximum_start maximum x rest h })
+    pub no_maximum : ((n : ℕ) (rest : Bytes) → ¬ IsNumberBefore most 10 r1 n rest) → (f : Front) → ¬ IsFrontBefore head width text f
+    no_maximum none f h =
+        none f.maximum (codes "witness " ++ (bits_word f.witness ++ 10 ∷ f.rest)) (record { few = omega (arith, h.few, all); spelled = maximum_start f h })
 
     module _ (m : ℕ) (r2 : Bytes) (first : IsNumberBefore most 10 r1 m r2) where
-      witness_start : (maximum : ℕ) (x : List Bool) (rest : Bytes) → IsFrontBefore head width text maximum x rest → r2 ≡ codes "witness " ++ (bits_word x ++ 10 ∷ rest)
-      witness_start maximum x rest h =
-          (number_once 10 m maximum r2 _ refl (omega (arith, first.few, all)) h.few (sym first.spelled ∙ maximum_start maximum x rest h)).1
+      witness_start : (f : Front) → IsFrontBefore head width text f → r2 ≡ codes "witness " ++ (bits_word f.witness ++ 10 ∷ f.rest)
+      witness_start f h = (number_once 10 m f.maximum r2 _ refl (omega (arith, first.few, all)) h.few (sym first.spelled ∙ maximum_start f h)).1
 
-      pub no_witness : ((rest : Bytes) → r2 ≢ codes "witness " ++ rest) → (maximum : ℕ) (x : List Bool) (rest : Bytes) → ¬ IsFrontBefore head width text maximum x rest
-      no_witness none maximum x rest h = none (bits_word x ++ 10 ∷ rest) (witness_start maximum x rest h)
+      pub no_witness : ((rest : Bytes) → r2 ≢ codes "witness " ++ rest) → (f : Front) → ¬ IsFrontBefore head width text f
+      no_witness none f h = none (bits_word f.witness ++ 10 ∷ f.rest) (witness_start f h)
 
       pub no_bits : (r3 : Bytes) → r2 ≡ codes "witness " ++ r3 → ((x : List Bool) (rest : Bytes) → ¬ IsVectorBefore width r3 x rest)
-          → (maximum : ℕ) (x : List Bool) (rest : Bytes) → ¬ IsFrontBefore head width text maximum x rest
-      no_bits r3 key none maximum x rest h =
-          none x rest (record { width_is = h.width_is; spelled = append_cancel_left (codes "witness ") r3 _ (sym key ∙ witness_start maximum x rest h) })
+          → (f : Front) → ¬ IsFrontBefore head width text f
+      no_bits r3 key none f h =
+          none f.witness f.rest (record { width_is = h.width_is; spelled = append_cancel_left (codes "witness ") r3 _ (sym key ∙ witness_start f h) })
 
-front_once : (head : Bytes) (width : ℕ) (text : Bytes) (m n : ℕ) (x y : List Bool) (s t : Bytes) → IsFrontBefore head width text m x s → IsFrontBefore head width text n y t
-    → (m ≡ n) × (x ≡ y) × (s ≡ t)
-front_once head width text m n x y s t h k =
-    let maximum = number_once 10 m n _ _ refl h.few k.few (append_cancel_left head _ _ (sym h.spelled ∙ k.spelled)) in
-    let witness = bits-cut x y (10 ∷ s) (10 ∷ t) (h.width_is ∙ sym k.width_is) (append_cancel_left (codes "witness ") _ _ maximum.1) in
-    (maximum.0, witness.0, append_cancel_left (10 ∷ []) s t witness.1)
+front_once : (head : Bytes) (width : ℕ) (text : Bytes) (f g : Front) → IsFrontBefore head width text f → IsFrontBefore head width text g
+    → (f.maximum ≡ g.maximum) × (f.witness ≡ g.witness) × (f.rest ≡ g.rest)
+front_once head width text f g h k =
+    let maximum = number_once 10 f.maximum g.maximum _ _ refl h.few k.few (append_cancel_left head _ _ (sym h.spelled ∙ k.spelled)) in
+    let witness = bits-cut f.witness g.witness (10 ∷ f.rest) (10 ∷ g.rest) (h.width_is ∙ sym k.width_is) (append_cancel_left (codes "witness ") _ _ maximum.1) in
+    (maximum.0, witness.0, append_cancel_left (10 ∷ []) f.rest g.rest witness.1)
 
 -- ---- the whole text
 
@@ -126,11 +125,14 @@ counts_of r = record {
   minimal = r.minimal;
 }
 
+abbrev front_in : Report → Front
+front_in r = record { maximum = r.maximum; witness = r.witness; rest = tail_of r }
+
 parts_are : (r : Report) → head_text r.version r.metric r.bound ++ (decimal r.maximum ++ 10 ∷ (codes "witness " ++ (bits_word r.witness ++ 10 ∷ tail_of r))) ≡ report_text r
 parts_are r = head_is r.version r.metric r.bound _ ∙ sym (report_text-is r)
 
 module _ (inputs : ℕ) (version : Version) (metric : Metric) (bound : ℕ) (text head : Bytes) (head_there : head ≡ head_text version metric bound) where
-  front_of : (r : Report) → r.version ≡ version → IsReportText inputs metric bound text r → IsFrontBefore head inputs text r.maximum r.witness (tail_of r)
+  front_of : (r : Report) → r.version ≡ version → IsReportText inputs metric bound text r → IsFrontBefore head inputs text (front_in r)
   front_of r same h = record {
     few = omega (arith, h.maximum);
     width_is = h.witness;
@@ -139,10 +141,10 @@ module _ (inputs : ℕ) (version : Version) (metric : Metric) (bound : ℕ) (tex
         h.spelled ∙ sym (parts_are r) ∙ (λ i. head_text (same i) (h.same_metric i) (h.same_bound i) ++ behind) ∙ ap (λ t. t ++ behind) (sym head_there);
   }
 
-  pub no_front : ((maximum : ℕ) (x : List Bool) (rest : Bytes) → ¬ IsFrontBefore head inputs text maximum x rest) → (r : Report) → r.version ≡ version → ¬ IsReportText inputs metric bound text r
-  no_front none r same h = none r.maximum r.witness (tail_of r) (front_of r same h)
+  pub no_front : ((f : Front) → ¬ IsFrontBefore head inputs text f) → (r : Report) → r.version ≡ version → ¬ IsReportText inputs metric bound text r
+  no_front none r same h = none (front_in r) (front_of r same h)
 
-  module _ (maximum : ℕ) (x : List Bool) (rest : Bytes) (front : IsFrontBefore head inputs text maximum x rest) where
+  module _ (maximum : ℕ) (x : List Bool) (rest : Bytes) (front : IsFrontBefore head inputs text (record { maximum = maximum; witness = x; rest = rest })) where
     pub no_tail : ((c : Counts) → ¬ IsTail rest c) → (r : Report) → r.version ≡ version → ¬ IsReportText inputs metric bound text r
     no_tail none r same h =
         none (counts_of r) (record {
@@ -150,7 +152,7 @@ module _ (inputs : ℕ) (version : Version) (metric : Metric) (bound : ℕ) (tex
           few_new_tables = h.counts.1.0;
           few_old_literals = h.counts.1.1.0;
           few_new_literals = h.counts.1.1.1.0;
-          spelled = (front_once head inputs text maximum r.maximum x r.witness rest (tail_of r) front (front_of r same h)).2;
+          spelled = (front_once head inputs text (record { maximum = maximum; witness = x; rest = rest }) (front_in r) front (front_of r same h)).2;
         })
 
     pub read_is : (found : ReportRead) → found.version ≡ version → found.maximum ≡ maximum → found.witness ≡ x → IsTail rest found.counts

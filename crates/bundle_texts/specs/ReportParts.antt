@@ -14,12 +14,18 @@ head_text version metric bound =
     ++ (line_text (codes "metric" ∷ metric_word metric ∷ [])
     ++ (line_text (codes "bound" ∷ decimal bound ∷ []) ++ codes "maximum "))
 
+-- the maximum, the witness, and the text behind their lines
+pub record Front : Type 0 where
+  pub maximum : ℕ
+  pub witness : List Bool
+  pub rest : Bytes
+
 -- the head, the maximum, the line of the witness, and then the rest
-pub record IsFrontBefore (head : Bytes) (width : ℕ) (text : Bytes) (maximum : ℕ) (x : List Bool)
-    (rest : Bytes) : Type 0 where
-  pub few : maximum ≤ LARGEST_ERROR
-  pub width_is : length x ≡ width
-  pub spelled : text ≡ head ++ (decimal maximum ++ 10 ∷ (codes "witness " ++ (bits_word x ++ 10 ∷ rest)))
+pub record IsFrontBefore (head : Bytes) (width : ℕ) (text : Bytes) (f : Front) : Type 0 where
+  pub few : f.maximum ≤ LARGEST_ERROR
+  pub width_is : length f.witness ≡ width
+  pub spelled : text ≡ head
+      ++ (decimal f.maximum ++ 10 ∷ (codes "witness " ++ (bits_word f.witness ++ 10 ∷ f.rest)))
 
 -- the key, two numbers, and then the rest
 abbrev pub counts_text : Bytes → ℕ → ℕ → Bytes → Bytes

@@ -3,8 +3,8 @@ ghost use Rattle.std.specs.Prelude.{◌≡◌, ◌≢◌, ◌<◌, ℕ, Bool, Li
 ghost use Rattle.job_semantics.specs.Report.{Report};
 ghost use Rattle.job_semantics.specs.Certificate.{IsReportText};
 ghost use Rattle.bundle_texts.specs.Pieces.{bits_in};
-ghost use Rattle.bundle_texts.specs.ReportParts.{head_text, minimal_text, AreCountsBefore, IsFrontBefore};
-ghost use Rattle.bundle_texts.specs.ReportParts.{IsTail};
+ghost use Rattle.bundle_texts.specs.ReportParts.{head_text, minimal_text, AreCountsBefore, Front};
+ghost use Rattle.bundle_texts.specs.ReportParts.{IsFrontBefore, IsTail};
 ghost use Rattle.bundle_texts.specs.Reading.{HasShortWidth, report_read};
 
 use crate::bits::bits_of;
@@ -54,9 +54,9 @@ fn head(version: Version, metric: Metric, bound: u128) -> ReportText
 /// The maximum, the digits of the witness, and what stands behind their lines.
 fn front<'a>(text: &'a [u8], head: &[u8], width: usize) -> Option<(u128, &'a [u8], &'a [u8])>
     ensures { MatchOption result
-        ((maximum : ℕ) (x : List Bool) (rest : List ℕ)
-        → ¬ IsFrontBefore head.now width text.now maximum x rest)
-        (λ p. IsFrontBefore head.now width text.now p.0 (bits_in p.1.now) p.2.now) }
+        ((f : Front) → ¬ IsFrontBefore head.now width text.now f)
+        (λ p. IsFrontBefore head.now width text.now
+        (record { maximum = p.0; witness = bits_in p.1.now; rest = p.2.now })) }
 {
     let rest = after(text, head)?;
     let (maximum, rest) = number_before(rest, LARGEST_ERROR, b'\n')?;

@@ -8,9 +8,18 @@ use Rattle.job_semantics.specs.Endings.{bundle_name}
 abbrev pub stem_of : Bytes → Bytes
 stem_of name = take (length name - 5) name
 
-pub record AreNames (stem netlist formula log vectors report : Bytes) : Type 0 where
-  pub netlist_is : netlist ≡ bundle_name stem Netlist
-  pub formula_is : formula ≡ bundle_name stem Formula
-  pub log_is : log ≡ bundle_name stem Log
-  pub vectors_is : vectors ≡ bundle_name stem Vectors
-  pub report_is : report ≡ bundle_name stem Report
+-- a name for each file of a bundle
+pub record BundleNames : Type 0 where
+  pub netlist : Bytes
+  pub formula : Bytes
+  pub log : Bytes
+  pub vectors : Bytes
+  pub report : Bytes
+
+-- they are the names of a stem
+pub record AreNames (stem : Bytes) (names : BundleNames) : Type 0 where
+  pub netlist_is : names.netlist ≡ bundle_name stem Netlist
+  pub formula_is : names.formula ≡ bundle_name stem Formula
+  pub log_is : names.log ≡ bundle_name stem Log
+  pub vectors_is : names.vectors ≡ bundle_name stem Vectors
+  pub report_is : names.report ≡ bundle_name stem Report

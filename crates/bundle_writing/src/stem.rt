@@ -24,9 +24,13 @@ impl Model for Stem {
 
     ghost view = { λ s. stem_of s.netlist.items };
 
-    ghost invariant = { λ s.
-        AreNames (stem_of s.netlist.items)
-        s.netlist.items s.formula.items s.log.items s.vectors.items s.report.items };
+    ghost invariant = { λ s. AreNames (stem_of s.netlist.items) (record {
+      netlist = s.netlist.items;
+      formula = s.formula.items;
+      log = s.log.items;
+      vectors = s.vectors.items;
+      report = s.report.items;
+    }) };
 }
 
 /// The stem with an ending.

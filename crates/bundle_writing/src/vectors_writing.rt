@@ -1,6 +1,6 @@
 //! The lines of input vectors, gathered in a page; nothing is allocated.
 ghost use Rattle.std.specs.Prelude.{◌≡◌, ◌+◌, ◌≤◌, ◌++◌, length};
-ghost use Rattle.file_core.specs.Page.{Gathers, Writes};
+ghost use Rattle.file_core.specs.Page.{Gathers, Writes, with_page};
 ghost use Rattle.job_semantics.specs.Report.{vectors_text};
 ghost use Rattle.bundle_writing.specs.VectorLines.{vector_line, vector_lines};
 
@@ -24,7 +24,8 @@ fn fill_line(x: &[bool], line: &mut [u8])
 
 fn write_vector<F: Files>(x: &[bool], files: &mut F, page: &mut Page) -> Result<(), FileFault>
     requires { length x.now ≤ MOST_INPUTS }
-    ensures { Gathers result (F.told files.old) (F.told files.new) page.old page.new (vector_line x.now) }
+    ensures { Gathers result (with_page (F.told files.old) page.old) (with_page (F.told files.new) page.new)
+        (vector_line x.now) }
 {
     let mut buffer = [0; MOST_INPUTS + 1];
     let line = &mut buffer[..=x.len()];
@@ -33,7 +34,7 @@ fn write_vector<F: Files>(x: &[bool], files: &mut F, page: &mut Page) -> Result<
 }
 
 fn write_pool<F: Files>(pool: &Patterns, files: &mut F, page: &mut Page) -> Result<(), FileFault>
-    ensures { Gathers result (F.told files.old) (F.told files.new) page.old page.new
+    ensures { Gathers result (with_page (F.told files.old) page.old) (with_page (F.told files.new) page.new)
         (vector_lines pool.now.vectors) }
 {
     let mut buffer = [false; MOST_INPUTS];

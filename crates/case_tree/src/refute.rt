@@ -1,16 +1,15 @@
 //! A refutation by cases: the negation of each input vector is derived, and then the clauses are joined two
 //! at a time.
 ghost use Rattle.std.specs.Prelude.{◌≡◌, ℕ, ◌+◌, ◌-◌, ◌<◌, ◌≤◌, ◌^◌, Bool, false, List, [], ◌∷◌, ◌++◌};
-ghost use Rattle.std.specs.Prelude.{length, take, slice_index, sum_by, IfOk, OnOk};
+ghost use Rattle.std.specs.Prelude.{length, take, sum_by, IfOk, OnOk};
 ghost use Rattle.semantics.specs.Net.{input_count, signal_count};
 ghost use Rattle.semantics.specs.Value.{outputs_of};
 ghost use Rattle.proof_semantics.specs.Formula.{goal_of};
 ghost use Rattle.proof_semantics.specs.Logs.{Refutes, IsDerivation};
-ghost use Rattle.case_tree.specs.Cases.{negation_from, negation, vector_step, join_step, step_count};
-ghost use Rattle.case_tree.specs.Cases.{cases_from};
+ghost use Rattle.case_tree.specs.Cases.{negation_from, negation, join_step, step_count};
 ghost use Rattle.case_tree.specs.Behind.{AreValuesBehind};
 ghost use Rattle.case_tree.specs.Rooms.{FitsRoom};
-ghost use Rattle.case_tree.specs.Trees.{IsTree};
+ghost use Rattle.case_tree.specs.Trees.{IsTree, tree_step, tree_cases};
 
 use crate::front_lanes::{lane_of, set_values_behind};
 use crate::hints::{Room, first_ids, room_for, vector_hints};
@@ -74,8 +73,7 @@ fn vector_step(
     requires words { length words.now ≡ signal_count tree.now.net.now }
     requires room { FitsRoom tree.now.net.now room.old }
     ensures step { IfOk result
-        (λ s. s ≡ vector_step id (input_count tree.now.net.now) tree.now.net.now.tables tree.now.order.now
-        (slice_index tree.now.net.now.outputs 0) x.now) }
+        (λ s. s ≡ tree_step tree.now id x.now) }
     ensures room { FitsRoom tree.now.net.now room.new }
 {
     let front = x.len() - tree.rest.inputs() as usize;
@@ -137,9 +135,7 @@ fn push_cases(
         → AreValuesBehind tree.now.net.now (take (length x.old - tree.now.rest.now.inputs) x.old) words.old }
     requires room { FitsRoom tree.now.net.now room.old }
     ensures log { OnOk result (cases.new.log ≡ cases.old.log
-        ++ cases_from (input_count tree.now.net.now) tree.now.net.now.tables tree.now.order.now
-        (slice_index tree.now.net.now.outputs 0)
-        (length x.old - depth) (take depth x.old) cases.old.last) }
+        ++ tree_cases tree.now (length x.old - depth) (take depth x.old) cases.old.last) }
     ensures last { OnOk result (cases.new.last ≡ cases.old.last + step_count (length x.old - depth)) }
     ensures front { OnOk result (take depth x.new ≡ take depth x.old) }
     ensures words { OnOk result (length x.old - tree.now.rest.now.inputs < depth → words.new ≡ words.old) }
@@ -171,9 +167,8 @@ fn push_cases(
 fn all_cases(tree: &Tree, last: u64) -> Result<Log, AllocError>
     requires tree { IsTree tree.now }
     requires ids { last + step_count (input_count tree.now.net.now) < 2 ^ 63 }
-    ensures { IfOk result (λ log. log
-        ≡ cases_from (input_count tree.now.net.now) tree.now.net.now.tables tree.now.order.now
-        (slice_index tree.now.net.now.outputs 0) (input_count tree.now.net.now) [] last) }
+    ensures { IfOk result
+        (λ log. log ≡ tree_cases tree.now (input_count tree.now.net.now) [] last) }
 {
     let alloc = tree.alloc;
     let mut x = vec![in alloc; false; tree.net.inputs() as usize]?;

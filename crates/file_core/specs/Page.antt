@@ -11,13 +11,20 @@ pub record Gathered (old new : FilesTold) (before after text : Bytes) : Type 0 w
   pub wrote : Wrote old new sent
   pub rest : before ++ text ≡ sent ++ after
 
+-- what is told of the files, and what the page holds
+pub record PagedFiles : Type 0 where
+  pub told : FilesTold
+  pub page : Bytes
+
+abbrev pub with_page : FilesTold → Bytes → PagedFiles
+with_page told page = record { told = told; page = page }
+
 -- The text was gathered behind what the page held; or a fault came, a first part of both was appended, and
 -- the page is empty.
-pub record Gathers {T E : Type 0} (result : Result T E) (old new : FilesTold)
-    (before after text : Bytes) : Type 0 where
-  pub ok : OnOk result (Gathered old new before after text)
-  pub err : OnErr result (WriteFailed old new (before ++ text))
-  pub emptied : OnErr result (after ≡ [])
+pub record Gathers {T E : Type 0} (result : Result T E) (old new : PagedFiles) (text : Bytes) : Type 0 where
+  pub ok : OnOk result (Gathered old.told new.told old.page new.page text)
+  pub err : OnErr result (WriteFailed old.told new.told (old.page ++ text))
+  pub emptied : OnErr result (new.page ≡ [])
 
 -- the text was appended; or a fault came, and a first part of the text was appended
 pub record Writes {T E : Type 0} (result : Result T E) (old new : FilesTold) (text : Bytes) : Type 0 where

@@ -2,7 +2,7 @@
 //! allocated.
 ghost use Rattle.std.specs.Prelude.{◌≡◌, ◌+◌, ◌≤◌, ◌↔◌, ℕ, List, [], ◌++◌, length, take, IsTrue, IsOk, OnOk};
 ghost use Rattle.std.specs.Prelude.{OnErr};
-ghost use Rattle.file_core.specs.Page.{Gathers, Writes};
+ghost use Rattle.file_core.specs.Page.{Gathers, Writes, with_page};
 ghost use Rattle.file_core.specs.Pieces.{joined};
 
 use crate::append::append_all;
@@ -71,7 +71,8 @@ impl Page {
 
 /// Puts the piece into the page, and appends what does not fit. A fault empties the page.
 pub fn gather<F: Files>(files: &mut F, page: &mut Page, piece: &[u8]) -> Result<(), FileFault>
-    ensures gathers { Gathers result (F.told files.old) (F.told files.new) page.old page.new piece.now }
+    ensures gathers { Gathers result (with_page (F.told files.old) page.old)
+        (with_page (F.told files.new) page.new) piece.now }
 
     // A piece that fits makes no call.
     ensures fits { length page.old + length piece.now ≤ PAGE_BYTES
@@ -95,7 +96,8 @@ pub fn gather_pieces<F: Files>(
     page: &mut Page,
     pieces: &[&[u8]],
 ) -> Result<(), FileFault>
-    ensures { Gathers result (F.told files.old) (F.told files.new) page.old page.new (joined pieces.now) }
+    ensures { Gathers result (with_page (F.told files.old) page.old) (with_page (F.told files.new) page.new)
+        (joined pieces.now) }
 {
     for piece in pieces {
         gather(files, page, piece)?;

@@ -29,7 +29,8 @@ SoFar-none a text none = record {
   reads = λ held name told has. subst (HasRead a held name) (sym none) has;
 }
 
-pub SoFar-more : {o a b : FilesTold} {before after : Bytes} {room turns : ℕ} {more : Bool} → SoFar o a before turns → TurnRead a b before after room more → more ≡ true
+pub SoFar-more : {o a b : FilesTold} {before after : Bytes} {room turns : ℕ} {more : Bool} → SoFar o a before turns
+    → TurnRead (record { told = a; text = before }) (record { told = b; text = after }) room more → more ≡ true
     → SoFar o b after (turns + 1)
 SoFar-more s t goes_on = record {
   keeps = KeepsAtRead-KeepsAtRead s.keeps t.keeps;
@@ -61,7 +62,7 @@ FilesStay-from was keeps = record {
 
 -- where the turns ended the text is all of the file, or all that is wanted
 pub FileRead-from : {old opened before now : FilesTold} {name front text : Bytes} {room turns : ℕ} {more : Bool} → Opened old opened name → SoFar opened before front turns
-    → TurnRead before now front text room more → more ≡ false → FileRead old now name text room
+    → TurnRead (record { told = before; text = front }) (record { told = now; text = text }) room more → more ≡ false → FileRead old now name text room
 FileRead-from {old} {opened} {before} {now} {name} {front} {text} {room} was sofar turn last =
     let keeps : KeepsAtRead opened now = KeepsAtRead-KeepsAtRead sofar.keeps turn.keeps in
     let stopped = turn.stops last in

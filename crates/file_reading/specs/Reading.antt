@@ -23,14 +23,20 @@ pub record HasEnded (told : FilesTold) (text : Bytes) : Type 0 where
   pub ends : (held : Held) (name : Bytes) → told.held ≡ Some held → HasRead told held name text
       → length (bytes_of held name) ≤ length text
 
+-- what is told of the files, and the text that was handed on so far
+pub record ReadingState : Type 0 where
+  pub told : FilesTold
+  pub text : Bytes
+
 -- one turn of reading: bytes came, or none because none are left or wanted
-pub record TurnRead (old new : FilesTold) (before after : Bytes) (room : ℕ) (more : Bool) : Type 0 where
-  pub keeps : KeepsAtRead old new
-  pub reads : (held : Held) (name : Bytes) → old.held ≡ Some held → HasRead old held name before
-      → HasRead new held name after
-  pub grows : IsTrue more → length before < length after
-  pub turn : IsTrue more → (name : Bytes) → old.opened ≡ Some name → turns_on old name < turns_on new name
-  pub stops : more ≡ false → (after ≡ before) × ((room ≡ 0) ⊎ HasEnded old before)
+pub record TurnRead (old new : ReadingState) (room : ℕ) (more : Bool) : Type 0 where
+  pub keeps : KeepsAtRead old.told new.told
+  pub reads : (held : Held) (name : Bytes) → old.told.held ≡ Some held → HasRead old.told held name old.text
+      → HasRead new.told held name new.text
+  pub grows : IsTrue more → length old.text < length new.text
+  pub turn : IsTrue more → (name : Bytes) → old.told.opened ≡ Some name
+      → turns_on old.told name < turns_on new.told name
+  pub stops : more ≡ false → (new.text ≡ old.text) × ((room ≡ 0) ⊎ HasEnded old.told old.text)
 
 -- no file changed, and what was told of a held name is still told
 pub record FilesStay (old new : FilesTold) (name : Bytes) : Type 0 where

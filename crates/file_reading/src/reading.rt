@@ -38,8 +38,8 @@ fn read_turn<F: Files, I: Intake>(
 ) -> Result<bool, Unread>
     requires { length buffer.old ≡ PAGE_BYTES }
     ensures ok { IfOk result
-        (λ more. TurnRead (F.told files.old) (F.told files.new) (I.text intake.old) (I.text intake.new)
-        (I.room intake.new) more) }
+        (λ more. TurnRead (record { told = F.told files.old; text = I.text intake.old })
+        (record { told = F.told files.new; text = I.text intake.new }) (I.room intake.new) more) }
     ensures aim { I.aim intake.new ≡ I.aim intake.old }
     ensures err { IfErr result (TurnRefused (F.told files.old) (F.told files.new)) }
     ensures fault { result ≡ Err Unread.Fault → I.text intake.new ≡ I.text intake.old }

@@ -9,7 +9,7 @@ use Rattle.lane_bits.specs.Rows.{row_bit}
 use Rattle.lane_bits.specs.Patterns.{PatternSet, pattern_bit}
 use Rattle.lane_nets.specs.declared.graph_blocks.GraphWalk.{GraphWalk}
 use Rattle.lane_nets.specs.Words.{word_bit}
-use Rattle.lane_nets.specs.Changes.{IsKept, IsSameInput, AreChanges, IsInputAt, HasInputBlock, AreKeptInputs, HasNext, IsWalked}
+use Rattle.lane_nets.specs.Changes.{IsKept, IsSameInput, AreChanges, IsInputAt, HasInputBlock, AreKeptInputs, HasNext, WalkState, IsWalked}
 use Rattle.lane_nets.specs.Graphs.{IsWalkOf, HasRoom}
 use Rattle.lane_nets.proofs.RowBits.{row_bit-word}
 use Rattle.lane_nets.proofs.WordBits.{ones_bit}
@@ -91,14 +91,18 @@ next_kept s walk w next wides held is same before some =
 pub wides_back : (n : ℕ) (new old : List (List ℕ)) → length new ≡ n → take n (new ++ drop (length new) old) ≡ new
 wides_back n new old e = take-append-le n new (drop (length new) old) (omega (arith, e)) ∙ take_all n new (omega (arith, e))
 
+abbrev pub walk_state : List ℕ → Option GraphWalk → ℕ → List (List ℕ) → List (List ℕ) → WalkState
+walk_state marks walk next wides outputs = record { marks = marks; walk = walk; next = next; wides = wides; outputs = outputs }
+
 pub walked_same : (N : NetValue) (s : PatternSet) (marks : List ℕ) (walk : Option GraphWalk) (behind : ℕ) (wides outputs new_wides new_outputs : List (List ℕ)) → new_wides ≡ wides
-    → new_outputs ≡ outputs → IsWalked N s marks walk behind wides outputs → IsWalked N s marks walk behind new_wides new_outputs
+    → new_outputs ≡ outputs → IsWalked N s (walk_state marks walk behind wides outputs) → IsWalked N s (walk_state marks walk behind new_wides new_outputs)
 walked_same N s marks walk behind wides outputs new_wides new_outputs first second h =
-    subst (λ (l : List (List ℕ)). IsWalked N s marks walk behind l new_outputs) (sym first) (subst (λ (l : List (List ℕ)). IsWalked N s marks walk behind wides l) (sym second) h)
+    subst (λ (l : List (List ℕ)). IsWalked N s (walk_state marks walk behind l new_outputs)) (sym first)
+    (subst (λ (l : List (List ℕ)). IsWalked N s (walk_state marks walk behind wides l)) (sym second) h)
 
 module _ (N : NetValue) (s : PatternSet) (marks : List ℕ) (walk : Option GraphWalk) (behind q : ℕ) (old_wides old_outputs wides outputs : List (List ℕ))
-    (before : IsWalked N s marks walk behind old_wides old_outputs) (count : length outputs ≡ length old_outputs) where
-  pub walked_graph : (w : GraphWalk) → walk ≡ Some w → IsWalkOf N w wides → HasInputBlock s q wides → IsWalked N s marks walk (q + 1) wides outputs
+    (before : IsWalked N s (walk_state marks walk behind old_wides old_outputs)) (count : length outputs ≡ length old_outputs) where
+  pub walked_graph : (w : GraphWalk) → walk ≡ Some w → IsWalkOf N w wides → HasInputBlock s q wides → IsWalked N s (walk_state marks walk (q + 1) wides outputs)
   walked_graph w is room held = record {
     room = subst (λ (v : Option GraphWalk). HasRoom N v wides) (sym is) room;
     count = count ∙ before.count;
@@ -107,7 +111,7 @@ module _ (N : NetValue) (s : PatternSet) (marks : List ℕ) (walk : Option Graph
     next = next_held s walk w q wides is held;
   }
 
-  pub walked_tables : walk ≡ None → length wides ≡ length old_wides → IsWalked N s marks walk (q + 1) wides outputs
+  pub walked_tables : walk ≡ None → length wides ≡ length old_wides → IsWalked N s (walk_state marks walk (q + 1) wides outputs)
   walked_tables is room = record {
     room = subst (λ (v : Option GraphWalk). HasRoom N v wides) (sym is) (room ∙ subst (λ (v : Option GraphWalk). HasRoom N v old_wides) is before.room);
     count = count ∙ before.count;

@@ -10,7 +10,7 @@ use Rattle.semantics.specs.Error.{bit_number, number_of, distance}
 use Rattle.lane_bits.specs.Rows.{turned}
 use Rattle.lane_bits.proofs.Bits.{and_bit, or_bit, xor_bit, flips}
 use Rattle.lane_nets.specs.Words.{word_bit}
-use Rattle.lane_nets.specs.Lanes.{lane_at, lane_number, GoesOn}
+use Rattle.lane_nets.specs.Lanes.{lane_at, lane_number, lane_so_far, GoesOn}
 use Rattle.lane_nets.specs.Numbers.{sum_of, carry_of}
 use Rattle.lane_nets.proofs.WordBits.{not_bit, ones_bit, zero_bit}
 
@@ -40,7 +40,8 @@ compared true true false x y = (λ h. omega arith, λ h. omega arith)
 compared true true true x y = (λ h. omega arith, λ h. omega arith)
 
 pub goes_on : (low high one carry above new_carry new_above : Bool) → new_carry ≡ carry_of low one carry → new_above ≡ above_of high (sum_of low one carry) above
-    → GoesOn (bit_number low) (bit_number high) (bit_number one) (bit_number carry) (bit_number above) (bit_number new_carry) (bit_number new_above)
+    → GoesOn (bit_number low) (bit_number high) (bit_number one) (record { carry = bit_number carry; above = bit_number above })
+    (record { carry = bit_number new_carry; above = bit_number new_above })
 goes_on low high one carry above new_carry new_above is_carry is_above x y =
     let total = added low one carry in
     let both = compared high (sum_of low one carry) above (x + bit_number (carry_of low one carry)) y in
@@ -62,9 +63,8 @@ constant_fits false = omega arith
 
 pub compared_words : (low high constant carry above : ℕ) (one : Bool) → constant ≡ flips one → low < 2 ^ 64 → high < 2 ^ 64 → carry < 2 ^ 64
     → (b : ℕ) → b < 64
-    → GoesOn (lane_number low b) (lane_number high b) (bit_number one) (lane_number carry b) (lane_number above b)
-    (lane_number (bit_or (bit_and low constant) (bit_and (bit_xor low constant) carry)) b)
-    (lane_number
+    → GoesOn (lane_number low b) (lane_number high b) (bit_number one) (lane_so_far carry above b)
+    (lane_so_far (bit_or (bit_and low constant) (bit_and (bit_xor low constant) carry))
     (bit_or (bit_and high (bit_not w64 (bit_xor (bit_xor low constant) carry))) (bit_and above (bit_not w64 (bit_xor high (bit_xor (bit_xor low constant) carry))))) b)
 compared_words low high constant carry above one is low_fits high_fits carry_fits b within =
     let half : ℕ = bit_xor low constant in
@@ -99,8 +99,7 @@ module _ (low high : List ℕ) (i b rest carry above : ℕ) (P : Type 0) (same :
     (before : (number_of (lane_at (drop i low) b) + rest + lane_number carry b < number_of (lane_at (drop i high) b) + lane_number above b) ↔ P) where
   -- one more bit
   pub compare_more : (new_carry new_above : ℕ) → i < length low
-      → GoesOn (lane_number (get_or low i 0) b) (lane_number (get_or high i 0) b) (bit_number (rest % 2 == 1)) (lane_number carry b) (lane_number above b)
-      (lane_number new_carry b) (lane_number new_above b)
+      → GoesOn (lane_number (get_or low i 0) b) (lane_number (get_or high i 0) b) (bit_number (rest % 2 == 1)) (lane_so_far carry above b) (lane_so_far new_carry new_above b)
       → (number_of (lane_at (drop (i + 1) low) b) + rest / 2 + lane_number new_carry b < number_of (lane_at (drop (i + 1) high) b) + lane_number new_above b) ↔ P
   compare_more new_carry new_above within step =
       let here = step (number_of (lane_at (drop (i + 1) low) b) + rest / 2) (number_of (lane_at (drop (i + 1) high) b)) in

@@ -10,7 +10,7 @@ use Rattle.semantics.specs.Error.{bit_number, number_of, sign_of, sign_flipped, 
 use Rattle.lane_bits.specs.Rows.{turned}
 use Rattle.lane_bits.proofs.Bits.{and_bit, or_bit, xor_bit}
 use Rattle.lane_nets.specs.Words.{word_bit}
-use Rattle.lane_nets.specs.Lanes.{lane_at, lane_number, GoesOn}
+use Rattle.lane_nets.specs.Lanes.{lane_at, lane_number, lane_so_far, GoesOn}
 use Rattle.lane_nets.specs.Wide.{lane_words}
 use Rattle.lane_nets.proofs.WordBits.{zero_bit}
 use Rattle.lane_nets.proofs.WideWords.{lane_words_get, lane_words-set, lane_words-length}
@@ -37,8 +37,8 @@ module _ (low high : List (List ℕ)) (i j b rest carry above : ℕ) (P : Type 0
 
   -- one more bit
   pub wide_more : (wide other : List ℕ) (new_carry new_above : ℕ) → i < length low → wide ≡ get_or low i [] → other ≡ get_or high i []
-      → GoesOn (lane_number (get_or wide j 0) b) (lane_number (get_or other j 0) b) (bit_number (rest % 2 == 1)) (lane_number carry b) (lane_number above b)
-      (lane_number new_carry b) (lane_number new_above b)
+      → GoesOn (lane_number (get_or wide j 0) b) (lane_number (get_or other j 0) b) (bit_number (rest % 2 == 1)) (lane_so_far carry above b)
+      (lane_so_far new_carry new_above b)
       → (number_of (lane_at (drop (i + 1) (lane_words low j)) b) + rest / 2 + lane_number new_carry b < number_of (lane_at (drop (i + 1) (lane_words high j)) b) + lane_number new_above b) ↔ P
   wide_more wide other new_carry new_above within wide_is other_is step =
       let here : get_or (lane_words low j) i 0 ≡ get_or wide j 0 = lane_words_get low j i ∙ ap (λ (w : List ℕ). get_or w j 0) (sym wide_is) in

@@ -3,7 +3,7 @@ use Rattle.std.proofs.Common.{◌≡◌, ◌↔◌, ℕ, ◌+◌, ◌*◌, ◌/�
 use Rattle.std.proofs.lemmas.List.{drop_all}
 use Rattle.semantics.specs.Error.{bit_number, number_of}
 use Rattle.lane_nets.specs.Words.{word_bit}
-use Rattle.lane_nets.specs.Lanes.{lane_at, lane_number, GoesOn}
+use Rattle.lane_nets.specs.Lanes.{lane_at, lane_number, lane_so_far, GoesOn}
 use Rattle.lane_nets.specs.Wide.{lane_words}
 use Rattle.lane_nets.proofs.WideWords.{lane_words_get, lane_words-length}
 use Rattle.lane_nets.proofs.Comparing.{digit, number_from}
@@ -19,8 +19,8 @@ module _ (first second high : List (List ℕ)) (i j b carry above : ℕ) (P : Ty
     < number_of (lane_at (drop i (lane_words high j)) b) + lane_number above b) ↔ P) where
   -- one more bit
   pub sum_more : (new_carry new_above : ℕ) → i < length first
-      → GoesOn (lane_number (get_or (get_or first i []) j 0) b) (lane_number (get_or (get_or high i []) j 0) b) (lane_number (get_or (get_or second i []) j 0) b) (lane_number carry b)
-      (lane_number above b) (lane_number new_carry b) (lane_number new_above b)
+      → GoesOn (lane_number (get_or (get_or first i []) j 0) b) (lane_number (get_or (get_or high i []) j 0) b) (lane_number (get_or (get_or second i []) j 0) b)
+      (lane_so_far carry above b) (lane_so_far new_carry new_above b)
       → (number_of (lane_at (drop (i + 1) (lane_words first j)) b) + number_of (lane_at (drop (i + 1) (lane_words second j)) b) + lane_number new_carry b
       < number_of (lane_at (drop (i + 1) (lane_words high j)) b) + lane_number new_above b) ↔ P
   sum_more new_carry new_above within step =
@@ -29,11 +29,11 @@ module _ (first second high : List (List ℕ)) (i j b carry above : ℕ) (P : Ty
       let is : rest ≡ lane_number (get_or (get_or second i []) j 0) b + 2 * later =
       number_from (lane_words second j) i b (omega (arith, within, same, same_second, lane_words-length second j)) ∙ ap (λ w. lane_number w b + 2 * later) (lane_words_get second j i) in
       let both = parity (word_bit (get_or (get_or second i []) j 0) b) later rest is in
-      let one : GoesOn (lane_number (get_or (get_or first i []) j 0) b) (lane_number (get_or (get_or high i []) j 0) b) (bit_number (rest % 2 == 1)) (lane_number carry b) (lane_number above b)
-      (lane_number new_carry b) (lane_number new_above b) =
+      let one : GoesOn (lane_number (get_or (get_or first i []) j 0) b) (lane_number (get_or (get_or high i []) j 0) b) (bit_number (rest % 2 == 1))
+      (lane_so_far carry above b) (lane_so_far new_carry new_above b) =
       subst
-      (λ n. GoesOn (lane_number (get_or (get_or first i []) j 0) b) (lane_number (get_or (get_or high i []) j 0) b) n (lane_number carry b) (lane_number above b) (lane_number new_carry b)
-      (lane_number new_above b))
+      (λ n. GoesOn (lane_number (get_or (get_or first i []) j 0) b) (lane_number (get_or (get_or high i []) j 0) b) n (lane_so_far carry above b)
+      (lane_so_far new_carry new_above b))
       both.0 step in
       subst
       (λ n. (number_of (lane_at (drop (i + 1) (lane_words first j)) b) + n + lane_number new_carry b < number_of (lane_at (drop (i + 1) (lane_words high j)) b) + lane_number new_above b) ↔ P)

@@ -43,11 +43,20 @@ AreKeptInputs s q marks wides = (i : ℕ) → i < s.inputs → IsKept marks i �
 abbrev pub HasNext : PatternSet → Option GraphWalk → ℕ → List (List ℕ) → Type 0
 HasNext s walk next wides = IfSome walk (λ _. 0 < next → HasInputBlock s (next - 1) wides)
 
--- what holds of a net that is walked over patterns, with the values of its signals or of its graph's nodes
-pub record IsWalked (N : NetValue) (s : PatternSet) (marks : List ℕ) (walk : Option GraphWalk) (behind : ℕ)
-    (wides outputs : List (List ℕ)) : Type 0 where
-  pub room : HasRoom N walk wides
-  pub count : length outputs ≡ length N.outputs
+-- what is held while a net is walked over patterns: marks of the inputs that may change, the graph if there
+-- is one, the wide block behind the one whose inputs stand in the graph's values, the values of the net's
+-- signals or of the graph's nodes, and those of the outputs
+pub record WalkState : Type 0 where
+  pub marks : List ℕ
+  pub walk : Option GraphWalk
+  pub next : ℕ
+  pub wides : List (List ℕ)
+  pub outputs : List (List ℕ)
+
+-- what holds of a net that is walked over patterns
+pub record IsWalked (N : NetValue) (s : PatternSet) (w : WalkState) : Type 0 where
+  pub room : HasRoom N w.walk w.wides
+  pub count : length w.outputs ≡ length N.outputs
   pub inputs : s.inputs ≡ input_count N
-  pub changes : AreChanges s marks
-  pub next : HasNext s walk behind wides
+  pub changes : AreChanges s w.marks
+  pub next : HasNext s w.walk w.next w.wides

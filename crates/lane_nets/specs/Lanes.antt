@@ -24,11 +24,20 @@ output_words N words = map (slice_index words) N.outputs
 abbrev pub HasReached : List ℕ → ℕ → ℕ → Type 0
 HasReached words b n = (j : ℕ) → j < length words → word_bit (slice_index words j) b ≡ nat_lt j n
 
--- how the comparison of two numbers goes on once their lowest bits are taken off, by the carry and by how
--- these bits compare
-abbrev pub GoesOn : (low high one : ℕ) → (carry above new_carry new_above : ℕ) → Type 0
-GoesOn low high one carry above new_carry new_above =
-    (x y : ℕ) → (low + 2 * x + one + carry < high + 2 * y + above) ↔ (x + new_carry < y + new_above)
+-- how the bits so far compare: the carry of a sum, and 1 where the number it is compared with is above it
+pub record BitsSoFar : Type 0 where
+  pub carry : ℕ
+  pub above : ℕ
+
+abbrev pub lane_so_far : ℕ → ℕ → ℕ → BitsSoFar
+lane_so_far carry above b = record { carry = lane_number carry b; above = lane_number above b }
+
+-- how the comparison of two numbers goes on once their lowest bits are taken off, and that of what is added
+-- to the first
+abbrev pub GoesOn : (low high one : ℕ) → (before after : BitsSoFar) → Type 0
+GoesOn low high one before after =
+    (x y : ℕ) → (low + 2 * x + one + before.carry < high + 2 * y + before.above)
+    ↔ (x + after.carry < y + after.above)
 
 -- the words of the net's outputs in block k
 pub record IsOutputBlock (N : NetValue) (vectors : List (List Bool)) (k : ℕ) (words : List ℕ) : Type 0 where

@@ -5,7 +5,7 @@ ghost use Rattle.semantics.specs.Error.{bit_number, number_of, sign_flipped, dis
 ghost use Rattle.semantics.specs.Error.{word_error, error_of};
 ghost use Rattle.semantics.specs.declared.metric.Kind.TheVariants.{Rel, Sabs};
 ghost use Rattle.lane_nets.specs.Words.{word_bit};
-ghost use Rattle.lane_nets.specs.Lanes.{lane_at, lane_number, HasReached, GoesOn};
+ghost use Rattle.lane_nets.specs.Lanes.{lane_at, lane_number, lane_so_far, HasReached, GoesOn};
 
 use crate::outputs::word_bit;
 use net_errors::error::error;
@@ -24,8 +24,7 @@ struct Comparison {
 /// The comparison after one more bit of both numbers and of the constant that is added to the lower number.
 fn compare_bit(low: u64, high: u64, one: bool, so_far: Comparison) -> Comparison
     ensures { (b : ℕ) → b < 64 → GoesOn (lane_number low b) (lane_number high b) (bit_number one)
-        (lane_number so_far.carry b) (lane_number so_far.above b) (lane_number result.carry b)
-        (lane_number result.above b) }
+        (lane_so_far so_far.carry so_far.above b) (lane_so_far result.carry result.above b) }
 {
     let constant = if one { u64::MAX } else { 0 };
     let half = low ^ constant;

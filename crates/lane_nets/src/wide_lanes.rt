@@ -5,7 +5,7 @@ ghost use Rattle.semantics.specs.Error.{bit_number, number_of, sign_flipped, dis
 ghost use Rattle.semantics.specs.Error.{word_error, error_of};
 ghost use Rattle.semantics.specs.declared.metric.Kind.TheVariants.{Rel, Sabs};
 ghost use Rattle.lane_nets.specs.Words.{word_bit};
-ghost use Rattle.lane_nets.specs.Lanes.{lane_at, lane_number, HasReached, GoesOn};
+ghost use Rattle.lane_nets.specs.Lanes.{lane_at, lane_number, lane_so_far, HasReached, GoesOn};
 ghost use Rattle.lane_nets.specs.Wide.{lane_words};
 
 use crate::lanes::over_by_kind;
@@ -33,8 +33,8 @@ fn bit_word(one: bool) -> u64
 fn compare_wide(low: u64x8, high: u64x8, one: bool, so_far: WideComparison) -> WideComparison
     ensures { (j b : ℕ) → j < 8 → b < 64
         → GoesOn (lane_number (slice_index low j) b) (lane_number (slice_index high j) b) (bit_number one)
-        (lane_number (slice_index so_far.carry j) b) (lane_number (slice_index so_far.above j) b)
-        (lane_number (slice_index result.carry j) b) (lane_number (slice_index result.above j) b) }
+        (lane_so_far (slice_index so_far.carry j) (slice_index so_far.above j) b)
+        (lane_so_far (slice_index result.carry j) (slice_index result.above j) b) }
 {
     let constant = equal_words(bit_word(one));
     let half = xor_wide(low, constant);

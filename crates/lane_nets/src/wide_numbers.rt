@@ -3,7 +3,7 @@
 ghost use Rattle.std.specs.Prelude.{◌≡◌, ◌↔◌, ◌+◌, ◌*◌, ◌^◌, ◌<◌, ◌≤◌, ℕ, length, slice_index, IsTrue};
 ghost use Rattle.semantics.specs.Error.{bit_number};
 ghost use Rattle.lane_nets.specs.Words.{word_bit};
-ghost use Rattle.lane_nets.specs.Lanes.{lane_number, GoesOn};
+ghost use Rattle.lane_nets.specs.Lanes.{lane_number, lane_so_far, GoesOn};
 ghost use Rattle.lane_nets.specs.Numbers.{wide_bit, wide_number, number_below, sum_of, carry_of};
 
 use crate::wide_words::{and_wide, equal_words, not_wide, or_wide, xor_wide};
@@ -40,9 +40,9 @@ pub(crate) fn compare_sum(
 ) -> WideComparison
     ensures { (j b : ℕ) → j < 8 → b < 64
         → GoesOn (lane_number (slice_index first j) b) (lane_number (slice_index high j) b)
-        (lane_number (slice_index second j) b) (lane_number (slice_index so_far.carry j) b)
-        (lane_number (slice_index so_far.above j) b) (lane_number (slice_index result.carry j) b)
-        (lane_number (slice_index result.above j) b) }
+        (lane_number (slice_index second j) b)
+        (lane_so_far (slice_index so_far.carry j) (slice_index so_far.above j) b)
+        (lane_so_far (slice_index result.carry j) (slice_index result.above j) b) }
 {
     let half = xor_wide(first, second);
     let sum = xor_wide(half, so_far.carry);

@@ -51,8 +51,13 @@ impl<'a> Model for WideOutputs<'a> {
       outputs = w.outputs.items;
     } };
 
-    ghost invariant = { λ w. IsWalked w.net.now w.patterns.now w.changes.now w.walk w.next w.wides.items
-        w.outputs.items };
+    ghost invariant = { λ w. IsWalked w.net.now w.patterns.now (record {
+      marks = w.changes.now;
+      walk = w.walk;
+      next = w.next;
+      wides = w.wides.items;
+      outputs = w.outputs.items;
+    }) };
 }
 
 impl<'a> WideOutputs<'a> {

@@ -13,7 +13,7 @@ use Rattle.trim_semantics.specs.Kept.{is_empty_clause}
 use Rattle.trim_semantics.specs.Trimmed.{removal_of}
 use Rattle.trim_semantics.specs.Trimming.{has_id, is_named, kept_steps, ended_after, with_removals}
 use Rattle.trim_semantics.proofs.Members.{contains_first}
-use Rattle.lrat_trim.specs.Backwards.{adds_empty_clause, is_in, KeptStep, Passed, Visited}
+use Rattle.lrat_trim.specs.Backwards.{adds_empty_clause, is_in, KeptSoFar, KeptStep, Passed, Visited}
 use Rattle.lrat_trim.proofs.Roots.{none_before, kept_from}
 use Rattle.lrat_trim.proofs.Fresh.{fresh_ended}
 
@@ -65,53 +65,53 @@ ended_is ids more s [] id named e = cc
 ended_is ids more s (t ∷ later) id named e = e
 
 module _ (formula : List Clause) (log : List LogItem) (r : Refutes formula log) where
-  passed : (steps : List StepValue) (old_named new_named : ℕ → Bool) (old_kept new_kept : List LogItem) → IsSoFar (map (λ t. t.id) (kept_steps log)) steps old_named old_kept
-      → Passed old_named old_kept new_named new_kept → IsSoFar (map (λ t. t.id) (kept_steps log)) steps new_named new_kept
-  passed steps old_named new_named old_kept new_kept h p = record { named = λ id. p.named id ∙ h.named id; kept = ap reverse p.kept ∙ h.kept }
+  passed : (steps : List StepValue) (old new : KeptSoFar) → IsSoFar (map (λ t. t.id) (kept_steps log)) steps old.named old.kept
+      → Passed old new → IsSoFar (map (λ t. t.id) (kept_steps log)) steps new.named new.kept
+  passed steps old new h p = record { named = λ id. p.named id ∙ h.named id; kept = ap reverse p.kept ∙ h.kept }
 
-  one_kept : (s : StepValue) (later : List StepValue) (old_named new_named : ℕ → Bool) (old_kept new_kept : List LogItem) → is_named later s.id ≡ true → Contains (kept_steps log) s
-      → IsSoFar (map (λ t. t.id) (kept_steps log)) later old_named old_kept → KeptStep (length formula) s old_named old_kept new_named new_kept
-      → IsSoFar (map (λ t. t.id) (kept_steps log)) (s ∷ later) new_named new_kept
-  one_kept s later old_named new_named old_kept new_kept is m h k =
+  one_kept : (s : StepValue) (later : List StepValue) (old new : KeptSoFar) → is_named later s.id ≡ true → Contains (kept_steps log) s
+      → IsSoFar (map (λ t. t.id) (kept_steps log)) later old.named old.kept → KeptStep (length formula) s old new
+      → IsSoFar (map (λ t. t.id) (kept_steps log)) (s ∷ later) new.named new.kept
+  one_kept s later old new is m h k =
       let ends : k.ids ≡ ended_after (map (λ t. t.id) (kept_steps log)) s later =
-      ended_is k.ids (map (λ t. t.id) (kept_steps log)) s later s.id is (fresh_ended formula log r s later old_named k.ids h.named m k.fresh) in
+      ended_is k.ids (map (λ t. t.id) (kept_steps log)) s later s.id is (fresh_ended formula log r s later old.named k.ids h.named m k.fresh) in
       record {
         named = λ id. k.named id ∙ ap (λ t. has_id s.hints id || t) (h.named id);
         kept =
-            ap reverse k.kept ∙ turned k.ids s old_kept
+            ap reverse k.kept ∙ turned k.ids s old.kept
             ∙ ap (λ rest. Add s ∷ (removal_of k.ids ++ rest)) h.kept
             ∙ ap (λ gone. Add s ∷ (removal_of gone ++ with_removals (map (λ t. t.id) (kept_steps log)) later)) ends;
       }
 
   -- an addition, given the steps behind it
-  added : (s : StepValue) (later : List StepValue) (empty named : Bool) (old_named new_named : ℕ → Bool) (old_kept new_kept : List LogItem) → empty ≡ false → is_named later s.id ≡ named
+  added : (s : StepValue) (later : List StepValue) (empty named : Bool) (old new : KeptSoFar) → empty ≡ false → is_named later s.id ≡ named
       → (Contains (cond empty (s ∷ []) (cond named (s ∷ later) later)) s → Contains (kept_steps log) s)
-      → IsSoFar (map (λ t. t.id) (kept_steps log)) later old_named old_kept
-      → MatchBool named (KeptStep (length formula) s old_named old_kept new_named new_kept) (Passed old_named old_kept new_named new_kept)
-      → IsSoFar (map (λ t. t.id) (kept_steps log)) (cond empty (s ∷ []) (cond named (s ∷ later) later)) new_named new_kept
-  added s later true named old_named new_named old_kept new_kept e is up h v = cc
-  added s later false true old_named new_named old_kept new_kept e is up h v = one_kept s later old_named new_named old_kept new_kept is (up (contains_first s later)) h v
-  added s later false false old_named new_named old_kept new_kept e is up h v = passed later old_named new_named old_kept new_kept h v
+      → IsSoFar (map (λ t. t.id) (kept_steps log)) later old.named old.kept
+      → MatchBool named (KeptStep (length formula) s old new) (Passed old new)
+      → IsSoFar (map (λ t. t.id) (kept_steps log)) (cond empty (s ∷ []) (cond named (s ∷ later) later)) new.named new.kept
+  added s later true named old new e is up h v = cc
+  added s later false true old new e is up h v = one_kept s later old new is (up (contains_first s later)) h v
+  added s later false false old new e is up h v = passed later old new h v
 
-  visited : (item : LogItem) (rest : List LogItem) (old_named new_named : ℕ → Bool) (old_kept new_kept : List LogItem) → adds_empty_clause item ≡ false
+  visited : (item : LogItem) (rest : List LogItem) (old new : KeptSoFar) → adds_empty_clause item ≡ false
       → ((t : StepValue) → Contains (kept_steps (item ∷ rest)) t → Contains (kept_steps log) t)
-      → IsSoFar (map (λ t. t.id) (kept_steps log)) (kept_steps rest) old_named old_kept → Visited (length formula) item old_named old_kept new_named new_kept
-      → IsSoFar (map (λ t. t.id) (kept_steps log)) (kept_steps (item ∷ rest)) new_named new_kept
-  visited (Remove gone) rest old_named new_named old_kept new_kept e up h v = passed (kept_steps rest) old_named new_named old_kept new_kept h v
-  visited (Add s) rest old_named new_named old_kept new_kept e up h v =
-      added s (kept_steps rest) (is_empty_clause s.literals) (is_named (kept_steps rest) s.id) old_named new_named old_kept new_kept e refl (up s) h
-      (subst (λ t. MatchBool t (KeptStep (length formula) s old_named old_kept new_named new_kept) (Passed old_named old_kept new_named new_kept)) (h.named s.id) v)
+      → IsSoFar (map (λ t. t.id) (kept_steps log)) (kept_steps rest) old.named old.kept → Visited (length formula) item old new
+      → IsSoFar (map (λ t. t.id) (kept_steps log)) (kept_steps (item ∷ rest)) new.named new.kept
+  visited (Remove gone) rest old new e up h v = passed (kept_steps rest) old new h v
+  visited (Add s) rest old new e up h v =
+      added s (kept_steps rest) (is_empty_clause s.literals) (is_named (kept_steps rest) s.id) old new e refl (up s) h
+      (subst (λ t. MatchBool t (KeptStep (length formula) s old new) (Passed old new)) (h.named s.id) v)
 
-  pub next_kept : (root place next : ℕ) (item : LogItem) (old_named new_named : ℕ → Bool) (old_kept new_kept : List LogItem) → position adds_empty_clause log ≡ Some root → place < root
+  pub next_kept : (root place next : ℕ) (item : LogItem) (old new : KeptSoFar) → position adds_empty_clause log ≡ Some root → place < root
       → next ≡ suc place → item ≡ get_or log place item
-      → IsSoFar (map (λ t. t.id) (kept_steps log)) (kept_steps (drop next log)) old_named old_kept → Visited (length formula) item old_named old_kept new_named new_kept
-      → IsSoFar (map (λ t. t.id) (kept_steps log)) (kept_steps (drop place log)) new_named new_kept
-  next_kept root place next item old_named new_named old_kept new_kept is low at here h v =
+      → IsSoFar (map (λ t. t.id) (kept_steps log)) (kept_steps (drop next log)) old.named old.kept → Visited (length formula) item old new
+      → IsSoFar (map (λ t. t.id) (kept_steps log)) (kept_steps (drop place log)) new.named new.kept
+  next_kept root place next item old new is low at here h v =
       let found = position-Some adds_empty_clause log root item is in
       let within : place < length log = (let far = found.0 in omega (arith, far, low)) in
       let front : drop place log ≡ item ∷ drop (suc place) log = drop-cons log place item within ∙ ap (λ first. first ∷ drop (suc place) log) (sym here) in
       let plain : adds_empty_clause item ≡ false = ap adds_empty_clause here ∙ none_before log root is place item low in
-      subst (λ rest. IsSoFar (map (λ t. t.id) (kept_steps log)) (kept_steps rest) new_named new_kept) (sym front)
-      (visited item (drop (suc place) log) old_named new_named old_kept new_kept plain
+      subst (λ rest. IsSoFar (map (λ t. t.id) (kept_steps log)) (kept_steps rest) new.named new.kept) (sym front)
+      (visited item (drop (suc place) log) old new plain
       (λ t m. kept_from log place t (λ k d under. none_before log root is k d (omega (arith, under, low))) (subst (λ rest. Contains (kept_steps rest) t) (sym front) m))
-      (subst (λ k. IsSoFar (map (λ t. t.id) (kept_steps log)) (kept_steps (drop k log)) old_named old_kept) at h) v)
+      (subst (λ k. IsSoFar (map (λ t. t.id) (kept_steps log)) (kept_steps (drop k log)) old.named old.kept) at h) v)

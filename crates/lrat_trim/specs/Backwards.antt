@@ -27,24 +27,24 @@ pub record AreFresh (clauses : ℕ) (hints : List ℕ) (named : ℕ → Bool) (i
   pub exactly : (id : ℕ) → Contains ids id ↔ (Contains hints id × (is_fresh clauses named id ≡ true))
   pub in_order : AllPairs (λ a b. a < b) ids
 
+-- which ids are named so far, and the kept items, in reverse
+pub record KeptSoFar : Type 0 where
+  pub named : ℕ → Bool
+  pub kept : List LogItem
+
 -- The step is kept: the removal of what it is the last to name, and its addition, join the kept items, which
 -- are held in reverse.
-pub record KeptStep (clauses : ℕ) (s : StepValue) (old_named : ℕ → Bool) (old_kept : List LogItem)
-    (new_named : ℕ → Bool) (new_kept : List LogItem) : Type 0 where
+pub record KeptStep (clauses : ℕ) (s : StepValue) (old new : KeptSoFar) : Type 0 where
   pub ids : List ℕ
-  pub fresh : AreFresh clauses s.hints old_named ids
-  pub named : (id : ℕ) → new_named id ≡ (has_id s.hints id || old_named id)
-  pub kept : new_kept ≡ (old_kept ++ removal_of ids) ++ Add s ∷ []
+  pub fresh : AreFresh clauses s.hints old.named ids
+  pub named : (id : ℕ) → new.named id ≡ (has_id s.hints id || old.named id)
+  pub kept : new.kept ≡ (old.kept ++ removal_of ids) ++ Add s ∷ []
 
-pub record Passed (old_named : ℕ → Bool) (old_kept : List LogItem) (new_named : ℕ → Bool)
-    (new_kept : List LogItem) : Type 0 where
-  pub named : (id : ℕ) → new_named id ≡ old_named id
-  pub kept : new_kept ≡ old_kept
+pub record Passed (old new : KeptSoFar) : Type 0 where
+  pub named : (id : ℕ) → new.named id ≡ old.named id
+  pub kept : new.kept ≡ old.kept
 
 -- an addition is kept where it is named
-abbrev pub Visited : ℕ → LogItem → (ℕ → Bool) → List LogItem → (ℕ → Bool) → List LogItem → Type 0
-Visited clauses (Add s) old_named old_kept new_named new_kept =
-    MatchBool (old_named s.id) (KeptStep clauses s old_named old_kept new_named new_kept)
-    (Passed old_named old_kept new_named new_kept)
-Visited clauses (Remove ids) old_named old_kept new_named new_kept
-    = Passed old_named old_kept new_named new_kept
+abbrev pub Visited : ℕ → LogItem → (old new : KeptSoFar) → Type 0
+Visited clauses (Add s) old new = MatchBool (old.named s.id) (KeptStep clauses s old new) (Passed old new)
+Visited clauses (Remove ids) old new = Passed old new

@@ -63,8 +63,9 @@ pub(crate) fn visit(
     named: &mut HashSet<u64>,
     kept: &mut Vec<Item>,
 ) -> Result<(), AllocError>
-    ensures { OnOk result (Visited clauses item.now (is_in named.old) kept.old.items (is_in named.new)
-        kept.new.items) }
+    ensures { OnOk result (Visited clauses item.now
+        (record { named = is_in named.old; kept = kept.old.items })
+        (record { named = is_in named.new; kept = kept.new.items })) }
 {
     if let Item::Add(s) = item {
         if named.contains(&s.id()) {

@@ -10,7 +10,7 @@ use Rattle.proof_semantics.specs.Merges.{IsMergeLog}
 module _ (n count : ℕ) (levels : List ℕ) where
   -- no table from the last on
   pub lists_none : (firsts nexts : List ℕ) → length nexts ≡ count → ((level : ℕ) → level < length firsts → get_or firsts level 0 ≡ count)
-      → AreLevelLists n count levels count firsts nexts
+      → AreLevelLists n count (record { levels = levels; firsts = firsts; nexts = nexts }) count
   lists_none firsts nexts long none = record {
     within = omega arith;
     nexts_count = long;
@@ -24,8 +24,12 @@ module _ (n count : ℕ) (levels : List ℕ) where
   }
 
   -- the table before these becomes the first of its level
-  pub lists_more : (v : ℕ) (firsts nexts : List ℕ) → v < count → get_or levels (n + v) 0 < length firsts → AreLevelLists n count levels (v + 1) firsts nexts
-      → AreLevelLists n count levels v (set firsts (get_or levels (n + v) 0) v) (set nexts v (get_or firsts (get_or levels (n + v) 0) 0))
+  pub lists_more : (v : ℕ) (firsts nexts : List ℕ) → v < count → get_or levels (n + v) 0 < length firsts → AreLevelLists n count (record { levels = levels; firsts = firsts; nexts = nexts }) (v + 1)
+      → AreLevelLists n count (record {
+        levels = levels;
+        firsts = set firsts (get_or levels (n + v) 0) v;
+        nexts = set nexts v (get_or firsts (get_or levels (n + v) 0) 0);
+      }) v
   lists_more v firsts nexts low deep h = record {
     within = omega (arith, low);
     nexts_count = length-set nexts v _ ∙ h.nexts_count;

@@ -22,7 +22,7 @@ use Rattle.merge_log.specs.Places.{place_of}
 use Rattle.merge_log.specs.declared.placed.PlacedTable.{PlacedTable}
 use Rattle.merge_log.specs.Forms.{FormValue, form_of, IsNumbered}
 use Rattle.merge_log.specs.Levels.{AreLevels}
-use Rattle.merge_log.specs.Merging.{MergingValue, IsMerging, IsFound}
+use Rattle.merge_log.specs.Merging.{MergingValue, IsMerging, IsFound, level_at}
 use Rattle.merge_log.proofs.ClauseIds.{ids-parts}
 use Rattle.merge_log.proofs.TableParts.{pairs_stand, length-pairs}
 use Rattle.merge_log.proofs.TablePlaces.{placed}
@@ -113,7 +113,7 @@ all_pairs count row other s u apart ne =
 
 -- ---- one table made equal
 
-module _ (N : NetValue) (built : IsBuilt N) (levels : List ℕ) (level t : ℕ) (g : MergingValue) (kind : ℕ) (h : IsFound N levels level t g kind) where
+module _ (N : NetValue) (built : IsBuilt N) (levels : List ℕ) (t : ℕ) (g : MergingValue) (kind : ℕ) (h : IsFound N levels t g kind) where
   pub other : ℕ
   other = get_or g.tables kind 0
 
@@ -121,20 +121,20 @@ module _ (N : NetValue) (built : IsBuilt N) (levels : List ℕ) (level t : ℕ) 
   other_within = (h.merging.kinds kind h.within).table
 
   pub ready_plane : (table_at N.tables t).plane ≡ (table_at N.tables (get_or g.tables kind 0)).plane
-  ready_plane = found_plane N built.sound.acyclic levels h.levels_are level t g h.merging h.table h.here kind h.within h.form (formed N built)
+  ready_plane = found_plane N built.sound.acyclic levels h.levels_are (level_at N levels t) t g h.merging h.table refl kind h.within h.form (formed N built)
 
   pub ready_rows : (table_at N.tables t).rows ≡ (table_at N.tables (get_or g.tables kind 0)).rows
-  ready_rows = found_rows N built.sound.acyclic levels h.levels_are level t g h.merging h.table h.here kind h.within h.form (formed N built)
+  ready_rows = found_rows N built.sound.acyclic levels h.levels_are (level_at N levels t) t g h.merging h.table refl kind h.within h.form (formed N built)
 
   pub ready_pins : AllZip (λ p q. first_of g.merged p ≡ first_of g.merged q) (table_at N.tables t).pins (table_at N.tables (get_or g.tables kind 0)).pins
-  ready_pins = found_pins N built.sound.acyclic levels h.levels_are level t g h.merging h.table h.here kind h.within h.form (formed N built)
+  ready_pins = found_pins N built.sound.acyclic levels h.levels_are (level_at N levels t) t g h.merging h.table refl kind h.within h.form (formed N built)
 
   pub ready_alike : AreToMerge g.merged (table_at N.tables t) (table_at N.tables (get_or g.tables kind 0))
   ready_alike = record { plane = ready_plane; rows = ready_rows; pins = ready_pins }
 
   pub ready_earlier : get_or g.tables kind 0 < t
   ready_earlier =
-      let before = found_earlier N built.sound.acyclic levels h.levels_are level t g h.merging h.table h.here kind h.within h.form (formed N built) in omega (arith, before)
+      let before = found_earlier N built.sound.acyclic levels h.levels_are (level_at N levels t) t g h.merging h.table refl kind h.within h.form (formed N built) in omega (arith, before)
 
   pub ready_merged : (later : MergingValue) (id : ℕ) → later.forms ≡ g.forms → later.tables ≡ g.tables
       → later.merged ≡ record { firsts = set g.merged.firsts (input_count N + t) (input_count N + get_or g.tables kind 0); ids = set g.merged.ids (input_count N + t) id }
@@ -142,7 +142,7 @@ module _ (N : NetValue) (built : IsBuilt N) (levels : List ℕ) (level t : ℕ) 
       → Adds (goal_of N) g.log later.log
       (row_pairs (first_row (input_count N) N.tables t) (first_row (input_count N) N.tables (get_or g.tables kind 0)) (length (table_at N.tables t).rows)
       ++ forth (input_count N + t) (input_count N + get_or g.tables kind 0) ∷ back (input_count N + t) (input_count N + get_or g.tables kind 0) ∷ [])
-      → id ≡ length (goal_of N).clauses + length g.log + 2 * length (table_at N.tables t).rows + 1 → IsMerging N levels level (t + 1) later
+      → id ≡ length (goal_of N).clauses + length g.log + 2 * length (table_at N.tables t).rows + 1 → IsMerging N levels (level_at N levels t) (t + 1) later
   ready_merged later id forms tables merged room adds is =
       let count : ℕ = length (table_at N.tables t).rows in
       let i : ℕ = get_or g.tables kind 0 in
@@ -157,24 +157,30 @@ module _ (N : NetValue) (built : IsBuilt N) (levels : List ℕ) (level t : ℕ) 
       let parts = ids-parts all (row_pairs row other_row count) (forth s u ∷ back s u ∷ []) first id (omega (arith, is, length-pairs row other_row count)) stand in
       let apart : other_row + count ≤ row =
       omega (arith, rows_apart N built i t other_within ready_earlier, ap length ready_rows) in
-      subst (λ k. IsMerging N levels level k later) next
-      (merging_found N built.sound.acyclic levels h.levels_are level t g h.merging h.table h.here kind h.within h.form (formed N built) later id _ forms tables merged room (omega (arith, is)) adds
+      subst (λ k. IsMerging N levels (level_at N levels t) k later) next
+      (merging_found N built.sound.acyclic levels h.levels_are (level_at N levels t) t g h.merging h.table refl kind h.within h.form (formed N built) later id _ forms tables merged room
+      (omega (arith, is)) adds
       (all_pairs count row other_row s u apart (λ e. omega (arith, e, ready_earlier))) parts.1.0 parts.1.1.0)
 
 -- ---- the number of a form
 
 pub numbered_found : (N : NetValue) (levels : List ℕ) (level t : ℕ) (g : MergingValue) (forms : List FormValue) (form : FormValue) (kind : ℕ) → AreLevels (input_count N) N.tables levels
     → t < table_count N → get_or levels (input_count N + t) 0 ≡ level → IsMerging N levels level t g → form ≡ form_of g.merged (table_at N.tables t) → IsNumbered g.forms forms form kind
-    → kind < length g.tables → IsFound N levels level t (record { log = g.log; merged = g.merged; forms = forms; tables = g.tables }) kind
+    → kind < length g.tables → IsFound N levels t (record { log = g.log; merged = g.merged; forms = forms; tables = g.tables }) kind
 numbered_found N levels level t g forms form kind are low here h is (inl old) within = record {
   levels_are = are;
   table = low;
-  here = here;
-  merging = subst (λ l. IsMerging N levels level t (record { log = g.log; merged = g.merged; forms = l; tables = g.tables })) (sym old.1) h;
+  merging = subst (λ l. IsMerging N levels (level_at N levels t) t (record { log = g.log; merged = g.merged; forms = l; tables = g.tables })) (sym old.1)
+      (subst (λ k. IsMerging N levels k t g) (sym here) h);
   within = within;
   form = ap (λ l. slice_get l kind) old.1 ∙ old.2 ∙ ap Some is;
 }
 numbered_found N levels level t g forms form kind are low here h is (inr new) within = absurd (omega (arith, new.0, h.forms_count, within))
+
+-- at a level that is the table's
+pub at_level : {N : NetValue} {levels : List ℕ} {level next : ℕ} {g : MergingValue} (t : ℕ) → level_at N levels t ≡ level → IsMerging N levels (level_at N levels t) next g
+    → IsMerging N levels level next g
+at_level {N} {levels} {next = next} {g = g} t here h = subst (λ k. IsMerging N levels k next g) here h
 
 pub numbered_new : (N : NetValue) (built : IsBuilt N) (levels : List ℕ) (level t : ℕ) (g : MergingValue) (forms : List FormValue) (form : FormValue) (tables : List ℕ) (kind : ℕ)
     → AreLevels (input_count N) N.tables levels → t < table_count N → get_or levels (input_count N + t) 0 ≡ level → IsMerging N levels level t g

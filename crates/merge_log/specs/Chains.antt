@@ -6,6 +6,8 @@ use Rattle.semantics.specs.declared.mark.Mark.{Mark}
 use Rattle.semantics.specs.declared.mark.Mark.TheVariants.{Zero, One, Dash}
 use Rattle.proof_semantics.specs.Clauses.{has_literal}
 use Rattle.proof_semantics.specs.NetClauses.{literal_at}
+use Rattle.merge_log.specs.declared.placed.Place.{Place}
+use Rattle.merge_log.specs.declared.placed.PlacedPins.{PlacedPins}
 
 -- the hints so far, the literals that are true behind them, and whether two of these literals are opposite
 pub record ChainValue : Type 0 where
@@ -77,6 +79,10 @@ row_chain m id (mark ∷ marks) (p ∷ pins) (q ∷ others) c = elim (asked mark
   | Some sign ↦ row_chain m (suc id) marks pins others (carried (implied c id (literal_at p sign)) m p q sign)
 ]
 
+-- the chain of a row with these marks that stands here, and of the pins of another row
+abbrev pub placed_row_chain : MergedValue → List Mark → PlacedPins → PlacedPins → ChainValue → ChainValue
+placed_row_chain m marks at other c = row_chain m at.place.clause marks at.pins.now other.pins.now c
+
 -- Each of the `count` rows from the place `row` on is false, by the clauses from the id `implication` on; and
 -- so is each row from the place `other` on, by every second clause from the id `equal` on.
 abbrev pub table_chain : ℕ → ℕ → ℕ → ℕ → ℕ → ChainValue → ChainValue
@@ -84,3 +90,8 @@ table_chain row other implication equal zero c = c
 table_chain row other implication equal (suc count) c =
     table_chain (suc row) (suc other) (suc implication) (suc (suc equal)) count
     (implied (implied c implication (literal_at row false)) equal (literal_at other false))
+
+-- the chain of `count` rows from the place `rows` on, and of as many from the place `equal` on, by the
+-- clauses that made them equal
+abbrev pub placed_table_chain : Place → Place → ℕ → ChainValue → ChainValue
+placed_table_chain rows equal count c = table_chain rows.row equal.row rows.clause equal.clause count c

@@ -13,19 +13,31 @@ pub record IsFirstFrom (n count : ℕ) (levels : List ℕ) (level from first : �
   pub level_is : first < count → slice_index_or levels (n + first) 0 ≡ level
   pub others : (t : ℕ) → from ≤ t → t < first → slice_index_or levels (n + t) 0 ≢ level
 
--- the first table of each level and, for each table, the next table of its level, among the tables from
--- `from` on
-pub record AreLevelLists (n count : ℕ) (levels : List ℕ) (from : ℕ) (firsts nexts : List ℕ) : Type 0 where
+-- the level of each signal, the first table of each level, and for each table the next table of its level
+pub record LevelListsValue : Type 0 where
+  pub levels : List ℕ
+  pub firsts : List ℕ
+  pub nexts : List ℕ
+
+abbrev pub level_lists_value : LevelLists → LevelListsValue
+level_lists_value lists = record {
+  levels = lists.levels.items;
+  firsts = lists.firsts.items;
+  nexts = lists.nexts.items;
+}
+
+-- the lists are those of the tables from `from` on, behind n inputs
+pub record AreLevelLists (n count : ℕ) (lists : LevelListsValue) (from : ℕ) : Type 0 where
   pub within : from ≤ count
-  pub nexts_count : length nexts ≡ count
-  pub firsts_are : (level : ℕ) → level < length firsts
-      → IsFirstFrom n count levels level from (slice_index_or firsts level 0)
+  pub nexts_count : length lists.nexts ≡ count
+  pub firsts_are : (level : ℕ) → level < length lists.firsts
+      → IsFirstFrom n count lists.levels level from (slice_index_or lists.firsts level 0)
   pub nexts_are : (t : ℕ) → from ≤ t → t < count
-      → IsFirstFrom n count levels (slice_index_or levels (n + t) 0) (t + 1) (slice_index_or nexts t 0)
+      → IsFirstFrom n count lists.levels (slice_index_or lists.levels (n + t) 0) (t + 1)
+      (slice_index_or lists.nexts t 0)
 
 -- the level of each signal of a net, and the lists of the tables of each level
 pub record AreListsOf (N : NetValue) (lists : LevelLists) : Type 0 where
   pub levels_are : AreLevels (input_count N) N.tables lists.levels.items
   pub deepest : (s : ℕ) → slice_index_or lists.levels.items s 0 < length lists.firsts.items
-  pub lists_are : AreLevelLists (input_count N) (table_count N) lists.levels.items 0 lists.firsts.items
-      lists.nexts.items
+  pub lists_are : AreLevelLists (input_count N) (table_count N) (level_lists_value lists) 0

@@ -48,12 +48,15 @@ module _ (N : NetValue) (levels : List ℕ) (level t : ℕ) where
         → first_of g.merged (input_count N + i) ≡ input_count N + i
         → (k : ℕ) × (k < length g.tables) × (slice_index_or g.tables k 0 ≡ i)
 
+-- the level of table t
+abbrev pub level_at : NetValue → List ℕ → ℕ → ℕ
+level_at N levels t = slice_index_or levels (input_count N + t) 0
+
 -- table t, which is next, has the form of the table at place `kind` among the tables that are the first of
 -- their kind
-pub record IsFound (N : NetValue) (levels : List ℕ) (level t : ℕ) (g : MergingValue) (kind : ℕ) : Type 0 where
+pub record IsFound (N : NetValue) (levels : List ℕ) (t : ℕ) (g : MergingValue) (kind : ℕ) : Type 0 where
   pub levels_are : AreLevels (input_count N) N.tables levels
   pub table : t < table_count N
-  pub here : slice_index_or levels (input_count N + t) 0 ≡ level
-  pub merging : IsMerging N levels level t g
+  pub merging : IsMerging N levels (level_at N levels t) t g
   pub within : kind < length g.tables
   pub form : slice_get g.forms kind ≡ Some (form_of g.merged (table_at N.tables t))

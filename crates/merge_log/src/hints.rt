@@ -1,7 +1,7 @@
 //! The hints of the steps that make two rows, or two tables, equal.
 ghost use Rattle.std.specs.Prelude.{◌≡◌, ◌+◌, ◌*◌, ◌<◌, ◌^◌, length, All, IfOk};
 ghost use Rattle.semantics.specs.Net.{row_literals};
-ghost use Rattle.merge_log.specs.Chains.{ended_with, asked, row_chain, table_chain};
+ghost use Rattle.merge_log.specs.Chains.{ended_with, asked, placed_row_chain, placed_table_chain};
 
 use crate::hint_chain::Chain;
 use crate::merged::Merged;
@@ -38,8 +38,7 @@ pub(crate) fn row_hints(
     requires few { from.now.place.clause < 2 ^ 62 }
     requires to_few { to.now.place.clause < 2 ^ 62 }
     ensures { IfOk result (λ hints. hints
-        ≡ ended_with (row_chain merged.now from.now.place.clause marks.now from.now.pins.now
-        to.now.pins.now chain)
+        ≡ ended_with (placed_row_chain merged.now marks.now from.now to.now chain)
         (to.now.place.clause + row_literals marks.now)) }
 {
     let mut next = from.place.clause;
@@ -68,7 +67,7 @@ pub(crate) fn table_hints(
     requires few { rows.clause < 2 ^ 62 }
     requires equal_few { equal.clause < 2 ^ 62 }
     ensures { IfOk result (λ hints. hints
-        ≡ ended_with (table_chain rows.row equal.row rows.clause equal.clause count chain) last) }
+        ≡ ended_with (placed_table_chain rows equal count chain) last) }
 {
     for j in 0..count {
         chain.imply(rows.clause + u64::from(j), rows.row + j, false)?;

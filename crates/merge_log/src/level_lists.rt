@@ -2,7 +2,7 @@
 //! the next table of its level.
 ghost use Rattle.std.specs.Prelude.{◌≡◌, ◌<◌, ℕ, length, slice_index_or, IfOk};
 ghost use Rattle.semantics.specs.Net.{input_count, table_count, signal_count};
-ghost use Rattle.merge_log.specs.LevelLists.{AreLevelLists};
+ghost use Rattle.merge_log.specs.LevelLists.{AreLevelLists, level_lists_value};
 
 use crate::levels::depth;
 use net_core::net::Net;
@@ -37,8 +37,7 @@ pub(crate) fn level_lists(
     ensures deepest { IfOk result
         (λ lists. (s : ℕ) → slice_index_or lists.levels.items s 0 < length lists.firsts.items) }
     ensures lists { IfOk result
-        (λ lists. AreLevelLists (input_count net.now) (table_count net.now) lists.levels.items 0
-        lists.firsts.items lists.nexts.items) }
+        (λ lists. AreLevelLists (input_count net.now) (table_count net.now) (level_lists_value lists) 0) }
 {
     let (inputs, tables) = (net.inputs() as usize, net.tables());
     let mut firsts = no_tables(alloc, tables, depth(&levels) as usize + 1)?;

@@ -11,7 +11,7 @@ ghost use Rattle.proof_semantics.specs.Formula.{goal_of};
 ghost use Rattle.proof_semantics.specs.Merges.{IsMergeLog};
 ghost use Rattle.merge_log.specs.Levels.{AreLevels};
 ghost use Rattle.merge_log.specs.LevelLists.{AreListsOf};
-ghost use Rattle.merge_log.specs.Merging.{IsMerging, IsFound};
+ghost use Rattle.merge_log.specs.Merging.{IsMerging, IsFound, level_at};
 
 use crate::form::{FormSet, form_of};
 use crate::level_lists::{LevelLists, level_lists};
@@ -52,9 +52,9 @@ fn merge_found(
     t: u32,
     kind: usize,
 ) -> Result<(), AllocError>
-    requires { (levels : List ℕ) × (level : ℕ) × IsFound placed.now levels level t merging.old kind }
-    ensures { OnOk result ((levels : List ℕ) (level : ℕ) → IsFound placed.now levels level t merging.old kind
-        → IsMerging placed.now levels level (t + 1) merging.new) }
+    requires { (levels : List ℕ) × IsFound placed.now levels t merging.old kind }
+    ensures { OnOk result ((levels : List ℕ) → IsFound placed.now levels t merging.old kind
+        → IsMerging placed.now levels (level_at placed.now levels t) (t + 1) merging.new) }
 {
     let own = placed.table(t);
     let first = placed.table(merging.tables[kind]);

@@ -28,8 +28,8 @@ returns-in-Ok-clause-decided c =
     let level = c.args.level.now in
     let inputs = c.args.drawing.now.inputs.items in
     let grows = subst (λ (a : List Node). Grows a nodes) (c.allow_steps.ensures ∙ c.allow_nodes.ensures) c.over_diagram-over.ensures.grows in
-    let over = subst (λ (l : List ℕ). IsOverOf nodes level.metric nets.exact nets.approx level.k l c.in-Ok.f) c.deref.ensures.value c.in-Ok.ensures.ok in
+    let over = subst (λ (l : List ℕ). IsOverOf nodes nets level l c.in-Ok.f) c.deref.ensures.value c.in-Ok.ensures.ok in
     IfOk-weaker c.decide_diagram.result _ _
-    (level_decided nodes level.metric nets.exact nets.approx level.k c.args.variables.now inputs c.in-Ok.f c.requires.own
+    (level_decided nodes nets level c.args.variables.now inputs c.in-Ok.f c.requires.own
     (variables_later c.args.drawing.now.diagrams nodes c.args.variables.now inputs grows c.requires.drawn.inputs_are) over c.values.ensures)
     c.decide_diagram.ensures

@@ -13,5 +13,5 @@ returns-in-Ham-clause-begins c =
 pub returns-in-Ham-clause-says : goal.returns-in-Ham-clause-says
 returns-in-Ham-clause-says c =
     both_ok c.append_word.result _ _
-    (λ s is made. subst (λ (kind : Kind). SaysWordExcess kind c.args.k c.args.exact.now c.args.approximate.now c.append_word.new.net s) (sym c.in-Ham.is)
+    (λ s is made. subst (λ (kind : Kind). SaysWordExcess kind c.args.k (record { exact = c.args.exact.now; approximate = c.args.approximate.now }) c.append_word.new.net s) (sym c.in-Ham.is)
     (differing_says c.args.k c.args.net.now c.append_word.new.net c.args.exact.now c.args.approximate.now s c.requires.widths made is)) c.append_word.ensures.signal c.append_word.ensures.ok

@@ -24,7 +24,7 @@ turn_reads old new before after buffer n within gave is held name told has =
 
 -- bytes came
 turn_gave : (old new : FilesTold) (before after buffer : Bytes) (n room : ℕ) → 0 < n → n ≤ length buffer → length buffer ≤ turn_bytes → Gave old new n buffer → after ≡ before ++ take n buffer
-    → TurnRead old new before after room true
+    → TurnRead (record { told = old; text = before }) (record { told = new; text = after }) room true
 turn_gave old new before after buffer n room some within asked gave is = record {
   keeps = gave.keeps;
   reads = turn_reads old new before after buffer n within gave is;
@@ -34,7 +34,8 @@ turn_gave old new before after buffer n room some within asked gave is = record 
 }
 
 -- none are left
-turn_ended : (old new : FilesTold) (before buffer : Bytes) (n room : ℕ) → n ≡ 0 → 0 < length buffer → Gave old new n buffer → TurnRead old new before before room false
+turn_ended : (old new : FilesTold) (before buffer : Bytes) (n room : ℕ) → n ≡ 0 → 0 < length buffer → Gave old new n buffer
+    → TurnRead (record { told = old; text = before }) (record { told = new; text = before }) room false
 turn_ended old new before buffer n room none asked gave =
     let nothing : before ≡ before ++ take n buffer = sym (ap (λ k. before ++ take k buffer) none ∙ append-nil before) in
     record {

@@ -1,7 +1,7 @@
 use Rattle.std.proofs.Common.{◌≡◌, ◌-◌, [], ◌∷◌, ◌++◌, length, get_or, map, ap, subst, ◌∙◌, arith}
 use Rattle.proof_semantics.specs.declared.item.Item.TheVariants.{Add}
 use Rattle.trim_semantics.specs.Trimming.{kept_steps}
-use Rattle.lrat_trim.specs.Backwards.{is_in, Visited}
+use Rattle.lrat_trim.specs.Backwards.{is_in, KeptSoFar, Visited}
 use Rattle.lrat_trim.proofs.SoFar.{none_in, first_kept, no_root, next_kept}
 use Rattle.lrat_trim.proofs.trim.kept_backwards.Goals as goal
 use Rattle.lrat_trim.proofs.trim.kept_backwards.Goals.{in-Add+in_ok-keep, in_default}
@@ -24,12 +24,13 @@ pub loop-place-preserved : goal.loop-place-preserved
 loop-place-preserved c =
     let within = c.loop-place.invariant.within in
     let test = c.loop-place-test.true in
+    let before : KeptSoFar = record { named = is_in c.loop-place.named; kept = c.loop-place.kept.items } in
+    let after : KeptSoFar = record { named = is_in c.visit.new.named; kept = c.visit.new.kept.items } in
     let clauses : c.len-clauses.result ≡ length c.args.goal.now.clauses = c.len-clauses.ensures ∙ ap length c.clauses.ensures.value in
     record {
       within = omega arith;
       so_far =
-          next_kept c.args.goal.now.clauses c.args.items.now c.requires.refutes c.args.root (c.loop-place.place - 1) c.loop-place.place c.index-items-place.result (is_in c.loop-place.named)
-          (is_in c.visit.new.named) c.loop-place.kept.items c.visit.new.kept.items c.requires.root (omega (arith, within, test)) (omega (arith, test)) c.index-items-place.is
-          c.loop-place.invariant.so_far
-          (subst (λ n. Visited n c.index-items-place.result (is_in c.loop-place.named) c.loop-place.kept.items (is_in c.visit.new.named) c.visit.new.kept.items) clauses c.in_ok-visit.ensures);
+          next_kept c.args.goal.now.clauses c.args.items.now c.requires.refutes c.args.root (c.loop-place.place - 1) c.loop-place.place c.index-items-place.result before after c.requires.root
+          (omega (arith, within, test)) (omega (arith, test)) c.index-items-place.is c.loop-place.invariant.so_far
+          (subst (λ n. Visited n c.index-items-place.result before after) clauses c.in_ok-visit.ensures);
     }

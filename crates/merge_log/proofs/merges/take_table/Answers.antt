@@ -3,7 +3,7 @@ use Rattle.std.proofs.lemmas.Result.{on_ok_weaker}
 use Rattle.semantics.specs.Net.{NetValue}
 use Rattle.merge_log.specs.Forms.{form_of}
 use Rattle.merge_log.specs.Merging.{MergingValue, IsMerging}
-use Rattle.merge_log.proofs.Ready.{numbered_found, numbered_new}
+use Rattle.merge_log.proofs.Ready.{at_level, numbered_found, numbered_new}
 use Rattle.merge_log.proofs.merges.take_table.Goals as goal
 
 pub form_of-requires : goal.form_of-requires
@@ -17,9 +17,9 @@ returns-then-kind-len c =
     let g : MergingValue = record { log = c.merging.inside.log; merged = c.merging.inside.merged; forms = c.merging.inside.forms; tables = c.merging.inside.tables.items } in
     let N : NetValue = c.args.placed.now in
     on_ok_weaker c.merge_found.result
-    (λ done levels level are here h. done levels level
+    (λ done levels level are here h. at_level c.args.t here (done levels
     (numbered_found N levels level c.args.t g c.number.new.self _ c.in_ok-kind.kind are c.requires.table here (subst (IsMerging N levels level c.args.t) (sym c.merging.view_is) h)
-    (c.in_ok-form.ensures ∙ ap (form_of c.merging.inside.merged) c.table-own.ensures.table) c.in_ok-kind.ensures (omega (arith, c.if-kind-len.true, c.len.ensures))))
+    (c.in_ok-form.ensures ∙ ap (form_of c.merging.inside.merged) c.table-own.ensures.table) c.in_ok-kind.ensures (omega (arith, c.if-kind-len.true, c.len.ensures)))))
     c.merge_found.ensures
 
 pub returns-in_ok-push : goal.returns-in_ok-push
