@@ -1,6 +1,6 @@
 -- What a pass to the front has kept so far is the trimmed log from that place on, the other way round.
 use Rattle.std.proofs.Common.{◌≡◌, ℕ, suc, ◌<◌, Bool, true, false, cond, ◌||◌, List, [], ◌∷◌, ◌++◌, length, get_or, drop, drop-cons, map, reverse, refl, ap, subst, sym, ◌∙◌, arith, Some}
-use Rattle.std.specs.Prelude.{◌&&◌, not, filter, position, ◌==◌}
+use Rattle.std.specs.Prelude.{◌&&◌, not, filter, position}
 use Rattle.std.specs.List.{Contains, list_any}
 use Rattle.std.specs.BTreeSet.{BTreeSet}
 use Rattle.std.specs.BTreeMap.{is_at}
