@@ -1,3 +1,4 @@
 pub mod Roots
 pub mod Fresh
 pub mod SoFar
+pub mod Named

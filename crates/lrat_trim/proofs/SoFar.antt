@@ -1,8 +1,10 @@
 -- What a pass to the front has kept so far is the trimmed log from that place on, the other way round.
 use Rattle.std.proofs.Common.{◌≡◌, ℕ, suc, ◌<◌, Bool, true, false, cond, ◌||◌, List, [], ◌∷◌, ◌++◌, length, get_or, drop, drop-cons, map, reverse, refl, ap, subst, sym, ◌∙◌, arith, Some}
-use Rattle.std.specs.Prelude.{◌&&◌, not, filter, position, ◌==◌}
+use Rattle.std.specs.Prelude.{◌&&◌, not, filter, position}
 use Rattle.std.specs.List.{Contains, list_any}
-use Rattle.std.specs.HashSet.{HashSet}
+use Rattle.std.specs.BTreeSet.{BTreeSet}
+use Rattle.std.specs.BTreeMap.{is_at}
+use Rattle.std.specs.Ordering.{nat_cmp}
 use Rattle.std.specs.Bool.{MatchBool}
 use Rattle.std.proofs.lemmas.List.{reverse-append}
 use Rattle.std.proofs.lemmas.List.Quantifiers.{position-Some}
@@ -21,8 +23,8 @@ pub record IsSoFar (ids : List ℕ) (steps : List StepValue) (all_named : ℕ �
   pub named : (id : ℕ) → all_named id ≡ is_named steps id
   pub kept : reverse items ≡ with_removals ids steps
 
-pub none_in : {S : Type 0} (ids : HashSet ℕ S) → ids.keys ≡ [] → (id : ℕ) → is_in ids id ≡ false
-none_in ids e id = ap (λ keys. list_any (λ other. id == other) keys) e
+pub none_in : (ids : BTreeSet ℕ) → ids.keys ≡ [] → (id : ℕ) → is_in ids id ≡ false
+none_in ids e id = ap (λ keys. list_any (is_at (nat_cmp id)) keys) e
 
 -- ---- the root
 

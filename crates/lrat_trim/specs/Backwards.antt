@@ -1,10 +1,11 @@
 -- What a pass from the root to the front of a log does at each item. Source: backward checking of clausal
 -- proofs.
-use Rattle.std.specs.Prelude.{◌≡◌, ◌↔◌, ℕ, ◌<◌, Bool, true, false, not, ◌&&◌, ◌||◌, ◌==◌, nat_lt, List, []}
+use Rattle.std.specs.Prelude.{◌≡◌, ◌↔◌, ℕ, ◌<◌, Bool, true, false, not, ◌&&◌, ◌||◌, nat_lt, List, []}
 use Rattle.std.specs.Prelude.{◌∷◌, ◌++◌}
 use Rattle.std.specs.Bool.{MatchBool}
 use Rattle.std.specs.List.{Contains, AllPairs}
-use Rattle.std.specs.HashSet.{HashSet, contains}
+use Rattle.std.specs.BTreeSet.{BTreeSet, contains}
+use Rattle.std.specs.Ordering.{nat_cmp}
 use Rattle.proof_semantics.specs.declared.item.Item.TheVariants.{Add, Remove}
 use Rattle.proof_semantics.specs.Logs.{StepValue, LogItem}
 use Rattle.trim_semantics.specs.Kept.{is_empty_clause}
@@ -15,8 +16,8 @@ abbrev pub adds_empty_clause : LogItem → Bool
 adds_empty_clause (Add s) = is_empty_clause s.literals
 adds_empty_clause (Remove ids) = false
 
-abbrev pub is_in : {S : Type 0} → HashSet ℕ S → ℕ → Bool
-is_in ids id = contains ◌==◌ ids id
+abbrev pub is_in : BTreeSet ℕ → ℕ → Bool
+is_in ids id = contains nat_cmp ids id
 
 -- the id is above those of a formula's clauses, and not named
 abbrev pub is_fresh : ℕ → (ℕ → Bool) → ℕ → Bool

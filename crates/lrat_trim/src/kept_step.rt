@@ -10,7 +10,7 @@ use crate::named_ids::{fresh_ids, name_all};
 use proof_parts::clause::Lits;
 use proof_parts::log::{Ids, Item, Step};
 use std::alloc::{AllocError, Global};
-use std::collections::HashSet;
+use std::collections::BTreeSet;
 
 fn copy_of(alloc: Global, s: &Step) -> Result<Step, AllocError>
     ensures { IfOk result (λ copy. copy ≡ s.now) }
@@ -24,7 +24,7 @@ fn copy_of(alloc: Global, s: &Step) -> Result<Step, AllocError>
 pub(crate) fn keep(
     alloc: Global,
     s: &Step,
-    named: &mut HashSet<u64>,
+    named: &mut BTreeSet<u64>,
     kept: &mut Vec<Item>,
 ) -> Result<(), AllocError>
     ensures named { OnOk result
@@ -41,7 +41,7 @@ fn end_fresh(
     alloc: Global,
     clauses: u64,
     s: &Step,
-    named: &HashSet<u64>,
+    named: &BTreeSet<u64>,
     kept: &mut Vec<Item>,
 ) -> Result<(), AllocError>
     ensures { OnOk result ((ids : List ℕ)
@@ -60,7 +60,7 @@ pub(crate) fn visit(
     alloc: Global,
     clauses: u64,
     item: &Item,
-    named: &mut HashSet<u64>,
+    named: &mut BTreeSet<u64>,
     kept: &mut Vec<Item>,
 ) -> Result<(), AllocError>
     ensures { OnOk result (Visited clauses item.now

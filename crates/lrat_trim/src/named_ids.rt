@@ -5,10 +5,10 @@ ghost use Rattle.lrat_trim.specs.Backwards.{is_in, is_fresh, AreFresh};
 
 use proof_parts::log::Ids;
 use std::alloc::{AllocError, Global};
-use std::collections::HashSet;
+use std::collections::BTreeSet;
 
 /// Adds the hints of a step.
-pub(crate) fn name_all(named: &mut HashSet<u64>, hints: &[u64]) -> Result<(), AllocError>
+pub(crate) fn name_all(named: &mut BTreeSet<u64>, hints: &[u64]) -> Result<(), AllocError>
     ensures { OnOk result ((id : ℕ) → is_in named.new id ≡ (has_id hints.now id || is_in named.old id)) }
 {
     for hint in hints {
@@ -22,7 +22,7 @@ fn fresh_hints(
     alloc: Global,
     clauses: u64,
     hints: &[u64],
-    named: &HashSet<u64>,
+    named: &BTreeSet<u64>,
 ) -> Result<Vec<u64>, AllocError>
     ensures { IfOk result (λ fresh. fresh.items ≡ filter (is_fresh clauses (is_in named.now)) hints.now) }
 {
@@ -40,7 +40,7 @@ pub(crate) fn fresh_ids(
     alloc: Global,
     clauses: u64,
     hints: &[u64],
-    named: &HashSet<u64>,
+    named: &BTreeSet<u64>,
 ) -> Result<Ids, AllocError>
     ensures { IfOk result (AreFresh clauses hints.now (is_in named.now)) }
 {

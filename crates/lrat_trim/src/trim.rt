@@ -10,7 +10,7 @@ use crate::root::root_place;
 use proof_parts::cnf::Cnf;
 use proof_parts::log::{Item, Log};
 use std::alloc::{AllocError, Global};
-use std::collections::HashSet;
+use std::collections::BTreeSet;
 
 /// The items of the trimmed log, in reverse.
 fn kept_backwards(
@@ -24,7 +24,7 @@ fn kept_backwards(
     ensures { IfOk result (λ kept. reverse kept.items ≡ trimmed items.now) }
 {
     let clauses = goal.clauses().len() as u64;
-    let mut named = HashSet::new(alloc);
+    let mut named = BTreeSet::new(alloc);
     let mut kept = Vec::new(alloc);
     if let Item::Add(s) = &items[root] {
         keep(alloc, s, &mut named, &mut kept)?;
@@ -51,7 +51,7 @@ fn turned(alloc: Global, items: Vec<Item>) -> Result<Log, AllocError>
 
 /// Of a log that refutes the goal the additions that its first empty clause is reached from through hints,
 /// each removed as soon as no further one names it. It goes from that clause to the front of the log, and
-/// looks each id up by its hash; it fails only where there is no memory.
+/// looks each id up by comparisons, so that no choice of ids is slow; it fails only where there is no memory.
 pub fn trim(alloc: Global, goal: &Cnf, log: &Log) -> Result<Log, AllocError>
     requires { Refutes goal.now.clauses log.now }
     ensures value { IfOk result (λ short. short ≡ trimmed log.now) }
