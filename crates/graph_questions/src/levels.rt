@@ -4,7 +4,8 @@
 //! common is one node, and where two outputs are one node the network has a constant there. So mostly little
 //! is left of it. Where the approximate net was made by a change from a net that keeps the level, it is asked
 //! besides that the changed signal has different values in the two nets: at other input vectors the error is
-//! that of the net before. A model is tried on the nets themselves, so only a refutation rests on the clauses.
+//! that of the net before. A model is tried on the nets themselves, so only a refutation rests on the
+//! clauses.
 ghost use Rattle.std.specs.Prelude.{◌≡◌, ◌<◌, ◌≤◌, ◌++◌, length, All, IfOk, IfSome};
 ghost use Rattle.semantics.specs.Net.{input_count};
 ghost use Rattle.aig_core.specs.Graph.{IsLiteralOf};

@@ -1,8 +1,8 @@
 //! The question whether some input vector makes a literal of a graph true.
 //!
-//! The clauses of the gates on which the literal depends go to the solver. A question of few conflicts ends in
-//! the search that forgets nothing; behind it comes the one that forgets, which is quicker where clauses are
-//! many. No log is kept.
+//! The clauses of the gates on which the literal depends go to the solver. A question of few conflicts ends
+//! in the search that forgets nothing; behind it comes the one that forgets, which is quicker where clauses
+//! are many. No log is kept.
 ghost use Rattle.std.specs.Prelude.{◌≡◌, ◌≤◌, IfOk};
 ghost use Rattle.aig_core.specs.Graph.{IsLiteralOf};
 ghost use Rattle.graph_questions.specs.GraphClauses.{IsAnsweredOf, answer_of};

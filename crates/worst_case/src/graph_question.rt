@@ -3,8 +3,8 @@
 //!
 //! The exact and the approximate net have most of their tables in common: in the hashed graph of both what is
 //! equal is one node, and much falls. The network of the level is that of the diagrams, which subtracts once:
-//! where two outputs are one node it is mostly constant. Where the approximate net was made by a change from a
-//! net that keeps the bound, only the input vectors are asked about at which the change makes a difference.
+//! where two outputs are one node it is mostly constant. Where the approximate net was made by a change from
+//! a net that keeps the bound, only the input vectors are asked about at which the change makes a difference.
 //! What is left open here is asked again over the joint net's own formula, since a query that was spent is
 //! shown by that.
 ghost use Rattle.std.specs.Prelude.{◌≡◌, ◌≤◌, IfOk, IfSome};

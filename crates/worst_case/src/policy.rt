@@ -95,8 +95,8 @@ pub fn within_level<P: Progress>(
     by_all(alloc, nets, None, judge, aim, progress)
 }
 
-/// Whether the error of a net stays within the bound, as [`within_level`] says, where the net was made by a change
-/// from a net that keeps the bound.
+/// Whether the error of a net stays within the bound, as [`within_level`] says, where the net was made by a
+/// change from a net that keeps the bound.
 pub fn within_level_after<P: Progress>(
     alloc: Global,
     nets: &Compared,
