@@ -39,11 +39,13 @@ resolved_below old new i p within below high m = elim (cases_eq p i) [
 ]
 
 -- the mark of an entry was taken away, and then others were set before it
-pub replaced_kept : (trail : List ℤ) (old unset new : List Bool) (C : Clause) (own : ℤ) (entry : ℕ) → unset ≡ set old entry false → AreOthersMarked trail unset new C own entry
+pub replaced_kept : (trail : List ℤ) (old unset new : List Bool) (C : Clause) (own : ℤ) (entry : ℕ) → unset ≡ set old entry false
+    → AreOthersMarked trail unset new (record { clause = C; own = own; bound = entry })
     → (p : ℕ) → p ≢ entry → mark_at old p ≡ true → mark_at new p ≡ true
 replaced_kept trail old unset new C own entry e h p other m = h.kept p (ap (λ xs. mark_at xs p) e ∙ get_or-set_other old entry p false false other ∙ m)
 
-pub replaced_below : (trail : List ℤ) (old unset new : List Bool) (C : Clause) (own : ℤ) (entry : ℕ) → unset ≡ set old entry false → entry < length old → AreOthersMarked trail unset new C own entry
+pub replaced_below : (trail : List ℤ) (old unset new : List Bool) (C : Clause) (own : ℤ) (entry : ℕ) → unset ≡ set old entry false → entry < length old
+    → AreOthersMarked trail unset new (record { clause = C; own = own; bound = entry })
     → (p : ℕ) → entry ≤ p → mark_at new p ≡ true → (p ≢ entry) × (mark_at old p ≡ true)
 replaced_below trail old unset new C own entry e inside h p high m =
     let was : mark_at (set old entry false) p ≡ true = ap (λ xs. mark_at xs p) (sym e) ∙ h.below p high m in

@@ -140,10 +140,10 @@ held_next places told trail after l v n k h o ok e m i more = record {
 }
 
 pub places_next : (places : List ℕ) (told : List Bool) (trail after : List ℤ) (l : ℤ) (v n k : ℕ) (reasons more literal_room literal_room1 reason_room reason_room1 : ℕ)
-    → HasPlaces places told trail reasons literal_room reason_room
+    → HasPlaces places told trail (record { reasons = reasons; literal_room = literal_room; reason_room = reason_room })
     → IsOpen (Holds trail) l → IsLiteralOf (length places - 1) l → v ≡ nat_abs l → n ≡ length trail → k ≡ index_of l → after ≡ trail ++ l ∷ [] → more ≡ reasons + 1 → literal_room1 ≡ literal_room
     → reason_room1 ≡ reason_room
-    → HasPlaces (set places v n) (set told k true) after more literal_room1 reason_room1
+    → HasPlaces (set places v n) (set told k true) after (record { reasons = more; literal_room = literal_room1; reason_room = reason_room1 })
 places_next places told trail after l v n k reasons more literal_room literal_room1 reason_room reason_room1 h o ok e m i longer counted same same1 =
     let same_length = h.same_length in
     let for_literals = h.for_literals in
@@ -182,7 +182,8 @@ told_all told trail n start h low high within =
     subst (AreTold told) (ap (λ m. take m trail) e ∙ take_min start trail) h
 
 -- there is room for one entry more
-pub places_room : (places : List ℕ) (told : List Bool) (trail : List ℤ) (reasons literal_room reason_room : ℕ) → HasPlaces places told trail reasons literal_room reason_room
+pub places_room : (places : List ℕ) (told : List Bool) (trail : List ℤ) (reasons literal_room reason_room : ℕ)
+    → HasPlaces places told trail (record { reasons = reasons; literal_room = literal_room; reason_room = reason_room })
     → (length trail < literal_room) × (reasons < reason_room)
 places_room places told trail reasons literal_room reason_room h =
     let few = placed_few places trail h.held.placed in

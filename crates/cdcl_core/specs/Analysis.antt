@@ -41,10 +41,15 @@ pub record IsShortened (old new : List Bool) (start : ℕ) : Type 0 where
   pub kept : (p : ℕ) → start ≤ p → mark_at old p ≡ true → mark_at new p ≡ true
   pub only : (p : ℕ) → start ≤ p → mark_at new p ≡ true → mark_at old p ≡ true
 
--- marks were added, before bound, at the entries that make the literals of C other than own false
-pub record AreOthersMarked (trail : List ℤ) (old new : List Bool) (C : Clause) (own : ℤ)
-    (bound : ℕ) : Type 0 where
+-- the literals of a clause other than `own`, which entries before `bound` make false
+pub record OtherLiterals : Type 0 where
+  pub clause : Clause
+  pub own : ℤ
+  pub bound : ℕ
+
+-- marks were added, before the bound, at the entries that make these other literals false
+pub record AreOthersMarked (trail : List ℤ) (old new : List Bool) (others : OtherLiterals) : Type 0 where
   pub same_length : length new ≡ length old
   pub kept : (p : ℕ) → mark_at old p ≡ true → mark_at new p ≡ true
-  pub below : (p : ℕ) → bound ≤ p → mark_at new p ≡ true → mark_at old p ≡ true
-  pub marked : All (λ a. (a ≡ own) ⊎ IsMarked trail new (neg_ℤ a)) C
+  pub below : (p : ℕ) → others.bound ≤ p → mark_at new p ≡ true → mark_at old p ≡ true
+  pub marked : All (λ a. (a ≡ others.own) ⊎ IsMarked trail new (neg_ℤ a)) others.clause

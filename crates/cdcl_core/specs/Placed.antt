@@ -33,11 +33,16 @@ pub record IsHeld (places : List ℕ) (told : List Bool) (trail : List ℤ) : Ty
   pub told_values : AreTold told trail
   pub wide : length told ≡ length places * 2
 
+-- how many reasons there are, and room for how many literals and reasons
+pub record TrailSpace : Type 0 where
+  pub reasons : ℕ
+  pub literal_room : ℕ
+  pub reason_room : ℕ
+
 -- the trail, with the places, with `told` and with a reason for each entry; and there is room for more
 -- entries than there are variables
-pub record HasPlaces (places : List ℕ) (told : List Bool) (trail : List ℤ)
-    (reasons literal_room reason_room : ℕ) : Type 0 where
+pub record HasPlaces (places : List ℕ) (told : List Bool) (trail : List ℤ) (space : TrailSpace) : Type 0 where
   pub held : IsHeld places told trail
-  pub same_length : reasons ≡ length trail
-  pub for_literals : length places + 1 ≤ literal_room
-  pub for_reasons : length places + 1 ≤ reason_room
+  pub same_length : space.reasons ≡ length trail
+  pub for_literals : length places + 1 ≤ space.literal_room
+  pub for_reasons : length places + 1 ≤ space.reason_room

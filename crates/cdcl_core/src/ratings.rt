@@ -2,8 +2,9 @@
 //!
 //! A clause whose literals stood on few levels when it was learned is likely to be used again, and stays. A
 //! clause of some levels stays for two rounds behind the last one in which it was a hint, any other for one.
-//! Of those that are then left the better half stays: that of fewer levels, and of fewer literals. Source:
-//! the levels of Glucose, and the tiers of CaDiCaL; here a clause is used where it is a hint.
+//! Of those that are then left the best quarter stays: that of fewest levels, and of fewest literals, since
+//! propagation looks at each clause that stays. Source: the levels of Glucose, and the tiers of CaDiCaL; here
+//! a clause is used where it is a hint.
 ghost use Rattle.std.specs.Prelude.{◌≤◌, length};
 ghost use Rattle.proof_semantics.specs.Logs.{IsDerivation};
 
@@ -29,7 +30,7 @@ const LATELY: u32 = 2;
 const LAST_STEPS: usize = 2_000;
 
 /// One in this number of the clauses that were not used lately stays.
-const ONE_IN: usize = 2;
+const ONE_IN: usize = 4;
 
 /// A learned clause: its id in the whole log, the number of levels of its literals, and for how many rounds
 /// its last use counts.
@@ -83,11 +84,11 @@ fn stay(clause: Kept, literals: usize) -> Option<u32> {
     }
 }
 
-/// Adds the better half.
+/// Adds the best, one in `ONE_IN`.
 fn push_better(kept: &mut Vec<Kept>, ratings: &mut Vec<Rating>) -> Result<(), AllocError> {
     ratings.sort_unstable();
-    let half = ratings.len() / ONE_IN;
-    for (levels, _, id) in &ratings[..half] {
+    let count = ratings.len() / ONE_IN;
+    for (levels, _, id) in &ratings[..count] {
         kept.push(Kept {
             id: *id,
             levels: *levels,

@@ -17,7 +17,8 @@ use crate::trail_marks::Marks;
 fn mark_others(trail: &Trail, marks: &mut Marks, clause: &[Literal], own: Literal, bound: usize)
     requires marks { length trail.now.literals ≤ length marks.old }
     requires others { All (λ a. (a ≡ own) ⊎ IsTrueBelow trail.now.literals bound (neg_ℤ a)) clause.now }
-    ensures { AreOthersMarked trail.now.literals marks.old marks.new clause.now own bound }
+    ensures { AreOthersMarked trail.now.literals marks.old marks.new
+        (record { clause = clause.now; own = own; bound = bound }) }
 {
     trail.consistent();
     for literal in clause {

@@ -40,8 +40,11 @@ impl Model for Trail {
       starts = t.starts.items;
     } };
 
-    ghost invariant = { λ t. HasPlaces t.places.items t.told.items t.literals.items (length t.reasons.items)
-        (vec_capacity t.literals) (vec_capacity t.reasons) };
+    ghost invariant = { λ t. HasPlaces t.places.items t.told.items t.literals.items (record {
+      reasons = length t.reasons.items;
+      literal_room = vec_capacity t.literals;
+      reason_room = vec_capacity t.reasons;
+    }) };
 }
 
 /// Notes in the table that the literals of the entries from `start` on are true no more.
