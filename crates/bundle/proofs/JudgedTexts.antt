@@ -155,7 +155,7 @@ module _ (claim : Claim) (exact : NetValue) (texts : Texts) where
                 ),
               );
               fails = λ some.
-                  let here = of_both (λ N s. (log : List LogItem) × IsRefutation exact N claim.metric s.maximum texts log) M r k.net.netlist k.report some in
+                  let here = of_both (λ N s. (log : List LogItem) × IsRefutation (miter exact N claim.metric s.maximum) (texts file.Log) log) M r k.net.netlist k.report some in
                   other (here.0, here.1.read, here.1.refutes);
             }
 

@@ -7,6 +7,7 @@ use Rattle.proof_semantics.specs.Formula.{Formula}
 use Rattle.proof_semantics.specs.Logs.{LogItem, Refutes}
 use Rattle.proof_semantics.specs.Miter.{miter}
 use Rattle.job_semantics.specs.declared.certificate_clause.Clause.{Clause}
+use Rattle.job_semantics.specs.declared.ending.Ending.TheVariants as file
 use Rattle.job_semantics.specs.declared.claim.Claim.{Claim}
 use Rattle.job_semantics.specs.Certificate.{Texts, OfBundle, OfBoth, IsRefutation, CertifiesWith}
 use Rattle.job_semantics.specs.Certificate.{IsFirstFailing, clause_number}
@@ -30,7 +31,7 @@ pub record IsCertificateWith (claim : Claim) (exact : NetValue) (texts : Texts) 
   pub certifies : CertifiesWith claim exact texts
   pub parts : OfBoth claim.metric claim.bound exact texts
       (λ M r. (goal ≡ miter exact M claim.metric r.maximum)
-      × IsRefutation exact M claim.metric r.maximum texts log)
+      × IsRefutation (miter exact M claim.metric r.maximum) (texts file.Log) log)
 
 -- a certificate all items of whose log were kept, or the number of the first clause that fails
 abbrev pub loaded_of : Judged (List LogItem) → Loaded

@@ -58,7 +58,7 @@ same_ports {exact = exact} texts approx certified reads = subst (HasSamePorts ex
 module _ (aim : Constraint) (input stem : Bytes) (call : Call) (q : SpentQueries) where
   module _ (files_named : IsTrue (are_file_words input stem)) where
     admits : (a b : Held) (d : SynthDone aim input stem q.spent call) → q.spent ≡ None → call.old.held ≡ Some a → call.new.held ≡ Some b
-        → AdmitsNoMore aim.metric aim.bound input stem d.exact b
+        → AdmitsNoMore aim input stem d.exact b
     admits a b d none told tells =
         let w = d.written in
         let certified : Certifies aim.metric aim.bound d.exact (texts_of b stem) = w.certificate Refused (λ is. (w.right.tables, w.right.literals)) a b told tells in
@@ -74,10 +74,10 @@ module _ (aim : Constraint) (input stem : Bytes) (call : Call) (q : SpentQueries
 
     settled : (status : Status) → SynthAnswerAt aim input stem call q status → status ≢ ReadFault → status ≢ WriteFault → status ≢ NoMemory → q.spent ≡ None → q.level ≡ None
         → (a b : Held) → call.old.held ≡ Some a → call.new.held ≡ Some b → (exact : NetValue) → IsReadAs (bytes_of a input) exact
-        → (status ≡ Done) × AdmitsNoMore aim.metric aim.bound input stem exact b
+        → (status ≡ Done) × AdmitsNoMore aim input stem exact b
     settled Done answer read written memory none no_level a b told tells exact reads =
         let same : answer.0.exact ≡ exact = one_net (bytes_of a input) answer.0.exact exact (answer.0.read.told a b told tells) reads in
-        (refl, subst (λ N. AdmitsNoMore aim.metric aim.bound input stem N b) same (admits a b answer.0 none told tells))
+        (refl, subst (λ N. AdmitsNoMore aim input stem N b) same (admits a b answer.0 none told tells))
     settled Budget answer read written memory none no_level a b told tells exact reads =
         let bad : ◌≡◌ {A = Option SpentValue} (Some answer.0) None = sym answer.1 ∙ no_level in cc
     settled (Text reason) answer read written memory none no_level a b told tells exact reads =

@@ -13,6 +13,7 @@ use Rattle.blif_semantics.proofs.ReadNet.{read_sound}
 use Rattle.blif_semantics.proofs.Written.{read}
 use Rattle.proof_semantics.specs.Formula.{dimacs_text}
 use Rattle.proof_semantics.specs.Logs.{LogItem, Refutes}
+use Rattle.proof_semantics.specs.Miter.{miter}
 use Rattle.proof_semantics.proofs.Miters.{miter_law}
 use Rattle.proof_semantics.proofs.LratRoundTrip.{round_trip_law}
 use Rattle.outside_semantics.specs.Outside.{Held}
@@ -67,8 +68,8 @@ module _ (claim : Claim) (exact : NetValue) (texts : Texts) (sound : IsSound exa
   with_ports : HasSamePorts exact M
   with_ports = of_net texts (HasSamePorts exact) M net c.1.0
 
-  refuted : (log : List LogItem) × IsRefutation exact M claim.metric r.maximum texts log
-  refuted = of_both claim.metric claim.bound exact texts (λ N s. (log : List LogItem) × IsRefutation exact N claim.metric s.maximum texts log) M r net report c.1.1.1.1.1.1.1.0
+  refuted : (log : List LogItem) × IsRefutation (miter exact M claim.metric r.maximum) (texts file.Log) log
+  refuted = of_both claim.metric claim.bound exact texts (λ N s. (log : List LogItem) × IsRefutation (miter exact N claim.metric s.maximum) (texts file.Log) log) M r net report c.1.1.1.1.1.1.1.0
 
   counted : AreCounts claim.growth exact M r
   counted = of_both claim.metric claim.bound exact texts (AreCounts claim.growth exact) M r net report c.1.1.1.1.1.1.1.1.0
@@ -172,7 +173,7 @@ module _ (growth : Growth) (b : BundleValue) (h : IsRightBundle growth b) where
     size = h.size;
   }
 
-  log_read : IsRefutation b.exact b.approx b.metric b.maximum (bundle_text b) b.log
+  log_read : IsRefutation (miter b.exact b.approx b.metric b.maximum) (bundle_text b file.Log) b.log
   log_read = record {
     read = round_trip_law b.log (writable b.goal b.log h.variables h.derivation);
     refutes = subst (λ f. Refutes f.clauses b.log) h.goal h.refutes;

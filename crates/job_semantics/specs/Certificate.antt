@@ -14,7 +14,7 @@ use Rattle.chain_semantics.specs.declared.moves.Move.{Move}
 use Rattle.chain_semantics.specs.Moves.{moves_of, old_moves_of}
 use Rattle.chain_semantics.specs.Minimality.{AreBrokenBySome}
 use Rattle.blif_semantics.specs.Reading.{blif_reading}
-use Rattle.proof_semantics.specs.Formula.{dimacs_text}
+use Rattle.proof_semantics.specs.Formula.{Formula, dimacs_text}
 use Rattle.proof_semantics.specs.Logs.{LogItem, Refutes}
 use Rattle.proof_semantics.specs.LratReading.{lrat_items}
 use Rattle.proof_semantics.specs.Miter.{miter}
@@ -71,11 +71,10 @@ IsReport metric bound exact texts r = IsReportText (input_count exact) metric bo
 abbrev pub AreVectors : NetValue → Texts → List Bool → List (List Bool) → Type 0
 AreVectors exact texts witness pool = IsVectorsText (input_count exact) (texts file.Vectors) witness pool
 
--- `.lrat` is read to its end as a log that refutes the miter at the maximum
-pub record IsRefutation (exact approx : NetValue) (metric : Metric) (maximum : ℕ) (texts : Texts)
-    (log : List LogItem) : Type 0 where
-  pub read : lrat_items (texts file.Log) ≡ Ok log
-  pub refutes : Refutes (miter exact approx metric maximum).clauses log
+-- the text is read to its end as a log that refutes the formula
+pub record IsRefutation (f : Formula) (text : Bytes) (log : List LogItem) : Type 0 where
+  pub read : lrat_items text ≡ Ok log
+  pub refutes : Refutes f.clauses log
 
 -- where growth is refused, the net has no more tables and no more literals than the original
 abbrev pub IsOfAllowedSize : Growth → NetValue → NetValue → Type 0
@@ -132,7 +131,7 @@ Holds claim exact texts clause.Formula =
     (λ M r. texts file.Formula ≡ dimacs_text (miter exact M claim.metric r.maximum))
 Holds claim exact texts clause.Log =
     OfBoth claim.metric claim.bound exact texts
-    (λ M r. (log : List LogItem) × IsRefutation exact M claim.metric r.maximum texts log)
+    (λ M r. (log : List LogItem) × IsRefutation (miter exact M claim.metric r.maximum) (texts file.Log) log)
 Holds claim exact texts clause.Counts
     = OfBoth claim.metric claim.bound exact texts (AreCounts claim.growth exact)
 Holds claim exact texts clause.Minimal =

@@ -43,14 +43,13 @@ pub record KeepsItsPromise (metric : Metric) (bound : ℕ) (exact : NetValue) (t
 -- verified, where each of the five has fewer than 2^40 bytes, unless memory is wanting. Its circuit has the
 -- original's inputs and outputs by their names, and is the end of the chain of simplifications: no single
 -- move of it keeps the bound.
-pub record AdmitsNoMore (metric : Metric) (bound : ℕ) (input stem : Bytes) (exact : NetValue)
-    (held : Held) : Type 0 where
-  pub certificate : Certifies metric bound exact (texts_of held stem)
-  pub verifies : Verifies metric bound input stem held
+pub record AdmitsNoMore (aim : Constraint) (input stem : Bytes) (exact : NetValue) (held : Held) : Type 0 where
+  pub certificate : Certifies aim.metric aim.bound exact (texts_of held stem)
+  pub verifies : Verifies aim.metric aim.bound input stem held
   pub approx : NetValue
   pub netlist : IsNetlist (texts_of held stem) approx
   pub the_same_ports : HasSamePorts exact approx
-  pub end_of_the_chain : IsSimplificationEnd metric exact bound approx
+  pub end_of_the_chain : IsSimplificationEnd aim.metric exact aim.bound approx
 
 -- the net is a member of the chain of simplifications, or comes of a member by one move
 pub record IsOfTheChain (metric : Metric) (exact : NetValue) (bound : ℕ) (N : NetValue) : Type 0 where
@@ -86,7 +85,7 @@ pub record Headline (words : List Bytes) (answered : Answered) (call : Call) : T
       → job_of words ≡ Some (synth aim input stem)
       → IsQuietSynth input stem call → ¬ answered.NoMemory → answered.spent ≡ None → answered.level ≡ None
       → WhereTold call.old call.new (λ a b. (exact : NetValue) → IsReadAs (bytes_of a input) exact
-      → answered.Done × AdmitsNoMore aim.metric aim.bound input stem exact b)
+      → answered.Done × AdmitsNoMore aim input stem exact b)
   pub the_conflicts_that_were_spent : (aim : Constraint) (input stem : Bytes)
       → job_of words ≡ Some (synth aim input stem)
       → (q : SpentValue) → (answered.spent ≡ Some q) ⊎ (answered.level ≡ Some q)

@@ -1,15 +1,16 @@
 -- What a trim job comes to, by its answer: the job checks the bundle and, where the certificate stands,
 -- writes the trimmed log to OUT. The claim of a trim job is that of a check (`checked_claim`). Source: this
 -- tool's own bundles; proof trimming by backward checking.
-use Rattle.std.specs.Prelude.{◌≡◌, ℕ, IsTrue, List}
+use Rattle.std.specs.Prelude.{◌≡◌, IsTrue, List}
 use Rattle.semantics.specs.Texts.{Bytes}
 use Rattle.semantics.specs.Net.{NetValue}
-use Rattle.semantics.specs.declared.metric.Metric.{Metric}
 use Rattle.outside_semantics.specs.Outside.{WhereTold, bytes_of}
+use Rattle.proof_semantics.specs.Formula.{Formula}
 use Rattle.proof_semantics.specs.Logs.{LogItem, Refutes}
 use Rattle.proof_semantics.specs.Lrat.{lrat_text}
 use Rattle.proof_semantics.specs.Miter.{miter}
 use Rattle.trim_semantics.specs.Trimmed.{IsTrimmed}
+use Rattle.job_semantics.specs.declared.ending.Ending.TheVariants as file
 use Rattle.job_semantics.specs.Certificate.{Texts, texts_of, OfBundle, OfBoth, IsRefutation, CertifiesWith}
 use Rattle.job_semantics.specs.Input.{IsReadAs}
 use Rattle.job_semantics.specs.Synthesis.{OfInput, IsQuiet}
@@ -18,22 +19,23 @@ use Rattle.job_semantics.specs.Conversion.{OutputWritten, OutputCutShort}
 use Rattle.job_semantics.specs.Call.{Call}
 use Rattle.job_semantics.specs.declared.claim.Claim.{Claim}
 
--- the text is that of the trimmed log of `.lrat`, and the trimmed log refutes the miter at the maximum too
-pub record IsTrimmedText (exact approx : NetValue) (metric : Metric) (maximum : ℕ) (texts : Texts)
-    (text : Bytes) : Type 0 where
+-- one text is that of a log which refutes the formula; the other is that of this log, trimmed, which refutes
+-- the formula too
+pub record IsTrimmedText (f : Formula) (untrimmed text : Bytes) : Type 0 where
   pub log : List LogItem
-  pub refuted : IsRefutation exact approx metric maximum texts log
+  pub refuted : IsRefutation f untrimmed log
   pub short : List LogItem
   pub trimmed : IsTrimmed log short
-  pub refutes : Refutes (miter exact approx metric maximum).clauses short
+  pub refutes : Refutes f.clauses short
   pub is : text ≡ lrat_text short
 
--- the texts of the bundle are a certificate, and the text is that of its log, trimmed
+-- the texts of the bundle are a certificate, and the text is that of the log of `.lrat`, trimmed, which refutes the
+-- miter at the maximum too
 pub record IsTrimmedBundle (claim : Claim) (exact : NetValue) (text : Bytes)
     (texts : Texts) : Type 0 where
   pub certificate : CertifiesWith claim exact texts
   pub trimmed : OfBoth claim.metric claim.bound exact texts
-      (λ M r. IsTrimmedText exact M claim.metric r.maximum texts text)
+      (λ M r. IsTrimmedText (miter exact M claim.metric r.maximum) (texts file.Log) text)
 
 -- done: the certificate stands, and its trimmed log was written
 pub record Trimmed (claim : Claim) (input stem output : Bytes) (call : Call) : Type 0 where

@@ -89,7 +89,7 @@ module _ (metric : Metric) (E N : NetValue) (vectors : List (List Bool)) (q : �
           | inr less ↦ less
         ]
 
-    pub first_in_block : (p : ℕ) → IsFirstSet over left p → IsFirstOver metric E N level vectors (512 * q + p)
+    pub first_in_block : (p : ℕ) → IsFirstSet over left p → IsFirstOver (net_error metric E N) level vectors (512 * q + p)
     first_in_block p first =
         let low : p < 512 = omega (arith, first.within, left_is) in
         record {

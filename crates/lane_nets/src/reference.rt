@@ -1,7 +1,7 @@
 //! The right outputs at a set of patterns, made once and held for many approximate nets.
 ghost use Rattle.std.specs.Prelude.{◌≡◌, ◌<◌, length, IfOk};
 ghost use Rattle.semantics.specs.Net.{input_count};
-ghost use Rattle.semantics.specs.Error.{IsCandidate};
+ghost use Rattle.semantics.specs.Error.{net_error, IsCandidate};
 ghost use Rattle.lane_nets.specs.Errors.{FindsFirstOver, IsFirstGreatest};
 
 use crate::changes::changes;
@@ -80,7 +80,7 @@ impl<'a> Reference<'a> {
         level: u128,
     ) -> Result<Option<u64>, AllocError>
         requires { IsCandidate self.now.exact approx.now }
-        ensures { IfOk result (FindsFirstOver metric self.now.exact approx.now level
+        ensures { IfOk result (FindsFirstOver (net_error metric self.now.exact approx.now) level
             self.now.patterns.vectors) }
     {
         let mut wide = WideOutputs::new(alloc, approx, &self.patterns, &self.changes)?;
@@ -107,7 +107,7 @@ impl<'a> Reference<'a> {
         requires candidate { IsCandidate self.now.exact approx.now }
         requires some { 0 < length self.now.patterns.vectors }
         ensures { IfOk result
-            (λ g. IsFirstGreatest metric self.now.exact approx.now self.now.patterns.vectors g.error g.at) }
+            (λ g. IsFirstGreatest (net_error metric self.now.exact approx.now) self.now.patterns.vectors g.error g.at) }
     {
         let mut wide = WideOutputs::new(alloc, approx, &self.patterns, &self.changes)?;
         let mut room = relative_room(alloc, metric, self.exact.outputs())?;

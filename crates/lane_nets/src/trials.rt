@@ -1,7 +1,7 @@
 //! The first of some input vectors whose error exceeds a level, and the one with the greatest error.
 ghost use Rattle.std.specs.Prelude.{◌≡◌, ◌↔◌, ◌+◌, ◌*◌, ◌/◌, ◌%◌, ◌<◌, ◌≤◌, ◌^◌, ℕ, false, length};
 ghost use Rattle.std.specs.Prelude.{IsTrue};
-ghost use Rattle.semantics.specs.Error.{error_of, IsCandidate};
+ghost use Rattle.semantics.specs.Error.{error_of, net_error, IsCandidate};
 ghost use Rattle.lane_bits.specs.Rows.{row_bit};
 ghost use Rattle.lane_nets.specs.Lanes.{lane_at};
 ghost use Rattle.lane_nets.specs.Wide.{lane_words, AreWideOutputsOf};
@@ -62,7 +62,7 @@ pub(crate) fn first_over(
     requires patterns { wide.old.patterns ≡ patterns.now }
     requires outputs { AreWideOutputsOf nets.now.exact patterns.now.vectors outputs.now }
     requires wide { wide.old.net ≡ nets.now.approx }
-    ensures { FindsFirstOver metric nets.now.exact nets.now.approx level patterns.now.vectors result }
+    ensures { FindsFirstOver (net_error metric nets.now.exact nets.now.approx) level patterns.now.vectors result }
 {
     let count = patterns.count();
     for q in 0..outputs.len() {
@@ -169,7 +169,7 @@ pub(crate) fn greatest_error(
     requires some { 0 < length patterns.now.vectors }
     requires outputs { AreWideOutputsOf nets.now.exact patterns.now.vectors outputs.now }
     requires wide { wide.old.net ≡ nets.now.approx }
-    ensures { IsFirstGreatest metric nets.now.exact nets.now.approx patterns.now.vectors result.error
+    ensures { IsFirstGreatest (net_error metric nets.now.exact nets.now.approx) patterns.now.vectors result.error
         result.at }
 {
     let count = patterns.count();

@@ -13,7 +13,7 @@ use Rattle.lane_nets.specs.Lanes.{ReferenceValue}
 use Rattle.worst_case.specs.VectorsTried.{IsFirstGreatestIn, IsEveryVectorHeld}
 
 -- the vector at the place that was found
-pub IsFirstGreatestIn-at : (metric : Metric) (N M : NetValue) (vectors : List (List Bool)) (most at : ℕ) (x : List Bool) → IsFirstGreatest metric N M vectors most at
+pub IsFirstGreatestIn-at : (metric : Metric) (N M : NetValue) (vectors : List (List Bool)) (most at : ℕ) (x : List Bool) → IsFirstGreatest (net_error metric N M) vectors most at
     → x ≡ slice_index_or vectors at [] → IsFirstGreatestIn (net_error metric N M) vectors most x
 IsFirstGreatestIn-at metric N M vectors most at x h is = record {
   at = at;

@@ -19,7 +19,7 @@ place : (n : ℕ) (vectors : List (List Bool)) → vectors ≡ all_vectors n →
 place n vectors all j below = ap (λ v. slice_index_or v j []) all ∙ get_or_from_slice_get (all_vectors n) j (bits_of n j) [] (slice_get-all_vectors n j below)
 
 module _ (aim : Constraint) (N M : NetValue) (vectors : List (List Bool)) where
-  pub IsFirstExceeded-at : (at : ℕ) (x : List Bool) → IsFirstOver aim.metric N M aim.bound vectors at → x ≡ slice_index_or vectors at [] → length x ≡ input_count N
+  pub IsFirstExceeded-at : (at : ℕ) (x : List Bool) → IsFirstOver (net_error aim.metric N M) aim.bound vectors at → x ≡ slice_index_or vectors at [] → length x ≡ input_count N
       → IsFirstExceeded aim N M vectors x
   IsFirstExceeded-at at x h is wide =
       let n : ℕ = input_count N in
@@ -43,10 +43,10 @@ module _ (aim : Constraint) (N M : NetValue) (vectors : List (List Bool)) where
 
 -- what was found of the vectors that are held
 pub found_held : (metric : Metric) (N M A : NetValue) (k : ℕ) (r : ReferenceValue) (found : Option ℕ) → r.exact ≡ N → A ≡ M
-    → FindsFirstOver metric r.exact A k r.patterns.vectors found → FindsFirstOver metric N M k r.patterns.vectors found
+    → FindsFirstOver (net_error metric r.exact A) k r.patterns.vectors found → FindsFirstOver (net_error metric N M) k r.patterns.vectors found
 found_held metric N M A k r found exact same h =
-    subst (λ (B : NetValue). FindsFirstOver metric N B k r.patterns.vectors found) same
-    (subst (λ (E : NetValue). FindsFirstOver metric E A k r.patterns.vectors found) exact h)
+    subst (λ (B : NetValue). FindsFirstOver (net_error metric N B) k r.patterns.vectors found) same
+    (subst (λ (E : NetValue). FindsFirstOver (net_error metric E A) k r.patterns.vectors found) exact h)
 
 -- the right outputs at the vectors that are tried
 pub held_for : (N : NetValue) (n : ℕ) (s : PatternSet) (r : ReferenceValue) → n ≡ input_count N → IsTrial n s → r ≡ record { exact = N; patterns = s } → IsHeldFor N r
