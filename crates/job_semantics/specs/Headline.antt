@@ -43,7 +43,8 @@ pub record KeepsItsPromise (metric : Metric) (bound : ℕ) (exact : NetValue) (t
 -- verified, where each of the five has fewer than 2^40 bytes, unless memory is wanting. Its circuit has the
 -- original's inputs and outputs by their names, and is the end of the chain of simplifications: no single
 -- move of it keeps the bound.
-pub record AdmitsNoMore (aim : Constraint) (input stem : Bytes) (exact : NetValue) (held : Held) : Type 0 where
+pub record AdmitsNoMore (aim : Constraint) (input stem : Bytes) (exact : NetValue)
+    (held : Held) : Type 0 where
   pub certificate : Certifies aim.metric aim.bound exact (texts_of held stem)
   pub verifies : Verifies aim.metric aim.bound input stem held
   pub approx : NetValue

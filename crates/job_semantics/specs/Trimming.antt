@@ -29,8 +29,8 @@ pub record IsTrimmedText (f : Formula) (untrimmed text : Bytes) : Type 0 where
   pub refutes : Refutes f.clauses short
   pub is : text ≡ lrat_text short
 
--- the texts of the bundle are a certificate, and the text is that of the log of `.lrat`, trimmed, which refutes the
--- miter at the maximum too
+-- the texts of the bundle are a certificate, and the text is that of the log of `.lrat`, trimmed, which
+-- refutes the miter at the maximum too
 pub record IsTrimmedBundle (claim : Claim) (exact : NetValue) (text : Bytes)
     (texts : Texts) : Type 0 where
   pub certificate : CertifiesWith claim exact texts

@@ -23,7 +23,8 @@ pub record IsFirstGreatestOf (f : ℕ → ℕ) (count most p : ℕ) : Type 0 whe
 
 -- no pattern's error is greater than `most`, and p is the first pattern that has it
 abbrev pub IsFirstGreatest : (List Bool → ℕ) → List (List Bool) → ℕ → ℕ → Type 0
-IsFirstGreatest error vectors most p = IsFirstGreatestOf (λ q. error (vector_at vectors q)) (length vectors) most p
+IsFirstGreatest error vectors most p =
+    IsFirstGreatestOf (λ q. error (vector_at vectors q)) (length vectors) most p
 
 -- `at` is the first of the places below the bound that has the greatest value, `most`; or `most` is 0
 pub record IsGreatestSoFar (f : ℕ → ℕ) (bound at most : ℕ) : Type 0 where

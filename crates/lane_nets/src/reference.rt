@@ -107,7 +107,8 @@ impl<'a> Reference<'a> {
         requires candidate { IsCandidate self.now.exact approx.now }
         requires some { 0 < length self.now.patterns.vectors }
         ensures { IfOk result
-            (λ g. IsFirstGreatest (net_error metric self.now.exact approx.now) self.now.patterns.vectors g.error g.at) }
+            (λ g. IsFirstGreatest (net_error metric self.now.exact approx.now) self.now.patterns.vectors
+            g.error g.at) }
     {
         let mut wide = WideOutputs::new(alloc, approx, &self.patterns, &self.changes)?;
         let mut room = relative_room(alloc, metric, self.exact.outputs())?;

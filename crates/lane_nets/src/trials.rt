@@ -62,7 +62,8 @@ pub(crate) fn first_over(
     requires patterns { wide.old.patterns ≡ patterns.now }
     requires outputs { AreWideOutputsOf nets.now.exact patterns.now.vectors outputs.now }
     requires wide { wide.old.net ≡ nets.now.approx }
-    ensures { FindsFirstOver (net_error metric nets.now.exact nets.now.approx) level patterns.now.vectors result }
+    ensures { FindsFirstOver (net_error metric nets.now.exact nets.now.approx) level patterns.now.vectors
+        result }
 {
     let count = patterns.count();
     for q in 0..outputs.len() {
@@ -169,8 +170,8 @@ pub(crate) fn greatest_error(
     requires some { 0 < length patterns.now.vectors }
     requires outputs { AreWideOutputsOf nets.now.exact patterns.now.vectors outputs.now }
     requires wide { wide.old.net ≡ nets.now.approx }
-    ensures { IsFirstGreatest (net_error metric nets.now.exact nets.now.approx) patterns.now.vectors result.error
-        result.at }
+    ensures { IsFirstGreatest (net_error metric nets.now.exact nets.now.approx) patterns.now.vectors
+        result.error result.at }
 {
     let count = patterns.count();
     let mut greatest = Greatest { error: 0, at: 0 };
