@@ -17,7 +17,7 @@ pub const QUESTION_STEPS: u64 = 2_000_000;
 pub const MOST_OPEN_QUESTIONS: u32 = 3;
 
 /// The steps of a question that the solver left open: as many as the nodes allow.
-pub const LAST_STEPS: u64 = 40_000_000;
+pub const LAST_QUESTION_STEPS: u64 = 40_000_000;
 
 /// Diagrams are begun anew where there are more nodes than `GROWTH` times those of the exact net and
 /// `SPARE_NODES` more, since most nodes are then of nets that are no longer asked about.

@@ -33,7 +33,7 @@ use Rattle.cdcl_core.specs.Answers.{IsModel, IsRefutation}
 use Rattle.cdcl_core.specs.Refuted.{IsRefuted}
 use Rattle.cdcl_core.specs.Analysed.{IsAnalysed}
 use Rattle.cdcl_core.specs.declared.analysis.Learned.{Learned}
-use Rattle.cdcl_core.specs.declared.search.Search.{Search}
+use Rattle.cdcl_core.specs.declared.search.SolverState.{SolverState}
 use Rattle.cdcl_core.proofs.NewClauses.{not_both}
 use Rattle.cdcl_core.proofs.Jumping.{running_decided, running_extended, running_closed}
 
@@ -81,7 +81,7 @@ running-empty clauses variables = record {
   settled = λ k d within. absurd (omega arith);
 }
 
-pub search_started : (f : Formula) (merged : List LogItem) (s : Search) → AreClausesOf f.variables f.clauses → f.variables < 2 ^ 31 → IsDerivation f merged
+pub search_started : (f : Formula) (merged : List LogItem) (s : SolverState) → AreClausesOf f.variables f.clauses → f.variables < 2 ^ 31 → IsDerivation f merged
     → s.clauses.list ≡ clauses_with f.clauses merged → s.trail ≡ record { variables = f.variables; literals = []; reasons = []; starts = [] } → s.order ≡ f.variables → s.log.items ≡ merged
     → IsSearch f merged 0 s
 search_started f merged s literals small h clauses trail order log = record {
@@ -116,7 +116,7 @@ begins_longer : (merged log : List LogItem) (s : StepValue) (n : ℕ) → length
     → take (length merged) (log ++ Add s ∷ []) ≡ merged
 begins_longer merged log s n count h = take-append-le (length merged) log (Add s ∷ []) (omega arith) ∙ h
 
-pub search_learned : (f : Formula) (merged : List LogItem) (k : ℕ) (old new : Search) → IsSearch f merged k old → IsSearching new.clauses.list new.trail new.order
+pub search_learned : (f : Formula) (merged : List LogItem) (k : ℕ) (old new : SolverState) → IsSearch f merged k old → IsSearching new.clauses.list new.trail new.order
     → new.trail.variables ≡ old.trail.variables → HasLearned old new → IsSearch f merged (k + 1) new
 search_learned f merged k old new h searching variables learned =
     let s : StepValue = learned.step in
@@ -133,7 +133,7 @@ search_learned f merged k old new h searching variables learned =
           (conflict_law.next f (length merged) k old.log.items s h.chain next (rw h.clauses at new_clause));
     }
 
-pub search_ended : (f : Formula) (merged : List LogItem) (limit k : ℕ) (s : Search) (after : List LogItem) → IsSearch f merged k s → k < limit → HasEnded s.clauses.list s.log.items after
+pub search_ended : (f : Formula) (merged : List LogItem) (limit k : ℕ) (s : SolverState) (after : List LogItem) → IsSearch f merged k s → k < limit → HasEnded s.clauses.list s.log.items after
     → IsRefutation f merged after limit
 search_ended f merged limit k s after h low ended =
     let step : StepValue = ended.step in
@@ -164,7 +164,7 @@ searching_learned clauses more t u order after start r h same a running added va
 pub step_of : (s : StepValue) (id n : ℕ) (C D : Clause) (hints : List ℕ) → s ≡ record { id = id; literals = C; hints = hints } → id ≡ n → C ≡ D → s ≡ record { id = n; literals = D; hints = hints }
 step_of s id n C D hints is same_id same = cc
 
-pub has_learned : (old new : Search) (start : ℕ) (r : Learned) (s : StepValue) → IsAnalysed old.clauses.list old.trail start r
+pub has_learned : (old new : SolverState) (start : ℕ) (r : Learned) (s : StepValue) → IsAnalysed old.clauses.list old.trail start r
     → s ≡ record { id = length old.clauses.list + 1; literals = r.clause.items; hints = reverse r.hints.items } → length old.clauses.list < 2 ^ 59
     → new.log.items ≡ old.log.items ++ Add s ∷ [] → new.clauses.list ≡ old.clauses.list ++ r.clause.items ∷ [] → HasLearned old new
 has_learned old new start r s a is few logged added = record {
@@ -190,7 +190,7 @@ has_ended clauses before after hints s r is few logged = record {
 }
 
 -- a search whose trail went on
-pub search_found : (f : Formula) (merged : List LogItem) (k : ℕ) (s : Search) (t : TrailValue) (w : WatchesValue) (order : ℕ) → IsSearch f merged k s → IsSearching s.clauses.list t order
+pub search_found : (f : Formula) (merged : List LogItem) (k : ℕ) (s : SolverState) (t : TrailValue) (w : WatchesValue) (order : ℕ) → IsSearch f merged k s → IsSearching s.clauses.list t order
     → order ≡ s.order
     → IsSearch f merged k (record s { trail = t; watches = w; order = order })
 search_found f merged k s t w order h searching same = record {
@@ -201,10 +201,10 @@ search_found f merged k s t w order h searching same = record {
   chain = h.chain;
 }
 
-pub moved_none : (s : Search) → IsSearching s.clauses.list s.trail s.order → HasMoved s s
+pub moved_none : (s : SolverState) → IsSearching s.clauses.list s.trail s.order → HasMoved s s
 moved_none s h = record { searching = h; variables = refl; clauses = refl; log = refl }
 
-pub moved_again : (a b c : Search) → HasMoved a b → HasMoved b c → HasMoved a c
+pub moved_again : (a b c : SolverState) → HasMoved a b → HasMoved b c → HasMoved a c
 moved_again a b c one two = record {
   searching = two.searching;
   variables = two.variables ∙ one.variables;
@@ -212,7 +212,7 @@ moved_again a b c one two = record {
   log = two.log ∙ one.log;
 }
 
-pub moved_found : (s : Search) (t : TrailValue) (w : WatchesValue) (order : ℕ) → IsSearching s.clauses.list s.trail s.order → IsSearching s.clauses.list t order → order ≡ s.order
+pub moved_found : (s : SolverState) (t : TrailValue) (w : WatchesValue) (order : ℕ) → IsSearching s.clauses.list s.trail s.order → IsSearching s.clauses.list t order → order ≡ s.order
     → HasMoved s (record s { trail = t; watches = w; order = order })
 moved_found s t w order h searching same = record {
   searching = searching;
@@ -222,7 +222,7 @@ moved_found s t w order h searching same = record {
 }
 
 -- a search whose trail went on or back
-pub search_moved : (f : Formula) (merged : List LogItem) (k : ℕ) (old new : Search) → IsSearch f merged k old → HasMoved old new → IsSearch f merged k new
+pub search_moved : (f : Formula) (merged : List LogItem) (k : ℕ) (old new : SolverState) → IsSearch f merged k old → HasMoved old new → IsSearch f merged k new
 search_moved f merged k old new h m = record {
   searching = m.searching;
   variables = m.variables ∙ h.variables;
@@ -297,7 +297,7 @@ clause_true t bits C c full v ok (inl h) =
     let here : literal_value a h.literal ≡ true = literal_true t bits h.literal c v (All-contains (IsLiteralOf t.variables) C h.literal ok h.inside) h.holds in
     list_any_at (literal_value a) C inside.0 h.literal inside.1 (subst (λ l. literal_value a l ≡ true) (sym inside.2) here)
 
-pub search_modelled : (f : Formula) (merged : List LogItem) (k : ℕ) (s : Search) (bits : List Bool) → IsSearch f merged k s → IsConsistent s.trail.literals → IsModelTrail s.clauses.list s.trail
+pub search_modelled : (f : Formula) (merged : List LogItem) (k : ℕ) (s : SolverState) (bits : List Bool) → IsSearch f merged k s → IsConsistent s.trail.literals → IsModelTrail s.clauses.list s.trail
     → AreValues s.trail bits → IsModel f bits
 search_modelled f merged k s bits h c m v =
     let t : TrailValue = s.trail in

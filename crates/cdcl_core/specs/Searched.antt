@@ -14,7 +14,7 @@ use Rattle.cdcl_core.specs.Watches.{WatchesValue}
 use Rattle.cdcl_core.specs.Watching.{IsWatching, IsWatchedBelow}
 use Rattle.cdcl_core.specs.Jump.{IsRunning}
 use Rattle.cdcl_core.specs.Decided.{IsFull}
-use Rattle.cdcl_core.specs.declared.search.Search.{Search}
+use Rattle.cdcl_core.specs.declared.search.SolverState.{SolverState}
 
 -- the clauses and the trail are over the same variables, and the order has these variables
 pub record IsSearching (clauses : List Clause) (t : TrailValue) (order : ℕ) : Type 0 where
@@ -29,7 +29,7 @@ pub record IsModelTrail (clauses : List Clause) (t : TrailValue) : Type 0 where
   pub settled : IsSettled (Holds t.literals) clauses
 
 -- the trail grew or went back, and nothing was learned
-pub record HasMoved (old new : Search) : Type 0 where
+pub record HasMoved (old new : SolverState) : Type 0 where
   pub searching : IsSearching new.clauses.list new.trail new.order
   pub variables : new.trail.variables ≡ old.trail.variables
   pub clauses : new.clauses.list ≡ old.clauses.list
@@ -45,7 +45,7 @@ abbrev pub Begins : List LogItem → List LogItem → Type 0
 Begins merged log = take (length merged) log ≡ merged
 
 -- the search over a formula after `conflicts` conflicts
-pub record IsSearch (f : Formula) (merged : List LogItem) (conflicts : ℕ) (s : Search) : Type 0 where
+pub record IsSearch (f : Formula) (merged : List LogItem) (conflicts : ℕ) (s : SolverState) : Type 0 where
   pub searching : IsSearching s.clauses.list s.trail s.order
   pub variables : s.trail.variables ≡ f.variables
   pub clauses : s.clauses.list ≡ clauses_with f.clauses s.log.items
@@ -62,7 +62,7 @@ pub record HasEnded (clauses : List Clause) (before after : List LogItem) : Type
   pub derives : Derives (held_of clauses) step
 
 -- a clause that is new and derives was logged and added
-pub record HasLearned (old new : Search) : Type 0 where
+pub record HasLearned (old new : SolverState) : Type 0 where
   pub step : StepValue
   pub logged : new.log.items ≡ old.log.items ++ Add step ∷ []
   pub added : new.clauses.list ≡ old.clauses.list ++ step.literals ∷ []
@@ -73,7 +73,7 @@ pub record HasLearned (old new : Search) : Type 0 where
   pub is_new : IsNew old.clauses.list step.literals
 
 -- only memory, the marks of the analysis, and the order may differ
-pub record IsUnchanged (old new : Search) : Type 0 where
+pub record IsUnchanged (old new : SolverState) : Type 0 where
   pub clauses : new.clauses.list ≡ old.clauses.list
   pub trail : new.trail ≡ old.trail
   pub watches : new.watches ≡ old.watches

@@ -16,7 +16,7 @@ use crate::clause::is_binary;
 use crate::clause_list::ClauseList;
 use crate::decision_order::Order;
 use crate::literal::Literal;
-use crate::search::Search;
+use crate::search::SolverState;
 use crate::trail::Trail;
 use crate::watches::Watches;
 use std::alloc::AllocError;
@@ -139,7 +139,7 @@ pub fn jump(
 }
 
 /// Closes every level, if `due`: the search goes back to its start.
-pub fn close_levels(search: &mut Search, due: bool)
+pub fn close_levels(search: &mut SolverState, due: bool)
     requires searching { IsSearching search.old.clauses.list search.old.trail search.old.order }
     requires watching { IsWatching search.old.clauses.list search.old.trail search.old.watches }
     ensures moved { HasMoved search.old search.new }

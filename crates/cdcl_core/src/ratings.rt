@@ -27,7 +27,7 @@ const SOME_LEVELS: u32 = 6;
 const LATELY: u32 = 2;
 
 /// How many of the last steps that the caller derived count as the last round.
-const LAST_STEPS: usize = 2_000;
+const LAST_LOGGED: usize = 2_000;
 
 /// One in this number of the clauses that were not used lately stays.
 const ONE_IN: usize = 4;
@@ -210,7 +210,7 @@ pub fn first_kept(
     requires count { count ≤ length derived.now }
 {
     let first = cnf.clauses().len();
-    let from = count.saturating_sub(LAST_STEPS);
+    let from = count.saturating_sub(LAST_LOGGED);
     let items = derived.as_slice();
     let used = used_in(alloc, first.saturating_add(count), &items[from..count])?;
     let mut clauses = Vec::new(alloc);

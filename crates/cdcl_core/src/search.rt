@@ -31,7 +31,7 @@ use std::alloc::{AllocError, Global};
 /// The clauses that are held, the literals that are true, the watches, the order of the variables, the log of
 /// what was derived, room for the marks of an analysis and for what they imply, and what was learned last.
 #[derive(Drop)]
-pub struct Search {
+pub struct SolverState {
     pub clauses: ClauseList,
     pub trail: Trail,
     pub watches: Watches,
@@ -53,7 +53,7 @@ fn all_clauses(alloc: Global, cnf: &Cnf, log: &Log) -> Result<ClauseList, AllocE
 }
 
 /// The search at its start: no variable has a value, and the log is `merged`.
-pub fn start(alloc: Global, cnf: &Cnf, merged: &Log, order: Order) -> Result<Search, AllocError>
+pub fn start(alloc: Global, cnf: &Cnf, merged: &Log, order: Order) -> Result<SolverState, AllocError>
     requires merged { IsDerivation cnf.now merged.now }
     requires order { order ≡ cnf.now.variables }
     ensures search { IfOk result (IsSearch cnf.now merged.now 0) }
@@ -68,7 +68,7 @@ pub fn start(alloc: Global, cnf: &Cnf, merged: &Log, order: Order) -> Result<Sea
     let marks = Marks::new(alloc);
     let implied = Implied::new(alloc);
     let learned = Learned::none(alloc);
-    Ok(Search {
+    Ok(SolverState {
         clauses,
         trail,
         watches,

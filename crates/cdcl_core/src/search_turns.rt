@@ -15,7 +15,7 @@ use crate::jump::close_levels;
 use crate::learning::{learn_from, log_refutation};
 use crate::pace::Pace;
 use crate::propagation::propagate;
-use crate::search::{Search, next_conflict};
+use crate::search::{SolverState, next_conflict};
 use crate::sweep::Sweep;
 use crate::trail::Trail;
 use crate::watches::Watches;
@@ -61,7 +61,7 @@ fn step_conflict(
 
 /// Goes on with the sweep until a clause is false, or the sweep is over.
 fn swept_conflict(
-    search: &mut Search,
+    search: &mut SolverState,
     sweep: &mut Sweep,
     guide: &Guide,
 ) -> Result<Option<usize>, AllocError>
@@ -95,7 +95,7 @@ fn swept_conflict(
 /// The next clause that is false, or None where each variable has a value. The least open variable up to
 /// `inputs` is decided first.
 fn find_conflict(
-    search: &mut Search,
+    search: &mut SolverState,
     sweep: &mut Sweep,
     guide: &Guide,
     inputs: u32,
@@ -142,7 +142,7 @@ fn is_back_due(
 
 /// Does what follows a conflict of which a clause of `levels` levels was learned.
 fn follow(
-    search: &mut Search,
+    search: &mut SolverState,
     sweep: &mut Sweep,
     pace: &mut Pace,
     guide: &Guide,
@@ -161,7 +161,7 @@ fn follow(
 /// Searches for the next conflict, and learns a clause from it.
 pub fn take_turn(
     alloc: Global,
-    search: &mut Search,
+    search: &mut SolverState,
     sweep: &mut Sweep,
     pace: &mut Pace,
     guide: &Guide,

@@ -22,7 +22,7 @@ use crate::jump::reopen;
 use crate::learning::log_refutation;
 use crate::literal::Literal;
 use crate::pace::Pace;
-use crate::search::{Search, start};
+use crate::search::{SolverState, start};
 use crate::search_turns::{Turn, take_turn};
 use crate::sweep::Sweep;
 use crate::trail::Trail;
@@ -50,7 +50,7 @@ fn values(alloc: Global, trail: &Trail) -> Result<Bits, AllocError>
 /// Takes turns until the formula is decided, or until `limit` clauses were learned.
 fn take_turns<P: Progress>(
     alloc: Global,
-    search: &mut Search,
+    search: &mut SolverState,
     sweep: &mut Sweep,
     pace: &mut Pace,
     guide: &Guide,
@@ -76,7 +76,7 @@ fn take_turns<P: Progress>(
 /// Watches the clauses, and searches.
 fn search_from<P: Progress>(
     alloc: Global,
-    search: &mut Search,
+    search: &mut SolverState,
     pace: &mut Pace,
     guide: &Guide,
     limit: u64,
@@ -107,7 +107,7 @@ struct Ended {
 }
 
 /// What the search has shown.
-fn answer(alloc: Global, search: Search, end: Turn) -> Result<Ended, AllocError>
+fn answer(alloc: Global, search: SolverState, end: Turn) -> Result<Ended, AllocError>
     requires { search.trail.variables < 2 ^ 31 }
     ensures { IfOk result (λ ended. (f : Formula) (merged : List LogItem) (limit : ℕ)
         → IsEnd f merged limit search end
@@ -134,7 +134,7 @@ fn answer(alloc: Global, search: Search, end: Turn) -> Result<Ended, AllocError>
 /// Searches from the start to the end.
 fn search_whole<P: Progress>(
     alloc: Global,
-    search: Search,
+    search: SolverState,
     pace: &mut Pace,
     guide: &Guide,
     limit: u64,

@@ -13,9 +13,9 @@ use worst_case::judge::Judge;
 use worst_case::maximum::maximum;
 
 /// The search along the chain, and the searches by queries.
-pub struct Chain;
+pub struct ChainSearch;
 
-impl Search for Chain {
+impl Search for ChainSearch {
     fn within<P: Progress>(
         alloc: Global,
         nets: &Compared,

@@ -19,7 +19,7 @@ ghost use Rattle.synth_jobs.specs.Calls.{told_call};
 ghost use Rattle.job_runs.specs.Outcome.{answered_by};
 ghost use Rattle.job_runs.specs.Run.{RunSays, IsQuietJob, EndsAsAsked, IsAnswerTo, IsWorkOf};
 
-use chain_search::chain::Chain;
+use chain_search::chain::ChainSearch;
 use file_core::files::Files;
 use file_core::sink::Sink;
 use file_core::sure_files::SureFiles;
@@ -97,7 +97,7 @@ pub fn run_followed<F: Files, K: Sink, P: Progress>(
         → IsQuietJob job (told_call (F.told files.old) (F.told files.new) (K.told say.old) (K.told say.new))
         → EndsAsAsked job (F.told files.old) result }
 {
-    job_runs::run::run_followed::<Chain, F, K, P>(alloc, words, files, say, progress)
+    job_runs::run::run_followed::<ChainSearch, F, K, P>(alloc, words, files, say, progress)
 }
 
 /// Carries out the job that the words name over files and a sink that never fail: no fault is answered, and
@@ -141,5 +141,5 @@ pub fn run_surely(
     ensures complete { (job : Job) → job_of words.now ≡ Some job
         → EndsAsAsked job (sure_told files.old) result }
 {
-    job_runs::run::run_surely::<Chain>(alloc, words, files, say)
+    job_runs::run::run_surely::<ChainSearch>(alloc, words, files, say)
 }

@@ -10,11 +10,11 @@ use Rattle.lane_bits.proofs.Bits.{and_bit}
 use Rattle.aig_core.specs.declared.gate.Gate.{Gate}
 use Rattle.aig_core.specs.Graph.{GraphValue, no_gate, gate_at, input_node, gate_node, node_count, IsGraph, literal_value, value_of}
 use Rattle.aig_core.proofs.Rounds.{value_law, literal_same}
-use Rattle.lane_nets.specs.declared.schedule.Step.{Step}
+use Rattle.lane_nets.specs.declared.schedule.Entry.{Entry}
 use Rattle.lane_nets.specs.Words.{word_bit, values_at}
 use Rattle.lane_nets.specs.Wide.{lane_words}
-use Rattle.lane_nets.specs.Schedules.{no_step, step_at, step_of, ReadsOther, ReadsBelow, AreStepsOf, AreFirstReads, IsDone, IsSameNode, IsSettled}
-use Rattle.lane_nets.specs.Schedules.{node_key, AreClasses, class_bound, AreStepsBelow}
+use Rattle.lane_nets.specs.Schedules.{no_entry, entry_at, entry_of, ReadsOther, ReadsBelow, AreEntriesOf, AreFirstReads, IsDone, IsSameNode, IsSettled}
+use Rattle.lane_nets.specs.Schedules.{node_key, AreClasses, class_bound, AreEntriesBelow}
 use Rattle.lane_nets.proofs.WideWords.{lane_words_get}
 use Rattle.lane_nets.proofs.GraphWords.{value_set_same, value_set_other}
 
@@ -24,63 +24,63 @@ use Rattle.lane_nets.proofs.GraphWords.{value_set_same, value_set_other}
 pub xor_none : (a b : ℕ) → bit_xor a b ≡ 0 → b ≡ a
 xor_none a b none = same_from_bits b a (λ i. omega (arith, bit_at_xor a b i, ap (λ n. bit_at n i) none, bit_at-zero i, bit_at-lt a i, bit_at-lt b i))
 
--- ---- steps are done
+-- ---- order are done
 
 pub same_joined : (start old new : List (List ℕ)) (n : ℕ) → IsSameNode start old n → IsSameNode old new n → IsSameNode start new n
 same_joined start old new n first second j b lane low = second j b lane low ∙ first j b lane low
 
--- a step stays done where its node and what it reads stay
-pub done_stays : (old new : List (List ℕ)) (step : Step) → IsSameNode old new step.node → IsSameNode old new (step.left / 2) → IsSameNode old new (step.right / 2) → IsDone old step
-    → IsDone new step
-done_stays old new step node left right done j b lane low =
+-- a entry stays done where its node and what it reads stay
+pub done_stays : (old new : List (List ℕ)) (entry : Entry) → IsSameNode old new entry.node → IsSameNode old new (entry.left / 2) → IsSameNode old new (entry.right / 2) → IsDone old entry
+    → IsDone new entry
+done_stays old new entry node left right done j b lane low =
     node j b lane low
     ∙ done j b lane low
-    ∙ (λ t. sym (literal_same (values_at (lane_words new j) b) (values_at (lane_words old j) b) step.left (left j b lane low)) t
-    && sym (literal_same (values_at (lane_words new j) b) (values_at (lane_words old j) b) step.right (right j b lane low)) t)
+    ∙ (λ t. sym (literal_same (values_at (lane_words new j) b) (values_at (lane_words old j) b) entry.left (left j b lane low)) t
+    && sym (literal_same (values_at (lane_words new j) b) (values_at (lane_words old j) b) entry.right (right j b lane low)) t)
 
-module _ (steps : List Step) (wides : List (List ℕ)) (i : ℕ) (step : Step) (left right wide : List ℕ) (within : i < length steps) (is : step ≡ step_at steps i) (room : step.node < length wides)
-    (once : (p q : ℕ) → p < q → q < length steps → (step_at steps p).node ≢ (step_at steps q).node)
-    (ordered : (p q : ℕ) → p ≤ q → q < length steps → ReadsOther (step_at steps q).node (step_at steps p)) where
-  other_node : (n : ℕ) → n ≢ step.node → IsSameNode wides (set wides step.node wide) n
-  other_node n other j b lane low = value_set_other wides step.node wide j b n other
+module _ (order : List Entry) (wides : List (List ℕ)) (i : ℕ) (entry : Entry) (left right wide : List ℕ) (within : i < length order) (is : entry ≡ entry_at order i) (room : entry.node < length wides)
+    (once : (p q : ℕ) → p < q → q < length order → (entry_at order p).node ≢ (entry_at order q).node)
+    (ordered : (p q : ℕ) → p ≤ q → q < length order → ReadsOther (entry_at order q).node (entry_at order p)) where
+  other_node : (n : ℕ) → n ≢ entry.node → IsSameNode wides (set wides entry.node wide) n
+  other_node n other j b lane low = value_set_other wides entry.node wide j b n other
 
-  reads_other : (p : ℕ) → p ≤ i → ReadsOther step.node (step_at steps p)
-  reads_other p before = subst (λ (s : Step). ReadsOther s.node (step_at steps p)) (sym is) (ordered p i before within)
+  reads_other : (p : ℕ) → p ≤ i → ReadsOther entry.node (entry_at order p)
+  reads_other p before = subst (λ (s : Entry). ReadsOther s.node (entry_at order p)) (sym is) (ordered p i before within)
 
-  own_other : ReadsOther step.node step
-  own_other = subst (λ (s : Step). ReadsOther step.node s) (sym is) (reads_other i (omega arith))
+  own_other : ReadsOther entry.node entry
+  own_other = subst (λ (s : Entry). ReadsOther entry.node s) (sym is) (reads_other i (omega arith))
 
   -- a literal of another node has the same values
-  same_literal : (l : ℕ) → l / 2 ≢ step.node → (j b : ℕ) → j < 8 → b < 64 → literal_value (values_at (lane_words wides j) b) l ≡ literal_value (values_at (lane_words (set wides step.node wide) j) b) l
-  same_literal l other j b lane low = sym (literal_same (values_at (lane_words (set wides step.node wide) j) b) (values_at (lane_words wides j) b) l (other_node (l / 2) other j b lane low))
+  same_literal : (l : ℕ) → l / 2 ≢ entry.node → (j b : ℕ) → j < 8 → b < 64 → literal_value (values_at (lane_words wides j) b) l ≡ literal_value (values_at (lane_words (set wides entry.node wide) j) b) l
+  same_literal l other j b lane low = sym (literal_same (values_at (lane_words (set wides entry.node wide) j) b) (values_at (lane_words wides j) b) l (other_node (l / 2) other j b lane low))
 
-  module _ (lefts : (j b : ℕ) → j < 8 → b < 64 → word_bit (get_or left j 0) b ≡ literal_value (values_at (lane_words wides j) b) step.left)
-      (rights : (j b : ℕ) → j < 8 → b < 64 → word_bit (get_or right j 0) b ≡ literal_value (values_at (lane_words wides j) b) step.right)
+  module _ (lefts : (j b : ℕ) → j < 8 → b < 64 → word_bit (get_or left j 0) b ≡ literal_value (values_at (lane_words wides j) b) entry.left)
+      (rights : (j b : ℕ) → j < 8 → b < 64 → word_bit (get_or right j 0) b ≡ literal_value (values_at (lane_words wides j) b) entry.right)
       (both : (j : ℕ) → j < 8 → get_or wide j 0 ≡ bit_and (get_or left j 0) (get_or right j 0)) where
-    step_done : IsDone (set wides step.node wide) step
-    step_done j b lane low =
-        value_set_same wides step.node wide j b room
+    entry_done : IsDone (set wides entry.node wide) entry
+    entry_done j b lane low =
+        value_set_same wides entry.node wide j b room
         ∙ ap (λ w. word_bit w b) (both j lane)
         ∙ and_bit (get_or left j 0) (get_or right j 0) b
-        ∙ (λ t. (lefts j b lane low ∙ same_literal step.left own_other.left j b lane low) t && (rights j b lane low ∙ same_literal step.right own_other.right j b lane low) t)
+        ∙ (λ t. (lefts j b lane low ∙ same_literal entry.left own_other.left j b lane low) t && (rights j b lane low ∙ same_literal entry.right own_other.right j b lane low) t)
 
-    pub steps_more : ((p : ℕ) → p < i → p < length steps → IsDone wides (step_at steps p)) → (p : ℕ) → p < i + 1 → p < length steps → IsDone (set wides step.node wide) (step_at steps p)
-    steps_more before p low inside =
+    pub order_more : ((p : ℕ) → p < i → p < length order → IsDone wides (entry_at order p)) → (p : ℕ) → p < i + 1 → p < length order → IsDone (set wides entry.node wide) (entry_at order p)
+    order_more before p low inside =
         elim (cases_eq p i) [
-          | inl e ↦ subst (λ k. IsDone (set wides step.node wide) (step_at steps k)) (sym e) (subst (IsDone (set wides step.node wide)) is step_done)
+          | inl e ↦ subst (λ k. IsDone (set wides entry.node wide) (entry_at order k)) (sym e) (subst (IsDone (set wides entry.node wide)) is entry_done)
           | inr other ↦
               let earlier : p < i = omega (arith, low, other) in
               let reads = reads_other p (omega (arith, earlier)) in
-              done_stays wides (set wides step.node wide) (step_at steps p)
-              (other_node (step_at steps p).node (subst (λ (s : Step). (step_at steps p).node ≢ s.node) (sym is) (once p i earlier within)))
-              (other_node ((step_at steps p).left / 2) reads.left) (other_node ((step_at steps p).right / 2) reads.right) (before p earlier inside)
+              done_stays wides (set wides entry.node wide) (entry_at order p)
+              (other_node (entry_at order p).node (subst (λ (s : Entry). (entry_at order p).node ≢ s.node) (sym is) (once p i earlier within)))
+              (other_node ((entry_at order p).left / 2) reads.left) (other_node ((entry_at order p).right / 2) reads.right) (before p earlier inside)
         ]
 
-  pub others_more : (start : List (List ℕ)) → ((n : ℕ) → ((p : ℕ) → p < length steps → (step_at steps p).node ≢ n) → IsSameNode start wides n) → (n : ℕ)
-      → ((p : ℕ) → p < length steps → (step_at steps p).node ≢ n) → IsSameNode start (set wides step.node wide) n
+  pub others_more : (start : List (List ℕ)) → ((n : ℕ) → ((p : ℕ) → p < length order → (entry_at order p).node ≢ n) → IsSameNode start wides n) → (n : ℕ)
+      → ((p : ℕ) → p < length order → (entry_at order p).node ≢ n) → IsSameNode start (set wides entry.node wide) n
   others_more start before n other =
-      same_joined start wides (set wides step.node wide) n (before n other)
-      (other_node n (λ e. other i within (ap (λ (s : Step). s.node) (sym is) ∙ sym e)))
+      same_joined start wides (set wides entry.node wide) n (before n other)
+      (other_node n (λ e. other i within (ap (λ (s : Entry). s.node) (sym is) ∙ sym e)))
 
 -- ---- inputs are changed
 
@@ -118,50 +118,50 @@ module _ (start wides : List (List ℕ)) (n : ℕ) (wide : List ℕ) (room : n <
 
 -- ---- a block
 
-module _ (g : GraphValue) (steps : List Step) (graph : IsGraph g) (are : AreStepsOf g steps) where
-  pub step_nodes : (p : ℕ) → p < length steps → (step_at steps p).node < node_count g
-  step_nodes p low =
+module _ (g : GraphValue) (order : List Entry) (graph : IsGraph g) (are : AreEntriesOf g order) where
+  pub entry_nodes : (p : ℕ) → p < length order → (entry_at order p).node < node_count g
+  entry_nodes p low =
       let gate = are.gates p low in
-      let node : (step_at steps p).node ≡ gate_node g gate.0 = ap (λ (s : Step). s.node) gate.2 in
+      let node : (entry_at order p).node ≡ gate_node g gate.0 = ap (λ (s : Entry). s.node) gate.2 in
       omega (arith, node, gate.1)
 
-  pub step_gates : (p n : ℕ) → p < length steps → n ≤ g.inputs → (step_at steps p).node ≢ n
-  step_gates p n low few =
+  pub entry_gates : (p n : ℕ) → p < length order → n ≤ g.inputs → (entry_at order p).node ≢ n
+  entry_gates p n low few =
       let gate = are.gates p low in
-      let node : (step_at steps p).node ≡ gate_node g gate.0 = ap (λ (s : Step). s.node) gate.2 in
+      let node : (entry_at order p).node ≡ gate_node g gate.0 = ap (λ (s : Entry). s.node) gate.2 in
       λ e. omega (arith, node, few, e)
 
-  pub step_reads : (count p : ℕ) → count ≡ node_count g → p < length steps → ReadsBelow count (step_at steps p)
-  step_reads count p is low =
+  pub entry_reads : (count p : ℕ) → count ≡ node_count g → p < length order → ReadsBelow count (entry_at order p)
+  entry_reads count p is low =
       let gate = are.gates p low in
-      let left : (step_at steps p).left ≡ (gate_at g gate.0).left = ap (λ (s : Step). s.left) gate.2 in
-      let right : (step_at steps p).right ≡ (gate_at g gate.0).right = ap (λ (s : Step). s.right) gate.2 in
+      let left : (entry_at order p).left ≡ (gate_at g gate.0).left = ap (λ (s : Entry). s.left) gate.2 in
+      let right : (entry_at order p).right ≡ (gate_at g gate.0).right = ap (λ (s : Entry). s.right) gate.2 in
       record {
         left = omega (arith, left, graph.apart gate.0 gate.1, graph.before gate.0 gate.1, gate.1, is);
         right = omega (arith, right, graph.before gate.0 gate.1, gate.1, is);
       }
 
-  -- what stands before the first step that reads a changed input is done still
-  pub done_before : (firsts : List ℕ) (old new : List (List ℕ)) (from : ℕ) → length firsts ≡ node_count g → AreFirstReads steps firsts → ((p : ℕ) → p < length steps → IsDone old (step_at steps p))
+  -- what stands before the first entry that reads a changed input is done still
+  pub done_before : (firsts : List ℕ) (old new : List (List ℕ)) (from : ℕ) → length firsts ≡ node_count g → AreFirstReads order firsts → ((p : ℕ) → p < length order → IsDone old (entry_at order p))
       → ((n : ℕ) → IsSameNode old new n ⊎ (from ≤ get_or firsts n 0)) → ((n : ℕ) → g.inputs < n → IsSameNode old new n)
-      → (p : ℕ) → p < from → p < length steps → IsDone new (step_at steps p)
+      → (p : ℕ) → p < from → p < length order → IsDone new (entry_at order p)
   done_before firsts old new from count first done changed gates p before low =
       let gate = are.gates p low in
-      let node : (step_at steps p).node ≡ gate_node g gate.0 = ap (λ (s : Step). s.node) gate.2 in
-      let reads = step_reads (node_count g) p refl low in
-      done_stays old new (step_at steps p) (gates (step_at steps p).node (omega (arith, node)))
-      (elim (changed ((step_at steps p).left / 2)) [
+      let node : (entry_at order p).node ≡ gate_node g gate.0 = ap (λ (s : Entry). s.node) gate.2 in
+      let reads = entry_reads (node_count g) p refl low in
+      done_stays old new (entry_at order p) (gates (entry_at order p).node (omega (arith, node)))
+      (elim (changed ((entry_at order p).left / 2)) [
         | inl same ↦ same
-        | inr late ↦ absurd ((first ((step_at steps p).left / 2) p (omega (arith, reads.left, count)) (omega (arith, before, late)) low).left refl)
+        | inr late ↦ absurd ((first ((entry_at order p).left / 2) p (omega (arith, reads.left, count)) (omega (arith, before, late)) low).left refl)
       ])
-      (elim (changed ((step_at steps p).right / 2)) [
+      (elim (changed ((entry_at order p).right / 2)) [
         | inl same ↦ same
-        | inr late ↦ absurd ((first ((step_at steps p).right / 2) p (omega (arith, reads.right, count)) (omega (arith, before, late)) low).right refl)
+        | inr late ↦ absurd ((first ((entry_at order p).right / 2) p (omega (arith, reads.right, count)) (omega (arith, before, late)) low).right refl)
       ])
       (done p low)
 
-  -- where all steps are done, the nodes have their values
-  pub settled_nodes : (wides : List (List ℕ)) (j b : ℕ) (x : List Bool) → j < 8 → b < 64 → IsSettled steps wides
+  -- where all order are done, the nodes have their values
+  pub settled_nodes : (wides : List (List ℕ)) (j b : ℕ) (x : List Bool) → j < 8 → b < 64 → IsSettled order wides
       → ((i : ℕ) → i < g.inputs → values_at (lane_words wides j) b (input_node i) ≡ get_or x i false)
       → (n : ℕ) → n < node_count g → values_at (lane_words wides j) b n ≡ value_of g x n
   settled_nodes wides j b x lane low settled inputs =
@@ -170,20 +170,20 @@ module _ (g : GraphValue) (steps : List Step) (graph : IsGraph g) (are : AreStep
         constant = settled.constant j b lane low;
         input = inputs;
         gate = λ i within.
-            let step = are.all i within in
-            subst (IsDone wides) step.2 (settled.done step.0 step.1) j b lane low;
+            let entry = are.all i within in
+            subst (IsDone wides) entry.2 (settled.done entry.0 entry.1) j b lane low;
       })
 
 -- ---- first readers
 
--- the places so far, and that of one more step for the nodes that it reads
-pub firsts_more : (steps : List Step) (firsts last : List ℕ) (i : ℕ) (step : Step) → step ≡ step_at steps i → ((n : ℕ) → get_or last n 0 ≤ get_or firsts n 0) → get_or last (step.left / 2) 0 ≤ i
-    → get_or last (step.right / 2) 0 ≤ i → ((n p : ℕ) → p < get_or firsts n 0 → p < i → ReadsOther n (step_at steps p))
-    → (n p : ℕ) → p < get_or last n 0 → p < i + 1 → ReadsOther n (step_at steps p)
-firsts_more steps firsts last i step is most left right before n p low inside =
+-- the places so far, and that of one more entry for the nodes that it reads
+pub firsts_more : (order : List Entry) (firsts last : List ℕ) (i : ℕ) (entry : Entry) → entry ≡ entry_at order i → ((n : ℕ) → get_or last n 0 ≤ get_or firsts n 0) → get_or last (entry.left / 2) 0 ≤ i
+    → get_or last (entry.right / 2) 0 ≤ i → ((n p : ℕ) → p < get_or firsts n 0 → p < i → ReadsOther n (entry_at order p))
+    → (n p : ℕ) → p < get_or last n 0 → p < i + 1 → ReadsOther n (entry_at order p)
+firsts_more order firsts last i entry is most left right before n p low inside =
     elim (cases_eq p i) [
       | inl e ↦
-          subst (λ k. ReadsOther n (step_at steps k)) (sym e)
+          subst (λ k. ReadsOther n (entry_at order k)) (sym e)
           (subst (ReadsOther n) is (record {
             left = λ at. omega (arith, left, ap (λ k. get_or last k 0) at, low, e);
             right = λ at. omega (arith, right, ap (λ k. get_or last k 0) at, low, e);
@@ -204,10 +204,10 @@ place_low firsts n i place room is = omega (arith, is, get_or-set_same firsts n 
 
 -- ---- classes
 
--- the step that is made of a gate
-pub step_is : (g : GraphValue) (gates : List Gate) (inputs i : ℕ) → gates ≡ g.gates → inputs ≡ g.inputs
-    → ◌≡◌ {A = Step} (record { left = (get_or gates i no_gate).left; right = (get_or gates i no_gate).right; node = 1 + inputs + i }) (step_of g i)
-step_is g gates inputs i same count = λ t. record { left = (get_or (same t) i no_gate).left; right = (get_or (same t) i no_gate).right; node = 1 + count t + i }
+-- the entry that is made of a gate
+pub entry_is : (g : GraphValue) (gates : List Gate) (inputs i : ℕ) → gates ≡ g.gates → inputs ≡ g.inputs
+    → ◌≡◌ {A = Entry} (record { left = (get_or gates i no_gate).left; right = (get_or gates i no_gate).right; node = 1 + inputs + i }) (entry_of g i)
+entry_is g gates inputs i same count = λ t. record { left = (get_or (same t) i no_gate).left; right = (get_or (same t) i no_gate).right; node = 1 + count t + i }
 
 pub few_set : (classes : List ℕ) (i v most : ℕ) → ((n : ℕ) → get_or classes n 0 ≤ most) → v ≤ most → i < length classes → (n : ℕ) → get_or (set classes i v) n 0 ≤ most
 few_set classes i v most few low room n =
@@ -220,50 +220,50 @@ module _ (g : GraphValue) (most : ℕ) (classes : List ℕ) (few : node_count g 
   low_nodes : (i : ℕ) → i < length g.gates → gate_node g i < 2 ^ 31
   low_nodes i low = omega (arith, few, low)
 
-  pub steps_none : AreStepsBelow g classes (class_bound g 0) []
-  steps_none = record {
+  pub order_none : AreEntriesBelow g classes (class_bound g 0) []
+  order_none = record {
     gates = λ p low. absurd (omega (arith, low));
     all = λ i low below. absurd (omega (arith, below));
     sorted = λ p q before low. absurd (omega (arith, low));
   }
 
   -- one gate more, or one of another class
-  pub steps_pushed : (steps : List Step) (i class : ℕ) (step : Step) → i < length g.gates → get_or classes (gate_node g i) 0 ≡ class → step ≡ step_of g i
-      → AreStepsBelow g classes (4294967296 * class + gate_node g i) steps → AreStepsBelow g classes (4294967296 * class + gate_node g (i + 1)) (steps ++ step ∷ [])
-  steps_pushed steps i class step low here is before = record {
-    gates = λ p inside. elim (cases_lt p (length steps)) [
+  pub order_pushed : (order : List Entry) (i class : ℕ) (entry : Entry) → i < length g.gates → get_or classes (gate_node g i) 0 ≡ class → entry ≡ entry_of g i
+      → AreEntriesBelow g classes (4294967296 * class + gate_node g i) order → AreEntriesBelow g classes (4294967296 * class + gate_node g (i + 1)) (order ++ entry ∷ [])
+  order_pushed order i class entry low here is before = record {
+    gates = λ p inside. elim (cases_lt p (length order)) [
       | inl early ↦
           let gate = before.gates p early in
-          (gate.0, gate.1, get_or_append_left steps (step ∷ []) no_step p early ∙ gate.2, omega (arith, gate.3))
+          (gate.0, gate.1, get_or_append_left order (entry ∷ []) no_entry p early ∙ gate.2, omega (arith, gate.3))
       | inr late ↦
-          let last : length steps ≡ p = omega (arith, late, inside, length_push steps step) in
-          (i, low, get_or_push steps step no_step p last ∙ is, omega (arith, here))
+          let last : length order ≡ p = omega (arith, late, inside, length_push order entry) in
+          (i, low, get_or_push order entry no_entry p last ∙ is, omega (arith, here))
     ];
     all = λ k within below. elim (cases_eq k i) [
-      | inl e ↦ (length steps, omega (arith, length_push steps step), get_or_push steps step no_step (length steps) refl ∙ is ∙ ap (step_of g) (sym e))
+      | inl e ↦ (length order, omega (arith, length_push order entry), get_or_push order entry no_entry (length order) refl ∙ is ∙ ap (entry_of g) (sym e))
       | inr other ↦
           let least : node_key classes (gate_node g k) < 4294967296 * class + gate_node g i = omega (arith, below, other, low_nodes k within, low_nodes i low) in
           let found = before.all k within least in
-          (found.0, omega (arith, found.1, length_push steps step), get_or_append_left steps (step ∷ []) no_step found.0 found.1 ∙ found.2)
+          (found.0, omega (arith, found.1, length_push order entry), get_or_append_left order (entry ∷ []) no_entry found.0 found.1 ∙ found.2)
     ];
-    sorted = λ p q first inside. elim (cases_lt q (length steps)) [
+    sorted = λ p q first inside. elim (cases_lt q (length order)) [
       | inl early ↦
-          subst (λ (s : Step). node_key classes s.node < node_key classes (step_at (steps ++ step ∷ []) q).node) (sym (get_or_append_left steps (step ∷ []) no_step p (omega (arith, first, early))))
-          (subst (λ (s : Step). node_key classes (step_at steps p).node < node_key classes s.node) (sym (get_or_append_left steps (step ∷ []) no_step q early)) (before.sorted p q first early))
+          subst (λ (s : Entry). node_key classes s.node < node_key classes (entry_at (order ++ entry ∷ []) q).node) (sym (get_or_append_left order (entry ∷ []) no_entry p (omega (arith, first, early))))
+          (subst (λ (s : Entry). node_key classes (entry_at order p).node < node_key classes s.node) (sym (get_or_append_left order (entry ∷ []) no_entry q early)) (before.sorted p q first early))
       | inr late ↦
-          let last : length steps ≡ q = omega (arith, late, inside, length_push steps step) in
-          let earlier : p < length steps = omega (arith, first, last) in
+          let last : length order ≡ q = omega (arith, late, inside, length_push order entry) in
+          let earlier : p < length order = omega (arith, first, last) in
           let gate = before.gates p earlier in
-          let lesser : node_key classes (step_at steps p).node < node_key classes (gate_node g i) = omega (arith, gate.3, here, ap (λ (s : Step). node_key classes s.node) gate.2) in
-          subst (λ (s : Step). node_key classes s.node < node_key classes (step_at (steps ++ step ∷ []) q).node) (sym (get_or_append_left steps (step ∷ []) no_step p earlier))
-          (subst (λ (s : Step). node_key classes (step_at steps p).node < node_key classes s.node) (sym (get_or_push steps step no_step q last ∙ is)) lesser)
+          let lesser : node_key classes (entry_at order p).node < node_key classes (gate_node g i) = omega (arith, gate.3, here, ap (λ (s : Entry). node_key classes s.node) gate.2) in
+          subst (λ (s : Entry). node_key classes s.node < node_key classes (entry_at (order ++ entry ∷ []) q).node) (sym (get_or_append_left order (entry ∷ []) no_entry p earlier))
+          (subst (λ (s : Entry). node_key classes (entry_at order p).node < node_key classes s.node) (sym (get_or_push order entry no_entry q last ∙ is)) lesser)
     ];
   }
 
   -- a bound between which and the one before no gate's key is
-  pub steps_same : (steps : List Step) (bound next : ℕ) → bound ≤ next → ((i : ℕ) → i < length g.gates → node_key classes (gate_node g i) < next → node_key classes (gate_node g i) < bound)
-      → AreStepsBelow g classes bound steps → AreStepsBelow g classes next steps
-  steps_same steps bound next more none before = record {
+  pub order_same : (order : List Entry) (bound next : ℕ) → bound ≤ next → ((i : ℕ) → i < length g.gates → node_key classes (gate_node g i) < next → node_key classes (gate_node g i) < bound)
+      → AreEntriesBelow g classes bound order → AreEntriesBelow g classes next order
+  order_same order bound next more none before = record {
     gates = λ p inside.
         let gate = before.gates p inside in
         (gate.0, gate.1, gate.2, omega (arith, gate.3, more));
@@ -271,10 +271,10 @@ module _ (g : GraphValue) (most : ℕ) (classes : List ℕ) (few : node_count g 
     sorted = before.sorted;
   }
 
-  pub steps_kept : (steps : List Step) (i class : ℕ) → i < length g.gates → get_or classes (gate_node g i) 0 ≢ class → AreStepsBelow g classes (4294967296 * class + gate_node g i) steps
-      → AreStepsBelow g classes (4294967296 * class + gate_node g (i + 1)) steps
-  steps_kept steps i class low other before =
-      steps_same steps (4294967296 * class + gate_node g i) (4294967296 * class + gate_node g (i + 1)) (omega arith)
+  pub order_kept : (order : List Entry) (i class : ℕ) → i < length g.gates → get_or classes (gate_node g i) 0 ≢ class → AreEntriesBelow g classes (4294967296 * class + gate_node g i) order
+      → AreEntriesBelow g classes (4294967296 * class + gate_node g (i + 1)) order
+  order_kept order i class low other before =
+      order_same order (4294967296 * class + gate_node g i) (4294967296 * class + gate_node g (i + 1)) (omega arith)
       (λ k within below. elim (cases_eq k i) [
         | inl e ↦
             let apart : get_or classes (gate_node g k) 0 ≢ class = (λ same. other (ap (λ n. get_or classes (gate_node g n) 0) (sym e) ∙ same)) in
@@ -284,14 +284,14 @@ module _ (g : GraphValue) (most : ℕ) (classes : List ℕ) (few : node_count g 
       before
 
   -- the next class begins where a class ends
-  pub steps_next : (steps : List Step) (class : ℕ) → AreStepsBelow g classes (4294967296 * class + node_count g) steps → AreStepsBelow g classes (class_bound g (class + 1)) steps
-  steps_next steps class before =
-      steps_same steps (4294967296 * class + node_count g) (class_bound g (class + 1)) (omega (arith, few))
+  pub order_next : (order : List Entry) (class : ℕ) → AreEntriesBelow g classes (4294967296 * class + node_count g) order → AreEntriesBelow g classes (class_bound g (class + 1)) order
+  order_next order class before =
+      order_same order (4294967296 * class + node_count g) (class_bound g (class + 1)) (omega (arith, few))
       (λ i low below. omega (arith, below, low_nodes i low, low, few)) before
 
   -- behind the last class all gates are there
-  pub steps_all : (steps : List Step) → AreStepsBelow g classes (class_bound g (most + 1)) steps → AreStepsOf g steps
-  steps_all steps below = record {
+  pub order_all : (order : List Entry) → AreEntriesBelow g classes (class_bound g (most + 1)) order → AreEntriesOf g order
+  order_all order below = record {
     gates = λ p low.
         let gate = below.gates p low in
         (gate.0, gate.1, gate.2);
@@ -299,18 +299,18 @@ module _ (g : GraphValue) (most : ℕ) (classes : List ℕ) (few : node_count g 
     once = λ p q before low e. omega (arith, below.sorted p q before low, ap (node_key classes) e);
     ordered = λ p q before low.
         let gate = below.gates p (omega (arith, before, low)) in
-        let step = gate.2 in
-        let node : node_key classes (step_at steps p).node ≡ node_key classes (gate_node g gate.0) = ap (λ (s : Step). node_key classes s.node) step in
-        let most_key : node_key classes (step_at steps p).node ≤ node_key classes (step_at steps q).node = elim (cases_eq p q) [
-          | inl e ↦ omega (arith, ap (λ k. node_key classes (step_at steps k).node) e)
+        let entry = gate.2 in
+        let node : node_key classes (entry_at order p).node ≡ node_key classes (gate_node g gate.0) = ap (λ (s : Entry). node_key classes s.node) entry in
+        let most_key : node_key classes (entry_at order p).node ≤ node_key classes (entry_at order q).node = elim (cases_eq p q) [
+          | inl e ↦ omega (arith, ap (λ k. node_key classes (entry_at order k).node) e)
           | inr other ↦ omega (arith, below.sorted p q (omega (arith, before, other)) low)
         ] in
         record {
           left = λ e.
-              let key : node_key classes ((gate_at g gate.0).left / 2) ≡ node_key classes (step_at steps q).node = ap (λ (s : Step). node_key classes (s.left / 2)) (sym step) ∙ ap (node_key classes) e in
+              let key : node_key classes ((gate_at g gate.0).left / 2) ≡ node_key classes (entry_at order q).node = ap (λ (s : Entry). node_key classes (s.left / 2)) (sym entry) ∙ ap (node_key classes) e in
               omega (arith, node, most_key, key, are.left gate.0 gate.1, graph.apart gate.0 gate.1, graph.before gate.0 gate.1);
           right = λ e.
-              let key : node_key classes ((gate_at g gate.0).right / 2) ≡ node_key classes (step_at steps q).node = ap (λ (s : Step). node_key classes (s.right / 2)) (sym step) ∙ ap (node_key classes) e in
+              let key : node_key classes ((gate_at g gate.0).right / 2) ≡ node_key classes (entry_at order q).node = ap (λ (s : Entry). node_key classes (s.right / 2)) (sym entry) ∙ ap (node_key classes) e in
               omega (arith, node, most_key, key, are.right gate.0 gate.1, graph.before gate.0 gate.1);
         };
   }

@@ -30,7 +30,7 @@ pub record IsWalkOf (N : NetValue) (walk : GraphWalk) (wides : List (List ℕ)) 
   pub graph : IsGraphOf N walk.made.graph walk.made.literals.items
   pub schedule : IsSchedule walk.made.graph walk.schedule
   pub room : length wides ≡ node_count walk.made.graph
-  pub settled : IsSettled walk.schedule.steps.items wides
+  pub settled : IsSettled walk.schedule.order.items wides
 
 -- room for the values of a net's signals, or, where its graph is walked, the values of the nodes
 abbrev pub HasRoom : NetValue → Option GraphWalk → List (List ℕ) → Type 0

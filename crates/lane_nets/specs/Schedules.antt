@@ -3,67 +3,67 @@
 use Rattle.std.specs.Prelude.{◌≡◌, ◌≢◌, ℕ, ◌+◌, ◌*◌, ◌/◌, ◌<◌, ◌≤◌, ◌&&◌, false, List, length, slice_index}
 use Rattle.std.specs.Prelude.{slice_index_or}
 use Rattle.aig_core.specs.Graph.{GraphValue, gate_at, gate_node, node_count, literal_value}
-use Rattle.lane_nets.specs.declared.schedule.Step.{Step}
+use Rattle.lane_nets.specs.declared.schedule.Entry.{Entry}
 use Rattle.lane_nets.specs.declared.schedule.Schedule.{Schedule}
 use Rattle.lane_nets.specs.Words.{values_at}
 use Rattle.lane_nets.specs.Wide.{lane_words}
 
--- what stands past the last step
-abbrev pub no_step : Step
-no_step = record { left = 0; right = 0; node = 0 }
+-- what stands past the last entry
+abbrev pub no_entry : Entry
+no_entry = record { left = 0; right = 0; node = 0 }
 
-abbrev pub step_at : List Step → ℕ → Step
-step_at steps p = slice_index_or steps p no_step
+abbrev pub entry_at : List Entry → ℕ → Entry
+entry_at order p = slice_index_or order p no_entry
 
--- the step that computes gate i
-abbrev pub step_of : GraphValue → ℕ → Step
-step_of g i = record { left = (gate_at g i).left; right = (gate_at g i).right; node = gate_node g i }
+-- the entry that computes gate i
+abbrev pub entry_of : GraphValue → ℕ → Entry
+entry_of g i = record { left = (gate_at g i).left; right = (gate_at g i).right; node = gate_node g i }
 
 -- both literals are of other nodes than n
-pub record ReadsOther (n : ℕ) (step : Step) : Type 0 where
-  pub left : step.left / 2 ≢ n
-  pub right : step.right / 2 ≢ n
+pub record ReadsOther (n : ℕ) (entry : Entry) : Type 0 where
+  pub left : entry.left / 2 ≢ n
+  pub right : entry.right / 2 ≢ n
 
 -- both literals are of the first `count` nodes
-pub record ReadsBelow (count : ℕ) (step : Step) : Type 0 where
-  pub left : step.left / 2 < count
-  pub right : step.right / 2 < count
+pub record ReadsBelow (count : ℕ) (entry : Entry) : Type 0 where
+  pub left : entry.left / 2 < count
+  pub right : entry.right / 2 < count
 
--- Each step computes a gate, and each gate has a step. No step reads what it or a later step computes.
-pub record AreStepsOf (g : GraphValue) (steps : List Step) : Type 0 where
-  pub gates : (p : ℕ) → p < length steps
-      → (i : ℕ) × (i < length g.gates) × (step_at steps p ≡ step_of g i)
+-- Each entry computes a gate, and each gate has an entry. No entry reads what it or a later entry computes.
+pub record AreEntriesOf (g : GraphValue) (order : List Entry) : Type 0 where
+  pub gates : (p : ℕ) → p < length order
+      → (i : ℕ) × (i < length g.gates) × (entry_at order p ≡ entry_of g i)
   pub all : (i : ℕ) → i < length g.gates
-      → (p : ℕ) × (p < length steps) × (step_at steps p ≡ step_of g i)
-  pub once : (p q : ℕ) → p < q → q < length steps → (step_at steps p).node ≢ (step_at steps q).node
-  pub ordered : (p q : ℕ) → p ≤ q → q < length steps
-      → ReadsOther (step_at steps q).node (step_at steps p)
+      → (p : ℕ) × (p < length order) × (entry_at order p ≡ entry_of g i)
+  pub once : (p q : ℕ) → p < q → q < length order → (entry_at order p).node ≢ (entry_at order q).node
+  pub ordered : (p q : ℕ) → p ≤ q → q < length order
+      → ReadsOther (entry_at order q).node (entry_at order p)
 
--- no step before the place that is told of a node reads that node
-abbrev pub AreFirstReads : List Step → List ℕ → Type 0
-AreFirstReads steps firsts = (n p : ℕ) → n < length firsts → p < slice_index firsts n → p < length steps
-    → ReadsOther n (step_at steps p)
+-- no entry before the place that is told of a node reads that node
+abbrev pub AreFirstReads : List Entry → List ℕ → Type 0
+AreFirstReads order firsts = (n p : ℕ) → n < length firsts → p < slice_index firsts n → p < length order
+    → ReadsOther n (entry_at order p)
 
 pub record IsSchedule (g : GraphValue) (schedule : Schedule) : Type 0 where
-  pub steps : AreStepsOf g schedule.steps.items
+  pub order : AreEntriesOf g schedule.order.items
   pub count : length schedule.firsts.items ≡ node_count g
-  pub firsts : AreFirstReads schedule.steps.items schedule.firsts.items
+  pub firsts : AreFirstReads schedule.order.items schedule.firsts.items
 
--- in each lane at each pattern the step's node has the value of the gate
-abbrev pub IsDone : List (List ℕ) → Step → Type 0
-IsDone wides step = (j b : ℕ) → j < 8 → b < 64 → values_at (lane_words wides j) b step.node
-    ≡ (literal_value (values_at (lane_words wides j) b) step.left
-    && literal_value (values_at (lane_words wides j) b) step.right)
+-- in each lane at each pattern the entry's node has the value of the gate
+abbrev pub IsDone : List (List ℕ) → Entry → Type 0
+IsDone wides entry = (j b : ℕ) → j < 8 → b < 64 → values_at (lane_words wides j) b entry.node
+    ≡ (literal_value (values_at (lane_words wides j) b) entry.left
+    && literal_value (values_at (lane_words wides j) b) entry.right)
 
 -- node n has the same values
 abbrev pub IsSameNode : List (List ℕ) → List (List ℕ) → ℕ → Type 0
 IsSameNode old new n = (j b : ℕ) → j < 8 → b < 64
     → values_at (lane_words new j) b n ≡ values_at (lane_words old j) b n
 
--- the constant is false, and all steps are done
-pub record IsSettled (steps : List Step) (wides : List (List ℕ)) : Type 0 where
+-- the constant is false, and all gates of the order are done
+pub record IsSettled (order : List Entry) (wides : List (List ℕ)) : Type 0 where
   pub constant : (j b : ℕ) → j < 8 → b < 64 → values_at (lane_words wides j) b 0 ≡ false
-  pub done : (p : ℕ) → p < length steps → IsDone wides (step_at steps p)
+  pub done : (p : ℕ) → p < length order → IsDone wides (entry_at order p)
 
 -- ---- classes
 
@@ -84,11 +84,11 @@ pub record AreClasses (g : GraphValue) (most : ℕ) (classes : List ℕ) : Type 
 abbrev pub class_bound : GraphValue → ℕ → ℕ
 class_bound g class = 4294967296 * class + gate_node g 0
 
--- the steps of the gates whose keys are below the bound, by their keys
-pub record AreStepsBelow (g : GraphValue) (classes : List ℕ) (bound : ℕ) (steps : List Step) : Type 0 where
-  pub gates : (p : ℕ) → p < length steps → (i : ℕ) × (i < length g.gates)
-      × (step_at steps p ≡ step_of g i) × (node_key classes (gate_node g i) < bound)
+-- the entries of the gates whose keys are below the bound, by their keys
+pub record AreEntriesBelow (g : GraphValue) (classes : List ℕ) (bound : ℕ) (order : List Entry) : Type 0 where
+  pub gates : (p : ℕ) → p < length order → (i : ℕ) × (i < length g.gates)
+      × (entry_at order p ≡ entry_of g i) × (node_key classes (gate_node g i) < bound)
   pub all : (i : ℕ) → i < length g.gates → node_key classes (gate_node g i) < bound
-      → (p : ℕ) × (p < length steps) × (step_at steps p ≡ step_of g i)
-  pub sorted : (p q : ℕ) → p < q → q < length steps
-      → node_key classes (step_at steps p).node < node_key classes (step_at steps q).node
+      → (p : ℕ) × (p < length order) × (entry_at order p ≡ entry_of g i)
+  pub sorted : (p q : ℕ) → p < q → q < length order
+      → node_key classes (entry_at order p).node < node_key classes (entry_at order q).node

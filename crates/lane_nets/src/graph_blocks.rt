@@ -11,7 +11,7 @@ ghost use Rattle.lane_nets.specs.Graphs.{IsGraphBlock, IsWalkOf};
 ghost use Rattle.lane_nets.specs.Changes.{AreKeptInputs, HasInputBlock};
 
 use crate::changes::{NextBlock, is_marked};
-use crate::graph_words::{eval_steps, literal_wide};
+use crate::graph_words::{eval_order, literal_wide};
 use crate::schedule::{Schedule, scheduled};
 use crate::wide_blocks::wide_at;
 use crate::wide_words::{are_equal, equal_words};
@@ -29,7 +29,7 @@ pub struct GraphWalk {
     pub schedule: Schedule,
 }
 
-/// The lesser one of `from` and of the place of the first step that reads a node, where the node's words
+/// The lesser one of `from` and of the place of the first entry that reads a node, where the node's words
 /// change; else `from`.
 fn first_changed(from: usize, first: usize, old: u64x8, new: u64x8) -> usize
     ensures most { result ≤ from }
@@ -43,7 +43,7 @@ fn first_changed(from: usize, first: usize, old: u64x8, new: u64x8) -> usize
 }
 
 /// Sets the words of the inputs that are marked to those of the next wide block, and gives the place of the
-/// first step that reads one that changed.
+/// first entry that reads one that changed.
 fn change_inputs(next: &NextBlock, firsts: &[usize], wides: &mut [u64x8]) -> usize
     requires room { next.now.patterns.now.inputs < length wides.old }
     requires firsts { length firsts.now ≡ length wides.old }
@@ -72,15 +72,15 @@ fn set_graph_block(walk: &GraphWalk, next: &NextBlock, wides: &mut [u64x8])
     requires inputs { next.now.patterns.now.inputs ≡ walk.now.made.graph.inputs }
     requires within { 8 * next.now.q ≤ word_count (length next.now.patterns.now.vectors) }
     requires room { length wides.old ≡ node_count walk.now.made.graph }
-    requires settled { IsSettled walk.now.schedule.steps.items wides.old }
+    requires settled { IsSettled walk.now.schedule.order.items wides.old }
     requires kept { AreKeptInputs next.now.patterns.now next.now.q next.now.marks wides.old }
-    ensures settled { IsSettled walk.now.schedule.steps.items wides.new }
+    ensures settled { IsSettled walk.now.schedule.order.items wides.new }
     ensures inputs { HasInputBlock next.now.patterns.now next.now.q wides.new }
     ensures block { IsGraphBlock walk.now.made.graph next.now.patterns.now.vectors next.now.q wides.new }
 {
     walk.made.graph.is_graph();
     let from = change_inputs(next, &walk.schedule.firsts, wides);
-    eval_steps(&walk.schedule.steps, from, wides);
+    eval_order(&walk.schedule.order, from, wides);
 }
 
 /// Sets `outputs` to the values of the outputs' literals.
@@ -143,18 +143,18 @@ pub(crate) fn graph_walk(
 fn settle(walk: &GraphWalk, wides: &mut [u64x8])
     requires schedule { IsSchedule walk.now.made.graph walk.now.schedule }
     requires room { length wides.old ≡ node_count walk.now.made.graph }
-    ensures { IsSettled walk.now.schedule.steps.items wides.new }
+    ensures { IsSettled walk.now.schedule.order.items wides.new }
 {
     walk.made.graph.is_graph();
     wides[0] = equal_words(0);
-    eval_steps(&walk.schedule.steps, 0, wides);
+    eval_order(&walk.schedule.order, 0, wides);
 }
 
 /// The values of the nodes where all inputs are 0.
 pub(crate) fn settled_values(alloc: Global, walk: &GraphWalk) -> Result<Vec<u64x8>, AllocError>
     requires { IsSchedule walk.now.made.graph walk.now.schedule }
     ensures room { IfOk result (λ wides. length wides.items ≡ node_count walk.now.made.graph) }
-    ensures settled { IfOk result (λ wides. IsSettled walk.now.schedule.steps.items wides.items) }
+    ensures settled { IfOk result (λ wides. IsSettled walk.now.schedule.order.items wides.items) }
 {
     let mut wides = vec![in alloc; equal_words(0); walk.made.graph.nodes() as usize]?;
     settle(walk, &mut wides);

@@ -3,9 +3,9 @@ ghost use Rattle.std.specs.Prelude.{◌≡◌, ◌≢◌, ◌/◌, ◌%◌, ◌=
 ghost use Rattle.aig_core.specs.Graph.{literal_value};
 ghost use Rattle.lane_nets.specs.Words.{word_bit, values_at};
 ghost use Rattle.lane_nets.specs.Wide.{lane_words};
-ghost use Rattle.lane_nets.specs.Schedules.{IsDone, IsSameNode, ReadsBelow, ReadsOther, step_at};
+ghost use Rattle.lane_nets.specs.Schedules.{IsDone, IsSameNode, ReadsBelow, ReadsOther, entry_at};
 
-use crate::schedule::Step;
+use crate::schedule::Entry;
 use crate::wide_words::{and_wide, equal_words, xor_wide};
 use aig_core::literal::Literal;
 use std::simd::u64x8;
@@ -29,24 +29,24 @@ pub(crate) fn literal_wide(literal: Literal, wides: &[u64x8]) -> u64x8
     xor_wide(wides[(literal / 2) as usize], signs)
 }
 
-/// Computes the gates of the steps from place `from` on, in their order. What the steps before it read is
+/// Computes the gates of the order from place `from` on, in their order. What the entries before it read is
 /// not changed.
-pub(crate) fn eval_steps(steps: &[Step], from: usize, wides: &mut [u64x8])
-    requires within { (p : ℕ) → p < length steps.now → ReadsBelow (length wides.old) (step_at steps.now p) }
-    requires nodes { (p : ℕ) → p < length steps.now → (step_at steps.now p).node < length wides.old }
-    requires once { (p q : ℕ) → p < q → q < length steps.now
-        → (step_at steps.now p).node ≢ (step_at steps.now q).node }
-    requires ordered { (p q : ℕ) → p ≤ q → q < length steps.now
-        → ReadsOther (step_at steps.now q).node (step_at steps.now p) }
-    requires before { (p : ℕ) → p < from → p < length steps.now → IsDone wides.old (step_at steps.now p) }
-    ensures done { (p : ℕ) → p < length steps.now → IsDone wides.new (step_at steps.now p) }
-    ensures others { (n : ℕ) → ((p : ℕ) → p < length steps.now → (step_at steps.now p).node ≢ n)
+pub(crate) fn eval_order(order: &[Entry], from: usize, wides: &mut [u64x8])
+    requires within { (p : ℕ) → p < length order.now → ReadsBelow (length wides.old) (entry_at order.now p) }
+    requires nodes { (p : ℕ) → p < length order.now → (entry_at order.now p).node < length wides.old }
+    requires once { (p q : ℕ) → p < q → q < length order.now
+        → (entry_at order.now p).node ≢ (entry_at order.now q).node }
+    requires ordered { (p q : ℕ) → p ≤ q → q < length order.now
+        → ReadsOther (entry_at order.now q).node (entry_at order.now p) }
+    requires before { (p : ℕ) → p < from → p < length order.now → IsDone wides.old (entry_at order.now p) }
+    ensures done { (p : ℕ) → p < length order.now → IsDone wides.new (entry_at order.now p) }
+    ensures others { (n : ℕ) → ((p : ℕ) → p < length order.now → (entry_at order.now p).node ≢ n)
         → IsSameNode wides.old wides.new n }
 {
-    for i in from..steps.len() {
-        let step = steps[i];
-        let left = literal_wide(step.left, wides);
-        let right = literal_wide(step.right, wides);
-        wides[step.node as usize] = and_wide(left, right);
+    for i in from..order.len() {
+        let entry = order[i];
+        let left = literal_wide(entry.left, wides);
+        let right = literal_wide(entry.right, wides);
+        wides[entry.node as usize] = and_wide(left, right);
     }
 }

@@ -8,8 +8,8 @@ ghost use Rattle.semantics.specs.Net.{input_count};
 ghost use Rattle.lane_bits.specs.Rows.{word_count};
 ghost use Rattle.aig_core.specs.Graph.{gate_node, node_count};
 ghost use Rattle.aig_core.specs.Signals.{IsGraphOf};
-ghost use Rattle.lane_nets.specs.Schedules.{AreClasses, AreFirstReads, AreStepsOf, AreStepsBelow};
-ghost use Rattle.lane_nets.specs.Schedules.{IsSchedule, ReadsBelow, class_bound, step_at};
+ghost use Rattle.lane_nets.specs.Schedules.{AreClasses, AreFirstReads, AreEntriesOf, AreEntriesBelow};
+ghost use Rattle.lane_nets.specs.Schedules.{IsSchedule, ReadsBelow, class_bound, entry_at};
 
 use aig_core::graph::Aig;
 use aig_core::literal::Literal;
@@ -21,7 +21,7 @@ const MOST_CLASS: u32 = 16;
 
 /// A gate that is computed: its node, and the literals that it reads.
 #[derive(Clone, Copy)]
-pub struct Step {
+pub struct Entry {
     pub left: Literal,
     pub right: Literal,
     pub node: u32,
@@ -31,7 +31,7 @@ pub struct Step {
 /// gate that reads it, or a place past the last gate.
 #[derive(Drop)]
 pub struct Schedule {
-    pub steps: Vec<Step>,
+    pub order: Vec<Entry>,
     pub firsts: Vec<usize>,
 }
 
@@ -89,19 +89,19 @@ fn push_class(
     graph: &Aig,
     classes: &[u32],
     class: u32,
-    steps: &mut Vec<Step>,
+    order: &mut Vec<Entry>,
 ) -> Result<(), AllocError>
     requires classes { AreClasses graph.now MOST_CLASS classes.now }
-    requires lesser { AreStepsBelow graph.now classes.now (class_bound graph.now class) steps.old.items }
-    ensures { OnOk result (AreStepsBelow graph.now classes.now (class_bound graph.now (class + 1))
-        steps.new.items) }
+    requires lesser { AreEntriesBelow graph.now classes.now (class_bound graph.now class) order.old.items }
+    ensures { OnOk result (AreEntriesBelow graph.now classes.now (class_bound graph.now (class + 1))
+        order.new.items) }
 {
     graph.is_graph();
     let first = 1 + graph.inputs();
     for (i, gate) in graph.gates().iter().enumerate() {
         let node = first + i as u32;
         if classes[node as usize] == class {
-            steps.push(Step {
+            order.push(Entry {
                 left: gate.left,
                 right: gate.right,
                 node,
@@ -112,16 +112,16 @@ fn push_class(
 }
 
 /// The gates by their classes, and in their order within each class.
-fn sorted_steps(alloc: Global, graph: &Aig, classes: &[u32]) -> Result<Vec<Step>, AllocError>
+fn sorted_gates(alloc: Global, graph: &Aig, classes: &[u32]) -> Result<Vec<Entry>, AllocError>
     requires { AreClasses graph.now MOST_CLASS classes.now }
-    ensures { IfOk result (λ steps. AreStepsOf graph.now steps.items) }
+    ensures { IfOk result (λ order. AreEntriesOf graph.now order.items) }
 {
     graph.is_graph();
-    let mut steps = Vec::new(alloc);
+    let mut order = Vec::new(alloc);
     for class in 0..MOST_CLASS + 1 {
-        push_class(graph, classes, class, &mut steps)?;
+        push_class(graph, classes, class, &mut order)?;
     }
-    Ok(steps)
+    Ok(order)
 }
 
 /// Lowers the place of node n to place i, where it is greater.
@@ -134,25 +134,25 @@ fn lower(firsts: &mut [usize], n: usize, i: usize)
 }
 
 /// Sets for each node the place of the first gate that reads it, where one does.
-fn set_firsts(steps: &[Step], firsts: &mut [usize])
-    requires { (p : ℕ) → p < length steps.now
-        → ReadsBelow (length firsts.old) (step_at steps.now p) }
-    ensures { AreFirstReads steps.now firsts.new }
+fn set_firsts(order: &[Entry], firsts: &mut [usize])
+    requires { (p : ℕ) → p < length order.now
+        → ReadsBelow (length firsts.old) (entry_at order.now p) }
+    ensures { AreFirstReads order.now firsts.new }
 {
-    for (i, step) in steps.iter().enumerate() {
-        lower(firsts, (step.left / 2) as usize, i);
-        lower(firsts, (step.right / 2) as usize, i);
+    for (i, entry) in order.iter().enumerate() {
+        lower(firsts, (entry.left / 2) as usize, i);
+        lower(firsts, (entry.right / 2) as usize, i);
     }
 }
 
 /// For each of the nodes the place of the first gate that reads it, or a place past the last gate.
-fn first_reads(alloc: Global, steps: &[Step], nodes: usize) -> Result<Vec<usize>, AllocError>
-    requires { (p : ℕ) → p < length steps.now → ReadsBelow nodes (step_at steps.now p) }
+fn first_reads(alloc: Global, order: &[Entry], nodes: usize) -> Result<Vec<usize>, AllocError>
+    requires { (p : ℕ) → p < length order.now → ReadsBelow nodes (entry_at order.now p) }
     ensures count { IfOk result (λ firsts. length firsts.items ≡ nodes) }
-    ensures firsts { IfOk result (λ firsts. AreFirstReads steps.now firsts.items) }
+    ensures firsts { IfOk result (λ firsts. AreFirstReads order.now firsts.items) }
 {
     let mut firsts = vec![in alloc; usize::MAX; nodes]?;
-    set_firsts(steps, &mut firsts);
+    set_firsts(order, &mut firsts);
     Ok(firsts)
 }
 
@@ -167,7 +167,7 @@ pub(crate) fn scheduled(
 {
     graph.is_graph();
     let classes = node_classes(alloc, graph, patterns)?;
-    let steps = sorted_steps(alloc, graph, &classes)?;
-    let firsts = first_reads(alloc, &steps, graph.nodes() as usize)?;
-    Ok(Schedule { steps, firsts })
+    let order = sorted_gates(alloc, graph, &classes)?;
+    let firsts = first_reads(alloc, &order, graph.nodes() as usize)?;
+    Ok(Schedule { order, firsts })
 }

@@ -22,8 +22,8 @@ SaySo clauses id row other zero = Unit {0}
 SaySo clauses id row other (suc count) = SaysSo clauses id row other × SaySo clauses (suc (suc id)) (suc row) (suc other) count
 
 module _ (clauses : List Clause) (start : LiteralSet) where
-  abbrev Chain : ChainValue → Type 0
-  Chain c = IsChain (get (held_of clauses)) start c
+  abbrev HintChain : ChainValue → Type 0
+  HintChain c = IsChain (get (held_of clauses)) start c
 
   implies-first : (c : ChainValue) (id : ℕ) (l b : ℤ) → HasId clauses id (l ∷ b ∷ []) → Knows c (neg_ℤ b) → Implies (get (held_of clauses)) start c id l
   implies-first c id l b h known = record {
@@ -38,18 +38,18 @@ module _ (clauses : List Clause) (start : LiteralSet) where
   implies-equal c id row other (inr h) known = implies-second clauses start c id (literal_at row true) (literal_at other false) h known
 
   record RowsKnown (c d : ChainValue) (other count : ℕ) : Type 0 where
-    chain : Chain d
+    chain : HintChain d
     kept : (l : ℤ) → Knows c l → Knows d l
     known : AllByRecursion (λ a. Knows d (neg_ℤ a)) (variables_from other count)
 
-  rows_known : (count row other id equal : ℕ) (l : ℤ) (c : ChainValue) → Chain c → Knows c (neg_ℤ l) → HaveIds clauses id (implications row count l) → SaySo clauses equal row other count
+  rows_known : (count row other id equal : ℕ) (l : ℤ) (c : ChainValue) → HintChain c → Knows c (neg_ℤ l) → HaveIds clauses id (implications row count l) → SaySo clauses equal row other count
       → RowsKnown c (table_chain row other id equal count c) other count
   rows_known zero row other id equal l c chain false_l ids say = record { chain = chain; kept = λ x h. h; known = tt }
   rows_known (suc count) row other id equal l c chain false_l ids say =
       let one : ChainValue = implied c id (literal_at row false) in
       let two : ChainValue = implied one equal (literal_at other false) in
-      let first : Chain one = chain-implied (get (held_of clauses)) start c id (literal_at row false) chain (implies-first c id (literal_at row false) l ids.0 false_l) in
-      let second : Chain two =
+      let first : HintChain one = chain-implied (get (held_of clauses)) start c id (literal_at row false) chain (implies-first c id (literal_at row false) l ids.0 false_l) in
+      let second : HintChain two =
       chain-implied (get (held_of clauses)) start one equal (literal_at other false) first (implies-equal one equal row other say.0 (knows-implied c id (literal_at row false))) in
       let keeps : (x : ℤ) → Knows c x → Knows two x = λ x h. knows-kept one equal (literal_at other false) x (knows-kept c id (literal_at row false) x h) in
       let rest = rows_known count (suc row) (suc other) (suc id) (suc (suc equal)) l two second (keeps (neg_ℤ l) false_l) ids.1 say.1 in
@@ -60,7 +60,7 @@ module _ (clauses : List Clause) (start : LiteralSet) where
       }
 
   -- where one table has its plane and the other has not, a conflict comes
-  pub table_derives : (count from to row other id equal last : ℕ) (plane : Bool) (c : ChainValue) → Chain c → Knows c (literal_at from plane) → Knows c (literal_at to (not plane))
+  pub table_derives : (count from to row other id equal last : ℕ) (plane : Bool) (c : ChainValue) → HintChain c → Knows c (literal_at from plane) → Knows c (literal_at to (not plane))
       → HaveIds clauses id (implications row count (literal_at to plane)) → SaySo clauses equal row other count
       → HasId clauses last (literal_at from (not plane) ∷ variables_from other count)
       → EndsInConflict (get (held_of clauses)) start (ended_with (table_chain row other id equal count c) last)

@@ -14,13 +14,13 @@ use std::marker::Model;
 
 /// The hints so far, the literals that are true behind them, and whether two of these literals are opposite.
 #[derive(Drop)]
-pub(crate) struct Chain {
+pub(crate) struct HintChain {
     hints: Ids,
     literals: Lits,
     ended: bool,
 }
 
-impl Model for Chain {
+impl Model for HintChain {
     ghost use Rattle.merge_log.specs.Chains.{ChainValue};
 
     ghost Value = { ChainValue };
@@ -45,16 +45,16 @@ fn opposite(literal: Literal) -> Literal
     -literal
 }
 
-impl Chain {
+impl HintChain {
     /// No hint yet: the variable of place s has the value `sign`, and the variable of place u the opposite
     /// value.
-    pub(crate) fn new(alloc: Global, s: u32, u: u32, sign: bool) -> Result<Chain, AllocError>
+    pub(crate) fn new(alloc: Global, s: u32, u: u32, sign: bool) -> Result<HintChain, AllocError>
         requires s { s + 1 < 2 ^ 31 }
         requires u { u + 1 < 2 ^ 31 }
         ensures { IfOk result (λ c. c ≡ started (literal_at s sign) (literal_at u (not sign))) }
     {
         let literals = two_literals(alloc, literal_at(s, sign), literal_at(u, !sign))?;
-        Ok(Chain {
+        Ok(HintChain {
             hints: Items::new(alloc),
             literals,
             ended: false,
@@ -96,7 +96,7 @@ impl Chain {
     pub(crate) fn finish(self, id: u64) -> Result<Ids, AllocError>
         ensures { IfOk result (λ hints. hints ≡ ended_with self id) }
     {
-        let Chain {
+        let HintChain {
             mut hints,
             ended,
             ..

@@ -3,7 +3,7 @@ ghost use Rattle.std.specs.Prelude.{◌≡◌, ◌+◌, ◌*◌, ◌<◌, ◌^�
 ghost use Rattle.semantics.specs.Net.{row_literals};
 ghost use Rattle.merge_log.specs.Chains.{ended_with, asked, placed_row_chain, placed_table_chain};
 
-use crate::hint_chain::Chain;
+use crate::hint_chain::HintChain;
 use crate::merged::Merged;
 use crate::placed::{Place, PlacedPins};
 use net_core::mark::Mark;
@@ -25,7 +25,7 @@ pub(crate) fn asked(mark: Mark) -> Option<bool>
 /// The hints that the row `from` implies the row `to`, which has the same marks, and pins that were made
 /// equal to those of the first.
 pub(crate) fn row_hints(
-    mut chain: Chain,
+    mut chain: HintChain,
     merged: &Merged,
     marks: &[Mark],
     from: &PlacedPins,
@@ -56,7 +56,7 @@ pub(crate) fn row_hints(
 /// clauses make them false; those of the first table stand from the place `equal` on, and every second clause
 /// from there makes them false; and then the clause with the id `last` is false.
 pub(crate) fn table_hints(
-    mut chain: Chain,
+    mut chain: HintChain,
     count: u32,
     rows: Place,
     equal: Place,

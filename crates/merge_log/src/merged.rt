@@ -3,7 +3,7 @@ ghost use Rattle.std.specs.Prelude.{◌≡◌, ℕ, ◌+◌, ◌<◌, ◌^◌, l
 ghost use Rattle.proof_semantics.specs.NetClauses.{literal_at};
 ghost use Rattle.merge_log.specs.Chains.{first_of, id_of, implied, carried, to_first, from_first};
 
-use crate::hint_chain::Chain;
+use crate::hint_chain::HintChain;
 use net_core::items::Signal;
 use std::alloc::{AllocError, Global};
 use std::marker::Model;
@@ -78,7 +78,7 @@ impl Merged {
     /// Adds the hint `id`, whose clause gives signal p this value.
     pub(crate) fn imply(
         &self,
-        chain: &mut Chain,
+        chain: &mut HintChain,
         id: u64,
         p: Signal,
         sign: bool,
@@ -92,7 +92,7 @@ impl Merged {
 
     /// Adds the hint by which the first signal to which signal p was made equal has this value, since p has
     /// it.
-    fn follow_to_first(&self, chain: &mut Chain, p: Signal, sign: bool) -> Result<(), AllocError>
+    fn follow_to_first(&self, chain: &mut HintChain, p: Signal, sign: bool) -> Result<(), AllocError>
         requires { p < length self.now.firsts }
         ensures { OnOk result (chain.new ≡ to_first chain.old self.now p sign) }
     {
@@ -105,7 +105,7 @@ impl Merged {
 
     /// Adds the hint by which signal q has this value, since the first signal to which q was made equal has
     /// it.
-    fn follow_from_first(&self, chain: &mut Chain, q: Signal, sign: bool) -> Result<(), AllocError>
+    fn follow_from_first(&self, chain: &mut HintChain, q: Signal, sign: bool) -> Result<(), AllocError>
         requires { q < length self.now.firsts }
         ensures { OnOk result (chain.new ≡ from_first chain.old self.now q sign) }
     {
@@ -119,7 +119,7 @@ impl Merged {
     /// first signal.
     pub(crate) fn carry(
         &self,
-        chain: &mut Chain,
+        chain: &mut HintChain,
         p: Signal,
         q: Signal,
         sign: bool,
@@ -139,7 +139,7 @@ impl Merged {
     /// both were made equal to one first signal.
     pub(crate) fn imply_both(
         &self,
-        chain: &mut Chain,
+        chain: &mut HintChain,
         id: u64,
         p: Signal,
         q: Signal,

@@ -9,7 +9,7 @@ ghost use Rattle.merge_log.specs.Chains.{first_of};
 ghost use Rattle.merge_log.specs.Ids.{AreMerged, link, forth, back};
 ghost use Rattle.merge_log.specs.Steps.{Adds, IsRowAt, AreRowsAt, row_pairs};
 
-use crate::hint_chain::{Chain, two_literals};
+use crate::hint_chain::{HintChain, two_literals};
 use crate::hints::row_hints;
 use crate::merged::Merged;
 use crate::placed::{Place, PlacedPins, RowPair, RowsPair};
@@ -80,7 +80,7 @@ fn push_row(
     let _variables = goal.vars();
     let row = pair.own.place.row;
     let other = pair.other.place.row;
-    let chain = Chain::new(alloc, row, other, sign)?;
+    let chain = HintChain::new(alloc, row, other, sign)?;
     let hints = if sign {
         row_hints(chain, merged, pair.marks, &pair.own, &pair.other)?
     } else {

@@ -6,7 +6,7 @@ ghost use Rattle.proof_semantics.specs.Conflicts.{clauses_with};
 ghost use Rattle.merge_log.specs.Ids.{HaveIds, AreMerged, link, forth, back};
 ghost use Rattle.merge_log.specs.Steps.{Adds, IsTableAt, IsImpliedAt, AreToMerge, row_pairs};
 
-use crate::hint_chain::Chain;
+use crate::hint_chain::HintChain;
 use crate::hints::table_hints;
 use crate::merged::Merged;
 use crate::placed::{Implied, ImpliedPair, Place, PlacedPins, PlacedTable, RowsPair};
@@ -38,7 +38,7 @@ fn push_table(
     let u = pair.other.signal;
     let at = pair.own.place;
     let other = pair.other.place;
-    let chain = Chain::new(alloc, s, u, sign)?;
+    let chain = HintChain::new(alloc, s, u, sign)?;
     let count = u64::from(pair.rows);
     let hints = if sign == pair.plane {
         let equal = Place {

@@ -2,7 +2,7 @@
 ghost use Rattle.std.specs.Prelude.{◌≡◌};
 ghost use Rattle.salsa_demo.specs.Demonstration.{program_says, answer_exit, has_line};
 
-use chain_search::chain::Chain;
+use chain_search::chain::ChainSearch;
 use command_words::usage::usage_line;
 use command_words::words::{Command, command_named};
 use console::program::Program;
@@ -71,7 +71,7 @@ impl Program for Demonstration {
                 },
             ) => {
                 let aim = demo_aim(bound, conflicts);
-                Answer::Worked(demonstrate::<Chain, F, K, P>(
+                Answer::Worked(demonstrate::<ChainSearch, F, K, P>(
                     alloc, width, aim, files, say, progress,
                 ))
             }

@@ -9,7 +9,7 @@ ghost use Rattle.worst_case.specs.Levels.{without_log};
 use crate::options::LANE_INPUTS;
 use crate::repeated_query::ask_again;
 use crate::solver_query::{Question, ask_once, pose};
-use bdd_levels::budgets::LAST_STEPS;
+use bdd_levels::budgets::LAST_QUESTION_STEPS;
 use bdd_levels::decider::Decider;
 use bdd_nets::ever_true::Decision;
 use level_answers::margin::Margin;
@@ -67,7 +67,7 @@ fn margin_of(exceed: Exceed) -> Margin
 }
 
 /// The answer to a question whose first query was spent: that of the diagrams, where they find one within
-/// `LAST_STEPS` steps, and else that of further queries.
+/// `LAST_QUESTION_STEPS` steps, and else that of further queries.
 fn by_last_steps<P: Progress>(
     alloc: Global,
     nets: &Compared,
@@ -84,7 +84,7 @@ fn by_last_steps<P: Progress>(
     ensures same { decider.new ≡ decider.old }
     ensures answer { IfOk result (IsLevelAnswer question.now.aim nets.now.exact nets.now.approx) }
 {
-    match by_diagrams(alloc, nets, decider, question.aim, LAST_STEPS)? {
+    match by_diagrams(alloc, nets, decider, question.aim, LAST_QUESTION_STEPS)? {
         Some(margin) => Ok(margin),
         None => {
             let last = ask_again(alloc, nets, question, spent, progress)?;

@@ -8,10 +8,10 @@
 //! are at most `MOST_TRIED_INPUTS` inputs: the products of multipliers have no small diagrams, and take the
 //! solver minutes. With still more inputs it goes to the solver, which is quick where errors may be large:
 //! first over a hashed graph of both nets, at those input vectors alone at which the last change makes a
-//! difference, and where that leaves it open over the joint net's clauses. Where
-//! the solver's conflicts are spent too, the diagrams get as many steps as their nodes allow (`LAST_STEPS`),
-//! and then the solver gets further queries, before the question counts as open. What a budget leaves open is
-//! never taken for an answer.
+//! difference, and where that leaves it open over the joint net's clauses. Where the solver's conflicts are
+//! spent too, the diagrams get as many steps as their nodes allow (`LAST_QUESTION_STEPS`), and then the
+//! solver gets further queries, before the question counts as open. What a budget leaves open is never taken
+//! for an answer.
 ghost use Rattle.std.specs.Prelude.{◌≡◌, ◌≤◌, IfOk, IfSome};
 ghost use Rattle.semantics.specs.Net.{input_count};
 ghost use Rattle.semantics.specs.Error.{IsWithin};
