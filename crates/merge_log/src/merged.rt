@@ -92,7 +92,12 @@ impl Merged {
 
     /// Adds the hint by which the first signal to which signal p was made equal has this value, since p has
     /// it.
-    fn follow_to_first(&self, chain: &mut HintChain, p: Signal, sign: bool) -> Result<(), AllocError>
+    fn follow_to_first(
+        &self,
+        chain: &mut HintChain,
+        p: Signal,
+        sign: bool,
+    ) -> Result<(), AllocError>
         requires { p < length self.now.firsts }
         ensures { OnOk result (chain.new ≡ to_first chain.old self.now p sign) }
     {
@@ -105,7 +110,12 @@ impl Merged {
 
     /// Adds the hint by which signal q has this value, since the first signal to which q was made equal has
     /// it.
-    fn follow_from_first(&self, chain: &mut HintChain, q: Signal, sign: bool) -> Result<(), AllocError>
+    fn follow_from_first(
+        &self,
+        chain: &mut HintChain,
+        q: Signal,
+        sign: bool,
+    ) -> Result<(), AllocError>
         requires { q < length self.now.firsts }
         ensures { OnOk result (chain.new ≡ from_first chain.old self.now q sign) }
     {
