@@ -15,7 +15,11 @@ use crate::search::SolverState;
 use std::alloc::{AllocError, Global};
 
 /// Ends the log with the empty clause, where a clause is false without a decision.
-pub fn log_refutation(alloc: Global, search: &mut SolverState, conflict: usize) -> Result<(), AllocError>
+pub fn log_refutation(
+    alloc: Global,
+    search: &mut SolverState,
+    conflict: usize,
+) -> Result<(), AllocError>
     requires searching { IsSearching search.old.clauses.list search.old.trail search.old.order }
     requires conflict { IsConflict search.old.clauses.list search.old.trail conflict }
     requires no_level { search.old.trail.starts ≡ [] }
@@ -49,7 +53,11 @@ pub fn log_refutation(alloc: Global, search: &mut SolverState, conflict: usize) 
 
 /// Learns a clause from a conflict, logs it, and goes back to the level where the clause forces a literal.
 /// Returns the number of levels of the clause's literals.
-pub fn learn_from(alloc: Global, search: &mut SolverState, conflict: usize) -> Result<u64, AllocError>
+pub fn learn_from(
+    alloc: Global,
+    search: &mut SolverState,
+    conflict: usize,
+) -> Result<u64, AllocError>
     requires searching { IsSearching search.old.clauses.list search.old.trail search.old.order }
     requires conflict { IsConflict search.old.clauses.list search.old.trail conflict }
     requires levels { 0 < length search.old.trail.starts }

@@ -9,6 +9,9 @@
 //! trial outside of this repository formulas of multipliers then took hardly more conflicts than without any
 //! restart, and large formulas of adders far fewer.
 //!
+//! A search behind a net that has gone on for long restarts less often, too. By then many clauses are held,
+//! so it is dear to propagate the same decisions once more.
+//!
 //! With few inputs a search that has gone on for long decides them in the order of their numbers, without
 //! restarts: then it goes over their vectors, as far as clauses do not rule them out many at a time. So it
 //! ends, but its clauses are long, and each conflict walks much of the net: with sixteen inputs most
@@ -34,11 +37,16 @@ const FAST: u32 = 5;
 
 const SLOW: u32 = 14;
 
-/// How large the fast average has to be, in hundredths of the slow one, where the signals of a net are known,
-/// and where they are not.
+/// How large the fast average has to be, in hundredths of the slow one: where the signals of a net are known,
+/// in a long search behind a net, and where no net is known.
 const NET_MARGIN: u64 = 105;
 
+const LATE_MARGIN: u64 = 115;
+
 const BARE_MARGIN: u64 = 120;
+
+/// The conflicts of a search behind a net from which on it takes `LATE_MARGIN`.
+const LATE: u64 = 50_000;
 
 /// The averages, the clauses that were learned, those since the last restart, the number of inputs where they
 /// are few, and the number of levels of each clause that was learned since these were taken last.
@@ -117,9 +125,22 @@ impl Pace {
         }
     }
 
+    /// How large the fast average has to be, in hundredths of the slow one.
+    fn margin(&self) -> u64
+        ensures { result ≤ 120 }
+    {
+        if !self.is_net {
+            BARE_MARGIN
+        } else if self.learned < LATE {
+            NET_MARGIN
+        } else {
+            LATE_MARGIN
+        }
+    }
+
     /// Whether the search goes back to its start now.
     pub fn restarts(&mut self) -> bool {
-        let margin = if self.is_net { NET_MARGIN } else { BARE_MARGIN };
+        let margin = self.margin();
         let due = self.since >= 2
             && self.inputs_first() == 0
             && self.fast / 65536 * 100 > self.slow / 65536 * margin;

@@ -53,7 +53,12 @@ fn all_clauses(alloc: Global, cnf: &Cnf, log: &Log) -> Result<ClauseList, AllocE
 }
 
 /// The search at its start: no variable has a value, and the log is `merged`.
-pub fn start(alloc: Global, cnf: &Cnf, merged: &Log, order: Order) -> Result<SolverState, AllocError>
+pub fn start(
+    alloc: Global,
+    cnf: &Cnf,
+    merged: &Log,
+    order: Order,
+) -> Result<SolverState, AllocError>
     requires merged { IsDerivation cnf.now merged.now }
     requires order { order ≡ cnf.now.variables }
     ensures search { IfOk result (IsSearch cnf.now merged.now 0) }
