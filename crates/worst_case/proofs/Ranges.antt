@@ -27,7 +27,7 @@ pub IsRange-first : (aim : Constraint) (N M : NetValue) (high most : ℕ) (x : L
     → IsTrial (input_count N) s → IsFirstGreatestIn (net_error aim.metric N M) s.vectors most x → length x ≡ input_count N
     → ((input_count N ≤ LANE_INPUTS) × (high ≡ most))
     ⊎ ((LANE_INPUTS < input_count N) × (high ≤ aim.bound) × (high ≤ LARGEST_ERROR) × ((high ≡ aim.bound) ⊎ (high ≡ LARGEST_ERROR)))
-    → IsRange aim N M (record { low = most; witness = x; high = high; log = None })
+    → IsRange aim N M (record { low = most; witness = x; high = high; log = None; reach = 0 })
 IsRange-first aim N M high most x s nets within trial best width (inl small) =
     let first = IsFirstGreatestAt-all (input_count N) (net_error aim.metric N M) s.vectors most x (trial.all small.0) best in
     record {
@@ -51,7 +51,7 @@ IsRange-first aim N M high most x s nets within trial best width (inr large) = r
 
 -- where the greatest error of all vectors is known
 pub IsRange-closed : (aim : Constraint) (N M : NetValue) (most : ℕ) (x : List Bool) (r : Range) → IsRange aim N M r
-    → IsFirstGreatestAt (input_count N) (net_error aim.metric N M) most x → IsRange aim N M (record { low = most; witness = x; high = most; log = None })
+    → IsFirstGreatestAt (input_count N) (net_error aim.metric N M) most x → IsRange aim N M (record { low = most; witness = x; high = most; log = None; reach = 0 })
 IsRange-closed aim N M most x r range best =
     let below : net_error aim.metric N M x ≤ r.high = range.within x best.width in
     record {

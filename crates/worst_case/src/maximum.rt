@@ -2,7 +2,7 @@
 //!
 //! The greatest error lies between an error that some input has and a level that no input's error exceeds.
 //! Diagrams are asked first whether the known error is the greatest. Where they do not tell and there are at
-//! most 24 inputs, every vector is tried; with more inputs each query halves the range between the two
+//! most 24 inputs, every vector is tried; with more inputs each query narrows the range between the two
 //! levels. The log that is returned refutes that any error exceeds the greatest.
 ghost use Rattle.std.specs.Prelude.{◌≡◌, ◌≤◌, IfOk};
 ghost use Rattle.semantics.specs.Net.{IsSmall};
@@ -96,7 +96,7 @@ fn closed_range<P: Progress>(
 }
 
 /// The greatest error of a net that keeps the bound; with at most eight inputs the witness is the first
-/// vector in counting order that has this error. There are at most 85 queries. Tells `progress` the bound at
+/// vector in counting order that has this error. There are at most 170 queries. Tells `progress` the bound at
 /// the beginning, and each range up to the one whose levels meet, before the log is asked for.
 pub fn maximum<P: Progress>(
     alloc: Global,

@@ -21,13 +21,14 @@ use semantics::metric::Metric;
 use std::alloc::{AllocError, Global};
 
 /// An error that the witness has, and a level that no error exceeds; the log, where one is held, shows the
-/// latter.
+/// latter. The next question is at most `reach` above the error.
 #[derive(Drop)]
 pub struct Range {
     pub low: u128,
     pub witness: Bits,
     pub high: u128,
     pub log: Option<Log>,
+    pub reach: u128,
 }
 
 /// The range to begin with: the greatest error of the known vectors, and the bound.
@@ -52,10 +53,11 @@ pub fn first_range(
         witness: best.witness,
         high,
         log: None,
+        reach: 0,
     })
 }
 
-/// Raises the lower level to the error of an input.
+/// Raises the lower level to the error of an input, and doubles the reach, which then is 1 at least.
 fn raise(
     alloc: Global,
     nets: &Compared,
@@ -65,10 +67,15 @@ fn raise(
 ) -> Result<(), AllocError>
     requires width { length x ≡ input_count nets.now.exact }
     ensures { OnOk result (range.new
-        ≡ record range.old { low = net_error metric nets.now.exact nets.now.approx x; witness = x }) }
+        ≡ record range.old {
+          low = net_error metric nets.now.exact nets.now.approx x;
+          witness = x;
+          reach = range.new.reach;
+        }) }
 {
     range.low = error_at(alloc, nets, metric, x.as_slice())?;
     range.witness = x;
+    range.reach = range.reach.saturating_mul(2).max(1);
     Ok(())
 }
 
@@ -78,6 +85,15 @@ fn lower(range: &mut Range, high: u128, log: Option<Log>)
 {
     range.high = high;
     range.log = log;
+}
+
+/// The level of the next question: as far above the known error as the range reaches, or in its middle.
+fn next_level(range: &Range) -> u128
+    requires { range.now.low < range.now.high }
+    ensures above { range.now.low ≤ result }
+    ensures below { result < range.now.high }
+{
+    range.low + range.reach.min((range.high - range.low) / 2)
 }
 
 /// Sets both levels to the greatest error of every vector, where there are at most 24 inputs. Returns whether
@@ -104,6 +120,7 @@ fn close_by_every_vector(
         witness: best.witness,
         high: best.error,
         log: None,
+        reach: 0,
     };
     Ok(true)
 }
@@ -140,7 +157,7 @@ pub fn try_known(
     }
 }
 
-/// Asks the solver whether some error exceeds the middle of the range.
+/// Asks the solver whether some error exceeds the next level of the range.
 fn narrow_by_solver<P: Progress>(
     alloc: Global,
     nets: &Compared,
@@ -154,7 +171,7 @@ fn narrow_by_solver<P: Progress>(
         → IsRangeOrSpent aim nets.now.exact nets.now.approx range.new spent) }
     ensures narrowed { IfOk result (IsNarrowed range.old range.new) }
 {
-    let bound = range.low + (range.high - range.low) / 2;
+    let bound = next_level(range);
     match exceeds(alloc, nets, Constraint { bound, ..aim }, progress)? {
         Exceed::Over(x) => raise(alloc, nets, aim.metric, range, x)?,
         Exceed::Never(log) => lower(range, bound, Some(log)),
@@ -163,7 +180,8 @@ fn narrow_by_solver<P: Progress>(
     Ok(None)
 }
 
-/// Closes the range by every vector, or asks the solver whether some error exceeds the middle of the range.
+/// Closes the range by every vector, or asks the solver whether some error exceeds the next level of the
+/// range.
 fn narrow_without_diagrams<P: Progress>(
     alloc: Global,
     nets: &Compared,
@@ -186,9 +204,9 @@ fn narrow_without_diagrams<P: Progress>(
     narrow_by_solver(alloc, nets, aim, range, progress)
 }
 
-/// Asks the diagrams whether some error exceeds the middle of the range, and narrows the range by the answer.
-/// Where they do not answer, every vector is tried or, with more than 24 inputs, the solver is asked. Returns
-/// the spent query, if one was spent.
+/// Asks the diagrams whether some error exceeds the next level of the range, and narrows the range by the
+/// answer. Where they do not answer, every vector is tried or, with more than 24 inputs, the solver is asked.
+/// Returns the spent query, if one was spent.
 pub fn narrow<P: Progress>(
     alloc: Global,
     nets: &Compared,
@@ -205,7 +223,7 @@ pub fn narrow<P: Progress>(
         → IsRangeOrSpent aim nets.now.exact nets.now.approx range.new spent) }
     ensures narrowed { IfOk result (IsNarrowed range.old range.new) }
 {
-    let bound = range.low + (range.high - range.low) / 2;
+    let bound = next_level(range);
     match judge.by_diagrams(alloc, nets, Constraint { bound, ..aim })? {
         Some(Margin::Over(x)) => raise(alloc, nets, aim.metric, range, x)?,
         Some(Margin::Within) => lower(range, bound, None),
