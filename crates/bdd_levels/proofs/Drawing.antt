@@ -5,7 +5,7 @@ use Rattle.std.proofs.lemmas.Bool.{ltb-true, ltb-false}
 use Rattle.std.proofs.lemmas.List.{length-append, length-map, get_or-map, map-append}
 use Rattle.std.proofs.lemmas.List.Elements.{All-append}
 use Rattle.std.proofs.Math.Seq.{take-append_seam, drop-append_seam}
-use Rattle.semantics.specs.Net.{NetValue, input_count, signal_names, name_of}
+use Rattle.semantics.specs.Net.{NetValue, input_count, signal_names, name_of, HasSamePorts}
 use Rattle.semantics.specs.Value as nets
 use Rattle.semantics.specs.Value.{Assignment, outputs_of}
 use Rattle.semantics.specs.declared.metric.Metric.{Metric}
@@ -43,7 +43,7 @@ drawn_later b c N variables inputs outputs grows are = record {
   outputs_are = outputs_later b c N inputs outputs grows are.outputs_are;
 }
 
-length-outputs_of : (N : NetValue) (x : List Bool) → length (outputs_of N x) ≡ length N.outputs
+pub length-outputs_of : (N : NetValue) (x : List Bool) → length (outputs_of N x) ≡ length N.outputs
 unfolding outputs_of
 length-outputs_of N x = length-map N.outputs (nets.value_of (input_count N) N.tables x)
 
@@ -54,9 +54,12 @@ error_unfolds metric N M x = refl
 pub same_inputs : (N M : NetValue) → IsCandidate N M → input_count M ≡ input_count N
 same_inputs N M candidate = sym (ap length candidate.ports.inputs)
 
+pub same_output_count : (N M : NetValue) → HasSamePorts N M → length N.outputs ≡ length M.outputs
+same_output_count N M ports =
+    sym (length-map N.outputs (name_of (signal_names N))) ∙ ap length ports.outputs ∙ length-map M.outputs (name_of (signal_names M))
+
 pub same_outputs : (N M : NetValue) → IsCandidate N M → length N.outputs ≡ length M.outputs
-same_outputs N M candidate =
-    sym (length-map N.outputs (name_of (signal_names N))) ∙ ap length candidate.ports.outputs ∙ length-map M.outputs (name_of (signal_names M))
+same_outputs N M candidate = same_output_count N M candidate.ports
 
 -- the network of a level says of both nets' outputs whether their error exceeds it
 pub error_told : (metric : Metric) (N M Q : NetValue) (w k : ℕ) (x : List Bool) → IsCandidate N M → w ≡ length N.outputs → TellsLevel metric w k Q

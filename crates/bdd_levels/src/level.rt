@@ -38,7 +38,17 @@ impl Level {
         ensures k { IfOk result (λ level. level.k ≡ k) }
         ensures level { IfOk result (IsLevelOf exact.now) }
     {
-        let network = quality(alloc, metric, exact.outputs(), k)?;
+        Level::of_width(alloc, exact.outputs(), metric, k)
+    }
+
+    /// The level `k` of the errors of words of `width` bits.
+    pub fn of_width(alloc: Global, width: u32, metric: Metric, k: u128) -> Result<Level, AllocError>
+        requires { width ≤ MOST_OUTPUTS }
+        ensures metric { IfOk result (λ level. level.metric ≡ metric) }
+        ensures k { IfOk result (λ level. level.k ≡ k) }
+        ensures tells { IfOk result (λ level. TellsLevel level.metric width level.k level.network) }
+    {
+        let network = quality(alloc, metric, width, k)?;
         Ok(Level { metric, k, network })
     }
 }

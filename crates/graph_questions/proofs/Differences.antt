@@ -1,14 +1,14 @@
 -- The difference that a change makes, and what is asked where there is one.
-use Rattle.std.proofs.Common.{◌≡◌, ◌≢◌, ℕ, ◌+◌, ◌<◌, Bool, true, false, not, ◌&&◌, ◌||◌, List, length, get_or, map, refl, sym, ap, subst, ◌∙◌, arith}
+use Rattle.std.proofs.Common.{◌≡◌, ◌≢◌, ℕ, ◌<◌, Bool, true, false, not, ◌&&◌, ◌||◌, List, length, get_or, map, refl, ap, ◌∙◌, arith}
 use Rattle.std.proofs.lemmas.Bool.{lt-ltb}
 use Rattle.std.proofs.lemmas.Grind.{get_or_default_zero}
 use Rattle.std.proofs.lemmas.List.{length-map}
 use Rattle.semantics.specs.Net.{NetValue, input_count, signal_count}
-use Rattle.semantics.specs.Value.{Assignment, value_of}
+use Rattle.semantics.specs.Value.{value_of}
 use Rattle.net_search.specs.declared.judging.Change.{Change}
-use Rattle.net_search.specs.Judging.{signal_value, IsChange}
+use Rattle.net_search.specs.Judging.{signal_value}
 use Rattle.net_search.proofs.Changes.{change-differs}
-use Rattle.aig_core.specs.Graph.{GraphValue, IsLiteralOf, literal_value, IsConsistent}
+use Rattle.aig_core.specs.Graph.{GraphValue, literal_value, IsConsistent}
 use Rattle.aig_core.specs.Grown.{Grows, IsConjunctionOf, IsDisjunctionOf, IsOppositeOf}
 use Rattle.aig_core.specs.Signals.{AreSignalsOver}
 use Rattle.aig_core.proofs.Growing.{consistent_before}
@@ -70,7 +70,7 @@ over_itself g q inputs l is = record { within = is.within; over = λ x v val ove
 
 -- where the error exceeds the level, the change makes a difference
 pub over_changed : (b c d : GraphValue) (q : LevelQuestion) (change : Change) (inputs : List ℕ) (over differs l : ℕ) → Grows b c → Grows c d → length inputs ≡ input_count q.nets.exact
-    → input_count q.nets.exact ≡ input_count q.nets.approx → IsChangeFor q change → IsOverLiteral b q inputs over → IsDifferenceOf c change q.nets.approx inputs differs
+    → input_count q.nets.exact ≡ input_count q.nets.approx → IsChangeFor q change → IsTrueWhereOver b q inputs over → IsDifferenceOf c change q.nets.approx inputs differs
     → IsConjunctionOf d over differs l → IsTrueWhereOver d q inputs l
 over_changed b c d q change inputs over differs l up upper count same_inputs made is different both = record {
   within = both.within;
@@ -82,6 +82,6 @@ over_changed b c d q change inputs over differs l up upper count same_inputs mad
       let apart : signal_value change.before.now x_of change.signal ≢ signal_value q.nets.approx x_of change.signal =
       change-differs q.metric q.nets.exact change.before.now q.nets.approx q.k change.signal x_of made.keeps made.made same_inputs width exceeds in
       both.is x v val ∙ and_true _ _
-      (is.is x v val_b ∙ lt-ltb q.k (asked_error q x_of) exceeds)
+      (is.over x v val_b exceeds)
       (different.is x v val_c ∙ differ_true _ _ apart);
 }

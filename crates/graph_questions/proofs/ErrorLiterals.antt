@@ -13,7 +13,6 @@ use Rattle.aig_core.specs.Signals.{AreOutputsOver}
 use Rattle.aig_core.proofs.Growing.{consistent_before}
 use Rattle.bdd_levels.specs.Levels.{TellsLevel}
 use Rattle.bdd_levels.proofs.Drawing.{same_outputs, error_told}
-use Rattle.net_errors.specs.Compared.{NetPair}
 use Rattle.graph_questions.specs.Levels.{LevelQuestion, asked_error, IsOverLiteral, IsTrueWhereOver, IsGoalOf}
 
 -- both nets' outputs

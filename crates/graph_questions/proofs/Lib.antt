@@ -2,3 +2,5 @@ pub mod ClauseValues
 pub mod Differences
 pub mod ErrorLiterals
 pub mod Questions
+pub mod LowPlaces
+pub mod Residues

@@ -1,5 +1,5 @@
 -- What a refuted formula says of a literal.
-use Rattle.std.proofs.Common.{◌≡◌, ℕ, Bool, true, false, List, length, refl, ◌∙◌}
+use Rattle.std.proofs.Common.{◌≡◌, ℕ, Bool, true, false, List, refl, ◌∙◌}
 use Rattle.aig_core.specs.Graph.{GraphValue, node_count, truth_of}
 use Rattle.proof_semantics.specs.Formula.{Formula}
 use Rattle.proof_semantics.specs.Logs.{LogItem, Refutes}

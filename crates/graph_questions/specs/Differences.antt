@@ -1,7 +1,6 @@
 -- Where a change of a net gives its signal another value.
-use Rattle.std.specs.Prelude.{◌≡◌, ℕ, Bool, not, if◌then◌else◌, List, map, length}
-use Rattle.semantics.specs.Net.{NetValue, input_count}
-use Rattle.semantics.specs.Value.{value_of}
+use Rattle.std.specs.Prelude.{ℕ, Bool, not, if◌then◌else◌, List, map}
+use Rattle.semantics.specs.Net.{NetValue}
 use Rattle.net_search.specs.declared.judging.Change.{Change}
 use Rattle.net_search.specs.Judging.{signal_value}
 use Rattle.aig_core.specs.Graph.{GraphValue, IsLiteralOf, literal_value}

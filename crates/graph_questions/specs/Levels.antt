@@ -1,7 +1,7 @@
 -- The literal of a graph that says whether the error of a net exceeds a level, and the one that is asked
 -- about.
 use Rattle.std.specs.Prelude.{◌≡◌, ℕ, ◌<◌, nat_lt, Bool, true, List, map, length}
-use Rattle.semantics.specs.Net.{NetValue, input_count}
+use Rattle.semantics.specs.Net.{input_count}
 use Rattle.semantics.specs.Value.{Assignment}
 use Rattle.semantics.specs.declared.metric.Metric.{Metric}
 use Rattle.semantics.specs.Error.{net_error, IsWithin}

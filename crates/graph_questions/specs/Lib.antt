@@ -1,3 +1,4 @@
 pub mod GraphClauses
 pub mod Differences
 pub mod Levels
+pub mod LowPlaces

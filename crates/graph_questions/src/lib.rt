@@ -4,6 +4,9 @@
 mod clauses;
 mod cone;
 mod difference;
+mod goal;
 mod guide;
 pub mod levels;
+mod low_places;
+mod nearness;
 mod question;

@@ -1,8 +1,8 @@
-use Rattle.std.proofs.Common.{List, ℕ, ◌++◌, length, ap, refl, subst, ◌∙◌}
+use Rattle.std.proofs.Common.{List, ℕ, ◌++◌, length, refl, subst, ◌∙◌}
 use Rattle.semantics.specs.Net.{NetValue}
 use Rattle.aig_core.specs.Signals.{AreOutputsOver}
 use Rattle.graph_questions.proofs.ErrorLiterals.{over_is}
-use Rattle.graph_questions.proofs.levels.over_literal.Goals as goal
+use Rattle.graph_questions.proofs.goal.over_literal.Goals as goal
 
 pub returns-clause-over : goal.returns-clause-over
 returns-clause-over c =

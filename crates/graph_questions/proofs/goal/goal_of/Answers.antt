@@ -3,7 +3,7 @@ use Rattle.semantics.specs.Net.{NetValue, input_count}
 use Rattle.aig_core.specs.Graph.{GraphValue}
 use Rattle.graph_questions.specs.Levels.{question_of, IsTrueWhereOver}
 use Rattle.graph_questions.proofs.ErrorLiterals.{over_graph}
-use Rattle.graph_questions.proofs.levels.goal_of.Goals as goal
+use Rattle.graph_questions.proofs.goal.goal_of.Goals as goal
 
 pub returns : goal.returns
 returns c =
