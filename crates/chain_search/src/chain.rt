@@ -16,6 +16,8 @@ use worst_case::maximum::maximum;
 pub struct ChainSearch;
 
 impl Search for ChainSearch {
+    ghost takes = { λ net. Unit {0} };
+
     fn within<P: Progress>(
         alloc: Global,
         nets: &Compared,

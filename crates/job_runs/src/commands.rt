@@ -1,5 +1,6 @@
 //! The jobs by their words, and what the answer to each job says.
 ghost use Rattle.std.specs.Prelude.{◌≡◌, List, Some};
+ghost use Rattle.semantics.specs.Net.{NetValue};
 ghost use Rattle.semantics.specs.Texts.{Bytes};
 ghost use Rattle.outside_semantics.specs.Outside.{SinkTold};
 ghost use Rattle.job_semantics.specs.Job.{job_of};
@@ -60,6 +61,7 @@ pub fn carry_out<S: Search, F: Files, K: Sink, P: Progress>(
     say: &mut K,
     progress: &mut P,
 ) -> Outcome
+    requires takes { (net : NetValue) → S.takes net }
     ensures says { RunSays
         words.now
         (told_call (F.told files.old) (F.told files.new) (K.told say.old) (K.told say.new))

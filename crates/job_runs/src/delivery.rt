@@ -27,6 +27,7 @@ pub(crate) fn deliver<S: Search, F: Files, K: Sink, P: Progress>(
     progress: &mut P,
 ) -> Outcome
     requires exact { IsSmall request.exact }
+    requires takes { S.takes request.exact }
     requires begin { IsSmall request.begin }
     requires beginning { IsBeginning request.aim.metric request.exact request.aim.bound request.begin }
     requires bound { request.aim.bound ≤ LARGEST_ERROR }

@@ -26,6 +26,7 @@ pub fn demonstrate<S: Search, F: Files, K: Sink, P: Progress>(
     progress: &mut P,
 ) -> Outcome
     requires width { (1 ≤ width) × (width ≤ 32) }
+    requires takes { S.takes (demo_net width) }
     requires bound { aim.bound ≤ LARGEST_ERROR }
     requires limit { 1 ≤ aim.limit }
     ensures { BundleAnswer

@@ -5,7 +5,7 @@ ghost use Rattle.outside_semantics.specs.Outside.{bytes_of};
 ghost use Rattle.blif_semantics.specs.Reading.{blif_reading};
 ghost use Rattle.semantics.specs.declared.limits.TheConstants.{MOST_INPUT_BYTES};
 ghost use Rattle.semantics.specs.Texts.{Bytes};
-ghost use Rattle.semantics.specs.Net.{input_count};
+ghost use Rattle.semantics.specs.Net.{NetValue, input_count};
 ghost use Rattle.semantics.specs.declared.metric.Metric.{Metric};
 ghost use Rattle.proof_semantics.specs.declared.constraint.Constraint.{Constraint};
 ghost use Rattle.job_semantics.specs.Headline.{Headline};
@@ -39,6 +39,8 @@ pub fn run_followed<S: Search, F: Files, K: Sink, P: Progress>(
     say: &mut K,
     progress: &mut P,
 ) -> Outcome
+    requires takes { (net : NetValue) → S.takes net }
+
     // When `check` verifies a bundle it keeps its promise; unless conflicts were spent, an accepted netlist
     // gets a bundle that verifies.
     ensures headline { Headline
@@ -77,6 +79,7 @@ pub fn run_surely<S: Search>(
     files: &mut SureFiles,
     say: &mut SureSink,
 ) -> Outcome
+    requires takes { (net : NetValue) → S.takes net }
     ensures headline { Headline
         words.now
         (answered_by result)

@@ -1,7 +1,7 @@
 //! A certify or a refine job: IN and a second netlist are read, the second is judged against IN, and the
 //! bundle of the task is written.
 ghost use Rattle.std.specs.Prelude.{◌≤◌, IfOk, IfErr};
-ghost use Rattle.semantics.specs.Net.{IsSmall};
+ghost use Rattle.semantics.specs.Net.{NetValue, IsSmall};
 ghost use Rattle.command_words.specs.Names.{names_of};
 ghost use Rattle.conversions.specs.Input.{NetRead};
 ghost use Rattle.synth_jobs.specs.Calls.{told_call};
@@ -45,6 +45,7 @@ fn undertake<S: Search, F: Files, K: Sink, P: Progress>(
     progress: &mut P,
 ) -> Outcome
     requires exact { IsSmall request.exact }
+    requires takes { S.takes request.exact }
     requires begin { IsSmall request.begin }
     requires bound { request.aim.bound ≤ LARGEST_ERROR }
     requires limit { 1 ≤ request.aim.limit }
@@ -83,6 +84,7 @@ pub(crate) fn against<S: Search, F: Files, K: Sink, P: Progress>(
     say: &mut K,
     progress: &mut P,
 ) -> Outcome
+    requires takes { (net : NetValue) → S.takes net }
     requires bound { job.aim.bound ≤ LARGEST_ERROR }
     requires limit { 1 ≤ job.aim.limit }
     ensures { TaskAnswer

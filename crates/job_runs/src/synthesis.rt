@@ -1,5 +1,6 @@
 //! A synth job: IN is read and simplified, and its bundle is written.
 ghost use Rattle.std.specs.Prelude.{◌≤◌};
+ghost use Rattle.semantics.specs.Net.{NetValue};
 ghost use Rattle.synth_jobs.specs.Calls.{told_call};
 ghost use Rattle.job_runs.specs.Run.{SynthAnswer};
 
@@ -24,6 +25,7 @@ pub(crate) fn synthesize<S: Search, F: Files, K: Sink, P: Progress>(
     say: &mut K,
     progress: &mut P,
 ) -> Outcome
+    requires takes { (net : NetValue) → S.takes net }
     requires bound { job.aim.bound ≤ LARGEST_ERROR }
     requires limit { 1 ≤ job.aim.limit }
     ensures { SynthAnswer

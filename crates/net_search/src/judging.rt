@@ -26,9 +26,13 @@ pub struct Change<'a> {
 pub trait Judging<'a>: Drop {
     ghost exact: { Self → NetValue };
 
+    /// The exact nets against which the judge can judge.
+    ghost takes: { NetValue → Type 0 };
+
     /// Begins with what is computed of the exact net once.
     fn begin(alloc: Global, net: &'a Net) -> Result<Self, AllocError>
-        requires { IsSmall net.now }
+        requires small { IsSmall net.now }
+        requires takes { takes net.now }
         ensures { IfOk result (λ judge. exact judge ≡ net.now) };
 
     /// Whether the error of an approximate net stays within the bound, where the error of the net before the

@@ -1,7 +1,7 @@
 //! The three searches that make a simplification: whether the net to begin with keeps the bound, the search
 //! along the chain, and the search for the greatest error.
 ghost use Rattle.std.specs.Prelude.{◌≡◌, ◌≤◌, option_map, IfOk};
-ghost use Rattle.semantics.specs.Net.{input_count, IsSmall};
+ghost use Rattle.semantics.specs.Net.{NetValue, input_count, IsSmall};
 ghost use Rattle.semantics.specs.Error.{IsWithin};
 ghost use Rattle.job_semantics.specs.Shrinking.{IsShrinking};
 ghost use Rattle.level_answers.specs.Exceeds.{spent_value};
@@ -29,6 +29,9 @@ pub struct Shrunk {
 /// The three searches. What is asked of each is a constraint: how errors are measured, the greatest error
 /// that is allowed, and the most conflicts of each query.
 pub trait Search {
+    /// The exact nets for which the search is made.
+    ghost takes: { NetValue → Type 0 };
+
     /// Whether the error of an approximate net stays within the bound: an input at which it does not, with
     /// few inputs the first in counting order, or that there is none.
     fn within<P: Progress>(
@@ -38,6 +41,7 @@ pub trait Search {
         progress: &mut P,
     ) -> Result<Margin, AllocError>
         requires small { IsSmall nets.now.exact }
+        requires takes { takes nets.now.exact }
         requires limit { 1 ≤ aim.limit }
         ensures { IfOk result (IsBoundAnswer aim nets.now.exact nets.now.approx) };
 
@@ -50,6 +54,7 @@ pub trait Search {
         progress: &mut P,
     ) -> Result<Shrunk, AllocError>
         requires exact { IsSmall nets.now.exact }
+        requires takes { takes nets.now.exact }
         requires begin { IsSmall nets.now.approx }
         requires within { IsWithin aim.metric nets.now.exact aim.bound nets.now.approx }
         requires limit { 1 ≤ aim.limit }
@@ -66,6 +71,7 @@ pub trait Search {
         progress: &mut P,
     ) -> Result<Maximum, AllocError>
         requires small { IsSmall nets.now.exact }
+        requires takes { takes nets.now.exact }
         requires limit { 1 ≤ aim.limit }
         requires within { IsWithin aim.metric nets.now.exact aim.bound nets.now.approx }
         ensures { IfOk result (IsMaximumAnswer aim nets.now.exact nets.now.approx) };

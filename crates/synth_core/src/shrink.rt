@@ -66,6 +66,7 @@ pub fn shrink_from<'a, J: Judging<'a>, P: Progress>(
     progress: &mut P,
 ) -> Result<Shrunk, AllocError>
     requires exact { IsSmall nets.now.exact }
+    requires takes { J.takes nets.now.exact }
     requires begin { IsSmall nets.now.approx }
     requires within { IsWithin aim.metric nets.now.exact aim.bound nets.now.approx }
     requires limit { 1 ≤ aim.limit }
@@ -92,6 +93,7 @@ pub fn shrink<'a, J: Judging<'a>>(
 ) -> Result<Shrunk, AllocError>
     requires few_outputs { length net.now.outputs ≤ MOST_OUTPUTS }
     requires small { IsSmall net.now }
+    requires takes { J.takes net.now }
     requires limit { 1 ≤ aim.limit }
     ensures shrinking { IfOk result (λ s. IsShrinking aim net.now net.now
         (record { net = s.net; pool = s.pool.vectors; spent = option_map spent_value s.spent })) }

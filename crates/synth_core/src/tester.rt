@@ -37,7 +37,8 @@ pub(crate) fn tester_for<'a, J: Judging<'a>>(
     exact: &'a Net,
     aim: Constraint,
 ) -> Result<Tester<J>, AllocError>
-    requires { IsSmall exact.now }
+    requires small { IsSmall exact.now }
+    requires takes { J.takes exact.now }
     ensures aim { IfOk result (λ tester. tester.aim ≡ aim) }
     ensures judge { IfOk result (λ tester. J.exact tester.judge ≡ exact.now) }
     ensures pool { IfOk result (λ tester. IsPool exact.now tester.pool) }

@@ -50,6 +50,7 @@ pub fn judge_beginning<S: Search, P: Progress>(
     progress: &mut P,
 ) -> Result<Beginning, AllocError>
     requires small { IsSmall exact.now }
+    requires takes { S.takes exact.now }
     requires limit { 1 ≤ aim.limit }
     ensures { IfOk result (IsBeginningJudged aim exact.now begin.now) }
 {

@@ -79,6 +79,7 @@ pub fn finish<S: Search, F: Files, K: Sink, P: Progress>(
     progress: &mut P,
 ) -> Work
     requires small { IsSmall request.exact }
+    requires takes { S.takes request.exact }
     requires begin_small { IsSmall request.begin }
     requires beginning { IsBeginning request.aim.metric request.exact request.aim.bound request.begin }
     requires bound { request.aim.bound ≤ LARGEST_ERROR }

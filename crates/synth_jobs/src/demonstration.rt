@@ -46,6 +46,7 @@ pub fn demonstrate<S: Search, F: Files, K: Sink, P: Progress>(
     progress: &mut P,
 ) -> Work
     requires width { (1 ≤ width) × (width ≤ 32) }
+    requires takes { S.takes (demo_net width) }
     requires bound { aim.bound ≤ LARGEST_ERROR }
     requires limit { 1 ≤ aim.limit }
     ensures { WorkSays

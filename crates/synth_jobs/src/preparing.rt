@@ -133,6 +133,7 @@ fn carried_out<S: Search, P: Progress>(
     progress: &mut P,
 ) -> Result<Shrunk, AllocError>
     requires small { IsSmall exact.now }
+    requires takes { S.takes exact.now }
     requires begin_small { IsSmall begin }
     requires beginning { IsBeginning aim.metric exact.now aim.bound begin }
     requires limit { 1 ≤ aim.limit }
@@ -161,6 +162,7 @@ fn search<S: Search, P: Progress>(
     progress: &mut P,
 ) -> Result<Searched, AllocError>
     requires small { IsSmall exact.now }
+    requires takes { S.takes exact.now }
     requires begin_small { IsSmall begin }
     requires beginning { IsBeginning aim.metric exact.now aim.bound begin }
     requires limit { 1 ≤ aim.limit }
@@ -194,6 +196,7 @@ pub fn prepare<S: Search, P: Progress>(
     progress: &mut P,
 ) -> Result<Prepared, AllocError>
     requires small { IsSmall request.exact }
+    requires takes { S.takes request.exact }
     requires begin_small { IsSmall request.begin }
     requires beginning { IsBeginning request.aim.metric request.exact request.aim.bound request.begin }
     requires bound { request.aim.bound ≤ LARGEST_ERROR }

@@ -1,6 +1,5 @@
 pub mod Beginnings
 pub mod Queries
-pub mod FirstGreatest
 pub mod Ranges
 pub mod Tried
 pub mod Decided

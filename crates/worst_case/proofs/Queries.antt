@@ -1,13 +1,13 @@
 -- What the joint net and the miter say of the two nets.
-use Rattle.std.proofs.Common.{◌≡◌, ℕ, ◌<◌, ◌≤◌, Bool, false, List, [], ◌∷◌, length, take, get_or, refl, ap, sym, subst, ◌∙◌, arith}
-use Rattle.std.proofs.lemmas.Bool.{and_parts, le-ltb, ltb-true}
+use Rattle.std.proofs.Common.{◌≡◌, ℕ, ◌<◌, ◌≤◌, Bool, false, List, length, take, get_or, refl, sym, subst, ◌∙◌, arith}
+use Rattle.std.proofs.lemmas.Bool.{and_parts, ltb-true}
 use Rattle.std.proofs.lemmas.List.{get_or-take, length-take-le}
 use Rattle.semantics.specs.Net.{NetValue, input_count}
-use Rattle.semantics.specs.Value.{Assignment, outputs_of}
+use Rattle.semantics.specs.Value.{Assignment}
 use Rattle.semantics.specs.declared.metric.Metric.{Metric}
-use Rattle.semantics.specs.Error.{net_error, IsWithin}
+use Rattle.semantics.specs.Error.{net_error}
 use Rattle.quality_semantics.specs.Joint.{joint_net, AreComparable}
-use Rattle.quality_semantics.proofs.Joint.{joint_inputs, joint_output as output_tells}
+use Rattle.quality_semantics.proofs.Joint.{joint_inputs}
 use Rattle.proof_semantics.specs.declared.constraint.Constraint.{Constraint}
 use Rattle.proof_semantics.specs.Clauses.{Satisfies}
 use Rattle.proof_semantics.specs.NetClauses.{net_clauses}
@@ -67,12 +67,6 @@ module _ (metric : Metric) (N M : NetValue) (k : ℕ) (h : AreComparable N M) wh
         within = miter_law.refuted N M metric k h log shown;
         merged = λ many. merged;
       }
-
-  -- where no error exceeds the level the joint net's output is always 0
-  pub joint_never : IsWithin metric N k M → (J : NetValue) → J ≡ joint_net N M metric k → (x : List Bool) → length x ≡ input_count J → outputs_of J x ≡ false ∷ []
-  joint_never within J is x width =
-      let low : net_error metric N M x ≤ k = within x (width ∙ ap input_count is ∙ joint_inputs N M metric k) in
-      ap (λ K. outputs_of K x) is ∙ output_tells N M metric k h x ∙ ap (λ bit. bit ∷ []) (le-ltb k (net_error metric N M x) low)
 
 -- an answer to the miter behind the merges of the joint net is one to the question about the nets
 module _ (aim : Constraint) (N M : NetValue) (h : AreComparable N M) where

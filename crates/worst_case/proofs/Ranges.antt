@@ -10,9 +10,10 @@ use Rattle.proof_semantics.specs.declared.constraint.Constraint.{Constraint}
 use Rattle.lane_bits.specs.Patterns.{PatternSet}
 use Rattle.worst_case.specs.declared.range.Range.{Range}
 use Rattle.worst_case.specs.declared.options.TheConstants.{LANE_INPUTS}
-use Rattle.worst_case.specs.VectorsTried.{IsTrial, IsFirstGreatestIn}
+use Rattle.worst_case.specs.VectorsTried.{IsTrial}
+use Rattle.every_vector.specs.Vectors.{IsFirstGreatestIn}
 use Rattle.worst_case.specs.Maximum.{IsRange}
-use Rattle.worst_case.proofs.FirstGreatest.{IsFirstGreatestAt-all}
+use Rattle.every_vector.proofs.FirstGreatest.{IsFirstGreatestAt-all}
 
 -- the smaller of the bound and the largest error
 pub smaller : (bound high : ℕ) → high ≡ min bound LARGEST_ERROR → (high ≤ bound) × (high ≤ LARGEST_ERROR) × ((high ≡ bound) ⊎ (high ≡ LARGEST_ERROR))

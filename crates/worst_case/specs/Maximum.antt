@@ -10,7 +10,7 @@ use Rattle.proof_semantics.specs.Queries.{IsNever, IsSpentLevel}
 use Rattle.level_answers.specs.Exceeds.{spent_value}
 use Rattle.level_answers.specs.declared.query.Spent as spent
 use Rattle.worst_case.specs.declared.range.Range.{Range}
-use Rattle.worst_case.specs.declared.vectors_tried.Attained.{Attained}
+use Rattle.every_vector.specs.declared.vectors.Attained.{Attained}
 
 -- the greatest error of all input vectors, and the first of them that has it; it may not be found where there
 -- are more than `most` inputs

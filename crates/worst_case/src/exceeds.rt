@@ -2,12 +2,12 @@
 //! where no vector's error exceeds the level; with more inputs the solver is asked.
 ghost use Rattle.std.specs.Prelude.{◌≤◌, IfOk};
 ghost use Rattle.level_answers.specs.Exceeds.{IsAnswer};
-ghost use Rattle.worst_case.specs.VectorsTried.{IsEveryVectorHeld};
+ghost use Rattle.every_vector.specs.Vectors.{IsEveryVectorHeld};
 
 use crate::options::LANE_INPUTS;
 use crate::refutation::refute_level;
 use crate::repeated_query::ask_repeatedly;
-use crate::vectors_tried::{hold_every_vector, try_vectors};
+use every_vector::vectors::{hold_every_vector, try_vectors};
 use lane_nets::reference::Reference;
 use level_answers::query::Exceed;
 use net_errors::compared::Compared;
@@ -16,7 +16,7 @@ use proof_semantics::constraint::Constraint;
 use std::alloc::{AllocError, Global};
 
 /// Whether some error exceeds the bound, as [`exceeds`] answers, where every vector is held.
-#[tactic(auto, using(crate::proofs::Tried::over_first))]
+#[tactic(auto, using(every_vector::proofs::Tried::over_first))]
 fn exceeds_held<P: Progress>(
     alloc: Global,
     nets: &Compared,

@@ -6,15 +6,17 @@ ghost use Rattle.semantics.specs.Net.{input_count, IsSmall};
 ghost use Rattle.level_answers.specs.Levels.{IsLevelAnswer, IsSureAnswer};
 ghost use Rattle.worst_case.specs.Levels.{IsAnsweredUpTo};
 ghost use Rattle.worst_case.specs.Maximum.{IsGreatestUpTo};
-ghost use Rattle.worst_case.specs.VectorsTried.{IsHeldFor, IsEachVectorHeldUpTo};
+ghost use Rattle.worst_case.specs.VectorsTried.{IsHeldFor};
+ghost use Rattle.every_vector.specs.Vectors.{IsEachVectorHeldUpTo};
 
 use crate::margin::{by_diagrams, by_solver};
 use crate::options::{LANE_INPUTS, MOST_INPUTS_WITHOUT, MOST_TRIED_INPUTS, TABLES_A_STEP};
-use crate::vectors_tried::{
-    Attained, greatest_of, hold_each_vector, hold_every_vector, hold_vectors, try_vectors,
-};
+use crate::vectors_tried::hold_vectors;
 use bdd_levels::budgets::QUESTION_STEPS;
 use bdd_levels::decider::Decider;
+use every_vector::vectors::{
+    Attained, greatest_of, hold_each_vector, hold_every_vector, try_vectors,
+};
 use lane_nets::reference::Reference;
 use level_answers::margin::Margin;
 use net_core::net::Net;
@@ -41,7 +43,8 @@ pub struct Judge<'a> {
 impl<'a> Model for Judge<'a> {
     ghost use Rattle.std.specs.Prelude.{◌≡◌, IfSome};
     ghost use Rattle.semantics.specs.Net.{NetValue};
-    ghost use Rattle.worst_case.specs.VectorsTried.{IsHeldFor, IsEachVectorHeld};
+    ghost use Rattle.worst_case.specs.VectorsTried.{IsHeldFor};
+    ghost use Rattle.every_vector.specs.Vectors.{IsEachVectorHeld};
 
     ghost Value = { NetValue };
 
@@ -146,7 +149,7 @@ impl<'a> Judge<'a> {
     }
 
     /// The answer of every vector, with at most `MOST_TRIED_INPUTS` inputs.
-    #[tactic(auto, using(crate::proofs::Tried::within_each))]
+    #[tactic(auto, using(every_vector::proofs::Tried::within_each))]
     pub(crate) fn by_every_vector(
         &mut self,
         alloc: Global,

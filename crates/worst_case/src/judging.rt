@@ -12,6 +12,8 @@ use std::alloc::{AllocError, Global};
 impl<'a> Judging<'a> for Judge<'a> {
     ghost exact = { λ judge. judge };
 
+    ghost takes = { λ net. Unit {0} };
+
     fn begin(alloc: Global, net: &'a Net) -> Result<Judge<'a>, AllocError> {
         Judge::new(alloc, net)
     }

@@ -3,7 +3,6 @@
 #![tactic(auto)]
 
 pub mod beginning;
-mod comparable;
 pub mod exceeds;
 mod graph_question;
 pub mod judge;

@@ -7,7 +7,7 @@ ghost use Rattle.worst_case.specs.Maximum.{IsNarrowed, IsRange, IsRangeOrSpent};
 use crate::exceeds::exceeds;
 use crate::judge::Judge;
 use crate::options::LANE_INPUTS;
-use crate::vectors_tried::greatest_of;
+use every_vector::vectors::greatest_of;
 use level_answers::margin::Margin;
 use level_answers::query::{Exceed, Spent};
 use net_core::items::Bits;

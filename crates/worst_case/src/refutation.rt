@@ -9,13 +9,11 @@ ghost use Rattle.proof_semantics.specs.Conflicts.{IsEnough};
 ghost use Rattle.proof_semantics.specs.Queries.{IsNever};
 ghost use Rattle.level_answers.specs.Exceeds.{IsAnswer};
 
-use crate::comparable::see_comparable;
 use crate::options::FEW_CONFLICTS;
 use crate::repeated_query::ask_repeatedly;
 use crate::solver_query::ask_solver;
-use case_tree::refute::refute;
+use every_vector::by_cases::refute_by_cases;
 use level_answers::query::Exceed;
-use miter::level::joint_miter;
 use net_errors::compared::Compared;
 use progress::progress::Progress;
 use proof_parts::log::Log;
@@ -36,17 +34,6 @@ fn is_enough(limit: u64, inputs: u32) -> bool
     ensures { IsTrue result ↔ IsEnough limit inputs }
 {
     inputs <= FEW_INPUTS || inputs <= MOST_CASE_INPUTS && 2u64.pow(inputs + 1) <= limit
-}
-
-/// The log by cases.
-fn refute_by_cases(alloc: Global, nets: &Compared, aim: Constraint) -> Result<Log, AllocError>
-    requires few_inputs { input_count nets.now.exact ≤ MOST_CASE_INPUTS }
-    requires within { IsWithin aim.metric nets.now.exact aim.bound nets.now.approx }
-    ensures { IfOk result (IsNever aim.metric nets.now.exact nets.now.approx aim.bound) }
-{
-    see_comparable(nets);
-    let miter = joint_miter(alloc, nets, aim.metric, aim.bound)?;
-    refute(alloc, &miter.net, &miter.formula)
 }
 
 /// The log of the solver, where a query of few conflicts finds one, and else the log by cases.

@@ -9,10 +9,10 @@ ghost use Rattle.proof_semantics.specs.Queries.{IsNever};
 ghost use Rattle.cdcl_core.specs.declared.answer.Answer.TheVariants.{Model};
 ghost use Rattle.worst_case.specs.Exceeds.{IsAsked, IsPosed, told};
 
-use crate::comparable::see_comparable;
 use cdcl_core::answer::Answer;
 use cdcl_core::guide::Guide;
 use cdcl_core::solve::solve_guided;
+use every_vector::comparable::see_comparable;
 use level_answers::query::{Exceed, Spent};
 use merge_log::merges::merges;
 use miter::level::{Miter, joint_miter};

@@ -9,4 +9,4 @@ new-nets-requires g c = record { ports = record { inputs = refl; outputs = refl 
 pub shrink_from-requires : goal.shrink_from-requires
 shrink_from-requires g c = λ k.
     let within = IsWithin-same c.args.aim.metric c.args.net.now c.args.aim.bound in
-    rw c.new-nets.ensures ((refl, tt), (c.requires.small, (c.requires.small, (within, c.requires.limit))))
+    rw c.new-nets.ensures ((refl, tt), (c.requires.small, (c.requires.takes, (c.requires.small, (within, c.requires.limit)))))

@@ -1,6 +1,6 @@
 use Rattle.std.proofs.Common.{subst, ◌∙◌}
-use Rattle.worst_case.specs.VectorsTried.{IsEveryVectorHeld}
-use Rattle.worst_case.proofs.FirstGreatest.{every_some, every_greatest}
+use Rattle.every_vector.specs.Vectors.{IsEveryVectorHeld}
+use Rattle.every_vector.proofs.FirstGreatest.{every_some, every_greatest}
 use Rattle.worst_case.proofs.judge.Judge.greatest_of_every.Goals as goal
 
 pub greatest_of-requires-clause-some : goal.greatest_of-requires-clause-some

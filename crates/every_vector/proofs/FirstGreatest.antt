@@ -10,7 +10,7 @@ use Rattle.semantics.proofs.Vectors.{length-bits_of, number_of-bits_of, each_vec
 use Rattle.lane_bits.specs.Patterns.{PatternSet}
 use Rattle.lane_nets.specs.Errors.{IsFirstGreatest}
 use Rattle.lane_nets.specs.Lanes.{ReferenceValue}
-use Rattle.worst_case.specs.VectorsTried.{IsFirstGreatestIn, IsEveryVectorHeld}
+use Rattle.every_vector.specs.Vectors.{IsFirstGreatestIn, IsEveryVectorHeld}
 
 -- the vector at the place that was found
 pub IsFirstGreatestIn-at : (metric : Metric) (N M : NetValue) (vectors : List (List Bool)) (most at : ℕ) (x : List Bool) → IsFirstGreatest (net_error metric N M) vectors most at

@@ -1,7 +1,7 @@
 use Rattle.std.proofs.Common.{◌∙◌, [], ap, slice_index_or}
 use Rattle.lane_bits.specs.Patterns.{PatternSet}
-use Rattle.worst_case.proofs.Tried.{IsFirstExceeded-at, IsWithin-all, found_held}
-use Rattle.worst_case.proofs.vectors_tried.try_vectors.Goals as goal
+use Rattle.every_vector.proofs.Tried.{IsFirstExceeded-at, IsWithin-all, found_held}
+use Rattle.every_vector.proofs.vectors.try_vectors.Goals as goal
 
 pub first_over-requires : goal.first_over-requires
 first_over-requires c = rw (c.requires.exact, c.approx.ensures.value) c.approx.ensures.candidate

@@ -1,7 +1,7 @@
 use Rattle.std.proofs.Common.{subst}
 use Rattle.semantics.specs.Net.{IsSound}
 use Rattle.quality_semantics.proofs.Joint.{comparable}
-use Rattle.worst_case.proofs.comparable.see_comparable.Goals as goal
+use Rattle.every_vector.proofs.comparable.see_comparable.Goals as goal
 
 pub returns : goal.returns
 returns c =

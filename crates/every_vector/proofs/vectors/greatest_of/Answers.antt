@@ -3,8 +3,8 @@ use Rattle.semantics.specs.Net.{NetValue}
 use Rattle.semantics.specs.Error.{net_error}
 use Rattle.lane_bits.specs.Patterns.{PatternSet}
 use Rattle.lane_nets.specs.Errors.{IsFirstGreatest}
-use Rattle.worst_case.proofs.FirstGreatest.{IsFirstGreatestIn-at}
-use Rattle.worst_case.proofs.vectors_tried.greatest_of.Goals as goal
+use Rattle.every_vector.proofs.FirstGreatest.{IsFirstGreatestIn-at}
+use Rattle.every_vector.proofs.vectors.greatest_of.Goals as goal
 
 pub returns-clause-greatest : goal.returns-clause-greatest
 returns-clause-greatest c =

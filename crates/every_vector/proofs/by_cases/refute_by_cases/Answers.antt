@@ -1,8 +1,8 @@
 use Rattle.std.proofs.Common.{ap, arith}
 use Rattle.semantics.specs.Net.{input_count}
 use Rattle.quality_semantics.proofs.Joint.{joint_inputs}
-use Rattle.worst_case.proofs.Queries.{joint_never}
-use Rattle.worst_case.proofs.refutation.refute_by_cases.Goals as goal
+use Rattle.every_vector.proofs.Cases.{joint_never}
+use Rattle.every_vector.proofs.by_cases.refute_by_cases.Goals as goal
 
 pub refute-requires-clause-few_inputs : goal.refute-requires-clause-few_inputs
 refute-requires-clause-few_inputs c =

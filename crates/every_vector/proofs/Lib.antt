@@ -1,0 +1,3 @@
+pub mod Tried
+pub mod FirstGreatest
+pub mod Cases
