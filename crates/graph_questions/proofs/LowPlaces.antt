@@ -32,25 +32,25 @@ low : (p : ℕ) (bits : List Bool) → p ≤ length bits → number_of (take p b
 low p bits few = number_of-lt_width p (take p bits) (length-take-le p bits few)
 
 -- two words, by their numbers
-numbers_apart : (p k most : ℕ) (e a : List Bool) → p ≤ length e → p ≤ length a → k ≤ most → most + most < 2 ^ p
-    → k < distance (number_of e) (number_of a) → distance (number_of e) (number_of a) ≤ most → AreApart p k e a
-numbers_apart p k most e a few few_too less half over near =
-    let far = residues_apart (2 ^ p) (number_of e) (number_of a) (number_of (take p e)) (number_of (take p a)) (number_of (drop p e)) (number_of (drop p a)) k most
-    (number_of-split p e) (number_of-split p a) (low p e few) (low p a few_too) less half over near in
+numbers_apart : (p k : ℕ) (e a : List Bool) → p ≤ length e → p ≤ length a → k < distance (number_of e) (number_of a) → distance (number_of e) (number_of a) + k < 2 ^ p
+    → AreApart p k e a
+numbers_apart p k e a few few_too over near =
+    let far = residues_apart (2 ^ p) (number_of e) (number_of a) (number_of (take p e)) (number_of (take p a)) (number_of (drop p e)) (number_of (drop p a)) k
+    (number_of-split p e) (number_of-split p a) (low p e few) (low p a few_too) over near in
     record { beyond = far.beyond; around = far.around }
 
 -- to turn the sign over changes no low place
 low_flipped : (p : ℕ) (bits : List Bool) → p < length bits → take p (sign_flipped bits) ≡ take p bits
 low_flipped p bits few = take-set-le p bits (length bits - 1) (not (sign_of bits)) (omega (arith, few))
 
-words_apart : (kind : Kind) (p k most : ℕ) (e a : List Bool) → IsDistanceKind kind → length e ≡ length a → p < length e → k ≤ most → most + most < 2 ^ p
-    → k < word_error kind e a → word_error kind e a ≤ most → AreApart p k e a
-words_apart Abs p k most e a unit same few less half over near = numbers_apart p k most e a (omega (arith, few)) (omega (arith, few, same)) less half over near
-words_apart Sabs p k most e a unit same few less half over near =
+words_apart : (kind : Kind) (p k : ℕ) (e a : List Bool) → IsDistanceKind kind → length e ≡ length a → p < length e → k < word_error kind e a → word_error kind e a + k < 2 ^ p
+    → AreApart p k e a
+words_apart Abs p k e a unit same few over near = numbers_apart p k e a (omega (arith, few)) (omega (arith, few, same)) over near
+words_apart Sabs p k e a unit same few over near =
     let is : word_error Sabs e a ≡ distance (number_of (sign_flipped e)) (number_of (sign_flipped a)) = flipped_error e a same in
     let far : AreApart p k (sign_flipped e) (sign_flipped a) =
-    numbers_apart p k most (sign_flipped e) (sign_flipped a) (omega (arith, few, length-flipped e)) (omega (arith, few, same, length-flipped a)) less half
-    (omega (arith, over, is)) (omega (arith, near, is)) in
+    numbers_apart p k (sign_flipped e) (sign_flipped a) (omega (arith, few, length-flipped e)) (omega (arith, few, same, length-flipped a)) (omega (arith, over, is))
+    (omega (arith, near, is)) in
     let e_is = low_flipped p e few in
     let a_is = low_flipped p a (omega (arith, few, same)) in
     record {
@@ -59,8 +59,8 @@ words_apart Sabs p k most e a unit same few less half over near =
       around = subst (λ (f : List Bool). distance (number_of f) (number_of (take p a)) + k < 2 ^ p) e_is
           (subst (λ (f : List Bool). distance (number_of (take p (sign_flipped e))) (number_of f) + k < 2 ^ p) a_is far.around);
     }
-words_apart Rel p k most e a is same few less half over near = absurd is
-words_apart Ham p k most e a is same few less half over near = absurd is
+words_apart Rel p k e a is same few over near = absurd is
+words_apart Ham p k e a is same few over near = absurd is
 
 word_triangle : (kind : Kind) (e m a : List Bool) → IsDistanceKind kind → length e ≡ length m → length m ≡ length a → word_error kind e a ≤ word_error kind e m + word_error kind m a
 word_triangle Abs e m a unit one two = distance-le (number_of e) (number_of m) (number_of a)
@@ -92,7 +92,7 @@ candidate_for N M before candidate ports = record {
 module _ (q : LevelQuestion) (before : NetValue) (p : ℕ) where
   -- what the error of the net after the change is at most, against the net before it
   abbrev most_change : ℕ
-  most_change = 2 ^ (p - 1) - 1 - q.k
+  most_change = 2 ^ p - 1 - 2 * q.k
 
   pub enough : IsCandidate q.nets.exact q.nets.approx → IsCandidate before q.nets.approx → IsDistance q.metric → input_count before ≡ input_count q.nets.approx
       → IsWithin q.metric q.nets.exact q.k before → IsWithin q.metric before most_change q.nets.approx → 2 ≤ p → p < length q.nets.exact.outputs → q.k < 2 ^ (p - 2) → AreEnough q p
@@ -110,12 +110,9 @@ module _ (q : LevelQuestion) (before : NetValue) (p : ℕ) where
         let first : word_error q.metric.kind e m ≤ q.k = subst (λ n. n ≤ q.k) (one_word_error q.metric q.nets.exact before x is.whole (e_width ∙ sym m_width)) (keeps x width) in
         let second : word_error q.metric.kind m a ≤ most_change = subst (λ n. n ≤ most_change) (one_word_error q.metric before q.nets.approx x is.whole m_width) (near x before_width) in
         let third : word_error q.metric.kind e a ≤ word_error q.metric.kind e m + word_error q.metric.kind m a = word_triangle q.metric.kind e m a is.kind (e_width ∙ sym m_width) m_width in
-        words_apart q.metric.kind p q.k (2 ^ (p - 1) - 1) e a is.kind e_width
-        (omega (arith, few, length-outputs_of q.nets.exact x))
-        (omega (arith, less, (powers p two).1))
-        (omega (arith, less, (powers p two).0, (powers p two).1))
+        words_apart q.metric.kind p q.k e a is.kind e_width (omega (arith, few, length-outputs_of q.nets.exact x))
         (subst (λ n. q.k < n) (one_word_error q.metric q.nets.exact q.nets.approx x is.whole e_width) over)
-        (omega (arith, first, second, third, less, (powers p two).1));
+        (omega (arith, first, second, third, less, (powers p two).0, (powers p two).1));
   }
 
 -- ---- the literals

@@ -104,7 +104,7 @@ pub(crate) fn enough_places<P: Progress>(
     let Some(places) = least_places(level.k, nets.exact().outputs()) else {
         return Ok(None);
     };
-    let most = power_of_two(places - 1) - 1 - level.k;
+    let most = power_of_two(places) - 1 - 2 * level.k;
     let far = Level::new(alloc, change.before, level.metric, most)?;
     let few = limit.min(NEAR_CONFLICTS);
     if is_near(alloc, change, nets.approx(), &far, few, progress)? {

@@ -1,0 +1,34 @@
+-- Sums of literals of a hashed graph, each with a weight, modulo 2^32. So with a weight of 2^32 - 1 a literal is
+-- taken away, and with weights of 2^(32-p) and above two sums of words agree modulo 2^p. Source: residue
+-- arithmetic.
+use Rattle.std.specs.Prelude.{◌≡◌, ℕ, zero, suc, ◌+◌, ◌*◌, ◌%◌, ◌^◌, if◌then◌else◌, List, [], ◌∷◌, Bool, false}
+use Rattle.semantics.specs.Value.{Assignment}
+use Rattle.aig_core.specs.Graph.{GraphValue, literal_value, IsConsistent}
+use Rattle.literal_sums.specs.declared.term.Term.{Term}
+
+-- the same number modulo 2^32
+abbrev pub Agree : ℕ → ℕ → Type 0
+Agree a b = a % 4294967296 ≡ b % 4294967296
+
+-- what a weight counts where its literal is true, and where it is not
+abbrev pub counted : Bool → ℕ → ℕ
+counted b weight = if b then weight else 0
+
+-- the sum of the weights whose literals are true
+pub sum_value : Assignment → List Term → ℕ
+sum_value v [] = 0
+sum_value v (t ∷ ts) = counted (literal_value v t.literal) t.weight + sum_value v ts
+
+-- the literals of a word, the lowest first, where the lowest counts this weight and each behind it twice as
+-- much
+pub word_value : Assignment → ℕ → List ℕ → ℕ
+word_value v weight [] = 0
+word_value v weight (l ∷ ls) = counted (literal_value v l) weight + word_value v (2 * weight) ls
+
+-- the constant has its value; so each assignment that is consistent with a graph
+abbrev pub HasConstant : Assignment → Type 0
+HasConstant v = v 0 ≡ false
+
+-- two sums agree wherever the graph's nodes have their values
+abbrev pub AgreeOver : GraphValue → (Assignment → ℕ) → (Assignment → ℕ) → Type 0
+AgreeOver g first second = (x : List Bool) (v : Assignment) → IsConsistent g x v → Agree (first v) (second v)
