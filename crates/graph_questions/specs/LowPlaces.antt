@@ -1,5 +1,5 @@
 -- Whether a few low places of the outputs decide whether the error exceeds a level. Two numbers that are less
--- than half of 2^p apart are as far apart as their residues modulo 2^p, or 2^p less what these are apart. So
+-- than 2^p apart are as far apart as their residues modulo 2^p, or 2^p less what these are apart. So
 -- with p = 5, 30 and 35 are 5 apart, and their residues 30 and 3 are 27 apart, which is 32 less 5; with k = 3
 -- both say that the numbers are more than k apart. Source: residue arithmetic.
 use Rattle.std.specs.Prelude.{◌≡◌, ℕ, ◌+◌, ◌^◌, ◌<◌, ◌≤◌, nat_lt, List, ◌++◌, Bool, map, length, take}
