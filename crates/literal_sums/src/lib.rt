@@ -3,6 +3,9 @@
 #![tactic(auto)]
 
 pub mod adder;
+pub mod cuts;
+pub mod finding;
+pub mod reduction;
 pub mod sum;
 pub mod term;
 pub mod word;
