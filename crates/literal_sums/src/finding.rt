@@ -43,8 +43,8 @@ pub struct Form {
     opposite: bool,
 }
 
-/// A node that is a sum or a carry over the leaves of a group, and where the roles of this kind before it stand:
-/// that of the same node, and that over the same leaves.
+/// A node that is a sum or a carry over the leaves of a group, and where the roles of this kind before it
+/// stand: that of the same node, and that over the same leaves.
 #[derive(Clone, Copy, Drop)]
 pub struct Role {
     pub node: u32,

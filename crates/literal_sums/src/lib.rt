@@ -8,4 +8,6 @@ pub mod finding;
 pub mod reduction;
 pub mod sum;
 pub mod term;
+#[cfg(test)]
+mod tests;
 pub mod word;

@@ -1,8 +1,8 @@
 //! Sums rewritten by the adders that are found in the graph.
 //!
-//! From the highest node down, a sum and its carry give way to the leaves below them, adder by adder. The search
-//! may miss some; that each step keeps the sum is checked where the step is made. Source: reverse engineering
-//! of arithmetic by functional matching, and backward rewriting.
+//! From the highest node down, a sum and its carry give way to the leaves below them, adder by adder. The
+//! search may miss some; that each step keeps the sum is checked where the step is made. Source: reverse
+//! engineering of arithmetic by functional matching, and backward rewriting.
 ghost use Rattle.std.specs.Prelude.{◌≤◌};
 ghost use Rattle.aig_core.specs.Graph.{IsLiteralOf};
 
