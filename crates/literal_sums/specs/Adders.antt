@@ -3,7 +3,8 @@ use Rattle.std.specs.Prelude.{◌≡◌, ℕ, ◌+◌, ◌*◌, if◌then◌else
 use Rattle.std.specs.Prelude.{Option, Some, None, ⊤}
 use Rattle.semantics.specs.Value.{Assignment}
 use Rattle.aig_core.specs.Graph.{GraphValue, literal_value, IsConsistent}
-use Rattle.literal_sums.specs.Sums.{HasConstant}
+use Rattle.literal_sums.specs.Sums.{HasConstant, Agree, literal_count, sum_value}
+use Rattle.literal_sums.specs.declared.term.Term.{Term}
 use Rattle.literal_sums.specs.declared.adder.Adder.{Adder}
 use Rattle.literal_sums.specs.declared.adder.Inputs.{Inputs}
 
@@ -54,3 +55,10 @@ IsTurned given turn known = (b : Bool) → Knows given b → Knows known (if tur
 -- the sum and the carry are right wherever the inputs have these values
 pub record IsAdderAt (g : GraphValue) (adder : Adder) (at : Inputs) : Type 0 where
   pub is : (x : List Bool) (v : Assignment) → IsConsistent g x v → AreInputsAt v adder at → IsAddedAt v adder
+
+-- the inputs count more by this weight, and the sum and the carry less, modulo 2^32
+pub record HasSwapped (adder : Adder) (weight : ℕ) (old new : List Term) : Type 0 where
+  pub is : (v : Assignment) → HasConstant v
+      → Agree (literal_count adder.sum weight v + literal_count adder.carry (2 * weight) v + sum_value v new)
+      (literal_count adder.first weight v + literal_count adder.second weight v + literal_count adder.third weight v
+      + sum_value v old)

@@ -2,6 +2,7 @@
 -- taken away, and with weights of 2^(32-p) and above two sums of words agree modulo 2^p. Source: residue
 -- arithmetic.
 use Rattle.std.specs.Prelude.{◌≡◌, ℕ, zero, suc, ◌+◌, ◌*◌, ◌%◌, if◌then◌else◌, List, [], ◌∷◌, Bool, false}
+use Rattle.std.specs.Prelude.{slice_index_or}
 use Rattle.semantics.specs.Value.{Assignment}
 use Rattle.aig_core.specs.Graph.{GraphValue, literal_value, IsConsistent}
 use Rattle.literal_sums.specs.declared.term.Term.{Term}
@@ -36,6 +37,13 @@ HasConstant v = v 0 ≡ false
 -- the sum `all` counts this value and what the sum `part` counts, modulo 2^32
 pub record CountsMore (value : Assignment → ℕ) (part all : List Term) : Type 0 where
   pub is : (v : Assignment) → HasConstant v → Agree (sum_value v all) (value v + sum_value v part)
+
+-- the same of one literal
+abbrev pub HasMore : ℕ → ℕ → List Term → List Term → Type 0
+HasMore l weight part all = CountsMore (literal_count l weight) part all
+
+abbrev pub term_at : List Term → ℕ → Term → Term
+term_at ts i t = slice_index_or ts i t
 
 -- two values agree modulo 2^32 wherever the graph's nodes have their values
 pub record AgreeOver (g : GraphValue) (first second : Assignment → ℕ) : Type 0 where

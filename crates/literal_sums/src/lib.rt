@@ -5,4 +5,3 @@
 pub mod adder;
 pub mod sum;
 pub mod term;
-pub mod word;
