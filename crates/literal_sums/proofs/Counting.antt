@@ -98,7 +98,7 @@ pub word_step : (word : List ℕ) (i whole weight next : ℕ) (old now new : Lis
 word_step word i whole weight next old now new low twice so_far more = record {
   is = λ v val.
       let rest : word_value v weight (drop i word) ≡ literal_count (get_or word i 0) weight v + word_value v (2 * weight) (drop (i + 1) word)
-          = ap (word_value v weight) (drop_more word i 0 low) ∙ word_cons v weight (get_or word i 0) (drop (i + 1) word) in
+      = ap (word_value v weight) (drop_more word i 0 low) ∙ word_cons v weight (get_or word i 0) (drop (i + 1) word) in
       let anew : Agree (word_value v next (drop (i + 1) word)) (word_value v (2 * weight) (drop (i + 1) word)) = word_agrees v (drop (i + 1) word) next (2 * weight) (omega (arith, twice)) in
       omega (arith, rest, anew, so_far.is v val, more.is v val);
 }
@@ -144,7 +144,7 @@ module _ (old ts : List Term) (view : old ≡ ts) where
     set_more new written is literal weight t = subst (λ l. HasMore l w old new) (same_literal t) (record {
       is = λ v val.
           let both : Agree (counted (literal_value v read.literal) read.weight + counted (literal_value v read.literal) w) (counted (literal_value v read.literal) written.weight)
-              = counted_sum (literal_value v read.literal) read.weight w written.weight (omega (arith, weight)) in
+          = counted_sum (literal_value v read.literal) read.weight w written.weight (omega (arith, weight)) in
           let same : term_value v written ≡ counted (literal_value v read.literal) written.weight = ap (λ l. counted (literal_value v l) written.weight) literal in
           omega (arith, both, same, ap (sum_value v) view, ap (sum_value v) is, sum_set v ts at written read low, read_counts v read);
     })

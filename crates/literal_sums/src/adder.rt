@@ -150,8 +150,13 @@ fn is_adder_at(g: &Aig, adder: &Adder, first: bool, second: bool, third: bool) -
         return true;
     }
     let count = as_number(first) + as_number(second) + as_number(third);
-    is_known(value_above(g, adder, at, adder.sum, MOST_DEPTH), count % 2 == 1)
-        && is_known(value_above(g, adder, at, adder.carry, MOST_DEPTH), 2 <= count)
+    is_known(
+        value_above(g, adder, at, adder.sum, MOST_DEPTH),
+        count % 2 == 1,
+    ) && is_known(
+        value_above(g, adder, at, adder.carry, MOST_DEPTH),
+        2 <= count,
+    )
 }
 
 /// The same at both values of the third input.

@@ -5,3 +5,4 @@
 pub mod adder;
 pub mod sum;
 pub mod term;
+pub mod word;
