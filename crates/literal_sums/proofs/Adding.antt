@@ -1,14 +1,14 @@
 -- What is known of a gate, and adders by their eight values.
-use Rattle.std.proofs.Common.{◌≡◌, ◌≢◌, ℕ, ◌+◌, ◌-◌, ◌*◌, ◌/◌, ◌%◌, ◌==◌, ◌<◌, ◌≤◌, Bool, true, false, cond, not, ◌&&◌, List, refl, sym, ap, subst, ◌∙◌, arith}
-use Rattle.std.specs.Prelude.{nat_lt, nat_le, length, Option, Some, None}
-use Rattle.std.proofs.lemmas.Bool.{eq-eqb, ne_eqb, eqb-true, ltb-true, lt-ltb}
+use Rattle.std.proofs.Common.{◌≡◌, ℕ, ◌+◌, ◌-◌, ◌*◌, ◌/◌, ◌%◌, ◌==◌, ◌<◌, ◌≤◌, Bool, true, false, cond, not, ◌&&◌, List, refl, sym, ap, subst, ◌∙◌, arith}
+use Rattle.std.specs.Prelude.{nat_lt, nat_le, Option, Some, None}
+use Rattle.std.proofs.lemmas.Bool.{lt-ltb}
 use Rattle.semantics.specs.Value.{Assignment}
 use Rattle.aig_core.specs.declared.gate.Node.{Node}
 use Rattle.aig_core.specs.declared.gate.Node.TheVariants.{False, Input, And}
 use Rattle.aig_core.specs.Graph.{GraphValue, gate_at, gate_node, node_at, node_count, literal_value, IsConsistent}
 use Rattle.literal_sums.specs.declared.adder.Adder.{Adder}
 use Rattle.literal_sums.specs.declared.adder.Inputs.{Inputs}
-use Rattle.literal_sums.specs.Adders.{bit, inputs, AreInputsAt, IsAdder, IsAdderAt, IsAddedAt, IsBoth, IsTurned, IsInputKnown, IsKnownAt, Knows}
+use Rattle.literal_sums.specs.Adders.{bit, inputs, IsAdder, IsAdderAt, IsBoth, IsTurned, IsKnownAt, Knows}
 
 -- the gate of a node has its value
 pub node_conjunction : (g : GraphValue) (x : List Bool) (v : Assignment) (n left right : ℕ) → n < node_count g → node_at g n ≡ And left right → IsConsistent g x v

@@ -1,12 +1,11 @@
 -- What sums and words count, modulo 2^32.
-use Rattle.std.proofs.Common.{◌≡◌, ◌≢◌, ℕ, zero, suc, ◌+◌, ◌-◌, ◌*◌, ◌/◌, ◌%◌, ◌<◌, ◌≤◌, Bool, true, false, cond, not, List, [], ◌∷◌, ◌++◌, length, get_or, set, take, drop, refl, sym, ap, subst, ◌∙◌, arith}
+use Rattle.std.proofs.Common.{◌≡◌, ℕ, ◌+◌, ◌*◌, ◌%◌, ◌<◌, ◌≤◌, Bool, true, false, not, List, [], ◌∷◌, ◌++◌, length, get_or, set, take, drop, refl, sym, ap, subst, ◌∙◌, arith}
 use Rattle.std.specs.Prelude.{sum_by}
 use Rattle.std.specs.List.{swap_remove}
-use Rattle.std.proofs.lemmas.List.{nil_from_length, get_or_read, drop_more, take_more, take_all, drop_all}
-use Rattle.std.proofs.lemmas.List.Sums.{sum_by-cons, sum_by-append, sum_by_push, sum_by-set, sum_by-swap_remove}
+use Rattle.std.proofs.lemmas.List.{nil_from_length, get_or_read, drop_more, take_more, drop_all}
+use Rattle.std.proofs.lemmas.List.Sums.{sum_by-cons, sum_by_push, sum_by-set, sum_by-swap_remove}
 use Rattle.semantics.specs.Value.{Assignment}
-use Rattle.aig_core.specs.Graph.{literal_value, IsConsistent, GraphValue}
-use Rattle.aig_core.specs.Grown.{IsOppositeOf}
+use Rattle.aig_core.specs.Graph.{literal_value, GraphValue}
 use Rattle.literal_sums.specs.declared.term.Term.{Term}
 use Rattle.literal_sums.specs.Sums.{Agree, counted, literal_count, sum_value, word_value, HasConstant, CountsMore, HasMore, AgreeAsSums}
 use Rattle.literal_sums.specs.declared.adder.Adder.{Adder}
@@ -135,7 +134,8 @@ module _ (old ts : List Term) (view : old ≡ ts) where
     pub removed_more : (new : List Term) (d : Term) → new ≡ swap_remove ts at d → (read.weight + w) % 4294967296 ≡ 0 → (t : Term) → HasMore (get_or old at t).literal w old new
     removed_more new d is none t = subst (λ l. HasMore l w old new) (same_literal t) (record {
       is = λ v val.
-          let both : Agree (counted (literal_value v read.literal) read.weight + counted (literal_value v read.literal) w) (counted (literal_value v read.literal) 0) = counted_sum (literal_value v read.literal) read.weight w 0 none in
+          let both : Agree (counted (literal_value v read.literal) read.weight + counted (literal_value v read.literal) w) (counted (literal_value v read.literal) 0)
+          = counted_sum (literal_value v read.literal) read.weight w 0 none in
           omega (arith, both, counted_zero (literal_value v read.literal), ap (sum_value v) view, ap (sum_value v) is, sum_removed v ts at d low, read_counts v d);
     })
 
@@ -176,7 +176,8 @@ adder_counts a b c s k w is =
 pub swapped_agrees : (g : GraphValue) (adder : Adder) (w : ℕ) (old new : List Term) → IsAdder g adder → HasSwapped adder w old new → AgreeAsSums g new old
 swapped_agrees g adder w old new adds swapped = record {
   is = λ x v val.
-      let same = adder_counts (literal_value v adder.first) (literal_value v adder.second) (literal_value v adder.third) (literal_value v adder.sum) (literal_value v adder.carry) w (adds.is x v val) in
+      let same =
+      adder_counts (literal_value v adder.first) (literal_value v adder.second) (literal_value v adder.third) (literal_value v adder.sum) (literal_value v adder.carry) w (adds.is x v val) in
       omega (arith, same, swapped.is v val.constant);
 }
 

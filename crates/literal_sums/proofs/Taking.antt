@@ -1,12 +1,11 @@
 -- Words that are taken away from sums over graphs that grow.
-use Rattle.std.proofs.Common.{◌≡◌, ◌≢◌, ℕ, zero, suc, ◌+◌, ◌-◌, ◌*◌, ◌/◌, ◌%◌, ◌^◌, ◌<◌, ◌≤◌, Bool, true, false, cond, not, List, [], ◌∷◌, ◌++◌, length, refl, sym, ap, subst, ◌∙◌, arith}
-use Rattle.std.specs.Prelude.{All}
+use Rattle.std.proofs.Common.{◌≡◌, ℕ, suc, ◌+◌, ◌*◌, ◌^◌, List, [], ◌∷◌, ◌++◌, length, refl, sym, ap, subst, ◌∙◌, arith}
 use Rattle.semantics.specs.Value.{Assignment}
-use Rattle.aig_core.specs.Graph.{GraphValue, IsConsistent, IsLiteralOf}
+use Rattle.aig_core.specs.Graph.{GraphValue, IsLiteralOf}
 use Rattle.aig_core.specs.Grown.{Grows}
 use Rattle.aig_core.proofs.Growing.{consistent_before, literal_later, grows_trans, grows_refl}
 use Rattle.literal_sums.specs.declared.term.Term.{Term}
-use Rattle.literal_sums.specs.Sums.{Agree, literal_count, sum_value, word_value, AgreeAsSums, HasMore}
+use Rattle.literal_sums.specs.Sums.{literal_count, sum_value, word_value, AgreeAsSums, HasMore}
 use Rattle.std.proofs.Math.Nat.{pow-suc}
 use Rattle.std.proofs.lemmas.List.Elements.{All-push}
 use Rattle.std.proofs.lemmas.List.{length_push}

@@ -41,9 +41,10 @@ pub record IsInputKnown (adder : Adder) (at : Inputs) (l : ℕ) (known : Option 
   pub is : (v : Assignment) → HasConstant v → AreInputsAt v adder at → Knows known (literal_value v l)
 
 -- what is known of a literal of a graph where the inputs have these values
-pub record IsKnownAt (g : GraphValue) (adder : Adder) (at : Inputs) (l : ℕ) (known : Option Bool) : Type 0 where
-  pub is : (x : List Bool) (v : Assignment) → IsConsistent g x v → AreInputsAt v adder at
-      → Knows known (literal_value v l)
+pub record IsKnownAt (g : GraphValue) (adder : Adder) (at : Inputs) (l : ℕ) (known : Option Bool) : Type 0
+  where
+    pub is : (x : List Bool) (v : Assignment) → IsConsistent g x v → AreInputsAt v adder at
+        → Knows known (literal_value v l)
 
 -- what is known of a conjunction, and of a value that may be turned over
 abbrev pub IsBoth : Option Bool → Option Bool → Option Bool → Type 0
@@ -60,5 +61,5 @@ pub record IsAdderAt (g : GraphValue) (adder : Adder) (at : Inputs) : Type 0 whe
 pub record HasSwapped (adder : Adder) (weight : ℕ) (old new : List Term) : Type 0 where
   pub is : (v : Assignment) → HasConstant v
       → Agree (literal_count adder.sum weight v + literal_count adder.carry (2 * weight) v + sum_value v new)
-      (literal_count adder.first weight v + literal_count adder.second weight v + literal_count adder.third weight v
-      + sum_value v old)
+      (literal_count adder.first weight v + literal_count adder.second weight v
+      + literal_count adder.third weight v + sum_value v old)

@@ -1,7 +1,7 @@
--- Sums of literals of a hashed graph, each with a weight, modulo 2^32. So with a weight of 2^32 - 1 a literal is
--- taken away, and with weights of 2^(32-p) and above two sums of words agree modulo 2^p. Source: residue
+-- Sums of literals of a hashed graph, each with a weight, modulo 2^32. So with a weight of 2^32 - 1 a literal
+-- is taken away, and with weights of 2^(32-p) and above two sums of words agree modulo 2^p. Source: residue
 -- arithmetic.
-use Rattle.std.specs.Prelude.{◌≡◌, ℕ, zero, suc, ◌+◌, ◌*◌, ◌%◌, if◌then◌else◌, List, [], ◌∷◌, Bool, false}
+use Rattle.std.specs.Prelude.{◌≡◌, ℕ, ◌+◌, ◌*◌, ◌%◌, if◌then◌else◌, List, [], ◌∷◌, Bool, false}
 use Rattle.std.specs.Prelude.{slice_index_or}
 use Rattle.semantics.specs.Value.{Assignment}
 use Rattle.aig_core.specs.Graph.{GraphValue, literal_value, IsConsistent}

@@ -17,8 +17,8 @@ use aig_core::literal::{Literal, is_negative, node_of};
 /// How many gates deep an adder is looked through.
 const MOST_DEPTH: u32 = 6;
 
-/// Three literals, and two that are said to be their sum and their carry. A half adder has the constant as its
-/// third.
+/// Three literals, and two that are said to be their sum and their carry. A half adder has the constant false
+/// as its third.
 #[derive(Clone, Copy)]
 pub struct Adder {
     pub first: Literal,
@@ -30,10 +30,10 @@ pub struct Adder {
 
 /// The values of the three inputs of an adder.
 #[derive(Clone, Copy)]
-pub struct Inputs {
-    pub first: bool,
-    pub second: bool,
-    pub third: bool,
+struct Inputs {
+    first: bool,
+    second: bool,
+    third: bool,
 }
 
 /// The value of a literal of the same node as an input with this value.

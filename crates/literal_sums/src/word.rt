@@ -207,7 +207,8 @@ fn take_places(
     Ok(word)
 }
 
-/// The places of a sum from that of the weight 2^shift on, as a word of literals; none where it has lower ones.
+/// The places of a sum from that of the weight 2^shift on, as a word of literals; none where lower ones are
+/// left.
 pub fn word_of(
     alloc: Global,
     g: &mut Aig,

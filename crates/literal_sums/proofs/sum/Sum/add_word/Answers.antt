@@ -1,4 +1,3 @@
-use Rattle.std.proofs.Common.{arith}
 use Rattle.literal_sums.proofs.Counting.{word_step, word_done}
 use Rattle.literal_sums.proofs.sum.Sum.add_word.Goals as goal
 
