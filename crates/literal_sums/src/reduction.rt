@@ -3,7 +3,6 @@
 //! From the highest node down, a sum and its carry give way to the leaves below them, adder by adder. The
 //! search may miss some; that each step keeps the sum is checked where the step is made. Source: reverse
 //! engineering of arithmetic by functional matching, and backward rewriting.
-ghost use Rattle.std.specs.Prelude.{◌≤◌};
 ghost use Rattle.aig_core.specs.Graph.{IsLiteralOf};
 
 use crate::adder::Adder;
