@@ -3,7 +3,10 @@
 //! From the highest node down, a sum and its carry give way to the leaves below them, adder by adder. The
 //! search may miss some; that each step keeps the sum is checked where the step is made. Source: reverse
 //! engineering of arithmetic by functional matching, and backward rewriting.
+ghost use Rattle.std.specs.Prelude.{IfOk};
 ghost use Rattle.aig_core.specs.Graph.{IsLiteralOf};
+ghost use Rattle.aig_core.specs.Grown.{Grows};
+ghost use Rattle.literal_sums.specs.Sums.{AgreeAsSums};
 
 use crate::adder::Adder;
 use crate::finding::{Adders, Kind, MOST_ROLES, Role};
@@ -46,14 +49,18 @@ fn within(g: &Aig, literal: Literal) -> Literal
 }
 
 /// The conjunction of two literals, of which one without a node counts as false.
-pub(crate) fn both(g: &mut Aig, a: Literal, b: Literal) -> Result<Literal, AllocError> {
+pub(crate) fn both(g: &mut Aig, a: Literal, b: Literal) -> Result<Literal, AllocError>
+    ensures { Grows g.old g.new }
+{
     let first = within(g, a);
     let second = within(g, b);
     g.and(first, second)
 }
 
 /// The disjunction of two literals.
-pub(crate) fn either(g: &mut Aig, a: Literal, b: Literal) -> Result<Literal, AllocError> {
+pub(crate) fn either(g: &mut Aig, a: Literal, b: Literal) -> Result<Literal, AllocError>
+    ensures { Grows g.old g.new }
+{
     let none = both(g, opposite(a), opposite(b))?;
     Ok(opposite(none))
 }
@@ -64,7 +71,9 @@ pub(crate) fn majority(
     a: Literal,
     b: Literal,
     c: Literal,
-) -> Result<Literal, AllocError> {
+) -> Result<Literal, AllocError>
+    ensures { Grows g.old g.new }
+{
     let two = both(g, a, b)?;
     let one = either(g, a, b)?;
     let more = both(g, one, c)?;
@@ -182,7 +191,9 @@ fn with_kind(
 }
 
 /// The adder of a choice, whose carry is made where it lacks.
-fn with_carry(g: &mut Aig, choice: &Choice) -> Result<Adder, AllocError> {
+fn with_carry(g: &mut Aig, choice: &Choice) -> Result<Adder, AllocError>
+    ensures { Grows g.old g.new }
+{
     let mut adder = choice.adder;
     if choice.lacks_carry {
         adder.carry = majority(g, adder.first, adder.second, adder.third)?;
@@ -196,7 +207,10 @@ fn go_through_node(
     adders: &Adders,
     sum: &mut Sum,
     term: Term,
-) -> Result<(), AllocError> {
+) -> Result<(), AllocError>
+    ensures grows { Grows g.old g.new }
+    ensures ok { IfOk result (λ _. AgreeAsSums g.new sum.new sum.old) }
+{
     let sums = with_kind(adders, sum, term, Kind::Sum, None);
     if let Some(choice) = with_kind(adders, sum, term, Kind::Carry, sums) {
         let adder = with_carry(g, &choice)?;
@@ -207,7 +221,10 @@ fn go_through_node(
 
 /// Rewrites a sum by the adders that are found in the graph, from the highest node down: each leads to lower
 /// nodes alone, so none is looked at twice.
-pub fn reduce(g: &mut Aig, adders: &mut Adders, sum: &mut Sum) -> Result<(), AllocError> {
+pub fn reduce(g: &mut Aig, adders: &mut Adders, sum: &mut Sum) -> Result<(), AllocError>
+    ensures grows { Grows g.old g.new }
+    ensures ok { IfOk result (λ _. AgreeAsSums g.new sum.new sum.old) }
+{
     adders.extend(g)?;
     let mut bound = u32::MAX;
     for _ in 0..MOST_STEPS {
