@@ -3,6 +3,11 @@
 #![tactic(auto)]
 
 pub mod adder;
+pub mod cuts;
+pub mod finding;
+pub mod reduction;
 pub mod sum;
 pub mod term;
+#[cfg(test)]
+mod tests;
 pub mod word;
