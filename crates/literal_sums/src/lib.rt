@@ -3,6 +3,9 @@
 #![tactic(auto)]
 
 pub mod adder;
+pub mod effect;
+pub mod samples;
 pub mod sum;
 pub mod term;
+pub mod weights;
 pub mod word;
