@@ -141,7 +141,11 @@ fn next_front(
 /// The literal of a signal, false where there is none.
 fn literal_of(literals: &[Literal], signal: Signal) -> Literal {
     let at = signal as usize;
-    if at < literals.len() { literals[at] } else { constant(false) }
+    if at < literals.len() {
+        literals[at]
+    } else {
+        constant(false)
+    }
 }
 
 /// The columns of the signals whose values differ.

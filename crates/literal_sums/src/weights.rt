@@ -113,7 +113,11 @@ impl Difference {
 
     /// What is to be made at a vector.
     fn at(&self, vector: usize) -> u32 {
-        if vector < self.values.len() { self.values[vector] } else { 0 }
+        if vector < self.values.len() {
+            self.values[vector]
+        } else {
+            0
+        }
     }
 }
 
