@@ -6,7 +6,7 @@
 
 use crate::samples::Samples;
 use crate::term::Term;
-use crate::weights::{Column, Difference, MOST_TERMS, solve};
+use crate::weights::{Column, Difference, solve};
 use aig_core::literal::{Literal, constant, node_of};
 use net_core::items::Signal;
 use net_core::net::Net;
@@ -215,9 +215,6 @@ fn sum_of(
     columns: &[Column],
     difference: &Difference,
 ) -> Result<Option<Vec<Term>>, AllocError> {
-    if columns.len() > MOST_TERMS {
-        return Ok(None);
-    }
     match solve(alloc, columns, difference)? {
         Some(weights) => Ok(Some(terms_of(alloc, columns, &weights)?)),
         None => Ok(None),
@@ -244,6 +241,15 @@ struct Best {
 }
 
 impl Best {
+    /// No sum.
+    fn new() -> Best {
+        Best {
+            terms: None,
+            size: 0,
+            round: 0,
+        }
+    }
+
     /// Keeps the terms of a round where no fewer are kept.
     fn offer(&mut self, terms: Vec<Term>, round: u32) {
         let size = size_of_sum(&terms);
@@ -277,11 +283,7 @@ pub fn effect_of(
     let readers = Readers::of(alloc, after)?;
     let difference = difference_of(alloc, samples, low_before, low_behind, weight)?;
     let mut front = vec![in alloc; signal; 1]?;
-    let mut best = Best {
-        terms: None,
-        size: 0,
-        round: 0,
-    };
+    let mut best = Best::new();
     for round in 0..MOST_ROUNDS {
         let columns = columns_of(alloc, samples, before, behind, &front)?;
         if let Some(terms) = sum_of(alloc, &columns, &difference)? {

@@ -4,6 +4,8 @@
 
 pub mod adder;
 pub mod effect;
+#[cfg(test)]
+mod effect_tests;
 pub mod samples;
 pub mod sum;
 pub mod term;

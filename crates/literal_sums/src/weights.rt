@@ -7,7 +7,7 @@ use aig_core::literal::Literal;
 use std::alloc::{AllocError, Global};
 
 /// The most terms whose weights are looked for.
-pub const MOST_TERMS: usize = 10;
+const MOST_TERMS: usize = 10;
 
 /// What each term counts at a vector, and last what they are to make together.
 type Row = [u32; MOST_TERMS + 1];
@@ -147,7 +147,7 @@ fn entry(row: &Row, i: usize) -> u32 {
     if i <= MOST_TERMS { row[i] } else { 0 }
 }
 
-/// A row by which another one, so many times, is made less.
+/// A row less another one, so many times.
 fn without(row: &Row, other: &Row, times: u32) -> Row {
     let mut rest = *row;
     for i in 0..MOST_TERMS + 1 {
@@ -186,7 +186,7 @@ fn counted(row: &Row, weights: &Row) -> u32 {
 }
 
 impl Pivots {
-    /// What is left of a row where nothing is to be in the columns of the pivots.
+    /// What is left of a row when the pivots were taken from it, so that it has nothing in their columns.
     fn rest(&self, row: &Row) -> Row {
         let mut rest = *row;
         for pivot in &self.pivots {
@@ -198,7 +198,8 @@ impl Pivots {
         rest
     }
 
-    /// Takes a row in, where it says something new and is odd in some column; and says whether it may hold.
+    /// Makes a pivot of what is left of a row, where that is odd in some column; and says whether the row may
+    /// hold. It may not where nothing is to make something.
     fn take(&mut self, row: &Row) -> Result<bool, AllocError> {
         let rest = self.rest(row);
         let Some(column) = odd_column(&rest) else {
@@ -223,7 +224,7 @@ impl Pivots {
     }
 }
 
-/// Whether the vectors of the one words are among those of the other.
+/// Whether the vectors of `few` are among those of `many`.
 fn are_among(few: &Words, many: &Words) -> bool {
     for i in 0..WORDS {
         if few[i] & !many[i] != 0 {
@@ -233,7 +234,7 @@ fn are_among(few: &Words, many: &Words) -> bool {
     true
 }
 
-/// Whether there is a difference only where some column counts.
+/// Whether there is a difference only where some column counts too.
 fn may_make(columns: &[Column], difference: &Difference) -> bool {
     let mut somewhere = [0; WORDS];
     for column in columns {
