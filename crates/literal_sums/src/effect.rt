@@ -21,11 +21,43 @@ const MOST_SIGNALS: usize = 12;
 /// How many rounds are made behind that of the best sum.
 const ROUNDS_BEHIND: u32 = 1;
 
-/// The tables that read each signal, as signals: those of signal s stand from `starts[s]` to `starts[s + 1]`.
+/// The tables that read each signal and on which an output depends, as signals: those of signal s stand from
+/// `starts[s]` to `starts[s + 1]`.
 #[derive(Drop)]
 struct Readers {
     starts: Vec<usize>,
     signals: Vec<Signal>,
+}
+
+/// Marks signals.
+fn mark(marks: &mut Vec<bool>, signals: &[Signal]) {
+    for signal in signals {
+        let at = *signal as usize;
+        if at < marks.len() {
+            marks[at] = true;
+        }
+    }
+}
+
+/// The signals that a table reads, none where the table is not marked.
+fn marked_pins<'a>(net: &'a Net, marks: &[bool], t: u32) -> &'a [Signal] {
+    let at = net.inputs() as usize + t as usize;
+    if t < net.tables() && at < marks.len() && marks[at] {
+        net.table(t).pins().as_slice()
+    } else {
+        &net.output_signals()[..0]
+    }
+}
+
+/// The signals on which an output depends.
+fn needed_signals(alloc: Global, net: &Net) -> Result<Vec<bool>, AllocError> {
+    let mut needed = vec![in alloc; false; net.signals() as usize]?;
+    mark(&mut needed, net.output_signals());
+    for t in net.order().iter().rev() {
+        let pins = marked_pins(net, &needed, *t);
+        mark(&mut needed, pins);
+    }
+    Ok(needed)
 }
 
 /// Counts the pins of a table, each at its signal.
@@ -63,10 +95,10 @@ impl Readers {
     }
 
     /// Where the readers of each signal end.
-    fn ends(alloc: Global, net: &Net) -> Result<Vec<usize>, AllocError> {
+    fn ends(alloc: Global, net: &Net, needed: &[bool]) -> Result<Vec<usize>, AllocError> {
         let mut counts = vec![in alloc; 0; net.signals() as usize + 1]?;
         for t in 0..net.tables() {
-            count_pins(&mut counts, net.table(t).pins().as_slice());
+            count_pins(&mut counts, marked_pins(net, needed, t));
         }
         add_up(&mut counts);
         Ok(counts)
@@ -74,7 +106,8 @@ impl Readers {
 
     /// The readers of each signal of a net.
     fn of(alloc: Global, net: &Net) -> Result<Readers, AllocError> {
-        let starts = Readers::ends(alloc, net)?;
+        let needed = needed_signals(alloc, net)?;
+        let starts = Readers::ends(alloc, net, &needed)?;
         let count = match starts.as_slice() {
             [.., last] => *last,
             [] => 0,
@@ -85,7 +118,7 @@ impl Readers {
         };
         for t in (0..net.tables()).rev() {
             let reader = net.inputs().saturating_add(t);
-            readers.put(reader, net.table(t).pins().as_slice());
+            readers.put(reader, marked_pins(net, &needed, t));
         }
         Ok(readers)
     }
