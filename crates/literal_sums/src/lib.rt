@@ -4,10 +4,15 @@
 
 pub mod adder;
 pub mod cuts;
+pub mod effect;
+#[cfg(test)]
+mod effect_tests;
 pub mod finding;
 pub mod reduction;
+pub mod samples;
 pub mod sum;
 pub mod term;
 #[cfg(test)]
 mod tests;
+pub mod weights;
 pub mod word;
