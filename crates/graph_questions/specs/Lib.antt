@@ -2,3 +2,4 @@ pub mod GraphClauses
 pub mod Differences
 pub mod Levels
 pub mod LowPlaces
+pub mod Gaps

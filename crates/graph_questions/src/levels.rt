@@ -6,7 +6,10 @@ ghost use Rattle.std.specs.Prelude.{◌≡◌, ◌<◌, ◌≤◌, length, IfOk,
 ghost use Rattle.semantics.specs.Net.{input_count};
 ghost use Rattle.bdd_levels.specs.Levels.{IsLevelDecided, IsLevelOf};
 ghost use Rattle.graph_questions.specs.Levels.{IsChangeFor, question_of};
+ghost use Rattle.graph_questions.specs.Gaps.{IsGapOf};
 
+use crate::gap::Gap;
+use crate::gap_question::gap_places;
 use crate::goal::goal_of;
 use crate::nearness::enough_places;
 use crate::question::ask_solver;
@@ -16,13 +19,14 @@ use bdd_nets::ever_true::Decision;
 use cdcl_core::answer::Answer;
 use net_core::items::Bits;
 use net_errors::compared::Compared;
+use net_errors::ports::same_ports;
 use net_errors::net_error::error_at;
 use net_search::judging::Change;
 use progress::progress::Progress;
 use std::alloc::{AllocError, Global};
 
 /// The input vector of a model, where the error exceeds the level there.
-fn tried(
+pub(crate) fn tried(
     alloc: Global,
     nets: &Compared,
     level: &Level,
@@ -72,4 +76,37 @@ pub fn decide<P: Progress>(
         Answer::Spent(_) => Ok(Decision::Unknown),
         Answer::Model(model) => tried(alloc, nets, level, &model),
     }
+}
+
+/// Whether the error of an approximate net exceeds the level, as [`decide`] says, by the gap that is kept along
+/// a chain, where the error is the distance of two numbers and few low places of the outputs are enough.
+pub fn decide_along<P: Progress>(
+    alloc: Global,
+    nets: &Compared,
+    change: &Change,
+    kept: &mut Option<Gap>,
+    level: &Level,
+    limit: u64,
+    progress: &mut P,
+) -> Result<Decision, AllocError>
+    requires limit { 1 ≤ limit }
+    requires kept { IfSome kept.old (IsGapOf nets.now.exact) }
+    requires change { IsChangeFor (question_of nets.now level.now) change.now }
+    ensures kept { IfSome kept.new (IsGapOf nets.now.exact) }
+    ensures answer { IfOk result
+        (IsLevelDecided level.now.metric nets.now.exact nets.now.approx level.now.k) }
+{
+    let Some(places) = gap_places(level, nets.exact().outputs()) else {
+        return Ok(Decision::Unknown);
+    };
+    if !same_ports(change.before, nets.approx()) {
+        return Ok(Decision::Unknown);
+    }
+    let mut gap = match kept.take() {
+        Some(gap) if gap.places() == places => gap,
+        _ => Gap::begin(alloc, nets.exact(), places)?,
+    };
+    let decision = gap.decide(alloc, nets, change, level, limit, progress)?;
+    *kept = Some(gap);
+    Ok(decision)
 }

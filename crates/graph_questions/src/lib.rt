@@ -4,6 +4,9 @@
 mod clauses;
 mod cone;
 mod difference;
+pub mod gap;
+mod gap_question;
+mod gap_steps;
 mod goal;
 mod guide;
 pub mod levels;

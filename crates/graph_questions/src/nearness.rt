@@ -6,6 +6,7 @@
 //! one, since the two nets differ in one signal.
 ghost use Rattle.std.specs.Prelude.{◌≡◌, ◌-◌, ◌^◌, ◌<◌, ◌≤◌, length, IfOk, IfSome, IsTrue};
 ghost use Rattle.semantics.specs.Error.{IsCandidate, IsWithin};
+ghost use Rattle.semantics.specs.Net.{HasSamePorts};
 ghost use Rattle.net_search.specs.Judging.{IsChange};
 ghost use Rattle.bdd_levels.specs.Levels.{IsLevelOf};
 ghost use Rattle.graph_questions.specs.Levels.{IsChangeFor, question_of};
@@ -34,7 +35,7 @@ const LEAST_SPARED: u32 = 2;
 const NEAR_CONFLICTS: u64 = 10_000;
 
 /// Whether the error is the distance of the numbers of all outputs, without or with a sign.
-fn is_distance(metric: Metric) -> bool
+pub(crate) fn is_distance(metric: Metric) -> bool
     ensures { IsTrue result → IsDistance metric }
 {
     match metric.kind {
@@ -44,7 +45,7 @@ fn is_distance(metric: Metric) -> bool
 }
 
 /// The least number of places of which a quarter of the numbers exceed `k`, where it spares enough outputs.
-fn least_places(k: u128, outputs: u32) -> Option<u32>
+pub(crate) fn least_places(k: u128, outputs: u32) -> Option<u32>
     requires { outputs ≤ MOST_OUTPUTS }
     ensures { IfSome result (λ p. (2 ≤ p) × (p < outputs) × (k < 2 ^ (p - 2))) }
 {
@@ -84,6 +85,32 @@ fn is_near<P: Progress>(
     }
 }
 
+/// Whether a change makes an error of its own that is small enough for so many low places of the outputs to be
+/// enough, as far as a few conflicts show.
+pub(crate) fn is_small_change<P: Progress>(
+    alloc: Global,
+    nets: &Compared,
+    change: &Change,
+    level: &Level,
+    places: u32,
+    limit: u64,
+    progress: &mut P,
+) -> Result<bool, AllocError>
+    requires limit { 1 ≤ limit }
+    requires change { IsChangeFor (question_of nets.now level.now) change.now }
+    requires ports { HasSamePorts change.now.before.now nets.now.approx }
+    requires distance { IsDistance level.now.metric }
+    requires some { 2 ≤ places }
+    requires spared { places < length nets.now.exact.outputs }
+    requires fits { level.now.k < 2 ^ (places - 2) }
+    ensures { IfOk result (λ small. IsTrue small → AreEnough (question_of nets.now level.now) places) }
+{
+    let most = power_of_two(places) - 1 - 2 * level.k;
+    let far = Level::new(alloc, change.before, level.metric, most)?;
+    let few = limit.min(NEAR_CONFLICTS);
+    is_near(alloc, change, nets.approx(), &far, few, progress)
+}
+
 /// How many low places of the outputs are enough to say whether the error exceeds the level, where that is
 /// found out within a few conflicts.
 pub(crate) fn enough_places<P: Progress>(
@@ -104,10 +131,7 @@ pub(crate) fn enough_places<P: Progress>(
     let Some(places) = least_places(level.k, nets.exact().outputs()) else {
         return Ok(None);
     };
-    let most = power_of_two(places) - 1 - 2 * level.k;
-    let far = Level::new(alloc, change.before, level.metric, most)?;
-    let few = limit.min(NEAR_CONFLICTS);
-    if is_near(alloc, change, nets.approx(), &far, few, progress)? {
+    if is_small_change(alloc, nets, change, level, places, limit, progress)? {
         Ok(Some(places))
     } else {
         Ok(None)

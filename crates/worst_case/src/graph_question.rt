@@ -9,12 +9,14 @@
 //! shown by that.
 ghost use Rattle.std.specs.Prelude.{◌≡◌, ◌≤◌, IfOk, IfSome};
 ghost use Rattle.level_answers.specs.Levels.{IsSureAnswer};
+ghost use Rattle.graph_questions.specs.Gaps.{IsGapOf};
 ghost use Rattle.graph_questions.specs.Levels.{IsChangeFor};
 ghost use Rattle.worst_case.specs.Levels.{asked_level};
 
 use crate::margin::decided_margin;
 use bdd_levels::level::Level;
-use graph_questions::levels::decide;
+use graph_questions::gap::Gap;
+use graph_questions::levels::{decide, decide_along};
 use level_answers::margin::Margin;
 use net_errors::compared::Compared;
 use net_search::judging::Change;
@@ -22,19 +24,30 @@ use progress::progress::Progress;
 use proof_semantics::constraint::Constraint;
 use std::alloc::{AllocError, Global};
 
-/// The answer over the graph, where the solver finds one within the limit.
+/// The answer over the graph, where the solver finds one within the limit: first, along a chain, by the gap that
+/// is kept.
 pub(crate) fn by_graph<P: Progress>(
     alloc: Global,
     nets: &Compared,
     change: Option<&Change>,
+    kept: &mut Option<Gap>,
     aim: Constraint,
     progress: &mut P,
 ) -> Result<Option<Margin>, AllocError>
     requires limit { 1 ≤ aim.limit }
+    requires kept { IfSome kept.old (IsGapOf nets.now.exact) }
     requires change { IfSome change (λ c. IsChangeFor (asked_level aim nets.now) c.now) }
-    ensures { IfOk result (λ found. IfSome found (IsSureAnswer aim nets.now.exact nets.now.approx)) }
+    ensures kept { IfSome kept.new (IsGapOf nets.now.exact) }
+    ensures answer { IfOk result
+        (λ found. IfSome found (IsSureAnswer aim nets.now.exact nets.now.approx)) }
 {
     let level = Level::new(alloc, nets.exact(), aim.metric, aim.bound)?;
+    if let Some(change) = change {
+        let decision = decide_along(alloc, nets, change, kept, &level, aim.limit, progress)?;
+        if let Some(margin) = decided_margin(alloc, nets, aim, decision)? {
+            return Ok(Some(margin));
+        }
+    }
     let decision = decide(alloc, nets, change, &level, aim.limit, progress)?;
     decided_margin(alloc, nets, aim, decision)
 }

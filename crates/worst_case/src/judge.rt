@@ -4,16 +4,20 @@
 ghost use Rattle.std.specs.Prelude.{◌≡◌, ◌≤◌, ◌<◌, IfOk, IfSome};
 ghost use Rattle.semantics.specs.Net.{input_count, IsSmall};
 ghost use Rattle.level_answers.specs.Levels.{IsLevelAnswer, IsSureAnswer};
-ghost use Rattle.worst_case.specs.Levels.{IsAnsweredUpTo};
+ghost use Rattle.graph_questions.specs.Levels.{IsChangeFor};
+ghost use Rattle.worst_case.specs.Levels.{IsAnsweredUpTo, asked_level};
 ghost use Rattle.worst_case.specs.Maximum.{IsGreatestUpTo};
 ghost use Rattle.worst_case.specs.VectorsTried.{IsHeldFor};
 ghost use Rattle.every_vector.specs.Vectors.{IsEachVectorHeldUpTo};
 
+use crate::graph_question::by_graph;
 use crate::margin::{by_diagrams, by_solver};
 use crate::options::{LANE_INPUTS, MOST_INPUTS_WITHOUT, MOST_TRIED_INPUTS, TABLES_A_STEP};
 use crate::vectors_tried::hold_vectors;
 use bdd_levels::budgets::QUESTION_STEPS;
 use bdd_levels::decider::Decider;
+use graph_questions::gap::Gap;
+use net_search::judging::Change;
 use every_vector::vectors::{
     Attained, greatest_of, hold_each_vector, hold_every_vector, try_vectors,
 };
@@ -38,6 +42,8 @@ pub struct Judge<'a> {
     /// The right outputs at every vector, in an order that is quick to walk, once they were needed; with more
     /// than `MOST_TRIED_INPUTS` inputs they are not held.
     every: Option<Reference<'a>>,
+    /// The gap that is kept along a chain, once it was needed.
+    gap: Option<Gap>,
 }
 
 impl<'a> Model for Judge<'a> {
@@ -45,13 +51,14 @@ impl<'a> Model for Judge<'a> {
     ghost use Rattle.semantics.specs.Net.{NetValue};
     ghost use Rattle.worst_case.specs.VectorsTried.{IsHeldFor};
     ghost use Rattle.every_vector.specs.Vectors.{IsEachVectorHeld};
+    ghost use Rattle.graph_questions.specs.Gaps.{IsGapOf};
 
     ghost Value = { NetValue };
 
     ghost view = { λ j. j.exact.now };
 
     ghost invariant = { λ j. IsHeldFor j.exact.now j.known × (j.decider ≡ j.exact.now)
-        × IfSome j.every (IsEachVectorHeld j.exact.now) };
+        × IfSome j.every (IsEachVectorHeld j.exact.now) × IfSome j.gap (IsGapOf j.exact.now) };
 }
 
 /// The most steps of a question to diagrams: where every vector can be tried instead, as many as take about
@@ -87,6 +94,7 @@ impl<'a> Judge<'a> {
             known: hold_vectors(alloc, exact)?,
             decider: decider_for(alloc, exact)?,
             every: None,
+            gap: None,
         })
     }
 
@@ -170,6 +178,25 @@ impl<'a> Judge<'a> {
             Some(x) => Ok(Some(Margin::Over(x))),
             None => Ok(Some(Margin::Within)),
         }
+    }
+
+    /// The answer over a graph, as [`by_graph`] gives it.
+    pub(crate) fn by_graph<P: Progress>(
+        &mut self,
+        alloc: Global,
+        nets: &Compared,
+        change: Option<&Change>,
+        aim: Constraint,
+        progress: &mut P,
+    ) -> Result<Option<Margin>, AllocError>
+        requires judge { self.old ≡ nets.now.exact }
+        requires limit { 1 ≤ aim.limit }
+        requires change { IfSome change (λ c. IsChangeFor (asked_level aim nets.now) c.now) }
+        ensures same { self.new ≡ self.old }
+        ensures answer { IfOk result
+            (λ found. IfSome found (IsSureAnswer aim nets.now.exact nets.now.approx)) }
+    {
+        by_graph(alloc, nets, change, &mut self.gap, aim, progress)
     }
 
     /// The answer of the solver, as [`by_solver`] gives it.

@@ -20,7 +20,6 @@ ghost use Rattle.net_search.specs.Judging.{IsChange};
 ghost use Rattle.graph_questions.specs.Levels.{IsChangeFor};
 ghost use Rattle.worst_case.specs.Levels.{IsAnsweredUpTo, asked_level};
 
-use crate::graph_question::by_graph;
 use crate::judge::Judge;
 use crate::options::MOST_TRIED_INPUTS;
 use level_answers::margin::Margin;
@@ -70,7 +69,7 @@ fn by_all<P: Progress>(
     if let Some(margin) = without_solver(alloc, nets, judge, aim)? {
         return Ok(margin);
     }
-    match by_graph(alloc, nets, change, aim, progress)? {
+    match judge.by_graph(alloc, nets, change, aim, progress)? {
         Some(margin) => Ok(margin),
         None => judge.by_solver(alloc, nets, aim, progress),
     }
