@@ -51,7 +51,7 @@ fn low_outputs(
 
 /// The literal that says whether the two halves of `both`, of `places` literals each, are more than `k`
 /// apart.
-fn apart_literal(
+pub(crate) fn apart_literal(
     alloc: Global,
     g: &mut Aig,
     both: &[Literal],
