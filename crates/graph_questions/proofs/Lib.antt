@@ -4,3 +4,4 @@ pub mod ErrorLiterals
 pub mod Questions
 pub mod LowPlaces
 pub mod Residues
+pub mod Gaps
