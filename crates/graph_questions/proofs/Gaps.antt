@@ -3,11 +3,11 @@ use Rattle.std.proofs.Common.{◌≡◌, ℕ, suc, inl, inr, ◌+◌, ◌*◌, �
 use Rattle.std.specs.Prelude.{All}
 use Rattle.std.proofs.lemmas.Bool.{cases_lt}
 use Rattle.std.proofs.lemmas.List.{length-take-le, take-map}
-use Rattle.std.proofs.lemmas.List.Elements.{All-take}
-use Rattle.semantics.specs.Net.{NetValue}
+use Rattle.std.proofs.lemmas.List.Elements.{All-take, All-weaker}
+use Rattle.semantics.specs.Net.{NetValue, input_count}
 use Rattle.semantics.specs.Value.{Assignment}
 use Rattle.aig_core.specs.Graph.{GraphValue, IsLiteralOf, literal_value, IsConsistent, value_of, truth_of, HasOneValue}
-use Rattle.aig_core.specs.Grown.{Grows, IsDisjunctionOf}
+use Rattle.aig_core.specs.Grown.{Grows, IsDisjunctionOf, IsInputOf}
 use Rattle.aig_core.specs.Signals.{AreOutputsOver}
 use Rattle.aig_core.proofs.Growing.{consistent_before, literal_later, grows_trans, grows_refl}
 use Rattle.aig_core.proofs.Rounds.{literal_same}
@@ -15,7 +15,7 @@ use Rattle.literal_sums.specs.declared.term.Term.{Term}
 use Rattle.literal_sums.specs.Sums.{Agree, counted, sum_value, word_value, CountsMore, AgreeAsSums}
 use Rattle.literal_sums.specs.Words.{IsWordOf}
 use Rattle.literal_sums.proofs.Counting.{sum_nil, word_nil, word_cons, word_agrees}
-use Rattle.graph_questions.specs.Gaps.{lowest_weight, IsNothing, IsNothingWhere, AreLowestOf, IsStep}
+use Rattle.graph_questions.specs.Gaps.{lowest_weight, IsNothing, IsNothingWhere, AreLowestOf, IsStep, IsGapOf}
 
 -- ---- the lowest outputs
 
@@ -112,4 +112,32 @@ module _ (g : GraphValue) (p : ℕ) (from to : List ℕ) (whole copied rest gues
         let nil : sum_value v none ≡ 0 = ap (sum_value v) empty ∙ sum_nil v in
         let same : sum_value v copied ≡ sum_value v whole = ap (sum_value v) copy in
         omega (arith, step.is x v val, same, less.is v val.constant, nothing.is x v val, nil, more.is v val.constant);
+  }
+
+-- ---- the first member
+
+module _ (start g : GraphValue) (N : NetValue) (p : ℕ) (inputs exact member : List ℕ) (sum : List Term) where
+  -- the exact net itself, which counts nothing more than it does
+  pub gap_begun : start.inputs ≡ input_count N → Grows start g → length inputs ≡ start.inputs → All (IsLiteralOf start) inputs
+      → ((i : ℕ) → i < start.inputs → IsInputOf start i (get_or inputs i 0)) → p ≤ 31 → p ≤ length N.outputs → AreLowestOf g N p inputs exact → member ≡ exact → sum ≡ []
+      → IsGapOf N (record { graph = g; inputs = inputs; places = p; exact_low = exact; member_low = member; sum = sum })
+  gap_begun first grows count within are few low lowest same empty = record {
+    graph_inputs = grows.inputs ∙ first;
+    count = count ∙ first;
+    within = All-weaker (IsLiteralOf start) (IsLiteralOf g) (λ l inside. literal_later start g l grows inside) inputs within;
+    inputs_are = λ i inside.
+        let is : IsInputOf start i (get_or inputs i 0) = are i (omega (arith, inside, grows.inputs)) in
+        record {
+          within = literal_later start g (get_or inputs i 0) grows is.within;
+          is = λ x v val. is.is x v (consistent_before start g x v grows val);
+        };
+    few = few;
+    in_outputs = low;
+    exact = lowest;
+    step = record {
+      is = λ x v val.
+          let nil : sum_value v sum ≡ 0 = ap (sum_value v) empty ∙ sum_nil v in
+          let words : word_value v (lowest_weight p) member ≡ word_value v (lowest_weight p) exact = ap (word_value v (lowest_weight p)) same in
+          omega (arith, nil, words);
+    };
   }
