@@ -1,5 +1,5 @@
 -- What one word of literals counts more than another.
-use Rattle.std.proofs.Common.{◌≡◌, ℕ, suc, inl, inr, ◌+◌, ◌*◌, ◌/◌, ◌^◌, ◌%◌, ◌<◌, ◌≤◌, Bool, true, false, ◌||◌, List, [], ◌∷◌, length, get_or, take, map, refl, sym, ap, subst, ◌∙◌, arith}
+use Rattle.std.proofs.Common.{◌≡◌, ℕ, suc, inl, inr, ◌+◌, ◌*◌, ◌/◌, ◌^◌, ◌<◌, ◌≤◌, Bool, true, false, ◌||◌, List, [], ◌∷◌, length, get_or, take, map, refl, sym, ap, ◌∙◌, arith}
 use Rattle.std.specs.Prelude.{All}
 use Rattle.std.proofs.lemmas.Bool.{cases_lt}
 use Rattle.std.proofs.lemmas.List.{length-take-le, take-map}
@@ -12,9 +12,9 @@ use Rattle.aig_core.specs.Signals.{AreOutputsOver}
 use Rattle.aig_core.proofs.Growing.{consistent_before, literal_later, grows_trans, grows_refl}
 use Rattle.aig_core.proofs.Rounds.{literal_same}
 use Rattle.literal_sums.specs.declared.term.Term.{Term}
-use Rattle.literal_sums.specs.Sums.{Agree, counted, sum_value, word_value, CountsMore, AgreeAsSums}
+use Rattle.literal_sums.specs.Sums.{counted, sum_value, word_value, CountsMore, AgreeAsSums}
 use Rattle.literal_sums.specs.Words.{IsWordOf}
-use Rattle.literal_sums.proofs.Counting.{sum_nil, word_nil, word_cons, word_agrees}
+use Rattle.literal_sums.proofs.Counting.{sum_nil, word_nil, word_cons}
 use Rattle.graph_questions.specs.Gaps.{lowest_weight, IsNothing, IsNothingWhere, AreLowestOf, IsStep, IsGapOf}
 
 -- ---- the lowest outputs

@@ -4,10 +4,9 @@
 //! Each move adds the difference that it makes, mostly a few literals near the moved table. So the question
 //! whether an error exceeds a level is about these few literals, and not about two nets.
 ghost use Rattle.std.specs.Prelude.{◌≡◌, ◌≤◌, IfOk, length};
-ghost use Rattle.semantics.specs.Net.{input_count};
-ghost use Rattle.graph_questions.specs.Gaps.{AreLowestOf, IsGapOf, IsStep};
+ghost use Rattle.graph_questions.specs.Gaps.{IsGapOf};
 
-use crate::gap_steps::{low_literals, step_of};
+use crate::gap_steps::low_literals;
 use aig_core::graph::Aig;
 use aig_core::literal::Literal;
 use aig_core::nets::input_literals;

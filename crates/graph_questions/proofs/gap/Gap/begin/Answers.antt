@@ -1,5 +1,4 @@
 use Rattle.std.proofs.Common.{List, ℕ, ap, subst, ◌∙◌}
-use Rattle.semantics.specs.Net.{input_count}
 use Rattle.aig_core.specs.Graph.{GraphValue}
 use Rattle.graph_questions.specs.Gaps.{AreLowestOf}
 use Rattle.graph_questions.proofs.Gaps.{gap_begun}
