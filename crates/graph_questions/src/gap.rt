@@ -29,6 +29,8 @@ pub struct Gap {
     pub(crate) sum: Sum,
     pub(crate) adders: Adders,
     pub(crate) samples: Samples,
+    /// A move was made whose difference was not found: the gap is of no use any more.
+    pub(crate) lost: bool,
 }
 
 impl Model for Gap {
@@ -67,6 +69,7 @@ impl Gap {
             sum: Sum::new(alloc),
             adders: Adders::new(alloc),
             samples: Samples::new(alloc),
+            lost: false,
         })
     }
 

@@ -3,7 +3,7 @@
 //! It is about the literals of the gap alone. Where the solver finds none that is beyond the level, and the
 //! change makes no error that is too large, the error does not exceed it, and the gap goes on to the net behind
 //! the change.
-ghost use Rattle.std.specs.Prelude.{◌≡◌, ◌×◌, ◌-◌, ◌^◌, ◌<◌, ◌≤◌, length, IfOk, IfSome, IsTrue};
+ghost use Rattle.std.specs.Prelude.{◌≡◌, ◌-◌, ◌^◌, ◌<◌, ◌≤◌, length, IfOk, IfSome, IsTrue};
 ghost use Rattle.semantics.specs.Net.{NetValue, HasSamePorts, input_count};
 ghost use Rattle.aig_core.specs.Grown.{Grows};
 ghost use Rattle.bdd_levels.specs.Levels.{IsLevelDecided};
@@ -100,10 +100,10 @@ impl Gap {
         ensures grows { Grows self.old.graph self.new.graph }
         ensures member { IfOk result (λ _. self.new.member_low ≡ low.now) }
     {
-        if self.member_low.as_slice() == low {
+        if self.lost || self.member_low.as_slice() == low {
             return Ok(());
         }
-        let step = step_of(
+        let found = step_of(
             alloc,
             &mut self.graph,
             &mut self.adders,
@@ -113,6 +113,10 @@ impl Gap {
             &[],
             progress,
         )?;
+        let Some(step) = found else {
+            self.lost = true;
+            return Ok(());
+        };
         self.sum.add_all(step.terms())?;
         self.member_low = low.to_vec(alloc)?;
         Ok(())
@@ -125,7 +129,7 @@ impl Gap {
         change: &Change,
         after: &Net,
         low: &[Literal],
-    ) -> Result<Vec<Term>, AllocError>
+    ) -> Result<Option<Vec<Term>>, AllocError>
         requires before_count { length self.old.inputs ≡ input_count change.now.before.now }
         requires after_count { length self.old.inputs ≡ input_count after.now }
         ensures grows { Grows self.old.graph self.new.graph }
@@ -135,7 +139,7 @@ impl Gap {
         let behind = signal_literals(alloc, &mut self.graph, after, &self.inputs)?;
         self.samples.extend(&self.graph)?;
         let weight = crate::gap_steps::weight_of(self.places);
-        let found = effect_of(
+        effect_of(
             alloc,
             &self.samples,
             after,
@@ -145,11 +149,7 @@ impl Gap {
             &self.member_low,
             low,
             weight,
-        )?;
-        match found {
-            Some(terms) => Ok(terms),
-            None => Ok(Vec::new(alloc)),
-        }
+        )
     }
 
     /// What the exact word counts more than a word of these literals, by the guess of a change.
@@ -159,7 +159,7 @@ impl Gap {
         low: &[Literal],
         guess: &[Term],
         progress: &mut P,
-    ) -> Result<Sum, AllocError>
+    ) -> Result<Option<Sum>, AllocError>
         requires some { 1 ≤ self.old.places }
         requires few { self.old.places ≤ 31 }
         requires step { IsStep self.old.graph self.old.places self.old.exact_low self.old.member_low self.old.sum }
@@ -167,7 +167,7 @@ impl Gap {
         ensures same { self.new ≡ record self.old { graph = self.new.graph } }
         ensures step { IfOk result (IsStep self.new.graph self.old.places self.old.exact_low low.now) }
     {
-        let step = step_of(
+        let found = step_of(
             alloc,
             &mut self.graph,
             &mut self.adders,
@@ -177,9 +177,12 @@ impl Gap {
             guess,
             progress,
         )?;
+        let Some(step) = found else {
+            return Ok(None);
+        };
         let mut next = self.sum.copy(alloc)?;
         next.add_all(step.terms())?;
-        Ok(next)
+        Ok(Some(next))
     }
 
     /// Whether the error of a net behind a change exceeds the level, or neither where that is not found out.
@@ -207,8 +210,15 @@ impl Gap {
         let before = low_literals(alloc, &mut self.graph, change.before, self.places, &self.inputs)?;
         self.catch_up(alloc, &before, progress)?;
         let low = low_literals(alloc, &mut self.graph, nets.approx(), self.places, &self.inputs)?;
-        let guess = self.guess(alloc, change, nets.approx(), &low)?;
-        let next = self.next_sum(alloc, &low, &guess, progress)?;
+        if self.lost {
+            return Ok(Decision::Unknown);
+        }
+        let Some(guess) = self.guess(alloc, change, nets.approx(), &low)? else {
+            return Ok(Decision::Unknown);
+        };
+        let Some(next) = self.next_sum(alloc, &low, &guess, progress)? else {
+            return Ok(Decision::Unknown);
+        };
         let Some(beyond) = beyond_literal(alloc, &mut self.graph, &next, self.places, level.k)? else {
             return Ok(Decision::Unknown);
         };

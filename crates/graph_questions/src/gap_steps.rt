@@ -3,7 +3,7 @@
 //! Of a move it is guessed which literals make the difference. What is left of the difference without the
 //! guess is rewritten by the adders of both words; where that does not leave nothing, the solver is asked
 //! whether it is nothing.
-ghost use Rattle.std.specs.Prelude.{◌≡◌, ◌≤◌, IfOk, IsTrue, All, length};
+ghost use Rattle.std.specs.Prelude.{◌≡◌, ◌≤◌, IfOk, IfSome, IsTrue, All, length};
 ghost use Rattle.aig_core.specs.Graph.{IsLiteralOf};
 ghost use Rattle.aig_core.specs.Grown.{Grows};
 ghost use Rattle.semantics.specs.Net.{input_count};
@@ -98,8 +98,7 @@ fn is_nothing<P: Progress>(
     }
 }
 
-/// A guess of what one word counts more than another, where it is shown to be right, or the difference of
-/// both words as it is.
+/// A guess of what one word counts more than another, where it is shown to be right.
 pub(crate) fn step_of<P: Progress>(
     alloc: Global,
     g: &mut Aig,
@@ -109,22 +108,21 @@ pub(crate) fn step_of<P: Progress>(
     places: u32,
     guess: &[Term],
     progress: &mut P,
-) -> Result<Sum, AllocError>
+) -> Result<Option<Sum>, AllocError>
     requires some { 1 ≤ places }
     requires few { places ≤ 31 }
     ensures grows { Grows g.old g.new }
-    ensures step { IfOk result (λ sum. IsStep g.new places from.now to.now sum) }
+    ensures step { IfOk result (λ found. IfSome found (IsStep g.new places from.now to.now)) }
 {
     let weight = weight_of(places);
-    let mut whole = Sum::new(alloc);
-    whole.add_word(from, weight)?;
-    whole.take_word(to, weight)?;
-    let mut rest = whole.copy(alloc)?;
+    let mut rest = Sum::new(alloc);
+    rest.add_word(from, weight)?;
+    rest.take_word(to, weight)?;
     rest.take_all(guess)?;
     if !is_nothing(alloc, g, adders, &mut rest, places, progress)? {
-        return Ok(whole);
+        return Ok(None);
     }
     let mut found = Sum::new(alloc);
     found.add_all(guess)?;
-    Ok(found)
+    Ok(Some(found))
 }
