@@ -62,7 +62,8 @@ impl Sum {
 
     /// Whether nothing is counted.
     pub fn is_nothing(&self) -> bool
-        ensures { IsTrue result → (v : Assignment) → sum_value v self.now ≡ 0 }
+        ensures nothing { IsTrue result → (v : Assignment) → sum_value v self.now ≡ 0 }
+        ensures empty { self.now ≡ [] → IsTrue result }
     {
         self.terms.is_empty()
     }
