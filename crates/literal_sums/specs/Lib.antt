@@ -1,3 +1,4 @@
 pub mod Sums
 pub mod Adders
 pub mod Words
+pub mod Examples

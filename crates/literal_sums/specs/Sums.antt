@@ -1,7 +1,7 @@
 -- Sums of literals of a hashed graph, each with a weight, modulo 2^32. So with a weight of 2^32 - 1 a literal
 -- is taken away, and with weights of 2^(32-p) and above two sums of words agree modulo 2^p. Source: residue
 -- arithmetic.
-use Rattle.std.specs.Prelude.{◌≡◌, ℕ, ◌+◌, ◌*◌, ◌%◌, if◌then◌else◌, List, [], ◌∷◌, Bool, false}
+use Rattle.std.specs.Prelude.{◌≡◌, ℕ, ◌+◌, ◌*◌, ◌%◌, ◌==◌, if◌then◌else◌, List, [], ◌∷◌, Bool, false}
 use Rattle.std.specs.Prelude.{slice_index_or}
 use Rattle.semantics.specs.Value.{Assignment}
 use Rattle.aig_core.specs.Graph.{GraphValue, literal_value, IsConsistent}
@@ -23,6 +23,11 @@ literal_count l weight v = counted (literal_value v l) weight
 unfoldable pub sum_value : Assignment → List Term → ℕ
 sum_value v [] = 0
 sum_value v (t ∷ ts) = counted (literal_value v t.literal) t.weight + sum_value v ts
+
+-- the weight of a literal: that of the first term that has it, or else 0
+unfoldable pub weight_in : ℕ → List Term → ℕ
+weight_in l [] = 0
+weight_in l (t ∷ ts) = if t.literal == l then t.weight else weight_in l ts
 
 -- the literals of a word, the lowest first, where the lowest counts this weight and each behind it twice as
 -- much

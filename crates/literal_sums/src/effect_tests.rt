@@ -1,5 +1,5 @@
-//! Weights that are found and such that are not, and the effect of a change that is a sum only a step behind the
-//! changed table.
+//! Weights that are found and such that are not, and the effect of a change that is a sum only a step behind
+//! the changed table.
 ghost use Rattle.std.specs.Prelude.{◌≡◌, length};
 
 use crate::effect::effect_of;

@@ -7,6 +7,7 @@ pub mod cuts;
 pub mod effect;
 #[cfg(test)]
 mod effect_tests;
+pub mod examples;
 pub mod finding;
 pub mod reduction;
 pub mod samples;

@@ -4,7 +4,6 @@
 //! search may miss some; that each step keeps the sum is checked where the step is made. Source: reverse
 //! engineering of arithmetic by functional matching, and backward rewriting.
 ghost use Rattle.std.specs.Prelude.{IfOk};
-ghost use Rattle.aig_core.specs.Graph.{IsLiteralOf};
 ghost use Rattle.aig_core.specs.Grown.{Grows};
 ghost use Rattle.literal_sums.specs.Sums.{AgreeAsSums};
 
@@ -12,8 +11,9 @@ use crate::adder::Adder;
 use crate::finding::{Adders, Kind, MOST_ROLES, Role};
 use crate::sum::Sum;
 use crate::term::Term;
+use crate::word::within;
 use aig_core::graph::Aig;
-use aig_core::literal::{Literal, constant, is_negative, node_of, opposite};
+use aig_core::literal::{Literal, is_negative, node_of, opposite};
 use std::alloc::AllocError;
 
 /// How many nodes of a sum are looked at.
@@ -35,17 +35,6 @@ struct Choice {
     weight: u32,
     cost: u32,
     lacks_carry: bool,
-}
-
-/// The literal, or the constant false where the graph has no such node.
-fn within(g: &Aig, literal: Literal) -> Literal
-    ensures { IsLiteralOf g.now result }
-{
-    if node_of(literal) < g.nodes() {
-        literal
-    } else {
-        constant(false)
-    }
 }
 
 /// The conjunction of two literals, of which one without a node counts as false.

@@ -3,7 +3,7 @@ ghost use Rattle.std.specs.Prelude.{◌≡◌, ◌+◌, ◌%◌, ◌<◌, [], le
 ghost use Rattle.semantics.specs.Value.{Assignment};
 ghost use Rattle.literal_sums.specs.declared.term.Term.{Term as ATerm};
 ghost use Rattle.literal_sums.specs.Sums.{AgreeAsSums, CountsMore, HasMore, sum_value, term_at};
-ghost use Rattle.literal_sums.specs.Sums.{word_value};
+ghost use Rattle.literal_sums.specs.Sums.{weight_in, word_value};
 ghost use Rattle.literal_sums.specs.Adders.{HasSwapped};
 
 use crate::adder::{Adder, is_adder};
@@ -62,13 +62,16 @@ impl Sum {
 
     /// Whether nothing is counted.
     pub fn is_nothing(&self) -> bool
-        ensures { IsTrue result → (v : Assignment) → sum_value v self.now ≡ 0 }
+        ensures nothing { IsTrue result → (v : Assignment) → sum_value v self.now ≡ 0 }
+        ensures empty { self.now ≡ [] → IsTrue result }
     {
         self.terms.is_empty()
     }
 
     /// The weight of a literal that is not turned over.
-    pub fn weight(&self, literal: Literal) -> u32 {
+    pub fn weight(&self, literal: Literal) -> u32
+        ensures { result ≡ weight_in literal self.now }
+    {
         for term in &self.terms {
             if term.literal == literal {
                 return term.weight;

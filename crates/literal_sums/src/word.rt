@@ -19,7 +19,7 @@ use std::alloc::{AllocError, Global};
 const PLACES: u32 = 32;
 
 /// The literal itself where it is one of the graph's, or else the constant false.
-fn within(g: &Aig, literal: Literal) -> Literal
+pub(crate) fn within(g: &Aig, literal: Literal) -> Literal
     ensures { IsLiteralOf g.now result }
 {
     if node_of(literal) < g.nodes() {
