@@ -104,13 +104,14 @@ module _ (g : GraphValue) (p w : ℕ) (from to : List ℕ) (none first whole : L
         omega (arith, more.is v val.constant, less.is v val.constant, nil, from_is, to_is);
   }
 
-module _ (g : GraphValue) (p : ℕ) (from to : List ℕ) (whole rest guess none found : List Term) where
-  pub step_found : IsStep g p from to whole → CountsMore (λ v. sum_value v guess) rest whole → IsNothing g rest → none ≡ []
-      → CountsMore (λ v. sum_value v guess) none found → IsStep g p from to found
-  step_found step less nothing empty more = record {
+module _ (g : GraphValue) (p : ℕ) (from to : List ℕ) (whole copied rest guess none found : List Term) where
+  pub step_found : IsStep g p from to whole → copied ≡ whole → CountsMore (λ v. sum_value v guess) rest copied → IsNothing g rest
+      → none ≡ [] → CountsMore (λ v. sum_value v guess) none found → IsStep g p from to found
+  step_found step copy less nothing empty more = record {
     is = λ x v val.
         let nil : sum_value v none ≡ 0 = ap (sum_value v) empty ∙ sum_nil v in
-        omega (arith, step.is x v val, less.is v val.constant, nothing.is x v val, nil, more.is v val.constant);
+        let same : sum_value v copied ≡ sum_value v whole = ap (sum_value v) copy in
+        omega (arith, step.is x v val, same, less.is v val.constant, nothing.is x v val, nil, more.is v val.constant);
   }
 
 -- ---- the first member

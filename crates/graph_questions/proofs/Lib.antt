@@ -4,4 +4,6 @@ pub mod ErrorLiterals
 pub mod Questions
 pub mod LowPlaces
 pub mod Residues
+pub mod Beyond
+pub mod Following
 pub mod Gaps

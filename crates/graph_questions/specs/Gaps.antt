@@ -5,10 +5,14 @@ use Rattle.std.specs.Prelude.{◌≡◌, ℕ, ◌+◌, ◌-◌, ◌*◌, ◌^◌
 use Rattle.std.specs.Prelude.{slice_index_or}
 use Rattle.semantics.specs.Net.{NetValue, input_count}
 use Rattle.semantics.specs.Value.{Assignment, outputs_of}
+use Rattle.semantics.specs.Error.{number_of}
+use Rattle.net_errors.specs.Compared.{NetPair}
 use Rattle.aig_core.specs.Graph.{GraphValue, IsLiteralOf, IsConsistent, literal_value}
 use Rattle.aig_core.specs.Grown.{IsInputOf}
 use Rattle.literal_sums.specs.declared.term.Term.{Term}
 use Rattle.literal_sums.specs.Sums.{Agree, AgreeOver, sum_value, word_value}
+use Rattle.graph_questions.specs.Levels.{LevelQuestion, IsTrueWhereOver}
+use Rattle.graph_questions.specs.LowPlaces.{AreEnough}
 
 -- what the lowest literal of a word of p places counts
 abbrev pub lowest_weight : ℕ → ℕ
@@ -63,3 +67,21 @@ pub record IsNothingWhere (g : GraphValue) (word : List ℕ) (l : ℕ) : Type 0 
   pub within : IsLiteralOf g l
   pub is : (x : List Bool) (v : Assignment) (weight : ℕ) → IsConsistent g x v → literal_value v l ≡ false
       → word_value v weight word ≡ 0
+
+-- what is kept of a net that may become the member
+pub record IsNextOf (gap : GapValue) (N : NetValue) (ls : List ℕ) (terms : List Term) : Type 0 where
+  pub low : AreLowestOf gap.graph N gap.places gap.inputs ls
+  pub step : IsStep gap.graph gap.places gap.exact_low ls terms
+
+-- the sum counts what the exact net's word counts more than that of the approximate net, modulo 2^32
+pub record IsBetween (g : GraphValue) (nets : NetPair) (p : ℕ) (inputs : List ℕ) (terms : List Term)
+    : Type 0 where
+  pub is : (x : List Bool) (v : Assignment) → IsConsistent g x v → Agree
+      (sum_value v terms
+      + lowest_weight p * number_of (take p (outputs_of nets.approx (map (literal_value v) inputs))))
+      (lowest_weight p * number_of (take p (outputs_of nets.exact (map (literal_value v) inputs))))
+
+-- l is true wherever the error exceeds k, if the lowest p outputs are enough
+pub record IsGapGoal (g : GraphValue) (q : LevelQuestion) (p : ℕ) (inputs : List ℕ) (l : ℕ) : Type 0 where
+  pub within : IsLiteralOf g l
+  pub over : AreEnough q p → IsTrueWhereOver g q inputs l

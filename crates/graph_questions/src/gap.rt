@@ -4,9 +4,10 @@
 //! Each move adds the difference that it makes, mostly a few literals near the moved table. So the question
 //! whether an error exceeds a level is about these few literals, and not about two nets.
 ghost use Rattle.std.specs.Prelude.{◌≡◌, ◌≤◌, IfOk, length};
-ghost use Rattle.graph_questions.specs.Gaps.{IsGapOf};
+ghost use Rattle.semantics.specs.Net.{input_count};
+ghost use Rattle.graph_questions.specs.Gaps.{AreLowestOf, IsGapOf, IsStep};
 
-use crate::gap_steps::low_literals;
+use crate::gap_steps::{low_literals, step_of};
 use aig_core::graph::Aig;
 use aig_core::literal::Literal;
 use aig_core::nets::input_literals;
@@ -29,8 +30,9 @@ pub struct Gap {
     pub(crate) sum: Sum,
     pub(crate) adders: Adders,
     pub(crate) samples: Samples,
-    /// A move was made whose difference was not found: the gap is of no use any more.
-    pub(crate) lost: bool,
+    /// A move was made whose difference is not what was guessed: questions by the gap are too hard from
+    /// then on.
+    pub(crate) is_lost: bool,
 }
 
 impl Model for Gap {
@@ -69,7 +71,7 @@ impl Gap {
             sum: Sum::new(alloc),
             adders: Adders::new(alloc),
             samples: Samples::new(alloc),
-            lost: false,
+            is_lost: false,
         })
     }
 

@@ -1,9 +1,9 @@
 //! What one word of literals counts more than another, as a sum of few literals where that is found.
 //!
-//! Of a move it is guessed which literals make the difference. What is left of the difference without the
-//! guess is rewritten by the adders of both words; where that does not leave nothing, the solver is asked
-//! whether it is nothing.
-ghost use Rattle.std.specs.Prelude.{◌≡◌, ◌≤◌, IfOk, IfSome, IsTrue, All, length};
+//! Of a move it is guessed which literals make the difference. What is left of the difference without the guess
+//! is rewritten by the adders of both words; where that does not leave nothing, the solver is asked whether it
+//! is nothing.
+ghost use Rattle.std.specs.Prelude.{◌≡◌, ◌≤◌, IfOk, IsTrue, All, length};
 ghost use Rattle.aig_core.specs.Graph.{IsLiteralOf};
 ghost use Rattle.aig_core.specs.Grown.{Grows};
 ghost use Rattle.semantics.specs.Net.{input_count};
@@ -69,8 +69,8 @@ fn some_of(g: &mut Aig, word: &[Literal]) -> Result<Literal, AllocError>
     Ok(some)
 }
 
-/// Whether a sum counts nothing at every input vector, as far as adders and a few conflicts show. What is
-/// left of it is of no use then.
+/// Whether a sum counts nothing at every input vector, as far as adders and a few conflicts show. What is left
+/// of it is of no use then.
 fn is_nothing<P: Progress>(
     alloc: Global,
     g: &mut Aig,
@@ -98,7 +98,15 @@ fn is_nothing<P: Progress>(
     }
 }
 
-/// A guess of what one word counts more than another, where it is shown to be right.
+/// What one word counts more than another, and whether it is what was guessed.
+#[derive(Drop)]
+pub(crate) struct Step {
+    pub sum: Sum,
+    pub is_guess: bool,
+}
+
+/// A guess of what one word counts more than another, where it is shown to be right, or the difference of both
+/// words as it is.
 pub(crate) fn step_of<P: Progress>(
     alloc: Global,
     g: &mut Aig,
@@ -108,21 +116,28 @@ pub(crate) fn step_of<P: Progress>(
     places: u32,
     guess: &[Term],
     progress: &mut P,
-) -> Result<Option<Sum>, AllocError>
+) -> Result<Step, AllocError>
     requires some { 1 ≤ places }
     requires few { places ≤ 31 }
     ensures grows { Grows g.old g.new }
-    ensures step { IfOk result (λ found. IfSome found (IsStep g.new places from.now to.now)) }
+    ensures step { IfOk result (λ step. IsStep g.new places from.now to.now step.sum) }
 {
     let weight = weight_of(places);
-    let mut rest = Sum::new(alloc);
-    rest.add_word(from, weight)?;
-    rest.take_word(to, weight)?;
+    let mut whole = Sum::new(alloc);
+    whole.add_word(from, weight)?;
+    whole.take_word(to, weight)?;
+    let mut rest = whole.copy(alloc)?;
     rest.take_all(guess)?;
     if !is_nothing(alloc, g, adders, &mut rest, places, progress)? {
-        return Ok(None);
+        return Ok(Step {
+            sum: whole,
+            is_guess: false,
+        });
     }
     let mut found = Sum::new(alloc);
     found.add_all(guess)?;
-    Ok(Some(found))
+    Ok(Step {
+        sum: found,
+        is_guess: true,
+    })
 }

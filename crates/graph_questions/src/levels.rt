@@ -18,9 +18,10 @@ use bdd_levels::level::Level;
 use bdd_nets::ever_true::Decision;
 use cdcl_core::answer::Answer;
 use net_core::items::Bits;
+use net_core::net::Net;
 use net_errors::compared::Compared;
-use net_errors::ports::same_ports;
 use net_errors::net_error::error_at;
+use net_errors::ports::same_ports;
 use net_search::judging::Change;
 use progress::progress::Progress;
 use std::alloc::{AllocError, Global};
@@ -78,6 +79,28 @@ pub fn decide<P: Progress>(
     }
 }
 
+/// Whether a gap was kept of which nothing is asked any more.
+fn is_lost(kept: &Option<Gap>) -> bool {
+    match kept {
+        Some(gap) => gap.is_lost,
+        None => false,
+    }
+}
+
+/// The gap of so many places that was kept, or else one that begins with the exact net.
+fn gap_for(alloc: Global, exact: &Net, kept: Option<Gap>, places: u32) -> Result<Gap, AllocError>
+    requires few { places ≤ 31 }
+    requires in_outputs { places ≤ length exact.now.outputs }
+    requires kept { IfSome kept (IsGapOf exact.now) }
+    ensures gap { IfOk result (IsGapOf exact.now) }
+    ensures places { IfOk result (λ gap. gap.places ≡ places) }
+{
+    match kept {
+        Some(gap) if gap.places() == places => Ok(gap),
+        _ => Gap::begin(alloc, exact, places),
+    }
+}
+
 /// Whether the error of an approximate net exceeds the level, as [`decide`] says, by the gap that is kept along
 /// a chain, where the error is the distance of two numbers and few low places of the outputs are enough.
 pub fn decide_along<P: Progress>(
@@ -102,10 +125,10 @@ pub fn decide_along<P: Progress>(
     if !same_ports(change.before, nets.approx()) {
         return Ok(Decision::Unknown);
     }
-    let mut gap = match kept.take() {
-        Some(gap) if gap.places() == places => gap,
-        _ => Gap::begin(alloc, nets.exact(), places)?,
-    };
+    if is_lost(kept) {
+        return Ok(Decision::Unknown);
+    }
+    let mut gap = gap_for(alloc, nets.exact(), kept.take(), places)?;
     let decision = gap.decide(alloc, nets, change, level, limit, progress)?;
     *kept = Some(gap);
     Ok(decision)

@@ -8,7 +8,7 @@ use Rattle.graph_questions.proofs.gap_steps.is_nothing.Goals as goal
 
 pub returns-then-is_nothing-clause-nothing : goal.returns-then-is_nothing-clause-nothing
 returns-then-is_nothing-clause-nothing g c is =
-    nothing_now c.reduce.new.g c.args.sum.now c.reduce.new.sum c.in_ok-reduce.ensures.ok (c.is_nothing.ensures c.if-is_nothing.true)
+    nothing_now c.reduce.new.g c.args.sum.now c.reduce.new.sum c.in_ok-reduce.ensures.ok (c.is_nothing.ensures.nothing c.if-is_nothing.true)
 
 pub returns-in-Refuted-clause-nothing : goal.returns-in-Refuted-clause-nothing
 returns-in-Refuted-clause-nothing g c is =
